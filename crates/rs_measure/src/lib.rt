@@ -1,0 +1,11 @@
+//! Measures along a route, and the refusals that every layer answers with.
+//!
+//! A measure is a whole number of thousandths. What is read is what a measure's text may be,
+//! everything else is refused, and what is printed is read back.
+#![tactic(auto)]
+
+pub mod measure;
+pub mod refusal;
+
+pub use measure::Measure;
+pub use refusal::Refusal;
