@@ -1,0 +1,2 @@
+pub mod MeasureText
+mod RefusalWords

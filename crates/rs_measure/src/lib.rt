@@ -7,5 +7,8 @@
 pub mod measure;
 pub mod refusal;
 
-pub use measure::Measure;
-pub use refusal::Refusal;
+pub use measure::{
+    GREATEST_MEASURE, MEASURE_BYTES, Measure, printed_text_is_read_back, read_measure,
+    text_says_one_measure, write_measure,
+};
+pub use refusal::{Refusal, WORDS_BYTES};

@@ -2,6 +2,12 @@
 //!
 //! Each has one number and one text, in which they are answered.
 
+use arrayvec::ArrayString;
+use itoa::Buffer;
+
+/// How many bytes the words of a refusal have room for.
+pub const WORDS_BYTES: usize = 32;
+
 /// Why a line was refused. Its ERR line is made from `number` and `words`.
 #[derive(Clone, Copy, PartialEq, Eq, Debug)]
 pub enum Refusal {
@@ -65,4 +71,120 @@ pub enum Refusal {
     DamagedFile,
     /// 95: the file was not closed.
     FileNotClosed,
+}
+
+impl Refusal {
+    ghost use Rattle.std.specs.Prelude.{◌≡◌, ◌+◌, ◌++◌, ◌≤◌, length};
+    ghost use Rattle.rs_measure.specs.Refusal.{number_of, words_of};
+    ghost use Rattle.rs_measure.specs.Inner.{column_digits};
+
+    /// The number under which it is answered.
+    pub fn number(&self) -> u8
+        ensures { result ≡ number_of self.now }
+    {
+        match self {
+            Refusal::LineIsNotText => 1,
+            Refusal::LineTooLong => 2,
+            Refusal::SessionNumber => 3,
+            Refusal::UnknownCharacter => 10,
+            Refusal::Syntax(_) => 11,
+            Refusal::NumberOutOfRange => 12,
+            Refusal::NoSuchRoute => 20,
+            Refusal::NoSuchName => 21,
+            Refusal::NoSuchColumn => 22,
+            Refusal::InUse => 23,
+            Refusal::NameTaken => 24,
+            Refusal::NoSuchReferent => 25,
+            Refusal::Limit => 27,
+            Refusal::OutsideTheRoute => 30,
+            Refusal::EmptySpan => 31,
+            Refusal::PointOrLineWanted => 32,
+            Refusal::WrongValues => 33,
+            Refusal::TextTooLong => 34,
+            Refusal::ColumnsDiffer => 40,
+            Refusal::ColumnTwice => 41,
+            Refusal::KindsDiffer => 42,
+            Refusal::TotalTooLarge => 50,
+            Refusal::NoSuchCursor => 60,
+            Refusal::CursorNameTaken => 61,
+            Refusal::TooManyCursors => 62,
+            Refusal::OutOfMemory => 90,
+            Refusal::Disk => 91,
+            Refusal::FileFull => 92,
+            Refusal::DamagedFile => 94,
+            Refusal::FileNotClosed => 95,
+        }
+    }
+
+    /// The words with which it is answered, the column of `Syntax` in decimal digits among them.
+    pub fn words(&self) -> ArrayString<WORDS_BYTES>
+        ensures { result.bytes ≡ words_of self.now }
+    {
+        let mut words = ArrayString::new();
+        words.push_str(self.fixed_words());
+        if let Refusal::Syntax(column) = self {
+            words.push_str(Buffer::new().format(*column));
+        }
+        words
+    }
+
+    // The words before the column, and all of them where there is none.
+    #[tactic(auto, using(crate::proofs::RefusalWords::column_digits_short))]
+    fn fixed_words(self) -> &'static str
+        ensures words { result.now ++ column_digits self ≡ words_of self }
+        ensures short { length result.now + length (column_digits self) ≤ WORDS_BYTES }
+    {
+        match self {
+            Refusal::LineIsNotText => "line is not text",
+            Refusal::LineTooLong => "line too long",
+            Refusal::SessionNumber => "session number",
+            Refusal::UnknownCharacter => "unknown character",
+            Refusal::Syntax(_) => "syntax at ",
+            Refusal::NumberOutOfRange => "number out of range",
+            Refusal::NoSuchRoute => "no such route",
+            Refusal::NoSuchName => "no such name",
+            Refusal::NoSuchColumn => "no such column",
+            Refusal::InUse => "in use",
+            Refusal::NameTaken => "name taken",
+            Refusal::NoSuchReferent => "no such referent",
+            Refusal::Limit => "limit",
+            Refusal::OutsideTheRoute => "outside the route",
+            Refusal::EmptySpan => "empty span",
+            Refusal::PointOrLineWanted => "point or line wanted",
+            Refusal::WrongValues => "wrong type or number of values",
+            Refusal::TextTooLong => "text too long",
+            Refusal::ColumnsDiffer => "columns differ",
+            Refusal::ColumnTwice => "column twice",
+            Refusal::KindsDiffer => "kinds differ",
+            Refusal::TotalTooLarge => "total too large",
+            Refusal::NoSuchCursor => "no such cursor",
+            Refusal::CursorNameTaken => "cursor name taken",
+            Refusal::TooManyCursors => "too many cursors",
+            Refusal::OutOfMemory => "out of memory",
+            Refusal::Disk => "disk",
+            Refusal::FileFull => "file full",
+            Refusal::DamagedFile => "damaged file",
+            Refusal::FileNotClosed => "file not closed",
+        }
+    }
+}
+
+#[cfg(test)]
+mod tests {
+    use super::*;
+
+    #[test]
+    fn numbers_and_words_are_answered(rt: HostRuntime) {
+        assert_eq!(rt; Refusal::SessionNumber.number(), 3);
+        assert_eq!(rt; Refusal::SessionNumber.words().as_str(), "session number");
+        assert_eq!(rt; Refusal::Syntax(9).number(), 11);
+        assert_eq!(rt; Refusal::Syntax(9).words().as_str(), "syntax at 9");
+        let longest = Refusal::Syntax(usize::MAX);
+        assert_eq!(rt; longest.words().as_str(), "syntax at 18446744073709551615");
+        assert_eq!(rt;
+            Refusal::WrongValues.words().as_str(),
+            "wrong type or number of values"
+        );
+        assert_eq!(rt; Refusal::FileNotClosed.number(), 95);
+    }
 }

@@ -1,0 +1,3 @@
+pub mod RowOrder
+mod FittingLemmas
+mod QuotesDoubled

@@ -1,9 +1,10 @@
 -- When a row fits the columns of a table, and which refusal says that it does not.
-use Rattle.std.specs.Prelude.{ℕ, Bool, true, false, not, ◌&&◌, ◌==◌, nat_le, List, [], ◌∷◌, length, Option, Some, None, if◌then◌else◌}
+use Rattle.std.specs.Prelude.{Bool, true, false, not, ◌&&◌, ◌==◌, nat_le, min, List, ◌∷◌, length, Option, Some, None, if◌then◌else◌}
 use Rattle.rs_measure.specs.declared.refusal.Refusal.{Refusal}
 use Rattle.rs_measure.specs.declared.refusal.Refusal.TheVariants.{WrongValues, TextTooLong}
 use Rattle.rs_value.specs.declared.column.ColumnType.{ColumnType}
 use Rattle.rs_value.specs.declared.column.ColumnType.TheVariants as types
+use Rattle.rs_value.specs.declared.column.TheConstants.{TEXT_BYTES}
 use Rattle.rs_value.specs.Row.{Datum, null, number, text, Row}
 
 -- a number in a column of numbers, a text in a column of texts, NULL in either
@@ -14,9 +15,9 @@ has_type types.Int (text bytes) = false
 has_type (types.Text most) (number n) = false
 has_type (types.Text most) (text bytes) = true
 
--- a text that is as long as its column allows, at the most
+-- a text that is as long as its column allows, and as any text may be, at the most
 abbrev pub has_room : ColumnType → Datum → Bool
-has_room (types.Text most) (text bytes) = nat_le (length bytes) most
+has_room (types.Text most) (text bytes) = nat_le (length bytes) (min most TEXT_BYTES)
 has_room _ _ = true
 
 -- each column of the left beside the datum of the right

@@ -1,4 +1,4 @@
 pub mod Row
 pub mod View
-pub mod Text
 pub mod Fitting
+pub mod Text

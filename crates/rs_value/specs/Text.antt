@@ -1,21 +1,20 @@
--- The text of values in a reply.
-use Rattle.std.specs.Prelude.{ℕ, ◌==◌, List, [], ◌∷◌, ◌++◌, codes, flat_map, if◌then◌else◌}
+-- How values and rows are printed.
+use Rattle.std.specs.Prelude.{ℕ, List, [], ◌∷◌, ◌++◌, ◌==◌, if◌then◌else◌, codes}
 use Rattle.std.specs.Fmt.{signed_decimal}
 use Rattle.rs_value.specs.Row.{Datum, null, number, text, Row}
 
--- the code of a quote
-abbrev pub QUOTE : ℕ
-QUOTE = 39
+-- the bytes of a text, each quote among them doubled
+abbrev pub quotes_doubled : List ℕ → List ℕ
+quotes_doubled [] = []
+quotes_doubled (byte ∷ bytes) = if byte == 39 then codes "''" ++ quotes_doubled bytes else byte ∷ quotes_doubled bytes
 
--- each quote doubled
-abbrev pub doubled : List ℕ → List ℕ
-doubled bytes = flat_map (λ byte. if byte == QUOTE then QUOTE ∷ QUOTE ∷ [] else byte ∷ []) bytes
-
+-- NULL, a number in decimal digits, a text between quotes
 abbrev pub datum_text : Datum → List ℕ
 datum_text null = codes "NULL"
 datum_text (number n) = signed_decimal n
-datum_text (text bytes) = QUOTE ∷ doubled bytes ++ QUOTE ∷ []
+datum_text (text bytes) = codes "'" ++ quotes_doubled bytes ++ codes "'"
 
--- each value behind one space
+-- the text of each datum behind a space
 abbrev pub values_text : Row → List ℕ
-values_text row = flat_map (λ datum. 32 ∷ datum_text datum) row
+values_text [] = []
+values_text (datum ∷ row) = codes " " ++ datum_text datum ++ values_text row

@@ -17,10 +17,11 @@ pub enum Kind {
     Line,
 }
 
-/// What a column holds beside NULL.
-#[derive(Clone, Copy, PartialEq, Eq, Debug)]
+/// What a column holds beside NULL. By default it is a number.
+#[derive(Clone, Copy, PartialEq, Eq, Debug, Default)]
 pub enum ColumnType {
     /// A whole number from -10^12 to 10^12.
+    #[default]
     Int,
     /// A text of at most so many bytes of UTF-8, from 1 to `TEXT_BYTES`.
     Text(u8),

@@ -4,7 +4,13 @@
 #![tactic(auto)]
 
 pub mod column;
+pub mod fitting;
+pub mod row_order;
+pub mod row_text;
 pub mod value;
 
-pub use column::{ColumnType, Kind, Schema};
+pub use column::{COLUMNS, ColumnType, Kind, Schema, TEXT_BYTES};
+pub use fitting::fits;
+pub use row_order::{compare_rows, row_order_is_total, same_row, tied_rows_are_equal};
+pub use row_text::push_values;
 pub use value::{Literal, Tuple, Value};

@@ -1,14 +1,16 @@
 //! Values, rows of values, and values as a line writes them.
 //!
-//! The order of values is NULL, then numbers by value, then texts by bytes; rows compare column by column.
+//! The order of values is NULL, then numbers by value, then texts by bytes; rows compare column by
+//! column.
 
 use crate::column::{COLUMNS, TEXT_BYTES};
 use arrayvec::{ArrayString, ArrayVec};
 
-/// A value in a column of a row.
-#[derive(Clone, Copy, PartialEq, Eq, PartialOrd, Ord, Debug)]
+/// A value in a column of a row. By default it is NULL.
+#[derive(Clone, Copy, PartialEq, Eq, PartialOrd, Ord, Debug, Default)]
 pub enum Value {
     /// No value.
+    #[default]
     Null,
     /// A whole number from -10^12 to 10^12.
     Int(i64),
