@@ -1,5 +1,5 @@
 -- Insertion: the row holds at each thousandth of the span, and the answer is how many of these facts are new.
-use Rattle.std.specs.Prelude.{ℕ, ◌+◌, Bool, not, ◌&&◌, nat_le, nat_lt, count_by, if◌then◌else◌}
+use Rattle.std.specs.Prelude.{ℕ, Bool, not, ◌&&◌, nat_le, nat_lt, count_by, if◌then◌else◌}
 use Rattle.std.specs.Ordering.{eq_by_cmp}
 use Rattle.rs_value.specs.Row.{Row}
 use Rattle.rs_facts.specs.Fact.{Name, name_cmp, Places, Facts, contains, add, thousandths}
@@ -11,7 +11,7 @@ same_name a b = eq_by_cmp name_cmp a b
 abbrev pub within : ℕ → ℕ → ℕ → Bool
 within from to k = nat_le from k && nat_lt k to
 
--- the row holds at each thousandth from the first up to the second as well
+-- beside the rows that are there, the row holds at each k with from ≤ k < to
 unfoldable pub with_row : ℕ → ℕ → Row → Places → Places
 with_row from to row places = λ k. if within from to k then add (places k) row else places k
 

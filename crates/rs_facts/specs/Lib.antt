@@ -4,3 +4,4 @@ pub mod Query
 pub mod Runs
 pub mod LineText
 pub mod Spans
+pub mod Laws

@@ -1,4 +1,4 @@
--- The text of a printed run: what follows `ROW ` and one space behind it.
+-- The text of a printed run: what follows `ROW ` in the reply's line, without its LF.
 use Rattle.std.specs.Prelude.{ℕ, List, ◌++◌, codes}
 use Rattle.rs_measure.specs.Measure.{measure_text}
 use Rattle.rs_value.specs.declared.column.Kind.{Kind}

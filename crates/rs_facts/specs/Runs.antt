@@ -1,7 +1,8 @@
 -- Maximal runs: the longest spans along which one row holds.
 --
--- They are told twice: by what they are, and by going from thousandth to thousandth.
-use Rattle.std.specs.Prelude.{◌≡◌, ℕ, zero, suc, ◌+◌, ◌-◌, ◌<◌, ◌≤◌, Bool, true, false, not, List, [], ◌∷◌, map, filter, flat_map, Contains, if◌then◌else◌}
+-- They are told twice: by what they are, and by going from thousandth to thousandth. The machine prints the second;
+-- where all rows lie between the ends given, both are one list, which is a law.
+use Rattle.std.specs.Prelude.{◌≡◌, ℕ, zero, suc, ◌-◌, ◌<◌, ◌≤◌, Bool, true, false, not, List, [], ◌∷◌, map, filter, flat_map, Contains, if◌then◌else◌}
 use Rattle.std.specs.List.{AllByRecursion}
 use Rattle.std.specs.declared.cmp.Ordering.{Ordering}
 use Rattle.std.specs.declared.cmp.Ordering.TheVariants.{Less}
@@ -11,7 +12,7 @@ use Rattle.rs_value.specs.declared.column.Kind.TheVariants.{Point, Line}
 use Rattle.rs_value.specs.Row.{Row, row_cmp}
 use Rattle.rs_facts.specs.Fact.{Places, contains, items, thousandths}
 
--- a row along a span: at each thousandth from lo on and below hi
+-- A span or a run as a value, with its row: at each thousandth from lo on and below hi.
 pub record Stretch : Type 0 where
   pub lo : ℕ
   pub hi : ℕ
@@ -52,6 +53,10 @@ pub record AreRunsOf (kind : Kind) (places : Places) (runs : List Stretch) : Typ
   pub ordered : AreOrdered runs
   pub maximal : AllByRecursion (IsMaximalRun kind places) runs
   pub complete : (run : Stretch) → IsMaximalRun kind places run → Contains runs run
+
+-- all rows hold from the first thousandth on and below the second
+abbrev pub LieWithin : ℕ → ℕ → Places → Type 0
+LieWithin from to places = (k : ℕ) (row : Row) → contains (places k) row ≡ true → (from ≤ k) × (k < to)
 
 -- ---- the same, from thousandth to thousandth
 

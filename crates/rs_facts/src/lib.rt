@@ -5,5 +5,6 @@
 #![tactic(auto)]
 
 pub mod fact;
+pub mod laws;
 
 pub use fact::{Fact, Run, Span};

@@ -1,0 +1,4 @@
+mod Orders
+mod Joining
+mod JoinLoop
+mod Whole

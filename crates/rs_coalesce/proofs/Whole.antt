@@ -1,0 +1,82 @@
+-- From spans sorted by row, joined and sorted by place, to maximal runs.
+use Rattle.std.proofs.Common.{◌≡◌, suc, ◌+◌, ◌<◌, true, false, inl, inr, List, [], ◌∷◌, map, get_or, Less, Equal, Greater, is_lt, refl, sym, ap, ◌∙◌, subst, arith}
+use Rattle.std.proofs.lemmas.List.Elements.{All-from_recursion, recursion_from_All}
+use Rattle.std.proofs.lemmas.List.Sorted.{IsPermutation-map, All-permutation}
+use Rattle.std.specs.List.Sorted.{IsSortedBy, IsPermutation}
+use Rattle.rs_value.specs.declared.column.Kind.{Kind}
+use Rattle.rs_facts.specs.declared.fact.Span.{Span}
+use Rattle.rs_facts.specs.Runs.{Stretch, stretch_cmp, AreOrdered, AreRunsOf}
+use Rattle.rs_facts.specs.Spans.{seen, places_of, IsPlaced, ArePlaced, AreKept}
+use Rattle.rs_facts.proofs.SpanLaws.{places_of-permutation}
+use Rattle.rs_facts.proofs.StretchOrder.{stretch_cmp-total, stretch_cmp-tie, stretch_cmp-on}
+use Rattle.rs_facts.proofs.KeptLaws.{placed-some, kept-placed, every-weaker}
+use Rattle.rs_facts.proofs.RunLaws.{IsApart, LieApart, runs-from_apart}
+use Rattle.rs_facts.proofs.Apart.{apart-permutation, kept-apart}
+use Rattle.rs_coalesce.specs.Inner.{joined}
+use Rattle.rs_coalesce.proofs.Joining.{BySorted, kept-from_sorted, means-from_sorted}
+
+abbrev pub ByPlace : List Span → Type 0
+ByPlace spans = IsSortedBy (λ a b. is_lt (stretch_cmp (seen a) (seen b))) spans
+
+placed-permutation : (kind : Kind) (xs ys : List Stretch) → IsPermutation xs ys → ArePlaced kind xs → ArePlaced kind ys
+placed-permutation kind xs ys h placed = recursion_from_All (IsPlaced kind) ys (All-permutation (IsPlaced kind) xs ys h (All-from_recursion (IsPlaced kind) xs placed))
+
+-- spans of one row that lie apart begin at two places
+begin_apart : (kind : Kind) (a b : Stretch) → IsPlaced kind a → IsPlaced kind b → IsApart kind a b → a.lo ≡ b.lo → a.row ≡ b.row → ⊥
+begin_apart kind a b x y apart lo row =
+    let some_a : a.lo < a.hi = placed-some kind a x in
+    let some_b : b.lo < b.hi = placed-some kind b y in
+    elim (apart row) [ inl h ↦ omega (arith, h, some_a, lo) | inr h ↦ omega (arith, h, some_b, lo) ]
+
+before : (kind : Kind) (a b : Stretch) → IsPlaced kind a → IsPlaced kind b → IsApart kind a b → is_lt (stretch_cmp b a) ≡ false → stretch_cmp a b ≡ Less
+before kind a b x y apart e =
+    let back = stretch_cmp-total.antisymm a b in
+    elim (stretch_cmp b a) as (λ o. stretch_cmp b a ≡ o → stretch_cmp a b ≡ Less) [
+      | Less ↦ λ o. let less : is_lt (stretch_cmp b a) ≡ true = ap is_lt o in cc
+      | Equal ↦ λ o. let tie = stretch_cmp-tie b a o in absurd (begin_apart kind a b x y apart (sym tie.0) (sym tie.1))
+      | Greater ↦ λ o. rw o at back
+    ] refl
+
+rest_apart : (kind : Kind) (first : Stretch) (rest : List Stretch) → LieApart kind (first ∷ rest) → LieApart kind rest
+rest_apart kind first rest h i j d a b other = h (suc i) (suc j) d (omega arith) (omega arith) (λ e. other (omega (arith, e)))
+
+rest_sorted : (first : Span) (rest : List Span) → ByPlace (first ∷ rest) → ByPlace rest
+rest_sorted first rest h k d a b =
+    let more : suc k + 1 ≡ suc (k + 1) = omega arith in
+    subst (λ n. is_lt (stretch_cmp (seen (get_or (first ∷ rest) n d)) (seen (get_or rest k d))) ≡ false) more (h (suc k) d (omega arith) (omega arith))
+
+-- sorted by place, spans that lie apart stand in strict order
+ordered-from_sorted : (kind : Kind) (spans : List Span) → ByPlace spans → ArePlaced kind (map seen spans) → LieApart kind (map seen spans) → AreOrdered (map seen spans)
+ordered-from_sorted kind [] h p apart = tt
+ordered-from_sorted kind (first ∷ []) h p apart = (tt, tt)
+ordered-from_sorted kind (first ∷ next ∷ rest) h p apart =
+    let later = ordered-from_sorted kind (next ∷ rest) (rest_sorted first (next ∷ rest) h) p.1 (rest_apart kind (seen first) (map seen (next ∷ rest)) apart) in
+    let less = before kind (seen first) (seen next) p.0 p.1.0 (apart 0 1 (seen first) (omega arith) (omega arith) (omega arith)) (h 0 first (omega arith) (omega arith)) in
+    ((less, every-weaker (λ run. stretch_cmp (seen next) run ≡ Less) (λ run. stretch_cmp (seen first) run ≡ Less) (λ run l. stretch_cmp-on (seen first) (seen next) run less l) (map seen rest) later.0), later)
+
+-- ---- from the spans given to the runs
+
+pub record Made (kind : Kind) (given left : List Span) : Type 0 where
+  pub runs : AreRunsOf kind (places_of (map seen given)) (map seen left)
+  pub placed : ArePlaced kind (map seen left)
+  pub same : places_of (map seen left) ≡ places_of (map seen given)
+
+pub made : (kind : Kind) (given sorted left runs : List Span) → ArePlaced kind (map seen given)
+    → IsPermutation given sorted → BySorted sorted → map seen left ≡ joined kind (map seen sorted) → IsPermutation left runs → ByPlace runs
+    → Made kind given runs
+made kind given sorted left runs placed moved by_row are_joined moved_again by_place =
+    let placed_sorted = placed-permutation kind (map seen given) (map seen sorted) (IsPermutation-map seen given sorted moved) placed in
+    let kept : AreKept kind (map seen left) = subst (AreKept kind) (sym are_joined) (kept-from_sorted kind sorted by_row placed_sorted) in
+    let over = IsPermutation-map seen left runs moved_again in
+    let placed_runs = placed-permutation kind (map seen left) (map seen runs) over (kept-placed kind (map seen left) kept) in
+    let apart = apart-permutation kind (map seen left) (map seen runs) over (kept-apart kind (map seen left) kept) in
+    let means : places_of (map seen runs) ≡ places_of (map seen given) =
+    sym (places_of-permutation (map seen left) (map seen runs) over)
+    ∙ ap places_of are_joined
+    ∙ means-from_sorted kind sorted by_row placed_sorted
+    ∙ sym (places_of-permutation (map seen given) (map seen sorted) (IsPermutation-map seen given sorted moved)) in
+    record {
+      runs = subst (λ p. AreRunsOf kind p (map seen runs)) means (runs-from_apart kind (map seen runs) placed_runs apart (ordered-from_sorted kind runs by_place placed_runs apart));
+      placed = placed_runs;
+      same = means;
+    }

@@ -1,0 +1,28 @@
+-- How runs are made: spans by row and place, and each joined with what follows it as far as they are one.
+use Rattle.std.specs.Prelude.{◌+◌, max, Bool, ◌&&◌, nat_lt, List, [], ◌∷◌, if◌then◌else◌}
+use Rattle.std.specs.declared.cmp.Ordering.{Ordering}
+use Rattle.std.specs.Ordering.{nat_cmp, ordering_then, eq_by_cmp}
+use Rattle.rs_value.specs.declared.column.Kind.{Kind}
+use Rattle.rs_value.specs.Row.{row_cmp}
+use Rattle.rs_facts.specs.Runs.{Stretch, stretch}
+use Rattle.rs_facts.specs.Spans.{gap_of}
+
+-- by row, then by place
+unfoldable pub row_place_cmp : Stretch → Stretch → Ordering
+row_place_cmp a b = ordering_then (row_cmp a.row b.row) (nat_cmp a.lo b.lo)
+
+-- whether a span and the next one are one run
+unfoldable pub joins : Kind → Stretch → Stretch → Bool
+joins kind before next = nat_lt next.lo (before.hi + gap_of kind) && eq_by_cmp row_cmp before.row next.row
+
+-- the first, up to where the one ends that ends last
+abbrev pub join : Stretch → Stretch → Stretch
+join before next = stretch before.lo (max before.hi next.hi) before.row
+
+abbrev pub joined_onto : Kind → Stretch → List Stretch → List Stretch
+joined_onto kind before [] = before ∷ []
+joined_onto kind before (next ∷ rest) = if joins kind before next then joined_onto kind (join before next) rest else before ∷ joined_onto kind next rest
+
+unfoldable pub joined : Kind → List Stretch → List Stretch
+joined kind [] = []
+joined kind (first ∷ rest) = joined_onto kind first rest

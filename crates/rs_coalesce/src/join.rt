@@ -1,0 +1,54 @@
+//! Joins neighbours in a list of spans by row and place.
+
+ghost use Rattle.std.specs.Prelude.{◌≡◌, ◌+◌, ◌≤◌, nat_lt, length, map, take};
+ghost use Rattle.rs_facts.specs.Spans.{seen, gap_of};
+ghost use Rattle.rs_coalesce.specs.Inner.{joins, joined};
+
+use rs_facts::Span;
+use rs_value::{Kind, same_row};
+
+/// Whether a span that begins at `lo` is one with an earlier one of its row that ends at `hi`.
+fn reaches(kind: Kind, hi: u32, lo: u32) -> bool
+    ensures { result ≡ nat_lt lo (hi + gap_of kind) }
+{
+    match kind {
+        Kind::Point => lo < hi,
+        Kind::Line => lo <= hi,
+    }
+}
+
+/// Whether a span and the next one, by row and place, are one run.
+fn is_joined(kind: Kind, before: &Span, next: &Span) -> bool
+    ensures { result ≡ joins kind (seen before.now) (seen next.now) }
+{
+    reaches(kind, before.hi, next.lo) && same_row(&before.tuple, &next.tuple)
+}
+
+/// Joins spans that stand by row and place, and says how many are left; what stands behind these is of no use.
+fn join_in_place(kind: Kind, spans: &mut [Span]) -> usize
+    ensures within { result ≤ length spans.new }
+    ensures joined { map seen (take result spans.new) ≡ joined kind (map seen spans.old) }
+{
+    if spans.is_empty() {
+        return 0;
+    }
+    let mut last = 0;
+    for next in 1..spans.len() {
+        if is_joined(kind, &spans[last], &spans[next]) {
+            let hi = spans[last].hi.max(spans[next].hi);
+            spans[last].hi = hi;
+        } else {
+            last += 1;
+            spans.swap(last, next);
+        }
+    }
+    last + 1
+}
+
+/// Joins spans that stand by row and place, and takes the rest away.
+pub fn join_neighbours(kind: Kind, spans: &mut Vec<Span>)
+    ensures { map seen spans.new.items ≡ joined kind (map seen spans.old.items) }
+{
+    let left = join_in_place(kind, spans.as_mut_slice());
+    spans.truncate(left);
+}

@@ -1,0 +1,44 @@
+//! The two orders in which spans stand: by row and place, to be joined, and by place and row, to be printed.
+
+ghost use Rattle.std.specs.Prelude.{◌≡◌, IsPermutation};
+ghost use Rattle.std.specs.Ordering.{is_lt};
+ghost use Rattle.std.specs.List.Sorted.{IsSortedBy};
+ghost use Rattle.rs_facts.specs.Runs.{stretch_cmp};
+ghost use Rattle.rs_facts.specs.Spans.{seen};
+ghost use Rattle.rs_coalesce.specs.Inner.{row_place_cmp};
+
+use rs_facts::Span;
+use rs_value::compare_rows;
+use std::cmp::Ordering;
+
+/// How two spans stand by row, and by place where they have one row.
+fn by_row(left: &Span, right: &Span) -> Ordering
+    ensures { result ≡ row_place_cmp (seen left.now) (seen right.now) }
+{
+    compare_rows(&left.tuple, &right.tuple).then(left.lo.cmp(&right.lo))
+}
+
+/// How two spans stand by place, and by row where they begin at one place.
+fn by_place(left: &Span, right: &Span) -> Ordering
+    ensures { result ≡ stretch_cmp (seen left.now) (seen right.now) }
+{
+    left.lo
+        .cmp(&right.lo)
+        .then(compare_rows(&left.tuple, &right.tuple))
+}
+
+/// Sorts spans by row, and those of one row by place.
+pub fn sort_by_row(spans: &mut Vec<Span>)
+    ensures moved { IsPermutation spans.old.items spans.new.items }
+    ensures sorted { IsSortedBy (λ a b. is_lt (row_place_cmp (seen a) (seen b))) spans.new.items }
+{
+    spans.sort_unstable_by(|left, right| by_row(left, right));
+}
+
+/// Sorts spans by place, and those that begin at one place by row.
+pub fn sort_by_place(spans: &mut Vec<Span>)
+    ensures moved { IsPermutation spans.old.items spans.new.items }
+    ensures sorted { IsSortedBy (λ a b. is_lt (stretch_cmp (seen a) (seen b))) spans.new.items }
+{
+    spans.sort_unstable_by(|left, right| by_place(left, right));
+}

@@ -1,0 +1,4 @@
+mod Standing
+mod Widening
+mod Putting
+pub mod WithinLaws
