@@ -1,0 +1,4 @@
+pub mod Content
+pub mod Counts
+pub mod Failing
+pub mod Memory

@@ -1,0 +1,17 @@
+//! A disk as a trait with a written meaning, and three disks.
+//!
+//! The trait says what a read gives after each write and cut, and when a call may fail. Nothing here
+//! knows what the bytes mean.
+#![tactic(auto)]
+
+pub mod disk;
+pub mod failing;
+pub mod file;
+pub mod memory;
+#[cfg(test)]
+mod tests;
+
+pub use disk::{Disk, DiskFault, PAGE_SIZE};
+pub use failing::{FailedCut, FailingDisk};
+pub use file::{FileDisk, OpenError};
+pub use memory::MemoryDisk;

@@ -1,0 +1,156 @@
+//! A disk in memory.
+//!
+//! It is honest. Only a growth that is refused fails, and it leaves the disk as it was.
+
+ghost use Rattle.std.specs.Prelude.{◌≡◌, ℕ, ◌+◌, ◌<◌, ◌≤◌, max, ◌*◌, Some, true, [], length, slice_index, take, IsOk, OnOk, OnErr};
+ghost use Rattle.rs_disk.specs.Content.{content_of, Gives, Holds, KeepsOthers};
+ghost use Rattle.rs_disk.specs.Counts.{Counts};
+ghost use Rattle.std.proofs.Common.{ap};
+ghost use Rattle.std.proofs.lemmas.List.{get_or_past};
+
+use crate::disk::{Disk, DiskFault, PAGE_SIZE, count};
+use std::alloc::{AllocError, Global};
+use std::marker::Model;
+
+/// Bytes in memory.
+#[derive(Drop)]
+pub struct MemoryDisk {
+    bytes: Vec<u8>,
+    failures: u64,
+}
+
+impl Model for MemoryDisk {
+    ghost use Rattle.rs_disk.specs.Memory.{Stored};
+
+    ghost Value = { Stored };
+
+    ghost view = { λ m. record { bytes = m.bytes.items; failures = m.failures } };
+}
+
+impl MemoryDisk {
+    /// An empty disk. It takes no memory until it is written.
+    pub fn new(alloc: Global) -> MemoryDisk
+        ensures { result ≡ record { bytes = []; failures = 0 } }
+    {
+        MemoryDisk {
+            bytes: Vec::new(alloc),
+            failures: 0,
+        }
+    }
+}
+
+impl Disk for MemoryDisk {
+    ghost seen = { λ m. content_of m.bytes };
+
+    ghost is_honest = { λ _. true };
+
+    ghost failures = { λ m. m.failures };
+
+    ghost zeros_past_the_end = { λ m _ i past. ap Some (get_or_past m.bytes i 0 past) };
+
+    fn read(&mut self, at: u64, buffer: &mut [u8]) -> Result<(), DiskFault>
+        ensures succeeds { IsOk result }
+        ensures bytes { Gives (content_of self.old.bytes) at buffer.new }
+        ensures same { self.new ≡ self.old }
+    {
+        read_out(&self.bytes, at as usize, buffer);
+        Ok(())
+    }
+
+    /// It fails where the memory for a growth is refused, and then changes nothing but the count.
+    fn write(&mut self, at: u64, bytes: &[u8]) -> Result<(), DiskFault>
+        ensures written { OnOk result (Holds (content_of self.new.bytes) at bytes.now) }
+        ensures others { KeepsOthers at (length bytes.now)
+            (content_of self.old.bytes) (content_of self.new.bytes) }
+        ensures refused { OnErr result (self.new.bytes ≡ self.old.bytes) }
+        ensures count { Counts result self.old.failures self.new.failures }
+    {
+        let outcome = write_in(&mut self.bytes, at as usize, bytes);
+        count(outcome, &mut self.failures)
+    }
+
+    fn sync(&mut self) -> Result<(), DiskFault>
+        ensures succeeds { IsOk result }
+        ensures same { self.new ≡ self.old }
+    {
+        // There is no medium behind it to wait for.
+        Ok(())
+    }
+
+    fn cut(&mut self, pages: u32) -> Result<(), DiskFault>
+        ensures succeeds { IsOk result }
+        ensures cut { self.new ≡ record self.old { bytes = take (PAGE_SIZE * pages) self.old.bytes } }
+    {
+        self.bytes.truncate(PAGE_SIZE * pages as usize);
+        Ok(())
+    }
+
+    fn pages(&self) -> u32 {
+        (self.bytes.len() / PAGE_SIZE).min(u32::MAX as usize) as u32
+    }
+
+    fn failures(&self) -> u64 {
+        self.failures
+    }
+}
+
+/// Copies out the bytes from `at` on, zeros past their end.
+fn read_out(bytes: &[u8], at: usize, buffer: &mut [u8])
+    ensures { Gives (content_of bytes.now) at buffer.new }
+{
+    for (k, byte) in buffer.iter_mut().enumerate() {
+        *byte = byte_at(bytes, at, k);
+    }
+}
+
+/// The byte at `at + k`, 0 past the end.
+fn byte_at(bytes: &[u8], at: usize, k: usize) -> u8
+    ensures { result ≡ slice_index bytes.now (at + k) }
+{
+    if at < bytes.len() && k < bytes.len() - at {
+        bytes[at + k]
+    } else {
+        0
+    }
+}
+
+/// Writes in bytes from `at` on, after making room for them. A refused growth changes nothing.
+fn write_in(file: &mut Vec<u8>, at: usize, bytes: &[u8]) -> Result<(), DiskFault>
+    ensures written { OnOk result (Holds (content_of file.new.items) at bytes.now) }
+    ensures others { OnOk result (KeepsOthers at (length bytes.now)
+        (content_of file.old.items) (content_of file.new.items)) }
+    ensures refused { OnErr result (file.new.items ≡ file.old.items) }
+{
+    if bytes.is_empty() {
+        return Ok(());
+    }
+    let end = at.checked_add(bytes.len()).ok_or(DiskFault)?;
+    grow(file, end).map_err(|_| DiskFault)?;
+    overwrite(file, at, bytes);
+    Ok(())
+}
+
+/// Makes room for `end` bytes. The bytes that are added are zeros.
+fn grow(file: &mut Vec<u8>, end: usize) -> Result<(), AllocError>
+    ensures long { OnOk result (length file.new.items ≡ max (length file.old.items) end) }
+    ensures bytes { OnOk result ((i : ℕ)
+        → slice_index file.new.items i ≡ slice_index file.old.items i) }
+    ensures refused { OnErr result (file.new.items ≡ file.old.items) }
+{
+    if file.len() < end {
+        file.resize(end, 0)?;
+    }
+    Ok(())
+}
+
+/// Writes over bytes that are there.
+fn overwrite(file: &mut [u8], at: usize, bytes: &[u8])
+    requires { at + length bytes.now ≤ length file.old }
+    ensures inside { (k : ℕ) → k < length bytes.now
+        → slice_index file.new (at + k) ≡ slice_index bytes.now k }
+    ensures before { (i : ℕ) → i < at → slice_index file.new i ≡ slice_index file.old i }
+    ensures after { (i : ℕ) → at + length bytes.now ≤ i
+        → slice_index file.new i ≡ slice_index file.old i }
+{
+    file[at..at + bytes.len()].copy_from_slice(bytes);
+}

@@ -1,0 +1,3 @@
+mod Maps
+mod Numbers
+mod Tied

@@ -1,0 +1,22 @@
+-- The maps at a commit, and that no copy is left.
+use Rattle.std.proofs.Common.{subst, sym, refl, arith, rules}
+use Rattle.rs_pager.specs.Paged.{HaveNoCopies}
+use Rattle.rs_pager.proofs.Maps.{commit-committed, commit-working, HaveNoCopies-commit}
+use Rattle.std.proofs.lemmas.Grind.{common_steps}
+use Rattle.rs_pager.proofs.pager.Pager.commit.Goals as goal
+
+pub invariant_of-self : goal.invariant_of-self
+invariant_of-self g c = record {
+  room = grind (arith, common_steps);
+  kept_room = omega arith;
+  within = omega arith;
+  limited = omega arith;
+  same = λ _. refl;
+  no_copies = λ _. subst HaveNoCopies (sym c.commit_all.ensures) (HaveNoCopies-commit _);
+}
+
+pub returns-clause-committed : goal.returns-clause-committed
+returns-clause-committed g c = commit-committed g.D.Disk.seen c.args.self.now _ (search rules)
+
+pub returns-clause-working : goal.returns-clause-working
+returns-clause-working g c = commit-working g.D.Disk.seen c.args.self.now _ (search rules)

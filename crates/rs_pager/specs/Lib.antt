@@ -1,0 +1,10 @@
+pub mod FileHeader
+pub mod Follow
+pub mod Header
+pub mod HeldPage
+pub mod Lending
+pub mod Maps
+pub mod Number
+pub mod Paged
+pub mod Slot
+pub mod SlotLending

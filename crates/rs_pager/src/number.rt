@@ -1,0 +1,44 @@
+//! The numbers of pages.
+
+ghost use Rattle.std.specs.Prelude.{◌≡◌, ℕ, IsTrue, ◌↔◌};
+ghost use Rattle.rs_pager.specs.Follow.{MayFollow};
+
+use std::marker::Model;
+
+/// The number of a page, from 0. It lies at that many times `PAGE_SIZE` on the disk.
+#[derive(Clone, Copy, PartialEq, Eq, PartialOrd, Ord, Debug)]
+pub struct PageNumber {
+    number: u32,
+}
+
+impl Model for PageNumber {
+    ghost Value = { ℕ };
+
+    ghost view = { λ page. page.number };
+
+    ghost inverse = { λ number. record { number = number } };
+}
+
+impl PageNumber {
+    /// The page with this number.
+    pub fn new(number: u32) -> PageNumber
+        ensures { result ≡ number }
+    {
+        PageNumber { number }
+    }
+
+    /// The number.
+    pub fn number(self) -> u32
+        ensures { result ≡ self }
+    {
+        self.number
+    }
+
+    /// Whether it may stand as a next page in a file of so many pages: 0 says that there is none, and
+    /// pages 0 and 1 follow no page.
+    pub(crate) fn may_follow(self, pages: u32) -> bool
+        ensures { IsTrue result ↔ MayFollow self pages }
+    {
+        self.number == 0 || (self.number > 1 && self.number < pages)
+    }
+}

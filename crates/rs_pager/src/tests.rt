@@ -1,0 +1,63 @@
+//! What no clause says yet: that pages come back from the disk, and what is refused.
+
+use crate::header::HEADER_SIZE;
+use crate::{PageKind, PageNumber, Pager};
+use rs_disk::{FailedCut, FailingDisk, MemoryDisk};
+use rs_measure::Refusal;
+use std::test::Fail;
+
+#[test]
+fn pages_come_back_from_the_disk(rt: HostRuntime) -> Result<(), Fail> {
+    let Ok(mut pager) = Pager::create(rt.alloc(), MemoryDisk::new(rt.alloc()), 5) else {
+        return Err("not created".into());
+    };
+    let _ = pager.begin();
+    let Ok(number) = pager.allocate(PageKind::Catalogue) else {
+        return Err("not allocated".into());
+    };
+    assert_eq!(rt; number.number(), 2);
+    let Ok(page) = pager.page_mut(number) else {
+        return Err("not lent".into());
+    };
+    page.bytes[HEADER_SIZE] = 7;
+    pager.commit();
+    assert!(rt; pager.flush().is_ok());
+    let disk = pager.into_disk();
+    let Ok(mut pager) = Pager::open(rt.alloc(), disk, 5) else {
+        return Err("not opened".into());
+    };
+    assert!(rt; matches!(pager.page(number), Ok(page) if page.bytes[HEADER_SIZE] == 7));
+    assert!(rt; matches!(pager.page(PageNumber::new(3)), Err(Refusal::DamagedFile)));
+    pager.forget();
+    assert!(rt; matches!(pager.page(number), Ok(page) if page.bytes[HEADER_SIZE] == 7));
+    Ok(())
+}
+
+#[test]
+fn a_full_file_hands_out_what_was_released(rt: HostRuntime) -> Result<(), Fail> {
+    let Ok(mut pager) = Pager::create(rt.alloc(), MemoryDisk::new(rt.alloc()), 5) else {
+        return Err("not created".into());
+    };
+    let _ = pager.begin();
+    let (first, second, third) = (
+        pager.allocate(PageKind::Leaf),
+        pager.allocate(PageKind::Leaf),
+        pager.allocate(PageKind::Leaf),
+    );
+    let full = pager.allocate(PageKind::Leaf);
+    let released = pager.release(PageNumber::new(3));
+    let again = pager.allocate(PageKind::Leaf);
+    pager.abandon();
+    assert_eq!(rt; first.map(PageNumber::number), Ok(2));
+    assert_eq!(rt; second.map(PageNumber::number), Ok(3));
+    assert_eq!(rt; third.map(PageNumber::number), Ok(4));
+    assert_eq!(rt; full, Err(Refusal::FileFull));
+    assert_eq!(rt; released, Ok(()));
+    assert_eq!(rt; again.map(PageNumber::number), Ok(3));
+    assert_eq!(rt; pager.full_refusals(), 1);
+    assert!(rt;
+        pager.page(PageNumber::new(2)).is_err(),
+        "the changes are gone"
+    );
+    Ok(())
+}
