@@ -1,0 +1,143 @@
+-- What lists of columns and values say, item by item.
+use Rattle.std.proofs.Common.{◌≡◌, ℕ, zero, suc, ◌+◌, ◌<◌, Bool, true, false, List, [], ◌∷◌, ◌++◌, length, take, drop, get_or, refl, sym, ap, ◌∙◌, subst, append_assoc, append-nil, eqb-true, arith}
+use Rattle.std.specs.Prelude.{◌==◌}
+use Rattle.std.specs.Char.{encode_utf8}
+use Rattle.std.proofs.lemmas.Bool.{false_from_ne_true}
+use Rattle.std.proofs.lemmas.Str.{encode_ascii, inside_one, length-encode, len_utf8_bounds}
+use Rattle.std.proofs.lemmas.List.{take_more}
+use Rattle.rs_value.specs.declared.column.ColumnType.{ColumnType}
+use Rattle.rs_value.specs.Row.{Datum, Row}
+use Rattle.rs_parser.specs.declared.token.Token.{Token}
+use Rattle.rs_parser.specs.declared.syntax.WrittenColumn.{WrittenColumn}
+use Rattle.rs_parser.specs.declared.syntax.WrittenValue.{WrittenValue}
+use Rattle.rs_parser.specs.Lexis.{text_of}
+use Rattle.rs_parser.specs.Written.{Piece, list_pieces, further_pieces, SaysType, SaysColumns, SaysDatum, SaysRow, unquoted, unquoted_rest, written_route, written_insert, Says}
+use Rattle.rs_parser.specs.Tree.{along, CommandTree, define_route, define_table, insert, select}
+use Rattle.rs_measure.specs.Measure.{SaysMeasure}
+use Rattle.rs_parser.specs.Reading.{AreToldOf}
+
+pub AreToldOf-append : (line : List ℕ) (xs ys : List Piece) → AreToldOf line (xs ++ ys) → AreToldOf line xs × AreToldOf line ys
+AreToldOf-append line [] ys told = (tt, told)
+AreToldOf-append line (x ∷ xs) ys told = let p = AreToldOf-append line xs ys told.1 in ((told.0, p.0), p.1)
+
+further_told : {A : Type 0} (line : List ℕ) (pieces : A → List Piece) (items : List A) → AreToldOf line (further_pieces pieces items)
+    → (i : ℕ) (d : A) → i < length items → AreToldOf line (pieces (get_or items i d))
+further_told line pieces [] told i d h = absurd (omega arith)
+further_told line pieces (item ∷ items) told zero d h = (AreToldOf-append line (pieces item) (further_pieces pieces items) told.1).0
+further_told line pieces (item ∷ items) told (suc i) d h = further_told line pieces items (AreToldOf-append line (pieces item) (further_pieces pieces items) told.1).1 i d (omega arith)
+
+-- the tokens of each item of a list
+pub list_told : {A : Type 0} (line : List ℕ) (pieces : A → List Piece) (items : List A) → AreToldOf line (list_pieces pieces items)
+    → (i : ℕ) (d : A) → i < length items → AreToldOf line (pieces (get_or items i d))
+list_told line pieces [] told i d h = absurd (omega arith)
+list_told line pieces (item ∷ items) told zero d h = (AreToldOf-append line (pieces item) (further_pieces pieces items) told).0
+list_told line pieces (item ∷ items) told (suc i) d h = further_told line pieces items (AreToldOf-append line (pieces item) (further_pieces pieces items) told).1 i d (omega arith)
+
+SaysColumns-push : (line : List ℕ) (written : List WrittenColumn) (columns : List (List ℕ × ColumnType)) (w : WrittenColumn) (c : List ℕ × ColumnType)
+    → SaysColumns line written columns → c.0 ≡ text_of line w.name → SaysType line w.column_type c.1 → SaysColumns line (written ++ w ∷ []) (columns ++ c ∷ [])
+SaysColumns-push line [] [] w c says name type = (name, type, tt)
+SaysColumns-push line [] (column ∷ columns) w c says name type = absurd says
+SaysColumns-push line (first ∷ written) [] w c says name type = absurd says
+SaysColumns-push line (first ∷ written) (column ∷ columns) w c says name type = (says.0, says.1, SaysColumns-push line written columns w c says.2 name type)
+
+-- one column more
+pub columns_more : (line : List ℕ) (written : List WrittenColumn) (i : ℕ) (d : WrittenColumn) (columns : List (List ℕ × ColumnType)) (c : List ℕ × ColumnType)
+    → i < length written → SaysColumns line (take i written) columns → c.0 ≡ text_of line (get_or written i d).name → SaysType line (get_or written i d).column_type c.1
+    → SaysColumns line (take (i + 1) written) (columns ++ c ∷ [])
+columns_more line written i d columns c h says name type =
+    subst (λ ws. SaysColumns line ws (columns ++ c ∷ [])) (sym (take_more written i d h)) (SaysColumns-push line (take i written) columns (get_or written i d) c says name type)
+
+-- where one column says nothing, all say nothing
+pub no_columns : (line : List ℕ) (written : List WrittenColumn) (i : ℕ) (d : WrittenColumn) → i < length written
+    → ((type : ColumnType) → SaysType line (get_or written i d).column_type type → ⊥) → (columns : List (List ℕ × ColumnType)) → SaysColumns line written columns → ⊥
+no_columns line [] i d h none columns says = omega arith
+no_columns line (w ∷ written) i d h none [] says = says
+no_columns line (w ∷ written) zero d h none (column ∷ columns) says = none column.1 says.1
+no_columns line (w ∷ written) (suc i) d h none (column ∷ columns) says = no_columns line written i d (omega arith) none columns says.2
+
+SaysRow-push : (line : List ℕ) (written : List WrittenValue) (row : Row) (w : WrittenValue) (datum : Datum)
+    → SaysRow line written row → SaysDatum line w datum → SaysRow line (written ++ w ∷ []) (row ++ datum ∷ [])
+SaysRow-push line [] [] w datum says here = (here, tt)
+SaysRow-push line [] (first ∷ row) w datum says here = absurd says
+SaysRow-push line (first ∷ written) [] w datum says here = absurd says
+SaysRow-push line (first ∷ written) (value ∷ row) w datum says here = (says.0, SaysRow-push line written row w datum says.1 here)
+
+-- one value more
+pub values_more : (line : List ℕ) (written : List WrittenValue) (i : ℕ) (d : WrittenValue) (row : Row) (datum : Datum)
+    → i < length written → SaysRow line (take i written) row → SaysDatum line (get_or written i d) datum → SaysRow line (take (i + 1) written) (row ++ datum ∷ [])
+values_more line written i d row datum h says here =
+    subst (λ ws. SaysRow line ws (row ++ datum ∷ [])) (sym (take_more written i d h)) (SaysRow-push line (take i written) row (get_or written i d) datum says here)
+
+-- where one value says nothing, all say nothing
+pub no_row : (line : List ℕ) (written : List WrittenValue) (i : ℕ) (d : WrittenValue) → i < length written
+    → ((datum : Datum) → SaysDatum line (get_or written i d) datum → ⊥) → (row : Row) → SaysRow line written row → ⊥
+no_row line [] i d h none row says = omega arith
+no_row line (w ∷ written) i d h none [] says = says
+no_row line (w ∷ written) zero d h none (value ∷ row) says = none value says.0
+no_row line (w ∷ written) (suc i) d h none (value ∷ row) says = no_row line written i d (omega arith) none row says.1
+
+-- bytes that are no quotes stand for themselves
+unquoted-plain : (bytes rest : List ℕ) → ((k : ℕ) → k < length bytes → get_or bytes k 0 ≡ 39 → ⊥) → unquoted_rest false (bytes ++ rest) ≡ bytes ++ unquoted_rest false rest
+unquoted-plain [] rest none = refl
+unquoted-plain (byte ∷ bytes) rest none =
+    let other : (byte == 39) ≡ false = false_from_ne_true (byte == 39) (λ e. none 0 (omega arith) (eqb-true byte 39 e)) in
+    rw other (ap (λ bs. byte ∷ bs) (unquoted-plain bytes rest (λ k h. none (suc k) (omega arith))))
+
+quote_is_one_byte : encode_utf8 39 ≡ 39 ∷ []
+quote_is_one_byte = encode_ascii 39 (omega arith)
+
+-- a byte of a character that is a quote is the quote
+quote_inside : (character k : ℕ) → k < length (encode_utf8 character) → get_or (encode_utf8 character) k 0 ≡ 39 → character ≡ 39
+quote_inside character k h e = inside_one character [] (encode_utf8 character) k (sym (append-nil (encode_utf8 character))) h (omega arith) ∙ e
+
+unquoted-first : (bytes rest : List ℕ) → 0 < length bytes → ((k : ℕ) → k + 1 < length bytes → get_or bytes (suc k) 0 ≡ 39 → ⊥) → unquoted_rest true (bytes ++ rest) ≡ bytes ++ unquoted_rest false rest
+unquoted-first [] rest some none = absurd (omega arith)
+unquoted-first (byte ∷ bytes) rest some none = ap (λ bs. byte ∷ bs) (unquoted-plain bytes rest (λ k h. none k (omega arith)))
+
+-- a character behind a quote stands for itself
+pub unquoted-behind : (character : ℕ) (rest : List ℕ) → unquoted_rest true (encode_utf8 character ++ rest) ≡ encode_utf8 character ++ unquoted_rest false rest
+unquoted-behind character rest =
+    unquoted-first (encode_utf8 character) rest
+    (omega (arith, length-encode character, (len_utf8_bounds character).0))
+    (λ k h e.
+    let quote = quote_inside character (suc k) (omega arith) e in
+    let one = ap length (ap encode_utf8 quote ∙ quote_is_one_byte) in
+    omega arith)
+
+-- and so does a character that is no quote
+pub unquoted-other : (behind_quote : Bool) (character : ℕ) (rest : List ℕ) → (character ≡ 39 → ⊥) → unquoted_rest behind_quote (encode_utf8 character ++ rest) ≡ encode_utf8 character ++ unquoted_rest false rest
+unquoted-other true character rest other = unquoted-behind character rest
+unquoted-other false character rest other = unquoted-plain (encode_utf8 character) rest (λ k h e. other (quote_inside character k h e))
+
+-- a quote that stands behind none may be the closing one
+pub unquoted-quote : (character : ℕ) (rest : List ℕ) → character ≡ 39 → unquoted_rest false (encode_utf8 character ++ rest) ≡ unquoted_rest true rest
+unquoted-quote character rest e = ap (λ c. unquoted_rest false (encode_utf8 c ++ rest)) e ∙ ap (λ bs. unquoted_rest false (bs ++ rest)) quote_is_one_byte
+
+-- what the loop over the characters keeps, where one stands for itself
+pub unquoted_more : (text seen rest : List ℕ) (character : ℕ) (behind_quote : Bool) (whole : List ℕ)
+    → text ++ unquoted_rest behind_quote seen ≡ whole → seen ≡ encode_utf8 character ++ rest
+    → unquoted_rest behind_quote (encode_utf8 character ++ rest) ≡ encode_utf8 character ++ unquoted_rest false rest
+    → (text ++ encode_utf8 character) ++ unquoted_rest false rest ≡ whole
+unquoted_more text seen rest character behind_quote whole before next stands =
+    append_assoc text (encode_utf8 character) (unquoted_rest false rest) ∙ ap (λ bs. text ++ bs) (sym stands ∙ ap (unquoted_rest behind_quote) (sym next)) ∙ before
+
+pub unquoted-first_byte : (quoted : List ℕ) → 0 < length quoted → unquoted quoted ≡ unquoted_rest false (drop 1 quoted)
+unquoted-first_byte [] some = absurd (omega arith)
+unquoted-first_byte (quote ∷ bytes) some = refl
+
+-- a route or an event says nothing where a part of it says nothing
+pub no_route : (line : List ℕ) (name start finish : Token)
+    → ((a b : ℕ) → SaysMeasure (text_of line start) a → SaysMeasure (text_of line finish) b → ⊥)
+    → (tree : CommandTree) → Says line (written_route name start finish) tree → ⊥
+no_route line name start finish none (define_route route a b) says = none a b says.1 says.2
+no_route line name start finish none (define_table kind table columns) says = says
+no_route line name start finish none (insert table route place row) says = says
+no_route line name start finish none (select query) says = says
+
+pub no_event : (line : List ℕ) (table route from to : Token) (values : List WrittenValue)
+    → ((a b : ℕ) (row : Row) → SaysMeasure (text_of line from) a → SaysMeasure (text_of line to) b → SaysRow line values row → ⊥)
+    → (tree : CommandTree) → Says line (written_insert table route from to values) tree → ⊥
+no_event line table route from to values none (define_route name a b) says = says
+no_event line table route from to values none (define_table kind name columns) says = says
+no_event line table route from to values none (insert into on (along a b) row) says = none a b row says.2 says.3 says.4
+no_event line table route from to values none (select query) says = says

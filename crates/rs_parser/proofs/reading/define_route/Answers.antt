@@ -1,0 +1,21 @@
+use Rattle.std.proofs.lemmas.Result.{err_from_is_err_and}
+use Rattle.rs_parser.specs.Grammar.{rules}
+use Rattle.rs_parser.specs.Reading.{is_done, through, stops_in}
+use Rattle.rs_parser.proofs.Steps.{takes_as, misses}
+use Rattle.rs_parser.proofs.reading.define_route.Goals as goal
+
+pub returns-in_err-name-clause-runs : goal.returns-in_err-name-clause-runs
+unfolding rules
+returns-in_err-name-clause-runs c =
+    let p = err_from_is_err_and c.from_residual.result c.from_residual.ensures.1 in
+    rw (p.1, p.2) (misses c.in_err-name.ensures.found)
+
+pub returns-in_err-start-clause-runs : goal.returns-in_err-start-clause-runs
+unfolding rules
+returns-in_err-start-clause-runs c =
+    let p = err_from_is_err_and c.from_residual-in_err-start.result c.from_residual-in_err-start.ensures.1 in
+    rw (p.1, p.2) (takes_as c.in_ok-name.ensures.found (stops_in c.in_err-start.ensures.runs))
+
+pub returns-clause-runs : goal.returns-clause-runs
+unfolding rules
+returns-clause-runs c = takes_as c.in_ok-name.ensures.found (through c.in_ok-start.ensures.runs (is_done))

@@ -1,0 +1,27 @@
+-- The value of a command of the code.
+use Rattle.std.specs.Prelude.{ℕ, List, map}
+use Rattle.rs_value.specs.declared.column.ColumnType.{ColumnType}
+use Rattle.rs_value.specs.View.{literal_row}
+use Rattle.rs_parser.specs.declared.commands.ColumnDefinition.{ColumnDefinition}
+use Rattle.rs_parser.specs.declared.commands.Place.{Place}
+use Rattle.rs_parser.specs.declared.commands.Place.TheVariants as places
+use Rattle.rs_parser.specs.declared.commands.Query.{Query}
+use Rattle.rs_parser.specs.declared.commands.Query.TheVariants as queries
+use Rattle.rs_parser.specs.declared.commands.Command.{Command}
+use Rattle.rs_parser.specs.declared.commands.Command.TheVariants as commands
+use Rattle.rs_parser.specs.Tree.{PlaceTree, along, QueryTree, named, CommandTree, define_route, define_table, insert, select}
+
+abbrev pub column_tree : ColumnDefinition → List ℕ × ColumnType
+column_tree definition = (definition.name.bytes, definition.column_type)
+
+abbrev pub place_tree : Place → PlaceTree
+place_tree (places.Along from to) = along from to
+
+abbrev pub query_tree : Query → QueryTree
+query_tree (queries.Named name) = named name.bytes
+
+abbrev pub tree_of : Command → CommandTree
+tree_of (commands.DefineRoute name start finish) = define_route name.bytes start finish
+tree_of (commands.DefineTable kind name columns) = define_table kind name.bytes (map column_tree columns.items)
+tree_of (commands.Insert table route place values) = insert table.bytes route.bytes (place_tree place) (literal_row values.items)
+tree_of (commands.Select query) = select (query_tree query)

@@ -1,0 +1,21 @@
+//! The language: the tokens of a line, and the command that they are.
+//!
+//! A line's text is cut into tokens by the longest match, and the tokens are read by the table of the
+//! grammar. What a line is, is one answer: its command, or the first refusal.
+#![tactic(auto)]
+
+pub mod commands;
+pub mod kind;
+mod meaning;
+pub mod parser;
+mod reading;
+mod scan;
+mod syntax;
+#[cfg(test)]
+mod tests;
+pub mod token;
+
+pub use commands::{ColumnDefinition, Command, Name, Place, Query};
+pub use kind::{NAME_BYTES, TokenKind};
+pub use parser::{BRACKETS, command_of, line_has_one_answer, parse};
+pub use token::tokens;

@@ -1,0 +1,217 @@
+//! What a written command says: names, texts, and numbers within their ranges.
+//!
+//! The syntax has been read, so a number out of its range is all that can be wrong with it.
+
+ghost use Rattle.std.specs.Prelude.{◌≡◌, ℕ, ◌≤◌, ◌^◌, ◌⊎◌, List, Some, map, MatchOption, SomeIff, IfOk, IfErr, OnErr, string_bytes};
+ghost use Rattle.rs_measure.specs.Measure.{SaysMeasure, number_of_digits};
+ghost use Rattle.rs_value.specs.declared.column.ColumnType.{ColumnType};
+ghost use Rattle.rs_value.specs.Row.{Datum, Row};
+ghost use Rattle.rs_value.specs.View.{literal_datum, literal_row};
+ghost use Rattle.rs_parser.specs.declared.kind.TokenKind.TheVariants as kinds;
+ghost use Rattle.rs_parser.specs.Lexis.{kind_of, text_of, IsTokenOf};
+ghost use Rattle.rs_parser.specs.Tree.{CommandTree};
+ghost use Rattle.rs_parser.specs.View.{column_tree, tree_of};
+ghost use Rattle.rs_parser.specs.Written.{type_pieces, column_pieces, value_pieces, list_pieces, spelling, SaysType, SaysColumns, unquoted, SaysDatum, SaysRow, Says};
+ghost use Rattle.rs_parser.specs.Reading.{AreToldOf, written_of};
+
+use crate::commands::{ColumnDefinition, Command, Name, Place, Query};
+use crate::syntax::{WrittenColumn, WrittenCommand, WrittenType, WrittenValue};
+use crate::token::Token;
+use rs_measure::{Measure, Refusal, read_measure};
+use rs_value::column::TEXT_BYTES;
+use rs_value::{ColumnType, Kind, Literal};
+use std::alloc::Global;
+
+/// The greatest number that a literal says, and with a minus sign the least.
+pub const GREATEST_NUMBER: u64 = 1_000_000_000_000;
+
+// The bytes of a token.
+fn text(line: &str, token: Token) -> &str
+    requires { IsTokenOf line.now token }
+    ensures { result.now ≡ text_of line.now token }
+{
+    &line[token.first..token.first + token.length]
+}
+
+// A token that is a name.
+fn name(line: &str, token: Token) -> Name
+    requires inside { IsTokenOf line.now token }
+    requires kind { token.kind ≡ kinds.Name }
+    ensures { result.bytes ≡ text_of line.now token }
+{
+    let mut name = Name::new();
+    name.push_str(text(line, token));
+    name
+}
+
+// A token that is a measure.
+fn measure(line: &str, token: Token) -> Result<Measure, Refusal>
+    requires { IsTokenOf line.now token }
+    ensures ok { IfOk result (λ measure. SaysMeasure (text_of line.now token) measure) }
+    ensures err { IfErr result (λ refusal. refusal ≡ Refusal.NumberOutOfRange) }
+    ensures refused { OnErr result ((n : ℕ) → SaysMeasure (text_of line.now token) n → ⊥) }
+{
+    read_measure(text(line, token))
+}
+
+// The number that digits say, if it is not above `most`.
+fn number(text: &str, most: u64) -> Option<u64>
+    requires { most ≤ 10 ^ 12 }
+    ensures { SomeIff result (number_of_digits text.now ≤ most) (number_of_digits text.now) }
+{
+    let mut number = 0u64;
+    for byte in text.as_bytes() {
+        number = 10 * number + u64::from(byte.saturating_sub(b'0'));
+        if number > most {
+            return None;
+        }
+    }
+    Some(number)
+}
+
+// The type of a column, if its number is in range.
+fn column_type(line: &str, written: WrittenType) -> Option<ColumnType>
+    requires { AreToldOf line.now (type_pieces written) }
+    ensures { MatchOption result ((t : ColumnType) → SaysType line.now written t → ⊥) (SaysType line.now written) }
+{
+    match written {
+        WrittenType::Int => Some(ColumnType::Int),
+        WrittenType::Text(token) => {
+            let most = number(text(line, token), TEXT_BYTES as u64)?;
+            if most == 0 {
+                None
+            } else {
+                Some(ColumnType::Text(most as u8))
+            }
+        }
+    }
+}
+
+// The columns of a table.
+fn columns(
+    alloc: Global,
+    line: &str,
+    written: &[WrittenColumn],
+) -> Result<Vec<ColumnDefinition>, Refusal>
+    requires { AreToldOf line.now (list_pieces column_pieces written.now) }
+    ensures ok { IfOk result (λ columns. SaysColumns line.now written.now (map column_tree columns.items)) }
+    ensures err { IfErr result (λ refusal. (refusal ≡ Refusal.OutOfMemory)
+        ⊎ ((refusal ≡ Refusal.NumberOutOfRange) × ((columns : List (List ℕ × ColumnType)) → SaysColumns line.now written.now columns → ⊥))) }
+{
+    let mut columns = Vec::new(alloc);
+    for column in written {
+        let Some(column_type) = column_type(line, column.column_type) else {
+            return Err(Refusal::NumberOutOfRange);
+        };
+        let definition = ColumnDefinition {
+            name: name(line, column.name),
+            column_type,
+        };
+        columns.push(definition).map_err(|_| Refusal::OutOfMemory)?;
+    }
+    Ok(columns)
+}
+
+// A quoted text without its quotes, each doubled quote once.
+fn unquoted(alloc: Global, quoted: &str) -> Result<String, Refusal>
+    requires { kind_of quoted.now ≡ Some kinds.Quoted }
+    ensures ok { IfOk result (λ text. string_bytes text ≡ unquoted quoted.now) }
+    ensures err { IfErr result (λ refusal. refusal ≡ Refusal.OutOfMemory) }
+{
+    let mut text = String::new(alloc);
+    let mut is_behind_quote = false;
+    let rest = &quoted[1..];
+    for character in rest.chars() {
+        if character == '\'' && !is_behind_quote {
+            is_behind_quote = true;
+        } else {
+            text.push(character).map_err(|_| Refusal::OutOfMemory)?;
+            is_behind_quote = false;
+        }
+    }
+    Ok(text)
+}
+
+// A value of a row.
+fn literal(alloc: Global, line: &str, written: WrittenValue) -> Result<Literal, Refusal>
+    requires { AreToldOf line.now (value_pieces written) }
+    ensures ok { IfOk result (λ literal. SaysDatum line.now written (literal_datum literal)) }
+    ensures err { IfErr result (λ refusal. (refusal ≡ Refusal.OutOfMemory)
+        ⊎ ((refusal ≡ Refusal.NumberOutOfRange) × ((datum : Datum) → SaysDatum line.now written datum → ⊥))) }
+{
+    match written {
+        WrittenValue::Null => Ok(Literal::Null),
+        WrittenValue::Whole(is_negative, digits) => {
+            let Some(size) = number(text(line, digits), GREATEST_NUMBER) else {
+                return Err(Refusal::NumberOutOfRange);
+            };
+            let size = size as i64;
+            Ok(Literal::Int(if is_negative { -size } else { size }))
+        }
+        WrittenValue::Quoted(quoted) => Ok(Literal::Text(unquoted(alloc, text(line, quoted))?)),
+    }
+}
+
+// The values of a row.
+fn values(alloc: Global, line: &str, written: &[WrittenValue]) -> Result<Vec<Literal>, Refusal>
+    requires { AreToldOf line.now (list_pieces value_pieces written.now) }
+    ensures ok { IfOk result (λ values. SaysRow line.now written.now (literal_row values.items)) }
+    ensures err { IfErr result (λ refusal. (refusal ≡ Refusal.OutOfMemory)
+        ⊎ ((refusal ≡ Refusal.NumberOutOfRange) × ((row : Row) → SaysRow line.now written.now row → ⊥))) }
+{
+    let mut values = Vec::new(alloc);
+    for value in written {
+        let literal = literal(alloc, line, *value)?;
+        values.push(literal).map_err(|_| Refusal::OutOfMemory)?;
+    }
+    Ok(values)
+}
+
+/// The command that is written so.
+///
+/// Refused `NumberOutOfRange` where a number is out of its range, and `OutOfMemory` where a growth was
+/// refused.
+pub fn meaning(alloc: Global, line: &str, written: &WrittenCommand) -> Result<Command, Refusal>
+    requires { AreToldOf line.now (spelling (written_of written.now)) }
+    ensures ok { IfOk result (λ command. Says line.now (written_of written.now) (tree_of command)) }
+    ensures err { IfErr result (λ refusal. (refusal ≡ Refusal.OutOfMemory)
+        ⊎ ((refusal ≡ Refusal.NumberOutOfRange) × ((tree : CommandTree) → Says line.now (written_of written.now) tree → ⊥))) }
+{
+    match written {
+        WrittenCommand::DefineRoute {
+            name: route,
+            start,
+            finish,
+        } => Ok(Command::DefineRoute {
+            name: name(line, *route),
+            start: measure(line, *start)?,
+            finish: measure(line, *finish)?,
+        }),
+        WrittenCommand::DefineTable {
+            name: table,
+            columns: definitions,
+        } => Ok(Command::DefineTable {
+            kind: Kind::Line,
+            name: name(line, *table),
+            columns: columns(alloc, line, definitions)?,
+        }),
+        WrittenCommand::Insert {
+            table,
+            route,
+            from,
+            to,
+            values: row,
+        } => Ok(Command::Insert {
+            table: name(line, *table),
+            route: name(line, *route),
+            place: Place::Along {
+                from: measure(line, *from)?,
+                to: measure(line, *to)?,
+            },
+            values: values(alloc, line, row)?,
+        }),
+        WrittenCommand::Select { table } => Ok(Command::Select {
+            query: Query::Named(name(line, *table)),
+        }),
+    }
+}

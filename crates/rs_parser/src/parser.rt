@@ -1,0 +1,123 @@
+//! From the tokens of a line to its command, or the first refusal.
+//!
+//! The syntax comes before the ranges of numbers, and an unknown character before both.
+
+ghost use Rattle.std.specs.Prelude.{◌≡◌, ℕ, List, Result, ◌+◌, ◌<◌, ◌≤◌, ◌⊎◌, [], Ok, Err, length, take, drop, IfOk, IfErr, OnOk, All};
+ghost use Rattle.rs_parser.specs.Lexis.{kinds_of, IsTokenOf};
+ghost use Rattle.rs_parser.specs.Grammar.{IsShallow, command_form};
+ghost use Rattle.rs_parser.specs.Written.{spelling};
+ghost use Rattle.rs_measure.specs.declared.refusal.Refusal.{Refusal};
+ghost use Rattle.rs_parser.specs.Tree.{CommandTree};
+ghost use Rattle.rs_parser.specs.View.{tree_of};
+ghost use Rattle.rs_parser.specs.Reading.{Runs, halt_of, pieces_of, written_of, StopsAt};
+ghost use Rattle.rs_parser.specs.Verdict.{fault_column, IsWritten, Parses, Reads};
+
+use crate::commands::Command;
+use crate::kind::TokenKind;
+use crate::meaning::meaning;
+use crate::reading::{Stop, command};
+use crate::syntax::WrittenCommand;
+use crate::token::{Token, tokens};
+use rs_measure::{Refusal, text_says_one_measure};
+use std::alloc::Global;
+
+/// How many brackets may be open at once.
+pub const BRACKETS: usize = 32;
+
+// How many tokens stand before the first that opens a bracket too many.
+fn shallow_count(tokens: &[Token]) -> usize
+    ensures inside { result ≤ length tokens.now }
+    ensures shallow { IsShallow (take result (kinds_of tokens.now)) }
+    ensures too_deep { result < length tokens.now → IsShallow (take (result + 1) (kinds_of tokens.now)) → ⊥ }
+{
+    let mut open = 0;
+    for (place, token) in tokens.iter().enumerate() {
+        match token.kind {
+            TokenKind::LeftParen => {
+                if open == BRACKETS {
+                    return place;
+                }
+                open += 1;
+            }
+            TokenKind::RightParen => open = open.saturating_sub(1),
+            _ => {}
+        }
+    }
+    tokens.len()
+}
+
+// The refusal at the first of these tokens, or behind the line's last byte where there is none.
+fn syntax_fault(line: &str, tokens: &[Token]) -> Refusal
+    requires { All (IsTokenOf line.now) tokens.now }
+    ensures { result ≡ Refusal.Syntax (fault_column line.now tokens.now) }
+{
+    match tokens.first() {
+        Some(token) => Refusal::Syntax(token.first + 1),
+        None => Refusal::Syntax(line.len() + 1),
+    }
+}
+
+// The command that all of the tokens are, as it is written.
+fn whole_command(alloc: Global, tokens: &[Token]) -> Result<WrittenCommand, Stop<'_>>
+    ensures read { OnOk result (Runs command_form (kinds_of tokens.now) (Ok [])) }
+    ensures spelled { IfOk result (λ written. pieces_of tokens.now ≡ spelling (written_of written)) }
+    ensures stops { IfErr result (λ stop. StopsAt (kinds_of tokens.now) (halt_of stop)) }
+{
+    let (written, rest) = command(alloc, tokens)?;
+    if rest.is_empty() {
+        Ok(written)
+    } else {
+        Err(Stop::At(rest))
+    }
+}
+
+// The syntax of the command that the tokens are.
+fn syntax(alloc: Global, line: &str, tokens: &[Token]) -> Result<WrittenCommand, Refusal>
+    requires { All (IsTokenOf line.now) tokens.now }
+    ensures ok { IfOk result (λ written. IsWritten tokens.now (written_of written)) }
+    ensures err { IfErr result (λ refusal. (refusal ≡ Refusal.OutOfMemory) ⊎ Parses line.now tokens.now (Err refusal)) }
+{
+    let shallow = shallow_count(tokens);
+    match whole_command(alloc, &tokens[..shallow]) {
+        Ok(written) => {
+            if shallow == tokens.len() {
+                Ok(written)
+            } else {
+                Err(syntax_fault(line, &tokens[shallow..]))
+            }
+        }
+        Err(Stop::At(rest)) => Err(syntax_fault(line, &tokens[shallow - rest.len()..])),
+        Err(Stop::OutOfMemory) => Err(Refusal::OutOfMemory),
+    }
+}
+
+/// The command that the tokens of a line are.
+///
+/// Refused `Syntax` with the column of the first token that fits no rule, `NumberOutOfRange` where all
+/// fit and a number is out of its range, and `OutOfMemory` where a growth was refused.
+pub fn parse(alloc: Global, line: &str, tokens: &[Token]) -> Result<Command, Refusal>
+    requires { All (IsTokenOf line.now) tokens.now }
+    ensures ok { IfOk result (λ command. Parses line.now tokens.now (Ok (tree_of command))) }
+    ensures err { IfErr result (λ refusal. (refusal ≡ Refusal.OutOfMemory) ⊎ Parses line.now tokens.now (Err refusal)) }
+{
+    let written = syntax(alloc, line, tokens)?;
+    meaning(alloc, line, &written)
+}
+
+/// The command that the text of a line is from a byte place on.
+///
+/// Refused `UnknownCharacter` where the text can't be cut into tokens, then as by `parse`.
+pub fn command_of(alloc: Global, line: &str, from: usize) -> Result<Command, Refusal>
+    ensures ok { IfOk result (λ command. Reads line.now from (Ok (tree_of command))) }
+    ensures err { IfErr result (λ refusal. (refusal ≡ Refusal.OutOfMemory) ⊎ Reads line.now from (Err refusal)) }
+{
+    let tokens = tokens(alloc, line, from)?;
+    parse(alloc, line, &tokens)
+}
+
+/// The text of a line has one answer at the most: a command, or a refusal.
+pub fn line_has_one_answer()
+    ensures { (line : List ℕ) (from : ℕ) (a b : Result CommandTree Refusal) → Reads line from a → Reads line from b → a ≡ b }
+{
+    text_says_one_measure();
+}
