@@ -1,0 +1,9 @@
+pub mod State
+pub mod Checks
+pub mod Step
+pub mod Served
+pub mod Fresh
+pub mod Request
+pub mod ReplyText
+pub mod Answered
+pub mod Stream

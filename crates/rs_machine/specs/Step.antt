@@ -1,0 +1,113 @@
+-- The step of the reference machine: one command of one session.
+use Rattle.std.specs.Prelude.{ℕ, ◌+◌, not, nat_le, nat_lt, List, [], length, Result, Ok, map, flat_map}
+use Rattle.std.specs.FinMap as names
+use Rattle.rs_measure.specs.declared.refusal.Refusal.{Refusal}
+use Rattle.rs_measure.specs.declared.refusal.Refusal.TheVariants.{NameTaken, Limit, EmptySpan, PointOrLineWanted, ColumnTwice}
+use Rattle.rs_value.specs.declared.column.Kind.{Kind}
+use Rattle.rs_value.specs.declared.column.TheConstants.{COLUMNS}
+use Rattle.rs_value.specs.Row.{Row}
+use Rattle.rs_facts.specs.Fact.{Name, no_facts}
+use Rattle.rs_facts.specs.Insert.{after_insert, new_facts}
+use Rattle.rs_facts.specs.Query.{RouteEnds, Column, Table, Query, table_rows, rows_at, kind_of}
+use Rattle.rs_facts.specs.Runs.{runs_of}
+use Rattle.rs_facts.specs.LineText.{line_of}
+use Rattle.rs_parser.specs.Tree.{CommandTree, define_route, define_table, insert, select, PlaceTree, along, QueryTree, named}
+use Rattle.rs_machine.specs.declared.limits.TheConstants.{ROUTES, TABLES, CHANGES}
+use Rattle.rs_machine.specs.State.{State, RowText, world_of, has}
+use Rattle.rs_machine.specs.Checks.{◌>>=◌, unless, route_named, table_named, span_on, holds_lines, some_name_twice, column_names, row_fits}
+
+-- what an accepted command answers, and the state after it
+pub record Effect : Type 0 where
+  pub rows : List RowText
+  pub count : ℕ
+  pub state : State
+
+abbrev pub effect : List RowText → ℕ → State → Effect
+effect rows count state = record { rows = rows; count = count; state = state }
+
+-- no rows, only a count
+abbrev pub counted : ℕ → State → Effect
+counted count state = effect [] count state
+
+-- ---- definitions
+
+abbrev pub may_change : State → Result (Unit {0}) Refusal
+may_change state = unless (nat_lt state.changes CHANGES) Limit
+
+abbrev pub with_route : State → Name → ℕ → ℕ → State
+with_route state name start finish = record state {
+  routes = names.insert state.routes name (record { start = start; finish = finish });
+  changes = state.changes + 1;
+}
+
+abbrev pub route_defined : State → Name → ℕ → ℕ → Result Effect Refusal
+route_defined state name start finish = do
+  _ ← unless (not (has state.routes name)) NameTaken
+  _ ← unless (nat_lt start finish) EmptySpan
+  _ ← unless (nat_lt (names.len state.routes) ROUTES) Limit
+  _ ← may_change state
+  Ok (counted 0 (with_route state name start finish))
+
+abbrev pub with_table : State → Name → Table → State
+with_table state name table = record state {
+  tables = names.insert state.tables name table;
+  changes = state.changes + 1;
+}
+
+abbrev pub empty_table : Kind → List Column → Table
+empty_table kind columns = record { kind = kind; columns = columns; facts = no_facts }
+
+abbrev pub table_defined : State → Kind → Name → List Column → Result Effect Refusal
+table_defined state kind name columns = do
+  _ ← unless (not (has state.tables name)) NameTaken
+  _ ← unless (not (some_name_twice (column_names columns))) ColumnTwice
+  _ ← unless (nat_le (length columns) COLUMNS) Limit
+  _ ← unless (nat_lt (names.len state.tables) TABLES) Limit
+  _ ← may_change state
+  Ok (counted 0 (with_table state name (empty_table kind columns)))
+
+-- ---- insertion
+
+abbrev pub with_facts_along : Table → Name → ℕ → ℕ → Row → Table
+with_facts_along table route from to row = record table { facts = after_insert table.facts route from to row }
+
+abbrev pub row_inserted : State → Name → Name → PlaceTree → Row → Result Effect Refusal
+row_inserted state name route (along from to) row = do
+  ends ← route_named state route
+  table ← table_named state name
+  _ ← span_on ends from to
+  _ ← unless (holds_lines table.kind) PointOrLineWanted
+  _ ← row_fits table.columns row
+  _ ← may_change state
+  Ok (counted (new_facts table.facts route from to row) (with_table state name (with_facts_along table route from to row)))
+
+-- ---- queries
+
+-- the query with its names looked up
+abbrev pub checked : State → QueryTree → Result Query Refusal
+checked state (named name) = do
+  _ ← table_named state name
+  Ok (table_rows name)
+
+-- The query's runs on one route. A point may stand at the route's end, so the end itself is looked at; no line
+-- holds there.
+abbrev pub lines_on : State → Query → Name → RouteEnds → List RowText
+lines_on state query route ends = map (line_of (kind_of (world_of state) query) route)
+    (runs_of (kind_of (world_of state) query) (rows_at (world_of state) query route) ends.start (ends.finish + 1))
+
+-- by route name, then by place, then by row
+abbrev pub lines_of : State → Query → List RowText
+lines_of state query = flat_map (λ route. lines_on state query route.0 route.1) (names.entries state.routes)
+
+abbrev pub selected : State → QueryTree → Result Effect Refusal
+selected state tree = do
+  query ← checked state tree
+  Ok (effect (lines_of state query) (length (lines_of state query)) state)
+
+-- ---- the step
+
+abbrev pub outcome : State → ℕ → CommandTree → Result Effect Refusal
+outcome state session (define_route name start finish) = route_defined state name start finish
+outcome state session (define_table kind name columns) = table_defined state kind name columns
+outcome state session (insert table route place row) = row_inserted state table route place row
+outcome state session (select query) = selected state query

@@ -1,0 +1,16 @@
+//! The limits of the machine, each once, by one name in code and definitions.
+
+/// How many routes there may be.
+pub const ROUTES: usize = 4_096;
+
+/// How many tables there may be.
+pub const TABLES: usize = 128;
+
+/// How many accepted changes a file's life has at the most: 2^63 - 1.
+pub const CHANGES: u64 = 9_223_372_036_854_775_807;
+
+/// Sessions are numbered from 0 and below this.
+pub const SESSIONS: u8 = 64;
+
+/// How many bytes a line has before its LF at the most, a CR among them.
+pub const LINE_BYTES: usize = 4_096;
