@@ -1,0 +1,8 @@
+mod Names
+mod LineTexts
+mod TableLaws
+mod Printing
+mod ColumnNames
+mod StateLaws
+mod Outcomes
+mod Selection

@@ -1,0 +1,34 @@
+-- The two halves of an insertion: what its checks find before the change is counted, and what a table takes.
+use Rattle.std.specs.Prelude.{◌≡◌, ℕ, Some, Ok}
+use Rattle.std.specs.FinMap as names
+use Rattle.rs_value.specs.declared.column.Kind.TheVariants.{Line}
+use Rattle.rs_value.specs.Row.{Row}
+use Rattle.rs_facts.specs.Fact.{Name, Names}
+use Rattle.rs_facts.specs.Insert.{new_facts}
+use Rattle.rs_facts.specs.Query.{RouteEnds}
+use Rattle.rs_facts.specs.Runs.{Stretch}
+use Rattle.rs_parser.specs.Tree.{PlaceTree, along}
+use Rattle.rs_machine.specs.Checks.{span_on, row_fits}
+use Rattle.rs_machine.specs.Step.{with_facts_along}
+use Rattle.rs_engine.specs.Kept.{KeptTable, Kept, facts_kept, table_of}
+
+-- The route and the table are there, the place is a span on the route, the table holds lines, and the row fits it.
+pub record MayBePut (kept : Kept) (name route : Name) (place : PlaceTree) (row : Row) (span : Stretch) : Type 0 where
+  pub ends : RouteEnds
+  pub table : KeptTable
+  pub route_there : names.get kept.routes route ≡ Some ends
+  pub table_there : names.get kept.tables name ≡ Some table
+  pub place_is : place ≡ along span.lo span.hi
+  pub row_is : row ≡ span.row
+  pub on_route : span_on ends span.lo span.hi ≡ Ok tt
+  pub lines : table.kind ≡ Line
+  pub fits : row_fits table.columns span.row ≡ Ok tt
+
+-- A table takes a row along a span of a route, and so many facts are new.
+pub record TakesRow (old : Names KeptTable) (name route : Name) (span : Stretch) (new : Names KeptTable) (count : ℕ) : Type 0 where
+  pub table : KeptTable
+  pub after : KeptTable
+  pub there : names.get old name ≡ Some table
+  pub put : new ≡ names.insert old name after
+  pub facts : table_of after ≡ with_facts_along (table_of table) route span.lo span.hi span.row
+  pub counted : count ≡ new_facts (facts_kept table) route span.lo span.hi span.row

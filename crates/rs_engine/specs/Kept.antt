@@ -1,0 +1,35 @@
+-- What the engine keeps, and the state of the reference machine that it stands for.
+use Rattle.std.specs.Prelude.{ℕ, List, [], unwrap_or}
+use Rattle.std.specs.FinMap as names
+use Rattle.rs_value.specs.declared.column.Kind.{Kind}
+use Rattle.rs_facts.specs.Fact.{Names, Facts}
+use Rattle.rs_facts.specs.Query.{RouteEnds, Column, Table}
+use Rattle.rs_facts.specs.Runs.{Stretch}
+use Rattle.rs_facts.specs.Spans.{places_of}
+use Rattle.rs_machine.specs.State.{State}
+use Rattle.rs_engine.specs.Names.{map_values}
+
+-- a table: for each route that holds something, the spans that are kept
+pub record KeptTable : Type 0 where
+  pub kind : Kind
+  pub columns : List Column
+  pub spans : Names (List Stretch)
+
+pub record Kept : Type 0 where
+  pub routes : Names RouteEnds
+  pub tables : Names KeptTable
+  -- how many changes were accepted
+  pub changes : ℕ
+
+-- the table's rows at each thousandth of each route
+unfoldable pub facts_kept : KeptTable → Facts
+facts_kept table route = places_of (unwrap_or (names.get table.spans route) [])
+
+unfoldable pub table_of : KeptTable → Table
+table_of table = record { kind = table.kind; columns = table.columns; facts = facts_kept table }
+
+unfoldable pub tables_of : Names KeptTable → Names Table
+tables_of tables = map_values table_of tables
+
+abbrev pub state_of : Kept → State
+state_of kept = record { routes = kept.routes; tables = tables_of kept.tables; changes = kept.changes; cursors = λ session. names.empty }

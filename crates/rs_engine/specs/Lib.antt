@@ -1,0 +1,9 @@
+pub mod Names
+pub mod Kept
+pub mod Codes
+pub mod Placed
+pub mod Printed
+pub mod Insertion
+pub mod View
+pub mod ReplyView
+pub mod Replied

@@ -1,0 +1,6 @@
+-- The machine that an engine is: its disk has not failed, and was never full.
+use Rattle.rs_machine.specs.Served.{Machine}
+use Rattle.rs_engine.specs.Kept.{Kept, state_of}
+
+abbrev pub machine_of : Kept → Machine
+machine_of kept = record { state = state_of kept; failures = 0; full_refusals = 0 }

@@ -1,0 +1,302 @@
+//! The engine and its step: the checks of each command in their order, and what an accepted command changes.
+
+ghost use Rattle.std.specs.Prelude.{◌≡◌, ◌⊎◌, length, map, Ok, Err, IfOk, IfErr, OnErr};
+ghost use Rattle.std.specs.List.{list_any};
+ghost use Rattle.rs_value.specs.View.{literal_row};
+ghost use Rattle.rs_facts.specs.Insert.{same_name};
+ghost use Rattle.rs_facts.specs.Spans.{seen};
+ghost use Rattle.rs_parser.specs.Tree.{named};
+ghost use Rattle.rs_parser.specs.View.{column_tree, place_tree, query_tree};
+ghost use Rattle.rs_machine.specs.Checks.{column_names, some_name_twice};
+ghost use Rattle.rs_machine.specs.Step.{effect, counted, route_defined, table_defined, row_inserted, selected};
+ghost use Rattle.rs_engine.specs.ReplyView.{rows_of, reply_of};
+ghost use Rattle.rs_engine.specs.Replied.{count_reply_of, rows_reply_of};
+
+use crate::reply::{Finish, Reply};
+use crate::routes::{Ends, Routes};
+use crate::session::Session;
+use crate::table::Table;
+use crate::tables::Tables;
+use rs_facts::Span;
+use rs_machine::limits::{CHANGES, ROUTES, TABLES};
+use rs_measure::{Measure, Refusal};
+use rs_parser::{ColumnDefinition, Command, Name, Place, Query};
+use rs_value::{COLUMNS, Kind, Literal};
+use std::alloc::Global;
+use std::marker::Model;
+
+/// The routes, the tables with their facts, and how many changes were accepted.
+#[derive(Drop)]
+pub struct Engine {
+    alloc: Global,
+    routes: Routes,
+    tables: Tables,
+    changes: u64,
+}
+
+impl Model for Engine {
+    ghost use Rattle.rs_engine.specs.Codes.{kept_code};
+    ghost use Rattle.rs_engine.specs.Kept.{Kept};
+    ghost use Rattle.rs_engine.specs.Placed.{AreMeasured, AreOnRoutes};
+
+    ghost Value = { Kept };
+
+    ghost coded = { kept_code };
+
+    ghost view = { λ e. record { routes = e.routes; tables = e.tables; changes = e.changes } };
+
+    ghost invariant = { λ e. AreMeasured e.routes × AreOnRoutes e.routes e.tables };
+}
+
+impl Engine {
+    ghost use Rattle.rs_machine.specs.Served.{Served};
+    ghost use Rattle.rs_machine.specs.Fresh.{fresh_machine};
+    ghost use Rattle.rs_parser.specs.View.{tree_of};
+    ghost use Rattle.rs_engine.specs.Insertion.{MayBePut};
+    ghost use Rattle.rs_engine.specs.Kept.{state_of};
+    ghost use Rattle.rs_engine.specs.View.{machine_of};
+
+    /// An engine with no routes and no tables. It takes no memory.
+    pub fn fresh(alloc: Global) -> Self
+        ensures { machine_of result ≡ fresh_machine }
+    {
+        Engine {
+            alloc,
+            routes: Routes::new(alloc),
+            tables: Tables::new(alloc),
+            changes: 0,
+        }
+    }
+
+    /// Serves one command of one session. A refusal changes nothing: it is that of the first check that fails, or
+    /// `Refusal::OutOfMemory` (90) where a growth was refused.
+    pub fn step(&mut self, session: Session, command: Command) -> Reply
+        ensures { Served (machine_of self.old) session (tree_of command) (reply_of result) (machine_of self.new) }
+    {
+        let alloc = self.alloc;
+        match command {
+            Command::DefineRoute {
+                name,
+                start,
+                finish,
+            } => count_reply(alloc, self.define_route(name, start, finish)),
+            Command::DefineTable {
+                kind,
+                name,
+                columns,
+            } => count_reply(alloc, self.define_table(kind, name, columns)),
+            Command::Insert {
+                table,
+                route,
+                place,
+                values,
+            } => count_reply(alloc, self.insert(&table, route, place, &values)),
+            Command::Select { query } => rows_reply(alloc, self.select(query)),
+        }
+    }
+
+    /// Defines a route, unless its name is taken (24), it is empty (31), or a limit stands in the way (27).
+    fn define_route(&mut self, name: Name, start: Measure, finish: Measure) -> Result<u128, Refusal>
+        ensures done { IfOk result (λ count. route_defined (state_of self.old) name.bytes start finish ≡ Ok (counted count (state_of self.new))) }
+        ensures refused { IfErr result (λ refusal. (refusal ≡ Refusal.OutOfMemory) ⊎ (route_defined (state_of self.old) name.bytes start finish ≡ Err refusal)) }
+        ensures err { OnErr result (self.new ≡ self.old) }
+    {
+        if self.routes.get(&name).is_some() {
+            return Err(Refusal::NameTaken);
+        }
+        if start.thousandths() >= finish.thousandths() {
+            return Err(Refusal::EmptySpan);
+        }
+        if self.routes.len() >= ROUTES {
+            return Err(Refusal::Limit);
+        }
+        if self.changes >= CHANGES {
+            return Err(Refusal::Limit);
+        }
+        match self.routes.insert(name, Ends::new(start, finish)) {
+            Ok(()) => {
+                self.changes += 1;
+                Ok(0)
+            }
+            Err(_) => Err(Refusal::OutOfMemory),
+        }
+    }
+
+    /// Defines a table, unless its name is taken (24), a column stands twice (41), or a limit stands in the way (27).
+    fn define_table(
+        &mut self,
+        kind: Kind,
+        name: Name,
+        columns: Vec<ColumnDefinition>,
+    ) -> Result<u128, Refusal>
+        ensures done { IfOk result (λ count. table_defined (state_of self.old) kind name.bytes (map column_tree columns.items) ≡ Ok (counted count (state_of self.new))) }
+        ensures refused { IfErr result (λ refusal. (refusal ≡ Refusal.OutOfMemory) ⊎ (table_defined (state_of self.old) kind name.bytes (map column_tree columns.items) ≡ Err refusal)) }
+        ensures err { OnErr result (self.new ≡ self.old) }
+    {
+        if self.tables.get(&name).is_some() {
+            return Err(Refusal::NameTaken);
+        }
+        if has_name_twice(&columns) {
+            return Err(Refusal::ColumnTwice);
+        }
+        if columns.len() > COLUMNS {
+            return Err(Refusal::Limit);
+        }
+        if self.tables.len() >= TABLES {
+            return Err(Refusal::Limit);
+        }
+        if self.changes >= CHANGES {
+            return Err(Refusal::Limit);
+        }
+        match self
+            .tables
+            .insert(name, Table::new(self.alloc, kind, columns))
+        {
+            Ok(()) => {
+                self.changes += 1;
+                Ok(0)
+            }
+            Err(_) => Err(Refusal::OutOfMemory),
+        }
+    }
+
+    /// Puts a row along a span, unless a check stands in the way (20; 21; 30, 31; 32; 33; 34; 27). Its answer is how
+    /// many facts are new.
+    fn insert(
+        &mut self,
+        table: &Name,
+        route: Name,
+        place: Place,
+        values: &[Literal],
+    ) -> Result<u128, Refusal>
+        ensures done { IfOk result (λ count. row_inserted (state_of self.old) table.now.bytes route.bytes (place_tree place) (literal_row values.now) ≡ Ok (counted count (state_of self.new))) }
+        ensures refused { IfErr result (λ refusal. (refusal ≡ Refusal.OutOfMemory) ⊎ (row_inserted (state_of self.old) table.now.bytes route.bytes (place_tree place) (literal_row values.now) ≡ Err refusal)) }
+        ensures err { OnErr result (self.new ≡ self.old) }
+    {
+        let span = self.checked_span(table, &route, place, values)?;
+        if self.changes >= CHANGES {
+            return Err(Refusal::Limit);
+        }
+        match self.tables.insert_row(table, route, span) {
+            Ok(new_facts) => {
+                self.changes += 1;
+                Ok(u128::from(new_facts))
+            }
+            Err(_) => Err(Refusal::OutOfMemory),
+        }
+    }
+
+    /// The row along its span, where both fit the route and the table.
+    fn checked_span(
+        &self,
+        table: &Name,
+        route: &Name,
+        place: Place,
+        values: &[Literal],
+    ) -> Result<Span, Refusal>
+        ensures done { IfOk result (λ span. MayBePut self.now table.now.bytes route.now.bytes (place_tree place) (literal_row values.now) (seen span)) }
+        ensures refused { IfErr result (λ refusal. row_inserted (state_of self.now) table.now.bytes route.now.bytes (place_tree place) (literal_row values.now) ≡ Err refusal) }
+    {
+        let Some(ends) = self.routes.get(route) else {
+            return Err(Refusal::NoSuchRoute);
+        };
+        let Some(table) = self.tables.get(table) else {
+            return Err(Refusal::NoSuchName);
+        };
+        let Place::Along { from, to } = place;
+        let lo = from.thousandths();
+        let hi = to.thousandths();
+        ends.check_span(lo, hi)?;
+        match table.kind() {
+            Kind::Point => Err(Refusal::PointOrLineWanted),
+            Kind::Line => {
+                let tuple = table.fitted(values)?;
+                Ok(Span { lo, hi, tuple })
+            }
+        }
+    }
+
+    /// The lines of a query, by route name, then by place, then by row; 21 where its table is missing.
+    fn select(&self, query: Query) -> Result<Vec<String>, Refusal>
+        ensures done { IfOk result (λ rows. selected (state_of self.now) (query_tree query) ≡ Ok (effect (rows_of rows.items) (length (rows_of rows.items)) (state_of self.now))) }
+        ensures refused { IfErr result (λ refusal. (refusal ≡ Refusal.OutOfMemory) ⊎ (selected (state_of self.now) (query_tree query) ≡ Err refusal)) }
+    {
+        match query {
+            Query::Named(name) => self.select_table(&name),
+        }
+    }
+
+    /// The lines of a table; 21 where there is none.
+    fn select_table(&self, name: &Name) -> Result<Vec<String>, Refusal>
+        ensures done { IfOk result (λ rows. selected (state_of self.now) (named name.now.bytes) ≡ Ok (effect (rows_of rows.items) (length (rows_of rows.items)) (state_of self.now))) }
+        ensures refused { IfErr result (λ refusal. (refusal ≡ Refusal.OutOfMemory) ⊎ (selected (state_of self.now) (named name.now.bytes) ≡ Err refusal)) }
+    {
+        let Some(table) = self.tables.get(name) else {
+            return Err(Refusal::NoSuchName);
+        };
+        let mut rows = Vec::new(self.alloc);
+        for (route, _ends) in self.routes.iter() {
+            if table.push_rows(route, &mut rows).is_err() {
+                return Err(Refusal::OutOfMemory);
+            }
+        }
+        Ok(rows)
+    }
+}
+
+/// Whether two columns have one name.
+fn has_name_twice(columns: &[ColumnDefinition]) -> bool
+    ensures { result ≡ some_name_twice (column_names (map column_tree columns.now)) }
+{
+    for (i, column) in columns.iter().enumerate() {
+        if has_name(&columns[i + 1..], &column.name) {
+            return true;
+        }
+    }
+    false
+}
+
+/// Whether a column has this name.
+fn has_name(columns: &[ColumnDefinition], name: &Name) -> bool
+    ensures { result ≡ list_any (same_name name.now.bytes) (column_names (map column_tree columns.now)) }
+{
+    for column in columns {
+        if *name == column.name {
+            return true;
+        }
+    }
+    false
+}
+
+/// The reply with no rows and this count, or the refusal.
+fn count_reply(alloc: Global, answer: Result<u128, Refusal>) -> Reply
+    ensures { reply_of result ≡ count_reply_of answer }
+{
+    let finish = match answer {
+        Ok(count) => Finish::Done(count),
+        Err(refusal) => Finish::Refused(refusal),
+    };
+    Reply {
+        rows: Vec::new(alloc),
+        finish,
+    }
+}
+
+/// The reply with these rows and their number, or the refusal.
+fn rows_reply(alloc: Global, answer: Result<Vec<String>, Refusal>) -> Reply
+    ensures { reply_of result ≡ rows_reply_of answer }
+{
+    match answer {
+        Ok(rows) => {
+            let count = rows.len() as u128;
+            Reply {
+                rows,
+                finish: Finish::Done(count),
+            }
+        }
+        Err(refusal) => Reply {
+            rows: Vec::new(alloc),
+            finish: Finish::Refused(refusal),
+        },
+    }
+}

@@ -1,0 +1,283 @@
+//! Commands served one after another, and what they answer.
+
+ghost use Rattle.std.specs.Prelude.{◌≤◌};
+
+use crate::{Engine, Finish, Reply, Session};
+use arrayvec::ArrayString;
+use rs_measure::{Measure, Refusal};
+use rs_parser::{ColumnDefinition, Command, Name, Place, Query};
+use rs_value::{ColumnType, Kind, Literal};
+use std::alloc::{AllocError, Global};
+use std::process::Abort;
+
+fn name(rt: &impl Abort, text: &str) -> Name {
+    match ArrayString::from(text) {
+        Ok(name) => name,
+        Err(_) => panic!(rt; "a long name"),
+    }
+}
+
+/// A route from 0 to 10.
+fn route(rt: &impl Abort, route: &str) -> Command {
+    Command::DefineRoute {
+        name: name(rt, route),
+        start: Measure::from_thousandths(0),
+        finish: Measure::from_thousandths(10_000),
+    }
+}
+
+/// A table of one column of texts of eight bytes.
+fn table(rt: &impl Abort, alloc: Global, kind: Kind, table: &str) -> Result<Command, AllocError> {
+    let column = ColumnDefinition {
+        name: name(rt, "surf"),
+        column_type: ColumnType::Text(8),
+    };
+    Ok(Command::DefineTable {
+        kind,
+        name: name(rt, table),
+        columns: vec![in alloc; column]?,
+    })
+}
+
+/// A row of `pave` on a route, from `from` to `to` thousandths.
+fn row(
+    rt: &impl Abort,
+    alloc: Global,
+    route: &str,
+    from: u32,
+    to: u32,
+    surface: &str,
+) -> Result<Command, AllocError>
+    requires from { from ≤ 20000 }
+    requires to { to ≤ 20000 }
+{
+    Ok(Command::Insert {
+        table: name(rt, "pave"),
+        route: name(rt, route),
+        place: Place::Along {
+            from: Measure::from_thousandths(from),
+            to: Measure::from_thousandths(to),
+        },
+        values: vec![in alloc; Literal::Text(String::from_str(alloc, surface)?)]?,
+    })
+}
+
+fn select(rt: &impl Abort, table: &str) -> Command {
+    Command::Select {
+        query: Query::Named(name(rt, table)),
+    }
+}
+
+/// The reply to a command, which is given again where memory was refused: nothing may have changed by then.
+fn reply_to<F: Fn() -> Result<Command, AllocError>>(
+    rt: &impl Abort,
+    engine: &mut Engine,
+    make: F,
+) -> Reply
+    requires { F.IsAlwaysCallable make }
+{
+    for _ in 0..2 {
+        if let Ok(command) = make() {
+            let reply = engine.step(Session::from_number(0), command);
+            if !is_out_of_memory(&reply) {
+                return reply;
+            }
+        }
+    }
+    panic!(rt; "memory was refused twice")
+}
+
+fn is_out_of_memory(reply: &Reply) -> bool {
+    match &reply.finish {
+        Finish::Refused(Refusal::OutOfMemory) => true,
+        _ => false,
+    }
+}
+
+/// Serves a command that is accepted, with these rows and this count.
+fn serves(rt: &impl Abort, reply: Reply, rows: &[&str], count: u128) {
+    assert_eq!(rt; reply.rows.len(), rows.len());
+    for (given, wanted) in reply.rows.iter().zip(rows) {
+        assert_eq!(rt; given.as_str(), *wanted);
+    }
+    match reply.finish {
+        Finish::Done(n) => assert_eq!(rt; n, count),
+        Finish::Refused(refusal) => panic!(rt; "refused: {refusal:?}"),
+    }
+}
+
+/// Serves a command that is refused.
+fn refuses(rt: &impl Abort, reply: Reply, wanted: Refusal) {
+    assert_eq!(rt; reply.rows.len(), 0);
+    match reply.finish {
+        Finish::Done(n) => panic!(rt; "accepted with {n}"),
+        Finish::Refused(refusal) => assert_eq!(rt; refusal, wanted),
+    }
+}
+
+/// The route A and the table `pave`, with a row from 0 to 2 that was put in two parts.
+fn paved(rt: &impl Abort, alloc: Global) -> Engine {
+    let mut engine = Engine::fresh(alloc);
+    serves(rt, reply_to(rt, &mut engine, || Ok(route(rt, "A"))), &[], 0);
+    serves(
+        rt,
+        reply_to(rt, &mut engine, || table(rt, alloc, Kind::Line, "pave")),
+        &[],
+        0,
+    );
+    serves(
+        rt,
+        reply_to(rt, &mut engine, || row(rt, alloc, "A", 0, 1000, "AC")),
+        &[],
+        1000,
+    );
+    serves(
+        rt,
+        reply_to(rt, &mut engine, || row(rt, alloc, "A", 1000, 2000, "AC")),
+        &[],
+        1000,
+    );
+    engine
+}
+
+#[test]
+fn touching_spans_join(rt: HostRuntime) {
+    let alloc = rt.alloc();
+    let mut engine = paved(&rt, alloc);
+    serves(
+        &rt,
+        reply_to(&rt, &mut engine, || Ok(select(&rt, "pave"))),
+        &["A 0.000 2.000 'AC'"],
+        1,
+    );
+    serves(
+        &rt,
+        reply_to(&rt, &mut engine, || row(&rt, alloc, "A", 0, 1000, "AC")),
+        &[],
+        0,
+    );
+    serves(
+        &rt,
+        reply_to(&rt, &mut engine, || Ok(select(&rt, "pave"))),
+        &["A 0.000 2.000 'AC'"],
+        1,
+    );
+    serves(
+        &rt,
+        reply_to(&rt, &mut engine, || row(&rt, alloc, "A", 500, 2500, "AC")),
+        &[],
+        500,
+    );
+    serves(
+        &rt,
+        reply_to(&rt, &mut engine, || Ok(select(&rt, "pave"))),
+        &["A 0.000 2.500 'AC'"],
+        1,
+    );
+}
+
+#[test]
+fn a_refusal_changes_nothing(rt: HostRuntime) {
+    let alloc = rt.alloc();
+    let mut engine = paved(&rt, alloc);
+    refuses(
+        &rt,
+        reply_to(&rt, &mut engine, || row(&rt, alloc, "B", 3000, 3000, "AC")),
+        Refusal::NoSuchRoute,
+    );
+    refuses(
+        &rt,
+        reply_to(&rt, &mut engine, || row(&rt, alloc, "A", 3000, 3000, "AC")),
+        Refusal::EmptySpan,
+    );
+    refuses(
+        &rt,
+        reply_to(&rt, &mut engine, || row(&rt, alloc, "A", 9000, 10001, "AC")),
+        Refusal::OutsideTheRoute,
+    );
+    refuses(
+        &rt,
+        reply_to(
+            &rt,
+            &mut engine,
+            || row(&rt, alloc, "A", 9000, 9500, "123456789"),
+        ),
+        Refusal::TextTooLong,
+    );
+    refuses(
+        &rt,
+        reply_to(&rt, &mut engine, || Ok(route(&rt, "A"))),
+        Refusal::NameTaken,
+    );
+    refuses(
+        &rt,
+        reply_to(&rt, &mut engine, || table(&rt, alloc, Kind::Point, "pave")),
+        Refusal::NameTaken,
+    );
+    refuses(
+        &rt,
+        reply_to(&rt, &mut engine, || Ok(select(&rt, "A"))),
+        Refusal::NoSuchName,
+    );
+    serves(
+        &rt,
+        reply_to(&rt, &mut engine, || Ok(select(&rt, "pave"))),
+        &["A 0.000 2.000 'AC'"],
+        1,
+    );
+}
+
+#[test]
+fn rows_stand_by_route_then_place_then_row(rt: HostRuntime) {
+    let alloc = rt.alloc();
+    let mut engine = paved(&rt, alloc);
+    serves(
+        &rt,
+        reply_to(&rt, &mut engine, || Ok(route(&rt, "A1"))),
+        &[],
+        0,
+    );
+    serves(
+        &rt,
+        reply_to(&rt, &mut engine, || Ok(route(&rt, "0A"))),
+        &[],
+        0,
+    );
+    serves(
+        &rt,
+        reply_to(&rt, &mut engine, || row(&rt, alloc, "A1", 0, 1, "PC")),
+        &[],
+        1,
+    );
+    serves(
+        &rt,
+        reply_to(&rt, &mut engine, || row(&rt, alloc, "A", 500, 700, "A")),
+        &[],
+        200,
+    );
+    serves(
+        &rt,
+        reply_to(&rt, &mut engine, || row(&rt, alloc, "A", 9999, 10000, "A")),
+        &[],
+        1,
+    );
+    serves(
+        &rt,
+        reply_to(&rt, &mut engine, || row(&rt, alloc, "0A", 2, 3, "A'C")),
+        &[],
+        1,
+    );
+    let rows = [
+        "0A 0.002 0.003 'A''C'",
+        "A 0.000 2.000 'AC'",
+        "A 0.500 0.700 'A'",
+        "A 9.999 10.000 'A'",
+        "A1 0.000 0.001 'PC'",
+    ];
+    serves(
+        &rt,
+        reply_to(&rt, &mut engine, || Ok(select(&rt, "pave"))),
+        &rows,
+        5,
+    );
+}
