@@ -1,0 +1,114 @@
+-- What is put into a writer, part after part.
+use Rattle.std.proofs.Common.{◌≡◌, ◌≢◌, List, [], ◌∷◌, ◌++◌, ℕ, ◌+◌, ◌-◌, ◌<◌, length, length-drop, get_or, map, take, drop, Option, Result, Ok, Err, refl, sym, ap, ◌∙◌, subst, append_assoc, append-nil, take-append-drop}
+use Rattle.std.proofs.Math.Seq.{take-length}
+use Rattle.std.proofs.lemmas.List.{take_more}
+use Rattle.std.proofs.lemmas.Grind.{flat_map-append}
+use Rattle.std.specs.Prelude.{flat_map}
+use Rattle.std.specs.Io.KnownBytes.{Appends, Keeps}
+use Rattle.std.proofs.KnownBytes.{Appends-nil, Appends-trans, Appends-kept}
+use Rattle.rs_protocol.specs.declared.stream.Fault.{Fault}
+use Rattle.rs_protocol.specs.Inner.{PutsBut, Puts}
+
+-- the texts of one part more
+flat_map-take-more : (X : Type 0) (text : X → List ℕ) (parts : List X) (i : ℕ) (d : X) → i < length parts
+    → flat_map text (take (i + 1) parts) ≡ flat_map text (take i parts) ++ text (get_or parts i d)
+flat_map-take-more X text parts i d within =
+    ap (flat_map text) (take_more parts i d within) ∙ flat_map-append text (take i parts) (get_or parts i d ∷ [])
+    ∙ ap (λ l. flat_map text (take i parts) ++ l) (append-nil (text (get_or parts i d)))
+
+-- nothing is put yet
+pub PutsBut-nothing : (bytes : List ℕ) (a : Option (List ℕ)) → PutsBut bytes bytes a a
+PutsBut-nothing bytes a = record { front = []; whole = refl; put = Appends-nil a }
+
+-- a write took the first bytes of what is left
+pub PutsBut-more : (bytes rest left : List ℕ) (n : ℕ) (a b c : Option (List ℕ)) → left ≡ drop n rest → PutsBut bytes rest a b → Appends b c (take n rest) → PutsBut bytes left a c
+PutsBut-more bytes rest left n a b c left-is puts more = record {
+  front = puts.front ++ take n rest;
+  whole = puts.whole ∙ ap (λ l. puts.front ++ l) (sym (take-append-drop n rest)) ∙ sym (append_assoc puts.front (take n rest) (drop n rest)) ∙ ap (λ l. (puts.front ++ take n rest) ++ l) (sym left-is);
+  put = Appends-trans a b c puts.front (take n rest) puts.put more;
+}
+
+-- a write that failed put nothing
+pub PutsBut-kept : (bytes rest : List ℕ) (a b c : Option (List ℕ)) → PutsBut bytes rest a b → Keeps b c → PutsBut bytes rest a c
+PutsBut-kept bytes rest a b c puts kept = record { front = puts.front; whole = puts.whole; put = Appends-kept a b c puts.front puts.put kept }
+
+-- nothing is left
+pub PutsBut-all : (bytes rest : List ℕ) (a b : Option (List ℕ)) → PutsBut bytes rest a b → rest ≡ [] → Appends a b bytes
+PutsBut-all bytes rest a b puts none =
+    subst (Appends a b) (sym (puts.whole ∙ ap (λ l. puts.front ++ l) none ∙ append-nil puts.front)) puts.put
+
+appended-nil : (xs ys : List ℕ) → xs ≢ [] → xs ++ ys ≢ []
+appended-nil [] ys some none = some refl
+appended-nil (x ∷ xs) ys some none = cc
+
+-- a part is put whole, and then another
+pub Puts-then : (T : Type 0) (result : Result T Fault) (xs ys : List ℕ) (a b c : Option (List ℕ)) → Appends a b xs → Puts result ys b c → Puts result (xs ++ ys) a c
+Puts-then T (Ok done) xs ys a b c first then = Appends-trans a b c xs ys first then
+Puts-then T (Err fault) xs ys a b c first then =
+    let puts : PutsBut ys then.1.0 b c = then.1.2 in (
+      then.0,
+      (
+        then.1.0,
+        then.1.1,
+        record {
+          front = xs ++ puts.front;
+          whole = ap (λ l. xs ++ l) puts.whole ∙ sym (append_assoc xs puts.front then.1.0);
+          put = Appends-trans a b c xs puts.front first puts.put;
+        },
+      ),
+    )
+
+-- a part is not put whole, and nothing behind it
+pub Puts-stops : (T U : Type 0) (fault : Fault) (xs ys : List ℕ) (a b : Option (List ℕ)) → Puts {T = T} (Err fault) xs a b → Puts {T = U} (Err fault) (xs ++ ys) a b
+Puts-stops T U fault xs ys a b stop =
+    let puts : PutsBut xs stop.1.0 a b = stop.1.2 in (
+      stop.0,
+      (
+        stop.1.0 ++ ys,
+        appended-nil stop.1.0 ys stop.1.1,
+        record {
+          front = puts.front;
+          whole = ap (λ l. l ++ ys) puts.whole ∙ append_assoc puts.front stop.1.0 ys;
+          put = puts.put;
+        },
+      ),
+    )
+
+-- the bytes behind a place
+pub taken_to_end : (n : ℕ) (xs : List ℕ) → take (length xs - n) (drop n xs) ≡ drop n xs
+taken_to_end n xs = subst (λ m. take m (drop n xs) ≡ drop n xs) (length-drop n xs) (take-length (drop n xs))
+
+-- parts that are put in turn
+pub Puts-part : (X : Type 0) (text : X → List ℕ) (parts : List X) (i : ℕ) (d : X) (a b c : Option (List ℕ)) → i < length parts
+    → Appends a b (flat_map text (take i parts)) → Appends b c (text (get_or parts i d)) → Appends a c (flat_map text (take (i + 1) parts))
+Puts-part X text parts i d a b c within first then =
+    let grown : flat_map text (take (i + 1) parts) ≡ flat_map text (take i parts) ++ text (get_or parts i d) = flat_map-take-more X text parts i d within in
+    subst (Appends a c) (sym grown) (Appends-trans a b c _ _ first then)
+
+-- a part of the parts is not put whole
+pub Puts-stops-at : (T U X : Type 0) (fault : Fault) (text : X → List ℕ) (parts : List X) (i : ℕ) (d : X) (a b c : Option (List ℕ)) → i < length parts
+    → Appends a b (flat_map text (take i parts)) → Puts {T = T} (Err fault) (text (get_or parts i d)) b c → Puts {T = U} (Err fault) (flat_map text parts) a c
+Puts-stops-at T U X fault text parts i d a b c within first stop =
+    let here : Puts {T = T} (Err fault) (flat_map text (take i parts) ++ text (get_or parts i d)) a c = Puts-then T (Err fault) _ _ a b c first stop in
+    let grown : flat_map text (take (i + 1) parts) ≡ flat_map text (take i parts) ++ text (get_or parts i d) = flat_map-take-more X text parts i d within in
+    let all : flat_map text (take (i + 1) parts) ++ flat_map text (drop (i + 1) parts) ≡ flat_map text parts =
+    sym (flat_map-append text (take (i + 1) parts) (drop (i + 1) parts)) ∙ ap (flat_map text) (take-append-drop (i + 1) parts) in
+    let P : List ℕ → Type 0 = λ l. Puts {T = U} (Err fault) l a c in
+    subst P (ap (λ l. l ++ flat_map text (drop (i + 1) parts)) (sym grown) ∙ all) (Puts-stops T U fault _ (flat_map text (drop (i + 1) parts)) a c here)
+
+flat_map-map : (X Y Z : Type 0) (text : Y → List Z) (seen : X → Y) (parts : List X) → flat_map text (map seen parts) ≡ flat_map (λ part. text (seen part)) parts
+flat_map-map X Y Z text seen [] = refl
+flat_map-map X Y Z text seen (part ∷ parts) = ap (λ l. text (seen part) ++ l) (flat_map-map X Y Z text seen parts)
+
+-- the same of parts whose texts are made of what they show
+pub Puts-stops-in : (T U X : Type 0) (fault : Fault) (text : List ℕ → List ℕ) (seen : X → List ℕ) (parts : List X) (i : ℕ) (d : X) (shown : List ℕ) (a b c : Option (List ℕ))
+    → i < length parts → shown ≡ seen (get_or parts i d) → Appends a b (flat_map text (map seen (take i parts)))
+    → Puts {T = T} (Err fault) (text shown) b c → Puts {T = U} (Err fault) (flat_map text (map seen parts)) a c
+Puts-stops-in T U X fault text seen parts i d shown a b c within shown_is first stop =
+    let made : X → List ℕ = λ part. text (seen part) in
+    let P : List ℕ → Type 0 = λ l. Puts {T = U} (Err fault) l a c in
+    let Q : List ℕ → Type 0 = λ l. Puts {T = T} (Err fault) l b c in
+    subst P (sym (flat_map-map X (List ℕ) ℕ text seen parts))
+    (Puts-stops-at T U X fault made parts i d a b c within
+    (subst (Appends a b) (flat_map-map X (List ℕ) ℕ text seen (take i parts)) first)
+    (subst Q (ap text shown_is) stop))

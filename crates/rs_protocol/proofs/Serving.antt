@@ -1,0 +1,220 @@
+-- Lines served one after another, out of a stream that comes byte by byte.
+use Rattle.std.proofs.Common.{◌≡◌, ◌≢◌, ℕ, ◌<◌, ◌≤◌, inl, inr, true, List, [], ◌∷◌, ◌++◌, ◌+◌, length, take, drop, get_or, min, Option, Some, None, Result, Ok, Err, refl, sym, ap, ◌∙◌, subst, append_assoc, append-nil, arith, length-take, length-append}
+use Rattle.std.specs.Prelude.{flat_map, nat_lt}
+use Rattle.std.proofs.lemmas.List.{take-append-le, take-append-drop, take_more}
+use Rattle.std.proofs.lemmas.Bool.{cases_lt}
+use Rattle.std.proofs.Math.ListN.{drop_of_length-le}
+use Rattle.std.proofs.lemmas.Grind.{flat_map-append}
+use Rattle.std.proofs.lemmas.Bool.Decides.{nat_tests}
+use Rattle.std.specs.Io.KnownBytes.{Appends}
+use Rattle.std.proofs.KnownBytes.{Appends-nil, Appends-trans}
+use Rattle.rs_measure.specs.declared.refusal.Refusal.TheVariants.{LineTooLong}
+use Rattle.rs_machine.specs.Served.{Machine}
+use Rattle.rs_machine.specs.ReplyText.{reply_text}
+use Rattle.rs_machine.specs.Request.{Request, unreadable, no_command, command, Asks, line_refusal}
+use Rattle.rs_machine.specs.Answered.{Answer, AnswersLine, Answered, text_of}
+use Rattle.rs_machine.specs.Stream.{IsCut, StoppedWriting, LINE_FEED}
+use Rattle.rs_protocol.specs.declared.lines.TheConstants.{KEPT_BYTES}
+use Rattle.rs_protocol.specs.declared.stream.Fault.{Fault}
+use Rattle.rs_protocol.specs.Ends.{WroteAll, WroteFront}
+use Rattle.rs_protocol.specs.Inner.{PutsBut, PutsAnswer, IsServed, GoesOn}
+use Rattle.rs_protocol.proofs.Cuts.{IsCut-nothing, IsCut-byte, IsCut-feed, IsCut-more, CutsOn}
+
+none_is_some : {A : Type 0} {x : A} → None ≡ Some x → ⊥
+none_is_some e = cc
+
+is_too_long : (line : List ℕ) → 4096 < length line → line_refusal line ≡ Some LineTooLong
+is_too_long line long = let test : nat_lt 4096 (length line) ≡ true = grind (arith, nat_tests) in rw test
+
+take-short : (n : ℕ) (xs : List ℕ) → length xs ≤ n → take n xs ≡ xs
+take-short n xs short =
+    sym (append-nil (take n xs)) ∙ ap (λ l. take n xs ++ l) (sym (drop_of_length-le xs short)) ∙ take-append-drop n xs
+
+-- the first bytes of a line that is too long are too long
+kept_is_too_long : (line : List ℕ) → 4096 < length line → 4096 < length (take KEPT_BYTES line)
+kept_is_too_long line long = omega (arith, length-take KEPT_BYTES line)
+
+too_long_unread : (line : List ℕ) → 4096 < length line → line_refusal (take KEPT_BYTES line) ≡ None → ⊥
+too_long_unread line long read = none_is_some (sym read ∙ is_too_long (take KEPT_BYTES line) (kept_is_too_long line long))
+
+asks_too_long : (line : List ℕ) (request : Request) → 4096 < length line → Asks (take KEPT_BYTES line) request → Asks line request
+asks_too_long line (unreadable refusal) long asks =
+    is_too_long line long ∙ sym (is_too_long (take KEPT_BYTES line) (kept_is_too_long line long)) ∙ asks
+asks_too_long line (no_command session refusal) long asks = absurd (too_long_unread line long asks.begins.is_readable)
+asks_too_long line (command session tree) long asks = absurd (too_long_unread line long asks.begins.is_readable)
+
+-- what is answered to the bytes kept of a line is answered to the line
+pub answers_kept : (line : List ℕ) (given : Answer) (old new : Machine) → AnswersLine old (take KEPT_BYTES line) given new → AnswersLine old line given new
+answers_kept line given old new answers =
+    elim (cases_lt 4096 (length line)) [
+      | inr short ↦
+          let fits : length line ≤ 4097 = omega arith in
+          subst (λ l. AnswersLine old l given new) (take-short KEPT_BYTES line fits) answers
+      | inl long ↦ elim answers as (λ _. AnswersLine old line given new) [
+        | inl asked ↦ inl (asked.0, asks_too_long line asked.0 long asked.1, asked.2)
+        | inr wants ↦ absurd (too_long_unread line long wants.begins.is_readable)
+      ]
+    ]
+
+-- one line more is answered
+pub Answered-more : (old mid new : Machine) (lines : List (List ℕ)) (answers : List Answer) (line : List ℕ) (given : Answer)
+    → Answered old lines answers mid → AnswersLine mid line given new → Answered old (lines ++ line ∷ []) (answers ++ given ∷ []) new
+Answered-more old mid new [] [] line given rests next = (new, subst (λ m. AnswersLine m line given new) rests next, refl)
+Answered-more old mid new (first ∷ lines) (one ∷ answers) line given all next =
+    (all.0, all.1, Answered-more all.0 mid new lines answers line given all.2 next)
+Answered-more old mid new [] (one ∷ answers) line given all next = absurd all
+Answered-more old mid new (first ∷ lines) [] line given all next = absurd all
+
+text_of-more : (answers : List Answer) (given : Answer) → text_of (answers ++ given ∷ []) ≡ text_of answers ++ reply_text given.session given.reply
+text_of-more answers given =
+    let text : Answer → List ℕ = λ one. reply_text one.session one.reply in
+    flat_map-append text answers (given ∷ []) ∙ ap (λ l. flat_map text answers ++ l) (append-nil (text given))
+
+line_answered : (kept line : List ℕ) (given : Answer) (old new : Machine) → kept ≡ take KEPT_BYTES line → AnswersLine old kept given new → AnswersLine old line given new
+line_answered kept line given old new kept_is answers = answers_kept line given old new (subst (λ l. AnswersLine old l given new) kept_is answers)
+
+kept_more : (kept line : List ℕ) (byte : ℕ) → length kept < 4097 → kept ≡ take KEPT_BYTES line → kept ++ byte ∷ [] ≡ take KEPT_BYTES (line ++ byte ∷ [])
+kept_more kept line byte room kept_is =
+    let lengths : length kept ≡ min KEPT_BYTES (length line) = ap length kept_is ∙ length-take KEPT_BYTES line in
+    let short : length line ≤ 4097 = omega arith in
+    let all : length (line ++ byte ∷ []) ≤ 4097 = omega (arith, length-append line (byte ∷ [])) in
+    ap (λ l. l ++ byte ∷ []) (kept_is ∙ take-short KEPT_BYTES line short) ∙ sym (take-short KEPT_BYTES (line ++ byte ∷ []) all)
+
+kept_same : (kept line : List ℕ) (byte : ℕ) → length kept ≡ 4097 → kept ≡ take KEPT_BYTES line → kept ≡ take KEPT_BYTES (line ++ byte ∷ [])
+kept_same kept line byte full kept_is =
+    let lengths : length kept ≡ min KEPT_BYTES (length line) = ap length kept_is ∙ length-take KEPT_BYTES line in
+    let enough : 4097 ≤ length line = omega arith in
+    kept_is ∙ sym (take-append-le KEPT_BYTES line (byte ∷ []) enough)
+
+-- nothing is told yet
+pub IsServed-nothing : (kept : List ℕ) (machine : Machine) (a : Option (List ℕ)) → kept ≡ [] → IsServed kept [] machine machine a a
+IsServed-nothing kept machine a none = record {
+  lines = [];
+  rest = [];
+  cut = IsCut-nothing;
+  answers = [];
+  answered = refl;
+  put = Appends-nil a;
+  kept_is = none;
+}
+
+-- a byte of the line begun is kept
+pub IsServed-kept : (kept kept' told : List ℕ) (byte : ℕ) (old new : Machine) (a b : Option (List ℕ)) → byte ≢ LINE_FEED → length kept < 4097 → kept' ≡ kept ++ byte ∷ []
+    → IsServed kept told old new a b → IsServed kept' (told ++ byte ∷ []) old new a b
+IsServed-kept kept kept' told byte old new a b other room kept_now served = record {
+  lines = served.lines;
+  rest = served.rest ++ byte ∷ [];
+  cut = IsCut-byte told served.lines served.rest byte served.cut other;
+  answers = served.answers;
+  answered = served.answered;
+  put = served.put;
+  kept_is = kept_now ∙ kept_more kept served.rest byte room served.kept_is;
+}
+
+-- a byte of the line begun is dropped, where enough of it is kept
+pub IsServed-dropped : (kept kept' told : List ℕ) (byte : ℕ) (old new : Machine) (a b : Option (List ℕ)) → byte ≢ LINE_FEED → length kept ≡ 4097 → kept' ≡ kept
+    → IsServed kept told old new a b → IsServed kept' (told ++ byte ∷ []) old new a b
+IsServed-dropped kept kept' told byte old new a b other full kept_now served = record {
+  lines = served.lines;
+  rest = served.rest ++ byte ∷ [];
+  cut = IsCut-byte told served.lines served.rest byte served.cut other;
+  answers = served.answers;
+  answered = served.answered;
+  put = served.put;
+  kept_is = kept_now ∙ kept_same kept served.rest byte full served.kept_is;
+}
+
+-- the line begun ends, and is answered
+pub GoesOn-feed : (T : Type 0) (result : Result T Fault) (kept kept' told : List ℕ) (old mid new : Machine) (a b c : Option (List ℕ)) → kept' ≡ []
+    → IsServed kept told old mid a b → PutsAnswer result kept mid new b c → GoesOn result kept' (told ++ LINE_FEED ∷ []) old new a c
+GoesOn-feed T (Ok done) kept kept' told old mid new a b c emptied served answer = record {
+  lines = served.lines ++ served.rest ∷ [];
+  rest = [];
+  cut = IsCut-feed told served.lines served.rest served.cut;
+  answers = served.answers ++ answer.given ∷ [];
+  answered = Answered-more old mid new served.lines served.answers served.rest answer.given served.answered (line_answered kept served.rest answer.given mid new served.kept_is answer.answered);
+  put = subst (Appends a c) (sym (text_of-more served.answers answer.given)) (Appends-trans a b c (text_of served.answers) (reply_text answer.given.session answer.given.reply) served.put answer.put);
+  kept_is = emptied;
+}
+GoesOn-feed T (Err fault) kept kept' told old mid new a b c emptied served answer =
+    let puts : PutsBut (reply_text answer.given.session answer.given.reply) answer.put.1.0 b c = answer.put.1.2 in (
+      answer.put.0,
+      record {
+        written = text_of served.answers ++ puts.front;
+        put = Appends-trans a b c (text_of served.answers) puts.front served.put puts.put;
+        stopped = record {
+          lines = served.lines;
+          line = served.rest;
+          later = [];
+          rest = [];
+          cut = IsCut-feed told served.lines served.rest served.cut;
+          answers = served.answers;
+          between = mid;
+          answered = served.answered;
+          last = answer.given;
+          last_answered = line_answered kept served.rest answer.given mid new served.kept_is answer.answered;
+          front = puts.front;
+          lost = answer.put.1.0;
+          some_lost = answer.put.1.1;
+          text = refl;
+          stopped_in = puts.whole;
+        };
+      },
+    )
+
+-- bytes that come behind those that were served
+pub WroteFront-more : (told more : List ℕ) (old new : Machine) (a b : Option (List ℕ)) → WroteFront told old new a b → WroteFront (told ++ more) old new a b
+WroteFront-more told more old new a b wrote =
+    let stop : StoppedWriting old told wrote.written new = wrote.stopped in
+    let on : CutsOn (told ++ more) (stop.lines ++ stop.line ∷ stop.later) = IsCut-more told (stop.lines ++ stop.line ∷ stop.later) stop.rest more stop.cut in
+    record {
+      written = wrote.written;
+      put = wrote.put;
+      stopped = record {
+        lines = stop.lines;
+        line = stop.line;
+        later = stop.later ++ on.later;
+        rest = on.rest;
+        cut = subst (λ l. IsCut (told ++ more) l on.rest) (append_assoc stop.lines (stop.line ∷ stop.later) on.later) on.cut;
+        answers = stop.answers;
+        between = stop.between;
+        answered = stop.answered;
+        last = stop.last;
+        last_answered = stop.last_answered;
+        front = stop.front;
+        lost = stop.lost;
+        some_lost = stop.some_lost;
+        text = stop.text;
+        stopped_in = stop.stopped_in;
+      };
+    }
+
+-- every line told is answered
+pub WroteAll-served : (kept told : List ℕ) (old new : Machine) (a b : Option (List ℕ)) → IsServed kept told old new a b → (rest : List ℕ) × (kept ≡ take KEPT_BYTES rest) × WroteAll told rest old new a b
+WroteAll-served kept told old new a b served = (
+  served.rest,
+  served.kept_is,
+  record {
+    written = text_of served.answers;
+    put = served.put;
+    answered = record { lines = served.lines; cut = served.cut; answers = served.answers; answered = served.answered; text = refl };
+  },
+)
+
+pub at_feed : (T : Type 0) (result : Result T Fault) (kept kept' line told : List ℕ) (byte : ℕ) (old mid new : Machine) (a b c : Option (List ℕ)) → byte ≡ LINE_FEED → line ≡ kept → kept' ≡ []
+    → IsServed kept told old mid a b → PutsAnswer result line mid new b c → GoesOn result kept' (told ++ byte ∷ []) old new a c
+at_feed T result kept kept' line told byte old mid new a b c is_feed line_is emptied served answer =
+    let P : ℕ → Type 0 = λ n. GoesOn result kept' (told ++ n ∷ []) old new a c in
+    subst P (sym is_feed)
+    (GoesOn-feed T result kept kept' told old mid new a b c emptied served (subst (λ l. PutsAnswer result l mid new b c) line_is answer))
+
+-- a byte of a piece ends the service, and the rest of the piece comes behind it
+pub stops_in_piece : (told piece : List ℕ) (i : ℕ) (old new : Machine) (a b : Option (List ℕ)) → i < length piece
+    → WroteFront ((told ++ take i piece) ++ get_or piece i 0 ∷ []) old new a b → WroteFront (told ++ piece) old new a b
+stops_in_piece told piece i old new a b within stop =
+    let here : (told ++ take i piece) ++ get_or piece i 0 ∷ [] ≡ told ++ take (i + 1) piece =
+    append_assoc told (take i piece) (get_or piece i 0 ∷ []) ∙ ap (λ l. told ++ l) (sym (take_more piece i 0 within)) in
+    let all : (told ++ take (i + 1) piece) ++ drop (i + 1) piece ≡ told ++ piece =
+    append_assoc told (take (i + 1) piece) (drop (i + 1) piece) ∙ ap (λ l. told ++ l) (take-append-drop (i + 1) piece) in
+    subst (λ l. WroteFront l old new a b) all
+    (WroteFront-more (told ++ take (i + 1) piece) (drop (i + 1) piece) old new a b (subst (λ l. WroteFront l old new a b) here stop))

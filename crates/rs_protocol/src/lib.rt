@@ -1,0 +1,16 @@
+//! Lines to replies: the stream of requests is cut into lines, and each is answered.
+//!
+//! `run` serves a reader and a writer of any kind; `answer` serves bytes in memory. What they write is
+//! the text of the reference machine's answers.
+#![tactic(auto)]
+
+pub mod laws;
+mod lines;
+mod put;
+mod replies;
+mod requests;
+pub mod stream;
+#[cfg(test)]
+mod tests;
+
+pub use stream::{End, Fault, answer, run};

@@ -1,0 +1,94 @@
+//! Lines out of pieces: bytes are kept until their LF comes, and then the line is answered.
+//!
+//! Of a line that is too long only its first bytes are kept, one more than a line may have.
+
+ghost use Rattle.std.specs.Prelude.{ℕ, List, Option, [], ◌∷◌, ◌++◌};
+ghost use Rattle.rs_machine.specs.Served.{Machine};
+ghost use Rattle.rs_engine.specs.View.{machine_of};
+ghost use Rattle.rs_protocol.specs.Inner.{PutsAnswer, IsServed, GoesOn};
+
+use crate::replies::{put_refusal, put_reply};
+use crate::requests::request_of;
+use crate::stream::Fault;
+use arrayvec::ArrayVec;
+use rs_engine::Engine;
+use rs_machine::limits::LINE_BYTES;
+use rs_parser::command_of;
+use std::alloc::Global;
+use std::io::Write;
+
+/// How many bytes of a line are kept: one more than a line may have.
+pub(crate) const KEPT_BYTES: usize = LINE_BYTES + 1;
+
+/// The first bytes of a line whose LF has not come.
+pub(crate) type Kept = ArrayVec<u8, KEPT_BYTES>;
+
+/// What ends a line.
+pub(crate) const LINE_FEED: u8 = b'\n';
+
+/// Answers one line, given without its LF.
+pub(crate) fn answer_line<W: Write>(
+    alloc: Global,
+    engine: &mut Engine,
+    line: &[u8],
+    writer: &mut W,
+) -> Result<(), Fault>
+    ensures { PutsAnswer result line.now (machine_of engine.old) (machine_of engine.new)
+        (W.contents writer.old) (W.contents writer.new) }
+{
+    let request = match request_of(line) {
+        Ok(request) => request,
+        Err(refusal) => return put_refusal(writer, 0, &refusal),
+    };
+    let session = request.session.number();
+    match command_of(alloc, request.text, request.digits) {
+        Ok(command) => {
+            let reply = engine.step(request.session, command);
+            put_reply(writer, session, &reply)
+        }
+        Err(refusal) => put_refusal(writer, session, &refusal),
+    }
+}
+
+/// Takes one byte of the stream: at an LF the line kept is answered.
+pub(crate) fn take_byte<W: Write>(
+    alloc: Global,
+    engine: &mut Engine,
+    kept: &mut Kept,
+    byte: u8,
+    writer: &mut W,
+) -> Result<(), Fault>
+    ensures { (told : List ℕ) (first : Machine) (before : Option (List ℕ)) →
+        IsServed kept.old.items told first (machine_of engine.old) before (W.contents writer.old) →
+        GoesOn result kept.new.items (told ++ byte ∷ []) first (machine_of engine.new)
+        before (W.contents writer.new) }
+{
+    if byte != LINE_FEED {
+        if !kept.is_full() {
+            kept.push(byte);
+        }
+        return Ok(());
+    }
+    let answered = answer_line(alloc, engine, kept.as_slice(), writer);
+    kept.clear();
+    answered
+}
+
+/// Takes the bytes of a piece, one after another.
+pub(crate) fn take_piece<W: Write>(
+    alloc: Global,
+    engine: &mut Engine,
+    kept: &mut Kept,
+    piece: &[u8],
+    writer: &mut W,
+) -> Result<(), Fault>
+    ensures { (told : List ℕ) (first : Machine) (before : Option (List ℕ)) →
+        IsServed kept.old.items told first (machine_of engine.old) before (W.contents writer.old) →
+        GoesOn result kept.new.items (told ++ piece.now) first (machine_of engine.new)
+        before (W.contents writer.new) }
+{
+    for byte in piece {
+        take_byte(alloc, engine, kept, *byte, writer)?;
+    }
+    Ok(())
+}

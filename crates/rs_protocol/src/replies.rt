@@ -1,0 +1,79 @@
+//! The text of replies: ROW lines and an OK line, or one ERR line alone.
+//!
+//! Digits are made on the stack, so that a reply takes no memory.
+
+ghost use Rattle.std.specs.Prelude.{flat_map};
+ghost use Rattle.rs_machine.specs.ReplyText.{row_text, ok_text, refusal_text, reply_text};
+ghost use Rattle.rs_engine.specs.ReplyView.{reply_of, rows_of};
+ghost use Rattle.rs_protocol.specs.Inner.{Puts};
+
+use crate::put::put_parts;
+use crate::stream::Fault;
+use itoa::Buffer;
+use rs_engine::{Finish, Reply};
+use rs_measure::Refusal;
+use std::io::Write;
+
+/// Writes `S ROW` and what follows it.
+pub(crate) fn put_row<W: Write>(writer: &mut W, session: u8, row: &str) -> Result<(), Fault>
+    ensures { Puts result (row_text session row.now) (W.contents writer.old) (W.contents writer.new) }
+{
+    let mut session_digits = Buffer::new();
+    let session_text = session_digits.format(session).as_bytes();
+    put_parts(writer, &[session_text, b" ROW ", row.as_bytes(), b"\n"])
+}
+
+/// Writes `S OK n`.
+pub(crate) fn put_count<W: Write>(writer: &mut W, session: u8, count: u128) -> Result<(), Fault>
+    ensures { Puts result (ok_text session count) (W.contents writer.old) (W.contents writer.new) }
+{
+    let mut session_digits = Buffer::new();
+    let mut count_digits = Buffer::new();
+    let session_text = session_digits.format(session).as_bytes();
+    let count_text = count_digits.format(count).as_bytes();
+    put_parts(writer, &[session_text, b" OK ", count_text, b"\n"])
+}
+
+/// Writes `S ERR n words`.
+pub(crate) fn put_refusal<W: Write>(
+    writer: &mut W,
+    session: u8,
+    refusal: &Refusal,
+) -> Result<(), Fault>
+    ensures { Puts result (refusal_text session refusal.now) (W.contents writer.old) (W.contents writer.new) }
+{
+    let mut session_digits = Buffer::new();
+    let mut number_digits = Buffer::new();
+    let session_text = session_digits.format(session).as_bytes();
+    let number_text = number_digits.format(refusal.number()).as_bytes();
+    let words = refusal.words();
+    let words_text = words.as_str().as_bytes();
+    put_parts(
+        writer,
+        &[session_text, b" ERR ", number_text, b" ", words_text, b"\n"],
+    )
+}
+
+/// Writes the ROW lines.
+pub(crate) fn put_rows<W: Write>(writer: &mut W, session: u8, rows: &[String]) -> Result<(), Fault>
+    ensures { Puts result (flat_map (row_text session) (rows_of rows.now))
+        (W.contents writer.old) (W.contents writer.new) }
+{
+    for row in rows {
+        put_row(writer, session, row.as_str())?;
+    }
+    Ok(())
+}
+
+/// Writes a reply whole.
+pub(crate) fn put_reply<W: Write>(writer: &mut W, session: u8, reply: &Reply) -> Result<(), Fault>
+    ensures { Puts result (reply_text session (reply_of reply.now)) (W.contents writer.old) (W.contents writer.new) }
+{
+    match &reply.finish {
+        Finish::Done(count) => {
+            put_rows(writer, session, reply.rows.as_slice())?;
+            put_count(writer, session, *count)
+        }
+        Finish::Refused(refusal) => put_refusal(writer, session, refusal),
+    }
+}
