@@ -34,7 +34,7 @@ here places row k e stop = record {
 }
 
 starts : (places : Places) (row : Row) (k : ℕ) → contains (places k) row ≡ true → (start : ℕ) × Starts places row k start
-starts places row zero e = (0, here places row 0 e (λ j s. absurd (omega (arith, s))))
+starts places row zero e = (0, here places row zero e (λ j s. absurd (omega (arith, s))))
 starts places row (suc j) e =
     elim (contains (places j) row) as (λ t. contains (places j) row ≡ t → (start : ℕ) × Starts places row (suc j) start) [
       | true ↦ λ held. let rest = starts places row j held in (rest.0, further places row j rest.0 e rest.1)

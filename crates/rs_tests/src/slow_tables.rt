@@ -1,0 +1,142 @@
+//! What the slow machine keeps: for each table, route and thousandth the set of rows that hold there.
+
+use std::alloc::{AllocError, Global};
+
+/// A value of a row. The derived order is NULL, numbers, texts.
+#[derive(PartialEq, Eq, PartialOrd, Ord, Debug, Drop)]
+pub enum SlowValue {
+    /// No value.
+    Null,
+    /// A number.
+    Number(i64),
+    /// A text.
+    Text(Vec<u8>),
+}
+
+impl SlowValue {
+    /// The same value.
+    pub fn copy(&self, alloc: Global) -> Result<SlowValue, AllocError> {
+        match self {
+            SlowValue::Null => Ok(SlowValue::Null),
+            SlowValue::Number(n) => Ok(SlowValue::Number(*n)),
+            SlowValue::Text(bytes) => Ok(SlowValue::Text(Vec::from_slice(
+                alloc,
+                bytes.as_slice(),
+            )?)),
+        }
+    }
+}
+
+/// A row.
+pub type SlowRow = Vec<SlowValue>;
+
+fn copy_row(alloc: Global, row: &SlowRow) -> Result<SlowRow, AllocError> {
+    let mut copy = Vec::new(alloc);
+    for value in row {
+        copy.push(value.copy(alloc)?)?;
+    }
+    Ok(copy)
+}
+
+/// A route.
+#[derive(Drop)]
+pub struct SlowRoute {
+    /// Its name.
+    pub name: Vec<u8>,
+    /// Its first thousandth.
+    pub start: u32,
+    /// Its end.
+    pub finish: u32,
+}
+
+/// A column: a text of so many bytes, or a number.
+#[derive(Drop)]
+pub struct SlowColumn {
+    /// Its name.
+    pub name: Vec<u8>,
+    /// The most bytes of a text; `None` for numbers.
+    pub text: Option<usize>,
+}
+
+/// The rows at one thousandth of one route.
+#[derive(Drop)]
+pub struct SlowPlace {
+    route: Vec<u8>,
+    place: u32,
+    rows: Vec<SlowRow>,
+}
+
+/// A table.
+#[derive(Drop)]
+pub struct SlowTable {
+    /// Its name.
+    pub name: Vec<u8>,
+    /// Its columns.
+    pub columns: Vec<SlowColumn>,
+    places: Vec<SlowPlace>,
+}
+
+impl SlowTable {
+    /// A table with no rows.
+    pub fn new(alloc: Global, name: Vec<u8>, columns: Vec<SlowColumn>) -> Self {
+        SlowTable {
+            name,
+            columns,
+            places: Vec::new(alloc),
+        }
+    }
+
+    fn rows_at(&self, route: &[u8], place: u32) -> &[SlowRow] {
+        for other in &self.places {
+            if other.place == place && other.route.as_slice() == route {
+                return other.rows.as_slice();
+            }
+        }
+        &[]
+    }
+
+    /// Whether the row holds there.
+    pub fn holds(&self, route: &[u8], place: u32, row: &SlowRow) -> bool {
+        self.rows_at(route, place).iter().any(|other| other == row)
+    }
+
+    /// The rows that hold there, in order.
+    pub fn rows(
+        &self,
+        alloc: Global,
+        route: &[u8],
+        place: u32,
+    ) -> Result<Vec<SlowRow>, AllocError> {
+        let mut rows = Vec::new(alloc);
+        for row in self.rows_at(route, place) {
+            rows.push(copy_row(alloc, row)?)?;
+        }
+        rows.sort()?;
+        Ok(rows)
+    }
+
+    /// Puts the row at one thousandth, and says whether it was not there.
+    pub fn put(
+        &mut self,
+        alloc: Global,
+        route: &[u8],
+        place: u32,
+        row: &SlowRow,
+    ) -> Result<bool, AllocError> {
+        if self.holds(route, place, row) {
+            return Ok(false);
+        }
+        let copy = copy_row(alloc, row)?;
+        for other in &mut self.places {
+            if other.place == place && other.route.as_slice() == route {
+                other.rows.push(copy)?;
+                return Ok(true);
+            }
+        }
+        let mut rows = Vec::new(alloc);
+        rows.push(copy)?;
+        let route = Vec::from_slice(alloc, route)?;
+        self.places.push(SlowPlace { route, place, rows })?;
+        Ok(true)
+    }
+}
