@@ -1,2 +1,3 @@
 pub mod MeasureText
 mod RefusalWords
+pub mod PartText

@@ -1,3 +1,4 @@
 pub mod Measure
+pub mod Part
 pub mod Refusal
 pub mod Inner

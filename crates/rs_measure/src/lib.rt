@@ -1,14 +1,20 @@
-//! Measures along a route, and the refusals that every layer answers with.
+//! Measures along a route, parts of a route, and the refusals that every layer answers with.
 //!
-//! A measure is a whole number of thousandths. What is read is what a measure's text may be,
-//! everything else is refused, and what is printed is read back.
+//! A measure is a whole number of thousandths, a part of billionths. What is read is what the text
+//! of a measure or a part may be, everything else is refused, and what is printed is read back.
 #![tactic(auto)]
 
+mod digits;
 pub mod measure;
+pub mod part;
 pub mod refusal;
 
 pub use measure::{
     GREATEST_MEASURE, MEASURE_BYTES, Measure, printed_text_is_read_back, read_measure,
     text_says_one_measure, write_measure,
+};
+pub use part::{
+    GREATEST_PART, PART_BYTES, Part, printed_part_is_read_back, read_part, text_says_one_part,
+    write_part,
 };
 pub use refusal::{Refusal, WORDS_BYTES};

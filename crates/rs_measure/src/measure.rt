@@ -7,6 +7,7 @@ ghost use Rattle.std.specs.Prelude.{◌≡◌, ℕ, ◌+◌, ◌-◌, ◌*◌, �
 ghost use Rattle.rs_measure.specs.declared.measure.TheConstants.{GREATEST_MEASURE};
 ghost use Rattle.rs_measure.specs.Measure.{AreDigits, AreWholeDigits, AreDecimals, SaysMeasure, number_of_digits, three_digits, measure_text};
 
+use crate::digits::{push_three_digits, read_digits};
 use crate::refusal::Refusal;
 use arrayvec::ArrayString;
 use itoa::Buffer;
@@ -110,24 +111,6 @@ fn decimal_thousandths(digits: &[u8]) -> Option<u32>
     Some(unit * read_digits(digits)?)
 }
 
-// The number that at most six digits say, where each byte is a digit.
-fn read_digits(digits: &[u8]) -> Option<u32>
-    requires { length digits.now ≤ 6 }
-    ensures digits { IfSome result (λ n. AreDigits digits.now) }
-    ensures value { IfSome result (λ n. n ≡ number_of_digits digits.now) }
-    ensures in_range { IfSome result (λ n. n < 10 ^ length digits.now) }
-    ensures none { IfNone result (AreDigits digits.now → ⊥) }
-{
-    let mut number = 0;
-    for digit in digits {
-        if !digit.is_ascii_digit() {
-            return None;
-        }
-        number = 10 * number + u32::from(*digit - b'0');
-    }
-    Some(number)
-}
-
 /// Prints a measure with three decimals, and one digit at least before the point.
 pub fn write_measure(measure: Measure) -> ArrayString<MEASURE_BYTES>
     ensures { result.bytes ≡ measure_text measure }
@@ -138,25 +121,6 @@ pub fn write_measure(measure: Measure) -> ArrayString<MEASURE_BYTES>
     text.push('.');
     push_three_digits(&mut text, thousandths % 1000);
     text
-}
-
-// Appends a number below a thousand with three digits.
-fn push_three_digits(text: &mut ArrayString<MEASURE_BYTES>, number: u32)
-    requires below { number < 1000 }
-    requires room { length text.old.bytes + 3 ≤ MEASURE_BYTES }
-    ensures { text.new.bytes ≡ text.old.bytes ++ three_digits number }
-{
-    text.push(digit_char(number / 100));
-    text.push(digit_char(number / 10 % 10));
-    text.push(digit_char(number % 10));
-}
-
-// The character of a digit.
-fn digit_char(digit: u32) -> char
-    requires { digit < 10 }
-    ensures { result ≡ 48 + digit }
-{
-    char::from(b'0' + digit as u8)
 }
 
 /// What is printed is read back: the text of a measure says that measure.

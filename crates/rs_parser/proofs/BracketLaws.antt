@@ -3,12 +3,12 @@ use Rattle.std.proofs.Common.{◌≡◌, ℕ, zero, suc, ◌+◌, ◌<◌, ◌�
 use Rattle.std.specs.Prelude.{◌&&◌, nat_le}
 use Rattle.std.proofs.lemmas.Bool.{false≢true, and_parts}
 use Rattle.std.proofs.lemmas.List.{take_more}
-use Rattle.rs_parser.specs.declared.parser.TheConstants.{BRACKETS}
-use Rattle.rs_parser.specs.declared.kind.TokenKind.{TokenKind}
-use Rattle.rs_parser.specs.declared.kind.TokenKind.TheVariants as kinds
+use Rattle.rs_grammar.specs.declared.kind.TheConstants.{BRACKETS}
+use Rattle.rs_grammar.specs.declared.kind.TokenKind.{TokenKind}
+use Rattle.rs_grammar.specs.declared.kind.TokenKind.TheVariants as kinds
 use Rattle.rs_parser.specs.declared.token.Token.{Token}
 use Rattle.rs_parser.specs.Lexis.{kinds_of}
-use Rattle.rs_parser.specs.Grammar.{open_after, is_shallow, IsShallow}
+use Rattle.rs_grammar.specs.Grammar.{open_after, is_shallow, IsShallow}
 
 -- how many are open behind the tokens
 abbrev pub open_behind : ℕ → List TokenKind → ℕ

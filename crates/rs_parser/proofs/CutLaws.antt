@@ -3,7 +3,7 @@ use Rattle.std.proofs.Common.{◌≡◌, ℕ, zero, suc, ◌+◌, ◌<◌, ◌�
 use Rattle.std.specs.Prelude.{slice_index, All}
 use Rattle.std.proofs.lemmas.Bool.{cases_order}
 use Rattle.std.proofs.lemmas.List.Elements.{All-push}
-use Rattle.rs_parser.specs.declared.kind.TokenKind.{TokenKind}
+use Rattle.rs_grammar.specs.declared.kind.TokenKind.{TokenKind}
 use Rattle.rs_parser.specs.declared.token.Token.{Token}
 use Rattle.rs_parser.specs.Lexis.{kind_of, IsTokenOf, IsLongestToken, IsCut, at_end, at_blank, at_token}
 use Rattle.rs_parser.proofs.ScanningLaws.{kind_of-nil, alone-None}

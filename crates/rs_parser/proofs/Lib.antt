@@ -1,9 +1,9 @@
 mod ScanningLaws
 mod CutLaws
 mod Steps
-mod GrammarLaws
 mod TokenLaws
 mod BracketLaws
 mod VerdictLaws
 mod MeaningLaws
 mod OneAnswer
+mod SoundLaws

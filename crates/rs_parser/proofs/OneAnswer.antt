@@ -8,8 +8,8 @@ use Rattle.rs_measure.specs.Measure.{SaysMeasure}
 use Rattle.rs_value.specs.declared.column.ColumnType.{ColumnType}
 use Rattle.rs_value.specs.declared.column.ColumnType.TheVariants as types
 use Rattle.rs_value.specs.Row.{Datum, null, number, text, Row}
-use Rattle.rs_parser.specs.declared.kind.TokenKind.{TokenKind}
-use Rattle.rs_parser.specs.declared.kind.TokenKind.TheVariants as kinds
+use Rattle.rs_grammar.specs.declared.kind.TokenKind.{TokenKind}
+use Rattle.rs_grammar.specs.declared.kind.TokenKind.TheVariants as kinds
 use Rattle.rs_parser.specs.declared.token.Token.{Token}
 use Rattle.rs_parser.specs.declared.syntax.WrittenType.{WrittenType}
 use Rattle.rs_parser.specs.declared.syntax.WrittenType.TheVariants as written_types
@@ -17,7 +17,7 @@ use Rattle.rs_parser.specs.declared.syntax.WrittenColumn.{WrittenColumn}
 use Rattle.rs_parser.specs.declared.syntax.WrittenValue.{WrittenValue}
 use Rattle.rs_parser.specs.declared.syntax.WrittenValue.TheVariants as written_values
 use Rattle.rs_parser.specs.Lexis.{text_of, kinds_of, IsLongestToken, IsCut, at_end, at_blank, at_token}
-use Rattle.rs_parser.specs.Grammar.{IsCommand, IsViable, IsShallow}
+use Rattle.rs_grammar.specs.Grammar.{IsCommand, IsViable, IsShallow}
 use Rattle.rs_parser.specs.Tree.{along, named, CommandTree, define_route, define_table, insert, select}
 use Rattle.rs_parser.specs.Written.{Written, written_route, written_table, written_insert, written_select, Piece, mark, type_pieces, column_pieces, value_pieces, further_pieces, list_pieces, spelling, SaysType, SaysColumns, SaysDatum, SaysRow, Says}
 use Rattle.rs_parser.specs.Verdict.{fault_column, FitsNoRule, Parses, is_fault, is_command, is_out_of_range, Reads, has_no_tokens, has_tokens}

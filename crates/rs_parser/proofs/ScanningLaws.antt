@@ -5,9 +5,9 @@ use Rattle.std.proofs.lemmas.Bool.{cases_lt, false≢true, lt-leb}
 use Rattle.std.specs.Prelude.{◌==◌, ◌&&◌, if◌then◌else◌, is_some, unwrap_or, nat_le}
 use Rattle.std.specs.Char.{is_ascii_alphabetic, is_ascii_digit}
 use Rattle.std.specs.List.{list_all}
-use Rattle.rs_parser.specs.declared.kind.TheConstants.{NAME_BYTES}
-use Rattle.rs_parser.specs.declared.kind.TokenKind.{TokenKind}
-use Rattle.rs_parser.specs.declared.kind.TokenKind.TheVariants as kinds
+use Rattle.rs_grammar.specs.declared.kind.TheConstants.{NAME_BYTES}
+use Rattle.rs_grammar.specs.declared.kind.TokenKind.{TokenKind}
+use Rattle.rs_grammar.specs.declared.kind.TokenKind.TheVariants as kinds
 use Rattle.rs_parser.specs.declared.scan.State.{State}
 use Rattle.rs_parser.specs.declared.scan.State.TheVariants as states
 use Rattle.rs_parser.specs.Lexis.{reserved, kind_in, IsLongestToken, word_kind, is_word_byte, is_whole, is_fraction, is_quoted_rest, single_kind, less_kind, greater_kind, alone, kind_of}

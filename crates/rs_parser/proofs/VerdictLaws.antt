@@ -4,16 +4,16 @@ use Rattle.std.specs.Prelude.{◌⊎◌, All, if◌then◌else◌}
 use Rattle.std.proofs.lemmas.List.{take_at, take_all, take-take}
 use Rattle.rs_measure.specs.declared.refusal.Refusal.{Refusal}
 use Rattle.rs_measure.specs.declared.refusal.Refusal.TheVariants.{Syntax}
-use Rattle.rs_parser.specs.declared.kind.TokenKind.{TokenKind}
+use Rattle.rs_grammar.specs.declared.kind.TokenKind.{TokenKind}
 use Rattle.rs_parser.specs.declared.token.Token.{Token}
 use Rattle.rs_parser.specs.Lexis.{kinds_of, IsTokenOf}
-use Rattle.rs_parser.specs.Grammar.{rules, command_form, IsCommand, IsViable, IsShallow}
+use Rattle.rs_grammar.specs.Grammar.{rules, command_form, IsCommand, IsViable, IsShallow}
 use Rattle.rs_parser.specs.Written.{Written, mark, told, has_text, spelling}
 use Rattle.rs_parser.specs.Reading.{Runs, pieces_of, StopsAt, IsToldOf, AreToldOf}
 use Rattle.rs_parser.specs.Verdict.{FitsNoRule, IsWritten, Parses, is_fault, fault_column}
 use Rattle.rs_parser.proofs.BracketLaws.{is_shallow-front, take-kinds_of}
-use Rattle.rs_parser.proofs.GrammarLaws as law
-use Rattle.rs_parser.proofs.GrammarLaws.{front_of, is_viable, is_not_viable, is_no_command, is_command}
+use Rattle.rs_grammar.proofs.GrammarLaws as law
+use Rattle.rs_grammar.proofs.GrammarLaws.{front_of, is_viable, is_not_viable, is_no_command, is_command}
 
 read_of : {tokens : List TokenKind} {outcome : Result (List TokenKind) (Option (List TokenKind))} → Runs command_form tokens outcome → law.Read tokens outcome
 unfolding rules

@@ -3,9 +3,9 @@ use Rattle.std.specs.Prelude.{◌≡◌, ℕ, ◌+◌, ◌<◌, ◌≤◌, Bool,
 use Rattle.std.specs.Char.{is_ascii_alphabetic, is_ascii_alphanumeric, is_ascii_digit}
 use Rattle.std.specs.List.{list_all}
 use Rattle.std.specs.Str.{bytes_eq}
-use Rattle.rs_parser.specs.declared.kind.TheConstants.{NAME_BYTES}
-use Rattle.rs_parser.specs.declared.kind.TokenKind.{TokenKind}
-use Rattle.rs_parser.specs.declared.kind.TokenKind.TheVariants as kinds
+use Rattle.rs_grammar.specs.declared.kind.TheConstants.{NAME_BYTES}
+use Rattle.rs_grammar.specs.declared.kind.TokenKind.{TokenKind}
+use Rattle.rs_grammar.specs.declared.kind.TokenKind.TheVariants as kinds
 use Rattle.rs_parser.specs.declared.token.Token.{Token}
 
 -- the reserved words
@@ -89,7 +89,7 @@ is_fraction [] = false
 is_fraction (byte ∷ bytes) = if is_ascii_digit byte then is_fraction bytes else if byte == 46 then is_whole bytes else false
 
 -- What follows the opening quote: any bytes, each quote among them doubled, and the closing quote.
--- At first no quote stands open; behind a quote it is the closing one, unless another follows.
+-- Directly behind a quote the text may end there, or that quote is doubled by the next.
 abbrev pub is_quoted_rest : (behind_quote : Bool) → List ℕ → Bool
 is_quoted_rest behind_quote [] = behind_quote
 is_quoted_rest true (byte ∷ bytes) = if byte == 39 then is_quoted_rest false bytes else false

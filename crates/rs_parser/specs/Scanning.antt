@@ -2,9 +2,9 @@
 use Rattle.std.specs.Prelude.{ℕ, Bool, true, false, ◌==◌, List, [], ◌∷◌, map, Option, Some, None, if◌then◌else◌}
 use Rattle.std.specs.Char.{is_ascii_alphabetic, is_ascii_digit}
 use Rattle.std.specs.List.{list_all}
-use Rattle.rs_parser.specs.declared.kind.TokenKind.{TokenKind}
-use Rattle.rs_parser.specs.declared.kind.TokenKind.TheVariants as kinds
-use Rattle.rs_parser.specs.declared.kind.Reserved.{Reserved}
+use Rattle.rs_grammar.specs.declared.kind.TokenKind.{TokenKind}
+use Rattle.rs_grammar.specs.declared.kind.TokenKind.TheVariants as kinds
+use Rattle.rs_grammar.specs.declared.kind.Reserved.{Reserved}
 use Rattle.rs_parser.specs.declared.scan.State.{State}
 use Rattle.rs_parser.specs.declared.scan.State.TheVariants as states
 use Rattle.rs_parser.specs.Lexis.{word_kind, is_word_byte, is_whole, is_fraction, is_quoted_rest, single_kind, less_kind, greater_kind, alone, kind_of}

@@ -8,6 +8,7 @@ use Rattle.rs_value.specs.Row.{Row}
 pub data PlaceTree : Type 0 where
   along : ℕ → ℕ → PlaceTree
 
+-- the rows of a table by its name, for now
 pub data QueryTree : Type 0 where
   named : List ℕ → QueryTree
 

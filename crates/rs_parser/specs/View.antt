@@ -11,15 +11,19 @@ use Rattle.rs_parser.specs.declared.commands.Command.{Command}
 use Rattle.rs_parser.specs.declared.commands.Command.TheVariants as commands
 use Rattle.rs_parser.specs.Tree.{PlaceTree, along, QueryTree, named, CommandTree, define_route, define_table, insert, select}
 
+-- a column's name and type
 abbrev pub column_tree : ColumnDefinition → List ℕ × ColumnType
 column_tree definition = (definition.name.bytes, definition.column_type)
 
+-- where an event is put
 abbrev pub place_tree : Place → PlaceTree
 place_tree (places.Along from to) = along from to
 
+-- a query as a value
 abbrev pub query_tree : Query → QueryTree
 query_tree (queries.Named name) = named name.bytes
 
+-- a command as a value
 abbrev pub tree_of : Command → CommandTree
 tree_of (commands.DefineRoute name start finish) = define_route name.bytes start finish
 tree_of (commands.DefineTable kind name columns) = define_table kind name.bytes (map column_tree columns.items)

@@ -6,8 +6,8 @@ use Rattle.rs_value.specs.declared.column.Kind.TheVariants.{Line}
 use Rattle.rs_value.specs.declared.column.ColumnType.{ColumnType}
 use Rattle.rs_value.specs.declared.column.ColumnType.TheVariants as types
 use Rattle.rs_value.specs.Row.{Datum, null, number, text, Row}
-use Rattle.rs_parser.specs.declared.kind.TokenKind.{TokenKind}
-use Rattle.rs_parser.specs.declared.kind.TokenKind.TheVariants as kinds
+use Rattle.rs_grammar.specs.declared.kind.TokenKind.{TokenKind}
+use Rattle.rs_grammar.specs.declared.kind.TokenKind.TheVariants as kinds
 use Rattle.rs_parser.specs.declared.token.Token.{Token}
 use Rattle.rs_parser.specs.declared.syntax.WrittenType.{WrittenType}
 use Rattle.rs_parser.specs.declared.syntax.WrittenType.TheVariants as written_types
@@ -29,6 +29,7 @@ pub data Piece : Type 0 where
   mark : TokenKind → Piece
   told : TokenKind → Token → Piece
 
+-- the tokens whose text counts
 abbrev pub has_text : TokenKind → Bool
 has_text kinds.Name = true
 has_text kinds.Whole = true
@@ -36,6 +37,7 @@ has_text kinds.Decimal = true
 has_text kinds.Quoted = true
 has_text _ = false
 
+-- a token as a spelling shows it
 abbrev pub piece_of : Token → Piece
 piece_of token = if has_text token.kind then told token.kind token else mark token.kind
 
@@ -97,6 +99,7 @@ unquoted_rest behind_quote [] = []
 unquoted_rest true (byte ∷ bytes) = byte ∷ unquoted_rest false bytes
 unquoted_rest false (byte ∷ bytes) = if byte == 39 then unquoted_rest true bytes else byte ∷ unquoted_rest false bytes
 
+-- a quoted text without its quotes
 abbrev pub unquoted : List ℕ → List ℕ
 unquoted [] = []
 unquoted (quote ∷ bytes) = unquoted_rest false bytes

@@ -2,8 +2,8 @@
 //!
 //! Names have 1 to `NAME_BYTES` bytes, and each list has one item at least.
 
-use crate::kind::NAME_BYTES;
 use arrayvec::ArrayString;
+use rs_grammar::kind::NAME_BYTES;
 use rs_measure::Measure;
 use rs_value::{ColumnType, Kind, Literal};
 

@@ -5,7 +5,6 @@
 #![tactic(auto)]
 
 pub mod commands;
-pub mod kind;
 mod meaning;
 pub mod parser;
 mod reading;
@@ -16,6 +15,6 @@ mod tests;
 pub mod token;
 
 pub use commands::{ColumnDefinition, Command, Name, Place, Query};
-pub use kind::{NAME_BYTES, TokenKind};
-pub use parser::{BRACKETS, command_of, line_has_one_answer, parse};
+pub use parser::{command_of, line_has_one_answer, parse};
+pub use rs_grammar::kind::{BRACKETS, NAME_BYTES, TokenKind};
 pub use token::tokens;

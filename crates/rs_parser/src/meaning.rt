@@ -7,7 +7,7 @@ ghost use Rattle.rs_measure.specs.Measure.{SaysMeasure, number_of_digits};
 ghost use Rattle.rs_value.specs.declared.column.ColumnType.{ColumnType};
 ghost use Rattle.rs_value.specs.Row.{Datum, Row};
 ghost use Rattle.rs_value.specs.View.{literal_datum, literal_row};
-ghost use Rattle.rs_parser.specs.declared.kind.TokenKind.TheVariants as kinds;
+ghost use Rattle.rs_grammar.specs.declared.kind.TokenKind.TheVariants as kinds;
 ghost use Rattle.rs_parser.specs.Lexis.{kind_of, text_of, IsTokenOf};
 ghost use Rattle.rs_parser.specs.Tree.{CommandTree};
 ghost use Rattle.rs_parser.specs.View.{column_tree, tree_of};

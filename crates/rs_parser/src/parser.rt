@@ -4,25 +4,23 @@
 
 ghost use Rattle.std.specs.Prelude.{◌≡◌, ℕ, List, Result, ◌+◌, ◌<◌, ◌≤◌, ◌⊎◌, [], Ok, Err, length, take, drop, IfOk, IfErr, OnOk, All};
 ghost use Rattle.rs_parser.specs.Lexis.{kinds_of, IsTokenOf};
-ghost use Rattle.rs_parser.specs.Grammar.{IsShallow, command_form};
+ghost use Rattle.rs_grammar.specs.Grammar.{IsShallow, command_form};
 ghost use Rattle.rs_parser.specs.Written.{spelling};
 ghost use Rattle.rs_measure.specs.declared.refusal.Refusal.{Refusal};
 ghost use Rattle.rs_parser.specs.Tree.{CommandTree};
 ghost use Rattle.rs_parser.specs.View.{tree_of};
-ghost use Rattle.rs_parser.specs.Reading.{Runs, halt_of, pieces_of, written_of, StopsAt};
+ghost use Rattle.rs_parser.specs.Reading.{Runs, halt_of, pieces_of, written_of, StopsAt, IsFull};
+ghost use Rattle.rs_parser.specs.Sound.{IsSound};
 ghost use Rattle.rs_parser.specs.Verdict.{fault_column, IsWritten, Parses, Reads};
 
 use crate::commands::Command;
-use crate::kind::TokenKind;
 use crate::meaning::meaning;
 use crate::reading::{Stop, command};
 use crate::syntax::WrittenCommand;
 use crate::token::{Token, tokens};
+use rs_grammar::kind::{BRACKETS, TokenKind};
 use rs_measure::{Refusal, text_says_one_measure};
 use std::alloc::Global;
-
-/// How many brackets may be open at once.
-pub const BRACKETS: usize = 32;
 
 // How many tokens stand before the first that opens a bracket too many.
 fn shallow_count(tokens: &[Token]) -> usize
@@ -61,6 +59,7 @@ fn syntax_fault(line: &str, tokens: &[Token]) -> Refusal
 fn whole_command(alloc: Global, tokens: &[Token]) -> Result<WrittenCommand, Stop<'_>>
     ensures read { OnOk result (Runs command_form (kinds_of tokens.now) (Ok [])) }
     ensures spelled { IfOk result (λ written. pieces_of tokens.now ≡ spelling (written_of written)) }
+    ensures full { IfOk result (λ written. IsFull (written_of written)) }
     ensures stops { IfErr result (λ stop. StopsAt (kinds_of tokens.now) (halt_of stop)) }
 {
     let (written, rest) = command(alloc, tokens)?;
@@ -75,6 +74,7 @@ fn whole_command(alloc: Global, tokens: &[Token]) -> Result<WrittenCommand, Stop
 fn syntax(alloc: Global, line: &str, tokens: &[Token]) -> Result<WrittenCommand, Refusal>
     requires { All (IsTokenOf line.now) tokens.now }
     ensures ok { IfOk result (λ written. IsWritten tokens.now (written_of written)) }
+    ensures full { IfOk result (λ written. IsFull (written_of written)) }
     ensures err { IfErr result (λ refusal. (refusal ≡ Refusal.OutOfMemory) ⊎ Parses line.now tokens.now (Err refusal)) }
 {
     let shallow = shallow_count(tokens);
@@ -98,6 +98,7 @@ fn syntax(alloc: Global, line: &str, tokens: &[Token]) -> Result<WrittenCommand,
 pub fn parse(alloc: Global, line: &str, tokens: &[Token]) -> Result<Command, Refusal>
     requires { All (IsTokenOf line.now) tokens.now }
     ensures ok { IfOk result (λ command. Parses line.now tokens.now (Ok (tree_of command))) }
+    ensures sound { IfOk result (λ command. IsSound (tree_of command)) }
     ensures err { IfErr result (λ refusal. (refusal ≡ Refusal.OutOfMemory) ⊎ Parses line.now tokens.now (Err refusal)) }
 {
     let written = syntax(alloc, line, tokens)?;
@@ -109,6 +110,7 @@ pub fn parse(alloc: Global, line: &str, tokens: &[Token]) -> Result<Command, Ref
 /// Refused `UnknownCharacter` where the text can't be cut into tokens, then as by `parse`.
 pub fn command_of(alloc: Global, line: &str, from: usize) -> Result<Command, Refusal>
     ensures ok { IfOk result (λ command. Reads line.now from (Ok (tree_of command))) }
+    ensures sound { IfOk result (λ command. IsSound (tree_of command)) }
     ensures err { IfErr result (λ refusal. (refusal ≡ Refusal.OutOfMemory) ⊎ Reads line.now from (Err refusal)) }
 {
     let tokens = tokens(alloc, line, from)?;

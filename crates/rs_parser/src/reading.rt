@@ -4,15 +4,15 @@
 //! that no rule goes on with. Lists are loops, so no call nests deeper than the brackets of a line.
 
 ghost use Rattle.std.specs.Prelude.{◌≡◌, ◌<◌, [], ◌∷◌, ◌++◌, length, true, false, Some, MatchOption, IfSome, MatchResult, IfOk};
-ghost use Rattle.rs_parser.specs.declared.kind.TokenKind.TheVariants as kinds;
+ghost use Rattle.rs_grammar.specs.declared.kind.TokenKind.TheVariants as kinds;
 ghost use Rattle.rs_parser.specs.Lexis.{kinds_of};
-ghost use Rattle.rs_parser.specs.Grammar.{command_form, define_form, define_route_form, define_table_form, insert_form, place_form, columns_form, column_form, type_form, values_form, value_form, measure_form, query_form};
+ghost use Rattle.rs_grammar.specs.Grammar.{command_form, define_form, define_route_form, define_table_form, insert_form, place_form, columns_form, column_form, type_form, values_form, value_form, measure_form, query_form};
 ghost use Rattle.rs_parser.specs.Written.{mark, told, has_text, measure_pieces, place_pieces, type_pieces, column_pieces, value_pieces, list_pieces, spelling};
-ghost use Rattle.rs_parser.specs.Reading.{Lacks, halt_of, RunsTo, pieces_of, written_of};
+ghost use Rattle.rs_parser.specs.Reading.{Lacks, halt_of, RunsTo, pieces_of, written_of, IsFull};
 
-use crate::kind::TokenKind;
 use crate::syntax::{WrittenColumn, WrittenCommand, WrittenType, WrittenValue};
 use crate::token::Token;
+use rs_grammar::kind::TokenKind;
 use std::alloc::Global;
 
 /// Why a part was not read.
@@ -167,6 +167,7 @@ fn columns(alloc: Global, tokens: &[Token]) -> Result<(Vec<WrittenColumn>, &[Tok
     ensures runs { RunsTo columns_form tokens.now result }
     ensures spelled { IfOk result (λ found.
         pieces_of tokens.now ≡ list_pieces column_pieces found.0.items ++ pieces_of found.1.now) }
+    ensures some { IfOk result (λ found. 0 < length found.0.items) }
 {
     let mut columns = Vec::new(alloc);
     let mut rest = tokens;
@@ -185,6 +186,7 @@ fn values(alloc: Global, tokens: &[Token]) -> Result<(Vec<WrittenValue>, &[Token
     ensures runs { RunsTo values_form tokens.now result }
     ensures spelled { IfOk result (λ found.
         pieces_of tokens.now ≡ list_pieces value_pieces found.0.items ++ pieces_of found.1.now) }
+    ensures some { IfOk result (λ found. 0 < length found.0.items) }
 {
     let mut values = Vec::new(alloc);
     let mut rest = tokens;
@@ -203,6 +205,7 @@ fn define_route(tokens: &[Token]) -> Result<(WrittenCommand, &[Token]), Stop<'_>
     ensures runs { RunsTo define_route_form tokens.now result }
     ensures spelled { IfOk result (λ found. mark kinds.Define ∷ mark kinds.Route ∷ pieces_of tokens.now
         ≡ spelling (written_of found.0) ++ pieces_of found.1.now) }
+    ensures full { IfOk result (λ found. IsFull (written_of found.0)) }
 {
     let (name, rest) = need_text(tokens, TokenKind::Name)?;
     let ((start, finish), rest) = place(rest)?;
@@ -219,6 +222,7 @@ fn define_table(alloc: Global, tokens: &[Token]) -> Result<(WrittenCommand, &[To
     ensures runs { RunsTo define_table_form tokens.now result }
     ensures spelled { IfOk result (λ found. mark kinds.Define ∷ mark kinds.Line ∷ pieces_of tokens.now
         ≡ spelling (written_of found.0) ++ pieces_of found.1.now) }
+    ensures full { IfOk result (λ found. IsFull (written_of found.0)) }
 {
     let rest = need_mark(tokens, TokenKind::Table)?;
     let (name, rest) = need_text(rest, TokenKind::Name)?;
@@ -233,6 +237,7 @@ fn define(alloc: Global, tokens: &[Token]) -> Result<(WrittenCommand, &[Token]),
     ensures runs { RunsTo define_form tokens.now result }
     ensures spelled { IfOk result (λ found. mark kinds.Define ∷ pieces_of tokens.now
         ≡ spelling (written_of found.0) ++ pieces_of found.1.now) }
+    ensures full { IfOk result (λ found. IsFull (written_of found.0)) }
 {
     if let Some(rest) = mark(tokens, TokenKind::Route) {
         return define_route(rest);
@@ -246,6 +251,7 @@ fn insert(alloc: Global, tokens: &[Token]) -> Result<(WrittenCommand, &[Token]),
     ensures runs { RunsTo insert_form tokens.now result }
     ensures spelled { IfOk result (λ found. mark kinds.Insert ∷ pieces_of tokens.now
         ≡ spelling (written_of found.0) ++ pieces_of found.1.now) }
+    ensures full { IfOk result (λ found. IsFull (written_of found.0)) }
 {
     let rest = need_mark(tokens, TokenKind::Into)?;
     let (table, rest) = need_text(rest, TokenKind::Name)?;
@@ -270,6 +276,7 @@ fn insert(alloc: Global, tokens: &[Token]) -> Result<(WrittenCommand, &[Token]),
 pub fn command(alloc: Global, tokens: &[Token]) -> Result<(WrittenCommand, &[Token]), Stop<'_>>
     ensures runs { RunsTo command_form tokens.now result }
     ensures spelled { IfOk result (λ found. pieces_of tokens.now ≡ spelling (written_of found.0) ++ pieces_of found.1.now) }
+    ensures full { IfOk result (λ found. IsFull (written_of found.0)) }
 {
     if let Some(rest) = mark(tokens, TokenKind::Define) {
         return define(alloc, rest);

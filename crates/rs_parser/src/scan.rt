@@ -6,7 +6,7 @@ ghost use Rattle.std.specs.Prelude.{◌≡◌, ℕ, ◌+◌, ◌<◌, ◌≤◌,
 ghost use Rattle.rs_parser.specs.Lexis.{kind_in, word_kind, single_kind, kind_of, is_word_byte, IsLongestToken};
 ghost use Rattle.rs_parser.specs.Scanning.{rows_of, after, accepts, is_dead, kind_at, run};
 
-use crate::kind::{NAME_BYTES, RESERVED, Reserved, TokenKind};
+use rs_grammar::kind::{NAME_BYTES, RESERVED, Reserved, TokenKind};
 
 /// What the bytes so far may be.
 #[derive(Clone, Copy)]

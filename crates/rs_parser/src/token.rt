@@ -6,8 +6,8 @@ ghost use Rattle.std.specs.Prelude.{◌≡◌, ◌==◌, ◌⊎◌, List, IfOk, 
 ghost use Rattle.rs_parser.specs.declared.token.Token.{Token};
 ghost use Rattle.rs_parser.specs.Lexis.{IsTokenOf, IsCut};
 
-use crate::kind::TokenKind;
 use crate::scan::front_token;
+use rs_grammar::kind::TokenKind;
 use rs_measure::Refusal;
 use std::alloc::Global;
 

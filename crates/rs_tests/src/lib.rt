@@ -9,5 +9,7 @@ pub mod slow_lines;
 pub mod slow_reader;
 pub mod slow_tables;
 #[cfg(test)]
+mod stream_tests;
+#[cfg(test)]
 mod tests;
 pub mod worked;

@@ -10,9 +10,9 @@ push-requires c =
     let point : length (encode_utf8 46) ≡ 1 = ap length (encode_ascii 46 (lit< tt)) in
     (lit< tt, omega arith)
 
-pub push_three_digits-requires-clause-room : goal.push_three_digits-requires-clause-room
-push_three_digits-requires-clause-room c =
+pub push_three_digits-requires : goal.push_three_digits-requires
+push_three_digits-requires c =
     let whole : length c.format.result.now ≤ 6 = subst (λ t. length t ≤ 6) (sym c.format.ensures.text) (whole_digits_short c.thousandths-thousandths.result (omega arith)) in
     let empty : length c.new-text.result.bytes ≡ 0 = ap length c.new-text.ensures in
     let pushed : length c.push.new.self.bytes ≡ length (c.push_str.new.self.bytes ++ 46 ∷ []) = ap length (c.push.ensures.ascii (lit< tt)) in
-    omega (arith, length-append c.push_str.new.self.bytes (46 ∷ []))
+    (omega arith, omega (arith, length-append c.push_str.new.self.bytes (46 ∷ [])))

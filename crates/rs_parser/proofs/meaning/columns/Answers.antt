@@ -2,7 +2,7 @@ use Rattle.std.proofs.Common.{◌+◌, take, is_ok, refl, sym, ap, ◌∙◌, su
 use Rattle.std.proofs.ResultArms.{chosen}
 use Rattle.std.specs.Prelude.{map}
 use Rattle.std.proofs.lemmas.List.{map-append}
-use Rattle.rs_parser.specs.declared.kind.TokenKind.TheVariants as kinds
+use Rattle.rs_grammar.specs.declared.kind.TokenKind.TheVariants as kinds
 use Rattle.rs_parser.specs.declared.syntax.WrittenColumn.{WrittenColumn}
 use Rattle.rs_parser.specs.declared.syntax.WrittenType.TheVariants as types
 use Rattle.rs_parser.specs.View.{column_tree}

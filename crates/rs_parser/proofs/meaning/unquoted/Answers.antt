@@ -3,7 +3,7 @@ use Rattle.std.proofs.ResultArms.{chosen}
 use Rattle.std.proofs.lemmas.Str.{lead_after_ascii}
 use Rattle.std.specs.Char.{encode_utf8}
 use Rattle.std.specs.Str.Iter.{chars_rest}
-use Rattle.rs_parser.specs.declared.kind.TokenKind.TheVariants as kinds
+use Rattle.rs_grammar.specs.declared.kind.TokenKind.TheVariants as kinds
 use Rattle.rs_parser.specs.Written.{unquoted, unquoted_rest}
 use Rattle.rs_parser.proofs.TokenLaws.{first_is_ascii}
 use Rattle.rs_parser.proofs.MeaningLaws.{unquoted-behind, unquoted-other, unquoted_more}

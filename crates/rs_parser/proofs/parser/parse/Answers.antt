@@ -7,6 +7,8 @@ use Rattle.rs_parser.specs.View.{tree_of}
 use Rattle.rs_parser.specs.Written.{Says}
 use Rattle.rs_parser.specs.Reading.{AreToldOf, written_of}
 use Rattle.rs_parser.specs.Verdict.{Parses, is_command, is_out_of_range}
+use Rattle.rs_parser.specs.Sound.{IsSound}
+use Rattle.rs_parser.proofs.SoundLaws.{sound}
 use Rattle.rs_parser.proofs.VerdictLaws.{told_of}
 use Rattle.rs_parser.proofs.parser.parse.Goals as goal
 
@@ -28,3 +30,10 @@ returns-clause-err c =
     (λ refusal cases. ⊎_elim (λ memory. inl memory)
     (λ r. inr (subst (λ e. Parses c.args.line.now c.args.tokens.now (Err e)) (sym r.0) (is_out_of_range written c.in_ok-written.ensures.ok r.1))) cases)
     c.meaning.ensures.err
+
+pub returns-clause-sound : goal.returns-clause-sound
+returns-clause-sound c =
+    let written = written_of c.in_ok-written.written in
+    let all = subst (AreToldOf c.args.line.now) c.in_ok-written.ensures.ok.spelled (told_of c.args.line.now c.args.tokens.now c.requires) in
+    IfOk-weaker c.meaning.result (λ command. Says c.args.line.now written (tree_of command)) (λ command. IsSound (tree_of command))
+    (λ command says. sound c.args.line.now written (tree_of command) c.in_ok-written.ensures.full all says) c.meaning.ensures.ok

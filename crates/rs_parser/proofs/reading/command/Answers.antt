@@ -1,6 +1,6 @@
 use Rattle.std.proofs.lemmas.Result.{err_from_is_err_and}
-use Rattle.rs_parser.specs.declared.kind.TokenKind.TheVariants as kinds
-use Rattle.rs_parser.specs.Grammar.{rules, query, pick, done, need, sub, define_form, insert_form}
+use Rattle.rs_grammar.specs.declared.kind.TokenKind.TheVariants as kinds
+use Rattle.rs_grammar.specs.Grammar.{rules, query, pick, done, need, sub, define_form, insert_form}
 use Rattle.rs_parser.specs.Reading.{is_done, skips, through, stops_in}
 use Rattle.rs_parser.proofs.Steps.{takes_as, misses, RunsTo-skips, RunsTo-takes}
 use Rattle.rs_parser.proofs.reading.command.Goals as goal

@@ -1,6 +1,6 @@
 use Rattle.std.proofs.lemmas.Result.{err_from_is_err_and}
-use Rattle.rs_parser.specs.declared.kind.TokenKind.TheVariants as kinds
-use Rattle.rs_parser.specs.Grammar.{fail, need, define_route_form, define_table_form}
+use Rattle.rs_grammar.specs.declared.kind.TokenKind.TheVariants as kinds
+use Rattle.rs_grammar.specs.Grammar.{fail, need, define_route_form, define_table_form}
 use Rattle.rs_parser.specs.Reading.{skips}
 use Rattle.rs_parser.proofs.Steps.{misses, RunsTo-skips, RunsTo-takes}
 use Rattle.rs_parser.proofs.reading.define.Goals as goal

@@ -1,5 +1,5 @@
 use Rattle.std.proofs.lemmas.Result.{err_from_is_err_and}
-use Rattle.rs_parser.specs.Grammar.{rules}
+use Rattle.rs_grammar.specs.Grammar.{rules}
 use Rattle.rs_parser.specs.Reading.{is_done, through, stops_in}
 use Rattle.rs_parser.proofs.Steps.{takes_as, misses}
 use Rattle.rs_parser.proofs.reading.insert.Goals as goal

@@ -1,5 +1,5 @@
-use Rattle.rs_parser.specs.declared.kind.TokenKind.TheVariants as kinds
-use Rattle.rs_parser.specs.Grammar.{done, need}
+use Rattle.rs_grammar.specs.declared.kind.TokenKind.TheVariants as kinds
+use Rattle.rs_grammar.specs.Grammar.{done, need}
 use Rattle.rs_parser.specs.Reading.{is_done}
 use Rattle.rs_parser.proofs.Steps.{takes_as, RunsTo-skips, RunsTo-need}
 use Rattle.rs_parser.proofs.reading.measure.Goals as goal

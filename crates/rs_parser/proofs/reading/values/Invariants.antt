@@ -1,5 +1,5 @@
 use Rattle.std.proofs.Common.{length}
-use Rattle.rs_parser.specs.Grammar.{rules, values}
+use Rattle.rs_grammar.specs.Grammar.{rules, values}
 use Rattle.rs_parser.specs.Written.{value_pieces}
 use Rattle.rs_parser.proofs.Steps.{IsListSoFar}
 use Rattle.rs_parser.proofs.reading.values.Given as goal

@@ -5,12 +5,12 @@ use Rattle.std.specs.Prelude.{◌⊎◌, ◌&&◌, ◌||◌, not, if◌then◌el
 use Rattle.std.proofs.lemmas.Bool.{false≢true, and_parts}
 use denote.Enum.Bare.{sameb, same_true, true_same}
 use Rattle.std.proofs.lemmas.List.{append_cancel_right}
-use Rattle.rs_parser.specs.contracts.kind.TokenKind.{the_type}
-use Rattle.rs_parser.specs.declared.kind.TokenKind.{TokenKind}
-use Rattle.rs_parser.specs.declared.kind.TokenKind.TheVariants as kinds
-use Rattle.rs_parser.specs.Grammar as g
-use Rattle.rs_parser.specs.Grammar.{Part, Form, done, fail, pick, sub, rules, Derives, nothing, this, that, part, IsCommand, IsViable}
-use Rattle.rs_parser.specs.Reading.{Lacks, Runs, is_done, is_fail, takes, skips, through, stops_in, gives_up}
+use Rattle.rs_grammar.specs.contracts.kind.TokenKind.{the_type}
+use Rattle.rs_grammar.specs.declared.kind.TokenKind.{TokenKind}
+use Rattle.rs_grammar.specs.declared.kind.TokenKind.TheVariants as kinds
+use Rattle.rs_grammar.specs.Grammar as g
+use Rattle.rs_grammar.specs.Grammar.{Part, Form, done, fail, pick, sub, rules, Derives, nothing, this, that, part, IsCommand, IsViable}
+use Rattle.rs_grammar.specs.Reading.{Lacks, Runs, is_done, is_fail, takes, skips, through, stops_in, gives_up}
 
 abbrev pub Outcome : Type 0
 Outcome = Result (List TokenKind) (Option (List TokenKind))

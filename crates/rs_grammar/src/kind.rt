@@ -3,6 +3,9 @@
 /// How many bytes a name has at the most.
 pub const NAME_BYTES: usize = 32;
 
+/// How many brackets may be open at once.
+pub const BRACKETS: usize = 32;
+
 /// What a token is.
 #[derive(Clone, Copy, PartialEq, Eq, Debug)]
 pub enum TokenKind {
@@ -151,7 +154,9 @@ pub enum TokenKind {
 /// A reserved word and its kind.
 #[derive(Clone, Copy)]
 pub struct Reserved {
+    /// The word's text.
     pub word: &'static str,
+    /// The kind of its token.
     pub kind: TokenKind,
 }
 

@@ -1,0 +1,22 @@
+use Rattle.std.proofs.Common.{◌≡◌, ◌<◌, length, rules, ◌∙◌}
+use Rattle.std.specs.List.{position_or_len, before_first, after_first}
+use Rattle.rs_measure.proofs.MeasureText.{is_point, if_none}
+use Rattle.rs_measure.proofs.PartText.{refused_without_point, unsaid_whole, unsaid_decimals}
+use Rattle.rs_measure.proofs.part.billionths_said.Goals as goal
+
+pub returns-in_err-whole-in-Some-clause-none : goal.returns-in_err-whole-in-Some-clause-none
+returns-in_err-whole-in-Some-clause-none c =
+    let before : c.in-Some.whole.now ≡ before_first is_point c.args.text.now = search rules in
+    let point : position_or_len is_point c.args.text.now < length c.args.text.now = search rules in
+    if_none c.from_residual.result _ (unsaid_whole c.args.text.now _ (c.as_bytes-in-Some.ensures.value ∙ before) point c.in_err-whole-in-Some.ensures.none)
+
+pub returns-in_err-part-in-Some-clause-none : goal.returns-in_err-part-in-Some-clause-none
+returns-in_err-part-in-Some-clause-none c =
+    let after : c.in-Some.decimals.now ≡ after_first is_point c.args.text.now = search rules in
+    let point : position_or_len is_point c.args.text.now < length c.args.text.now = search rules in
+    if_none c.from_residual-in_err-part-in-Some.result _ (unsaid_decimals c.args.text.now _ (c.as_bytes-in-Some-2.ensures.value ∙ after) point c.in_err-part-in-Some.ensures.none)
+
+pub returns-in-None-clause-none : goal.returns-in-None-clause-none
+returns-in-None-clause-none c =
+    let no_point : position_or_len is_point c.args.text.now ≡ length c.args.text.now = search rules in
+    refused_without_point c.args.text.now _ c.whole_billionths.result c.as_bytes.ensures.value no_point c.whole_billionths.ensures.none

@@ -1,0 +1,3 @@
+pub mod ReferentList
+pub mod Nearest
+pub mod RouteReferents

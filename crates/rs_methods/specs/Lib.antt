@@ -1,0 +1,4 @@
+pub mod Position
+pub mod Referents
+pub mod Inner
+pub mod OnRoute

@@ -1,0 +1,97 @@
+//! How a measure of a route is printed as a position.
+//!
+//! What is printed for a measure is located there, by each method.
+
+ghost use Rattle.std.specs.Prelude.{◌≡◌, ℕ, ◌+◌, ◌-◌, ◌*◌, ◌/◌, ◌≤◌, List, Ok, IfOk, string_bytes};
+ghost use Rattle.rs_measure.specs.declared.part.TheConstants.{GREATEST_PART};
+ghost use Rattle.rs_methods.specs.Position.{beyond, ceiling, expression_text, interpolative, nearest, IsNearest};
+ghost use Rattle.rs_methods.specs.OnRoute.{located_on, expressed_on};
+
+use crate::position::{Method, Name};
+use crate::referents::Referents;
+use crate::route::Route;
+use rs_measure::{GREATEST_PART, Measure, Part, write_measure, write_part};
+use std::alloc::{AllocError, Global};
+
+/// The text of the position of a measure `k` of the route, by a method: the measure itself, `@name+m`
+/// with the nearest referent below, or a percentage rounded up. Only memory may be wanting.
+pub fn express(
+    alloc: Global,
+    route: &Route,
+    referents: &Referents,
+    method: Method,
+    k: Measure,
+) -> Result<String, AllocError>
+    requires after_start { route.now.start ≤ k }
+    requires before_finish { k ≤ route.now.finish }
+    ensures text { IfOk result (λ text. string_bytes text ≡ expression_text (expressed_on route.now referents.now method k)) }
+
+    // The position that is printed lies at k.
+    ensures read_back { located_on route.now referents.now (expressed_on route.now referents.now method k) ≡ Ok k }
+{
+    match method {
+        Method::Absolute => write_measure(k).to_string(alloc),
+        Method::Relative => express_relative(alloc, route, referents, k),
+        Method::Interpolative => interpolative_text(alloc, part_at(route, k)),
+    }
+}
+
+// The text of a measure of the route by its nearest referent below.
+fn express_relative(
+    alloc: Global,
+    route: &Route,
+    referents: &Referents,
+    k: Measure,
+) -> Result<String, AllocError>
+    requires after_start { route.now.start ≤ k }
+    requires before_finish { k ≤ route.now.finish }
+    ensures text { IfOk result (λ text. string_bytes text ≡ expression_text (expressed_on route.now referents.now Method.Relative k)) }
+    ensures read_back { located_on route.now referents.now (expressed_on route.now referents.now Method.Relative k) ≡ Ok k }
+{
+    let near = referents.nearest(route, k);
+    let beyond = Measure::from_thousandths(k.thousandths() - near.measure.thousandths());
+    relative_text(alloc, near.name, beyond)
+}
+
+// The text of a measure beyond a referent.
+fn relative_text(alloc: Global, name: Name, measure: Measure) -> Result<String, AllocError>
+    ensures { IfOk result (λ text. string_bytes text ≡ expression_text (beyond name.bytes measure)) }
+{
+    let mut text = String::from_str(alloc, "@")?;
+    text.push_str(name.as_str())?;
+    text.push('+')?;
+    text.push_str(write_measure(measure).as_str())?;
+    Ok(text)
+}
+
+// The text of a part.
+fn interpolative_text(alloc: Global, part: Part) -> Result<String, AllocError>
+    ensures { IfOk result (λ text. string_bytes text ≡ expression_text (interpolative part)) }
+{
+    let percentage = write_part(part);
+    format!(in alloc; "{percentage}%")
+}
+
+// The least part of the route at which `k` lies.
+fn part_at(route: &Route, k: Measure) -> Part
+    requires after_start { route.now.start ≤ k }
+    requires before_finish { k ≤ route.now.finish }
+    ensures least { result ≡ ceiling ((k - route.now.start) * 1000000000) (route.now.finish - route.now.start) }
+    ensures read_back { route.now.start + result * (route.now.finish - route.now.start) / 1000000000 ≡ k }
+{
+    let start = route.start.thousandths();
+    let length = u64::from(route.finish.thousandths() - start);
+    let along = u64::from(k.thousandths() - start) * u64::from(GREATEST_PART);
+    Part::from_billionths(((along + (length - 1)) / length) as u32)
+}
+
+/// The referent that a measure is expressed by has the greatest measure not above it, and at that
+/// measure the least name.
+pub fn nearest_referent_is_taken()
+    ensures { (start : ℕ) (referents : List (List ℕ × ℕ)) (k : ℕ) → start ≤ k → IsNearest start referents k (nearest start referents k) }
+{}
+
+/// There is one such referent.
+pub fn nearest_referent_is_one()
+    ensures { (start : ℕ) (referents : List (List ℕ × ℕ)) (k : ℕ) (a b : List ℕ × ℕ) → IsNearest start referents k a → IsNearest start referents k b → a ≡ b }
+{}

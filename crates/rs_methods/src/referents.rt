@@ -1,0 +1,207 @@
+//! The referents of some routes: named measures, by route number and name.
+//!
+//! Promises that each is there once, in order, and that START, which every route has, is not among
+//! them.
+
+ghost use Rattle.std.specs.Prelude.{ℕ, List, false, ◌≡◌, ◌<◌, ◌≤◌, ◌&&◌, ◌∷◌, [], not, nat_eq, nat_le, map, length, filter, Some, OnOk, OnErr, IfOk, IfErr, MatchResult, ◌≢◌};
+ghost use Rattle.std.specs.Ordering.{is_lt, nat_cmp};
+ghost use Rattle.std.specs.Cmp.Lexicographic.{slice_cmp};
+ghost use Rattle.std.specs.Str.{bytes_eq};
+ghost use Rattle.std.specs.FinMap.{put};
+ghost use Rattle.rs_methods.specs.Position.{start_name, measure_of, referent_measure, nearness_cmp, nearest_from, nearest};
+ghost use Rattle.rs_methods.specs.Referents.{key_cmp, is_key, entry_of, mark_of, referents_of, AreReferents};
+ghost use Rattle.rs_methods.specs.Inner.{IsFound, IsAbsent};
+
+use crate::position::{Name, START};
+use crate::route::Route;
+use rs_measure::Measure;
+use std::alloc::{AllocError, Global};
+use std::cmp::Ordering;
+use std::marker::Model;
+
+/// A referent (ISO 19148's): a name that stands at a measure of a route.
+#[derive(Clone, Copy, Debug)]
+pub struct Referent {
+    pub route: u32,
+    pub name: Name,
+    pub measure: Measure,
+}
+
+/// Referents of one or more routes, by route number and name.
+#[derive(Drop)]
+pub struct Referents {
+    items: Vec<Referent>,
+}
+
+impl Model for Referents {
+    ghost use Rattle.std.specs.Prelude.{ℕ, List, map};
+    ghost use Rattle.rs_methods.specs.Referents.{AreReferents, entry_of};
+
+    ghost Value = { List ((ℕ × List ℕ) × ℕ) };
+
+    ghost view = { λ r. map entry_of r.items.items };
+
+    ghost invariant = { λ r. AreReferents (map entry_of r.items.items) };
+}
+
+impl Referents {
+    /// No referents. Takes no memory.
+    pub fn new(alloc: Global) -> Self
+        ensures { result ≡ [] }
+    {
+        Referents {
+            items: Vec::new(alloc),
+        }
+    }
+
+    /// Puts a referent at a measure, whether it was there before or not. Where memory is wanting,
+    /// nothing changes. START is no referent of the list.
+    pub fn insert(&mut self, route: u32, name: Name, measure: Measure) -> Result<(), AllocError>
+        requires { name.bytes ≢ start_name }
+        ensures ok { OnOk result (self.new ≡ put key_cmp (route, name.bytes) measure self.old) }
+        ensures err { OnErr result (self.new ≡ self.old) }
+        ensures were_in_order { AreReferents self.old }
+    {
+        match place_of(&self.items, route, name.as_str()) {
+            Ok(place) => self.items[place].measure = measure,
+            Err(place) => self.items.insert(
+                place,
+                Referent {
+                    route,
+                    name,
+                    measure,
+                },
+            )?,
+        }
+        Ok(())
+    }
+
+    /// Takes a referent out, if it is there.
+    pub fn remove(&mut self, route: u32, name: &str)
+        ensures { self.new ≡ filter (λ e. not (is_key route name.now e.0)) self.old }
+    {
+        self.items
+            .retain(|referent| !is_named(referent, route, name));
+    }
+
+    /// Where a referent of the route stands, if it is there.
+    pub fn get(&self, route: u32, name: &str) -> Option<Measure>
+        ensures { result ≡ measure_of name.now (referents_of route self.now) }
+    {
+        measure_in(&self.items, route, name)
+    }
+
+    /// The nearest referent of the route below `k`, START among them.
+    pub(crate) fn nearest(&self, route: &Route, k: Measure) -> Referent
+        requires { route.now.start ≤ k }
+        ensures nearest { mark_of result ≡ nearest route.now.start (referents_of route.now.number self.now) k }
+        ensures not_above { result.measure ≤ k }
+        ensures found { referent_measure route.now.start (referents_of route.now.number self.now) result.name.bytes ≡ Some result.measure }
+    {
+        let first = Referent {
+            route: route.number,
+            name: start_referent(),
+            measure: route.start,
+        };
+        nearest_in(&self.items, first, k)
+    }
+}
+
+/// What is put stands among the referents of its route, and those of the other routes stay.
+pub fn put_stands_on_its_route()
+    ensures own { (entries : List ((ℕ × List ℕ) × ℕ)) (route : ℕ) (name : List ℕ) (measure : ℕ) → AreReferents entries → referents_of route (put key_cmp (route, name) measure entries) ≡ put (slice_cmp nat_cmp) name measure (referents_of route entries) }
+    ensures others { (entries : List ((ℕ × List ℕ) × ℕ)) (route other : ℕ) (name : List ℕ) (measure : ℕ) → nat_eq route other ≡ false → referents_of other (put key_cmp (route, name) measure entries) ≡ referents_of other entries }
+{}
+
+/// What is taken out goes from the referents of its route, and those of the other routes stay.
+pub fn removal_goes_from_its_route()
+    ensures own { (entries : List ((ℕ × List ℕ) × ℕ)) (route : ℕ) (name : List ℕ) → referents_of route (filter (λ e. not (is_key route name e.0)) entries) ≡ filter (λ referent. not (bytes_eq referent.0 name)) (referents_of route entries) }
+    ensures others { (entries : List ((ℕ × List ℕ) × ℕ)) (route other : ℕ) (name : List ℕ) → nat_eq route other ≡ false → referents_of other (filter (λ e. not (is_key route name e.0)) entries) ≡ referents_of other entries }
+{}
+
+// The name of the referent at a route's start.
+fn start_referent() -> Name
+    ensures { result.bytes ≡ start_name }
+{
+    let mut name = Name::new();
+    name.push_str(START);
+    name
+}
+
+// Whether a referent is the one of that route and name.
+fn is_named(referent: &Referent, route: u32, name: &str) -> bool
+    ensures { result ≡ is_key route name.now (entry_of referent.now).0 }
+{
+    referent.route == route && referent.name.as_str() == name
+}
+
+// How a route number and a name stand to those of a referent.
+#[tactic(auto, unfolding(crate::specs::Referents::key_cmp))]
+fn compare(route: u32, name: &str, referent: &Referent) -> Ordering
+    ensures { result ≡ key_cmp (route, name.now) (entry_of referent.now).0 }
+{
+    route
+        .cmp(&referent.route)
+        .then(name.cmp(referent.name.as_str()))
+}
+
+// The place of a referent, or the place where it belongs.
+fn place_of(items: &[Referent], route: u32, name: &str) -> Result<usize, usize>
+    ensures within { MatchResult result (λ place. place < length items.now) (λ place. place ≤ length items.now) }
+    ensures found { IfOk result (IsFound (route, name.now) items.now) }
+    ensures absent { IfErr result (IsAbsent (route, name.now) items.now) }
+{
+    for (place, referent) in items.iter().enumerate() {
+        match compare(route, name, referent) {
+            Ordering::Less => return Err(place),
+            Ordering::Equal => return Ok(place),
+            Ordering::Greater => {}
+        }
+    }
+    Err(items.len())
+}
+
+// Where the first referent of that route and name stands.
+fn measure_in(items: &[Referent], route: u32, name: &str) -> Option<Measure>
+    ensures { result ≡ measure_of name.now (referents_of route (map entry_of items.now)) }
+{
+    for referent in items {
+        if is_named(referent, route, name) {
+            return Some(referent.measure);
+        }
+    }
+    None
+}
+
+// The nearest below `k` of a first referent and those of its route.
+fn nearest_in(items: &[Referent], first: Referent, k: Measure) -> Referent
+    ensures { mark_of result ≡ nearest_from k (mark_of first) (referents_of first.route (map entry_of items.now)) }
+{
+    let mut best = first;
+    for referent in items {
+        if is_nearer(referent, &best, k) {
+            best = *referent;
+        }
+    }
+    best
+}
+
+// Whether a referent of the same route is nearer below `k` than the best so far.
+fn is_nearer(referent: &Referent, best: &Referent, k: Measure) -> bool
+    ensures { result ≡ (nat_eq referent.now.route best.now.route && nat_le referent.now.measure k && is_lt (nearness_cmp (mark_of referent.now) (mark_of best.now))) }
+{
+    referent.route == best.route
+        && referent.measure.thousandths() <= k.thousandths()
+        && compare_nearness(referent, best).is_lt()
+}
+
+// Which of two referents is nearer below a measure that both are not above.
+#[tactic(auto, unfolding(crate::specs::Position::nearness_cmp))]
+fn compare_nearness(a: &Referent, b: &Referent) -> Ordering
+    ensures { result ≡ nearness_cmp (mark_of a.now) (mark_of b.now) }
+{
+    b.measure
+        .thousandths()
+        .cmp(&a.measure.thousandths())
+        .then(a.name.as_str().cmp(b.name.as_str()))
+}

@@ -1,0 +1,38 @@
+-- What every command that a line says keeps to.
+use Rattle.std.specs.Prelude.{ℕ, ◌^◌, ◌≤◌, nat_abs, List, [], ◌∷◌, length}
+use Rattle.rs_value.specs.declared.column.TheConstants.{TEXT_BYTES}
+use Rattle.rs_value.specs.declared.column.ColumnType.{ColumnType}
+use Rattle.rs_value.specs.declared.column.ColumnType.TheVariants as types
+use Rattle.rs_value.specs.Row.{Datum, null, number, text, Row}
+use Rattle.rs_grammar.specs.declared.kind.TheConstants.{NAME_BYTES}
+use Rattle.rs_parser.specs.Tree.{named, CommandTree, define_route, define_table, insert, select}
+
+-- 1 to NAME_BYTES bytes
+abbrev pub IsName : List ℕ → Type 0
+IsName name = (1 ≤ length name) × (length name ≤ NAME_BYTES)
+
+-- a text's column has room for a byte at least
+abbrev pub IsColumnType : ColumnType → Type 0
+IsColumnType types.Int = Unit {0}
+IsColumnType (types.Text most) = (1 ≤ most) × (most ≤ TEXT_BYTES)
+
+abbrev pub AreColumns : List (List ℕ × ColumnType) → Type 0
+AreColumns [] = Unit {0}
+AreColumns (column ∷ columns) = IsName column.0 × IsColumnType column.1 × AreColumns columns
+
+-- a number from -10^12 to 10^12
+abbrev pub IsInRange : Datum → Type 0
+IsInRange null = Unit {0}
+IsInRange (number n) = nat_abs n ≤ 10 ^ 12
+IsInRange (text bytes) = Unit {0}
+
+abbrev pub AreInRange : Row → Type 0
+AreInRange [] = Unit {0}
+AreInRange (datum ∷ row) = IsInRange datum × AreInRange row
+
+-- names are names, each list has an item, and numbers are in their ranges
+abbrev pub IsSound : CommandTree → Type 0
+IsSound (define_route name start finish) = IsName name
+IsSound (define_table kind name columns) = IsName name × (1 ≤ length columns) × AreColumns columns
+IsSound (insert table route place row) = IsName table × IsName route × (1 ≤ length row) × AreInRange row
+IsSound (select (named name)) = IsName name
