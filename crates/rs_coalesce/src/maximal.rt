@@ -1,6 +1,6 @@
 //! The maximal runs of a list of spans, in printing order.
 
-ghost use Rattle.std.specs.Prelude.{◌≡◌, map};
+ghost use Rattle.std.specs.Prelude.{◌≡◌, map, IfOk};
 ghost use Rattle.rs_facts.specs.Runs.{AreRunsOf};
 ghost use Rattle.rs_facts.specs.Spans.{seen, places_of, ArePlaced};
 ghost use Rattle.rs_coalesce.specs.Again.{RunsOfRunsAreTheSame};
@@ -34,33 +34,35 @@ pub fn runs_of_runs_are_the_same()
 mod tests {
     use super::*;
     use rs_value::{Tuple, Value};
+    use std::alloc::{AllocError, Global};
     use std::test::Fail;
 
-    fn span(lo: u32, hi: u32, number: i64) -> Span
-        ensures lo { result.lo ≡ lo }
-        ensures hi { result.hi ≡ hi }
+    fn span(alloc: Global, lo: u32, hi: u32, number: i64) -> Result<Span, AllocError>
+        ensures lo { IfOk result (λ span. span.lo ≡ lo) }
+        ensures hi { IfOk result (λ span. span.hi ≡ hi) }
     {
         let mut tuple = Tuple::new();
         tuple.push(Value::Int(number));
-        Span { lo, hi, tuple }
+        let tuple = Box::new(alloc, tuple)?;
+        Ok(Span { lo, hi, tuple })
     }
 
     #[test]
     fn lines_that_touch_or_overlap_are_one(rt: HostRuntime) -> Result<(), Fail> {
         let spans = vec![in rt.alloc();
-            span(5, 9, 1),
-            span(0, 5, 1),
-            span(20, 30, 1),
-            span(7, 12, 1),
-            span(12, 20, 2),
-            span(0, 1, 2),
+            span(rt.alloc(), 5, 9, 1)?,
+            span(rt.alloc(), 0, 5, 1)?,
+            span(rt.alloc(), 20, 30, 1)?,
+            span(rt.alloc(), 7, 12, 1)?,
+            span(rt.alloc(), 12, 20, 2)?,
+            span(rt.alloc(), 0, 1, 2)?,
         ]?;
         let found = runs(Kind::Line, spans);
         let wanted = [
-            span(0, 12, 1),
-            span(0, 1, 2),
-            span(12, 20, 2),
-            span(20, 30, 1),
+            span(rt.alloc(), 0, 12, 1)?,
+            span(rt.alloc(), 0, 1, 2)?,
+            span(rt.alloc(), 12, 20, 2)?,
+            span(rt.alloc(), 20, 30, 1)?,
         ];
         assert_eq!(rt; found.len(), wanted.len());
         for (run, want) in found.iter().zip(wanted.iter()) {
@@ -73,13 +75,17 @@ mod tests {
     #[test]
     fn points_stay_apart(rt: HostRuntime) -> Result<(), Fail> {
         let spans = vec![in rt.alloc();
-            span(6, 7, 1),
-            span(5, 6, 2),
-            span(5, 6, 1),
-            span(6, 7, 1),
+            span(rt.alloc(), 6, 7, 1)?,
+            span(rt.alloc(), 5, 6, 2)?,
+            span(rt.alloc(), 5, 6, 1)?,
+            span(rt.alloc(), 6, 7, 1)?,
         ]?;
         let found = runs(Kind::Point, spans);
-        let wanted = [span(5, 6, 1), span(5, 6, 2), span(6, 7, 1)];
+        let wanted = [
+            span(rt.alloc(), 5, 6, 1)?,
+            span(rt.alloc(), 5, 6, 2)?,
+            span(rt.alloc(), 6, 7, 1)?,
+        ];
         assert_eq!(rt; found.len(), wanted.len());
         for (run, want) in found.iter().zip(wanted.iter()) {
             assert_eq!(rt; (run.lo, run.hi), (want.lo, want.hi));

@@ -186,7 +186,7 @@ impl Engine {
         }
     }
 
-    /// The row along its span, where both fit the route and the table.
+    /// The row along its span, where both fit the route and the table, and there is memory for the row.
     fn checked_span(
         &self,
         table: &Name,
@@ -195,7 +195,7 @@ impl Engine {
         values: &[Literal],
     ) -> Result<Span, Refusal>
         ensures done { IfOk result (λ span. MayBePut self.now table.now.bytes route.now.bytes (place_tree place) (literal_row values.now) (seen span)) }
-        ensures refused { IfErr result (λ refusal. row_inserted (state_of self.now) table.now.bytes route.now.bytes (place_tree place) (literal_row values.now) ≡ Err refusal) }
+        ensures refused { IfErr result (λ refusal. (refusal ≡ Refusal.OutOfMemory) ⊎ (row_inserted (state_of self.now) table.now.bytes route.now.bytes (place_tree place) (literal_row values.now) ≡ Err refusal)) }
     {
         let Some(ends) = self.routes.get(route) else {
             return Err(Refusal::NoSuchRoute);
@@ -211,7 +211,10 @@ impl Engine {
             Kind::Point => Err(Refusal::PointOrLineWanted),
             Kind::Line => {
                 let tuple = table.fitted(values)?;
-                Ok(Span { lo, hi, tuple })
+                match Box::new(self.alloc, tuple) {
+                    Ok(tuple) => Ok(Span { lo, hi, tuple }),
+                    Err(_) => Err(Refusal::OutOfMemory),
+                }
             }
         }
     }

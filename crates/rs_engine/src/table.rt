@@ -90,8 +90,8 @@ impl Table {
     /// Puts a row along a span of a route, and says how many facts are new. For want of memory it changes nothing.
     pub fn insert(&mut self, route: Name, span: Span) -> Result<u32, AllocError>
         requires placed { IsPlaced self.old.kind (seen span) }
-        ensures facts { OnOk result (table_of self.new ≡ with_facts_along (table_of self.old) route.bytes span.lo span.hi (row_of span.tuple)) }
-        ensures new_facts { IfOk result (λ n. n ≡ new_facts (facts_kept self.old) route.bytes span.lo span.hi (row_of span.tuple)) }
+        ensures facts { OnOk result (table_of self.new ≡ with_facts_along (table_of self.old) route.bytes span.lo span.hi (row_of span.tuple.value)) }
+        ensures new_facts { IfOk result (λ n. n ≡ new_facts (facts_kept self.old) route.bytes span.lo span.hi (row_of span.tuple.value)) }
         ensures err { OnErr result (self.new ≡ self.old) }
     {
         let kind = self.kind;

@@ -22,7 +22,7 @@ pub struct Span {
     /// The first thousandth behind the span; of a point, its place and one.
     pub hi: u32,
     /// The row that holds.
-    pub tuple: Tuple,
+    pub tuple: Box<Tuple>,
 }
 
 /// A maximal run on a route.

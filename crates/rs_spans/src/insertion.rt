@@ -24,9 +24,9 @@ pub fn insert(kind: Kind, spans: &mut Vec<Span>, mut span: Span) -> Result<u32, 
     requires placed { IsPlaced kind (seen span) }
     ensures kept { AreKept kind (map seen spans.new.items) }
     ensures holds { OnOk result (places_of (map seen spans.new.items)
-        ≡ with_row span.lo span.hi (row_of span.tuple) (places_of (map seen spans.old.items))) }
+        ≡ with_row span.lo span.hi (row_of span.tuple.value) (places_of (map seen spans.old.items))) }
     ensures new_facts { IfOk result (λ n. n
-        ≡ missing span.lo span.hi (row_of span.tuple) (places_of (map seen spans.old.items))) }
+        ≡ missing span.lo span.hi (row_of span.tuple.value) (places_of (map seen spans.old.items))) }
     ensures within { (start finish : ℕ) → AllLieWithin start finish (map seen spans.old.items)
         → start ≤ span.lo → span.hi ≤ finish → AllLieWithin start finish (map seen spans.new.items) }
     ensures err { OnErr result (spans.new.items ≡ spans.old.items) }

@@ -1,4 +1,4 @@
-use Rattle.std.proofs.Common.{ap, ◌∙◌}
+use Rattle.std.proofs.Common.{ap, sym, ◌∙◌}
 use Rattle.std.specs.Prelude.{string_bytes}
 use Rattle.rs_facts.specs.Spans.{seen}
 use Rattle.rs_engine.proofs.LineTexts.{point_line, line_line}
@@ -9,6 +9,6 @@ pub returns : goal.returns
 returns c =
     let route = c.in_ok-text.ensures.ok ∙ c.as_str.ensures.value in
     elim c.match-kind.branch [
-      | in-Point w ↦ point_line c.args.kind _ (seen c.args.run.now) _ _ _ w.in-Point.is route (ap string_bytes w.text-is ∙ c.in_ok-push_measure.ensures) c.in_ok-push_values.ensures
-      | in-Line+in_ok-push_measure-in-Line w ↦ line_line c.args.kind _ (seen c.args.run.now) _ _ _ _ w.in-Line.is route c.in_ok-push_measure.ensures (ap string_bytes w.text-is ∙ w.in_ok-push_measure-in-Line.ensures) c.in_ok-push_values.ensures
+      | in-Point w ↦ point_line c.args.kind _ (seen c.args.run.now) _ _ _ w.in-Point.is route (ap string_bytes w.text-is ∙ c.in_ok-push_measure.ensures) (rw (sym c.deref.ensures) c.in_ok-push_values.ensures)
+      | in-Line+in_ok-push_measure-in-Line w ↦ line_line c.args.kind _ (seen c.args.run.now) _ _ _ _ w.in-Line.is route c.in_ok-push_measure.ensures (ap string_bytes w.text-is ∙ w.in_ok-push_measure-in-Line.ensures) (rw (sym c.deref.ensures) c.in_ok-push_values.ensures)
     ]

@@ -18,10 +18,10 @@ loop-span-preserved c =
     let old = c.span-item.result in
     let tuple = c.in_ok-clone.field-0 in
     let items = same_from_all_zip _ _ _ c.in_ok-clone.ensures.cases (λ x y h. h) in
-    let same = same_row tuple old.tuple items in
+    let same = same_row tuple.value old.tuple.value items in
     ap (map seen) c.in_ok-push.ensures.items
     ∙ map_push seen c.loop-span.copies.items (record { lo = old.lo; hi = old.hi; tuple = tuple })
-    ∙ ap (λ front. front ++ stretch old.lo old.hi (row_of tuple) ∷ []) c.loop-span.invariant
+    ∙ ap (λ front. front ++ stretch old.lo old.hi (row_of tuple.value) ∷ []) c.loop-span.invariant
     ∙ ap (λ row. map seen (take c.loop-span.span-index c.args.spans.now) ++ stretch old.lo old.hi row ∷ []) same
     ∙ ap (λ span. map seen (take c.loop-span.span-index c.args.spans.now) ++ seen span ∷ []) c.span-item.is
     ∙ sym (map_more seen c.args.spans.now c.loop-span.span-index old c.loop-span-test.true)

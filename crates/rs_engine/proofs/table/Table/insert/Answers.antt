@@ -23,12 +23,12 @@ returns-in-Some-clause-facts c =
     let puts = ((c.get_mut.follows.holds c.insert.new.spans).3 (some_there _ _ (sym c.in-Some.ensures.value))).0 in
     let put = names_of-put spans_seen c.self.inside.spans.entries _ c.args.route c.insert.new.spans puts in
     let there = seen_at c.self.inside.spans.entries c.args.route c.in-Some.spans.now (sym c.in-Some.ensures.value) in
-    on_ok_weaker c.insert.result (λ means. inserted_facts _ _ _ c.args.route.bytes _ _ c.args.span.lo c.args.span.hi (row_of c.args.span.tuple) c.self.view_is (facts-at _ c.args.route.bytes _ there) put means) c.insert.ensures.holds
+    on_ok_weaker c.insert.result (λ means. inserted_facts _ _ _ c.args.route.bytes _ _ c.args.span.lo c.args.span.hi (row_of c.args.span.tuple.value) c.self.view_is (facts-at _ c.args.route.bytes _ there) put means) c.insert.ensures.holds
 
 pub returns-in-Some-clause-new_facts : goal.returns-in-Some-clause-new_facts
 returns-in-Some-clause-new_facts c =
     let there = seen_at c.self.inside.spans.entries c.args.route c.in-Some.spans.now (sym c.in-Some.ensures.value) in
-    IfOk-weaker c.insert.result _ _ (λ n counted. inserted_count _ _ c.args.route.bytes _ c.args.span.lo c.args.span.hi (row_of c.args.span.tuple) n c.self.view_is (facts-at _ c.args.route.bytes _ there) counted) c.insert.ensures.new_facts
+    IfOk-weaker c.insert.result _ _ (λ n counted. inserted_count _ _ c.args.route.bytes _ c.args.span.lo c.args.span.hi (row_of c.args.span.tuple.value) n c.self.view_is (facts-at _ c.args.route.bytes _ there) counted) c.insert.ensures.new_facts
 
 pub returns-in-Some-clause-err : goal.returns-in-Some-clause-err
 returns-in-Some-clause-err c =
@@ -48,9 +48,9 @@ returns-in_ok-insert-in-None-clause-facts c =
     let put = names_of-put spans_seen _ _ c.args.route c.insert-in-None.new.spans c.in_ok-insert-in-None.ensures.updates.0 in
     let from_old = put ∙ ap (λ (old : SpansByName). names.insert (names_of spans_seen old.entries) c.args.route.bytes (spans_seen c.insert-in-None.new.spans)) c.get_mut.follows.holds-at-none in
     let nothing = facts-none _ c.args.route.bytes (seen_none c.self.inside.spans.entries c.args.route (sym c.in-None.ensures.value)) ∙ ap places_of (ap (map seen) (sym c.new-spans.ensures.items)) in
-    inserted_facts _ _ _ c.args.route.bytes _ _ c.args.span.lo c.args.span.hi (row_of c.args.span.tuple) c.self.view_is nothing from_old c.in_ok-new_facts-in-None.ensures.holds
+    inserted_facts _ _ _ c.args.route.bytes _ _ c.args.span.lo c.args.span.hi (row_of c.args.span.tuple.value) c.self.view_is nothing from_old c.in_ok-new_facts-in-None.ensures.holds
 
 pub returns-in_ok-insert-in-None-clause-new_facts : goal.returns-in_ok-insert-in-None-clause-new_facts
 returns-in_ok-insert-in-None-clause-new_facts c =
     let nothing = facts-none _ c.args.route.bytes (seen_none c.self.inside.spans.entries c.args.route (sym c.in-None.ensures.value)) ∙ ap places_of (ap (map seen) (sym c.new-spans.ensures.items)) in
-    inserted_count _ _ c.args.route.bytes _ c.args.span.lo c.args.span.hi (row_of c.args.span.tuple) _ c.self.view_is nothing c.in_ok-new_facts-in-None.ensures.new_facts
+    inserted_count _ _ c.args.route.bytes _ c.args.span.lo c.args.span.hi (row_of c.args.span.tuple.value) _ c.self.view_is nothing c.in_ok-new_facts-in-None.ensures.new_facts
