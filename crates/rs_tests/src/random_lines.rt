@@ -38,6 +38,12 @@ const VALUES: [&str; 12] = [
     "1000000000001",
 ];
 
+const SURFACES: [&str; 4] = ["'AC'", "'PC'", "''", "NULL"];
+
+const SPEEDS: [&str; 4] = ["80", "-80", "0", "NULL"];
+
+const PAIRS: [&str; 4] = ["1, 'x'", "2, NULL", "NULL, 'y'", "-3, NULL"];
+
 const BROKEN: [&str; 12] = [
     "",
     "SELECT",
@@ -109,12 +115,23 @@ impl RandomLines {
         format!(in self.alloc; "DEFINE LINE TABLE {name} {columns}")
     }
 
+    /// A row; three times of four one that is meant for the table of this place in `TABLES`.
+    fn row_for(&mut self, table: usize) -> &'static str {
+        match (self.below(4), table) {
+            (0, _) => self.pick(&VALUES),
+            (_, 0) => self.pick(&SURFACES),
+            (_, 1) => self.pick(&SPEEDS),
+            _ => self.pick(&PAIRS),
+        }
+    }
+
     fn insert(&mut self) -> Result<String, AllocError> {
-        let table = self.pick(&TABLES);
+        let at = self.below(TABLES.len());
+        let table = TABLES.get(at).copied().unwrap_or("");
         let route = self.pick(&ROUTES);
         let from = self.pick(&MEASURES);
         let to = self.pick(&MEASURES);
-        let values = self.pick(&VALUES);
+        let values = self.row_for(at);
         format!(in self.alloc;
             "INSERT INTO {table} ON {route} FROM {from} TO {to} VALUES ({values})"
         )

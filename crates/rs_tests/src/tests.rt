@@ -8,6 +8,16 @@ use rs_protocol::{Fault, answer};
 use std::alloc::Global;
 use std::test::Fail;
 
+/// What each list of random lines begins behind: routes and tables that most of its lines speak of.
+const BEGINNING: [&[u8]; 6] = [
+    b"0 DEFINE ROUTE A FROM 0 TO 0.05",
+    b"1 DEFINE ROUTE B2 FROM 0.004 TO 0.04",
+    b"2 DEFINE ROUTE Z FROM 0 TO 0.03",
+    b"3 DEFINE LINE TABLE pave (surf TEXT(3))",
+    b"0 DEFINE LINE TABLE speed (kph INT)",
+    b"1 DEFINE LINE TABLE both (n INT, s TEXT(2))",
+];
+
 fn answered(alloc: Global, sent: &[u8]) -> Result<Vec<u8>, Fault> {
     let mut engine = Engine::fresh(alloc);
     answer(alloc, &mut engine, sent)
@@ -43,6 +53,14 @@ fn random_lines_are_answered_as_by_the_slow_machine(rt: HostRuntime) -> Result<(
         let mut lines = RandomLines::new(rt.alloc(), seed);
         let mut engine = Engine::fresh(rt.alloc());
         let mut machine = SlowMachine::new(rt.alloc());
+        for line in BEGINNING {
+            let mut sent = Vec::from_slice(rt.alloc(), line)?;
+            sent.push(b'\n')?;
+            let out = answer(rt.alloc(), &mut engine, sent.as_slice())?;
+            let mut wanted = Vec::new(rt.alloc());
+            machine.answer(line, &mut wanted)?;
+            assert!(rt; out.as_slice() == wanted.as_slice());
+        }
         for number in 0..1000 {
             let line = lines.next_line()?;
             let bytes = line.as_str().as_bytes();
