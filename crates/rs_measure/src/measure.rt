@@ -19,7 +19,7 @@ pub const GREATEST_MEASURE: u32 = 999_999_999;
 /// How many bytes the text of a measure takes at the most.
 pub const MEASURE_BYTES: usize = 10;
 
-/// A measure along a route (ISO 19148's linear measure value), kept in thousandths.
+/// A measure along a route, kept in thousandths.
 #[derive(Clone, Copy, PartialEq, Eq, PartialOrd, Ord, Debug)]
 pub struct Measure {
     thousandths: u32,

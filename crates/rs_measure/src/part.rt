@@ -176,6 +176,8 @@ mod tests {
         assert_eq!(rt; read_part("33.3333334")?.billionths(), 333_333_334);
         assert_eq!(rt; read_part("0.0000001")?.billionths(), 1);
         assert_eq!(rt; read_part("2.50")?.billionths(), 25_000_000);
+        assert_eq!(rt; read_part("000.5")?.billionths(), 5_000_000);
+        assert_eq!(rt; read_part("1.00001")?.billionths(), 10_000_100);
         assert_eq!(rt; read_part("100")?.billionths(), GREATEST_PART);
         assert_eq!(rt; read_part("100.0000000")?.billionths(), GREATEST_PART);
         Ok(())

@@ -35,7 +35,7 @@ pub enum Refusal {
     NameTaken,
     /// 25: no such referent.
     NoSuchReferent,
-    /// 27: a limit of the scope would be passed.
+    /// 27: a limit would be passed.
     Limit,
     /// 30: the position lies outside the route.
     OutsideTheRoute,
@@ -185,6 +185,10 @@ mod tests {
             Refusal::WrongValues.words().as_str(),
             "wrong type or number of values"
         );
+        assert_eq!(rt; Refusal::NameTaken.number(), 24);
+        assert_eq!(rt; Refusal::NameTaken.words().as_str(), "name taken");
+        assert_eq!(rt; Refusal::Disk.number(), 91);
+        assert_eq!(rt; Refusal::Disk.words().as_str(), "disk");
         assert_eq!(rt; Refusal::FileNotClosed.number(), 95);
     }
 }

@@ -15,7 +15,7 @@ use Rattle.std.proofs.lemmas.Bool.Decides.{nat_tests, Decides-eqb}
 use Rattle.rs_methods.specs.declared.referents.Referent.{Referent}
 use Rattle.rs_methods.specs.Position.{start_name, measure_of, referent_measure, nearness_cmp, nearer, nearest_from, nearest, IsCandidate, IsNearest, beyond, on_route, located_beyond, located, expression_text}
 use Rattle.rs_methods.specs.Referents.{key_cmp, entry_of, is_key, AreReferents, referents_of}
-use Rattle.rs_methods.proofs.ReferentList.{key_cmp_total, first, second, never_start, measure_of_step}
+use Rattle.rs_methods.proofs.ReferentList.{key_cmp_total, first, second, never_start, measure_of_step, key_of}
 
 -- a referent of a route: its name and its measure
 abbrev pub Mark : Type 0
@@ -26,9 +26,8 @@ unfolding nearness_cmp
 nearness_cmp_total = then_total (on_total (λ (mark : List ℕ × ℕ). mark.1) (back_total nat_cmp_total)) (on_total (λ (mark : List ℕ × ℕ). mark.0) nat_list_cmp_total)
 
 -- One step of the code's loop.
-pub nearest_step : (k : ℕ) (same : Bool) (best mark : Mark) (marks : List Mark) (taken : Bool) → taken ≡ (same && nat_le mark.1 k && is_lt (nearness_cmp mark best)) → nearest_from k best (cond same (mark ∷ marks) marks) ≡ nearest_from k (cond taken mark best) marks
-nearest_step k true best mark marks taken is = ap (λ b. nearest_from k (cond b mark best) marks) (sym is)
-nearest_step k false best mark marks taken is = ap (λ b. nearest_from k (cond b mark best) marks) (sym is)
+pub nearest_step : (k : ℕ) (best mark : Mark) (marks : List Mark) (taken : Bool) → taken ≡ (nat_le mark.1 k && is_lt (nearness_cmp mark best)) → nearest_from k best (mark ∷ marks) ≡ nearest_from k (cond taken mark best) marks
+nearest_step k best mark marks taken is = ap (λ b. nearest_from k (cond b mark best) marks) (sym is)
 
 -- the one taken of two is one of them
 pub nearer_is_one : (test : Bool) (best mark : Mark) → (cond test mark best ≡ best) ⊎ (cond test mark best ≡ mark)
@@ -164,12 +163,6 @@ nearest_is_one start referents k a b near other =
     λ i. (names i, measures i)
 
 -- In a list of referents the nearest is found by its name.
-key_of : (route : ℕ) (name : List ℕ) (key : ℕ × List ℕ) → is_key route name key ≡ true → ◌≡◌ {A = ℕ × List ℕ} (route, name) key
-key_of route name key same =
-    let routes : key.0 ≡ route = (Decides-eqb key.0 route).0 (first _ _ same) in
-    let names : key.1 ≡ name = (bytes_eq-Decides key.1 name).0 (second _ _ same) in
-    λ i. (sym routes i, sym names i)
-
 below_other : (route : ℕ) (name : List ℕ) (key : ℕ × List ℕ) → is_lt (key_cmp (route, name) key) ≡ true → is_key route name key ≡ false
 below_other route name key below =
     elim (is_key route name key) as (λ b. is_key route name key ≡ b → b ≡ false) [
@@ -274,3 +267,9 @@ pub place_of_near : (start finish : ℕ) (referents : List Mark) (k : ℕ) (near
     → located start finish referents (beyond (nearest start referents k).0 (k - (nearest start referents k).1)) ≡ Ok k
 place_of_near start finish referents k near is low high not_above found =
     subst (λ (m : Mark). located start finish referents (beyond m.0 (k - m.1)) ≡ Ok k) is (located_relative start finish referents k near low high not_above found)
+
+-- What is printed by the nearest is printed by whichever referent is described as the nearest.
+pub text_by_nearest : {A E : Type 0} (start k : ℕ) (referents : List Mark) (r : Result (String A) E) → start ≤ k → IfOk r (λ text. string_bytes text ≡ expression_text (beyond (nearest start referents k).0 (k - (nearest start referents k).1)))
+    → (near : Mark) → IsNearest start referents k near → IfOk r (λ text. string_bytes text ≡ expression_text (beyond near.0 (k - near.1)))
+text_by_nearest start k referents r low printed near is =
+    subst (λ (m : Mark). IfOk r (λ text. string_bytes text ≡ expression_text (beyond m.0 (k - m.1)))) (nearest_is_one start referents k (nearest start referents k) near (nearest_is_nearest start referents k low) is) printed

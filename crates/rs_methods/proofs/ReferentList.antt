@@ -1,5 +1,5 @@
 -- Laws of the list of referents: its order, what is found in it, and what a change makes of it.
-use Rattle.std.proofs.Common.{◌≡◌, ℕ, ◌+◌, ◌<◌, Bool, true, false, cond, not, ◌&&◌, IsTrue, List, [], ◌∷◌, ◌++◌, length, map, filter, get_or, set, insert, take, drop, Option, Some, nat_eq, zero, suc, refl, sym, ap, ◌∙◌, subst, arith, append_assoc, add-one}
+use Rattle.std.proofs.Common.{◌≡◌, ℕ, ◌+◌, ◌<◌, Bool, true, false, cond, not, ◌&&◌, IsTrue, List, [], ◌∷◌, ◌++◌, length, map, filter, get_or, set, insert, take, drop, Option, Some, None, nat_eq, zero, suc, refl, sym, ap, ◌∙◌, subst, arith, append_assoc, add-one}
 use Rattle.std.specs.declared.cmp.Ordering.{Ordering}
 use Rattle.std.specs.declared.cmp.Ordering.TheVariants.{Less, Equal, Greater}
 use Rattle.std.specs.Cmp.{IsTotalOrder}
@@ -9,6 +9,7 @@ use Rattle.std.specs.FinMap.{put}
 use Rattle.std.specs.FinMap.Entries.{by_order, is_sorted-put, is_sorted-where_key}
 use Rattle.std.proofs.lemmas.Cmp.{nat_cmp_total, nat_list_cmp_total, on_total, then_total}
 use Rattle.std.proofs.lemmas.Slice.Eq.{bytes_eq-Decides}
+use Rattle.std.proofs.lemmas.Bool.Decides.{Decides-eqb}
 use lib.Dec.{T}
 use Rattle.std.proofs.lemmas.List.{map-append, get_or_default, drop_more, take_more}
 use Rattle.rs_methods.specs.declared.referents.Referent.{Referent}
@@ -40,6 +41,10 @@ pub from_T : (b : Bool) → T b → IsTrue b
 from_T true p = refl
 from_T false p = absurd p
 
+-- where a name stands on a route by a list of referents
+abbrev pub found_in : ℕ → List ℕ → List Referent → Option ℕ
+found_in route name items = measure_of name (referents_of route (map entry_of items))
+
 -- The keys before a place are below the key: it is put behind them.
 pub record Passed (key : ℕ × List ℕ) (items : List Referent) (place : ℕ) : Type 0 where
   pub puts : (measure : ℕ) → put key_cmp key measure (map entry_of items) ≡ map entry_of (take place items) ++ put key_cmp key measure (map entry_of (drop place items))
@@ -68,12 +73,13 @@ passed_more key items place d within passed above = record {
       ∙ sym (ap (λ l. l ++ rest) (taken_more items place d within))));
 }
 
-pub absent_here : (key : ℕ × List ℕ) (items : List Referent) (place : ℕ) (d : Referent) → place < length items → Passed key items place → key_cmp key (entry_of (get_or items place d)).0 ≡ Less → IsAbsent key items place
-absent_here key items place d within passed below = record {
+pub absent_here : (key : ℕ × List ℕ) (items : List Referent) (place : ℕ) (d : Referent) → place < length items → Passed key items place → key_cmp key (entry_of (get_or items place d)).0 ≡ Less → found_in key.0 key.1 items ≡ None → IsAbsent key items place
+absent_here key items place d within passed below missing = record {
   puts = λ measure.
       passed.puts measure
       ∙ (ap (λ l. map entry_of (take place items) ++ l) (put_at_place key items place d Less measure within below)
       ∙ ap (λ l. map entry_of (take place items) ++ (key, measure) ∷ map entry_of l) (sym (drop_more items place d within)));
+  missing = missing;
 }
 
 set_split_suc : (items : List Referent) (place : ℕ) (x : Referent) → place < length items → set items place x ≡ take place items ++ x ∷ drop (suc place) items
@@ -84,14 +90,15 @@ set_split_suc (y ∷ ys) (suc place) x within = ap (λ l. y ∷ l) (set_split_su
 pub set_split : (items : List Referent) (place : ℕ) (x : Referent) → place < length items → set items place x ≡ take place items ++ x ∷ drop (place + 1) items
 set_split items place x within = set_split_suc items place x within ∙ ap (λ n. take place items ++ x ∷ drop n items) (sym (add-one place))
 
-pub found_here : (key : ℕ × List ℕ) (items : List Referent) (place : ℕ) (d : Referent) → place < length items → Passed key items place → key_cmp key (entry_of (get_or items place d)).0 ≡ Equal → IsFound key items place
-found_here key items place x within passed same = record {
+pub found_here : (key : ℕ × List ℕ) (items : List Referent) (place : ℕ) (d : Referent) → place < length items → Passed key items place → key_cmp key (entry_of (get_or items place d)).0 ≡ Equal → found_in key.0 key.1 items ≡ Some (get_or items place d).measure → IsFound key items place
+found_here key items place x within passed same stands = record {
   puts = λ d measure.
       let at : Referent = get_or items place d in
       passed.puts measure
       ∙ (ap (λ l. map entry_of (take place items) ++ l) (put_at_place key items place d Equal measure within (ap (λ r. key_cmp key (entry_of r).0) (get_or_default items place d x within) ∙ same))
       ∙ sym (ap (map entry_of) (set_split items place (record at { measure = measure }) within)
       ∙ map-append entry_of (take place items) (record at { measure = measure } ∷ drop (place + 1) items)));
+  stands = λ d. stands ∙ ap (λ (r : Referent). Some r.measure) (get_or_default items place x d within);
 }
 
 -- What the code's writes make of the list.
@@ -154,9 +161,6 @@ pub measure_of_step : (name : List ℕ) (same : Bool) (r : List ℕ × ℕ) (rs 
 measure_of_step name true r rs = refl
 measure_of_step name false r rs = refl
 
-abbrev pub found_in : ℕ → List ℕ → List Referent → Option ℕ
-found_in route name items = measure_of name (referents_of route (map entry_of items))
-
 pub found_in-here : (route : ℕ) (name : List ℕ) (x : Referent) (rest : List Referent) → is_key route name (entry_of x).0 ≡ true → found_in route name (x ∷ rest) ≡ Some x.measure
 found_in-here route name x rest same =
     measure_of_step name (nat_eq x.route route) (x.name.bytes, x.measure) (referents_of route (map entry_of rest))
@@ -166,3 +170,10 @@ pub found_in-past : (route : ℕ) (name : List ℕ) (x : Referent) (rest : List 
 found_in-past route name x rest other =
     measure_of_step name (nat_eq x.route route) (x.name.bytes, x.measure) (referents_of route (map entry_of rest))
     ∙ ap (λ b. cond b (Some x.measure) (found_in route name rest)) other
+
+-- the key of a route and a name is that pair
+pub key_of : (route : ℕ) (name : List ℕ) (key : ℕ × List ℕ) → is_key route name key ≡ true → ◌≡◌ {A = ℕ × List ℕ} (route, name) key
+key_of route name key same =
+    let routes : key.0 ≡ route = (Decides-eqb key.0 route).0 (first _ _ same) in
+    let names : key.1 ≡ name = (bytes_eq-Decides key.1 name).0 (second _ _ same) in
+    λ i. (sym routes i, sym names i)

@@ -77,7 +77,7 @@ referents_of-put_other route other name measure [] apart = ap (λ s. cond s ((na
 referents_of-put_other route other name measure (e ∷ es) apart =
     put_elsewhere route other name measure e es (key_cmp (route, name) e.0) apart (tied_routes (route, name) e.0) (referents_of-put_other route other name measure es apart)
 
-routes_rise : (a b : ℕ × List ℕ) → is_lt (key_cmp a b) ≡ true → a.0 ≤ b.0
+pub routes_rise : (a b : ℕ × List ℕ) → is_lt (key_cmp a b) ≡ true → a.0 ≤ b.0
 unfolding key_cmp
 routes_rise a b below =
     elim (nat_cmp a.0 b.0) as (λ o. o ≡ nat_cmp a.0 b.0 → is_lt (ordering_then o (slice_cmp nat_cmp a.1 b.1)) ≡ true → a.0 ≤ b.0) [

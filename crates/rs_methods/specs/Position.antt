@@ -79,6 +79,8 @@ abbrev pub nearest_from : ℕ → (List ℕ × ℕ) → List (List ℕ × ℕ) �
 nearest_from k best [] = best
 nearest_from k best (referent ∷ referents) = nearest_from k (nearer k best referent) referents
 
+-- The nearest of START and a route's referents, one after another: it is the one that `IsNearest`
+-- describes, where the route's start is not above k.
 abbrev pub nearest : ℕ → List (List ℕ × ℕ) → ℕ → List ℕ × ℕ
 nearest start referents k = nearest_from k (start_name, start) referents
 
@@ -93,7 +95,7 @@ pub record IsNearest (start : ℕ) (referents : List (List ℕ × ℕ)) (k : ℕ
   pub greatest : (name : List ℕ) (measure : ℕ) → IsCandidate start referents name measure → measure ≤ k → measure ≤ near.1
   pub least_name : (name : List ℕ) → IsCandidate start referents name near.1 → is_lt (slice_cmp nat_cmp name near.0) ≡ false
 
--- a quotient rounded up
+-- a quotient rounded up: the least whole number that, times the divisor, is not below the number
 abbrev pub ceiling : ℕ → ℕ → ℕ
 ceiling number divisor = (number + (divisor - 1)) / divisor
 

@@ -1,11 +1,13 @@
 //! How a measure of a route is printed as a position.
 //!
-//! What is printed for a measure is located there, by each method.
+//! What is printed for a measure is located there, by each method; by the relative one it is printed
+//! with the nearest referent that is not above it.
 
-ghost use Rattle.std.specs.Prelude.{◌≡◌, ℕ, ◌+◌, ◌-◌, ◌*◌, ◌/◌, ◌≤◌, List, Ok, IfOk, string_bytes};
+ghost use Rattle.std.specs.Prelude.{◌≡◌, ℕ, ◌+◌, ◌-◌, ◌*◌, ◌/◌, ◌<◌, ◌≤◌, List, Ok, IfOk, string_bytes};
 ghost use Rattle.rs_measure.specs.declared.part.TheConstants.{GREATEST_PART};
 ghost use Rattle.rs_methods.specs.Position.{beyond, ceiling, expression_text, interpolative, nearest, IsNearest};
 ghost use Rattle.rs_methods.specs.OnRoute.{located_on, expressed_on};
+ghost use Rattle.rs_methods.specs.Referents.{referents_of};
 
 use crate::position::{Method, Name};
 use crate::referents::Referents;
@@ -13,8 +15,10 @@ use crate::route::Route;
 use rs_measure::{GREATEST_PART, Measure, Part, write_measure, write_part};
 use std::alloc::{AllocError, Global};
 
-/// The text of the position of a measure `k` of the route, by a method: the measure itself, `@name+m`
-/// with the nearest referent below, or a percentage rounded up. Only memory may be wanting.
+/// The text of the position of a measure `k` by a method: the measure itself, `@name+m` with the
+/// nearest referent not above `k`, or a percentage rounded up. `k` lies from the route's start to its
+/// finish. It answers an `Err` only where memory is wanting; callers answer it with
+/// `Refusal::OutOfMemory` (90).
 pub fn express(
     alloc: Global,
     route: &Route,
@@ -25,6 +29,10 @@ pub fn express(
     requires after_start { route.now.start ≤ k }
     requires before_finish { k ≤ route.now.finish }
     ensures text { IfOk result (λ text. string_bytes text ≡ expression_text (expressed_on route.now referents.now method k)) }
+
+    // By the relative method it is k beyond the referent that is nearest: the greatest measure not
+    // above k, and at that measure the least name.
+    ensures by_the_nearest { (near : List ℕ × ℕ) → method ≡ Method.Relative → IsNearest route.now.start (referents_of route.now.number referents.now) k near → IfOk result (λ text. string_bytes text ≡ expression_text (beyond near.0 (k - near.1))) }
 
     // The position that is printed lies at k.
     ensures read_back { located_on route.now referents.now (expressed_on route.now referents.now method k) ≡ Ok k }
@@ -85,8 +93,8 @@ fn part_at(route: &Route, k: Measure) -> Part
     Part::from_billionths(((along + (length - 1)) / length) as u32)
 }
 
-/// The referent that a measure is expressed by has the greatest measure not above it, and at that
-/// measure the least name.
+/// The referent that a measure is expressed by, `nearest`, is the one that `IsNearest` describes: it
+/// has the greatest measure not above it, and at that measure the least name.
 pub fn nearest_referent_is_taken()
     ensures { (start : ℕ) (referents : List (List ℕ × ℕ)) (k : ℕ) → start ≤ k → IsNearest start referents k (nearest start referents k) }
 {}
@@ -94,4 +102,11 @@ pub fn nearest_referent_is_taken()
 /// There is one such referent.
 pub fn nearest_referent_is_one()
     ensures { (start : ℕ) (referents : List (List ℕ × ℕ)) (k : ℕ) (a b : List ℕ × ℕ) → IsNearest start referents k a → IsNearest start referents k b → a ≡ b }
+{}
+
+/// `ceiling` is the quotient rounded up: times the divisor it is not below the number, and by less
+/// than the divisor above it.
+pub fn ceiling_rounds_up()
+    ensures not_below { (number divisor : ℕ) → 0 < divisor → number ≤ ceiling number divisor * divisor }
+    ensures by_less { (number divisor : ℕ) → 0 < divisor → ceiling number divisor * divisor < number + divisor }
 {}

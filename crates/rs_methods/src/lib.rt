@@ -1,7 +1,7 @@
 //! Positions on a route by three methods: absolute, relative to a referent, and interpolative.
 //!
-//! `locate` says where a position lies, `express` writes a measure as a position, and what it
-//! writes for a measure is located there. The methods' names are those of ISO 19148.
+//! `locate` says where a position lies, `express` writes a measure as a position. The text that
+//! `express` writes says one position, and that position lies at the measure.
 #![tactic(auto)]
 
 pub mod expressing;
@@ -11,9 +11,16 @@ pub mod referents;
 pub mod route;
 #[cfg(test)]
 mod tests;
+pub mod text;
 
-pub use expressing::{express, nearest_referent_is_one, nearest_referent_is_taken};
+pub use expressing::{
+    ceiling_rounds_up, express, nearest_referent_is_one, nearest_referent_is_taken,
+};
 pub use locating::locate;
-pub use position::{Method, NAME_BYTES, Name, Position, START, Sign};
-pub use referents::{Referent, Referents, put_stands_on_its_route, removal_goes_from_its_route};
+pub use position::{Method, Name, Position, START, Sign};
+pub use referents::{
+    Referent, Referents, put_referent_is_found, put_stands_on_its_route,
+    removal_goes_from_its_route, removed_referent_is_missing,
+};
 pub use route::Route;
+pub use text::{printed_position_is_read_back, text_says_one_position};

@@ -2,7 +2,7 @@
 //!
 //! Takes no memory. What lies outside the route is refused, and so is a referent that isn't there.
 
-ghost use Rattle.std.specs.Prelude.{◌≡◌, ◌+◌, ◌-◌, ◌*◌, ◌/◌, ◌≤◌};
+ghost use Rattle.std.specs.Prelude.{◌≡◌, ◌+◌, ◌-◌, ◌*◌, ◌/◌, ◌≤◌, IfOk};
 ghost use Rattle.rs_methods.specs.Position.{expression_of, located_beyond, located_before, on_route, referent_measure};
 ghost use Rattle.rs_methods.specs.Referents.{referents_of};
 ghost use Rattle.rs_methods.specs.OnRoute.{located_on};
@@ -12,11 +12,12 @@ use crate::referents::Referents;
 use crate::route::Route;
 use rs_measure::{GREATEST_PART, Measure, Part, Refusal};
 
-/// The measure at which a position lies on a route, by the referents of that route. A referent
-/// that is missing is refused with `Refusal::NoSuchReferent` (25), a number outside the route with
-/// `Refusal::OutsideTheRoute` (30).
+/// The measure at which a position lies on a route, by the referents of that route: it lies from the
+/// route's start to its finish. A referent that is missing is refused with
+/// `Refusal::NoSuchReferent` (25), a number outside the route with `Refusal::OutsideTheRoute` (30).
 pub fn locate(route: &Route, referents: &Referents, position: &Position) -> Result<Measure, Refusal>
-    ensures { result ≡ located_on route.now referents.now (expression_of position.now) }
+    ensures place { result ≡ located_on route.now referents.now (expression_of position.now) }
+    ensures on_the_route { IfOk result (λ m. (route.now.start ≤ m) × (m ≤ route.now.finish)) }
 {
     match position {
         Position::Absolute(measure) => on_route(route, u64::from(measure.thousandths())),
@@ -33,7 +34,8 @@ pub fn locate(route: &Route, referents: &Referents, position: &Position) -> Resu
 
 // The measure of a number of thousandths, where it lies on the route.
 fn on_route(route: &Route, number: u64) -> Result<Measure, Refusal>
-    ensures { result ≡ on_route route.now.start route.now.finish number }
+    ensures place { result ≡ on_route route.now.start route.now.finish number }
+    ensures on_the_route { IfOk result (λ m. (route.now.start ≤ m) × (m ≤ route.now.finish)) }
 {
     let start = u64::from(route.start.thousandths());
     let finish = u64::from(route.finish.thousandths());
@@ -62,7 +64,8 @@ fn located_beyond(
     name: &str,
     measure: Measure,
 ) -> Result<Measure, Refusal>
-    ensures { result ≡ located_beyond route.now.start route.now.finish (referent_measure route.now.start (referents_of route.now.number referents.now) name.now) measure }
+    ensures place { result ≡ located_beyond route.now.start route.now.finish (referent_measure route.now.start (referents_of route.now.number referents.now) name.now) measure }
+    ensures on_the_route { IfOk result (λ m. (route.now.start ≤ m) × (m ≤ route.now.finish)) }
 {
     match referent_measure(route, referents, name) {
         None => Err(Refusal::NoSuchReferent),
@@ -80,7 +83,8 @@ fn located_before(
     name: &str,
     measure: Measure,
 ) -> Result<Measure, Refusal>
-    ensures { result ≡ located_before route.now.start route.now.finish (referent_measure route.now.start (referents_of route.now.number referents.now) name.now) measure }
+    ensures place { result ≡ located_before route.now.start route.now.finish (referent_measure route.now.start (referents_of route.now.number referents.now) name.now) measure }
+    ensures on_the_route { IfOk result (λ m. (route.now.start ≤ m) × (m ≤ route.now.finish)) }
 {
     match referent_measure(route, referents, name) {
         None => Err(Refusal::NoSuchReferent),

@@ -1,15 +1,16 @@
 //! Positions as a line writes them, and the methods by which they are printed.
+//!
+//! Keeps the names of referents within the room of a name. What a position means on a route is said
+//! by `locate`, and how a measure is printed by a method is said by `express`.
 
 use arrayvec::ArrayString;
+use rs_grammar::kind::NAME_BYTES;
 use rs_measure::{Measure, Part};
-
-/// How many bytes a referent's name has room for.
-pub const NAME_BYTES: usize = 32;
 
 /// The referent that every route has at its start.
 pub const START: &str = "START";
 
-/// The name of a referent.
+/// A name of a route, table, column or referent.
 pub type Name = ArrayString<NAME_BYTES>;
 
 /// Whether a measure is counted beyond a referent or before it.
@@ -21,7 +22,7 @@ pub enum Sign {
     Minus,
 }
 
-/// A position on a route (ISO 19148's position expression).
+/// A position on a route: measures in thousandths, parts in billionths of the route's length.
 #[derive(Clone, Copy, Debug)]
 pub enum Position {
     /// The measure itself.
@@ -32,7 +33,8 @@ pub enum Position {
     Interpolative(Part),
 }
 
-/// The method by which a position is printed (ISO 19148's linear referencing method).
+/// The method of linear referencing by which a position is printed. The names absolute, relative and
+/// interpolative are those of ISO 19148; what each means here is this project's own.
 #[derive(Clone, Copy, PartialEq, Eq, Debug)]
 pub enum Method {
     /// The measure itself.

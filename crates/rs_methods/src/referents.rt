@@ -3,7 +3,7 @@
 //! Promises that each is there once, in order, and that START, which every route has, is not among
 //! them.
 
-ghost use Rattle.std.specs.Prelude.{ℕ, List, false, ◌≡◌, ◌<◌, ◌≤◌, ◌&&◌, ◌∷◌, [], not, nat_eq, nat_le, map, length, filter, Some, OnOk, OnErr, IfOk, IfErr, MatchResult, ◌≢◌};
+ghost use Rattle.std.specs.Prelude.{ℕ, List, false, ◌≡◌, ◌<◌, ◌≤◌, ◌&&◌, ◌∷◌, [], not, nat_eq, nat_le, map, length, filter, Some, None, IsOk, OnOk, OnErr, IfOk, IfErr, MatchResult, ◌≢◌};
 ghost use Rattle.std.specs.Ordering.{is_lt, nat_cmp};
 ghost use Rattle.std.specs.Cmp.Lexicographic.{slice_cmp};
 ghost use Rattle.std.specs.Str.{bytes_eq};
@@ -19,11 +19,14 @@ use std::alloc::{AllocError, Global};
 use std::cmp::Ordering;
 use std::marker::Model;
 
-/// A referent (ISO 19148's): a name that stands at a measure of a route.
+/// A referent: a name that stands at a measure of a route.
 #[derive(Clone, Copy, Debug)]
 pub struct Referent {
+    /// The number of the route.
     pub route: u32,
+    /// The name, once on a route.
     pub name: Name,
+    /// Where it stands on the route, in thousandths.
     pub measure: Measure,
 }
 
@@ -54,12 +57,14 @@ impl Referents {
         }
     }
 
-    /// Puts a referent at a measure, whether it was there before or not. Where memory is wanting,
-    /// nothing changes. START is no referent of the list.
+    /// Puts a referent at a measure of a route, whether it was there before or not. One that was there
+    /// is moved without taking memory. Where memory is wanting for a new one, nothing changes. START
+    /// is never put here: the caller tests for it.
     pub fn insert(&mut self, route: u32, name: Name, measure: Measure) -> Result<(), AllocError>
         requires { name.bytes ≢ start_name }
         ensures ok { OnOk result (self.new ≡ put key_cmp (route, name.bytes) measure self.old) }
         ensures err { OnErr result (self.new ≡ self.old) }
+        ensures moved { measure_of name.bytes (referents_of route self.old) ≢ None → IsOk result }
         ensures were_in_order { AreReferents self.old }
     {
         match place_of(&self.items, route, name.as_str()) {
@@ -76,7 +81,7 @@ impl Referents {
         Ok(())
     }
 
-    /// Takes a referent out, if it is there.
+    /// Takes a referent of the route out, if it is there. Takes no memory.
     pub fn remove(&mut self, route: u32, name: &str)
         ensures { self.new ≡ filter (λ e. not (is_key route name.now e.0)) self.old }
     {
@@ -84,11 +89,30 @@ impl Referents {
             .retain(|referent| !is_named(referent, route, name));
     }
 
-    /// Where a referent of the route stands, if it is there.
+    /// Where a referent of the route stands, if it is there. START is never found here, though every
+    /// route has it: the caller tests for it. Takes no memory.
     pub fn get(&self, route: u32, name: &str) -> Option<Measure>
-        ensures { result ≡ measure_of name.now (referents_of route self.now) }
+        ensures measure { result ≡ measure_of name.now (referents_of route self.now) }
+        ensures in_order { AreReferents self.now }
     {
-        measure_in(&self.items, route, name)
+        match place_of(&self.items, route, name) {
+            Ok(place) => Some(self.items[place].measure),
+            Err(_) => None,
+        }
+    }
+
+    /// How many referents of the route there are, START not among them.
+    pub fn count(&self, route: u32) -> usize
+        ensures { result ≡ length (referents_of route self.now) }
+    {
+        of_route(&self.items, route).len()
+    }
+
+    /// They stand in order, each once, and none is START.
+    pub fn stand_in_order(&self)
+        ensures { AreReferents self.now }
+    {
+        let _items = &self.items;
     }
 
     /// The nearest referent of the route below `k`, START among them.
@@ -103,7 +127,7 @@ impl Referents {
             name: start_referent(),
             measure: route.start,
         };
-        nearest_in(&self.items, first, k)
+        nearest_in(of_route(&self.items, route.number), first, k)
     }
 }
 
@@ -117,6 +141,20 @@ pub fn put_stands_on_its_route()
 pub fn removal_goes_from_its_route()
     ensures own { (entries : List ((ℕ × List ℕ) × ℕ)) (route : ℕ) (name : List ℕ) → referents_of route (filter (λ e. not (is_key route name e.0)) entries) ≡ filter (λ referent. not (bytes_eq referent.0 name)) (referents_of route entries) }
     ensures others { (entries : List ((ℕ × List ℕ) × ℕ)) (route other : ℕ) (name : List ℕ) → nat_eq route other ≡ false → referents_of other (filter (λ e. not (is_key route name e.0)) entries) ≡ referents_of other entries }
+{}
+
+/// A referent that is put among those of a route is found where it was put, and each other where it
+/// was found before.
+pub fn put_referent_is_found()
+    ensures own { (referents : List (List ℕ × ℕ)) (name : List ℕ) (measure : ℕ) → measure_of name (put (slice_cmp nat_cmp) name measure referents) ≡ Some measure }
+    ensures others { (referents : List (List ℕ × ℕ)) (name other : List ℕ) (measure : ℕ) → bytes_eq name other ≡ false → measure_of other (put (slice_cmp nat_cmp) name measure referents) ≡ measure_of other referents }
+{}
+
+/// A referent that is taken out of those of a route is not found, and each other where it was found
+/// before.
+pub fn removed_referent_is_missing()
+    ensures own { (referents : List (List ℕ × ℕ)) (name : List ℕ) → measure_of name (filter (λ referent. not (bytes_eq referent.0 name)) referents) ≡ None }
+    ensures others { (referents : List (List ℕ × ℕ)) (name other : List ℕ) → bytes_eq name other ≡ false → measure_of other (filter (λ referent. not (bytes_eq referent.0 name)) referents) ≡ measure_of other referents }
 {}
 
 // The name of the referent at a route's start.
@@ -135,47 +173,46 @@ fn is_named(referent: &Referent, route: u32, name: &str) -> bool
     referent.route == route && referent.name.as_str() == name
 }
 
-// How a route number and a name stand to those of a referent.
+// How a referent stands to a route number and a name.
 #[tactic(auto, unfolding(crate::specs::Referents::key_cmp))]
-fn compare(route: u32, name: &str, referent: &Referent) -> Ordering
-    ensures { result ≡ key_cmp (route, name.now) (entry_of referent.now).0 }
+fn compare(referent: &Referent, route: u32, name: &str) -> Ordering
+    ensures { result ≡ key_cmp (entry_of referent.now).0 (route, name.now) }
 {
-    route
-        .cmp(&referent.route)
-        .then(name.cmp(referent.name.as_str()))
+    referent
+        .route
+        .cmp(&route)
+        .then(referent.name.as_str().cmp(name))
 }
 
 // The place of a referent, or the place where it belongs.
 fn place_of(items: &[Referent], route: u32, name: &str) -> Result<usize, usize>
+    requires { AreReferents (map entry_of items.now) }
     ensures within { MatchResult result (λ place. place < length items.now) (λ place. place ≤ length items.now) }
     ensures found { IfOk result (IsFound (route, name.now) items.now) }
     ensures absent { IfErr result (IsAbsent (route, name.now) items.now) }
 {
-    for (place, referent) in items.iter().enumerate() {
-        match compare(route, name, referent) {
-            Ordering::Less => return Err(place),
-            Ordering::Equal => return Ok(place),
-            Ordering::Greater => {}
-        }
-    }
-    Err(items.len())
+    items.binary_search_by(
+        |referent: &Referent| -> Ordering
+            ensures is { result ≡ key_cmp (entry_of referent.now).0 (route, name.entry.now) }
+            ensures same { name.exit ≡ name.entry }
+        { compare(referent, route, name) },
+    )
 }
 
-// Where the first referent of that route and name stands.
-fn measure_in(items: &[Referent], route: u32, name: &str) -> Option<Measure>
-    ensures { result ≡ measure_of name.now (referents_of route (map entry_of items.now)) }
+// The referents of a route, which stand side by side.
+fn of_route(items: &[Referent], route: u32) -> &[Referent]
+    requires { AreReferents (map entry_of items.now) }
+    ensures { map mark_of result.now ≡ referents_of route (map entry_of items.now) }
 {
-    for referent in items {
-        if is_named(referent, route, name) {
-            return Some(referent.measure);
-        }
-    }
-    None
+    let from = items.partition_point(|referent| referent.route < route);
+    let rest = &items[from..];
+    let count = rest.partition_point(|referent| referent.route == route);
+    &rest[..count]
 }
 
-// The nearest below `k` of a first referent and those of its route.
+// The nearest below `k` of a first referent and others of its route.
 fn nearest_in(items: &[Referent], first: Referent, k: Measure) -> Referent
-    ensures { mark_of result ≡ nearest_from k (mark_of first) (referents_of first.route (map entry_of items.now)) }
+    ensures { mark_of result ≡ nearest_from k (mark_of first) (map mark_of items.now) }
 {
     let mut best = first;
     for referent in items {
@@ -188,11 +225,9 @@ fn nearest_in(items: &[Referent], first: Referent, k: Measure) -> Referent
 
 // Whether a referent of the same route is nearer below `k` than the best so far.
 fn is_nearer(referent: &Referent, best: &Referent, k: Measure) -> bool
-    ensures { result ≡ (nat_eq referent.now.route best.now.route && nat_le referent.now.measure k && is_lt (nearness_cmp (mark_of referent.now) (mark_of best.now))) }
+    ensures { result ≡ (nat_le referent.now.measure k && is_lt (nearness_cmp (mark_of referent.now) (mark_of best.now))) }
 {
-    referent.route == best.route
-        && referent.measure.thousandths() <= k.thousandths()
-        && compare_nearness(referent, best).is_lt()
+    referent.measure.thousandths() <= k.thousandths() && compare_nearness(referent, best).is_lt()
 }
 
 // Which of two referents is nearer below a measure that both are not above.

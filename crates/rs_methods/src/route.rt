@@ -6,11 +6,14 @@ ghost use Rattle.std.specs.Prelude.{◌<◌};
 
 use rs_measure::Measure;
 
-/// A route (ISO 19148's linear element): its number, and its least and its greatest measure.
+/// A route: its number, and its least and its greatest measure. The least lies below the greatest.
 #[derive(Clone, Copy, Debug)]
 pub struct Route {
+    /// The number under which its referents are listed.
     pub number: u32,
+    /// The least measure of the route, in thousandths. The referent START stands here.
     pub start: Measure,
+    /// The greatest measure of the route, in thousandths.
     pub finish: Measure,
     pub ghost ordered: { start < finish },
 }

@@ -1,4 +1,6 @@
 //! Positions on two routes, by values that were worked by hand.
+//!
+//! One route begins at 0, the other above it; each has referents of its own.
 
 use crate::{Method, Name, Position, Referents, Route, START, Sign, express, locate};
 use rs_measure::{Measure, Refusal, read_measure, read_part};
@@ -145,5 +147,107 @@ fn referents_are_kept_by_route_and_name(rt: HostRuntime) -> Result<(), Fail> {
     assert_eq!(rt; referents.get(0, "K0"), None);
     assert_eq!(rt; referents.get(0, "K1"), Some(read_measure("4")?));
     assert_eq!(rt; referents.get(1, "K0"), Some(read_measure("1.002")?));
+    Ok(())
+}
+
+#[test]
+fn finish_of_the_route_is_located(rt: HostRuntime) -> Result<(), Fail> {
+    let none = Referents::new(rt.alloc());
+    let route = long_route();
+    let finish = Position::Absolute(read_measure("10")?);
+    assert_eq!(rt; locate(&route, &none, &finish)?.thousandths(), 10_000);
+    let all = Position::Interpolative(read_part("100")?);
+    assert_eq!(rt; locate(&route, &none, &all)?.thousandths(), 10_000);
+    let beyond = Position::Absolute(read_measure("10.001")?);
+    assert_eq!(rt;
+        locate(&route, &none, &beyond),
+        Err(Refusal::OutsideTheRoute)
+    );
+    Ok(())
+}
+
+#[test]
+fn start_ties_by_its_name(rt: HostRuntime) -> Result<(), Fail> {
+    let route = long_route();
+    let mut lesser = Referents::new(rt.alloc());
+    put(&mut lesser, 0, "K0", "0")?;
+    let named_first = text_of(rt.alloc(), &route, &lesser, Method::Relative, "0")?;
+    assert_eq!(rt; named_first.as_str(), "@K0+0.000");
+    let mut greater = Referents::new(rt.alloc());
+    put(&mut greater, 0, "Z", "0")?;
+    let start_first = text_of(rt.alloc(), &route, &greater, Method::Relative, "0")?;
+    assert_eq!(rt; start_first.as_str(), "@START+0.000");
+    Ok(())
+}
+
+#[test]
+fn positions_before_the_start_are_refused(rt: HostRuntime) -> Result<(), Fail> {
+    let none = Referents::new(rt.alloc());
+    let route = short_route();
+    for before in ["0.001", "0.5", "1", "1.001"] {
+        let position = Position::Relative(named(START)?, Sign::Minus, read_measure(before)?);
+        assert_eq!(rt;
+            locate(&route, &none, &position),
+            Err(Refusal::OutsideTheRoute),
+            "at {before:?}"
+        );
+    }
+    let start = Position::Relative(named(START)?, Sign::Minus, read_measure("0")?);
+    assert_eq!(rt; locate(&route, &none, &start)?.thousandths(), 1_000);
+    Ok(())
+}
+
+#[test]
+fn referents_of_a_route_that_starts_above_zero_are_expressed(rt: HostRuntime) -> Result<(), Fail> {
+    let referents = referents(rt.alloc())?;
+    let route = short_route();
+    let from_start = text_of(rt.alloc(), &route, &referents, Method::Relative, "1.001")?;
+    assert_eq!(rt; from_start.as_str(), "@START+0.001");
+    let there = text_of(rt.alloc(), &route, &referents, Method::Relative, "1.002")?;
+    assert_eq!(rt; there.as_str(), "@K0+0.000");
+    let beyond = text_of(rt.alloc(), &route, &referents, Method::Relative, "1.003")?;
+    assert_eq!(rt; beyond.as_str(), "@K0+0.001");
+    let measure = text_of(rt.alloc(), &route, &referents, Method::Absolute, "1.003")?;
+    assert_eq!(rt; measure.as_str(), "1.003");
+    Ok(())
+}
+
+#[test]
+fn one_of_many_referents_is_found(rt: HostRuntime) -> Result<(), Fail> {
+    let mut referents = Referents::new(rt.alloc());
+    for name in ["D", "B", "E", "A", "C"] {
+        put(&mut referents, 2, name, "3")?;
+        put(&mut referents, 0, name, "1")?;
+        put(&mut referents, 1, name, "2")?;
+    }
+    for name in ["A", "B", "C", "D", "E"] {
+        assert_eq!(rt;
+            referents.get(0, name),
+            Some(read_measure("1")?),
+            "at {name:?}"
+        );
+        assert_eq!(rt;
+            referents.get(1, name),
+            Some(read_measure("2")?),
+            "at {name:?}"
+        );
+        assert_eq!(rt;
+            referents.get(2, name),
+            Some(read_measure("3")?),
+            "at {name:?}"
+        );
+        assert_eq!(rt; referents.get(3, name), None, "at {name:?}");
+    }
+    assert_eq!(rt; referents.get(1, "BB"), None);
+    assert_eq!(rt; referents.get(1, START), None);
+    Ok(())
+}
+
+#[test]
+fn referents_are_counted_by_route(rt: HostRuntime) -> Result<(), Fail> {
+    let referents = referents(rt.alloc())?;
+    assert_eq!(rt; referents.count(0), 2);
+    assert_eq!(rt; referents.count(1), 1);
+    assert_eq!(rt; referents.count(2), 0);
     Ok(())
 }
