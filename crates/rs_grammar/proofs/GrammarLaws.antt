@@ -128,7 +128,7 @@ all_in-lacks xs ys kind all e =
 
 -- The first tokens of a part, and the tokens that reading it would take where something else follows.
 abbrev first_kinds : Part → List TokenKind
-first_kinds g.command = kinds.Define ∷ kinds.Insert ∷ kinds.Select ∷ []
+first_kinds g.command = kinds.Define ∷ kinds.Drop ∷ kinds.Move ∷ kinds.Insert ∷ kinds.Translate ∷ kinds.Select ∷ []
 first_kinds g.place = kinds.From ∷ []
 first_kinds g.columns = kinds.Name ∷ []
 first_kinds g.column = kinds.Name ∷ []
@@ -136,9 +136,14 @@ first_kinds g.values = kinds.Null ∷ kinds.MinusSign ∷ kinds.Whole ∷ kinds.
 first_kinds g.value = kinds.Null ∷ kinds.MinusSign ∷ kinds.Whole ∷ kinds.Quoted ∷ []
 first_kinds g.measure = kinds.Whole ∷ kinds.Decimal ∷ []
 first_kinds g.query = kinds.Name ∷ []
+first_kinds g.position = kinds.AtSign ∷ kinds.Whole ∷ kinds.Decimal ∷ []
+first_kinds g.method = kinds.Absolute ∷ kinds.Relative ∷ kinds.Interpolative ∷ []
 first_kinds _ = []
 
 abbrev part_bars : Part → List TokenKind
+part_bars g.command = kinds.PlusSign ∷ kinds.MinusSign ∷ kinds.PercentSign ∷ kinds.As ∷ []
+part_bars g.place = kinds.PlusSign ∷ kinds.MinusSign ∷ kinds.PercentSign ∷ []
+part_bars g.position = kinds.PlusSign ∷ kinds.MinusSign ∷ kinds.PercentSign ∷ []
 part_bars g.columns = kinds.Comma ∷ []
 part_bars g.values = kinds.Comma ∷ []
 part_bars _ = []

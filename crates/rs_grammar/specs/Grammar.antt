@@ -36,24 +36,45 @@ abbrev pub need : TokenKind → Form → Form
 need kind form = pick kind form fail
 
 abbrev pub define_route_form : Form
-define_route_form = need kinds.Name (sub place done)
+define_route_form = need kinds.Name (need kinds.From (sub measure (need kinds.To (sub measure done))))
+
+abbrev pub define_referent_form : Form
+define_referent_form = need kinds.Name (need kinds.Name (need kinds.At (sub position done)))
 
 abbrev pub define_table_form : Form
 define_table_form = need kinds.Table (need kinds.Name (need kinds.LeftParen (sub columns (need kinds.RightParen done))))
 
 abbrev pub define_form : Form
-define_form = pick kinds.Route define_route_form (need kinds.Line define_table_form)
+define_form = pick kinds.Route define_route_form (pick kinds.Referent define_referent_form (need kinds.Line define_table_form))
+
+abbrev pub drop_form : Form
+drop_form = need kinds.Referent (need kinds.Name (need kinds.Name done))
+
+abbrev pub move_form : Form
+move_form = need kinds.Referent (need kinds.Name (need kinds.Name (need kinds.To (sub position done))))
 
 abbrev pub place_form : Form
-place_form = need kinds.From (sub measure (need kinds.To (sub measure done)))
+place_form = need kinds.From (sub position (need kinds.To (sub position done)))
 
 abbrev pub insert_form : Form
 insert_form =
     need kinds.Into (need kinds.Name (need kinds.On (need kinds.Name
     (sub place (need kinds.Values (need kinds.LeftParen (sub values (need kinds.RightParen done))))))))
 
+abbrev pub translate_form : Form
+translate_form = need kinds.Name (sub position (need kinds.As (sub method done)))
+
+-- the method of a query's positions, if one is named
+abbrev pub wanted_form : Form
+wanted_form = pick kinds.As (sub method done) done
+
+abbrev pub select_form : Form
+select_form = sub query wanted_form
+
 abbrev pub command_form : Form
-command_form = pick kinds.Define define_form (pick kinds.Insert insert_form (need kinds.Select (sub query done)))
+command_form =
+    pick kinds.Define define_form (pick kinds.Drop drop_form (pick kinds.Move move_form
+    (pick kinds.Insert insert_form (pick kinds.Translate translate_form (need kinds.Select select_form)))))
 
 abbrev pub columns_form : Form
 columns_form = sub column (pick kinds.Comma (sub columns done) done)
@@ -76,6 +97,16 @@ measure_form = pick kinds.Whole done (need kinds.Decimal done)
 abbrev pub query_form : Form
 query_form = need kinds.Name done
 
+-- behind a referent's name: a measure beyond it or before it, or nothing
+abbrev pub offset_form : Form
+offset_form = pick kinds.PlusSign (sub measure done) (pick kinds.MinusSign (sub measure done) done)
+
+abbrev pub position_form : Form
+position_form = pick kinds.AtSign (need kinds.Name offset_form) (sub measure (pick kinds.PercentSign done done))
+
+abbrev pub method_form : Form
+method_form = pick kinds.Absolute done (pick kinds.Relative done (need kinds.Interpolative done))
+
 -- the table
 unfoldable pub rules : Part → Form
 rules command = command_form
@@ -86,8 +117,8 @@ rules values = values_form
 rules value = value_form
 rules measure = measure_form
 rules query = query_form
-rules position = fail
-rules method = fail
+rules position = position_form
+rules method = method_form
 rules names = fail
 rules pieces = fail
 rules piece = fail

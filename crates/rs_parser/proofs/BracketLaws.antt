@@ -6,8 +6,8 @@ use Rattle.std.proofs.lemmas.List.{take_more}
 use Rattle.rs_grammar.specs.declared.kind.TheConstants.{BRACKETS}
 use Rattle.rs_grammar.specs.declared.kind.TokenKind.{TokenKind}
 use Rattle.rs_grammar.specs.declared.kind.TokenKind.TheVariants as kinds
-use Rattle.rs_parser.specs.declared.token.Token.{Token}
-use Rattle.rs_parser.specs.Lexis.{kinds_of}
+use Rattle.rs_lexer.specs.declared.token.Token.{Token}
+use Rattle.rs_lexer.specs.Lexis.{kinds_of}
 use Rattle.rs_grammar.specs.Grammar.{open_after, is_shallow, IsShallow}
 
 -- how many are open behind the tokens

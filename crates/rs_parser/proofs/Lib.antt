@@ -1,9 +1,7 @@
-mod ScanningLaws
-mod CutLaws
 mod Steps
-mod TokenLaws
 mod BracketLaws
 mod VerdictLaws
 mod MeaningLaws
+mod SpellingLaws
 mod OneAnswer
 mod SoundLaws

@@ -7,13 +7,10 @@ use Rattle.std.proofs.lemmas.Str.{encode_ascii, inside_one, length-encode, len_u
 use Rattle.std.proofs.lemmas.List.{take_more}
 use Rattle.rs_value.specs.declared.column.ColumnType.{ColumnType}
 use Rattle.rs_value.specs.Row.{Datum, Row}
-use Rattle.rs_parser.specs.declared.token.Token.{Token}
 use Rattle.rs_parser.specs.declared.syntax.WrittenColumn.{WrittenColumn}
 use Rattle.rs_parser.specs.declared.syntax.WrittenValue.{WrittenValue}
-use Rattle.rs_parser.specs.Lexis.{text_of}
-use Rattle.rs_parser.specs.Written.{Piece, list_pieces, further_pieces, SaysType, SaysColumns, SaysDatum, SaysRow, unquoted, unquoted_rest, written_route, written_insert, Says}
-use Rattle.rs_parser.specs.Tree.{along, CommandTree, define_route, define_table, insert, select}
-use Rattle.rs_measure.specs.Measure.{SaysMeasure}
+use Rattle.rs_lexer.specs.Lexis.{text_of}
+use Rattle.rs_parser.specs.Written.{Piece, list_pieces, further_pieces, SaysType, SaysColumns, SaysDatum, SaysRow, unquoted, unquoted_rest}
 use Rattle.rs_parser.specs.Reading.{AreToldOf}
 
 pub AreToldOf-append : (line : List ℕ) (xs ys : List Piece) → AreToldOf line (xs ++ ys) → AreToldOf line xs × AreToldOf line ys
@@ -124,20 +121,3 @@ unquoted_more text seen rest character behind_quote whole before next stands =
 pub unquoted-first_byte : (quoted : List ℕ) → 0 < length quoted → unquoted quoted ≡ unquoted_rest false (drop 1 quoted)
 unquoted-first_byte [] some = absurd (omega arith)
 unquoted-first_byte (quote ∷ bytes) some = refl
-
--- a route or an event says nothing where a part of it says nothing
-pub no_route : (line : List ℕ) (name start finish : Token)
-    → ((a b : ℕ) → SaysMeasure (text_of line start) a → SaysMeasure (text_of line finish) b → ⊥)
-    → (tree : CommandTree) → Says line (written_route name start finish) tree → ⊥
-no_route line name start finish none (define_route route a b) says = none a b says.1 says.2
-no_route line name start finish none (define_table kind table columns) says = says
-no_route line name start finish none (insert table route place row) says = says
-no_route line name start finish none (select query) says = says
-
-pub no_event : (line : List ℕ) (table route from to : Token) (values : List WrittenValue)
-    → ((a b : ℕ) (row : Row) → SaysMeasure (text_of line from) a → SaysMeasure (text_of line to) b → SaysRow line values row → ⊥)
-    → (tree : CommandTree) → Says line (written_insert table route from to values) tree → ⊥
-no_event line table route from to values none (define_route name a b) says = says
-no_event line table route from to values none (define_table kind name columns) says = says
-no_event line table route from to values none (insert into on (along a b) row) says = none a b row says.2 says.3 says.4
-no_event line table route from to values none (select query) says = says

@@ -1,45 +1,35 @@
 -- The text of a line has one answer at the most.
-use Rattle.std.proofs.Common.{◌≡◌, ℕ, ◌+◌, ◌<◌, ◌≤◌, true, false, List, [], ◌∷◌, ◌++◌, length, take, drop, Result, Ok, Err, refl, sym, ap, ◌∙◌, subst, ⊎_elim, append_assoc, arith, length-drop, take-append-drop}
+use Rattle.std.proofs.Common.{◌≡◌, ℕ, ◌+◌, ◌<◌, ◌≤◌, List, [], ◌∷◌, ◌++◌, length, take, drop, Result, Ok, Err, refl, sym, ap, ◌∙◌, subst, ⊎_elim, append_assoc, arith, take-append-drop}
 use Rattle.std.proofs.lemmas.Bool.{cases_order}
 use Rattle.std.proofs.lemmas.List.{take-take}
 use Rattle.rs_measure.specs.declared.refusal.Refusal.{Refusal}
 use Rattle.rs_measure.specs.declared.refusal.Refusal.TheVariants.{Syntax}
 use Rattle.rs_measure.specs.Measure.{SaysMeasure}
+use Rattle.rs_measure.specs.Part.{SaysPart}
+use Rattle.rs_methods.specs.Position.{PositionExpression, absolute, beyond, before, interpolative}
+use Rattle.rs_value.specs.declared.column.Kind.TheVariants.{Line}
 use Rattle.rs_value.specs.declared.column.ColumnType.{ColumnType}
 use Rattle.rs_value.specs.declared.column.ColumnType.TheVariants as types
 use Rattle.rs_value.specs.Row.{Datum, null, number, text, Row}
 use Rattle.rs_grammar.specs.declared.kind.TokenKind.{TokenKind}
-use Rattle.rs_grammar.specs.declared.kind.TokenKind.TheVariants as kinds
-use Rattle.rs_parser.specs.declared.token.Token.{Token}
+use Rattle.rs_grammar.specs.Grammar.{IsCommand, IsViable, IsShallow}
+use Rattle.rs_lexer.specs.declared.token.Token.{Token}
+use Rattle.rs_lexer.specs.Lexis.{text_of, kinds_of}
+use Rattle.rs_lexer.proofs.CutLaws.{cut_same}
 use Rattle.rs_parser.specs.declared.syntax.WrittenType.{WrittenType}
 use Rattle.rs_parser.specs.declared.syntax.WrittenType.TheVariants as written_types
 use Rattle.rs_parser.specs.declared.syntax.WrittenColumn.{WrittenColumn}
 use Rattle.rs_parser.specs.declared.syntax.WrittenValue.{WrittenValue}
 use Rattle.rs_parser.specs.declared.syntax.WrittenValue.TheVariants as written_values
-use Rattle.rs_parser.specs.Lexis.{text_of, kinds_of, IsLongestToken, IsCut, at_end, at_blank, at_token}
-use Rattle.rs_grammar.specs.Grammar.{IsCommand, IsViable, IsShallow}
-use Rattle.rs_parser.specs.Tree.{along, named, CommandTree, define_route, define_table, insert, select}
-use Rattle.rs_parser.specs.Written.{Written, written_route, written_table, written_insert, written_select, Piece, mark, type_pieces, column_pieces, value_pieces, further_pieces, list_pieces, spelling, SaysType, SaysColumns, SaysDatum, SaysRow, Says}
+use Rattle.rs_parser.specs.declared.syntax.WrittenPosition.{WrittenPosition}
+use Rattle.rs_parser.specs.declared.syntax.WrittenPosition.TheVariants as written_positions
+use Rattle.rs_parser.specs.declared.syntax.WrittenPlace.{WrittenPlace}
+use Rattle.rs_parser.specs.declared.syntax.WrittenPlace.TheVariants as written_places
+use Rattle.rs_parser.specs.Tree.{PlaceTree, along, CommandTree, define_route, define_table, define_referent, move_referent, insert, translate}
+use Rattle.rs_parser.specs.Written.{Written, written_route, written_table, written_referent, written_move, written_drop, written_insert, written_translate, written_select, SaysType, SaysColumns, SaysDatum, SaysRow, SaysPosition, SaysPlace, Says}
 use Rattle.rs_parser.specs.Verdict.{fault_column, FitsNoRule, Parses, is_fault, is_command, is_out_of_range, Reads, has_no_tokens, has_tokens}
 use Rattle.rs_parser.proofs.BracketLaws.{is_shallow-front}
-use Rattle.rs_parser.proofs.CutLaws.{token_at, cut_past_blank, cut_past_token, has_a_byte}
-
--- a token begins before the line's end
-token_inside : (line : List ℕ) (place : ℕ) (kind : TokenKind) (count : ℕ) → IsLongestToken (drop place line) kind count → place < length line
-token_inside line place kind count longest = omega (arith, has_a_byte (drop place line) kind count longest, longest.inside, length-drop place line)
-
-cut_at_end : (line : List ℕ) {place : ℕ} {b : List Token} → length line ≤ place → IsCut line place b → [] ≡ b
-cut_at_end line h (at_end k) = refl
-cut_at_end line h (at_blank lt e rest) = absurd (omega arith)
-cut_at_end line {place} h (at_token kind count longest rest) = let lt = token_inside line place kind count longest in absurd (omega arith)
-
--- a line has one cut
-cut_same : (line : List ℕ) {place : ℕ} {a : List Token} → IsCut line place a → (b : List Token) → IsCut line place b → a ≡ b
-cut_same line (at_end h) b cut = cut_at_end line h cut
-cut_same line (at_blank h e rest) b cut = cut_same line rest b (cut_past_blank line cut h e)
-cut_same line {place} (at_token kind count longest rest) b cut =
-    let p = cut_past_token line kind count longest (token_inside line place kind count longest) cut in
-    ap (λ ts. token_at kind place count ∷ ts) (cut_same line rest p.0 p.2) ∙ sym p.1
+use Rattle.rs_parser.proofs.SpellingLaws.{written_same}
 
 -- a front of what begins a command begins one
 viable_front : (front more : List TokenKind) → IsViable (front ++ more) → IsViable front
@@ -80,110 +70,10 @@ no_fault tokens m a command shallow =
     s)
     (cases_order m (length tokens))
 
--- What is spelled says how it is written.
-abbrev Same : {A : Type 0} → (A → List Piece) → A → A → List Piece → List Piece → Type 0
-Same pieces x y m n = pieces x ++ m ≡ pieces y ++ n → (x ≡ y) × (m ≡ n)
-
-type_same : (x y : WrittenType) (m n : List Piece) → Same type_pieces x y m n
-type_same written_types.Int written_types.Int m n e = (refl, cc)
-type_same written_types.Int (written_types.Text b) m n e = absurd cc
-type_same (written_types.Text a) written_types.Int m n e = absurd cc
-type_same (written_types.Text a) (written_types.Text b) m n e = (cc, cc)
-
-column_same : (x y : WrittenColumn) (m n : List Piece) → Same column_pieces x y m n
-column_same x y m n e =
-    let name : x.name ≡ y.name = cc in
-    let rest : type_pieces x.column_type ++ m ≡ type_pieces y.column_type ++ n = cc in
-    let types = type_same x.column_type y.column_type m n rest in
-    (ap (λ t. record { name = t; column_type = x.column_type }) name ∙ ap (λ t. record { name = y.name; column_type = t }) types.0, types.1)
-
-value_same : (x y : WrittenValue) (m n : List Piece) → Same value_pieces x y m n
-value_same written_values.Null written_values.Null m n e = (refl, cc)
-value_same written_values.Null (written_values.Whole true b) m n e = absurd cc
-value_same written_values.Null (written_values.Whole false b) m n e = absurd cc
-value_same written_values.Null (written_values.Quoted b) m n e = absurd cc
-value_same (written_values.Whole true a) written_values.Null m n e = absurd cc
-value_same (written_values.Whole true a) (written_values.Whole true b) m n e = (cc, cc)
-value_same (written_values.Whole true a) (written_values.Whole false b) m n e = absurd cc
-value_same (written_values.Whole true a) (written_values.Quoted b) m n e = absurd cc
-value_same (written_values.Whole false a) written_values.Null m n e = absurd cc
-value_same (written_values.Whole false a) (written_values.Whole true b) m n e = absurd cc
-value_same (written_values.Whole false a) (written_values.Whole false b) m n e = (cc, cc)
-value_same (written_values.Whole false a) (written_values.Quoted b) m n e = absurd cc
-value_same (written_values.Quoted a) written_values.Null m n e = absurd cc
-value_same (written_values.Quoted a) (written_values.Whole true b) m n e = absurd cc
-value_same (written_values.Quoted a) (written_values.Whole false b) m n e = absurd cc
-value_same (written_values.Quoted a) (written_values.Quoted b) m n e = (cc, cc)
-
-column_is_no_end : (x : WrittenColumn) (m n : List Piece) → mark kinds.RightParen ∷ m ≡ column_pieces x ++ n → ⊥
-column_is_no_end x m n e = cc
-
-value_is_no_end : (x : WrittenValue) (m n : List Piece) → mark kinds.RightParen ∷ m ≡ value_pieces x ++ n → ⊥
-value_is_no_end written_values.Null m n e = cc
-value_is_no_end (written_values.Whole true a) m n e = cc
-value_is_no_end (written_values.Whole false a) m n e = cc
-value_is_no_end (written_values.Quoted a) m n e = cc
-
-abbrev end : List Piece
-end = mark kinds.RightParen ∷ []
-
-module _ {A : Type 0} (pieces : A → List Piece) (same : (x y : A) (m n : List Piece) → Same pieces x y m n)
-    (is_no_end : (x : A) (m n : List Piece) → mark kinds.RightParen ∷ m ≡ pieces x ++ n → ⊥) where
-  further_same : (xs ys : List A) → further_pieces pieces xs ++ end ≡ further_pieces pieces ys ++ end → xs ≡ ys
-  further_same [] [] e = refl
-  further_same [] (y ∷ ys) e = absurd cc
-  further_same (x ∷ xs) [] e = absurd cc
-  further_same (x ∷ xs) (y ∷ ys) e =
-      let rest : (pieces x ++ further_pieces pieces xs) ++ end ≡ (pieces y ++ further_pieces pieces ys) ++ end = cc in
-      let p = same x y (further_pieces pieces xs ++ end) (further_pieces pieces ys ++ end) (sym (append_assoc (pieces x) (further_pieces pieces xs) end) ∙ rest ∙ append_assoc (pieces y) (further_pieces pieces ys) end) in
-      let others = further_same xs ys p.1 in
-      ap (λ z. z ∷ xs) p.0 ∙ ap (λ zs. y ∷ zs) others
-
-  list_same : (xs ys : List A) → list_pieces pieces xs ++ end ≡ list_pieces pieces ys ++ end → xs ≡ ys
-  list_same [] [] e = refl
-  list_same [] (y ∷ ys) e = absurd (is_no_end y [] (further_pieces pieces ys ++ end) (e ∙ append_assoc (pieces y) (further_pieces pieces ys) end))
-  list_same (x ∷ xs) [] e = absurd (is_no_end x [] (further_pieces pieces xs ++ end) (sym e ∙ append_assoc (pieces x) (further_pieces pieces xs) end))
-  list_same (x ∷ xs) (y ∷ ys) e =
-      let p = same x y (further_pieces pieces xs ++ end) (further_pieces pieces ys ++ end) (sym (append_assoc (pieces x) (further_pieces pieces xs) end) ∙ e ∙ append_assoc (pieces y) (further_pieces pieces ys) end) in
-      ap (λ z. z ∷ xs) p.0 ∙ ap (λ zs. y ∷ zs) (further_same xs ys p.1)
-
-table_same : (name other : Token) (xs ys : List WrittenColumn) → spelling (written_table name xs) ≡ spelling (written_table other ys) → written_table name xs ≡ written_table other ys
-table_same name other xs ys e =
-    let names : name ≡ other = cc in
-    let rest : list_pieces column_pieces xs ++ end ≡ list_pieces column_pieces ys ++ end = cc in
-    ap (λ n. written_table n xs) names ∙ ap (written_table other) (list_same column_pieces column_same column_is_no_end xs ys rest)
-
-insert_same : (a b c d a' b' c' d' : Token) (xs ys : List WrittenValue) → spelling (written_insert a b c d xs) ≡ spelling (written_insert a' b' c' d' ys) → written_insert a b c d xs ≡ written_insert a' b' c' d' ys
-insert_same a b c d a' b' c' d' xs ys e =
-    let first : a ≡ a' = cc in
-    let second : b ≡ b' = cc in
-    let third : c ≡ c' = cc in
-    let fourth : d ≡ d' = cc in
-    let rest : list_pieces value_pieces xs ++ end ≡ list_pieces value_pieces ys ++ end = cc in
-    let values = list_same value_pieces value_same value_is_no_end xs ys rest in
-    cc
-
-written_same : (v w : Written) → spelling v ≡ spelling w → v ≡ w
-written_same (written_route a b c) (written_route d e f) same = cc
-written_same (written_route a b c) (written_table d xs) same = absurd cc
-written_same (written_route a b c) (written_insert d e f g xs) same = absurd cc
-written_same (written_route a b c) (written_select d) same = absurd cc
-written_same (written_table d xs) (written_route a b c) same = absurd cc
-written_same (written_table d xs) (written_table e ys) same = table_same d e xs ys same
-written_same (written_table a xs) (written_insert d e f g ys) same = absurd cc
-written_same (written_table a xs) (written_select d) same = absurd cc
-written_same (written_insert d e f g xs) (written_route a b c) same = absurd cc
-written_same (written_insert d e f g xs) (written_table a ys) same = absurd cc
-written_same (written_insert a b c d xs) (written_insert e f g h ys) same = insert_same a b c d e f g h xs ys same
-written_same (written_insert d e f g xs) (written_select a) same = absurd cc
-written_same (written_select d) (written_route a b c) same = absurd cc
-written_same (written_select d) (written_table a xs) same = absurd cc
-written_same (written_select a) (written_insert d e f g xs) same = absurd cc
-written_same (written_select a) (written_select d) same = cc
-
--- What is written so says one thing, since a text says one measure.
-abbrev pub OneMeasure : Type 0
-OneMeasure = (text : List ℕ) (a b : ℕ) → SaysMeasure text a → SaysMeasure text b → a ≡ b
+-- What is written so says one thing, since a text says one measure, and one part.
+pub record Readings : Type 0 where
+  pub measures : (text : List ℕ) (a b : ℕ) → SaysMeasure text a → SaysMeasure text b → a ≡ b
+  pub parts : (text : List ℕ) (a b : ℕ) → SaysPart text a → SaysPart text b → a ≡ b
 
 says_type_same : (line : List ℕ) (w : WrittenType) (a b : ColumnType) → SaysType line w a → SaysType line w b → a ≡ b
 says_type_same line written_types.Int types.Int types.Int p q = refl
@@ -231,51 +121,39 @@ says_row_same line (w ∷ ws) (x ∷ xs) [] p q = absurd q
 says_row_same line (w ∷ ws) (x ∷ xs) (y ∷ ys) p q =
     ap (λ d. d ∷ xs) (says_datum_same line w x y p.0 q.0) ∙ ap (λ zs. y ∷ zs) (says_row_same line ws xs ys p.1 q.1)
 
-says_same : OneMeasure → (line : List ℕ) (w : Written) (a b : CommandTree) → Says line w a → Says line w b → a ≡ b
-says_same one line (written_route n s f) (define_route a b c) (define_route d e g) p q =
-    let names : a ≡ d = p.0 ∙ sym q.0 in
-    let starts = one (text_of line s) b e p.1 q.1 in
-    let finishes = one (text_of line f) c g p.2 q.2 in
-    cc
-says_same one line (written_route n s f) (define_route a b c) (define_table d e g) p q = absurd q
-says_same one line (written_route n s f) (define_route a b c) (insert d e g h) p q = absurd q
-says_same one line (written_route n s f) (define_route a b c) (select d) p q = absurd q
-says_same one line (written_route n s f) (define_table a b c) t p q = absurd p
-says_same one line (written_route n s f) (insert a b c d) t p q = absurd p
-says_same one line (written_route n s f) (select a) t p q = absurd p
-says_same one line (written_table n cs) (define_table a b c) (define_table d e g) p q =
-    let first : a ≡ d = p.0 ∙ sym q.0 in
-    let second : b ≡ e = p.1 ∙ sym q.1 in
-    let third = says_columns_same line cs c g p.2 q.2 in
-    cc
-says_same one line (written_table n cs) (define_table a b c) (define_route d e g) p q = absurd q
-says_same one line (written_table n cs) (define_table a b c) (insert d e g h) p q = absurd q
-says_same one line (written_table n cs) (define_table a b c) (select d) p q = absurd q
-says_same one line (written_table n cs) (define_route a b c) t p q = absurd p
-says_same one line (written_table n cs) (insert a b c d) t p q = absurd p
-says_same one line (written_table n cs) (select a) t p q = absurd p
-says_same one line (written_insert t r x y vs) (insert a b (along c d) row) (insert e f (along g h) other) p q =
-    let first : a ≡ e = p.0 ∙ sym q.0 in
-    let second : b ≡ f = p.1 ∙ sym q.1 in
-    let third = one (text_of line x) c g p.2 q.2 in
-    let fourth = one (text_of line y) d h p.3 q.3 in
-    let fifth = says_row_same line vs row other p.4 q.4 in
-    cc
-says_same one line (written_insert t r x y vs) (insert a b (along c d) row) (define_route e f g) p q = absurd q
-says_same one line (written_insert t r x y vs) (insert a b (along c d) row) (define_table e f g) p q = absurd q
-says_same one line (written_insert t r x y vs) (insert a b (along c d) row) (select e) p q = absurd q
-says_same one line (written_insert t r x y vs) (define_route a b c) u p q = absurd p
-says_same one line (written_insert t r x y vs) (define_table a b c) u p q = absurd p
-says_same one line (written_insert t r x y vs) (select a) u p q = absurd p
-says_same one line (written_select n) (select (named a)) (select (named b)) p q = ap (λ name. select (named name)) (p ∙ sym q)
-says_same one line (written_select n) (select (named a)) (define_route e f g) p q = absurd q
-says_same one line (written_select n) (select (named a)) (define_table e f g) p q = absurd q
-says_same one line (written_select n) (select (named a)) (insert e f g h) p q = absurd q
-says_same one line (written_select n) (define_route a b c) u p q = absurd p
-says_same one line (written_select n) (define_table a b c) u p q = absurd p
-says_same one line (written_select n) (insert a b c d) u p q = absurd p
+says_position_same : Readings → (line : List ℕ) (w : WrittenPosition) (a b : PositionExpression) → SaysPosition line w a → SaysPosition line w b → a ≡ b
+says_position_same one line (written_positions.Measure token) a b p q = p.2 ∙ ap absolute (one.measures (text_of line token) p.0 q.0 p.1 q.1) ∙ sym q.2
+says_position_same one line (written_positions.Percentage token) a b p q = p.2 ∙ ap interpolative (one.parts (text_of line token) p.0 q.0 p.1 q.1) ∙ sym q.2
+says_position_same one line (written_positions.Referent name) a b p q = p ∙ sym q
+says_position_same one line (written_positions.Beyond name token) a b p q = p.2 ∙ ap (beyond (text_of line name)) (one.measures (text_of line token) p.0 q.0 p.1 q.1) ∙ sym q.2
+says_position_same one line (written_positions.Before name token) a b p q = p.2 ∙ ap (before (text_of line name)) (one.measures (text_of line token) p.0 q.0 p.1 q.1) ∙ sym q.2
 
-parses_same : OneMeasure → (line : List ℕ) (tokens : List Token) {a b : Result CommandTree Refusal} → Parses line tokens a → Parses line tokens b → a ≡ b
+says_place_same : Readings → (line : List ℕ) (w : WrittenPlace) (a b : PlaceTree) → SaysPlace line w a → SaysPlace line w b → a ≡ b
+says_place_same one line (written_places.Along from to) (along a b) (along c d) p q =
+    ap (λ x. along x b) (says_position_same one line from a c p.0 q.0) ∙ ap (along c) (says_position_same one line to b d p.1 q.1)
+
+says_same : Readings → (line : List ℕ) (w : Written) (a b : CommandTree) → Says line w a → Says line w b → a ≡ b
+says_same one line (written_route n s f) a b p q =
+    p.4
+    ∙ ap (λ from. define_route (text_of line n) from p.1) (one.measures (text_of line s) p.0 q.0 p.2 q.2)
+    ∙ ap (define_route (text_of line n) q.0) (one.measures (text_of line f) p.1 q.1 p.3 q.3)
+    ∙ sym q.4
+says_same one line (written_table n cs) a b p q = p.2 ∙ ap (define_table Line (text_of line n)) (says_columns_same line cs p.0 q.0 p.1 q.1) ∙ sym q.2
+says_same one line (written_referent r n w) a b p q =
+    p.2 ∙ ap (define_referent (text_of line r) (text_of line n)) (says_position_same one line w p.0 q.0 p.1 q.1) ∙ sym q.2
+says_same one line (written_move r n w) a b p q =
+    p.2 ∙ ap (move_referent (text_of line r) (text_of line n)) (says_position_same one line w p.0 q.0 p.1 q.1) ∙ sym q.2
+says_same one line (written_drop r n) a b p q = p ∙ sym q
+says_same one line (written_insert t r w vs) a b p q =
+    p.4
+    ∙ ap (λ place. insert (text_of line t) (text_of line r) place p.1) (says_place_same one line w p.0 q.0 p.2 q.2)
+    ∙ ap (insert (text_of line t) (text_of line r) q.0) (says_row_same line vs p.1 q.1 p.3 q.3)
+    ∙ sym q.4
+says_same one line (written_translate r w m) a b p q =
+    p.2 ∙ ap (λ position. translate (text_of line r) position m) (says_position_same one line w p.0 q.0 p.1 q.1) ∙ sym q.2
+says_same one line (written_select n m) a b p q = p ∙ sym q
+
+parses_same : Readings → (line : List ℕ) (tokens : List Token) {a b : Result CommandTree Refusal} → Parses line tokens a → Parses line tokens b → a ≡ b
 parses_same one line tokens (is_fault m p) (is_fault n q) = ap (λ place. Err (Syntax (fault_column line (drop place tokens)))) (fault_same (kinds_of tokens) m n p q)
 parses_same one line tokens (is_fault m p) (is_command w tree q says) = absurd (no_fault (kinds_of tokens) m p q.command q.shallow)
 parses_same one line tokens (is_fault m p) (is_out_of_range w q none) = absurd (no_fault (kinds_of tokens) m p q.command q.shallow)
@@ -288,7 +166,7 @@ parses_same one line tokens (is_out_of_range v p none) (is_command w tree q says
 parses_same one line tokens (is_out_of_range v p none) (is_out_of_range w q other) = refl
 
 -- a line has one answer
-pub reads_same : OneMeasure → (line : List ℕ) (from : ℕ) {a b : Result CommandTree Refusal} → Reads line from a → Reads line from b → a ≡ b
+pub reads_same : Readings → (line : List ℕ) (from : ℕ) {a b : Result CommandTree Refusal} → Reads line from a → Reads line from b → a ≡ b
 reads_same one line from (has_no_tokens none) (has_no_tokens other) = refl
 reads_same one line from (has_no_tokens none) (has_tokens tokens answer cut parses) = absurd (none tokens cut)
 reads_same one line from (has_tokens tokens answer cut parses) (has_no_tokens none) = absurd (none tokens cut)

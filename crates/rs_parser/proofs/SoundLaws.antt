@@ -6,18 +6,23 @@ use Rattle.rs_value.specs.declared.column.ColumnType.{ColumnType}
 use Rattle.rs_value.specs.declared.column.ColumnType.TheVariants as types
 use Rattle.rs_value.specs.Row.{Datum, null, number, text, Row}
 use Rattle.rs_grammar.specs.declared.kind.TokenKind.TheVariants as kinds
-use Rattle.rs_parser.specs.declared.token.Token.{Token}
+use Rattle.rs_lexer.specs.declared.token.Token.{Token}
 use Rattle.rs_parser.specs.declared.syntax.WrittenType.{WrittenType}
 use Rattle.rs_parser.specs.declared.syntax.WrittenType.TheVariants as written_types
 use Rattle.rs_parser.specs.declared.syntax.WrittenColumn.{WrittenColumn}
 use Rattle.rs_parser.specs.declared.syntax.WrittenValue.{WrittenValue}
 use Rattle.rs_parser.specs.declared.syntax.WrittenValue.TheVariants as written_values
-use Rattle.rs_parser.specs.Lexis.{text_of, IsTokenOf}
-use Rattle.rs_parser.specs.Tree.{along, named, CommandTree, define_route, define_table, insert, select}
-use Rattle.rs_parser.specs.Written.{Written, written_route, written_table, written_insert, written_select, column_pieces, further_pieces, list_pieces, spelling, signed, SaysType, SaysColumns, SaysDatum, SaysRow, Says}
+use Rattle.rs_lexer.specs.Lexis.{text_of, IsTokenOf}
+use Rattle.rs_methods.specs.Position.{PositionExpression}
+use Rattle.rs_parser.specs.declared.syntax.WrittenPosition.{WrittenPosition}
+use Rattle.rs_parser.specs.declared.syntax.WrittenPosition.TheVariants as written_positions
+use Rattle.rs_parser.specs.declared.syntax.WrittenPlace.{WrittenPlace}
+use Rattle.rs_parser.specs.declared.syntax.WrittenPlace.TheVariants as written_places
+use Rattle.rs_parser.specs.Tree.{PlaceTree, along, CommandTree}
+use Rattle.rs_parser.specs.Written.{Written, written_route, written_table, written_referent, written_move, written_drop, written_insert, written_translate, written_select, mark, column_pieces, position_pieces, place_pieces, further_pieces, list_pieces, spelling, signed, SaysType, SaysColumns, SaysDatum, SaysRow, SaysPosition, SaysPlace, Says}
 use Rattle.rs_parser.specs.Reading.{AreToldOf, IsFull}
-use Rattle.rs_parser.specs.Sound.{IsName, IsColumnType, AreColumns, IsInRange, AreInRange, IsSound}
-use Rattle.rs_parser.proofs.TokenLaws.{first_is_ascii, name_fits}
+use Rattle.rs_parser.specs.Sound.{IsName, IsColumnType, AreColumns, IsInRange, AreInRange, IsPosition, IsPlace, IsSound}
+use Rattle.rs_lexer.proofs.TokenLaws.{first_is_ascii, name_fits}
 use Rattle.rs_parser.proofs.MeaningLaws.{AreToldOf-append}
 
 name_sound : (line : List ℕ) (token : Token) (name : List ℕ) → IsTokenOf line token × (token.kind ≡ kinds.Name) → name ≡ text_of line token → IsName name
@@ -85,28 +90,54 @@ row_length line [] (datum ∷ row) says = absurd says
 row_length line (w ∷ ws) [] says = absurd says
 row_length line (w ∷ ws) (datum ∷ row) says = ap suc (row_length line ws row says.1)
 
+position_sound : (line : List ℕ) (w : WrittenPosition) (p : PositionExpression) → AreToldOf line (position_pieces w) → SaysPosition line w p → IsPosition p
+position_sound line (written_positions.Measure token) p all says = subst IsPosition (sym says.2) tt
+position_sound line (written_positions.Percentage token) p all says = subst IsPosition (sym says.2) tt
+position_sound line (written_positions.Referent name) p all says = subst IsPosition (sym says) (name_sound line name (text_of line name) all.1.0 refl)
+position_sound line (written_positions.Beyond name token) p all says = subst IsPosition (sym says.2) (name_sound line name (text_of line name) all.1.0 refl)
+position_sound line (written_positions.Before name token) p all says = subst IsPosition (sym says.2) (name_sound line name (text_of line name) all.1.0 refl)
+
+place_sound : (line : List ℕ) (w : WrittenPlace) (p : PlaceTree) → AreToldOf line (place_pieces w) → SaysPlace line w p → IsPlace p
+place_sound line (written_places.Along from to) (along first second) all says =
+    let told = AreToldOf-append line (position_pieces from) (mark kinds.To ∷ position_pieces to) all.1 in
+    (position_sound line from first told.0 says.0, position_sound line to second told.1.1 says.1)
+
 -- what is written in full says a sound command
 pub sound : (line : List ℕ) (w : Written) (tree : CommandTree) → IsFull w → AreToldOf line (spelling w) → Says line w tree → IsSound tree
-sound line (written_route n s f) (define_route name a b) full all says = name_sound line n name all.1.1.0 says.0
-sound line (written_route n s f) (define_table a b c) full all says = absurd says
-sound line (written_route n s f) (insert a b c d) full all says = absurd says
-sound line (written_route n s f) (select (named a)) full all says = absurd says
-sound line (written_table n cs) (define_table kind name columns) full all says =
-    let same = columns_length line cs columns says.2 in (
-      name_sound line n name all.1.1.1.0 says.1,
+sound line (written_route n s f) tree full all says = subst IsSound (sym says.4) (name_sound line n (text_of line n) all.1.1.0 refl)
+sound line (written_table n cs) tree full all says =
+    let same = columns_length line cs says.0 says.1 in
+    subst IsSound (sym says.2) (
+      name_sound line n (text_of line n) all.1.1.1.0 refl,
       omega arith,
-      columns_sound line cs columns (each_told line cs (AreToldOf-append line (list_pieces column_pieces cs) _ all.1.1.1.1.1).0) says.2,
+      columns_sound line cs says.0 (each_told line cs (AreToldOf-append line (list_pieces column_pieces cs) _ all.1.1.1.1.1).0) says.1,
     )
-sound line (written_table n cs) (define_route a b c) full all says = absurd says
-sound line (written_table n cs) (insert a b c d) full all says = absurd says
-sound line (written_table n cs) (select (named a)) full all says = absurd says
-sound line (written_insert t r x y vs) (insert table route (along a b) row) full all says =
-    let same = row_length line vs row says.4 in
-    (name_sound line t table all.1.1.0 says.0, name_sound line r route all.1.1.1.1.0 says.1, omega arith, row_sound line vs row says.4)
-sound line (written_insert t r x y vs) (define_route a b c) full all says = absurd says
-sound line (written_insert t r x y vs) (define_table a b c) full all says = absurd says
-sound line (written_insert t r x y vs) (select (named a)) full all says = absurd says
-sound line (written_select n) (select (named name)) full all says = name_sound line n name all.1.0 says
-sound line (written_select n) (define_route a b c) full all says = absurd says
-sound line (written_select n) (define_table a b c) full all says = absurd says
-sound line (written_select n) (insert a b c d) full all says = absurd says
+sound line (written_referent r n p) tree full all says =
+    subst IsSound (sym says.2) (
+      name_sound line r (text_of line r) all.1.1.0 refl,
+      name_sound line n (text_of line n) all.1.1.1.0 refl,
+      position_sound line p says.0 all.1.1.1.1.1 says.1,
+    )
+sound line (written_move r n p) tree full all says =
+    subst IsSound (sym says.2) (
+      name_sound line r (text_of line r) all.1.1.0 refl,
+      name_sound line n (text_of line n) all.1.1.1.0 refl,
+      position_sound line p says.0 all.1.1.1.1.1 says.1,
+    )
+sound line (written_drop r n) tree full all says =
+    subst IsSound (sym says) (name_sound line r (text_of line r) all.1.1.0 refl, name_sound line n (text_of line n) all.1.1.1.0 refl)
+sound line (written_insert t r w vs) tree full all says =
+    let same = row_length line vs says.1 says.3 in
+    subst IsSound (sym says.4) (
+      name_sound line t (text_of line t) all.1.1.0 refl,
+      name_sound line r (text_of line r) all.1.1.1.1.0 refl,
+      place_sound line w says.0 (AreToldOf-append line (place_pieces w) _ all.1.1.1.1.1).0 says.2,
+      omega arith,
+      row_sound line vs says.1 says.3,
+    )
+sound line (written_translate r p m) tree full all says =
+    subst IsSound (sym says.2) (
+      name_sound line r (text_of line r) all.1.0 refl,
+      position_sound line p says.0 (AreToldOf-append line (position_pieces p) _ all.1.1).0 says.1,
+    )
+sound line (written_select n m) tree full all says = subst IsSound (sym says) (name_sound line n (text_of line n) all.1.0 refl)

@@ -4,9 +4,9 @@ use Rattle.std.specs.Prelude.{MatchResult}
 use Rattle.std.specs.Borrow.{Bor}
 use Rattle.rs_grammar.specs.declared.kind.TokenKind.{TokenKind}
 use Rattle.rs_grammar.specs.declared.kind.TokenKind.TheVariants as kinds
-use Rattle.rs_parser.specs.declared.token.Token.{Token}
-use Rattle.rs_parser.specs.declared.reading.Stop.{Stop}
-use Rattle.rs_parser.specs.Lexis.{kinds_of}
+use Rattle.rs_lexer.specs.declared.token.Token.{Token}
+use Rattle.rs_parser.specs.declared.front.Stop.{Stop}
+use Rattle.rs_lexer.specs.Lexis.{kinds_of}
 use Rattle.rs_parser.specs.Written.{Piece, mark, list_pieces, further_pieces}
 use Rattle.rs_grammar.specs.Grammar.{Part, Form, done, pick, sub, need, rules}
 use Rattle.rs_parser.specs.Reading.{Lacks, halt_of, RunsTo, pieces_of, leading_pieces, Runs, is_done, is_fail, takes, skips, through, stops_in}

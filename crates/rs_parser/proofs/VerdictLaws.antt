@@ -5,8 +5,8 @@ use Rattle.std.proofs.lemmas.List.{take_at, take_all, take-take}
 use Rattle.rs_measure.specs.declared.refusal.Refusal.{Refusal}
 use Rattle.rs_measure.specs.declared.refusal.Refusal.TheVariants.{Syntax}
 use Rattle.rs_grammar.specs.declared.kind.TokenKind.{TokenKind}
-use Rattle.rs_parser.specs.declared.token.Token.{Token}
-use Rattle.rs_parser.specs.Lexis.{kinds_of, IsTokenOf}
+use Rattle.rs_lexer.specs.declared.token.Token.{Token}
+use Rattle.rs_lexer.specs.Lexis.{kinds_of, IsTokenOf}
 use Rattle.rs_grammar.specs.Grammar.{rules, command_form, IsCommand, IsViable, IsShallow}
 use Rattle.rs_parser.specs.Written.{Written, mark, told, has_text, spelling}
 use Rattle.rs_parser.specs.Reading.{Runs, pieces_of, StopsAt, IsToldOf, AreToldOf}

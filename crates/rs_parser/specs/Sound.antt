@@ -5,7 +5,8 @@ use Rattle.rs_value.specs.declared.column.ColumnType.{ColumnType}
 use Rattle.rs_value.specs.declared.column.ColumnType.TheVariants as types
 use Rattle.rs_value.specs.Row.{Datum, null, number, text, Row}
 use Rattle.rs_grammar.specs.declared.kind.TheConstants.{NAME_BYTES}
-use Rattle.rs_parser.specs.Tree.{named, CommandTree, define_route, define_table, insert, select}
+use Rattle.rs_methods.specs.Position.{PositionExpression, absolute, beyond, before, interpolative}
+use Rattle.rs_parser.specs.Tree.{PlaceTree, along, named, CommandTree, define_route, define_table, define_referent, move_referent, drop_referent, insert, translate, select}
 
 -- 1 to NAME_BYTES bytes
 abbrev pub IsName : List ℕ → Type 0
@@ -30,9 +31,23 @@ abbrev pub AreInRange : Row → Type 0
 AreInRange [] = Unit {0}
 AreInRange (datum ∷ row) = IsInRange datum × AreInRange row
 
+-- the referent's name is a name
+abbrev pub IsPosition : PositionExpression → Type 0
+IsPosition (absolute measure) = Unit {0}
+IsPosition (beyond name measure) = IsName name
+IsPosition (before name measure) = IsName name
+IsPosition (interpolative part) = Unit {0}
+
+abbrev pub IsPlace : PlaceTree → Type 0
+IsPlace (along from to) = IsPosition from × IsPosition to
+
 -- names are names, each list has an item, and numbers are in their ranges
 abbrev pub IsSound : CommandTree → Type 0
 IsSound (define_route name start finish) = IsName name
 IsSound (define_table kind name columns) = IsName name × (1 ≤ length columns) × AreColumns columns
-IsSound (insert table route place row) = IsName table × IsName route × (1 ≤ length row) × AreInRange row
-IsSound (select (named name)) = IsName name
+IsSound (define_referent route name position) = IsName route × IsName name × IsPosition position
+IsSound (move_referent route name position) = IsName route × IsName name × IsPosition position
+IsSound (drop_referent route name) = IsName route × IsName name
+IsSound (insert table route place row) = IsName table × IsName route × IsPlace place × (1 ≤ length row) × AreInRange row
+IsSound (translate route position method) = IsName route × IsPosition position
+IsSound (select (named name) method) = IsName name

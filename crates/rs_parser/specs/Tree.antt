@@ -1,12 +1,14 @@
 -- A command as a value.
 use Rattle.std.specs.Prelude.{ℕ, List}
+use Rattle.rs_methods.specs.Position.{PositionExpression}
+use Rattle.rs_methods.specs.declared.position.Method.{Method}
 use Rattle.rs_value.specs.declared.column.Kind.{Kind}
 use Rattle.rs_value.specs.declared.column.ColumnType.{ColumnType}
 use Rattle.rs_value.specs.Row.{Row}
 
--- where an event is put: for now along a span between two measures, in thousandths
+-- where an event is put: for now along a span between two positions
 pub data PlaceTree : Type 0 where
-  along : ℕ → ℕ → PlaceTree
+  along : PositionExpression → PositionExpression → PlaceTree
 
 -- the rows of a table by its name, for now
 pub data QueryTree : Type 0 where
@@ -16,5 +18,9 @@ pub data QueryTree : Type 0 where
 pub data CommandTree : Type 0 where
   define_route : List ℕ → ℕ → ℕ → CommandTree  -- name, start, finish
   define_table : Kind → List ℕ → List (List ℕ × ColumnType) → CommandTree  -- kind, name, columns
+  define_referent : List ℕ → List ℕ → PositionExpression → CommandTree  -- route, name, position
+  move_referent : List ℕ → List ℕ → PositionExpression → CommandTree  -- route, name, position
+  drop_referent : List ℕ → List ℕ → CommandTree  -- route, name
   insert : List ℕ → List ℕ → PlaceTree → Row → CommandTree  -- table, route, place, values
-  select : QueryTree → CommandTree
+  translate : List ℕ → PositionExpression → Method → CommandTree  -- route, position, the method wanted
+  select : QueryTree → Method → CommandTree  -- query, the method of its positions

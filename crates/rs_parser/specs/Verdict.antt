@@ -3,8 +3,8 @@ use Rattle.std.specs.Prelude.{◌≡◌, ℕ, ◌+◌, ◌<◌, ◌≤◌, ◌�
 use Rattle.rs_measure.specs.declared.refusal.Refusal.{Refusal}
 use Rattle.rs_measure.specs.declared.refusal.Refusal.TheVariants.{UnknownCharacter, Syntax, NumberOutOfRange}
 use Rattle.rs_grammar.specs.declared.kind.TokenKind.{TokenKind}
-use Rattle.rs_parser.specs.declared.token.Token.{Token}
-use Rattle.rs_parser.specs.Lexis.{kinds_of, IsCut}
+use Rattle.rs_lexer.specs.declared.token.Token.{Token}
+use Rattle.rs_lexer.specs.Lexis.{kinds_of, IsCut}
 use Rattle.rs_grammar.specs.Grammar.{IsCommand, IsViable, IsShallow}
 use Rattle.rs_parser.specs.Tree.{CommandTree}
 use Rattle.rs_parser.specs.Written.{Written, piece_of, spelling, Says}

@@ -1,6 +1,10 @@
 -- A command as a line writes it, and what it says.
-use Rattle.std.specs.Prelude.{◌≡◌, ℕ, ◌^◌, ◌≤◌, Bool, true, false, ◌==◌, if◌then◌else◌, ℤ, pos, neg_ℤ, List, [], ◌∷◌, ◌++◌}
+use Rattle.std.specs.Prelude.{◌≡◌, ℕ, ◌^◌, ◌≤◌, Bool, true, false, ◌==◌, if◌then◌else◌, ℤ, pos, neg_ℤ, List, [], ◌∷◌, ◌++◌, Option, Some, None, unwrap_or}
 use Rattle.rs_measure.specs.Measure.{SaysMeasure, number_of_digits}
+use Rattle.rs_measure.specs.Part.{SaysPart}
+use Rattle.rs_methods.specs.Position.{PositionExpression, absolute, beyond, before, interpolative}
+use Rattle.rs_methods.specs.declared.position.Method.{Method}
+use Rattle.rs_methods.specs.declared.position.Method.TheVariants as methods
 use Rattle.rs_value.specs.declared.column.TheConstants.{TEXT_BYTES}
 use Rattle.rs_value.specs.declared.column.Kind.TheVariants.{Line}
 use Rattle.rs_value.specs.declared.column.ColumnType.{ColumnType}
@@ -8,21 +12,29 @@ use Rattle.rs_value.specs.declared.column.ColumnType.TheVariants as types
 use Rattle.rs_value.specs.Row.{Datum, null, number, text, Row}
 use Rattle.rs_grammar.specs.declared.kind.TokenKind.{TokenKind}
 use Rattle.rs_grammar.specs.declared.kind.TokenKind.TheVariants as kinds
-use Rattle.rs_parser.specs.declared.token.Token.{Token}
+use Rattle.rs_lexer.specs.declared.token.Token.{Token}
 use Rattle.rs_parser.specs.declared.syntax.WrittenType.{WrittenType}
 use Rattle.rs_parser.specs.declared.syntax.WrittenType.TheVariants as written_types
 use Rattle.rs_parser.specs.declared.syntax.WrittenColumn.{WrittenColumn}
 use Rattle.rs_parser.specs.declared.syntax.WrittenValue.{WrittenValue}
 use Rattle.rs_parser.specs.declared.syntax.WrittenValue.TheVariants as written_values
-use Rattle.rs_parser.specs.Lexis.{text_of}
-use Rattle.rs_parser.specs.Tree.{along, named, CommandTree, define_route, define_table, insert, select}
+use Rattle.rs_parser.specs.declared.syntax.WrittenPosition.{WrittenPosition}
+use Rattle.rs_parser.specs.declared.syntax.WrittenPosition.TheVariants as written_positions
+use Rattle.rs_parser.specs.declared.syntax.WrittenPlace.{WrittenPlace}
+use Rattle.rs_parser.specs.declared.syntax.WrittenPlace.TheVariants as written_places
+use Rattle.rs_lexer.specs.Lexis.{text_of}
+use Rattle.rs_parser.specs.Tree.{PlaceTree, along, named, CommandTree, define_route, define_table, define_referent, move_referent, drop_referent, insert, translate, select}
 
 -- a command whose names, numbers and texts are still tokens of the line
 pub data Written : Type 0 where
   written_route : Token → Token → Token → Written  -- name, start, finish
   written_table : Token → List WrittenColumn → Written  -- name, columns
-  written_insert : Token → Token → Token → Token → List WrittenValue → Written  -- table, route, from, to, values
-  written_select : Token → Written  -- name
+  written_referent : Token → Token → WrittenPosition → Written  -- route, name, position
+  written_move : Token → Token → WrittenPosition → Written  -- route, name, position
+  written_drop : Token → Token → Written  -- route, name
+  written_insert : Token → Token → WrittenPlace → List WrittenValue → Written  -- table, route, place, values
+  written_translate : Token → WrittenPosition → Method → Written  -- route, position, the method wanted
+  written_select : Token → Option Method → Written  -- name, the method behind AS
 
 -- A token as a spelling shows it: a mark, or a token whose text counts.
 pub data Piece : Type 0 where
@@ -44,8 +56,29 @@ piece_of token = if has_text token.kind then told token.kind token else mark tok
 abbrev pub measure_pieces : Token → List Piece
 measure_pieces token = told token.kind token ∷ []
 
-abbrev pub place_pieces : Token → Token → List Piece
-place_pieces from to = mark kinds.From ∷ (measure_pieces from ++ mark kinds.To ∷ measure_pieces to)
+abbrev pub position_pieces : WrittenPosition → List Piece
+position_pieces (written_positions.Measure measure) = measure_pieces measure
+position_pieces (written_positions.Percentage digits) = measure_pieces digits ++ mark kinds.PercentSign ∷ []
+position_pieces (written_positions.Referent name) = mark kinds.AtSign ∷ told kinds.Name name ∷ []
+position_pieces (written_positions.Beyond name measure) = mark kinds.AtSign ∷ told kinds.Name name ∷ mark kinds.PlusSign ∷ measure_pieces measure
+position_pieces (written_positions.Before name measure) = mark kinds.AtSign ∷ told kinds.Name name ∷ mark kinds.MinusSign ∷ measure_pieces measure
+
+abbrev pub place_pieces : WrittenPlace → List Piece
+place_pieces (written_places.Along from to) = mark kinds.From ∷ (position_pieces from ++ mark kinds.To ∷ position_pieces to)
+
+-- the word of a method
+abbrev pub method_kind : Method → TokenKind
+method_kind methods.Absolute = kinds.Absolute
+method_kind methods.Relative = kinds.Relative
+method_kind methods.Interpolative = kinds.Interpolative
+
+abbrev pub method_pieces : Method → List Piece
+method_pieces method = mark (method_kind method) ∷ []
+
+-- the method of a query's positions, if one is named
+abbrev pub wanted_pieces : Option Method → List Piece
+wanted_pieces None = []
+wanted_pieces (Some method) = mark kinds.As ∷ method_pieces method
 
 abbrev pub type_pieces : WrittenType → List Piece
 type_pieces written_types.Int = mark kinds.Int ∷ []
@@ -72,14 +105,22 @@ list_pieces pieces (item ∷ items) = pieces item ++ further_pieces pieces items
 -- how a command is spelled
 abbrev pub spelling : Written → List Piece
 spelling (written_route name start finish) =
-    mark kinds.Define ∷ mark kinds.Route ∷ told kinds.Name name ∷ place_pieces start finish
+    mark kinds.Define ∷ mark kinds.Route ∷ told kinds.Name name
+    ∷ mark kinds.From ∷ (measure_pieces start ++ mark kinds.To ∷ measure_pieces finish)
 spelling (written_table name columns) =
     mark kinds.Define ∷ mark kinds.Line ∷ mark kinds.Table ∷ told kinds.Name name
     ∷ mark kinds.LeftParen ∷ (list_pieces column_pieces columns ++ mark kinds.RightParen ∷ [])
-spelling (written_insert table route from to values) =
+spelling (written_referent route name position) =
+    mark kinds.Define ∷ mark kinds.Referent ∷ told kinds.Name route ∷ told kinds.Name name ∷ mark kinds.At ∷ position_pieces position
+spelling (written_move route name position) =
+    mark kinds.Move ∷ mark kinds.Referent ∷ told kinds.Name route ∷ told kinds.Name name ∷ mark kinds.To ∷ position_pieces position
+spelling (written_drop route name) = mark kinds.Drop ∷ mark kinds.Referent ∷ told kinds.Name route ∷ told kinds.Name name ∷ []
+spelling (written_insert table route place values) =
     mark kinds.Insert ∷ mark kinds.Into ∷ told kinds.Name table ∷ mark kinds.On ∷ told kinds.Name route
-    ∷ (place_pieces from to ++ mark kinds.Values ∷ mark kinds.LeftParen ∷ (list_pieces value_pieces values ++ mark kinds.RightParen ∷ []))
-spelling (written_select name) = mark kinds.Select ∷ told kinds.Name name ∷ []
+    ∷ (place_pieces place ++ mark kinds.Values ∷ mark kinds.LeftParen ∷ (list_pieces value_pieces values ++ mark kinds.RightParen ∷ []))
+spelling (written_translate route position method) =
+    mark kinds.Translate ∷ told kinds.Name route ∷ (position_pieces position ++ mark kinds.As ∷ method_pieces method)
+spelling (written_select name method) = mark kinds.Select ∷ told kinds.Name name ∷ wanted_pieces method
 
 -- INT, or TEXT of 1 to TEXT_BYTES bytes
 abbrev pub SaysType : List ℕ → WrittenType → ColumnType → Type 0
@@ -120,14 +161,37 @@ SaysRow line [] [] = Unit {0}
 SaysRow line (written ∷ more) (datum ∷ row) = SaysDatum line written datum × SaysRow line more row
 SaysRow line _ _ = ⊥
 
--- What a written command says; nothing where a number of it is out of its range.
+-- What a written position says: a referent alone is the place where it stands.
+abbrev pub SaysPosition : List ℕ → WrittenPosition → PositionExpression → Type 0
+SaysPosition line (written_positions.Measure token) position =
+    (measure : ℕ) × SaysMeasure (text_of line token) measure × (position ≡ absolute measure)
+SaysPosition line (written_positions.Percentage token) position =
+    (part : ℕ) × SaysPart (text_of line token) part × (position ≡ interpolative part)
+SaysPosition line (written_positions.Referent name) position = position ≡ beyond (text_of line name) 0
+SaysPosition line (written_positions.Beyond name token) position =
+    (measure : ℕ) × SaysMeasure (text_of line token) measure × (position ≡ beyond (text_of line name) measure)
+SaysPosition line (written_positions.Before name token) position =
+    (measure : ℕ) × SaysMeasure (text_of line token) measure × (position ≡ before (text_of line name) measure)
+
+abbrev pub SaysPlace : List ℕ → WrittenPlace → PlaceTree → Type 0
+SaysPlace line (written_places.Along from to) (along first second) = SaysPosition line from first × SaysPosition line to second
+
+-- What a written command says; nothing where a number of it is out of its range. Where no method is named,
+-- positions are absolute.
 abbrev pub Says : List ℕ → Written → CommandTree → Type 0
-Says line (written_route name start finish) (define_route route from to) =
-    (route ≡ text_of line name) × SaysMeasure (text_of line start) from × SaysMeasure (text_of line finish) to
-Says line (written_table name columns) (define_table kind table definitions) =
-    (kind ≡ Line) × (table ≡ text_of line name) × SaysColumns line columns definitions
-Says line (written_insert table route from to values) (insert into on (along start finish) row) =
-    (into ≡ text_of line table) × (on ≡ text_of line route)
-    × SaysMeasure (text_of line from) start × SaysMeasure (text_of line to) finish × SaysRow line values row
-Says line (written_select name) (select (named table)) = table ≡ text_of line name
-Says line _ _ = ⊥
+Says line (written_route name start finish) tree =
+    (from : ℕ) × (to : ℕ) × SaysMeasure (text_of line start) from × SaysMeasure (text_of line finish) to
+    × (tree ≡ define_route (text_of line name) from to)
+Says line (written_table name columns) tree =
+    (definitions : List (List ℕ × ColumnType)) × SaysColumns line columns definitions × (tree ≡ define_table Line (text_of line name) definitions)
+Says line (written_referent route name written) tree =
+    (position : PositionExpression) × SaysPosition line written position × (tree ≡ define_referent (text_of line route) (text_of line name) position)
+Says line (written_move route name written) tree =
+    (position : PositionExpression) × SaysPosition line written position × (tree ≡ move_referent (text_of line route) (text_of line name) position)
+Says line (written_drop route name) tree = tree ≡ drop_referent (text_of line route) (text_of line name)
+Says line (written_insert table route written values) tree =
+    (place : PlaceTree) × (row : Row) × SaysPlace line written place × SaysRow line values row
+    × (tree ≡ insert (text_of line table) (text_of line route) place row)
+Says line (written_translate route written method) tree =
+    (position : PositionExpression) × SaysPosition line written position × (tree ≡ translate (text_of line route) position method)
+Says line (written_select name method) tree = tree ≡ select (named (text_of line name)) (unwrap_or method methods.Absolute)

@@ -2,13 +2,9 @@
 //!
 //! Names have 1 to `NAME_BYTES` bytes, and each list has one item at least.
 
-use arrayvec::ArrayString;
-use rs_grammar::kind::NAME_BYTES;
 use rs_measure::Measure;
+use rs_methods::{Method, Name, Position};
 use rs_value::{ColumnType, Kind, Literal};
-
-/// A name of a route, table or column.
-pub type Name = ArrayString<NAME_BYTES>;
 
 /// A column of a table: its name and what it holds.
 #[derive(Clone, Copy)]
@@ -20,8 +16,8 @@ pub struct ColumnDefinition {
 /// Where an event is put on its route.
 #[derive(Clone, Copy)]
 pub enum Place {
-    /// Along the span between two measures.
-    Along { from: Measure, to: Measure },
+    /// Along the span between two positions.
+    Along { from: Position, to: Position },
 }
 
 /// A query.
@@ -46,6 +42,23 @@ pub enum Command {
         name: Name,
         columns: Vec<ColumnDefinition>,
     },
+    /// A referent of a route, at a position.
+    DefineReferent {
+        route: Name,
+        name: Name,
+        position: Position,
+    },
+    /// Another position for a referent of a route.
+    MoveReferent {
+        route: Name,
+        name: Name,
+        position: Position,
+    },
+    /// A referent of a route goes.
+    DropReferent {
+        route: Name,
+        name: Name,
+    },
     /// An event for a table: its place on a route, and its row.
     Insert {
         table: Name,
@@ -53,8 +66,15 @@ pub enum Command {
         place: Place,
         values: Vec<Literal>,
     },
-    /// The rows of a query.
+    /// A position on a route, to be printed by a method.
+    Translate {
+        route: Name,
+        position: Position,
+        method: Method,
+    },
+    /// The rows of a query, their positions printed by a method.
     Select {
         query: Query,
+        method: Method,
     },
 }

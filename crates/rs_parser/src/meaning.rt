@@ -4,20 +4,25 @@
 
 ghost use Rattle.std.specs.Prelude.{◌≡◌, ℕ, ◌≤◌, ◌^◌, ◌⊎◌, List, Some, map, MatchOption, SomeIff, IfOk, IfErr, OnErr, string_bytes};
 ghost use Rattle.rs_measure.specs.Measure.{SaysMeasure, number_of_digits};
+ghost use Rattle.rs_measure.specs.Part.{SaysPart};
+ghost use Rattle.rs_methods.specs.Position.{PositionExpression, expression_of};
 ghost use Rattle.rs_value.specs.declared.column.ColumnType.{ColumnType};
 ghost use Rattle.rs_value.specs.Row.{Datum, Row};
 ghost use Rattle.rs_value.specs.View.{literal_datum, literal_row};
 ghost use Rattle.rs_grammar.specs.declared.kind.TokenKind.TheVariants as kinds;
-ghost use Rattle.rs_parser.specs.Lexis.{kind_of, text_of, IsTokenOf};
-ghost use Rattle.rs_parser.specs.Tree.{CommandTree};
-ghost use Rattle.rs_parser.specs.View.{column_tree, tree_of};
-ghost use Rattle.rs_parser.specs.Written.{type_pieces, column_pieces, value_pieces, list_pieces, spelling, SaysType, SaysColumns, unquoted, SaysDatum, SaysRow, Says};
-ghost use Rattle.rs_parser.specs.Reading.{AreToldOf, written_of};
+ghost use Rattle.rs_lexer.specs.Lexis.{kind_of, text_of, IsTokenOf};
+ghost use Rattle.rs_parser.specs.Tree.{PlaceTree};
+ghost use Rattle.rs_parser.specs.View.{column_tree, place_tree, tree_of};
+ghost use Rattle.rs_parser.specs.Written.{written_route, written_table, written_referent, written_move, written_insert, written_translate, position_pieces, place_pieces, type_pieces, column_pieces, value_pieces, list_pieces, spelling, SaysType, SaysColumns, unquoted, SaysDatum, SaysRow, SaysPosition, SaysPlace, Says};
+ghost use Rattle.rs_parser.specs.Reading.{AreToldOf, written_of, IsRefusal};
 
-use crate::commands::{ColumnDefinition, Command, Name, Place, Query};
-use crate::syntax::{WrittenColumn, WrittenCommand, WrittenType, WrittenValue};
-use crate::token::Token;
-use rs_measure::{Measure, Refusal, read_measure};
+use crate::commands::{ColumnDefinition, Command, Place, Query};
+use crate::syntax::{
+    WrittenColumn, WrittenCommand, WrittenPlace, WrittenPosition, WrittenType, WrittenValue,
+};
+use rs_lexer::Token;
+use rs_measure::{Measure, Part, Refusal, read_measure, read_part};
+use rs_methods::{Method, Name, Position, Sign};
 use rs_value::column::TEXT_BYTES;
 use rs_value::{ColumnType, Kind, Literal};
 use std::alloc::Global;
@@ -52,6 +57,56 @@ fn measure(line: &str, token: Token) -> Result<Measure, Refusal>
     ensures refused { OnErr result ((n : ℕ) → SaysMeasure (text_of line.now token) n → ⊥) }
 {
     read_measure(text(line, token))
+}
+
+// A token that is the number of a percentage.
+fn part(line: &str, token: Token) -> Result<Part, Refusal>
+    requires { IsTokenOf line.now token }
+    ensures ok { IfOk result (λ part. SaysPart (text_of line.now token) part) }
+    ensures err { IfErr result (λ refusal. refusal ≡ Refusal.NumberOutOfRange) }
+    ensures refused { OnErr result ((n : ℕ) → SaysPart (text_of line.now token) n → ⊥) }
+{
+    read_part(text(line, token))
+}
+
+// A position.
+fn position(line: &str, written: WrittenPosition) -> Result<Position, Refusal>
+    requires { AreToldOf line.now (position_pieces written) }
+    ensures ok { IfOk result (λ position. SaysPosition line.now written (expression_of position)) }
+    ensures err { IfErr result (λ refusal. refusal ≡ Refusal.NumberOutOfRange) }
+    ensures refused { OnErr result ((p : PositionExpression) → SaysPosition line.now written p → ⊥) }
+{
+    match written {
+        WrittenPosition::Measure(token) => Ok(Position::Absolute(measure(line, token)?)),
+        WrittenPosition::Percentage(token) => Ok(Position::Interpolative(part(line, token)?)),
+        WrittenPosition::Referent(referent) => {
+            let here = Measure::from_thousandths(0);
+            Ok(Position::Relative(name(line, referent), Sign::Plus, here))
+        }
+        WrittenPosition::Beyond(referent, token) => {
+            let beyond = measure(line, token)?;
+            Ok(Position::Relative(name(line, referent), Sign::Plus, beyond))
+        }
+        WrittenPosition::Before(referent, token) => {
+            let before = measure(line, token)?;
+            Ok(Position::Relative(name(line, referent), Sign::Minus, before))
+        }
+    }
+}
+
+// Where an event is put.
+fn place(line: &str, written: WrittenPlace) -> Result<Place, Refusal>
+    requires { AreToldOf line.now (place_pieces written) }
+    ensures ok { IfOk result (λ place. SaysPlace line.now written (place_tree place)) }
+    ensures err { IfErr result (λ refusal. refusal ≡ Refusal.NumberOutOfRange) }
+    ensures refused { OnErr result ((p : PlaceTree) → SaysPlace line.now written p → ⊥) }
+{
+    match written {
+        WrittenPlace::Along { from, to } => Ok(Place::Along {
+            from: position(line, from)?,
+            to: position(line, to)?,
+        }),
+    }
 }
 
 // The number that digits say, if it is not above `most`.
@@ -167,6 +222,112 @@ fn values(alloc: Global, line: &str, written: &[WrittenValue]) -> Result<Vec<Lit
     Ok(values)
 }
 
+// A route between two measures.
+fn route(line: &str, route: Token, start: Token, finish: Token) -> Result<Command, Refusal>
+    requires { AreToldOf line.now (spelling (written_route route start finish)) }
+    ensures ok { IfOk result (λ command. Says line.now (written_route route start finish) (tree_of command)) }
+    ensures err { IfErr result (IsRefusal line.now (written_route route start finish)) }
+{
+    Ok(Command::DefineRoute {
+        name: name(line, route),
+        start: measure(line, start)?,
+        finish: measure(line, finish)?,
+    })
+}
+
+// A table with its columns.
+fn table(
+    alloc: Global,
+    line: &str,
+    table: Token,
+    definitions: &[WrittenColumn],
+) -> Result<Command, Refusal>
+    requires { AreToldOf line.now (spelling (written_table table definitions.now)) }
+    ensures ok { IfOk result (λ command. Says line.now (written_table table definitions.now) (tree_of command)) }
+    ensures err { IfErr result (IsRefusal line.now (written_table table definitions.now)) }
+{
+    Ok(Command::DefineTable {
+        kind: Kind::Line,
+        name: name(line, table),
+        columns: columns(alloc, line, definitions)?,
+    })
+}
+
+// A referent at a position.
+fn referent(
+    line: &str,
+    route: Token,
+    referent: Token,
+    at: WrittenPosition,
+) -> Result<Command, Refusal>
+    requires { AreToldOf line.now (spelling (written_referent route referent at)) }
+    ensures ok { IfOk result (λ command. Says line.now (written_referent route referent at) (tree_of command)) }
+    ensures err { IfErr result (IsRefusal line.now (written_referent route referent at)) }
+{
+    Ok(Command::DefineReferent {
+        route: name(line, route),
+        name: name(line, referent),
+        position: position(line, at)?,
+    })
+}
+
+// Another position for a referent.
+fn referent_move(
+    line: &str,
+    route: Token,
+    referent: Token,
+    to: WrittenPosition,
+) -> Result<Command, Refusal>
+    requires { AreToldOf line.now (spelling (written_move route referent to)) }
+    ensures ok { IfOk result (λ command. Says line.now (written_move route referent to) (tree_of command)) }
+    ensures err { IfErr result (IsRefusal line.now (written_move route referent to)) }
+{
+    Ok(Command::MoveReferent {
+        route: name(line, route),
+        name: name(line, referent),
+        position: position(line, to)?,
+    })
+}
+
+// An event: its place and its row.
+fn event(
+    alloc: Global,
+    line: &str,
+    table: Token,
+    route: Token,
+    along: WrittenPlace,
+    row: &[WrittenValue],
+) -> Result<Command, Refusal>
+    requires { AreToldOf line.now (spelling (written_insert table route along row.now)) }
+    ensures ok { IfOk result (λ command. Says line.now (written_insert table route along row.now) (tree_of command)) }
+    ensures err { IfErr result (IsRefusal line.now (written_insert table route along row.now)) }
+{
+    Ok(Command::Insert {
+        table: name(line, table),
+        route: name(line, route),
+        place: place(line, along)?,
+        values: values(alloc, line, row)?,
+    })
+}
+
+// A position to be printed by a method.
+fn translation(
+    line: &str,
+    route: Token,
+    at: WrittenPosition,
+    method: Method,
+) -> Result<Command, Refusal>
+    requires { AreToldOf line.now (spelling (written_translate route at method)) }
+    ensures ok { IfOk result (λ command. Says line.now (written_translate route at method) (tree_of command)) }
+    ensures err { IfErr result (IsRefusal line.now (written_translate route at method)) }
+{
+    Ok(Command::Translate {
+        route: name(line, route),
+        position: position(line, at)?,
+        method,
+    })
+}
+
 /// The command that is written so.
 ///
 /// Refused `NumberOutOfRange` where a number is out of its range, and `OutOfMemory` where a growth was
@@ -174,44 +335,46 @@ fn values(alloc: Global, line: &str, written: &[WrittenValue]) -> Result<Vec<Lit
 pub fn meaning(alloc: Global, line: &str, written: &WrittenCommand) -> Result<Command, Refusal>
     requires { AreToldOf line.now (spelling (written_of written.now)) }
     ensures ok { IfOk result (λ command. Says line.now (written_of written.now) (tree_of command)) }
-    ensures err { IfErr result (λ refusal. (refusal ≡ Refusal.OutOfMemory)
-        ⊎ ((refusal ≡ Refusal.NumberOutOfRange) × ((tree : CommandTree) → Says line.now (written_of written.now) tree → ⊥))) }
+    ensures err { IfErr result (IsRefusal line.now (written_of written.now)) }
 {
     match written {
         WrittenCommand::DefineRoute {
-            name: route,
+            name,
             start,
             finish,
-        } => Ok(Command::DefineRoute {
-            name: name(line, *route),
-            start: measure(line, *start)?,
-            finish: measure(line, *finish)?,
-        }),
-        WrittenCommand::DefineTable {
-            name: table,
-            columns: definitions,
-        } => Ok(Command::DefineTable {
-            kind: Kind::Line,
-            name: name(line, *table),
-            columns: columns(alloc, line, definitions)?,
+        } => route(line, *name, *start, *finish),
+        WrittenCommand::DefineTable { name, columns } => table(alloc, line, *name, columns),
+        WrittenCommand::DefineReferent {
+            route,
+            name,
+            position,
+        } => referent(line, *route, *name, *position),
+        WrittenCommand::MoveReferent {
+            route,
+            name,
+            position,
+        } => referent_move(line, *route, *name, *position),
+        WrittenCommand::DropReferent {
+            route,
+            name: referent,
+        } => Ok(Command::DropReferent {
+            route: name(line, *route),
+            name: name(line, *referent),
         }),
         WrittenCommand::Insert {
             table,
             route,
-            from,
-            to,
-            values: row,
-        } => Ok(Command::Insert {
-            table: name(line, *table),
-            route: name(line, *route),
-            place: Place::Along {
-                from: measure(line, *from)?,
-                to: measure(line, *to)?,
-            },
-            values: values(alloc, line, row)?,
-        }),
-        WrittenCommand::Select { table } => Ok(Command::Select {
+            place,
+            values,
+        } => event(alloc, line, *table, *route, *place, values),
+        WrittenCommand::Translate {
+            route,
+            position,
+            method,
+        } => translation(line, *route, *position, *method),
+        WrittenCommand::Select { table, method } => Ok(Command::Select {
             query: Query::Named(name(line, *table)),
+            method: method.unwrap_or(Method::Absolute),
         }),
     }
 }

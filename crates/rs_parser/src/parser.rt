@@ -3,7 +3,7 @@
 //! The syntax comes before the ranges of numbers, and an unknown character before both.
 
 ghost use Rattle.std.specs.Prelude.{◌≡◌, ℕ, List, Result, ◌+◌, ◌<◌, ◌≤◌, ◌⊎◌, [], Ok, Err, length, take, drop, IfOk, IfErr, OnOk, All};
-ghost use Rattle.rs_parser.specs.Lexis.{kinds_of, IsTokenOf};
+ghost use Rattle.rs_lexer.specs.Lexis.{kinds_of, IsTokenOf};
 ghost use Rattle.rs_grammar.specs.Grammar.{IsShallow, command_form};
 ghost use Rattle.rs_parser.specs.Written.{spelling};
 ghost use Rattle.rs_measure.specs.declared.refusal.Refusal.{Refusal};
@@ -14,12 +14,13 @@ ghost use Rattle.rs_parser.specs.Sound.{IsSound};
 ghost use Rattle.rs_parser.specs.Verdict.{fault_column, IsWritten, Parses, Reads};
 
 use crate::commands::Command;
+use crate::front::Stop;
 use crate::meaning::meaning;
-use crate::reading::{Stop, command};
+use crate::reading::command;
 use crate::syntax::WrittenCommand;
-use crate::token::{Token, tokens};
 use rs_grammar::kind::{BRACKETS, TokenKind};
-use rs_measure::{Refusal, text_says_one_measure};
+use rs_lexer::{Token, tokens};
+use rs_measure::{Refusal, text_says_one_measure, text_says_one_part};
 use std::alloc::Global;
 
 // How many tokens stand before the first that opens a bracket too many.
@@ -122,4 +123,5 @@ pub fn line_has_one_answer()
     ensures { (line : List ℕ) (from : ℕ) (a b : Result CommandTree Refusal) → Reads line from a → Reads line from b → a ≡ b }
 {
     text_says_one_measure();
+    text_says_one_part();
 }

@@ -3,118 +3,18 @@
 //! Each function takes tokens from the front and hands back the others, or the tokens from the first on
 //! that no rule goes on with. Lists are loops, so no call nests deeper than the brackets of a line.
 
-ghost use Rattle.std.specs.Prelude.{◌≡◌, ◌<◌, [], ◌∷◌, ◌++◌, length, true, false, Some, MatchOption, IfSome, MatchResult, IfOk};
+ghost use Rattle.std.specs.Prelude.{◌≡◌, ◌<◌, ◌∷◌, ◌++◌, length, IfOk};
 ghost use Rattle.rs_grammar.specs.declared.kind.TokenKind.TheVariants as kinds;
-ghost use Rattle.rs_parser.specs.Lexis.{kinds_of};
-ghost use Rattle.rs_grammar.specs.Grammar.{command_form, define_form, define_route_form, define_table_form, insert_form, place_form, columns_form, column_form, type_form, values_form, value_form, measure_form, query_form};
-ghost use Rattle.rs_parser.specs.Written.{mark, told, has_text, measure_pieces, place_pieces, type_pieces, column_pieces, value_pieces, list_pieces, spelling};
-ghost use Rattle.rs_parser.specs.Reading.{Lacks, halt_of, RunsTo, pieces_of, written_of, IsFull};
+ghost use Rattle.rs_grammar.specs.Grammar.{command_form, define_form, define_route_form, define_referent_form, define_table_form, drop_form, move_form, insert_form, translate_form, select_form, columns_form, column_form, type_form, values_form, value_form};
+ghost use Rattle.rs_parser.specs.Written.{mark, type_pieces, column_pieces, value_pieces, list_pieces, spelling};
+ghost use Rattle.rs_parser.specs.Reading.{RunsTo, pieces_of, written_of, IsFull};
 
+use crate::front::{Stop, mark, need_mark, need_text, text};
+use crate::positions::{measure, method, place, position, wanted_method};
 use crate::syntax::{WrittenColumn, WrittenCommand, WrittenType, WrittenValue};
-use crate::token::Token;
 use rs_grammar::kind::TokenKind;
+use rs_lexer::Token;
 use std::alloc::Global;
-
-/// Why a part was not read.
-#[derive(Clone, Copy)]
-pub enum Stop<'a> {
-    /// No rule goes on with the first of these tokens, or the line ends too early where there is none.
-    At(&'a [Token]),
-    /// A growth was refused.
-    OutOfMemory,
-}
-
-fn is_kind(token: Token, kind: TokenKind) -> bool
-    ensures same { result ≡ true → token.kind ≡ kind }
-    ensures other { result ≡ false → token.kind ≡ kind → ⊥ }
-{
-    token.kind == kind
-}
-
-// What follows a word or a symbol, if it stands at the front.
-fn mark(tokens: &[Token], kind: TokenKind) -> Option<&[Token]>
-    requires { has_text kind ≡ false }
-    ensures found { MatchOption result (Lacks kind (kinds_of tokens.now))
-        (λ rest. kinds_of tokens.now ≡ kind ∷ kinds_of rest.now) }
-    ensures spelled { IfSome result (λ rest. pieces_of tokens.now ≡ mark kind ∷ pieces_of rest.now) }
-    ensures shorter { IfSome result (λ rest. length rest.now < length tokens.now) }
-{
-    let (first, rest) = tokens.split_first()?;
-    if is_kind(*first, kind) {
-        Some(rest)
-    } else {
-        None
-    }
-}
-
-// A name, a number or a text at the front, and what follows it.
-fn text(tokens: &[Token], kind: TokenKind) -> Option<(Token, &[Token])>
-    requires { has_text kind ≡ true }
-    ensures found { MatchOption result (Lacks kind (kinds_of tokens.now))
-        (λ found. kinds_of tokens.now ≡ kind ∷ kinds_of found.1.now) }
-    ensures kind { IfSome result (λ found. found.0.kind ≡ kind) }
-    ensures spelled { IfSome result (λ found. pieces_of tokens.now ≡ told kind found.0 ∷ pieces_of found.1.now) }
-    ensures shorter { IfSome result (λ found. length found.1.now < length tokens.now) }
-{
-    let (first, rest) = tokens.split_first()?;
-    if is_kind(*first, kind) {
-        Some((*first, rest))
-    } else {
-        None
-    }
-}
-
-// What follows a word or a symbol that has to stand at the front.
-fn need_mark(tokens: &[Token], kind: TokenKind) -> Result<&[Token], Stop<'_>>
-    requires { has_text kind ≡ false }
-    ensures found { MatchResult result (λ rest. kinds_of tokens.now ≡ kind ∷ kinds_of rest.now)
-        (λ stop. Lacks kind (kinds_of tokens.now) × (halt_of stop ≡ Some (kinds_of tokens.now))) }
-    ensures spelled { IfOk result (λ rest. pieces_of tokens.now ≡ mark kind ∷ pieces_of rest.now) }
-    ensures shorter { IfOk result (λ rest. length rest.now < length tokens.now) }
-{
-    match mark(tokens, kind) {
-        Some(rest) => Ok(rest),
-        None => Err(Stop::At(tokens)),
-    }
-}
-
-// A name, a number or a text that has to stand at the front, and what follows it.
-fn need_text(tokens: &[Token], kind: TokenKind) -> Result<(Token, &[Token]), Stop<'_>>
-    requires { has_text kind ≡ true }
-    ensures found { MatchResult result (λ found. kinds_of tokens.now ≡ kind ∷ kinds_of found.1.now)
-        (λ stop. Lacks kind (kinds_of tokens.now) × (halt_of stop ≡ Some (kinds_of tokens.now))) }
-    ensures kind { IfOk result (λ found. found.0.kind ≡ kind) }
-    ensures spelled { IfOk result (λ found. pieces_of tokens.now ≡ told kind found.0 ∷ pieces_of found.1.now) }
-    ensures shorter { IfOk result (λ found. length found.1.now < length tokens.now) }
-{
-    match text(tokens, kind) {
-        Some(found) => Ok(found),
-        None => Err(Stop::At(tokens)),
-    }
-}
-
-// Whole | Decimal
-fn measure(tokens: &[Token]) -> Result<(Token, &[Token]), Stop<'_>>
-    ensures runs { RunsTo measure_form tokens.now result }
-    ensures spelled { IfOk result (λ found. pieces_of tokens.now ≡ measure_pieces found.0 ++ pieces_of found.1.now) }
-{
-    match text(tokens, TokenKind::Whole) {
-        Some(found) => Ok(found),
-        None => need_text(tokens, TokenKind::Decimal),
-    }
-}
-
-// FROM measure TO measure
-fn place(tokens: &[Token]) -> Result<((Token, Token), &[Token]), Stop<'_>>
-    ensures runs { RunsTo place_form tokens.now result }
-    ensures spelled { IfOk result (λ found. pieces_of tokens.now ≡ place_pieces found.0.0 found.0.1 ++ pieces_of found.1.now) }
-{
-    let rest = need_mark(tokens, TokenKind::From)?;
-    let (from, rest) = measure(rest)?;
-    let rest = need_mark(rest, TokenKind::To)?;
-    let (to, rest) = measure(rest)?;
-    Ok(((from, to), rest))
-}
 
 // INT | TEXT "(" Whole ")"
 fn column_type(tokens: &[Token]) -> Result<(WrittenType, &[Token]), Stop<'_>>
@@ -208,11 +108,33 @@ fn define_route(tokens: &[Token]) -> Result<(WrittenCommand, &[Token]), Stop<'_>
     ensures full { IfOk result (λ found. IsFull (written_of found.0)) }
 {
     let (name, rest) = need_text(tokens, TokenKind::Name)?;
-    let ((start, finish), rest) = place(rest)?;
+    let rest = need_mark(rest, TokenKind::From)?;
+    let (start, rest) = measure(rest)?;
+    let rest = need_mark(rest, TokenKind::To)?;
+    let (finish, rest) = measure(rest)?;
     let command = WrittenCommand::DefineRoute {
         name,
         start,
         finish,
+    };
+    Ok((command, rest))
+}
+
+// behind DEFINE REFERENT: route name AT pos
+fn define_referent(tokens: &[Token]) -> Result<(WrittenCommand, &[Token]), Stop<'_>>
+    ensures runs { RunsTo define_referent_form tokens.now result }
+    ensures spelled { IfOk result (λ found. mark kinds.Define ∷ mark kinds.Referent ∷ pieces_of tokens.now
+        ≡ spelling (written_of found.0) ++ pieces_of found.1.now) }
+    ensures full { IfOk result (λ found. IsFull (written_of found.0)) }
+{
+    let (route, rest) = need_text(tokens, TokenKind::Name)?;
+    let (name, rest) = need_text(rest, TokenKind::Name)?;
+    let rest = need_mark(rest, TokenKind::At)?;
+    let (position, rest) = position(rest)?;
+    let command = WrittenCommand::DefineReferent {
+        route,
+        name,
+        position,
     };
     Ok((command, rest))
 }
@@ -242,8 +164,44 @@ fn define(alloc: Global, tokens: &[Token]) -> Result<(WrittenCommand, &[Token]),
     if let Some(rest) = mark(tokens, TokenKind::Route) {
         return define_route(rest);
     }
+    if let Some(rest) = mark(tokens, TokenKind::Referent) {
+        return define_referent(rest);
+    }
     let rest = need_mark(tokens, TokenKind::Line)?;
     define_table(alloc, rest)
+}
+
+// behind DROP: REFERENT route name
+fn drop_referent(tokens: &[Token]) -> Result<(WrittenCommand, &[Token]), Stop<'_>>
+    ensures runs { RunsTo drop_form tokens.now result }
+    ensures spelled { IfOk result (λ found. mark kinds.Drop ∷ pieces_of tokens.now
+        ≡ spelling (written_of found.0) ++ pieces_of found.1.now) }
+    ensures full { IfOk result (λ found. IsFull (written_of found.0)) }
+{
+    let rest = need_mark(tokens, TokenKind::Referent)?;
+    let (route, rest) = need_text(rest, TokenKind::Name)?;
+    let (name, rest) = need_text(rest, TokenKind::Name)?;
+    Ok((WrittenCommand::DropReferent { route, name }, rest))
+}
+
+// behind MOVE: REFERENT route name TO pos
+fn move_referent(tokens: &[Token]) -> Result<(WrittenCommand, &[Token]), Stop<'_>>
+    ensures runs { RunsTo move_form tokens.now result }
+    ensures spelled { IfOk result (λ found. mark kinds.Move ∷ pieces_of tokens.now
+        ≡ spelling (written_of found.0) ++ pieces_of found.1.now) }
+    ensures full { IfOk result (λ found. IsFull (written_of found.0)) }
+{
+    let rest = need_mark(tokens, TokenKind::Referent)?;
+    let (route, rest) = need_text(rest, TokenKind::Name)?;
+    let (name, rest) = need_text(rest, TokenKind::Name)?;
+    let rest = need_mark(rest, TokenKind::To)?;
+    let (position, rest) = position(rest)?;
+    let command = WrittenCommand::MoveReferent {
+        route,
+        name,
+        position,
+    };
+    Ok((command, rest))
 }
 
 // behind INSERT: INTO table ON route place VALUES "(" values ")"
@@ -257,7 +215,7 @@ fn insert(alloc: Global, tokens: &[Token]) -> Result<(WrittenCommand, &[Token]),
     let (table, rest) = need_text(rest, TokenKind::Name)?;
     let rest = need_mark(rest, TokenKind::On)?;
     let (route, rest) = need_text(rest, TokenKind::Name)?;
-    let ((from, to), rest) = place(rest)?;
+    let (place, rest) = place(rest)?;
     let rest = need_mark(rest, TokenKind::Values)?;
     let rest = need_mark(rest, TokenKind::LeftParen)?;
     let (values, rest) = values(alloc, rest)?;
@@ -265,11 +223,41 @@ fn insert(alloc: Global, tokens: &[Token]) -> Result<(WrittenCommand, &[Token]),
     let command = WrittenCommand::Insert {
         table,
         route,
-        from,
-        to,
+        place,
         values,
     };
     Ok((command, rest))
+}
+
+// behind TRANSLATE: route pos AS method
+fn translate(tokens: &[Token]) -> Result<(WrittenCommand, &[Token]), Stop<'_>>
+    ensures runs { RunsTo translate_form tokens.now result }
+    ensures spelled { IfOk result (λ found. mark kinds.Translate ∷ pieces_of tokens.now
+        ≡ spelling (written_of found.0) ++ pieces_of found.1.now) }
+    ensures full { IfOk result (λ found. IsFull (written_of found.0)) }
+{
+    let (route, rest) = need_text(tokens, TokenKind::Name)?;
+    let (position, rest) = position(rest)?;
+    let rest = need_mark(rest, TokenKind::As)?;
+    let (method, rest) = method(rest)?;
+    let command = WrittenCommand::Translate {
+        route,
+        position,
+        method,
+    };
+    Ok((command, rest))
+}
+
+// behind SELECT: query [ AS method ]
+fn select(tokens: &[Token]) -> Result<(WrittenCommand, &[Token]), Stop<'_>>
+    ensures runs { RunsTo select_form tokens.now result }
+    ensures spelled { IfOk result (λ found. mark kinds.Select ∷ pieces_of tokens.now
+        ≡ spelling (written_of found.0) ++ pieces_of found.1.now) }
+    ensures full { IfOk result (λ found. IsFull (written_of found.0)) }
+{
+    let (table, rest) = need_text(tokens, TokenKind::Name)?;
+    let (method, rest) = wanted_method(rest)?;
+    Ok((WrittenCommand::Select { table, method }, rest))
 }
 
 /// Reads the syntax of a command from the front, and hands back the tokens behind it.
@@ -281,10 +269,18 @@ pub fn command(alloc: Global, tokens: &[Token]) -> Result<(WrittenCommand, &[Tok
     if let Some(rest) = mark(tokens, TokenKind::Define) {
         return define(alloc, rest);
     }
+    if let Some(rest) = mark(tokens, TokenKind::Drop) {
+        return drop_referent(rest);
+    }
+    if let Some(rest) = mark(tokens, TokenKind::Move) {
+        return move_referent(rest);
+    }
     if let Some(rest) = mark(tokens, TokenKind::Insert) {
         return insert(alloc, rest);
     }
+    if let Some(rest) = mark(tokens, TokenKind::Translate) {
+        return translate(rest);
+    }
     let rest = need_mark(tokens, TokenKind::Select)?;
-    let (table, rest) = need_text(rest, TokenKind::Name)?;
-    Ok((WrittenCommand::Select { table }, rest))
+    select(rest)
 }

@@ -2,7 +2,8 @@
 //!
 //! Names, numbers and texts are still tokens of the line.
 
-use crate::token::Token;
+use rs_lexer::Token;
+use rs_methods::Method;
 
 /// The type of a column as written.
 #[derive(Clone, Copy)]
@@ -31,6 +32,31 @@ pub enum WrittenValue {
     Quoted(Token),
 }
 
+/// A position as written.
+#[derive(Clone, Copy)]
+pub enum WrittenPosition {
+    /// A measure.
+    Measure(Token),
+    /// The number of a percentage.
+    Percentage(Token),
+    /// A referent's name alone.
+    Referent(Token),
+    /// A referent's name and the measure beyond it.
+    Beyond(Token, Token),
+    /// A referent's name and the measure before it.
+    Before(Token, Token),
+}
+
+/// Where an event is put, as written.
+#[derive(Clone, Copy)]
+pub enum WrittenPlace {
+    /// `FROM` a position `TO` another.
+    Along {
+        from: WrittenPosition,
+        to: WrittenPosition,
+    },
+}
+
 /// A command as written.
 #[derive(Drop)]
 pub enum WrittenCommand {
@@ -45,16 +71,39 @@ pub enum WrittenCommand {
         name: Token,
         columns: Vec<WrittenColumn>,
     },
+    /// `DEFINE REFERENT`.
+    DefineReferent {
+        route: Token,
+        name: Token,
+        position: WrittenPosition,
+    },
+    /// `MOVE REFERENT`.
+    MoveReferent {
+        route: Token,
+        name: Token,
+        position: WrittenPosition,
+    },
+    /// `DROP REFERENT`.
+    DropReferent {
+        route: Token,
+        name: Token,
+    },
     /// `INSERT`.
     Insert {
         table: Token,
         route: Token,
-        from: Token,
-        to: Token,
+        place: WrittenPlace,
         values: Vec<WrittenValue>,
     },
-    /// `SELECT`.
+    /// `TRANSLATE`.
+    Translate {
+        route: Token,
+        position: WrittenPosition,
+        method: Method,
+    },
+    /// `SELECT`, with the method behind `AS` where there is one.
     Select {
         table: Token,
+        method: Option<Method>,
     },
 }

@@ -1,6 +1,6 @@
 //! Lines and their answers, with columns counted by hand.
 
-use crate::{Command, Place, Query, command_of};
+use crate::{Command, Method, Place, Position, Query, command_of};
 use rs_measure::Refusal;
 use rs_value::{ColumnType, Kind, Literal};
 use std::alloc::{AllocError, Global};
@@ -129,13 +129,13 @@ fn refusal_of(alloc: Global, line: &str) -> Option<Refusal> {
     command_of(alloc, line, 2).err()
 }
 
-fn expect_all(alloc: Global, lines: &[&str], answer: Option<Refusal>, rt: &impl Abort) {
+pub fn expect_all(alloc: Global, lines: &[&str], answer: Option<Refusal>, rt: &impl Abort) {
     for line in lines {
         assert_eq!(rt; refusal_of(alloc, line), answer, "at {line:?}");
     }
 }
 
-fn expect_columns(alloc: Global, faults: &[(&str, usize)], rt: &impl Abort) {
+pub fn expect_columns(alloc: Global, faults: &[(&str, usize)], rt: &impl Abort) {
     for (line, column) in faults {
         assert_eq!(rt;
             refusal_of(alloc, line),
@@ -170,7 +170,7 @@ fn ranges_come_last(rt: HostRuntime) {
     );
 }
 
-fn command(alloc: Global, line: &str, rt: &impl Abort) -> Command {
+pub fn command(alloc: Global, line: &str, rt: &impl Abort) -> Command {
     command_of(alloc, line, 2).expect(rt, "a command")
 }
 
@@ -214,6 +214,13 @@ fn a_table_has_its_columns(rt: HostRuntime) {
     }
 }
 
+pub fn expect_absolute(position: Position, thousandths: u32, rt: &impl Abort) {
+    match position {
+        Position::Absolute(measure) => assert_eq!(rt; measure.thousandths(), thousandths),
+        _ => panic!(rt; "another position"),
+    }
+}
+
 fn text(alloc: Global, text: &str) -> Result<Literal, AllocError> {
     Ok(Literal::Text(String::from_str(alloc, text)?))
 }
@@ -232,8 +239,8 @@ fn a_row_has_its_values(rt: HostRuntime) -> Result<(), Fail> {
             assert_eq!(rt; table.as_str(), "pave");
             assert_eq!(rt; route.as_str(), "A");
             let Place::Along { from, to } = place;
-            assert_eq!(rt; from.thousandths(), 500);
-            assert_eq!(rt; to.thousandths(), 2_000);
+            expect_absolute(from, 500, &rt);
+            expect_absolute(to, 2_000, &rt);
             assert_eq!(rt; values.len(), 6);
             assert_eq!(rt; values[0], text(rt.alloc(), "caf\u{e9} 'x'")?);
             assert_eq!(rt; values[1], Literal::Null);
@@ -248,13 +255,21 @@ fn a_row_has_its_values(rt: HostRuntime) -> Result<(), Fail> {
 }
 
 #[test]
-fn a_selection_has_its_query(rt: HostRuntime) {
-    match command(rt.alloc(), "0 SELECT pave", &rt) {
-        Command::Select { query } => {
-            let Query::Named(name) = query;
-            assert_eq!(rt; name.as_str(), "pave");
+fn a_selection_has_its_query_and_method(rt: HostRuntime) {
+    for (line, wanted) in [
+        ("0 SELECT pave", Method::Absolute),
+        ("0 SELECT pave AS ABSOLUTE", Method::Absolute),
+        ("0 SELECT pave AS RELATIVE", Method::Relative),
+        ("0 SELECT pave AS INTERPOLATIVE", Method::Interpolative),
+    ] {
+        match command(rt.alloc(), line, &rt) {
+            Command::Select { query, method } => {
+                let Query::Named(name) = query;
+                assert_eq!(rt; name.as_str(), "pave", "at {line:?}");
+                assert_eq!(rt; method, wanted, "at {line:?}");
+            }
+            _ => panic!(rt; "another command"),
         }
-        _ => panic!(rt; "another command"),
     }
 }
 

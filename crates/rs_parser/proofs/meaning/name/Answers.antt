@@ -1,5 +1,5 @@
 use Rattle.std.proofs.Common.{length, ap, arith}
-use Rattle.rs_parser.proofs.TokenLaws.{name_fits}
+use Rattle.rs_lexer.proofs.TokenLaws.{name_fits}
 use Rattle.rs_parser.proofs.meaning.name.Goals as goal
 
 pub push_str-requires : goal.push_str-requires

@@ -1,4 +1,4 @@
-use Rattle.rs_parser.proofs.TokenLaws.{start_boundary, end_boundary}
+use Rattle.rs_lexer.proofs.TokenLaws.{start_boundary, end_boundary}
 use Rattle.rs_parser.proofs.meaning.text.Goals as goal
 
 pub range-requires-clause-start_boundary : goal.range-requires-clause-start_boundary

@@ -1,6 +1,6 @@
 use Rattle.std.proofs.Common.{◌≡◌, ◌≤◌, true, take}
 use Rattle.rs_grammar.specs.declared.kind.TheConstants.{BRACKETS}
-use Rattle.rs_parser.specs.Lexis.{kinds_of}
+use Rattle.rs_lexer.specs.Lexis.{kinds_of}
 use Rattle.rs_grammar.specs.Grammar.{is_shallow}
 use Rattle.rs_parser.proofs.BracketLaws.{open_behind}
 use Rattle.rs_parser.proofs.parser.shallow_count.Given as goal

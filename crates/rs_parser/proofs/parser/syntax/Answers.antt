@@ -1,7 +1,7 @@
 use Rattle.std.proofs.Common.{◌-◌, ◌<◌, ◌≤◌, [], length, take, Some, Ok, sym, ap, ◌∙◌, subst, inr, arith}
 use Rattle.std.proofs.lemmas.List.{take_rest}
 use Rattle.rs_measure.specs.declared.refusal.Refusal.TheVariants.{Syntax}
-use Rattle.rs_parser.specs.Lexis.{kinds_of}
+use Rattle.rs_lexer.specs.Lexis.{kinds_of}
 use Rattle.rs_grammar.specs.Grammar.{command_form}
 use Rattle.rs_parser.specs.Reading.{Runs, halt_of, StopsAt, written_of}
 use Rattle.rs_parser.specs.Verdict.{fault_column, FitsNoRule}

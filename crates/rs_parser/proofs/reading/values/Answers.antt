@@ -1,6 +1,6 @@
 use Rattle.std.proofs.Common.{◌≡◌, ◌++◌, is_ok, refl, sym, ap, ◌∙◌, subst, rules as search_rules}
 use Rattle.std.proofs.ResultArms.{chosen}
-use Rattle.rs_parser.specs.declared.reading.Stop.TheVariants.{OutOfMemory}
+use Rattle.rs_parser.specs.declared.front.Stop.TheVariants.{OutOfMemory}
 use Rattle.rs_parser.specs.Written.{value_pieces, list_pieces}
 use Rattle.std.proofs.lemmas.Result.{err_from_is_err_and}
 use Rattle.rs_grammar.specs.Grammar.{rules, value, values}

@@ -1,0 +1,3 @@
+mod ScanningLaws
+pub mod CutLaws
+pub mod TokenLaws

@@ -1,0 +1,2 @@
+pub mod Lexis
+pub mod Scanning

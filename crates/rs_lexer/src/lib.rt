@@ -1,0 +1,22 @@
+//! The tokens of a line.
+//!
+//! A line is cut by the longest match: each token is a slice of the line, in order, and blanks alone part
+//! them. A line has one cut, or none, and then it is refused.
+#![tactic(auto)]
+
+ghost use Rattle.std.specs.Prelude.{◌≡◌, ℕ, List};
+ghost use Rattle.rs_lexer.specs.declared.token.Token.{Token};
+ghost use Rattle.rs_lexer.specs.Lexis.{IsCut};
+
+mod scan;
+#[cfg(test)]
+mod tests;
+pub mod token;
+
+pub use rs_grammar::kind::{NAME_BYTES, TokenKind};
+pub use token::{Token, tokens};
+
+/// A line has one cut into tokens at the most.
+pub fn line_has_one_cut()
+    ensures { (line : List ℕ) (from : ℕ) (a b : List Token) → IsCut line from a → IsCut line from b → a ≡ b }
+{}

@@ -1,0 +1,60 @@
+//! The tokens of a line, cut by the longest match.
+//!
+//! Blanks part tokens. Where no token begins at a byte that is no blank, the line has none.
+
+ghost use Rattle.std.specs.Prelude.{◌≡◌, ◌==◌, ◌⊎◌, List, IfOk, IfErr, All};
+ghost use Rattle.rs_lexer.specs.declared.token.Token.{Token};
+ghost use Rattle.rs_lexer.specs.Lexis.{IsTokenOf, IsCut};
+
+use crate::scan::front_token;
+use rs_grammar::kind::TokenKind;
+use rs_measure::Refusal;
+use std::alloc::Global;
+
+/// A token of a line: its kind, and the place and the number of its bytes in the line.
+#[derive(Clone, Copy, Debug)]
+pub struct Token {
+    pub kind: TokenKind,
+    pub first: usize,
+    pub length: usize,
+}
+
+// Blanks part tokens and are dropped.
+fn is_blank(byte: u8) -> bool
+    ensures { result ≡ (byte == 32) }
+{
+    byte == b' '
+}
+
+/// The tokens of the line from a byte place on.
+///
+/// Refused `UnknownCharacter` where the line can't be cut into tokens from there on, and
+/// `OutOfMemory` where a growth was refused.
+pub fn tokens(alloc: Global, line: &str, from: usize) -> Result<Vec<Token>, Refusal>
+    ensures cut { IfOk result (λ tokens. IsCut line.now from tokens.items) }
+    ensures inside { IfOk result (λ tokens. All (IsTokenOf line.now) tokens.items) }
+    // 10 exactly where there is no cut.
+    ensures refused { IfErr result (λ refusal. (refusal ≡ Refusal.OutOfMemory)
+        ⊎ ((refusal ≡ Refusal.UnknownCharacter) × ((tokens : List Token) → IsCut line.now from tokens → ⊥))) }
+{
+    let bytes = line.as_bytes();
+    let mut tokens = Vec::new(alloc);
+    let mut place = from;
+    while place < bytes.len() {
+        if is_blank(bytes[place]) {
+            place += 1;
+        } else {
+            let Some((kind, length)) = front_token(&bytes[place..]) else {
+                return Err(Refusal::UnknownCharacter);
+            };
+            let token = Token {
+                kind,
+                first: place,
+                length,
+            };
+            tokens.push(token).map_err(|_| Refusal::OutOfMemory)?;
+            place += length;
+        }
+    }
+    Ok(tokens)
+}

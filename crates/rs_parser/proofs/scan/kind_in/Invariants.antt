@@ -1,8 +1,0 @@
-use Rattle.std.proofs.Common.{◌≡◌, drop}
-use Rattle.rs_parser.specs.Lexis.{kind_in}
-use Rattle.rs_parser.specs.Scanning.{rows_of}
-use Rattle.rs_parser.proofs.scan.kind_in.Given as goal
-
--- the rows from here on decide
-abbrev pub invariant-loop-row : goal.invariant-loop-row
-invariant-loop-row l = kind_in (rows_of (drop l.row-index l.table)) l.word ≡ kind_in (rows_of l.table) l.word
