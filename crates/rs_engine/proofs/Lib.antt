@@ -4,5 +4,7 @@ mod TableLaws
 mod Printing
 mod ColumnNames
 mod StateLaws
+mod ReferentLaws
+mod Positions
 mod Outcomes
 mod Selection

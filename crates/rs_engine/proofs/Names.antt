@@ -43,7 +43,7 @@ unfolding name_cmp
 turned key q = (eq_by_cmp_equiv name_cmp-total).symm key.bytes q
 
 -- a list in the order of its names is the entries of its map
-entries-from_entries : {X : Type 0} (entries : List (Name × X)) → T (is_sorted name_cmp entries) → names.entries (names.from_entries {R = name_cmp} entries) ≡ entries
+pub entries-from_entries : {X : Type 0} (entries : List (Name × X)) → T (is_sorted name_cmp entries) → names.entries (names.from_entries {R = name_cmp} entries) ≡ entries
 entries-from_entries entries h =
     ap names.entries (same_map name_cmp-total name_cmp-antisymmetric (names.from_entries entries) (names.from_sorted entries)
     (λ q. get-from_entries name_cmp-total entries q ∙ sym (get-from_sorted name_cmp entries q h)))
@@ -149,11 +149,11 @@ module _ {X Y : Type 0} (change : X → Y) where
   len-map_values values = len-entries _ ∙ ap length (entries-from_entries _ (sorted-map (names.entries values) (entries_sorted values)))
       ∙ length-map (names.entries values) (λ e. (e.0, change e.1)) ∙ sym (len-entries values)
 
-left_true : (a b : Bool) → T (a && b) → T a
+pub left_true : (a b : Bool) → T (a && b) → T a
 left_true true b h = tt
 left_true false b h = absurd h
 
-right_true : (a b : Bool) → T (a && b) → T b
+pub right_true : (a b : Bool) → T (a && b) → T b
 right_true true b h = h
 right_true false b h = absurd h
 

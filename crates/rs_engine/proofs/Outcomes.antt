@@ -1,5 +1,5 @@
 -- What the machine answers where a check of a command fails, and where all pass.
-use Rattle.std.proofs.Common.{◌≡◌, ℕ, ◌+◌, ◌<◌, ◌≤◌, Bool, true, false, ◌&&◌, nat_lt, ◌⊎◌, inr, Bor, List, length, map, Option, Some, None, Result, Ok, Err, refl, sym, ap, subst, ◌∙◌, arith}
+use Rattle.std.proofs.Common.{◌≡◌, ℕ, ◌+◌, ◌<◌, ◌≤◌, Bool, true, false, nat_lt, ◌⊎◌, inr, Bor, List, length, map, Option, Some, None, Result, Ok, Err, refl, sym, ap, subst, ◌∙◌, arith}
 use Rattle.std.specs.Prelude.{is_some, nat_le}
 use Rattle.std.specs.Option.{option_map, option_copied}
 use Rattle.std.proofs.Math.Path.{fun_ext}
@@ -8,7 +8,7 @@ use Rattle.std.proofs.lemmas.Bool.Decides.{nat_tests}
 use Rattle.std.proofs.lemmas.List.{length-map}
 use Rattle.std.specs.FinMap as names
 use Rattle.rs_measure.specs.declared.refusal.Refusal.{Refusal}
-use Rattle.rs_measure.specs.declared.refusal.Refusal.TheVariants.{OutOfMemory, OutsideTheRoute, EmptySpan, NoSuchRoute, NoSuchName, NameTaken, ColumnTwice, Limit, PointOrLineWanted}
+use Rattle.rs_measure.specs.declared.refusal.Refusal.TheVariants.{OutOfMemory, NoSuchRoute, NoSuchName, NameTaken, ColumnTwice, Limit, PointOrLineWanted}
 use Rattle.rs_value.specs.declared.column.Kind.{Kind}
 use Rattle.rs_value.specs.declared.column.Kind.TheVariants.{Point, Line}
 use Rattle.rs_value.specs.declared.column.TheConstants.{COLUMNS}
@@ -19,13 +19,13 @@ use Rattle.rs_parser.specs.declared.commands.ColumnDefinition.{ColumnDefinition}
 use Rattle.rs_parser.specs.View.{column_tree}
 use Rattle.rs_parser.specs.Tree.{PlaceTree, along}
 use Rattle.rs_machine.specs.declared.limits.TheConstants.{TABLES, CHANGES}
-use Rattle.rs_machine.specs.Checks.{◌>>=◌, unless, some_name_twice, column_names, span_on, row_fits, holds_lines}
+use Rattle.rs_machine.specs.Checks.{◌>>=◌, unless, found, some_name_twice, column_names, row_fits, holds_lines}
 use Rattle.rs_machine.specs.State.{State}
 use Rattle.rs_machine.specs.Step.{Effect, counted, may_change, table_defined, row_inserted, with_table, empty_table, with_facts_along}
 use Rattle.rs_facts.specs.Insert.{new_facts}
 use Rattle.rs_engine.specs.Insertion.{TakesRow}
-use Rattle.rs_engine.specs.Kept.{KeptTable, Kept, facts_kept, state_of, table_of, tables_of}
-use Rattle.rs_engine.specs.Insertion.{MayBePut}
+use Rattle.rs_engine.specs.Kept.{KeptTable, Kept, facts_kept, referents_kept, state_of, table_of, tables_of}
+use Rattle.rs_engine.specs.Insertion.{MayBePut, span_of_place}
 use Rattle.rs_facts.specs.Runs.{Stretch}
 use Rattle.rs_facts.specs.Spans.{IsPlaced}
 use Rattle.rs_engine.proofs.TableLaws.{facts-none, some_same}
@@ -84,9 +84,9 @@ module _ (kept : Kept) (kind : Kind) (name : Name) (columns : List Column) where
 
   -- the state after the definition is that of the tables with the new one
   pub table_defined-state : (tables : Names KeptTable) → tables ≡ names.insert kept.tables name (record { kind = kind; columns = columns; spans = names.empty })
-      → with_table (state_of kept) name (empty_table kind columns) ≡ state_of (record { routes = kept.routes; tables = tables; changes = kept.changes + 1 })
+      → with_table (state_of kept) name (empty_table kind columns) ≡ state_of (record { routes = kept.routes; referents = kept.referents; tables = tables; changes = kept.changes + 1 })
   table_defined-state tables put =
-      ap (λ (seen : Names Table). record { routes = kept.routes; tables = seen; changes = kept.changes + 1; cursors = λ session. names.empty })
+      ap (λ (seen : Names Table). record { routes = kept.routes; referents = referents_kept kept.referents; tables = seen; changes = kept.changes + 1; cursors = λ session. names.empty })
       (ap (names.insert (tables_of kept.tables) name) (sym (table_of-empty kind columns)) ∙ sym (tables_of-insert kept.tables name _) ∙ ap tables_of (sym put))
 
 -- whether a look-up that lends what it finds finds something
@@ -122,41 +122,38 @@ pub row_no_table : (kept : Kept) (name route : Name) (place : PlaceTree) (row : 
 row_no_table kept name route (along lo hi) row ends e f = rw (e, no_table_at kept.tables name f)
 
 -- what an insertion answers once its route and its table are found
-after_names : State → Name → Name → RouteEnds → Table → ℕ → ℕ → Row → Result Effect Refusal
-after_names state name route ends table lo hi row = do
-  _ ← span_on ends lo hi
+after_names : State → Name → Name → RouteEnds → Table → PlaceTree → Row → Result Effect Refusal
+after_names state name route ends table place row = do
+  span ← span_of_place state route ends place
   _ ← unless (holds_lines table.kind) PointOrLineWanted
   _ ← row_fits table.columns row
   _ ← may_change state
-  Ok (counted (new_facts table.facts route lo hi row) (with_table state name (with_facts_along table route lo hi row)))
+  Ok (counted (new_facts table.facts route span.0 span.1 row) (with_table state name (with_facts_along table route span.0 span.1 row)))
 
-module _ (kept : Kept) (name route : Name) (row : Row) (ends : RouteEnds) (table : KeptTable) (lo hi : ℕ) where
-  names_found : names.get kept.routes route ≡ Some ends → names.get kept.tables name ≡ Some table
-      → row_inserted (state_of kept) name route (along lo hi) row ≡ after_names (state_of kept) name route ends (table_of table) lo hi row
+names_found : (kept : Kept) (name route : Name) (row : Row) (ends : RouteEnds) (table : KeptTable) (place : PlaceTree) → names.get kept.routes route ≡ Some ends → names.get kept.tables name ≡ Some table
+    → row_inserted (state_of kept) name route place row ≡ after_names (state_of kept) name route ends (table_of table) place row
+unfolding after_names
+names_found kept name route row ends table (along from to) e f = rw (e, table_at kept.tables name table f)
+
+module _ (kept : Kept) (name route : Name) (row : Row) (ends : RouteEnds) (table : KeptTable) (place : PlaceTree) (route_there : names.get kept.routes route ≡ Some ends) (table_there : names.get kept.tables name ≡ Some table) where
+  pub row_off_route : (refusal : Refusal) → span_of_place (state_of kept) route ends place ≡ Err refusal → row_inserted (state_of kept) name route place row ≡ Err refusal
   unfolding after_names
-  names_found e f = rw (e, table_at kept.tables name table f)
+  row_off_route refusal g = names_found kept name route row ends table place route_there table_there ∙ rw g
 
-  pub row_off_route : (place : PlaceTree) (refusal : Refusal) → names.get kept.routes route ≡ Some ends → names.get kept.tables name ≡ Some table → place ≡ along lo hi
-      → span_on ends lo hi ≡ Err refusal → row_inserted (state_of kept) name route place row ≡ Err refusal
-  unfolding after_names
-  row_off_route place refusal e f p g = ap (λ (place : PlaceTree). row_inserted (state_of kept) name route place row) p ∙ names_found e f ∙ rw g
+  module _ (span : ℕ × ℕ) (located : span_of_place (state_of kept) route ends place ≡ Ok span) where
+    pub row_not_lines : table.kind ≡ Point → row_inserted (state_of kept) name route place row ≡ Err PointOrLineWanted
+    unfolding after_names table_of
+    row_not_lines h = names_found kept name route row ends table place route_there table_there ∙ rw (located, h)
 
-  pub row_not_lines : (place : PlaceTree) → names.get kept.routes route ≡ Some ends → names.get kept.tables name ≡ Some table → place ≡ along lo hi
-      → span_on ends lo hi ≡ Ok tt → table.kind ≡ Point → row_inserted (state_of kept) name route place row ≡ Err PointOrLineWanted
-  unfolding after_names table_of
-  row_not_lines place e f p g h = ap (λ (place : PlaceTree). row_inserted (state_of kept) name route place row) p ∙ names_found e f ∙ rw (g, h)
+    pub row_misfit : (refusal : Refusal) → table.kind ≡ Line → row_fits table.columns row ≡ Err refusal → row_inserted (state_of kept) name route place row ≡ Err refusal
+    unfolding after_names table_of
+    row_misfit refusal h k = names_found kept name route row ends table place route_there table_there ∙ rw (located, h, k)
 
-  pub row_misfit : (place : PlaceTree) (refusal : Refusal) → names.get kept.routes route ≡ Some ends → names.get kept.tables name ≡ Some table → place ≡ along lo hi
-      → span_on ends lo hi ≡ Ok tt → table.kind ≡ Line → row_fits table.columns row ≡ Err refusal → row_inserted (state_of kept) name route place row ≡ Err refusal
-  unfolding after_names table_of
-  row_misfit place refusal e f p g h k = ap (λ (place : PlaceTree). row_inserted (state_of kept) name route place row) p ∙ names_found e f ∙ rw (g, h, k)
-
-  row_passed : (place : PlaceTree) → names.get kept.routes route ≡ Some ends → names.get kept.tables name ≡ Some table → place ≡ along lo hi
-      → span_on ends lo hi ≡ Ok tt → table.kind ≡ Line → row_fits table.columns row ≡ Ok tt
-      → row_inserted (state_of kept) name route place row
-      ≡ (may_change (state_of kept) >>= λ _. Ok (counted (new_facts (facts_kept table) route lo hi row) (with_table (state_of kept) name (with_facts_along (table_of table) route lo hi row))))
-  unfolding after_names table_of
-  row_passed place e f p g h k = ap (λ (place : PlaceTree). row_inserted (state_of kept) name route place row) p ∙ names_found e f ∙ rw (g, h, k)
+    row_passed : table.kind ≡ Line → row_fits table.columns row ≡ Ok tt
+        → row_inserted (state_of kept) name route place row
+        ≡ (may_change (state_of kept) >>= λ _. Ok (counted (new_facts (facts_kept table) route span.0 span.1 row) (with_table (state_of kept) name (with_facts_along (table_of table) route span.0 span.1 row))))
+    unfolding after_names table_of
+    row_passed h k = names_found kept name route row ends table place route_there table_there ∙ rw (located, h, k)
 
 may_not : (kept : Kept) → CHANGES ≤ kept.changes → may_change (state_of kept) ≡ Err Limit
 may_not kept h = rw (below-false kept.changes CHANGES h)
@@ -168,7 +165,7 @@ module _ (kept : Kept) (name route : Name) (place : PlaceTree) (row : Row) (span
   passed_to : row_inserted (state_of kept) name route place row
       ≡ (may_change (state_of kept) >>= λ _. Ok (counted (new_facts (facts_kept passed.table) route span.lo span.hi span.row) (with_table (state_of kept) name (with_facts_along (table_of passed.table) route span.lo span.hi span.row))))
   passed_to = ap (row_inserted (state_of kept) name route place) passed.row_is
-      ∙ row_passed kept name route span.row passed.ends passed.table span.lo span.hi place passed.route_there passed.table_there passed.place_is passed.on_route passed.lines passed.fits
+      ∙ row_passed kept name route span.row passed.ends passed.table place passed.route_there passed.table_there (span.lo, span.hi) passed.located passed.lines passed.fits
 
   pub row_no_change : CHANGES ≤ kept.changes → row_inserted (state_of kept) name route place row ≡ Err Limit
   row_no_change h = passed_to ∙ ap (λ (r : Result (Unit {0}) Refusal). r >>= λ _. Ok (counted (new_facts (facts_kept passed.table) route span.lo span.hi span.row) (with_table (state_of kept) name (with_facts_along (table_of passed.table) route span.lo span.hi span.row)))) (may_not kept h)
@@ -183,10 +180,15 @@ lent_found lent found x e f = sym e ∙ ap option_copied f
 pub lent_none : {X : Type 0} (lent : Option (Bor X)) (found : Option X) → option_copied lent ≡ found → lent ≡ None → found ≡ None
 lent_none lent found e f = sym e ∙ ap option_copied f
 
+-- what a look-up that answered stands for
+pub found_there : {X : Type 0} (looked_up : Option X) (x : X) (refusal : Refusal) → Ok x ≡ found looked_up refusal → looked_up ≡ Some x
+found_there None x refusal e = cc
+found_there (Some y) x refusal e = cc
+
 -- a row that may be put, and is
 pub row_put : (kept : Kept) (name route : Name) (place : PlaceTree) (row : Row) (span : Stretch) (passed : MayBePut kept name route place row span) (new : Names KeptTable) (count : ℕ)
     → TakesRow kept.tables name route span new count → kept.changes < CHANGES
-    → row_inserted (state_of kept) name route place row ≡ Ok (counted count (state_of (record { routes = kept.routes; tables = new; changes = kept.changes + 1 })))
+    → row_inserted (state_of kept) name route place row ≡ Ok (counted count (state_of (record { routes = kept.routes; referents = kept.referents; tables = new; changes = kept.changes + 1 })))
 row_put kept name route place row span passed new count takes h =
     let one : passed.table ≡ takes.table = some_same _ _ (sym passed.table_there ∙ takes.there) in
     let tables : names.insert (tables_of kept.tables) name (with_facts_along (table_of takes.table) route span.lo span.hi span.row) ≡ tables_of new =
@@ -194,34 +196,7 @@ row_put kept name route place row span passed new count takes h =
     row_accepted kept name route place row span passed h
     ∙ ap (λ (table : KeptTable). Ok (counted (new_facts (facts_kept table) route span.lo span.hi span.row) (with_table (state_of kept) name (with_facts_along (table_of table) route span.lo span.hi span.row)))) one
     ∙ ap (λ (n : ℕ). Ok (counted n (with_table (state_of kept) name (with_facts_along (table_of takes.table) route span.lo span.hi span.row)))) (sym takes.counted)
-    ∙ ap (λ (seen : Names Table). Ok (counted count (record { routes = kept.routes; tables = seen; changes = kept.changes + 1; cursors = λ session. names.empty }))) tables
-
--- ---- what the checks of a span say
-
-unless_ok : {B : Type 0} (test : Bool) (refusal : Refusal) (next : Unit {0} → Result B Refusal) (x : B) → (unless test refusal >>= next) ≡ Ok x → (test ≡ true) × (next tt ≡ Ok x)
-unless_ok true refusal next x e = (refl, e)
-unless_ok false refusal next x e = cc
-
-unless_last : (test : Bool) (refusal : Refusal) (x : Unit {0}) → unless test refusal ≡ Ok x → test ≡ true
-unless_last true refusal x e = refl
-unless_last false refusal x e = cc
-
-both_true : (a b : Bool) → (a && b) ≡ true → (a ≡ true) × (b ≡ true)
-both_true true b e = (refl, e)
-both_true false b e = cc
-
-at_most : (a b : ℕ) → nat_le a b ≡ true → a ≤ b
-at_most a b e = grind (arith, nat_tests)
-
-less_than : (a b : ℕ) → nat_lt a b ≡ true → a < b
-less_than a b e = grind (arith, nat_tests)
-
-pub span_bounds : (ends : RouteEnds) (lo hi : ℕ) → span_on ends lo hi ≡ Ok tt → (ends.start ≤ lo) × (lo < hi) × (hi ≤ ends.finish)
-span_bounds ends lo hi e =
-    let first = unless_ok (nat_le ends.start lo && nat_le lo ends.finish) OutsideTheRoute _ tt e in
-    let second = unless_ok (nat_le ends.start hi && nat_le hi ends.finish) OutsideTheRoute _ tt first.1 in
-    let third = unless_last (nat_lt lo hi) EmptySpan tt second.1 in
-    (at_most _ _ (both_true _ _ first.0).0, less_than _ _ third, at_most _ _ (both_true _ _ second.0).1)
+    ∙ ap (λ (seen : Names Table). Ok (counted count (record { routes = kept.routes; referents = referents_kept kept.referents; tables = seen; changes = kept.changes + 1; cursors = λ session. names.empty }))) tables
 
 pub lines_placed : (kind : Kind) (span : Stretch) → kind ≡ Line → span.lo < span.hi → IsPlaced kind span
 lines_placed kind span e h = subst (λ (kind : Kind). IsPlaced kind span) (sym e) h

@@ -1,5 +1,5 @@
--- The runs of a table on one route are printed whole, and their positions are measures.
-use Rattle.std.proofs.Common.{◌≡◌, ℕ, true, ◌+◌, ◌-◌, ◌≤◌, List, [], Some, sym, subst, arith}
+-- The runs of a table on one route are printed whole, and their positions lie on the route.
+use Rattle.std.proofs.Common.{◌≡◌, ℕ, ◌+◌, ◌-◌, ◌≤◌, List, [], Some, sym, subst, arith}
 use Rattle.std.specs.List.{AllByRecursion}
 use Rattle.rs_measure.specs.declared.measure.TheConstants.{GREATEST_MEASURE}
 use Rattle.rs_value.specs.declared.column.Kind.{Kind}
@@ -8,55 +8,50 @@ use Rattle.rs_facts.specs.Fact.{Places}
 use Rattle.rs_facts.specs.Query.{RouteEnds}
 use Rattle.rs_facts.specs.Runs.{Stretch, IsLineRun, IsPointRun, IsMaximalRun, AreRunsOf, runs_of}
 use Rattle.rs_facts.specs.Spans.{places_of}
-use Rattle.rs_facts.proofs.Placing.{within-bounds, within-true}
+use Rattle.rs_facts.proofs.Placing.{within-bounds}
 use Rattle.rs_facts.proofs.KeptLaws.{every-weaker}
 use Rattle.rs_facts.proofs.Apart.{kept-apart}
 use Rattle.rs_facts.proofs.RunLaws.{runs-from_apart}
 use Rattle.rs_facts.specs.Runs.{LieWithin}
 use Rattle.rs_facts.proofs.RunsOf.{runs_of-unique}
-use Rattle.rs_engine.specs.Placed.{may_hold, LieOn}
-use Rattle.rs_engine.specs.Printed.{IsPrintable, LONGEST_ROUTE}
+use Rattle.rs_engine.specs.Placed.{LieOn}
+use Rattle.rs_engine.specs.Printed.{IsPlaceOn, IsPrintable}
 
 pub hold_within : (kind : Kind) (ends : RouteEnds) (places : Places) → LieOn kind (Some ends) places → LieWithin ends.start (ends.finish + 1) places
 unfolding LieOn
 hold_within Line ends places on k row held = let bounds = within-bounds ends.start ends.finish k (on k row held) in (bounds.0, omega (arith, bounds.1))
 hold_within Point ends places on k row held = within-bounds ends.start (ends.finish + 1) k (on k row held)
 
-line_printable : (ends : RouteEnds) (places : Places) → ends.finish ≤ GREATEST_MEASURE → LieOn Line (Some ends) places → (run : Stretch) → IsLineRun places run → IsPrintable Line run
+between : (ends : RouteEnds) (place : ℕ) → ends.start ≤ place → place ≤ ends.finish → ends.finish ≤ GREATEST_MEASURE → IsPlaceOn ends place
+between ends place from upto measured = record { from_start = from; upto_finish = upto; measured = omega arith }
+
+line_printable : (ends : RouteEnds) (places : Places) → ends.finish ≤ GREATEST_MEASURE → LieOn Line (Some ends) places → (run : Stretch) → IsLineRun places run → IsPrintable ends Line run
 unfolding LieOn
 line_printable ends places measured on run is =
     let some = is.some in
     let first = within-bounds ends.start ends.finish run.lo (on run.lo run.row (is.holds run.lo (omega arith) (omega arith))) in
     let last = within-bounds ends.start ends.finish (run.hi - 1) (on (run.hi - 1) run.row (is.holds (run.hi - 1) (omega arith) (omega arith))) in
-    (omega (arith, first.1), omega (arith, last.1))
+    (between ends run.lo first.0 (omega (arith, first.1)) measured, between ends run.hi (omega (arith, first.0)) (omega (arith, last.1)) measured)
 
-point_printable : (ends : RouteEnds) (places : Places) → ends.finish ≤ GREATEST_MEASURE → LieOn Point (Some ends) places → (run : Stretch) → IsPointRun places run → IsPrintable Point run
+point_printable : (ends : RouteEnds) (places : Places) → ends.finish ≤ GREATEST_MEASURE → LieOn Point (Some ends) places → (run : Stretch) → IsPointRun places run → IsPrintable ends Point run
 unfolding LieOn
 point_printable ends places measured on run is =
-    let first = within-bounds ends.start (ends.finish + 1) run.lo (on run.lo run.row is.holds) in omega (arith, first.1)
+    let first = within-bounds ends.start (ends.finish + 1) run.lo (on run.lo run.row is.holds) in
+    between ends run.lo first.0 (omega (arith, first.1)) measured
 
-printable : (kind : Kind) (ends : RouteEnds) (places : Places) → ends.finish ≤ GREATEST_MEASURE → LieOn kind (Some ends) places → (run : Stretch) → IsMaximalRun kind places run → IsPrintable kind run
+printable : (kind : Kind) (ends : RouteEnds) (places : Places) → ends.finish ≤ GREATEST_MEASURE → LieOn kind (Some ends) places → (run : Stretch) → IsMaximalRun kind places run → IsPrintable ends kind run
 printable Line = line_printable
 printable Point = point_printable
 
--- the positions of the runs are measures
+-- the positions of the runs lie on the route
 pub runs_printable : (kind : Kind) (ends : RouteEnds) (places : Places) (runs : List Stretch) → ends.finish ≤ GREATEST_MEASURE → LieOn kind (Some ends) places
-    → AreRunsOf kind places runs → AllByRecursion (IsPrintable kind) runs
+    → AreRunsOf kind places runs → AllByRecursion (IsPrintable ends kind) runs
 runs_printable kind ends places runs measured on are =
-    every-weaker (IsMaximalRun kind places) (IsPrintable kind) (printable kind ends places measured on) runs are.maximal
+    every-weaker (IsMaximalRun kind places) (IsPrintable ends kind) (printable kind ends places measured on) runs are.maximal
 
 -- where nothing is kept, there are no runs
 pub no_runs : (kind : Kind) (places : Places) → places ≡ places_of [] → AreRunsOf kind places []
 no_runs kind places nothing = subst (λ (p : Places). AreRunsOf kind p []) (sym nothing) (runs-from_apart kind [] tt (kept-apart kind [] tt) tt)
-
--- what lies on a route lies on the longest
-longest : (kind : Kind) (ends : RouteEnds) (k : ℕ) → ends.finish ≤ GREATEST_MEASURE → may_hold kind (Some ends) k ≡ true → may_hold kind (Some LONGEST_ROUTE) k ≡ true
-longest Line ends k measured held = let bounds = within-bounds ends.start ends.finish k held in within-true 0 GREATEST_MEASURE k (omega arith) (omega (arith, bounds.1))
-longest Point ends k measured held = let bounds = within-bounds ends.start (ends.finish + 1) k held in within-true 0 (GREATEST_MEASURE + 1) k (omega arith) (omega (arith, bounds.1))
-
-pub on_longest : (kind : Kind) (ends : RouteEnds) (places : Places) → ends.finish ≤ GREATEST_MEASURE → LieOn kind (Some ends) places → LieOn kind (Some LONGEST_ROUTE) places
-unfolding LieOn
-on_longest kind ends places measured on k row held = longest kind ends k measured (on k row held)
 
 -- the runs of what lies on a route are those from its start to its finish
 pub same_runs : (kind : Kind) (ends : RouteEnds) (places : Places) (runs : List Stretch) → LieOn kind (Some ends) places → AreRunsOf kind places runs

@@ -1,6 +1,7 @@
 -- The two halves of an insertion: what its checks find before the change is counted, and what a table takes.
-use Rattle.std.specs.Prelude.{◌≡◌, ℕ, Some, Ok}
+use Rattle.std.specs.Prelude.{◌≡◌, ℕ, Some, Result, Ok}
 use Rattle.std.specs.FinMap as names
+use Rattle.rs_measure.specs.declared.refusal.Refusal.{Refusal}
 use Rattle.rs_value.specs.declared.column.Kind.TheVariants.{Line}
 use Rattle.rs_value.specs.Row.{Row}
 use Rattle.rs_facts.specs.Fact.{Name, Names}
@@ -8,9 +9,14 @@ use Rattle.rs_facts.specs.Insert.{new_facts}
 use Rattle.rs_facts.specs.Query.{RouteEnds}
 use Rattle.rs_facts.specs.Runs.{Stretch}
 use Rattle.rs_parser.specs.Tree.{PlaceTree, along}
+use Rattle.rs_machine.specs.State.{State}
 use Rattle.rs_machine.specs.Checks.{span_on, row_fits}
 use Rattle.rs_machine.specs.Step.{with_facts_along}
-use Rattle.rs_engine.specs.Kept.{KeptTable, Kept, facts_kept, table_of}
+use Rattle.rs_engine.specs.Kept.{KeptTable, Kept, facts_kept, table_of, state_of}
+
+-- a place in thousandths, or the refusal of its positions
+abbrev pub span_of_place : State → Name → RouteEnds → PlaceTree → Result (ℕ × ℕ) Refusal
+span_of_place state route ends (along from to) = span_on state route ends from to
 
 -- The route and the table are there, the place is a span on the route, the table holds lines, and the row fits it.
 pub record MayBePut (kept : Kept) (name route : Name) (place : PlaceTree) (row : Row) (span : Stretch) : Type 0 where
@@ -18,9 +24,8 @@ pub record MayBePut (kept : Kept) (name route : Name) (place : PlaceTree) (row :
   pub table : KeptTable
   pub route_there : names.get kept.routes route ≡ Some ends
   pub table_there : names.get kept.tables name ≡ Some table
-  pub place_is : place ≡ along span.lo span.hi
   pub row_is : row ≡ span.row
-  pub on_route : span_on ends span.lo span.hi ≡ Ok tt
+  pub located : span_of_place (state_of kept) route ends place ≡ Ok (span.lo, span.hi)
   pub lines : table.kind ≡ Line
   pub fits : row_fits table.columns span.row ≡ Ok tt
 

@@ -1,8 +1,9 @@
 -- What the engine keeps, and the state of the reference machine that it stands for.
 use Rattle.std.specs.Prelude.{ℕ, List, [], unwrap_or}
 use Rattle.std.specs.FinMap as names
+use Rattle.rs_methods.specs.Referents.{referents_of}
 use Rattle.rs_value.specs.declared.column.Kind.{Kind}
-use Rattle.rs_facts.specs.Fact.{Names, Facts}
+use Rattle.rs_facts.specs.Fact.{Name, Names, Facts}
 use Rattle.rs_facts.specs.Query.{RouteEnds, Column, Table}
 use Rattle.rs_facts.specs.Runs.{Stretch}
 use Rattle.rs_facts.specs.Spans.{places_of}
@@ -15,8 +16,18 @@ pub record KeptTable : Type 0 where
   pub columns : List Column
   pub spans : Names (List Stretch)
 
+-- referents of one route, each by the route's number there and its name
+abbrev pub KeptReferents : Type 0
+KeptReferents = List ((ℕ × Name) × ℕ)
+
+-- the number of the route in the referents that are kept of it: each route has a list of its own
+abbrev pub OWN_ROUTE : ℕ
+OWN_ROUTE = 0
+
 pub record Kept : Type 0 where
   pub routes : Names RouteEnds
+  -- for each route that has or had some, its referents
+  pub referents : Names KeptReferents
   pub tables : Names KeptTable
   -- how many changes were accepted
   pub changes : ℕ
@@ -25,6 +36,13 @@ pub record Kept : Type 0 where
 unfoldable pub facts_kept : KeptTable → Facts
 facts_kept table route = places_of (unwrap_or (names.get table.spans route) [])
 
+-- the referents of a route, each a name and a measure
+unfoldable pub referents_on : Names KeptReferents → Name → List (Name × ℕ)
+referents_on referents route = referents_of OWN_ROUTE (unwrap_or (names.get referents route) [])
+
+unfoldable pub referents_kept : Names KeptReferents → Name → Names ℕ
+referents_kept referents route = names.from_entries (referents_on referents route)
+
 unfoldable pub table_of : KeptTable → Table
 table_of table = record { kind = table.kind; columns = table.columns; facts = facts_kept table }
 
@@ -32,4 +50,4 @@ unfoldable pub tables_of : Names KeptTable → Names Table
 tables_of tables = map_values table_of tables
 
 abbrev pub state_of : Kept → State
-state_of kept = record { routes = kept.routes; tables = tables_of kept.tables; changes = kept.changes; cursors = λ session. names.empty }
+state_of kept = record { routes = kept.routes; referents = referents_kept kept.referents; tables = tables_of kept.tables; changes = kept.changes; cursors = λ session. names.empty }

@@ -1,5 +1,6 @@
 pub mod Names
 pub mod Kept
+pub mod Referents
 pub mod Codes
 pub mod Placed
 pub mod Printed

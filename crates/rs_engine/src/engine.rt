@@ -1,17 +1,22 @@
 //! The engine and its step: the checks of each command in their order, and what an accepted command changes.
 
-ghost use Rattle.std.specs.Prelude.{◌≡◌, ◌⊎◌, length, map, Ok, Err, IfOk, IfErr, OnErr};
+ghost use Rattle.std.specs.Prelude.{◌≡◌, ◌≤◌, ◌⊎◌, [], ◌∷◌, length, map, Ok, Err, IfOk, IfErr, OnErr};
 ghost use Rattle.std.specs.List.{list_any};
+ghost use Rattle.rs_methods.specs.Position.{expression_of};
 ghost use Rattle.rs_value.specs.View.{literal_row};
 ghost use Rattle.rs_facts.specs.Insert.{same_name};
 ghost use Rattle.rs_facts.specs.Spans.{seen};
 ghost use Rattle.rs_parser.specs.Tree.{named};
 ghost use Rattle.rs_parser.specs.View.{column_tree, place_tree, query_tree};
-ghost use Rattle.rs_machine.specs.Checks.{column_names, some_name_twice};
-ghost use Rattle.rs_machine.specs.Step.{effect, counted, route_defined, table_defined, row_inserted, selected};
+ghost use Rattle.rs_machine.specs.Checks.{column_names, some_name_twice, span_on};
+ghost use Rattle.rs_machine.specs.Step.{effect, counted, route_defined, table_defined, row_inserted, position_text, position_translated, selected};
 ghost use Rattle.rs_engine.specs.ReplyView.{rows_of, reply_of};
 ghost use Rattle.rs_engine.specs.Replied.{count_reply_of, rows_reply_of};
 
+mod referent_commands;
+
+use crate::printer::PositionPrinter;
+use crate::referents::RouteReferents;
 use crate::reply::{Finish, Reply};
 use crate::routes::{Ends, Routes};
 use crate::session::Session;
@@ -20,16 +25,18 @@ use crate::tables::Tables;
 use rs_facts::Span;
 use rs_machine::limits::{CHANGES, ROUTES, TABLES};
 use rs_measure::{Measure, Refusal};
-use rs_parser::{ColumnDefinition, Command, Name, Place, Query};
+use rs_methods::{Method, Name, Position};
+use rs_parser::{ColumnDefinition, Command, Place, Query};
 use rs_value::{COLUMNS, Kind, Literal};
-use std::alloc::Global;
+use std::alloc::{AllocError, Global};
 use std::marker::Model;
 
-/// The routes, the tables with their facts, and how many changes were accepted.
+/// The routes, their referents, the tables with their facts, and how many changes were accepted.
 #[derive(Drop)]
 pub struct Engine {
     alloc: Global,
     routes: Routes,
+    referents: RouteReferents,
     tables: Tables,
     changes: u64,
 }
@@ -43,7 +50,7 @@ impl Model for Engine {
 
     ghost coded = { kept_code };
 
-    ghost view = { λ e. record { routes = e.routes; tables = e.tables; changes = e.changes } };
+    ghost view = { λ e. record { routes = e.routes; referents = e.referents; tables = e.tables; changes = e.changes } };
 
     ghost invariant = { λ e. AreMeasured e.routes × AreOnRoutes e.routes e.tables };
 }
@@ -52,7 +59,7 @@ impl Engine {
     ghost use Rattle.rs_machine.specs.Served.{Served};
     ghost use Rattle.rs_machine.specs.Fresh.{fresh_machine};
     ghost use Rattle.rs_parser.specs.View.{tree_of};
-    ghost use Rattle.rs_engine.specs.Insertion.{MayBePut};
+    ghost use Rattle.rs_engine.specs.Insertion.{MayBePut, span_of_place};
     ghost use Rattle.rs_engine.specs.Kept.{state_of};
     ghost use Rattle.rs_engine.specs.View.{machine_of};
 
@@ -63,6 +70,7 @@ impl Engine {
         Engine {
             alloc,
             routes: Routes::new(alloc),
+            referents: RouteReferents::new(alloc),
             tables: Tables::new(alloc),
             changes: 0,
         }
@@ -85,13 +93,32 @@ impl Engine {
                 name,
                 columns,
             } => count_reply(alloc, self.define_table(kind, name, columns)),
+            Command::DefineReferent {
+                route,
+                name,
+                position,
+            } => count_reply(alloc, self.define_referent(route, name, &position)),
+            Command::MoveReferent {
+                route,
+                name,
+                position,
+            } => count_reply(alloc, self.move_referent(route, name, &position)),
+            Command::DropReferent { route, name } => count_reply(
+                alloc,
+                self.drop_referent(&route, &name),
+            ),
             Command::Insert {
                 table,
                 route,
                 place,
                 values,
             } => count_reply(alloc, self.insert(&table, route, place, &values)),
-            Command::Select { query } => rows_reply(alloc, self.select(query)),
+            Command::Translate {
+                route,
+                position,
+                method,
+            } => rows_reply(alloc, self.translate(&route, &position, method)),
+            Command::Select { query, method } => rows_reply(alloc, self.select(query, method)),
         }
     }
 
@@ -160,8 +187,8 @@ impl Engine {
         }
     }
 
-    /// Puts a row along a span, unless a check stands in the way (20; 21; 30, 31; 32; 33; 34; 27). Its answer is how
-    /// many facts are new.
+    /// Puts a row along a span, unless a check stands in the way (20; 21; 25, 30; 31; 32; 33; 34; 27). Its answer is
+    /// how many facts are new.
     fn insert(
         &mut self,
         table: &Name,
@@ -197,16 +224,11 @@ impl Engine {
         ensures done { IfOk result (λ span. MayBePut self.now table.now.bytes route.now.bytes (place_tree place) (literal_row values.now) (seen span)) }
         ensures refused { IfErr result (λ refusal. (refusal ≡ Refusal.OutOfMemory) ⊎ (row_inserted (state_of self.now) table.now.bytes route.now.bytes (place_tree place) (literal_row values.now) ≡ Err refusal)) }
     {
-        let Some(ends) = self.routes.get(route) else {
-            return Err(Refusal::NoSuchRoute);
-        };
+        let ends = self.routes.named(route)?;
         let Some(table) = self.tables.get(table) else {
             return Err(Refusal::NoSuchName);
         };
-        let Place::Along { from, to } = place;
-        let lo = from.thousandths();
-        let hi = to.thousandths();
-        ends.check_span(lo, hi)?;
+        let (lo, hi) = self.located_place(route, ends, &place)?;
         match table.kind() {
             Kind::Point => Err(Refusal::PointOrLineWanted),
             Kind::Line => {
@@ -219,27 +241,97 @@ impl Engine {
         }
     }
 
-    /// The lines of a query, by route name, then by place, then by row; 21 where its table is missing.
-    fn select(&self, query: Query) -> Result<Vec<String>, Refusal>
-        ensures done { IfOk result (λ rows. selected (state_of self.now) (query_tree query) ≡ Ok (effect (rows_of rows.items) (length (rows_of rows.items)) (state_of self.now))) }
-        ensures refused { IfErr result (λ refusal. (refusal ≡ Refusal.OutOfMemory) ⊎ (selected (state_of self.now) (query_tree query) ≡ Err refusal)) }
+    /// A place on a route in thousandths, or the refusal of its positions.
+    fn located_place(&self, route: &Name, ends: Ends, place: &Place) -> Result<(u32, u32), Refusal>
+        ensures { result ≡ span_of_place (state_of self.now) route.now.bytes ends (place_tree place.now) }
     {
-        match query {
-            Query::Named(name) => self.select_table(&name),
+        match place {
+            Place::Along { from, to } => self.located_span(route, ends, from, to),
         }
     }
 
-    /// The lines of a table; 21 where there is none.
-    fn select_table(&self, name: &Name) -> Result<Vec<String>, Refusal>
-        ensures done { IfOk result (λ rows. selected (state_of self.now) (named name.now.bytes) ≡ Ok (effect (rows_of rows.items) (length (rows_of rows.items)) (state_of self.now))) }
-        ensures refused { IfErr result (λ refusal. (refusal ≡ Refusal.OutOfMemory) ⊎ (selected (state_of self.now) (named name.now.bytes) ≡ Err refusal)) }
+    /// Two positions of a route in thousandths: 25 or 30 for the first, 25 or 30 for the second, then 31 unless the
+    /// first is below the second.
+    fn located_span(
+        &self,
+        route: &Name,
+        ends: Ends,
+        from: &Position,
+        to: &Position,
+    ) -> Result<(u32, u32), Refusal>
+        ensures { result ≡ span_on (state_of self.now) route.now.bytes ends (expression_of from.now) (expression_of to.now) }
+    {
+        let lo = self.referents.located(route, ends, from)?.thousandths();
+        let hi = self.referents.located(route, ends, to)?.thousandths();
+        if lo < hi {
+            Ok((lo, hi))
+        } else {
+            Err(Refusal::EmptySpan)
+        }
+    }
+
+    /// A position of a route in the method wanted, as one line (20; 25, 30).
+    fn translate(
+        &self,
+        route: &Name,
+        position: &Position,
+        method: Method,
+    ) -> Result<Vec<String>, Refusal>
+        ensures done { IfOk result (λ rows. position_translated (state_of self.now) route.now.bytes (expression_of position.now) method ≡ Ok (effect (rows_of rows.items) (length (rows_of rows.items)) (state_of self.now))) }
+        ensures refused { IfErr result (λ refusal. (refusal ≡ Refusal.OutOfMemory) ⊎ (position_translated (state_of self.now) route.now.bytes (expression_of position.now) method ≡ Err refusal)) }
+    {
+        let ends = self.routes.named(route)?;
+        let measure = self.referents.located(route, ends, position)?;
+        match self.translated(route, ends, method, measure) {
+            Ok(rows) => Ok(rows),
+            Err(_) => Err(Refusal::OutOfMemory),
+        }
+    }
+
+    /// One line, the text of a measure of a route by a method.
+    fn translated(
+        &self,
+        route: &Name,
+        ends: Ends,
+        method: Method,
+        measure: Measure,
+    ) -> Result<Vec<String>, AllocError>
+        requires after_start { ends.start ≤ measure }
+        requires before_finish { measure ≤ ends.finish }
+        ensures { IfOk result (λ rows. rows_of rows.items ≡ position_text (state_of self.now) route.now.bytes ends method measure ∷ []) }
+    {
+        let text = self.referents.expressed(route, ends, method, measure)?;
+        Ok(vec![in self.alloc; text]?)
+    }
+
+    /// The lines of a query, by route name, then by place, then by row, their positions printed by the method; 21 where
+    /// its table is missing.
+    fn select(&self, query: Query, method: Method) -> Result<Vec<String>, Refusal>
+        ensures done { IfOk result (λ rows. selected (state_of self.now) (query_tree query) method ≡ Ok (effect (rows_of rows.items) (length (rows_of rows.items)) (state_of self.now))) }
+        ensures refused { IfErr result (λ refusal. (refusal ≡ Refusal.OutOfMemory) ⊎ (selected (state_of self.now) (query_tree query) method ≡ Err refusal)) }
+    {
+        match query {
+            Query::Named(name) => self.select_table(&name, method),
+        }
+    }
+
+    /// The lines of a table, their positions printed by the method; 21 where there is none.
+    fn select_table(&self, name: &Name, method: Method) -> Result<Vec<String>, Refusal>
+        ensures done { IfOk result (λ rows. selected (state_of self.now) (named name.now.bytes) method ≡ Ok (effect (rows_of rows.items) (length (rows_of rows.items)) (state_of self.now))) }
+        ensures refused { IfErr result (λ refusal. (refusal ≡ Refusal.OutOfMemory) ⊎ (selected (state_of self.now) (named name.now.bytes) method ≡ Err refusal)) }
     {
         let Some(table) = self.tables.get(name) else {
             return Err(Refusal::NoSuchName);
         };
         let mut rows = Vec::new(self.alloc);
-        for (route, _ends) in self.routes.iter() {
-            if table.push_rows(route, &mut rows).is_err() {
+        for (route, ends) in self.routes.iter() {
+            let printer = PositionPrinter {
+                referents: &self.referents,
+                route,
+                ends: *ends,
+                method,
+            };
+            if table.push_rows(&printer, &mut rows).is_err() {
                 return Err(Refusal::OutOfMemory);
             }
         }

@@ -5,6 +5,10 @@
 
 pub mod engine;
 mod lines;
+mod printer;
+#[cfg(test)]
+mod referent_tests;
+mod referents;
 pub mod reply;
 mod routes;
 pub mod session;

@@ -1,14 +1,14 @@
 //! The routes by name, and where each starts and ends.
 //!
-//! Promises the machine's map of routes, and its checks of positions on one of them.
+//! Promises the machine's map of routes, each with its start below its finish.
 
-ghost use Rattle.std.specs.Prelude.{◌≡◌, ℕ, IfSome, OnOk, OnErr};
+ghost use Rattle.std.specs.Prelude.{◌≡◌, ◌<◌, ℕ, IfSome, OnOk, OnErr};
 ghost use Rattle.std.specs.FinMap as names;
-ghost use Rattle.rs_machine.specs.Checks.{span_on, on_the_route};
+ghost use Rattle.rs_machine.specs.Checks.{found};
 ghost use Rattle.rs_engine.specs.Names.{entries_by_bytes};
 
 use rs_measure::{Measure, Refusal};
-use rs_parser::Name;
+use rs_methods::{Name, Route};
 use std::alloc::{AllocError, Global};
 use std::collections::{BTreeMap, btree_map};
 use std::marker::Model;
@@ -21,11 +21,14 @@ pub struct Ends {
 }
 
 impl Model for Ends {
+    ghost use Rattle.std.specs.Prelude.{◌<◌};
     ghost use Rattle.rs_facts.specs.Query.{RouteEnds};
 
     ghost Value = { RouteEnds };
 
     ghost view = { λ e. record { start = e.start; finish = e.finish } };
+
+    ghost invariant = { λ e. e.start < e.finish };
 
     ghost inverse = { λ e. record { start = e.start; finish = e.finish } };
 }
@@ -33,32 +36,22 @@ impl Model for Ends {
 impl Ends {
     /// A route's ends.
     pub fn new(start: Measure, finish: Measure) -> Self
+        requires { start < finish }
         ensures { result ≡ record { start = start; finish = finish } }
     {
         Ends { start, finish }
     }
 
-    /// Two positions on the route: 30 for the first, 30 for the second, then 31 unless the first is below the second.
-    pub fn check_span(self, from: u32, to: u32) -> Result<(), Refusal>
-        ensures { result ≡ span_on self from to }
+    /// The route from one end to the other as positions see it, under a number.
+    pub fn as_route(self, number: u32) -> Route
+        ensures number { result.number ≡ number }
+        ensures start { result.start ≡ self.start }
+        ensures finish { result.finish ≡ self.finish }
     {
-        self.check_position(from)?;
-        self.check_position(to)?;
-        if from < to {
-            Ok(())
-        } else {
-            Err(Refusal::EmptySpan)
-        }
-    }
-
-    /// 30 unless the position lies on the route, its two ends among it.
-    fn check_position(self, position: u32) -> Result<(), Refusal>
-        ensures { result ≡ on_the_route self position }
-    {
-        if self.start.thousandths() <= position && position <= self.finish.thousandths() {
-            Ok(())
-        } else {
-            Err(Refusal::OutsideTheRoute)
+        Route {
+            number,
+            start: self.start,
+            finish: self.finish,
         }
     }
 }
@@ -75,6 +68,7 @@ impl Model for Routes {
     ghost use Rattle.rs_facts.specs.Fact.{Names, name_cmp};
     ghost use Rattle.rs_facts.specs.Query.{RouteEnds};
     ghost use Rattle.rs_engine.specs.Codes.{route_ends_code, names_code};
+    ghost use Rattle.rs_machine.specs.Checks.{found};
     ghost use Rattle.rs_engine.specs.Names.{names_of};
 
     ghost Value = { Names RouteEnds };
@@ -106,6 +100,16 @@ impl Routes {
         ensures { result ≡ names.get self.now name.now.bytes }
     {
         self.by_name.get(name).copied()
+    }
+
+    /// The ends of the route of this name; 20 where there is none.
+    pub fn named(&self, name: &Name) -> Result<Ends, Refusal>
+        ensures { result ≡ found (names.get self.now name.now.bytes) Refusal.NoSuchRoute }
+    {
+        match self.get(name) {
+            Some(ends) => Ok(ends),
+            None => Err(Refusal::NoSuchRoute),
+        }
     }
 
     /// Adds a route. For want of memory it changes nothing.

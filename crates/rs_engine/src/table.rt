@@ -12,13 +12,14 @@ ghost use Rattle.rs_machine.specs.Checks.{column_types, row_fits};
 ghost use Rattle.rs_machine.specs.Step.{with_facts_along};
 ghost use Rattle.rs_engine.specs.Kept.{facts_kept, table_of};
 ghost use Rattle.rs_engine.specs.Placed.{LieOn};
-ghost use Rattle.rs_engine.specs.Printed.{LONGEST_ROUTE, PrintsRuns};
+ghost use Rattle.rs_engine.specs.Printed.{PrintsRuns, printed_by};
 ghost use Rattle.rs_engine.specs.ReplyView.{rows_of};
 
 use crate::lines::push_lines;
+use crate::printer::PositionPrinter;
 use rs_coalesce::runs;
 use rs_facts::Span;
-use rs_measure::Refusal;
+use rs_measure::{GREATEST_MEASURE, Refusal};
 use rs_parser::{ColumnDefinition, Name};
 use rs_spans::{copy_spans, insert};
 use rs_value::{COLUMNS, Kind, Literal, Schema, Tuple, fits};
@@ -107,14 +108,19 @@ impl Table {
     }
 
     /// Appends the lines of the table's runs on one route, in printing order. For want of memory some may be missing.
-    pub fn push_rows(&self, route: &Name, rows: &mut Vec<String>) -> Result<(), AllocError>
-        requires { LieOn self.now.kind (Some LONGEST_ROUTE) (facts_kept self.now route.now.bytes) }
-        ensures { OnOk result (PrintsRuns self.now.kind route.now.bytes (facts_kept self.now route.now.bytes) (rows_of rows.old.items) (rows_of rows.new.items)) }
+    pub fn push_rows(
+        &self,
+        printer: &PositionPrinter<'_>,
+        rows: &mut Vec<String>,
+    ) -> Result<(), AllocError>
+        requires measured { printer.now.ends.finish ≤ GREATEST_MEASURE }
+        requires on_route { LieOn self.now.kind (Some printer.now.ends) (facts_kept self.now printer.now.route.now.bytes) }
+        ensures { OnOk result (PrintsRuns (printed_by printer.now) self.now.kind printer.now.route.now.bytes (facts_kept self.now printer.now.route.now.bytes) (rows_of rows.old.items) (rows_of rows.new.items)) }
     {
-        match self.spans.get(route) {
+        match self.spans.get(printer.route) {
             Some(spans) => {
                 let runs = runs(self.kind, copy_spans(self.alloc, spans)?);
-                push_lines(self.alloc, self.kind, route, &runs, rows)
+                push_lines(self.alloc, self.kind, printer, &runs, rows)
             }
             None => Ok(()),
         }

@@ -10,7 +10,7 @@ ghost use Rattle.rs_engine.specs.Insertion.{TakesRow};
 
 use crate::table::Table;
 use rs_facts::Span;
-use rs_parser::Name;
+use rs_methods::Name;
 use std::alloc::{AllocError, Global};
 use std::collections::BTreeMap;
 use std::marker::Model;

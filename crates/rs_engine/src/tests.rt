@@ -5,12 +5,13 @@ ghost use Rattle.std.specs.Prelude.{◌≤◌};
 use crate::{Engine, Finish, Reply, Session};
 use arrayvec::ArrayString;
 use rs_measure::{Measure, Refusal};
-use rs_parser::{ColumnDefinition, Command, Name, Place, Query};
+use rs_methods::{Method, Name, Position};
+use rs_parser::{ColumnDefinition, Command, Place, Query};
 use rs_value::{ColumnType, Kind, Literal};
 use std::alloc::{AllocError, Global};
 use std::process::Abort;
 
-fn name(rt: &impl Abort, text: &str) -> Name {
+pub(crate) fn name(rt: &impl Abort, text: &str) -> Name {
     match ArrayString::from(text) {
         Ok(name) => name,
         Err(_) => panic!(rt; "a long name"),
@@ -18,7 +19,7 @@ fn name(rt: &impl Abort, text: &str) -> Name {
 }
 
 /// A route from 0 to 10.
-fn route(rt: &impl Abort, route: &str) -> Command {
+pub(crate) fn route(rt: &impl Abort, route: &str) -> Command {
     Command::DefineRoute {
         name: name(rt, route),
         start: Measure::from_thousandths(0),
@@ -27,7 +28,12 @@ fn route(rt: &impl Abort, route: &str) -> Command {
 }
 
 /// A table of one column of texts of eight bytes.
-fn table(rt: &impl Abort, alloc: Global, kind: Kind, table: &str) -> Result<Command, AllocError> {
+pub(crate) fn table(
+    rt: &impl Abort,
+    alloc: Global,
+    kind: Kind,
+    table: &str,
+) -> Result<Command, AllocError> {
     let column = ColumnDefinition {
         name: name(rt, "surf"),
         column_type: ColumnType::Text(8),
@@ -55,21 +61,22 @@ fn row(
         table: name(rt, "pave"),
         route: name(rt, route),
         place: Place::Along {
-            from: Measure::from_thousandths(from),
-            to: Measure::from_thousandths(to),
+            from: Position::Absolute(Measure::from_thousandths(from)),
+            to: Position::Absolute(Measure::from_thousandths(to)),
         },
         values: vec![in alloc; Literal::Text(String::from_str(alloc, surface)?)]?,
     })
 }
 
-fn select(rt: &impl Abort, table: &str) -> Command {
+pub(crate) fn select(rt: &impl Abort, table: &str) -> Command {
     Command::Select {
         query: Query::Named(name(rt, table)),
+        method: Method::Absolute,
     }
 }
 
 /// The reply to a command, which is given again where memory was refused: nothing may have changed by then.
-fn reply_to<F: Fn() -> Result<Command, AllocError>>(
+pub(crate) fn reply_to<F: Fn() -> Result<Command, AllocError>>(
     rt: &impl Abort,
     engine: &mut Engine,
     make: F,
@@ -95,7 +102,7 @@ fn is_out_of_memory(reply: &Reply) -> bool {
 }
 
 /// Serves a command that is accepted, with these rows and this count.
-fn serves(rt: &impl Abort, reply: Reply, rows: &[&str], count: u128) {
+pub(crate) fn serves(rt: &impl Abort, reply: Reply, rows: &[&str], count: u128) {
     assert_eq!(rt; reply.rows.len(), rows.len());
     for (given, wanted) in reply.rows.iter().zip(rows) {
         assert_eq!(rt; given.as_str(), *wanted);
@@ -107,7 +114,7 @@ fn serves(rt: &impl Abort, reply: Reply, rows: &[&str], count: u128) {
 }
 
 /// Serves a command that is refused.
-fn refuses(rt: &impl Abort, reply: Reply, wanted: Refusal) {
+pub(crate) fn refuses(rt: &impl Abort, reply: Reply, wanted: Refusal) {
     assert_eq!(rt; reply.rows.len(), 0);
     match reply.finish {
         Finish::Done(n) => panic!(rt; "accepted with {n}"),
@@ -279,5 +286,101 @@ fn rows_stand_by_route_then_place_then_row(rt: HostRuntime) {
         reply_to(&rt, &mut engine, || Ok(select(&rt, "pave"))),
         &rows,
         5,
+    );
+}
+
+/// A route that starts and ends at so many thousandths.
+fn route_between(rt: &impl Abort, route: &str, start: u32, finish: u32) -> Command
+    requires start { start ≤ 20000 }
+    requires finish { finish ≤ 20000 }
+{
+    Command::DefineRoute {
+        name: name(rt, route),
+        start: Measure::from_thousandths(start),
+        finish: Measure::from_thousandths(finish),
+    }
+}
+
+/// Selects `pave` with its positions printed by a method.
+fn selects(rt: &impl Abort, engine: &mut Engine, method: Method, rows: &[&str]) {
+    let select = || {
+        Ok(Command::Select {
+            query: Query::Named(name(rt, "pave")),
+            method,
+        })
+    };
+    let reply = reply_to(rt, engine, select);
+    serves(rt, reply, rows, rows.len() as u128);
+}
+
+#[test]
+fn positions_are_printed_by_the_method(rt: HostRuntime) {
+    let alloc = rt.alloc();
+    let mut engine = paved(&rt, alloc);
+    serves(
+        &rt,
+        reply_to(&rt, &mut engine, || row(&rt, alloc, "A", 3500, 5000, "AC")),
+        &[],
+        1500,
+    );
+    selects(
+        &rt,
+        &mut engine,
+        Method::Absolute,
+        &["A 0.000 2.000 'AC'", "A 3.500 5.000 'AC'"],
+    );
+    selects(
+        &rt,
+        &mut engine,
+        Method::Interpolative,
+        &[
+            "A 0.0000000% 20.0000000% 'AC'",
+            "A 35.0000000% 50.0000000% 'AC'",
+        ],
+    );
+    selects(
+        &rt,
+        &mut engine,
+        Method::Relative,
+        &[
+            "A @START+0.000 @START+2.000 'AC'",
+            "A @START+3.500 @START+5.000 'AC'",
+        ],
+    );
+}
+
+#[test]
+fn positions_are_printed_by_the_ends_of_their_route(rt: HostRuntime) {
+    let alloc = rt.alloc();
+    let mut engine = paved(&rt, alloc);
+    serves(
+        &rt,
+        reply_to(&rt, &mut engine, || Ok(route_between(&rt, "B", 1000, 4000))),
+        &[],
+        0,
+    );
+    serves(
+        &rt,
+        reply_to(&rt, &mut engine, || row(&rt, alloc, "B", 2000, 4000, "PC")),
+        &[],
+        2000,
+    );
+    selects(
+        &rt,
+        &mut engine,
+        Method::Interpolative,
+        &[
+            "A 0.0000000% 20.0000000% 'AC'",
+            "B 33.3333334% 100.0000000% 'PC'",
+        ],
+    );
+    selects(
+        &rt,
+        &mut engine,
+        Method::Relative,
+        &[
+            "A @START+0.000 @START+2.000 'AC'",
+            "B @START+1.000 @START+3.000 'PC'",
+        ],
     );
 }

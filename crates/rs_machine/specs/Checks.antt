@@ -1,9 +1,10 @@
 -- What is looked at before a command takes effect. The first check that fails is the refusal.
-use Rattle.std.specs.Prelude.{ℕ, Bool, true, false, ◌||◌, ◌&&◌, nat_le, nat_lt, List, [], ◌∷◌, Option, Some, None, Result, Ok, Err, map, if◌then◌else◌}
+use Rattle.std.specs.Prelude.{ℕ, Bool, true, false, ◌||◌, nat_lt, List, [], ◌∷◌, Option, Some, None, Result, Ok, Err, map, if◌then◌else◌}
 use Rattle.std.specs.List.{list_any}
 use Rattle.std.specs.FinMap as names
 use Rattle.rs_measure.specs.declared.refusal.Refusal.{Refusal}
-use Rattle.rs_measure.specs.declared.refusal.Refusal.TheVariants.{NoSuchRoute, NoSuchName, OutsideTheRoute, EmptySpan}
+use Rattle.rs_measure.specs.declared.refusal.Refusal.TheVariants.{NoSuchRoute, NoSuchName, EmptySpan}
+use Rattle.rs_methods.specs.Position.{PositionExpression, start_name, located}
 use Rattle.rs_value.specs.declared.column.Kind.{Kind}
 use Rattle.rs_value.specs.declared.column.Kind.TheVariants.{Point, Line}
 use Rattle.rs_value.specs.declared.column.ColumnType.{ColumnType}
@@ -12,7 +13,7 @@ use Rattle.rs_value.specs.Fitting.{misfit}
 use Rattle.rs_facts.specs.Fact.{Name}
 use Rattle.rs_facts.specs.Insert.{same_name}
 use Rattle.rs_facts.specs.Query.{RouteEnds, Column, Table}
-use Rattle.rs_machine.specs.State.{State}
+use Rattle.rs_machine.specs.State.{State, has}
 
 -- one check after another, up to the first that fails
 infixl 10 ◌>>=◌
@@ -39,16 +40,21 @@ route_named state name = found (names.get state.routes name) NoSuchRoute
 abbrev pub table_named : State → Name → Result Table Refusal
 table_named state name = found (names.get state.tables name) NoSuchName
 
--- a position lies on the route, its two ends among it
-abbrev pub on_the_route : RouteEnds → ℕ → Result (Unit {0}) Refusal
-on_the_route ends m = unless (nat_le ends.start m && nat_le m ends.finish) OutsideTheRoute
+-- whether the route has a referent of this name; each has START
+abbrev pub has_referent : State → Name → Name → Bool
+has_referent state route name = same_name start_name name || has (state.referents route) name
+
+-- where a position lies on the route
+abbrev pub position_on : State → Name → RouteEnds → PositionExpression → Result ℕ Refusal
+position_on state route ends position = located ends.start ends.finish (names.entries (state.referents route)) position
 
 -- two positions: the first, then the second, then their order
-abbrev pub span_on : RouteEnds → ℕ → ℕ → Result (Unit {0}) Refusal
-span_on ends from to = do
-  _ ← on_the_route ends from
-  _ ← on_the_route ends to
-  unless (nat_lt from to) EmptySpan
+abbrev pub span_on : State → Name → RouteEnds → PositionExpression → PositionExpression → Result (ℕ × ℕ) Refusal
+span_on state route ends first second = do
+  from ← position_on state route ends first
+  to ← position_on state route ends second
+  _ ← unless (nat_lt from to) EmptySpan
+  Ok (from, to)
 
 abbrev pub holds_lines : Kind → Bool
 holds_lines Line = true

@@ -1,7 +1,7 @@
 -- The state of the reference machine.
 --
--- It knows routes, tables and cursors by name, and the rows at each single thousandth. It knows no span, page,
--- index, version or plan.
+-- It knows routes, referents, tables and cursors by name, and the rows at each single thousandth. It knows no
+-- span, page, index, version or plan.
 use Rattle.std.specs.Prelude.{ℕ, Bool, is_some, List}
 use Rattle.std.specs.FinMap as map
 use Rattle.rs_facts.specs.Fact.{Name, Names}
@@ -17,15 +17,20 @@ Cursors = Names (List RowText)
 
 pub record State : Type 0 where
   pub routes : Names RouteEnds
+  -- of each route, the referents beside START, each with its measure
+  pub referents : Name → Names ℕ
   pub tables : Names Table
   -- how many changes were accepted
   pub changes : ℕ
   -- by session, 0 to 63
   pub cursors : ℕ → Cursors
 
--- no route, no table, no change, no cursor
+abbrev pub no_referents : Name → Names ℕ
+no_referents route = map.empty
+
+-- no route, no referent, no table, no change, no cursor
 unfoldable pub fresh : State
-fresh = record { routes = map.empty; tables = map.empty; changes = 0; cursors = λ session. map.empty }
+fresh = record { routes = map.empty; referents = no_referents; tables = map.empty; changes = 0; cursors = λ session. map.empty }
 
 -- what a query of this state is asked of
 abbrev pub world_of : State → World

@@ -1,20 +1,22 @@
 -- The step of the reference machine: one command of one session.
-use Rattle.std.specs.Prelude.{ℕ, ◌+◌, not, nat_le, nat_lt, List, [], length, Result, Ok, map, flat_map}
+use Rattle.std.specs.Prelude.{ℕ, ◌+◌, not, nat_le, nat_lt, List, [], ◌∷◌, length, Result, Ok, map, flat_map, if◌then◌else◌}
 use Rattle.std.specs.FinMap as names
 use Rattle.rs_measure.specs.declared.refusal.Refusal.{Refusal}
-use Rattle.rs_measure.specs.declared.refusal.Refusal.TheVariants.{NameTaken, Limit, EmptySpan, PointOrLineWanted, ColumnTwice}
+use Rattle.rs_measure.specs.declared.refusal.Refusal.TheVariants.{InUse, NameTaken, NoSuchReferent, Limit, EmptySpan, PointOrLineWanted, ColumnTwice}
+use Rattle.rs_methods.specs.Position.{PositionExpression, start_name, expression_at, expression_text}
+use Rattle.rs_methods.specs.declared.position.Method.{Method}
 use Rattle.rs_value.specs.declared.column.Kind.{Kind}
 use Rattle.rs_value.specs.declared.column.TheConstants.{COLUMNS}
 use Rattle.rs_value.specs.Row.{Row}
-use Rattle.rs_facts.specs.Fact.{Name, no_facts}
-use Rattle.rs_facts.specs.Insert.{after_insert, new_facts}
+use Rattle.rs_facts.specs.Fact.{Name, Names, no_facts}
+use Rattle.rs_facts.specs.Insert.{same_name, after_insert, new_facts}
 use Rattle.rs_facts.specs.Query.{RouteEnds, Column, Table, Query, table_rows, rows_at, kind_of}
 use Rattle.rs_facts.specs.Runs.{runs_of}
 use Rattle.rs_facts.specs.LineText.{line_of}
-use Rattle.rs_parser.specs.Tree.{CommandTree, define_route, define_table, insert, select, PlaceTree, along, QueryTree, named}
-use Rattle.rs_machine.specs.declared.limits.TheConstants.{ROUTES, TABLES, CHANGES}
+use Rattle.rs_parser.specs.Tree.{CommandTree, define_route, define_table, define_referent, move_referent, drop_referent, insert, translate, select, PlaceTree, along, QueryTree, named}
+use Rattle.rs_machine.specs.declared.limits.TheConstants.{ROUTES, REFERENTS, TABLES, CHANGES}
 use Rattle.rs_machine.specs.State.{State, RowText, world_of, has}
-use Rattle.rs_machine.specs.Checks.{◌>>=◌, unless, route_named, table_named, span_on, holds_lines, some_name_twice, column_names, row_fits}
+use Rattle.rs_machine.specs.Checks.{◌>>=◌, unless, route_named, table_named, has_referent, position_on, span_on, holds_lines, some_name_twice, column_names, row_fits}
 
 -- what an accepted command answers, and the state after it
 pub record Effect : Type 0 where
@@ -66,6 +68,44 @@ table_defined state kind name columns = do
   _ ← may_change state
   Ok (counted 0 (with_table state name (empty_table kind columns)))
 
+-- ---- referents
+
+-- one route has other referents
+unfoldable pub referents_at : Name → Names ℕ → (Name → Names ℕ) → Name → Names ℕ
+referents_at route referents old = λ name. if same_name name route then referents else old name
+
+abbrev pub with_referents : State → Name → Names ℕ → State
+with_referents state route referents = record state {
+  referents = referents_at route referents state.referents;
+  changes = state.changes + 1;
+}
+
+abbrev pub referent_defined : State → Name → Name → PositionExpression → Result Effect Refusal
+referent_defined state route name position = do
+  ends ← route_named state route
+  measure ← position_on state route ends position
+  _ ← unless (not (has_referent state route name)) NameTaken
+  _ ← unless (nat_lt (names.len (state.referents route)) REFERENTS) Limit
+  _ ← may_change state
+  Ok (counted 0 (with_referents state route (names.insert (state.referents route) name measure)))
+
+abbrev pub referent_moved : State → Name → Name → PositionExpression → Result Effect Refusal
+referent_moved state route name position = do
+  ends ← route_named state route
+  _ ← unless (has_referent state route name) NoSuchReferent
+  _ ← unless (not (same_name start_name name)) InUse
+  measure ← position_on state route ends position
+  _ ← may_change state
+  Ok (counted 0 (with_referents state route (names.insert (state.referents route) name measure)))
+
+abbrev pub referent_dropped : State → Name → Name → Result Effect Refusal
+referent_dropped state route name = do
+  _ ← route_named state route
+  _ ← unless (has_referent state route name) NoSuchReferent
+  _ ← unless (not (same_name start_name name)) InUse
+  _ ← may_change state
+  Ok (counted 0 (with_referents state route (names.remove (state.referents route) name)))
+
 -- ---- insertion
 
 abbrev pub with_facts_along : Table → Name → ℕ → ℕ → Row → Table
@@ -75,11 +115,23 @@ abbrev pub row_inserted : State → Name → Name → PlaceTree → Row → Resu
 row_inserted state name route (along from to) row = do
   ends ← route_named state route
   table ← table_named state name
-  _ ← span_on ends from to
+  span ← span_on state route ends from to
   _ ← unless (holds_lines table.kind) PointOrLineWanted
   _ ← row_fits table.columns row
   _ ← may_change state
-  Ok (counted (new_facts table.facts route from to row) (with_table state name (with_facts_along table route from to row)))
+  Ok (counted (new_facts table.facts route span.0 span.1 row) (with_table state name (with_facts_along table route span.0 span.1 row)))
+
+-- ---- positions
+
+-- how a measure of the route is printed by a method
+abbrev pub position_text : State → Name → RouteEnds → Method → ℕ → List ℕ
+position_text state route ends method k = expression_text (expression_at ends.start ends.finish (names.entries (state.referents route)) method k)
+
+abbrev pub position_translated : State → Name → PositionExpression → Method → Result Effect Refusal
+position_translated state route position method = do
+  ends ← route_named state route
+  measure ← position_on state route ends position
+  Ok (effect (position_text state route ends method measure ∷ []) 1 state)
 
 -- ---- queries
 
@@ -91,23 +143,27 @@ checked state (named name) = do
 
 -- The query's runs on one route. A point may stand at the route's end, so the end itself is looked at; no line
 -- holds there.
-abbrev pub lines_on : State → Query → Name → RouteEnds → List RowText
-lines_on state query route ends = map (line_of (kind_of (world_of state) query) route)
+abbrev pub lines_on : State → Query → Method → Name → RouteEnds → List RowText
+lines_on state query method route ends = map (line_of (position_text state route ends method) (kind_of (world_of state) query) route)
     (runs_of (kind_of (world_of state) query) (rows_at (world_of state) query route) ends.start (ends.finish + 1))
 
 -- by route name, then by place, then by row
-abbrev pub lines_of : State → Query → List RowText
-lines_of state query = flat_map (λ route. lines_on state query route.0 route.1) (names.entries state.routes)
+abbrev pub lines_of : State → Query → Method → List RowText
+lines_of state query method = flat_map (λ route. lines_on state query method route.0 route.1) (names.entries state.routes)
 
-abbrev pub selected : State → QueryTree → Result Effect Refusal
-selected state tree = do
+abbrev pub selected : State → QueryTree → Method → Result Effect Refusal
+selected state tree method = do
   query ← checked state tree
-  Ok (effect (lines_of state query) (length (lines_of state query)) state)
+  Ok (effect (lines_of state query method) (length (lines_of state query method)) state)
 
 -- ---- the step
 
 abbrev pub outcome : State → ℕ → CommandTree → Result Effect Refusal
 outcome state session (define_route name start finish) = route_defined state name start finish
 outcome state session (define_table kind name columns) = table_defined state kind name columns
+outcome state session (define_referent route name position) = referent_defined state route name position
+outcome state session (move_referent route name position) = referent_moved state route name position
+outcome state session (drop_referent route name) = referent_dropped state route name
 outcome state session (insert table route place row) = row_inserted state table route place row
-outcome state session (select query) = selected state query
+outcome state session (translate route position method) = position_translated state route position method
+outcome state session (select query method) = selected state query method

@@ -3,6 +3,9 @@
 /// How many routes there may be.
 pub const ROUTES: usize = 4_096;
 
+/// How many referents a route may have beside START.
+pub const REFERENTS: usize = 1_000;
+
 /// How many tables there may be.
 pub const TABLES: usize = 128;
 

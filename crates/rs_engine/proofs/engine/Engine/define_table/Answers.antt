@@ -13,14 +13,14 @@ pub returns-then-is_some-clause-refused : goal.returns-then-is_some-clause-refus
 returns-then-is_some-clause-refused c =
     let columns = map column_tree c.args.columns.items in
     let there = lent_there c.get.result _ _ true c.get.ensures c.is_some.ensures c.if-is_some.true in
-    table_refused _ _ c.args.kind c.args.name.bytes columns _ c.self.view_is (table_taken (record { routes = c.self.inside.routes; tables = c.self.inside.tables; changes = c.self.inside.changes }) c.args.kind c.args.name.bytes columns there)
+    table_refused _ _ c.args.kind c.args.name.bytes columns _ c.self.view_is (table_taken (record { routes = c.self.inside.routes; referents = c.self.inside.referents; tables = c.self.inside.tables; changes = c.self.inside.changes }) c.args.kind c.args.name.bytes columns there)
 
 pub returns-then-has_name_twice-clause-refused : goal.returns-then-has_name_twice-clause-refused
 returns-then-has_name_twice-clause-refused c =
     let columns = map column_tree c.args.columns.items in
     let there = lent_there c.get.result _ _ false c.get.ensures c.is_some.ensures c.if-is_some.false in
     let twice = twice_there c.deref.result.now c.args.columns.items _ true c.deref.ensures.value c.has_name_twice.ensures c.if-has_name_twice.true in
-    table_refused _ _ c.args.kind c.args.name.bytes columns _ c.self.view_is (table_column_twice (record { routes = c.self.inside.routes; tables = c.self.inside.tables; changes = c.self.inside.changes }) c.args.kind c.args.name.bytes columns there twice)
+    table_refused _ _ c.args.kind c.args.name.bytes columns _ c.self.view_is (table_column_twice (record { routes = c.self.inside.routes; referents = c.self.inside.referents; tables = c.self.inside.tables; changes = c.self.inside.changes }) c.args.kind c.args.name.bytes columns there twice)
 
 pub returns-then-len-gt-COLUMNS-clause-refused : goal.returns-then-len-gt-COLUMNS-clause-refused
 returns-then-len-gt-COLUMNS-clause-refused c =
@@ -28,7 +28,7 @@ returns-then-len-gt-COLUMNS-clause-refused c =
     let there = lent_there c.get.result _ _ false c.get.ensures c.is_some.ensures c.if-is_some.false in
     let twice = twice_there c.deref.result.now c.args.columns.items _ false c.deref.ensures.value c.has_name_twice.ensures c.if-has_name_twice.false in
     let wide = many_columns c.args.columns.items c.len.result (c.len.ensures ∙ sym c.deref.ensures.len ∙ ap length c.deref.ensures.value) c.if-len-gt-COLUMNS.true in
-    table_refused _ _ c.args.kind c.args.name.bytes columns _ c.self.view_is (table_too_wide (record { routes = c.self.inside.routes; tables = c.self.inside.tables; changes = c.self.inside.changes }) c.args.kind c.args.name.bytes columns there twice wide)
+    table_refused _ _ c.args.kind c.args.name.bytes columns _ c.self.view_is (table_too_wide (record { routes = c.self.inside.routes; referents = c.self.inside.referents; tables = c.self.inside.tables; changes = c.self.inside.changes }) c.args.kind c.args.name.bytes columns there twice wide)
 
 pub returns-then-len-ge-TABLES-clause-refused : goal.returns-then-len-ge-TABLES-clause-refused
 returns-then-len-ge-TABLES-clause-refused c =
@@ -36,7 +36,7 @@ returns-then-len-ge-TABLES-clause-refused c =
     let there = lent_there c.get.result _ _ false c.get.ensures c.is_some.ensures c.if-is_some.false in
     let twice = twice_there c.deref.result.now c.args.columns.items _ false c.deref.ensures.value c.has_name_twice.ensures c.if-has_name_twice.false in
     let few = few_columns c.args.columns.items c.len.result (c.len.ensures ∙ sym c.deref.ensures.len ∙ ap length c.deref.ensures.value) c.if-len-gt-COLUMNS.false in
-    table_refused _ _ c.args.kind c.args.name.bytes columns _ c.self.view_is (table_too_many (record { routes = c.self.inside.routes; tables = c.self.inside.tables; changes = c.self.inside.changes }) c.args.kind c.args.name.bytes columns there twice few (omega arith))
+    table_refused _ _ c.args.kind c.args.name.bytes columns _ c.self.view_is (table_too_many (record { routes = c.self.inside.routes; referents = c.self.inside.referents; tables = c.self.inside.tables; changes = c.self.inside.changes }) c.args.kind c.args.name.bytes columns there twice few (omega arith))
 
 pub returns-then-self-ge-CHANGES-clause-refused : goal.returns-then-self-ge-CHANGES-clause-refused
 returns-then-self-ge-CHANGES-clause-refused c =
@@ -44,7 +44,7 @@ returns-then-self-ge-CHANGES-clause-refused c =
     let there = lent_there c.get.result _ _ false c.get.ensures c.is_some.ensures c.if-is_some.false in
     let twice = twice_there c.deref.result.now c.args.columns.items _ false c.deref.ensures.value c.has_name_twice.ensures c.if-has_name_twice.false in
     let few = few_columns c.args.columns.items c.len.result (c.len.ensures ∙ sym c.deref.ensures.len ∙ ap length c.deref.ensures.value) c.if-len-gt-COLUMNS.false in
-    table_refused _ _ c.args.kind c.args.name.bytes columns _ c.self.view_is (table_no_change (record { routes = c.self.inside.routes; tables = c.self.inside.tables; changes = c.self.inside.changes }) c.args.kind c.args.name.bytes columns there twice few (omega arith) c.if-self-ge-CHANGES.true)
+    table_refused _ _ c.args.kind c.args.name.bytes columns _ c.self.view_is (table_no_change (record { routes = c.self.inside.routes; referents = c.self.inside.referents; tables = c.self.inside.tables; changes = c.self.inside.changes }) c.args.kind c.args.name.bytes columns there twice few (omega arith) c.if-self-ge-CHANGES.true)
 
 pub invariant_of-self : goal.invariant_of-self
 invariant_of-self c =
@@ -58,7 +58,7 @@ returns-in-Ok-clause-done c =
     let twice = twice_there c.deref.result.now c.args.columns.items _ false c.deref.ensures.value c.has_name_twice.ensures c.if-has_name_twice.false in
     let few = few_columns c.args.columns.items c.len.result (c.len.ensures ∙ sym c.deref.ensures.len ∙ ap length c.deref.ensures.value) c.if-len-gt-COLUMNS.false in
     let put = c.in-Ok.ensures.ok ∙ ap (names.insert c.self.inside.tables c.args.name.bytes) c.new.ensures in
-    let old : Kept = record { routes = c.self.inside.routes; tables = c.self.inside.tables; changes = c.self.inside.changes } in
+    let old : Kept = record { routes = c.self.inside.routes; referents = c.self.inside.referents; tables = c.self.inside.tables; changes = c.self.inside.changes } in
     ap (λ (kept : Kept). table_defined (state_of kept) c.args.kind c.args.name.bytes columns) (sym c.self.view_is)
     ∙ table_accepted old c.args.kind c.args.name.bytes columns there twice few (omega arith) c.if-self-ge-CHANGES.false
     ∙ ap (λ (state : State). Ok (counted 0 state)) (table_defined-state old c.args.kind c.args.name.bytes columns _ put)

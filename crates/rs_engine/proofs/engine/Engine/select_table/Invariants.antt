@@ -8,6 +8,6 @@ use Rattle.rs_engine.proofs.engine.Engine.select_table.Given as goal
 
 abbrev pub invariant-loop-route : goal.invariant-loop-route
 invariant-loop-route l = record {
-  printed : rows_of l.rows.items ++ flat_map (printed l.table) (entries_by_bytes (λ ends. ends) l.route-iterator) ≡ flat_map (printed l.table) (names.entries l.self.routes);
+  printed : rows_of l.rows.items ++ flat_map (printed l.self.referents l.method l.table) (entries_by_bytes (λ ends. ends) l.route-iterator) ≡ flat_map (printed l.self.referents l.method l.table) (names.entries l.self.routes);
   there : AllByRecursion (λ e. names.get l.self.routes e.0 ≡ Some e.1) (entries_by_bytes (λ ends. ends) l.route-iterator);
 }
