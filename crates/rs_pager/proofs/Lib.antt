@@ -1,3 +1,11 @@
+mod Allocated
+mod Copying
+mod Flushed
+mod FreeLists
 mod Maps
 mod Numbers
-mod Tied
+mod Opened
+mod Reading
+mod Slots
+mod Stored
+mod Writing

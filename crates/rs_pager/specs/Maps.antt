@@ -1,64 +1,94 @@
--- The two maps of pages, byte by byte.
-use Rattle.std.specs.Prelude.{◌≡◌, ◌<◌, ℕ, ◌+◌, ◌*◌, Bool, false, IsTrue, IsSome, length, get_or, nat_lt, if◌then◌else◌, Option, Some, None, option_and_then, List, slice_index, slice_get}
-use Rattle.std.specs.Prelude.{slice_set as set}
-use Rattle.rs_disk.specs.Content.{Content, Gives}
+-- The two maps of pages of a pager, the changes that it holds, and what ties it to its disk.
+use Rattle.std.specs.Prelude.{◌≡◌, ◌<◌, ◌≤◌, ◌+◌, ◌*◌, ℕ, Bool, false, IsTrue, Option, Some, None, if◌then◌else◌, List, slice_index}
+use Rattle.rs_disk.specs.Content.{Content}
 use Rattle.rs_disk.specs.declared.disk.TheConstants.{PAGE_SIZE}
 use Rattle.rs_pager.specs.HeldPage.{HeldPage}
-use Rattle.rs_pager.specs.Slot.{working_of}
-use Rattle.rs_pager.specs.Paged.{Paged, LoadsOnly}
+use Rattle.rs_pager.specs.Slot.{working_of, changed_of, copy_or}
+use Rattle.rs_pager.specs.Pages.{Pages, is_page}
+use Rattle.rs_pager.specs.Paged.{Paged, slot_at}
+use Rattle.rs_pager.specs.Stores.{IsWhole, HasBytes, HasFileHeader}
 
 -- the byte at a place of a page: of what is held, else of what the disk has there
 abbrev pub byte_of : Content → Option (List ℕ) → ℕ → ℕ → Option ℕ
 byte_of content None number place = content.byte (PAGE_SIZE * number + place)
 byte_of content (Some page) number place = Some (slice_index page place)
 
--- what is held of the committed page with this number
-abbrev pub held_committed : List HeldPage → ℕ → Option (List ℕ)
-held_committed slots number = option_and_then (λ slot. slot.kept) (slice_get slots number)
-
--- what is held of the working page with this number
-abbrev pub held_working : List HeldPage → ℕ → Option (List ℕ)
-held_working slots number = option_and_then working_of (slice_get slots number)
-
--- the byte at a place of a committed page; none: there is no such page, or any byte may be read there
+-- the byte at a place of a committed page
 unfoldable pub committed_byte : {D : Type 0} → (D → Content) → Paged D → ℕ → ℕ → Option ℕ
 committed_byte seen p number place =
-    if nat_lt number p.kept.pages then byte_of (seen p.disk) (held_committed p.slots number) number place else None
+    if is_page p.kept.pages number then byte_of (seen p.disk) (slot_at p.slots number).kept number place else None
 
 -- the byte at a place of a working page
 unfoldable pub working_byte : {D : Type 0} → (D → Content) → Paged D → ℕ → ℕ → Option ℕ
 working_byte seen p number place =
-    if nat_lt number p.working.pages then byte_of (seen p.disk) (held_working p.slots number) number place else None
+    if is_page p.working.pages number then byte_of (seen p.disk) (working_of (slot_at p.slots number)) number place else None
 
--- two maps of pages agree at each place of each page
-abbrev pub SamePages : (ℕ → ℕ → Option ℕ) → (ℕ → ℕ → Option ℕ) → Type 0
-SamePages one other = (number place : ℕ) → place < PAGE_SIZE → one number place ≡ other number place
+-- the committed pages
+abbrev pub committed : {D : Type 0} → (D → Content) → Paged D → Pages
+committed seen p = record { fields = p.kept; byte = committed_byte seen p }
 
--- the disk is honest, and has the whole of each page that isn't held: of the working map, and of the committed one
+-- the working pages: the committed ones, with the changes since `begin`
+abbrev pub working : {D : Type 0} → (D → Content) → Paged D → Pages
+working seen p = record { fields = p.working; byte = working_byte seen p }
+
+-- the committed page with this number, where the disk lacks it
+abbrev pub changes : {D : Type 0} → Paged D → ℕ → Option (List ℕ)
+changes p number = changed_of (slot_at p.slots number)
+
+-- the working copy of the page with this number
+abbrev pub copies : {D : Type 0} → Paged D → ℕ → Option (List ℕ)
+copies p number = (slot_at p.slots number).copy
+
+-- the disk lacks the committed fields of page 0
+abbrev pub lacks_fields : {D : Type 0} → Paged D → Bool
+lacks_fields p = p.is_header_changed
+
+-- the held changes are the same: the pages that the disk lacks, the working copies and the fields of page 0
+pub record KeepsChanges {D : Type 0} (old new : Paged D) : Type 0 where
+  pub changed : (number : ℕ) → changes new number ≡ changes old number
+  pub copied : (number : ℕ) → copies new number ≡ copies old number
+  pub lacks : lacks_fields new ≡ lacks_fields old
+  pub committed_fields : new.kept ≡ old.kept
+  pub working_fields : new.working ≡ old.working
+
+-- the disk has all that is committed, and no page has a working copy
+pub record HoldsNoChange {D : Type 0} (p : Paged D) : Type 0 where
+  pub changed : (number : ℕ) → changes p number ≡ None
+  pub copied : (number : ℕ) → copies p number ≡ None
+  pub lacks : lacks_fields p ≡ false
+
+-- each working copy is now a committed page that the disk lacks, and so are the fields where they are others
+pub record CommitsChanges {D : Type 0} (old new : Paged D) : Type 0 where
+  pub changed : (number : ℕ) → changes new number ≡ copy_or (copies old number) (changes old number)
+  pub copied : (number : ℕ) → copies new number ≡ None
+  pub lacks : lacks_fields new ≡ false → (lacks_fields old ≡ false) × (old.kept ≡ old.working)
+
+-- the working copies are gone, and the committed pages that the disk lacks stay
+pub record AbandonsChanges {D : Type 0} (old new : Paged D) : Type 0 where
+  pub changed : (number : ℕ) → changes new number ≡ changes old number
+  pub copied : (number : ℕ) → copies new number ≡ None
+  pub lacks : lacks_fields new ≡ lacks_fields old
+
+-- limit, begin and the count of full refusals stay
+pub record KeepsCounts {D : Type 0} (old new : Paged D) : Type 0 where
+  pub limit : new.limit ≡ old.limit
+  pub begun : new.is_begun ≡ old.is_begun
+  pub full_refusals : new.full_refusals ≡ old.full_refusals
+
+-- what is held of a page as the disk has it is what the disk has
+pub record IsClean (content : Content) (number : ℕ) (slot : HeldPage) : Type 0 where
+  pub bytes : slot.is_changed ≡ false → (page : List ℕ) → slot.kept ≡ Some page → HasBytes content number page
+
+-- the disk is honest, and what isn't held as a change is on it: each page that isn't held is whole, each that is
+-- held unchanged is the disk's, no page but a changed one lies past the end, and page 0 says the committed fields
+-- unless they are changed
 pub record IsTied {D : Type 0} (is_honest : D → Bool) (seen : D → Content) (p : Paged D) : Type 0 where
   pub honest : IsTrue (is_honest p.disk)
-  pub working : (number place : ℕ) → number < p.working.pages → place < PAGE_SIZE
-      → held_working p.slots number ≡ None → IsSome ((seen p.disk).byte (PAGE_SIZE * number + place))
-  pub committed : (number place : ℕ) → number < p.kept.pages → place < PAGE_SIZE
-      → held_committed p.slots number ≡ None → IsSome ((seen p.disk).byte (PAGE_SIZE * number + place))
-
--- the slot with this number
-abbrev pub slot_at : List HeldPage → ℕ → HeldPage
-slot_at slots number = get_or slots number (record { kept = None; copy = None; is_changed = false })
-
--- a page that was read is held now: what a read may give there
-pub record HoldsRead {D : Type 0} (seen : D → Content) (old new : Paged D) (number : ℕ) (page : List ℕ) : Type 0 where
-  pub kept : new.kept ≡ old.kept
-  pub working : new.working ≡ old.working
-  pub nothing : held_working old.slots number ≡ None
-  pub there : number < length old.slots
-  pub slots : new.slots ≡ set old.slots number (record (slot_at old.slots number) { kept = Some page })
-  pub seen_same : seen new.disk ≡ seen old.disk
-  pub size : length page ≡ PAGE_SIZE
-  pub gives : Gives (seen old.disk) (PAGE_SIZE * number) page
-
--- nothing has changed but that pages are held, and where the pager is tied to its disk both maps stay
-pub record RestsTied {D : Type 0} (is_honest : D → Bool) (seen : D → Content) (old new : Paged D) : Type 0 where
-  pub rests : LoadsOnly old new
-  pub committed : IsTied is_honest seen old → SamePages (committed_byte seen new) (committed_byte seen old)
-  pub working : IsTied is_honest seen old → SamePages (working_byte seen new) (working_byte seen old)
+  pub committed_whole : (number : ℕ) → 0 < number → number < p.kept.pages
+      → (slot_at p.slots number).kept ≡ None → IsWhole (seen p.disk) number
+  pub working_whole : (number : ℕ) → 0 < number → number < p.working.pages
+      → working_of (slot_at p.slots number) ≡ None → IsWhole (seen p.disk) number
+  pub clean : (number : ℕ) → IsClean (seen p.disk) number (slot_at p.slots number)
+  pub inside : (number : ℕ) → 0 < number → number < p.kept.pages
+      → changes p number ≡ None → PAGE_SIZE * number + PAGE_SIZE ≤ (seen p.disk).size
+  pub header : lacks_fields p ≡ false → HasFileHeader (seen p.disk) p.kept

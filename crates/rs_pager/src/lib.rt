@@ -4,12 +4,17 @@
 //! and touches no disk. What is committed reaches the disk at a flush.
 #![tactic(auto)]
 
+mod allocating;
 mod bytes;
 pub mod file_header;
+mod flushing;
 pub mod header;
+pub mod laws;
 pub mod number;
+mod opening;
 pub mod page;
 pub mod pager;
+mod paging;
 mod slot;
 #[cfg(test)]
 mod tests;

@@ -2,9 +2,12 @@
 //!
 //! Both versions lie side by side, so that a commit moves one into the other's place and takes no memory.
 
-ghost use Rattle.std.specs.Prelude.{◌≡◌, Bool, true, false, Option, Some, None, List, ℕ, is_some, IsSome, IsOkUnless, OnOk, OnErr, map, if◌then◌else◌};
+ghost use Rattle.std.specs.Prelude.{◌≡◌, ◌≢◌, Bool, true, false, Option, Some, None, Err, List, ℕ, is_some, IfSome, IfOk, IsOkUnless, OnOk, OnErr, map, if◌then◌else◌};
 ghost use Rattle.std.specs.Option.{option_map};
-ghost use Rattle.rs_pager.specs.Slot.{committed_slot, abandoned_slot, forgotten_slot, clean_slot, working_of};
+ghost use Rattle.rs_pager.specs.Slot.{committed_slot, abandoned_slot, forgotten_slot, clean_slot, working_of, changed_of, read_slot, copied_slot, empty_slot};
+ghost use Rattle.rs_pager.specs.Reading.{BeginsFree, IsInUse};
+ghost use Rattle.rs_pager.specs.Allocated.{HoldsFree};
+ghost use Rattle.rs_pager.specs.Copying.{MakesCopy};
 
 use crate::header::{PageHeader, PageKind};
 use crate::number::PageNumber;
@@ -42,7 +45,7 @@ impl Slot {
 
     /// Nothing is held.
     pub(crate) fn empty() -> Slot
-        ensures { result ≡ record { kept = None; copy = None; is_changed = false } }
+        ensures { result ≡ empty_slot }
     {
         Slot {
             kept: None,
@@ -77,7 +80,7 @@ impl Slot {
 
     /// The committed page, if the disk doesn't have it yet.
     pub(crate) fn changed(&self) -> Option<&Page>
-        ensures { option_map (λ page. page.now.bytes) result ≡ (if self.now.is_changed then self.now.kept else None) }
+        ensures { option_map (λ page. page.now.bytes) result ≡ changed_of self.now }
     {
         if !self.is_changed {
             return None;
@@ -102,14 +105,15 @@ impl Slot {
 
     /// Holds the committed page as the disk has it.
     pub(crate) fn hold(&mut self, page: Box<Page>)
-        ensures { self.new ≡ record self.old { kept = Some page.value.bytes } }
+        ensures { self.new ≡ read_slot page.value.bytes self.old }
     {
         self.kept = Some(page);
+        self.is_changed = false;
     }
 
     /// Puts a working copy in place.
     pub(crate) fn put_copy(&mut self, page: Box<Page>)
-        ensures { self.new ≡ record self.old { copy = Some page.value.bytes } }
+        ensures { self.new ≡ copied_slot page.value.bytes self.old }
     {
         self.copy = Some(page);
     }
@@ -117,17 +121,18 @@ impl Slot {
     /// Makes a copy of the working page where there is none. It is refused where the page is free or not held
     /// (94) and where there is no memory (90).
     pub(crate) fn make_copy(&mut self, alloc: Global) -> Result<(), Refusal>
-        ensures kept { self.new.kept ≡ self.old.kept }
-        ensures changed { self.new.is_changed ≡ self.old.is_changed }
-        ensures made { OnOk result (IsSome self.new.copy) }
+        ensures made { OnOk result (MakesCopy self.old self.new) }
         ensures refused { OnErr result (self.new ≡ self.old) }
+        ensures damaged { result ≡ Err Refusal.DamagedFile → IfSome (working_of self.old) BeginsFree }
+        ensures not_disk { result ≢ Err Refusal.Disk }
+        ensures not_full { result ≢ Err Refusal.FileFull }
     {
+        let page = self.working().ok_or(Refusal::DamagedFile)?;
+        if page.is_free() {
+            return Err(Refusal::DamagedFile);
+        }
         if self.copy.is_some() {
             return Ok(());
-        }
-        let page = self.working().ok_or(Refusal::DamagedFile)?;
-        if page.kind() == Some(PageKind::Free) {
-            return Err(Refusal::DamagedFile);
         }
         let copy = Box::new(alloc, *page).map_err(|_| Refusal::OutOfMemory)?;
         self.copy = Some(copy);
@@ -137,6 +142,7 @@ impl Slot {
     /// The copy, to be changed.
     pub(crate) fn copy_mut(&mut self) -> Option<&mut Page>
         ensures* lends { sem 𝓛 (lends_copy self.entry result) }
+        ensures held { self.old.copy ≡ option_map (λ page. page.now.bytes) result }
     {
         match &mut self.copy {
             Some(page) => Some(page),
@@ -145,17 +151,28 @@ impl Slot {
     }
 
     /// Whether the working page is held and free.
-    pub(crate) fn is_free(&self) -> bool {
-        self.next_free().is_ok()
+    pub(crate) fn is_free(&self) -> bool
+        ensures free { result ≡ true → IfSome (working_of self.now) BeginsFree }
+        ensures in_use { result ≡ false → IfSome (working_of self.now) IsInUse }
+    {
+        match self.working() {
+            Some(page) => page.is_free(),
+            None => false,
+        }
     }
 
-    /// The page that follows this one in the free list. It is refused with 94 where it is no free page.
-    pub(crate) fn next_free(&self) -> Result<PageNumber, Refusal>
-        ensures { IsOkUnless result Refusal.DamagedFile }
+    /// The page that follows this one, which has this number, in the free list of a file of so many pages. It
+    /// is refused with 94 where it is no free page.
+    pub(crate) fn next_free(&self, number: PageNumber, pages: u32) -> Result<PageNumber, Refusal>
+        ensures free { IfOk result (HoldsFree self.now number pages) }
+        ensures none { OnErr result ((next : ℕ) → HoldsFree self.now number pages next → ⊥) }
+        ensures refused { IsOkUnless result Refusal.DamagedFile }
     {
         let page = self.working().ok_or(Refusal::DamagedFile)?;
         match PageHeader::read(&page.bytes) {
-            Some(header) if header.kind == PageKind::Free => Ok(header.next),
+            Some(header) if header.kind == PageKind::Free && header.fits(number, pages) => {
+                Ok(header.next)
+            }
             _ => Err(Refusal::DamagedFile),
         }
     }

@@ -1,4 +1,4 @@
-//! What no clause says yet: that pages come back from the disk, and what is refused.
+//! Pages that come back from the disk, and what is refused, over a disk in memory.
 
 use crate::header::HEADER_SIZE;
 use crate::{PageKind, PageNumber, Pager};
@@ -11,7 +11,9 @@ fn pages_come_back_from_the_disk(rt: HostRuntime) -> Result<(), Fail> {
     let Ok(mut pager) = Pager::create(rt.alloc(), MemoryDisk::new(rt.alloc()), 5) else {
         return Err("not created".into());
     };
-    let _ = pager.begin();
+    if pager.begin().is_err() {
+        return Err("not begun".into());
+    }
     let Ok(number) = pager.allocate(PageKind::Catalogue) else {
         return Err("not allocated".into());
     };
@@ -38,7 +40,9 @@ fn a_full_file_hands_out_what_was_released(rt: HostRuntime) -> Result<(), Fail> 
     let Ok(mut pager) = Pager::create(rt.alloc(), MemoryDisk::new(rt.alloc()), 5) else {
         return Err("not created".into());
     };
-    let _ = pager.begin();
+    if pager.begin().is_err() {
+        return Err("not begun".into());
+    }
     let (first, second, third) = (
         pager.allocate(PageKind::Leaf),
         pager.allocate(PageKind::Leaf),
@@ -59,5 +63,57 @@ fn a_full_file_hands_out_what_was_released(rt: HostRuntime) -> Result<(), Fail> 
         pager.page(PageNumber::new(2)).is_err(),
         "the changes are gone"
     );
+    Ok(())
+}
+
+#[test]
+fn a_page_that_does_not_fit_is_not_lent(rt: HostRuntime) -> Result<(), Fail> {
+    let Ok(mut pager) = Pager::create(rt.alloc(), MemoryDisk::new(rt.alloc()), 5) else {
+        return Err("not created".into());
+    };
+    if pager.begin().is_err() {
+        return Err("not begun".into());
+    }
+    let (empty_leaf, released) = (
+        pager.allocate(PageKind::Leaf),
+        pager.allocate(PageKind::Catalogue),
+    );
+    let (Ok(empty_leaf), Ok(released)) = (empty_leaf, released) else {
+        return Err("not allocated".into());
+    };
+    assert!(rt; pager.page(released).is_ok());
+    assert_eq!(rt; pager.release(released), Ok(()));
+    assert!(rt; matches!(pager.page(released), Err(Refusal::DamagedFile)));
+    assert!(rt; matches!(pager.page_mut(released), Err(Refusal::DamagedFile)));
+    pager.commit();
+    assert!(rt; pager.flush().is_ok());
+    assert!(rt; pager.page(empty_leaf).is_ok(), "it is held still");
+    pager.forget();
+    assert!(rt; matches!(pager.page(empty_leaf), Err(Refusal::DamagedFile)));
+    assert!(rt; matches!(pager.page(released), Err(Refusal::DamagedFile)));
+    Ok(())
+}
+
+#[test]
+fn what_is_abandoned_stays_off_the_disk(rt: HostRuntime) -> Result<(), Fail> {
+    let Ok(mut pager) = Pager::create(rt.alloc(), MemoryDisk::new(rt.alloc()), 5) else {
+        return Err("not created".into());
+    };
+    let directory = PageNumber::new(1);
+    if pager.begin().is_err() {
+        return Err("not begun".into());
+    }
+    let Ok(page) = pager.page_mut(directory) else {
+        return Err("not lent".into());
+    };
+    page.bytes[HEADER_SIZE] = 7;
+    let Ok(page) = pager.page_mut(directory) else {
+        return Err("not lent again".into());
+    };
+    page.bytes[HEADER_SIZE] = 8;
+    assert!(rt; matches!(pager.page(directory), Ok(page) if page.bytes[HEADER_SIZE] == 8));
+    pager.abandon();
+    pager.forget();
+    assert!(rt; matches!(pager.page(directory), Ok(page) if page.bytes[HEADER_SIZE] == 0));
     Ok(())
 }

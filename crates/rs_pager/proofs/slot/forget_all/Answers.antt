@@ -1,5 +1,5 @@
 -- One more slot is done.
-use Rattle.std.proofs.Common.{◌≡◌, ◌<◌, ◌+◌, ◌++◌, map, take, drop, set, length, arith}
+use Rattle.std.proofs.Common.{◌≡◌, ◌+◌, ◌++◌, map, take, drop, set, length, arith}
 use Rattle.std.proofs.lemmas.List.Edits.{map_over_more}
 use Rattle.rs_pager.specs.Slot.{forgotten_slot}
 use Rattle.rs_pager.proofs.slot.forget_all.Goals as goal

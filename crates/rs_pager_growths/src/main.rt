@@ -1,0 +1,78 @@
+//! Makes the calls of a pager and judges each answer itself, for runs in which a growth is refused.
+//!
+//! What is printed is the same whichever growth was refused.
+#![tactic(auto)]
+
+mod judge;
+mod pages;
+
+use crate::judge::{AfterRefusal, Call, Judge};
+use std::alloc::Global;
+use std::io;
+
+/// Up to the first flush: pages are made and marked, one is released.
+const MAKING: [Call; 8] = [
+    Call::Allocate,
+    Call::Allocate,
+    Call::Write(2, 2),
+    Call::Release(3),
+    Call::Commit,
+    Call::Write(2, 22),
+    Call::Abandon,
+    Call::Flush,
+];
+
+/// Over pages that are held no longer: they are read, changed, released and handed out again, up to a full file.
+const CHANGING: [Call; 14] = [
+    Call::Forget,
+    Call::Allocate,
+    Call::Write(2, 23),
+    Call::Allocate,
+    Call::Write(4, 4),
+    Call::Allocate,
+    Call::Commit,
+    Call::Release(2),
+    Call::Release(4),
+    Call::Allocate,
+    Call::Abandon,
+    Call::Release(3),
+    Call::Commit,
+    Call::Flush,
+];
+
+/// Once more opened.
+const AGAIN: [Call; 5] = [
+    Call::Page(2),
+    Call::Release(4),
+    Call::Allocate,
+    Call::Commit,
+    Call::Flush,
+];
+
+/// Whether each call is answered as wanted.
+fn is_right(alloc: Global, after: AfterRefusal) -> bool {
+    let Some(mut judge) = Judge::new(alloc, after) else {
+        return false;
+    };
+    for call in MAKING.iter().chain(CHANGING.iter()) {
+        judge.make(*call);
+    }
+    judge.compare();
+    let Some(mut judge) = judge.opened_again(alloc) else {
+        return false;
+    };
+    for call in &AGAIN {
+        judge.make(*call);
+    }
+    judge.compare();
+    judge.is_right
+}
+
+fn main(rt: HostRuntime) -> io::Result<()> {
+    let ends = [AfterRefusal::Abandon, AfterRefusal::Commit];
+    if ends.iter().all(|after| is_right(rt.alloc(), *after)) {
+        println!(rt; "each call was answered as wanted")
+    } else {
+        println!(rt; "some call was answered otherwise")
+    }
+}

@@ -1,0 +1,288 @@
+//! Disks that hold no file, or a damaged one: what is refused, and that nothing changes.
+
+use crate::driver::Driver;
+use crate::image::{Field, disk_of, image, put, read};
+use crate::watched::{Watch, Watched};
+use rand_core::utils::NextWord;
+use rand_pcg::Pcg32;
+use rs_disk::Disk;
+use rs_measure::Refusal;
+use rs_pager::PageKind;
+use std::alloc::Global;
+use std::process::Abort;
+use std::test::Fail;
+
+/// The pages of the file, and the greatest number of pages.
+const PAGES: usize = 6;
+
+/// A file of six pages: a catalogue page, a leaf, an inner page, and a free page with the number 5.
+static FILE: [Field; 12] = [
+    (0, &[1]),
+    (16, b"ROADSEG1"),
+    (24, &[0, 0, 0, 1]),
+    (32, &[0, 0, 0, 6]),
+    (36, &[0, 0, 0, 5]),
+    (40, &[0, 0, 0, 1]),
+    (4096, &[6, 0, 0, 0, 0, 0, 0, 1]),
+    (8192, &[4, 0, 0, 20, 0, 0, 0, 2, 0, 0, 0, 3]),
+    (12288, &[2, 0, 0, 1, 0, 0, 0, 3]),
+    (12288 + 16, b"cell"),
+    (16384, &[3, 0, 0, 2, 0, 0, 0, 4]),
+    (20480, &[5, 0, 0, 0, 0, 0, 0, 5]),
+];
+
+/// A page, a byte in it, the value that is put there, and why it doesn't fit.
+type Damage = (u32, usize, u8, &'static str);
+
+/// Bytes of page 0 with which it is no header of this file.
+static NO_FILE_HEADER: [Damage; 22] = [
+    (0, 0, 0, "no kind"),
+    (0, 0, 2, "a leaf"),
+    (0, 0, 7, "no kind has this number"),
+    (0, 1, 1, "a spare byte"),
+    (0, 3, 1, "a count"),
+    (0, 7, 1, "another page's number"),
+    (0, 11, 2, "a next page"),
+    (0, 12, 1, "a spare byte"),
+    (0, 15, 1, "a spare byte"),
+    (0, 16, b'r', "no such mark"),
+    (0, 23, b'2', "no such mark"),
+    (0, 24, 1, "no such format"),
+    (0, 27, 0, "no such format"),
+    (0, 27, 2, "no such format yet"),
+    (0, 29, 1, "a spare byte"),
+    (0, 31, 1, "a spare byte"),
+    (0, 35, 0, "no page at all"),
+    (0, 35, 1, "no directory"),
+    (0, 35, 7, "more pages than there are"),
+    (0, 32, 1, "more pages than there may be"),
+    (0, 52, 1, "bytes behind the fields"),
+    (0, 4095, 1, "bytes behind the fields"),
+];
+
+/// Bytes with which a page doesn't fit its kind and number.
+static DAMAGED_PAGES: [Damage; 30] = [
+    (1, 0, 4, "no directory"),
+    (1, 0, 1, "a header that isn't page 0"),
+    (1, 3, 1, "a count"),
+    (1, 7, 2, "another page's number"),
+    (1, 11, 2, "a next page"),
+    (1, 1, 1, "a spare byte"),
+    (2, 0, 0, "no kind"),
+    (2, 0, 7, "no kind has this number"),
+    (2, 0, 255, "no kind has this number"),
+    (2, 0, 1, "a header that isn't page 0"),
+    (2, 0, 6, "a directory that isn't page 1"),
+    (2, 4, 1, "another page's number"),
+    (2, 7, 3, "another page's number"),
+    (2, 11, 1, "the directory as a next page"),
+    (2, 11, 6, "a next page past the count"),
+    (2, 8, 1, "a next page past the count"),
+    (2, 13, 1, "a spare byte"),
+    (3, 0, 3, "an inner page of one entry"),
+    (3, 3, 0, "a leaf of no cell"),
+    (3, 7, 0, "another page's number"),
+    (3, 11, 2, "a next page of a leaf"),
+    (3, 1, 255, "a spare byte"),
+    (3, 12, 1, "a spare byte"),
+    (3, 15, 1, "a spare byte"),
+    (4, 3, 1, "an inner page of one entry"),
+    (4, 3, 0, "an inner page of no entry"),
+    (4, 10, 1, "a next page of an inner page"),
+    (4, 7, 5, "another page's number"),
+    (4, 0, 5, "a free page with a count"),
+    (4, 14, 1, "a spare byte"),
+];
+
+/// Bytes with which the first page of the free list can't be handed out.
+static DAMAGED_FREE_LIST: [Damage; 8] = [
+    (5, 0, 4, "a page in use"),
+    (5, 3, 1, "a count"),
+    (5, 7, 4, "another page's number"),
+    (5, 11, 1, "the directory as a next page"),
+    (5, 11, 6, "a next page past the count"),
+    (5, 12, 1, "a spare byte"),
+    (0, 39, 6, "a first page past the count"),
+    (0, 39, 2, "a first page in use"),
+];
+
+fn no_file_header() -> &'static [Damage] {
+    &NO_FILE_HEADER
+}
+
+fn damaged_pages() -> &'static [Damage] {
+    &DAMAGED_PAGES
+}
+
+fn damaged_free_list() -> &'static [Damage] {
+    &DAMAGED_FREE_LIST
+}
+
+/// The bytes of the file with one of them changed.
+fn damaged(alloc: Global, damage: &Damage) -> Result<Vec<u8>, Fail> {
+    let (page, offset, value, _) = *damage;
+    let mut bytes = image(alloc, PAGES, &FILE)?;
+    let at = (page as usize).saturating_mul(4096).saturating_add(offset);
+    put(&mut bytes, at, value);
+    Ok(bytes)
+}
+
+/// Asserts that these bytes are no file of at most `limit` pages, and that the disk comes back as it was.
+fn assert_no_file(
+    rt: &impl Abort,
+    alloc: Global,
+    bytes: &[u8],
+    limit: u32,
+    why: &str,
+) -> Result<(), Fail> {
+    let watch = Watch::new();
+    let disk = Watched::new(disk_of(alloc, bytes)?, &watch);
+    match Driver::open(alloc, disk, limit) {
+        Ok(_) => return Err("opened".into()),
+        Err((disk, refusal)) => {
+            assert_eq!(rt; refusal, Refusal::DamagedFile, "{why}");
+            assert_eq!(rt; watch.changes(), 0, "{why}");
+            let mut disk = disk.into_disk();
+            let pages = disk.pages() as usize;
+            let found = read(alloc, &mut disk, pages.saturating_add(1))?;
+            let start = found.get(..bytes.len()).unwrap_or(&[]);
+            assert!(rt; start == bytes, "{why}");
+        }
+    }
+    Ok(())
+}
+
+#[test]
+fn bytes_that_are_no_file_are_refused(rt: HostRuntime) -> Result<(), Fail> {
+    let mut words = Pcg32::new(7, 54);
+    for length in [0, 1, 100, 4096, 8192, 8193, 24_576] {
+        let zeros = vec![in rt.alloc(); 0u8; length]?;
+        assert_no_file(&rt, rt.alloc(), zeros.as_slice(), 6, "zeros")?;
+        let mut random = zeros;
+        for place in random.iter_mut() {
+            let [byte, _, _, _] = words.next_word().to_be_bytes();
+            *place = byte;
+        }
+        assert_no_file(&rt, rt.alloc(), random.as_slice(), 6, "random bytes")?;
+    }
+    Ok(())
+}
+
+#[test]
+fn a_damaged_page_0_is_refused(rt: HostRuntime) -> Result<(), Fail> {
+    for damage in no_file_header() {
+        let bytes = damaged(rt.alloc(), damage)?;
+        assert_no_file(&rt, rt.alloc(), bytes.as_slice(), 8, damage.3)?;
+    }
+    Ok(())
+}
+
+#[test]
+fn a_file_that_is_cut_or_past_the_limit_is_refused(rt: HostRuntime) -> Result<(), Fail> {
+    let bytes = image(rt.alloc(), PAGES, &FILE)?;
+    for limit in 3..6 {
+        assert_no_file(&rt, rt.alloc(), bytes.as_slice(), limit, "a lower limit")?;
+    }
+    let cut = bytes.get(..24_575).unwrap_or(&[]);
+    assert_no_file(&rt, rt.alloc(), cut, 8, "a byte is missing")?;
+    for limit in 6..9 {
+        let disk = disk_of(rt.alloc(), bytes.as_slice())?;
+        assert!(rt; Driver::open(rt.alloc(), disk, limit).is_ok());
+    }
+    Ok(())
+}
+
+/// Asserts that page `number` is refused by each call, and each other page in use reads as stated.
+fn assert_one_damaged<D: Disk>(
+    rt: &impl Abort,
+    driver: &mut Driver<D>,
+    bytes: &[u8],
+    damage: &Damage,
+) -> Result<(), Fail> {
+    let (damaged, _, _, why) = *damage;
+    for number in 1..5u32 {
+        let start = (number as usize).saturating_mul(4096);
+        let wanted = bytes.get(start..start.saturating_add(4096)).unwrap_or(&[]);
+        match driver.page(number) {
+            Ok(page) => {
+                assert!(rt; number != damaged, "page {number}: {why}");
+                assert!(rt; page.bytes.as_slice() == wanted, "page {number}: {why}");
+            }
+            Err(refusal) => {
+                assert_eq!(rt; refusal, Refusal::DamagedFile, "page {number}: {why}");
+                assert_eq!(rt; number, damaged, "{why}");
+            }
+        }
+    }
+    assert_eq!(rt;
+        driver.write(damaged, 20, &[1]),
+        Err(Refusal::DamagedFile),
+        "{why}"
+    );
+    assert_eq!(rt; driver.release(damaged), Err(Refusal::DamagedFile), "{why}");
+    Ok(())
+}
+
+#[test]
+fn a_damaged_page_is_refused_at_each_reading(rt: HostRuntime) -> Result<(), Fail> {
+    for damage in damaged_pages() {
+        let bytes = damaged(rt.alloc(), damage)?;
+        let watch = Watch::new();
+        let disk = Watched::new(disk_of(rt.alloc(), bytes.as_slice())?, &watch);
+        let Ok(mut driver) = Driver::open(rt.alloc(), disk, 8) else {
+            return Err("not opened".into());
+        };
+        assert_one_damaged(&rt, &mut driver, bytes.as_slice(), damage)?;
+        driver.abandon();
+        assert_one_damaged(&rt, &mut driver, bytes.as_slice(), damage)?;
+        driver.commit();
+        driver.forget();
+        assert_one_damaged(&rt, &mut driver, bytes.as_slice(), damage)?;
+        assert_eq!(rt; watch.changes(), 0, "{}", damage.3);
+        let mut disk = driver.into_disk();
+        assert!(rt; read(rt.alloc(), &mut disk, PAGES)?.as_slice() == bytes.as_slice());
+    }
+    Ok(())
+}
+
+/// Asserts that no page is handed out, and that nothing is written.
+fn assert_hands_out_nothing<D: Disk>(
+    rt: &impl Abort,
+    driver: &mut Driver<D>,
+    why: &str,
+) -> Result<(), Fail> {
+    for _ in 0..2 {
+        let answer = driver.allocate(PageKind::Leaf);
+        assert_eq!(rt; answer, Err(Refusal::DamagedFile), "{why}");
+    }
+    assert_eq!(rt; driver.full_refusals(), 0, "{why}");
+    driver.commit();
+    driver.flush()?;
+    Ok(())
+}
+
+/// Asserts that the free list is refused, at the opening or where a page is wanted, and that the disk stays.
+fn assert_free_list_refused(rt: &impl Abort, alloc: Global, damage: &Damage) -> Result<(), Fail> {
+    let bytes = damaged(alloc, damage)?;
+    let mut disk = match Driver::open(alloc, disk_of(alloc, bytes.as_slice())?, 8) {
+        Err((disk, refusal)) => {
+            assert_eq!(rt; refusal, Refusal::DamagedFile);
+            disk
+        }
+        Ok(mut driver) => {
+            assert_hands_out_nothing(rt, &mut driver, damage.3)?;
+            driver.into_disk()
+        }
+    };
+    let found = read(alloc, &mut disk, PAGES)?;
+    assert!(rt; found.as_slice() == bytes.as_slice(), "{}", damage.3);
+    Ok(())
+}
+
+#[test]
+fn a_damaged_free_list_hands_out_nothing(rt: HostRuntime) -> Result<(), Fail> {
+    for damage in damaged_free_list() {
+        assert_free_list_refused(&rt, rt.alloc(), damage)?;
+    }
+    Ok(())
+}
