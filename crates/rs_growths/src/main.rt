@@ -1,6 +1,6 @@
 //! Sends a conversation line by line and judges each reply itself, for runs in which a growth is refused.
 //!
-//! A line is answered as written, or 90; then the table is as it was, and the line sent again is answered
+//! A line is answered as written, or 90; then all is as it was, and the line sent again is answered
 //! as written. What is printed is the same whichever growth was refused.
 #![tactic(auto)]
 
@@ -10,62 +10,98 @@ use rs_protocol::run;
 use std::alloc::Global;
 use std::io;
 
-/// A line that is sent, and the reply that is wanted.
-struct Exchange {
+/// A line that changes something, and a line that shows it.
+struct Change {
     line: &'static [u8],
     reply: &'static [u8],
+    look: &'static [u8],
+    /// What `look` answers before the change.
+    before: &'static [u8],
+    /// What `look` answers after it.
+    after: &'static [u8],
 }
-
-const NO_SUCH_TABLE: &[u8] = b"0 ERR 21 no such name\n";
 
 const OUT_OF_MEMORY: &[u8] = b"0 ERR 90 out of memory\n";
 
 const SELECT: &[u8] = b"0 SELECT pave\n";
 
-/// Each change, and what the SELECT behind it answers.
-const CHANGES: [(Exchange, &[u8]); 6] = [
-    (
-        Exchange {
-            line: b"0 DEFINE ROUTE A FROM 0 TO 10\n",
-            reply: b"0 OK 0\n",
-        },
-        NO_SUCH_TABLE,
-    ),
-    (
-        Exchange {
-            line: b"0 DEFINE LINE TABLE pave (surf TEXT(8), lanes INT)\n",
-            reply: b"0 OK 0\n",
-        },
-        b"0 OK 0\n",
-    ),
-    (
-        Exchange {
-            line: b"0 INSERT INTO pave ON A FROM 0 TO 1 VALUES ('AC', 2)\n",
-            reply: b"0 OK 1000\n",
-        },
-        b"0 ROW A 0.000 1.000 'AC' 2\n0 OK 1\n",
-    ),
-    (
-        Exchange {
-            line: b"0 INSERT INTO pave ON A FROM 1 TO 2 VALUES ('AC', 2)\n",
-            reply: b"0 OK 1000\n",
-        },
-        b"0 ROW A 0.000 2.000 'AC' 2\n0 OK 1\n",
-    ),
-    (
-        Exchange {
-            line: b"0 INSERT INTO pave ON A FROM 0.5 TO 2.5 VALUES ('PC', NULL)\n",
-            reply: b"0 OK 2000\n",
-        },
-        b"0 ROW A 0.000 2.000 'AC' 2\n0 ROW A 0.500 2.500 'PC' NULL\n0 OK 2\n",
-    ),
-    (
-        Exchange {
-            line: b"0 DEFINE ROUTE A FROM 7 TO 8\n",
-            reply: b"0 ERR 24 name taken\n",
-        },
-        b"0 ROW A 0.000 2.000 'AC' 2\n0 ROW A 0.500 2.500 'PC' NULL\n0 OK 2\n",
-    ),
+const SELECT_BY_REFERENT: &[u8] = b"0 SELECT pave AS RELATIVE\n";
+
+const TRANSLATE: &[u8] = b"0 TRANSLATE A 4.25 AS RELATIVE\n";
+
+/// The conversation: definitions, referents that come, move and go, and insertions by each kind of position, looked at
+/// by each method.
+const CHANGES: [Change; 10] = [
+    Change {
+        line: b"0 DEFINE ROUTE A FROM 0 TO 10\n",
+        reply: b"0 OK 0\n",
+        look: b"0 TRANSLATE A 50% AS ABSOLUTE\n",
+        before: b"0 ERR 20 no such route\n",
+        after: b"0 ROW 5.000\n0 OK 1\n",
+    },
+    Change {
+        line: b"0 DEFINE LINE TABLE pave (surf TEXT(8), lanes INT)\n",
+        reply: b"0 OK 0\n",
+        look: SELECT,
+        before: b"0 ERR 21 no such name\n",
+        after: b"0 OK 0\n",
+    },
+    Change {
+        line: b"0 DEFINE REFERENT A K1 AT 4\n",
+        reply: b"0 OK 0\n",
+        look: TRANSLATE,
+        before: b"0 ROW @START+4.250\n0 OK 1\n",
+        after: b"0 ROW @K1+0.250\n0 OK 1\n",
+    },
+    Change {
+        line: b"0 DEFINE REFERENT A K0 AT @K1\n",
+        reply: b"0 OK 0\n",
+        look: TRANSLATE,
+        before: b"0 ROW @K1+0.250\n0 OK 1\n",
+        after: b"0 ROW @K0+0.250\n0 OK 1\n",
+    },
+    Change {
+        line: b"0 INSERT INTO pave ON A FROM @K0-0.5 TO 50% VALUES ('AC', 2)\n",
+        reply: b"0 OK 1500\n",
+        look: SELECT_BY_REFERENT,
+        before: b"0 OK 0\n",
+        after: b"0 ROW A @START+3.500 @K0+1.000 'AC' 2\n0 OK 1\n",
+    },
+    Change {
+        line: b"0 INSERT INTO pave ON A FROM 5 TO @K1+2 VALUES ('AC', 2)\n",
+        reply: b"0 OK 1000\n",
+        look: b"0 SELECT pave AS INTERPOLATIVE\n",
+        before: b"0 ROW A 35.0000000% 50.0000000% 'AC' 2\n0 OK 1\n",
+        after: b"0 ROW A 35.0000000% 60.0000000% 'AC' 2\n0 OK 1\n",
+    },
+    Change {
+        line: b"0 INSERT INTO pave ON A FROM 0.5 TO 25.0% VALUES ('PC', NULL)\n",
+        reply: b"0 OK 2000\n",
+        look: SELECT,
+        before: b"0 ROW A 3.500 6.000 'AC' 2\n0 OK 1\n",
+        after: b"0 ROW A 0.500 2.500 'PC' NULL\n0 ROW A 3.500 6.000 'AC' 2\n0 OK 2\n",
+    },
+    Change {
+        line: b"0 MOVE REFERENT A K0 TO @K0-0.5\n",
+        reply: b"0 OK 0\n",
+        look: SELECT_BY_REFERENT,
+        before: b"0 ROW A @START+0.500 @START+2.500 'PC' NULL\n0 ROW A @START+3.500 @K0+2.000 'AC' 2\n0 OK 2\n",
+        after: b"0 ROW A @START+0.500 @START+2.500 'PC' NULL\n0 ROW A @K0+0.000 @K1+2.000 'AC' 2\n0 OK 2\n",
+    },
+    Change {
+        line: b"0 DROP REFERENT A K1\n",
+        reply: b"0 OK 0\n",
+        look: SELECT_BY_REFERENT,
+        before: b"0 ROW A @START+0.500 @START+2.500 'PC' NULL\n0 ROW A @K0+0.000 @K1+2.000 'AC' 2\n0 OK 2\n",
+        after: b"0 ROW A @START+0.500 @START+2.500 'PC' NULL\n0 ROW A @K0+0.000 @K0+2.500 'AC' 2\n0 OK 2\n",
+    },
+    Change {
+        line: b"0 DEFINE REFERENT A K0 AT 7\n",
+        reply: b"0 ERR 24 name taken\n",
+        look: SELECT,
+        before: b"0 ROW A 0.500 2.500 'PC' NULL\n0 ROW A 3.500 6.000 'AC' 2\n0 OK 2\n",
+        after: b"0 ROW A 0.500 2.500 'PC' NULL\n0 ROW A 3.500 6.000 'AC' 2\n0 OK 2\n",
+    },
 ];
 
 /// Room for a reply of the conversation; it takes no memory.
@@ -87,33 +123,25 @@ fn is_answered(alloc: Global, engine: &mut Engine, line: &[u8], reply: &[u8]) ->
     written(alloc, engine, line).as_slice() == reply
 }
 
-/// Whether a change is made as wanted. Where memory was wanting, the table is as it was, and the change is made when
-/// it is sent again.
-fn is_changed(
-    alloc: Global,
-    engine: &mut Engine,
-    change: &Exchange,
-    before: &[u8],
-    after: &[u8],
-) -> bool {
+/// Whether a change is made as wanted. Where memory was wanting, all is as it was, and the change is made when it is
+/// sent again.
+fn is_changed(alloc: Global, engine: &mut Engine, change: &Change) -> bool {
     let first = written(alloc, engine, change.line);
     if first.as_slice() == OUT_OF_MEMORY {
-        let is_unchanged = written(alloc, engine, SELECT).as_slice() == before;
+        let is_unchanged = written(alloc, engine, change.look).as_slice() == change.before;
         let is_made = written(alloc, engine, change.line).as_slice() == change.reply;
-        return is_unchanged && is_made && is_answered(alloc, engine, SELECT, after);
+        return is_unchanged && is_made && is_answered(alloc, engine, change.look, change.after);
     }
-    first.as_slice() == change.reply && is_answered(alloc, engine, SELECT, after)
+    first.as_slice() == change.reply && is_answered(alloc, engine, change.look, change.after)
 }
 
 fn main(rt: HostRuntime) -> io::Result<()> {
     let mut engine = Engine::fresh(rt.alloc());
-    let mut before: &[u8] = NO_SUCH_TABLE;
     let mut is_right = true;
-    for (change, after) in &CHANGES {
-        if !is_changed(rt.alloc(), &mut engine, change, before, after) {
+    for change in &CHANGES {
+        if !is_changed(rt.alloc(), &mut engine, change) {
             is_right = false;
         }
-        before = after;
     }
     if is_right {
         println!(rt; "each line was answered as written")

@@ -1,9 +1,12 @@
 //! The slow machine: it answers lines thousandth by thousandth, over sets of rows.
 
-use crate::slow_lines::{number, push_measure, push_row, thousandths, unquoted};
-use crate::slow_reader::{SlowReader, slow_tokens};
+use crate::slow_lines::{number, push_row, thousandths, unquoted};
+use crate::slow_positions::{locate, position_of, push_position};
+use crate::slow_reader::{SlowMethod, SlowReader, slow_tokens};
 use crate::slow_tables::{SlowColumn, SlowRoute, SlowRow, SlowTable, SlowValue};
 use std::alloc::{AllocError, Global};
+
+mod referents;
 
 /// Why a line was refused: the text behind `ERR `, the column of a syntax fault apart.
 #[derive(Drop)]
@@ -22,6 +25,12 @@ impl From<usize> for No {
 impl From<AllocError> for No {
     fn from(_error: AllocError) -> Self {
         No::Memory
+    }
+}
+
+impl From<&'static str> for No {
+    fn from(words: &'static str) -> Self {
+        No::Words(words)
     }
 }
 
@@ -107,20 +116,28 @@ impl SlowMachine {
             reader.take(b"DEFINE")?;
             if reader.sees(b"ROUTE") {
                 self.define_route(&mut reader)
+            } else if reader.sees(b"REFERENT") {
+                self.define_referent(&mut reader)
             } else {
                 self.define_table(&mut reader)
             }
+        } else if reader.sees(b"MOVE") {
+            self.move_referent(&mut reader)
+        } else if reader.sees(b"DROP") {
+            self.drop_referent(&mut reader)
         } else if reader.sees(b"INSERT") {
             self.insert(&mut reader)
+        } else if reader.sees(b"TRANSLATE") {
+            self.translate(&mut reader, rows)
         } else {
             self.select(&mut reader, rows)
         }
     }
 
-    fn route(&self, name: &[u8]) -> Result<(u32, u32), No> {
+    fn route(&self, name: &[u8]) -> Result<&SlowRoute, No> {
         for route in &self.routes {
             if same(&route.name, name) {
-                return Ok((route.start, route.finish));
+                return Ok(route);
             }
         }
         Err(No::Words("20 no such route"))
@@ -155,6 +172,7 @@ impl SlowMachine {
             name,
             start,
             finish,
+            referents: Vec::new(self.alloc),
         })?;
         Ok(0)
     }
@@ -214,25 +232,24 @@ impl SlowMachine {
         reader.take(b"ON")?;
         let route = reader.name()?;
         reader.take(b"FROM")?;
-        let from = reader.measure()?;
+        let from = reader.position()?;
         reader.take(b"TO")?;
-        let to = reader.measure()?;
+        let to = reader.position()?;
         reader.take(b"VALUES")?;
         let (row, is_in_range) = self.values(reader)?;
         reader.end()?;
-        let (Some(from), Some(to)) = (thousandths(from), thousandths(to)) else {
+        let (Some(from), Some(to)) = (position_of(from), position_of(to)) else {
             return Err(No::Words("12 number out of range"));
         };
         if !is_in_range {
             return Err(No::Words("12 number out of range"));
         }
-        let (start, finish) = self.route(route)?;
+        let along = self.route(route)?;
         if !self.has_table(table) {
             return Err(No::Words("21 no such name"));
         }
-        if from < start || from > finish || to < start || to > finish {
-            return Err(No::Words("30 outside the route"));
-        }
+        let from = locate(along, from)?;
+        let to = locate(along, to)?;
         if from >= to {
             return Err(No::Words("31 empty span"));
         }
@@ -305,21 +322,23 @@ impl SlowMachine {
     fn select(&self, reader: &mut SlowReader<'_>, rows: &mut Vec<Vec<u8>>) -> Result<u64, No> {
         reader.take(b"SELECT")?;
         let name = reader.name()?;
+        let mut method = SlowMethod::Absolute;
+        if reader.sees(b"AS") {
+            reader.take(b"AS")?;
+            method = reader.method()?;
+        }
         reader.end()?;
         let mut names = Vec::new(self.alloc);
         for route in &self.routes {
-            names.push((
-                Vec::from_slice(self.alloc, route.name.as_slice())?,
-                route.start,
-                route.finish,
-            ))?;
+            names.push(Vec::from_slice(self.alloc, route.name.as_slice())?)?;
         }
         names.sort()?;
         for table in &self.tables {
             if same(&table.name, name) {
-                for (route, start, finish) in &names {
-                    for place in *start..*finish {
-                        self.runs_from(table, route.as_slice(), (*start, place, *finish), rows)?;
+                for route in &names {
+                    let route = self.route(route.as_slice())?;
+                    for place in route.start..route.finish {
+                        self.runs_from(table, route, place, method, rows)?;
                     }
                 }
                 return Ok(rows.len() as u64);
@@ -332,27 +351,28 @@ impl SlowMachine {
     fn runs_from(
         &self,
         table: &SlowTable,
-        route: &[u8],
-        at: (u32, u32, u32),
+        route: &SlowRoute,
+        place: u32,
+        method: SlowMethod,
         rows: &mut Vec<Vec<u8>>,
     ) -> Result<(), No> {
-        let (start, place, finish) = at;
-        for row in &table.rows(self.alloc, route, place)? {
-            if place > start && table.holds(route, place.saturating_sub(1), row) {
+        let name = route.name.as_slice();
+        for row in &table.rows(self.alloc, name, place)? {
+            if place > route.start && table.holds(name, place.saturating_sub(1), row) {
                 continue;
             }
             let mut end = place;
-            for next in place..finish {
-                if !table.holds(route, next, row) {
+            for next in place..route.finish {
+                if !table.holds(name, next, row) {
                     break;
                 }
                 end = next.saturating_add(1);
             }
-            let mut line = Vec::from_slice(self.alloc, route)?;
+            let mut line = Vec::from_slice(self.alloc, name)?;
             line.extend_from_slice(b" ")?;
-            push_measure(&mut line, self.alloc, place)?;
+            push_position(&mut line, self.alloc, route, method, place)?;
             line.extend_from_slice(b" ")?;
-            push_measure(&mut line, self.alloc, end)?;
+            push_position(&mut line, self.alloc, route, method, end)?;
             push_row(&mut line, self.alloc, row)?;
             rows.push(line)?;
         }

@@ -28,6 +28,32 @@ pub struct SlowToken<'a> {
     pub column: usize,
 }
 
+/// A position as its tokens stand on the line.
+#[derive(Clone, Copy, Debug)]
+pub enum SlowWritten<'a> {
+    /// A measure.
+    Measure(&'a [u8]),
+    /// A number before `%`.
+    Percentage(&'a [u8]),
+    /// A name behind `@`.
+    Referent(&'a [u8]),
+    /// A name behind `@`, and a measure behind `+`.
+    Behind(&'a [u8], &'a [u8]),
+    /// A name behind `@`, and a measure behind `-`.
+    Before(&'a [u8], &'a [u8]),
+}
+
+/// How positions are printed.
+#[derive(Clone, Copy, PartialEq, Eq, Debug)]
+pub enum SlowMethod {
+    /// By their measure.
+    Absolute,
+    /// By a referent and how far behind it they lie.
+    Relative,
+    /// By a percentage of the route's length.
+    Interpolative,
+}
+
 const RESERVED: [&str; 52] = [
     "ABSOLUTE",
     "ALIGNMENT",
@@ -284,6 +310,43 @@ impl<'a> SlowReader<'a> {
         match self.peek() {
             Some(token) if token.kind == SlowKind::Decimal => self.take_kind(SlowKind::Decimal),
             _ => self.take_kind(SlowKind::Whole),
+        }
+    }
+
+    /// Takes a position.
+    pub fn position(&mut self) -> Result<SlowWritten<'a>, usize> {
+        if !self.sees(b"@") {
+            let text = self.measure()?;
+            if self.sees(b"%") {
+                self.take(b"%")?;
+                return Ok(SlowWritten::Percentage(text));
+            }
+            return Ok(SlowWritten::Measure(text));
+        }
+        self.take(b"@")?;
+        let name = self.name()?;
+        if self.sees(b"+") {
+            self.take(b"+")?;
+            Ok(SlowWritten::Behind(name, self.measure()?))
+        } else if self.sees(b"-") {
+            self.take(b"-")?;
+            Ok(SlowWritten::Before(name, self.measure()?))
+        } else {
+            Ok(SlowWritten::Referent(name))
+        }
+    }
+
+    /// Takes a method.
+    pub fn method(&mut self) -> Result<SlowMethod, usize> {
+        if self.sees(b"RELATIVE") {
+            self.take(b"RELATIVE")?;
+            Ok(SlowMethod::Relative)
+        } else if self.sees(b"INTERPOLATIVE") {
+            self.take(b"INTERPOLATIVE")?;
+            Ok(SlowMethod::Interpolative)
+        } else {
+            self.take(b"ABSOLUTE")?;
+            Ok(SlowMethod::Absolute)
         }
     }
 

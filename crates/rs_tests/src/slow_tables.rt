@@ -1,6 +1,7 @@
 //! What the slow machine keeps: for each table, route and thousandth the set of rows that hold there.
 
 use std::alloc::{AllocError, Global};
+use std::collections::BTreeMap;
 
 /// A value of a row. The derived order is NULL, numbers, texts.
 #[derive(PartialEq, Eq, PartialOrd, Ord, Debug, Drop)]
@@ -38,6 +39,15 @@ fn copy_row(alloc: Global, row: &SlowRow) -> Result<SlowRow, AllocError> {
     Ok(copy)
 }
 
+/// A referent of a route, START not among them.
+#[derive(Drop)]
+pub struct SlowReferent {
+    /// Its name.
+    pub name: Vec<u8>,
+    /// Its thousandth.
+    pub at: u32,
+}
+
 /// A route.
 #[derive(Drop)]
 pub struct SlowRoute {
@@ -47,6 +57,23 @@ pub struct SlowRoute {
     pub start: u32,
     /// Its end.
     pub finish: u32,
+    /// Its referents, as they were defined.
+    pub referents: Vec<SlowReferent>,
+}
+
+impl SlowRoute {
+    /// The thousandth of a referent, START among them.
+    pub fn referent(&self, name: &[u8]) -> Option<u32> {
+        if name == b"START".as_slice() {
+            return Some(self.start);
+        }
+        for referent in &self.referents {
+            if referent.name.as_slice() == name {
+                return Some(referent.at);
+            }
+        }
+        None
+    }
 }
 
 /// A column: a text of so many bytes, or a number.
@@ -58,12 +85,11 @@ pub struct SlowColumn {
     pub text: Option<usize>,
 }
 
-/// The rows at one thousandth of one route.
+/// The rows at the thousandths of one route.
 #[derive(Drop)]
-pub struct SlowPlace {
+pub struct SlowPlaces {
     route: Vec<u8>,
-    place: u32,
-    rows: Vec<SlowRow>,
+    rows: BTreeMap<u32, Vec<SlowRow>>,
 }
 
 /// A table.
@@ -73,7 +99,7 @@ pub struct SlowTable {
     pub name: Vec<u8>,
     /// Its columns.
     pub columns: Vec<SlowColumn>,
-    places: Vec<SlowPlace>,
+    places: Vec<SlowPlaces>,
 }
 
 impl SlowTable {
@@ -88,8 +114,10 @@ impl SlowTable {
 
     fn rows_at(&self, route: &[u8], place: u32) -> &[SlowRow] {
         for other in &self.places {
-            if other.place == place && other.route.as_slice() == route {
-                return other.rows.as_slice();
+            if other.route.as_slice() == route
+                && let Some(rows) = other.rows.get(&place)
+            {
+                return rows.as_slice();
             }
         }
         &[]
@@ -128,15 +156,31 @@ impl SlowTable {
         }
         let copy = copy_row(alloc, row)?;
         for other in &mut self.places {
-            if other.place == place && other.route.as_slice() == route {
-                other.rows.push(copy)?;
+            if other.route.as_slice() == route {
+                put_at(alloc, &mut other.rows, place, copy)?;
                 return Ok(true);
             }
         }
-        let mut rows = Vec::new(alloc);
-        rows.push(copy)?;
         let route = Vec::from_slice(alloc, route)?;
-        self.places.push(SlowPlace { route, place, rows })?;
+        let mut rows = BTreeMap::new(alloc);
+        put_at(alloc, &mut rows, place, copy)?;
+        self.places.push(SlowPlaces { route, rows })?;
         Ok(true)
     }
+}
+
+fn put_at(
+    alloc: Global,
+    places: &mut BTreeMap<u32, Vec<SlowRow>>,
+    place: u32,
+    row: SlowRow,
+) -> Result<(), AllocError> {
+    if let Some(rows) = places.get_mut(&place) {
+        rows.push(row)?;
+        return Ok(());
+    }
+    let mut rows = Vec::new(alloc);
+    rows.push(row)?;
+    let _ = places.insert(place, rows)?;
+    Ok(())
 }
