@@ -4,7 +4,7 @@ use crate::random_positions::{Half, RandomChoices, RandomRoute, measure, positio
 use std::alloc::{AllocError, Global};
 
 /// The routes that are defined before the lines.
-pub const ROUTES: [RandomRoute; 5] = [
+pub const ROUTES: &[RandomRoute] = &[
     RandomRoute {
         name: "A",
         start: 0,
@@ -33,7 +33,7 @@ pub const ROUTES: [RandomRoute; 5] = [
 ];
 
 /// Routes of many thousandths, which the slow machine can't print the rows of.
-pub const LONG_ROUTES: [RandomRoute; 5] = [
+pub const LONG_ROUTES: &[RandomRoute] = &[
     RandomRoute {
         name: "longest",
         start: 0,
@@ -201,12 +201,12 @@ const STRAYS: [&str; 24] = [
 pub struct RandomLines {
     alloc: Global,
     choices: RandomChoices,
-    routes: [RandomRoute; 5],
+    routes: &'static [RandomRoute],
 }
 
 impl RandomLines {
     /// The lines of a seed, over these routes.
-    pub fn new(alloc: Global, seed: u64, routes: [RandomRoute; 5]) -> Self {
+    pub fn new(alloc: Global, seed: u64, routes: &'static [RandomRoute]) -> Self {
         RandomLines {
             alloc,
             choices: RandomChoices::new(seed),
@@ -216,15 +216,15 @@ impl RandomLines {
 
     /// A route, seldom one that some line defines or none.
     fn some_route(&mut self) -> RandomRoute {
-        let at = self.choices.below(24) / 4;
         let routes = self.routes;
-        match routes.get(at) {
-            Some(route) => *route,
-            None => RandomRoute {
-                name: self.choices.pick(&NEW_ROUTES),
-                start: 0,
-                finish: 12,
-            },
+        let at = self.choices.below(24) / 4;
+        if let Some(route) = route_at(routes, at) {
+            return route;
+        }
+        RandomRoute {
+            name: self.choices.pick(&NEW_ROUTES),
+            start: 0,
+            finish: 12,
         }
     }
 
@@ -379,5 +379,13 @@ impl RandomLines {
             }
         }
         Ok(line)
+    }
+}
+
+/// The route at a place of a list.
+fn route_at(routes: &[RandomRoute], at: usize) -> Option<RandomRoute> {
+    match routes.get(at) {
+        Some(route) => Some(*route),
+        None => None,
     }
 }
