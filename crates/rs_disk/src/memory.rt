@@ -57,11 +57,13 @@ impl Disk for MemoryDisk {
         Ok(())
     }
 
-    /// It fails where the memory for a growth is refused, and then changes nothing but the count.
+    /// It fails where the memory for a growth is refused, and then changes nothing but the count. Within
+    /// what the disk holds it doesn't fail.
     fn write(&mut self, at: u64, bytes: &[u8]) -> Result<(), DiskFault>
         ensures written { OnOk result (Holds (content_of self.new.bytes) at bytes.now) }
         ensures others { KeepsOthers at (length bytes.now)
             (content_of self.old.bytes) (content_of self.new.bytes) }
+        ensures inside { at + length bytes.now ≤ length self.old.bytes → IsOk result }
         ensures refused { OnErr result (self.new.bytes ≡ self.old.bytes) }
         ensures count { Counts result self.old.failures self.new.failures }
     {
@@ -119,6 +121,7 @@ fn write_in(file: &mut Vec<u8>, at: usize, bytes: &[u8]) -> Result<(), DiskFault
     ensures written { OnOk result (Holds (content_of file.new.items) at bytes.now) }
     ensures others { OnOk result (KeepsOthers at (length bytes.now)
         (content_of file.old.items) (content_of file.new.items)) }
+    ensures inside { at + length bytes.now ≤ length file.old.items → IsOk result }
     ensures refused { OnErr result (file.new.items ≡ file.old.items) }
 {
     if bytes.is_empty() {
@@ -135,6 +138,7 @@ fn grow(file: &mut Vec<u8>, end: usize) -> Result<(), AllocError>
     ensures long { OnOk result (length file.new.items ≡ max (length file.old.items) end) }
     ensures bytes { OnOk result ((i : ℕ)
         → slice_index file.new.items i ≡ slice_index file.old.items i) }
+    ensures inside { end ≤ length file.old.items → IsOk result }
     ensures refused { OnErr result (file.new.items ≡ file.old.items) }
 {
     if file.len() < end {

@@ -1,5 +1,5 @@
 -- A page comes into use, or out of it.
-use Rattle.std.proofs.Common.{◌≡◌, ◌≢◌, ◌<◌, ◌≤◌, ◌+◌, ◌-◌, ℕ, zero, suc, Option, Some, None, IsSome, IfSome, Result, Ok, Err, IfOk, OnErr, List, [], ◌∷◌, ◌++◌, set, length, get_or, slice_index, ap, sym, ◌∙◌, subst, true, false, Bool, nat_eq, nat_lt, refl, inl, inr, ◌⊎◌, arith, rules, tests}
+use Rattle.std.proofs.Common.{◌≡◌, ◌≢◌, ◌<◌, ◌≤◌, ◌+◌, ◌-◌, ℕ, zero, suc, Option, Some, None, IsSome, IfSome, IsTrue, Result, Ok, Err, IfOk, OnErr, List, [], ◌∷◌, ◌++◌, set, length, get_or, slice_index, ap, sym, ◌∙◌, subst, true, false, Bool, nat_eq, nat_lt, refl, inl, inr, ◌⊎◌, arith, rules, tests}
 use Rattle.std.specs.Prelude.{if◌then◌else◌, ◌&&◌}
 use Rattle.std.proofs.lemmas.List.{get_or_push}
 use Rattle.rs_disk.specs.Content.{Content}
@@ -106,7 +106,10 @@ pub record ReleasesPage {D : Type 0} (is_honest : D → Bool) (seen : D → Cont
   pub releases : IsTied is_honest seen old → Releases (working seen old) (working seen new) number
   pub free_list : IsTied is_honest seen old → (numbers : List ℕ) → IsFreeList (working seen old) numbers → IsFreeList (working seen new) (number ∷ numbers)
   pub committed : IsTied is_honest seen old → SamePages (committed seen new) (committed seen old)
+  pub was_in_use : IsTied is_honest seen old → (page : List ℕ) → HasPage (working seen old) number page → IsInUse page
   pub changed : (other : ℕ) → changes new other ≡ changes old other
+  pub committed_fields : new.kept ≡ old.kept
+  pub unwritten : IsTrue (is_honest old.disk) → seen new.disk ≡ seen old.disk
   pub tied : IsTied is_honest seen old → IsTied is_honest seen new
 
 -- what holds of the slot that was pushed and of the others holds of each
@@ -202,8 +205,11 @@ module _ {D : Type 0} (is_honest : D → Bool) (seen : D → Content) (failures 
         copied = (page, put-returns.copied, blank);
         copied_others = put-returns.copied_others;
         lacks = put-returns.lacks;
+        behind = free.fits.1.0;
+        committed_fields = put-returns.committed_fields;
         honesty = put-returns.honesty;
         count = put-returns.count;
+        unwritten = put-returns.unwritten;
         tied = put-tied;
       }
 
@@ -224,7 +230,11 @@ module _ {D : Type 0} (is_honest : D → Bool) (seen : D → Content) (failures 
             (stands_free (working seen old) old.working.first_free n numbers list.chain stands))
             (λ m other has. has_inside seen old m other has) list;
         committed = put-committed;
+        was_in_use = λ tied other has header is. in_use header (IsHeader-same other was_used header
+            (HasPage-one (working seen old) n other was_used has (loaded-bytes is_honest seen failures old mid rests n was_used pos below is_held tied)) is);
         changed = put-returns.changed;
+        committed_fields = put-returns.committed_fields;
+        unwritten = put-returns.unwritten;
         tied = put-tied;
       }
 
@@ -311,6 +321,7 @@ counted-refuses is_honest seen failures inside old count e =
       changes = record { changed = λ m. refl; copied = λ m. refl; lacks = refl; committed_fields = refl; working_fields = refl };
       honesty = refl;
       count = omega arith;
+      unwritten = λ _. refl;
       committed = λ tied. record { fields = refl; bytes = λ m k lt. counted-committed seen p count m k };
       working = λ tied. record { fields = refl; bytes = λ m k lt. counted-working seen p count m k };
       tied = λ tied. record {
@@ -384,8 +395,11 @@ module _ {D : Type 0} (is_honest : D → Bool) (seen : D → Content) (failures 
     copied = (page, ap (λ (s : HeldPage). s.copy) push-at, blank);
     copied_others = λ m ne. ap (λ (s : HeldPage). s.copy) (push-others m ne);
     lacks = refl;
+    behind = omega (arith, kept_room, directory);
+    committed_fields = refl;
     honesty = refl;
     count = omega arith;
+    unwritten = λ _. refl;
     tied = push-tied;
   }
 

@@ -1,5 +1,5 @@
 -- A copy that is held is the working page, and all else stays.
-use Rattle.std.proofs.Common.{◌≡◌, ◌≢◌, ◌<◌, ℕ, Option, Some, None, IsSome, IfSome, Result, Ok, Err, OnOk, List, set, length, ap, sym, ◌∙◌, subst, Bool, refl, arith}
+use Rattle.std.proofs.Common.{◌≡◌, ◌≢◌, ◌<◌, ℕ, Option, Some, None, IsSome, IfSome, IsTrue, Result, Ok, Err, OnOk, List, set, length, ap, sym, ◌∙◌, subst, Bool, false, refl, arith}
 use Rattle.std.specs.Prelude.{if◌then◌else◌}
 use Rattle.rs_disk.specs.Content.{Content}
 use Rattle.rs_pager.specs.HeldPage.{HeldPage}
@@ -7,13 +7,13 @@ use Rattle.rs_pager.specs.Slot.{working_of, changed_of, copied_slot}
 use Rattle.rs_pager.specs.Pages.{Pages, HasPage, SamePages, KeepsOtherPages, is_page}
 use Rattle.rs_pager.specs.Paged.{Paged, slot_at}
 use Rattle.rs_pager.specs.Stores.{IsWhole}
-use Rattle.rs_pager.specs.Maps.{byte_of, committed_byte, working_byte, committed, working, changes, KeepsCounts, IsClean, IsTied}
+use Rattle.rs_pager.specs.Maps.{byte_of, committed_byte, working_byte, committed, working, changes, is_held, KeepsCounts, IsClean, IsTied}
 use Rattle.rs_pager.specs.Changes.{IsNotInUse, IsHeldChange, ReplacesPage}
 use Rattle.rs_pager.specs.Rests.{Rests, ReturnsPage}
-use Rattle.rs_pager.specs.Reading.{BeginsFree, IsInUse}
+use Rattle.rs_pager.specs.Reading.{BeginsFree, IsInUse, IsFit, ReadsFit}
 use Rattle.rs_pager.specs.Copying.{copied_pager, CopiesPage, MakesCopy}
 use Rattle.rs_pager.proofs.Slots.{slot_at-set_same, slot_at-set_other}
-use Rattle.rs_pager.proofs.Reading.{at-set, HasPage-held, HasPage-same, held-change, held_change-same, free-not_in_use}
+use Rattle.rs_pager.proofs.Reading.{at-set, HasPage-held, HasPage-same, loaded-fits, held-change, held_change-same, free-not_in_use}
 
 some_none : (page : List ℕ) → Some page ≡ None → ⊥
 some_none page e = cc
@@ -83,6 +83,7 @@ module _ {D : Type 0} (is_honest : D → Bool) (seen : D → Content) (failures 
     counts = record { limit = refl; begun = refl; full_refusals = refl };
     honesty = refl;
     count = omega arith;
+    unwritten = λ _. refl;
     committed = λ tied. copy-committed;
     working = λ tied. copy-working;
     tied = copy-tied;
@@ -116,6 +117,7 @@ Rests-then is_honest seen failures n page old mid last rests returns = record {
   counts = counts-then old mid last rests.counts returns.counts;
   honesty = returns.honesty ∙ rests.honesty;
   count = omega (arith, rests.count, returns.count);
+  unwritten = λ honest. returns.unwritten (subst IsTrue (sym rests.honesty) honest) ∙ rests.unwritten honest;
   committed = λ tied. same-then (committed seen old) (committed seen mid) (committed seen last) (rests.committed tied) (returns.committed (rests.tied tied));
   working = λ tied.
       let same : SamePages (working seen mid) (working seen old) = rests.working tied in
@@ -141,6 +143,7 @@ Returns-then is_honest seen failures n first page old mid last one other = recor
   counts = counts-then old mid last one.counts other.counts;
   honesty = other.honesty ∙ one.honesty;
   count = omega (arith, one.count, other.count);
+  unwritten = λ honest. other.unwritten (subst IsTrue (sym one.honesty) honest) ∙ one.unwritten honest;
   committed = λ tied. same-then (committed seen old) (committed seen mid) (committed seen last) (one.committed tied) (other.committed (one.tied tied));
   working = λ tied.
       let before : ReplacesPage n first (working seen old) (working seen mid) = one.working tied in
@@ -168,28 +171,33 @@ module _ {D : Type 0} (is_honest : D → Bool) (seen : D → Content) (failures 
   loaded-free free tied = free-not_in_use (working seen old) n page (loaded-bytes tied) free
 
   -- a copy is made of it
-  pub loaded-copies : n < length mid.slots → IsInUse page → CopiesPage is_honest seen failures n page old (copied_pager n page mid)
-  loaded-copies there in_use = record {
+  pub loaded-copies : n < length mid.slots → IsInUse page → (is_held old n ≡ false → IsFit page n old.working.pages)
+      → CopiesPage is_honest seen failures n page old (copied_pager n page mid)
+  loaded-copies there in_use fits = record {
     returns = Rests-then is_honest seen failures n page old mid (copied_pager n page mid) rests
         (copied-returns is_honest seen failures mid n page pos below there);
     bytes = loaded-bytes;
     held = loaded-held;
     in_use = in_use;
+    fits = fits;
   }
 
 -- a copy is made of a page that was loaded, and the slot with it is put in place
 pub copies-made : {D E : Type 0} (is_honest : D → Bool) (seen : D → Content) (failures : D → ℕ) (old mid : Paged D)
     → Rests is_honest seen failures old mid → (number n : ℕ) → n ≡ number → 0 < n → n < mid.working.pages → n < length mid.slots
-    → (slot copied : HeldPage) → slot ≡ slot_at mid.slots n → (result : Result (Unit {0}) E) → OnOk result (MakesCopy slot copied)
+    → ReadsFit number old mid → (slot copied : HeldPage) → slot ≡ slot_at mid.slots n → (result : Result (Unit {0}) E) → OnOk result (MakesCopy slot copied)
     → OnOk result ((page : List ℕ) × CopiesPage is_honest seen failures number page old (record mid { slots = set mid.slots n copied }))
-copies-made is_honest seen failures old mid rests number n same pos below there slot copied at (Err e) made = tt
-copies-made is_honest seen failures old mid rests number n same pos below there slot copied at (Ok u) made =
+copies-made is_honest seen failures old mid rests number n same pos below there fit slot copied at (Err e) made = tt
+copies-made is_honest seen failures old mid rests number n same pos below there fit slot copied at (Ok u) made =
     let held : working_of (slot_at mid.slots n) ≡ Some made.page = ap working_of (sym at) ∙ made.held in
+    let fits : is_held old n ≡ false → IsFit made.page n old.working.pages =
+    subst (λ i. is_held old i ≡ false → IsFit made.page i old.working.pages) (sym same)
+    (loaded-fits old mid mid refl number n same slot at made.page made.held fit) in
     let put : copied ≡ copied_slot made.page (slot_at mid.slots n) = made.copied ∙ ap (copied_slot made.page) at in (
       made.page,
       subst (λ i. CopiesPage is_honest seen failures i made.page old (record mid { slots = set mid.slots n copied })) same
           (subst (λ s. CopiesPage is_honest seen failures n made.page old (record mid { slots = set mid.slots n s })) (sym put)
-          (loaded-copies is_honest seen failures old mid rests n made.page pos below held there made.in_use)),
+          (loaded-copies is_honest seen failures old mid rests n made.page pos below held there made.in_use fits)),
     )
 
 -- no copy is made of a free page

@@ -1,5 +1,5 @@
 -- What a flush makes of a pager and its disk.
-use Rattle.std.proofs.Common.{IsTrue, ◌≡◌, ◌<◌, ◌≤◌, ◌+◌, ◌-◌, ◌*◌, ℕ, zero, suc, Option, Some, None, IsSome, List, [], ◌∷◌, map, length, ap, sym, ◌∙◌, subst, true, false, Bool, refl, arith}
+use Rattle.std.proofs.Common.{IsTrue, ◌≡◌, ◌<◌, ◌≤◌, ◌+◌, ◌-◌, ◌*◌, ℕ, zero, suc, max, Option, Some, None, IsSome, List, [], ◌∷◌, map, length, ap, sym, ◌∙◌, subst, true, false, Bool, refl, arith}
 use Rattle.std.specs.Prelude.{if◌then◌else◌}
 use Rattle.rs_disk.specs.Content.{Content}
 use Rattle.rs_disk.specs.declared.disk.TheConstants.{PAGE_SIZE}
@@ -7,12 +7,12 @@ use Rattle.rs_pager.specs.HeldPage.{HeldPage}
 use Rattle.rs_pager.specs.Slot.{working_of, changed_of, clean_slot, copy_or}
 use Rattle.rs_pager.specs.Paged.{Paged, slot_at, HaveNoCopies, IsSound}
 use Rattle.rs_pager.specs.Pages.{SamePages}
-use Rattle.rs_pager.specs.Stores.{IsWhole, HasBytes, HasFileHeader, Stores}
-use Rattle.rs_pager.specs.Writing.{KeepsPage, WritesOut, HasAll}
+use Rattle.rs_pager.specs.Stores.{IsWhole, IsWholeFile, HasBytes, HasFileHeader, Stores}
+use Rattle.rs_pager.specs.Writing.{KeepsPage, KeepsFlag, WritesOut, HasAll}
 use Rattle.rs_pager.specs.Maps.{byte_of, committed_byte, working_byte, committed, working, KeepsChanges, HoldsNoChange, IsClean, IsTied}
 use Rattle.rs_pager.specs.declared.file_header.FileHeader.{FileHeader}
 use Rattle.rs_pager.proofs.Slots.{slot_at-clean, HaveNoCopies-slot_at}
-use Rattle.rs_pager.proofs.Maps.{same_bytes}
+use Rattle.rs_pager.proofs.Maps.{same_bytes, HasBytes-whole}
 use Rattle.rs_pager.proofs.Writing.{HasBytes-kept}
 
 -- the disk has all that is committed
@@ -64,6 +64,23 @@ had_byte : (content : Content) (n k : ℕ) (held : Option (List ℕ)) → ((page
     → k < PAGE_SIZE → byte_of content held n k ≡ content.byte (PAGE_SIZE * n + k)
 had_byte content n k (Some page) has lt = sym ((has page refl).each k lt)
 had_byte content n k None has lt = refl
+
+-- a page that isn't changed is whole on the disk, held or not
+unchanged_whole : (content : Content) (n : ℕ) (kept : Option (List ℕ)) (b : Bool) → (kept ≡ None → IsWhole content n)
+    → (b ≡ false → (page : List ℕ) → kept ≡ Some page → HasBytes content n page) → (if b then kept else None) ≡ None
+    → IsWhole content n
+unchanged_whole content n None b whole clean e = whole refl
+unchanged_whole content n (Some page) true whole clean e = cc
+unchanged_whole content n (Some page) false whole clean e = HasBytes-whole content n page (clean refl page refl)
+
+-- where no change is held, the disk is whole
+pub tied-whole : {D : Type 0} (is_honest : D → Bool) (seen : D → Content) (p : Paged D) → IsTied is_honest seen p
+    → HoldsNoChange p → IsWholeFile (seen p.disk) p.kept.pages
+tied-whole is_honest seen p tied none = record {
+  header = record { each = λ k lt ne. subst IsSome (sym ((tied.header none.lacks).bytes k lt ne)) refl };
+  each = λ n pos lt. unchanged_whole (seen p.disk) n (slot_at p.slots n).kept (slot_at p.slots n).is_changed
+      (tied.committed_whole n pos lt) (tied.clean n).bytes (none.changed n);
+}
 
 module _ {D : Type 0} (is_honest : D → Bool) (seen : D → Content) (old : Paged D) (disk : D) where
   -- of each page that isn't held, and of each that is held unchanged, the disk keeps the bytes
@@ -246,3 +263,20 @@ module _ {D : Type 0} (is_honest : D → Bool) (seen : D → Content) (old : Pag
               ∙ had_byte (seen disk) n k (slot_at old.slots n).kept (has_held sound tied all out n) lt);
         };
       }
+
+  -- the byte of the open flag stays, after a fault too
+  pub kept-flag : IsSound old.limit old.slots old.kept old.working old.is_begun
+      → WritesOut old.slots old.is_header_changed (seen old.disk) (seen disk) → KeepsFlag (seen old.disk) (seen disk)
+  kept-flag sound out = out.flag (ap changed_of sound.header)
+
+  -- the disk grows as far as the committed pages need
+  pub written-size : IsSound old.limit old.slots old.kept old.working old.is_begun → old.working ≡ old.kept
+      → (IsTrue (is_honest old.disk) → HasAll old.slots old.kept old.is_header_changed (seen disk))
+      → (IsTrue (is_honest old.disk) → WritesOut old.slots old.is_header_changed (seen old.disk) (seen disk))
+      → IsTied is_honest seen old → (seen disk).size ≡ max (seen old.disk).size (PAGE_SIZE * old.kept.pages)
+  written-size sound shut has wrote tied =
+      let out = wrote tied.honest in
+      let room : length old.slots ≡ old.kept.pages = sound.room ∙ ap (λ (f : FileHeader). f.pages) shut in
+      let least = (written-stores sound has wrote tied).size in
+      let most = out.no_longer (omega (arith, sound.directory)) in
+      omega (arith, least, most, room, out.no_shorter)

@@ -95,6 +95,15 @@ pub begin-working : {D : Type 0} (seen : D → Content) (old : Paged D) → old.
 unfolding committed_byte working_byte
 begin-working seen old same none = record { fields = same; bytes = (shut-working seen old same none).bytes }
 
+pub begin-changes : {D : Type 0} (old : Paged D) → KeepsChanges old (begun_pager old)
+begin-changes old = record {
+  changed = λ n. refl;
+  copied = λ n. refl;
+  lacks = refl;
+  committed_fields = refl;
+  working_fields = refl;
+}
+
 pub begin-tied : {D : Type 0} (is_honest : D → Bool) (seen : D → Content) (old : Paged D)
     → IsTied is_honest seen old → IsTied is_honest seen (begun_pager old)
 begin-tied is_honest seen old tied = record {
@@ -326,7 +335,7 @@ forget-changes old = record {
   working_fields = refl;
 }
 
-HasBytes-whole : (content : Content) (n : ℕ) (page : List ℕ) → HasBytes content n page → IsWhole content n
+pub HasBytes-whole : (content : Content) (n : ℕ) (page : List ℕ) → HasBytes content n page → IsWhole content n
 HasBytes-whole content n page has = record { each = λ k lt. subst IsSome (sym (has.each k lt)) refl }
 
 forgotten_whole : (content : Content) (n : ℕ) (kept copy : Option (List ℕ)) (b : Bool)
@@ -365,6 +374,21 @@ forget-tied is_honest seen old tied = record {
   inside = λ n pos lt none. tied.inside n pos lt (sym ((forget-changes old).changed n) ∙ none);
   header = tied.header;
 }
+
+-- of a page that the disk has nothing is held then
+forgotten_held : (kept copy : Option (List ℕ)) (b : Bool) → copy ≡ None
+    → changed_of (forgotten_slot (record { kept = kept; copy = copy; is_changed = b })) ≡ None
+    → is_some (working_of (forgotten_slot (record { kept = kept; copy = copy; is_changed = b }))) ≡ false
+forgotten_held kept (Some page) b none e = cc
+forgotten_held kept None true none e = ap is_some e
+forgotten_held kept None false none e = refl
+
+pub forget-dropped : (slots : List HeldPage) → HaveNoCopies slots → (n : ℕ)
+    → changed_of (slot_at (map forgotten_slot slots) n) ≡ None → is_some (working_of (slot_at (map forgotten_slot slots) n)) ≡ false
+forget-dropped slots none n e =
+    ap (λ (s : HeldPage). is_some (working_of s)) (slot_at-forget slots n)
+    ∙ forgotten_held (slot_at slots n).kept (slot_at slots n).copy (slot_at slots n).is_changed
+    (HaveNoCopies-slot_at slots n none) (sym (ap changed_of (slot_at-forget slots n)) ∙ e)
 
 -- where the catalogue begins elsewhere
 pub catalogue-committed : {D : Type 0} (seen : D → Content) (first length : ℕ) (old : Paged D)

@@ -1,7 +1,8 @@
 -- A pager over what a disk holds, and one over an empty disk.
-use Rattle.std.proofs.Common.{IsTrue, ◌≡◌, ◌<◌, ◌≤◌, ◌+◌, ◌*◌, ℕ, zero, suc, None, List, [], ◌∷◌, replicate, ap, sym, ◌∙◌, subst, true, false, Bool, refl, arith}
+use Rattle.std.proofs.Common.{IsTrue, ◌≡◌, ◌<◌, ◌≤◌, ◌+◌, ◌*◌, ℕ, zero, suc, max, Result, Ok, Err, None, List, [], ◌∷◌, replicate, ap, sym, ◌∙◌, subst, true, false, Bool, refl, arith}
 use Rattle.std.proofs.lemmas.List.{length-replicate}
-use Rattle.rs_disk.specs.Content.{Content}
+use Rattle.std.specs.Prelude.{is_err}
+use Rattle.rs_disk.specs.Content.{Content, CutsTo}
 use Rattle.rs_disk.specs.declared.disk.TheConstants.{PAGE_SIZE}
 use Rattle.rs_pager.specs.HeldPage.{HeldPage}
 use Rattle.rs_pager.specs.Slot.{empty_slot, changed_slot, working_of, changed_of}
@@ -180,3 +181,15 @@ IsEmptyFile-same one other same empty = record {
     there = record { bytes = λ k lt. same.bytes 1 k lt ∙ empty.directory.there.bytes k lt };
   };
 }
+
+-- a cut to no page, where it succeeded, leaves nothing
+pub cut_empty : {T E : Type 0} (result : Result T E) (old new : Content) → is_err result ≡ false → CutsTo result 0 old new → new.size ≡ 0
+cut_empty (Ok t) old new e cuts = omega (arith, cuts.size)
+cut_empty (Err x) old new e cuts = cc
+
+-- what was empty and is written is two pages long
+pub created-size : (empty written : Content) (fields : FileHeader) → empty.size ≡ 0 → fields ≡ empty_fields
+    → written.size ≡ max empty.size (PAGE_SIZE * fields.pages) → written.size ≡ 2 * PAGE_SIZE
+created-size empty written fields none same size =
+    let pages : fields.pages ≡ 2 = ap (λ (f : FileHeader). f.pages) same in
+    omega (arith, size, none, pages)

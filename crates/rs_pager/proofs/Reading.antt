@@ -9,10 +9,10 @@ use Rattle.rs_pager.specs.Slot.{working_of, changed_of, read_slot, copy_or}
 use Rattle.rs_pager.specs.Pages.{Pages, HasPage, SamePages, is_page}
 use Rattle.rs_pager.specs.Paged.{Paged, slot_at}
 use Rattle.rs_pager.specs.Stores.{IsWhole, HasBytes, HasFileHeader}
-use Rattle.rs_pager.specs.Maps.{byte_of, committed_byte, working_byte, committed, working, changes, copies, KeepsChanges, IsClean, IsTied}
+use Rattle.rs_pager.specs.Maps.{byte_of, committed_byte, working_byte, committed, working, changes, copies, is_held, KeepsChanges, IsClean, IsTied}
 use Rattle.rs_pager.specs.Changes.{IsNotInUse, IsHeldChange}
 use Rattle.rs_pager.specs.Rests.{Rests}
-use Rattle.rs_pager.specs.Reading.{MayBeRead, IsUnfit, ReadsUnfit, HasNoFit, BeginsFree, read_pager}
+use Rattle.rs_pager.specs.Reading.{MayBeRead, IsUnfit, IsFit, ReadsUnfit, ReadsFit, HasNoFit, BeginsFree, read_pager}
 use Rattle.rs_pager.specs.declared.file_header.FileHeader.{FileHeader}
 use Rattle.rs_pager.specs.declared.header.PageHeader.{PageHeader}
 use Rattle.rs_pager.specs.declared.header.PageKind.{PageKind}
@@ -97,6 +97,7 @@ module _ {D : Type 0} (is_honest : D → Bool) (seen : D → Content) (failures 
     counts = record { limit = refl; begun = refl; full_refusals = refl };
     honesty = honesty;
     count = count;
+    unwritten = same;
     committed = λ tied. disk-committed tied.honest;
     working = λ tied. disk-working tied.honest;
     tied = disk-tied;
@@ -172,6 +173,7 @@ module _ {D : Type 0} (is_honest : D → Bool) (seen : D → Content) (failures 
       counts = record { limit = refl; begun = refl; full_refusals = refl };
       honesty = honesty;
       count = count;
+      unwritten = same;
       committed = read-committed;
       working = read-working;
       tied = read-tied;
@@ -330,3 +332,25 @@ unfit-no_fit-at is_honest seen inside old n e pos below nothing reads tied =
     unfit-no_fit is_honest seen old n pos (subst (λ (p : Paged _). n < p.working.pages) e below)
     (subst (λ (p : Paged _). working_of (slot_at p.slots n) ≡ None) e nothing) tied
     (subst (λ (p : Paged _). IsTrue (is_honest p.disk) → ReadsUnfit (seen p.disk) n p.working.pages) e reads tied.honest)
+
+-- what is held of a page that was read is what was read, and it fits
+pub read-fits : {D : Type 0} (inside old : Paged D) (disk : D) (number n : ℕ) (page : List ℕ) (slot : HeldPage) → inside ≡ old → n ≡ number
+    → n < length inside.slots → working_of (slot_at inside.slots n) ≡ None → slot ≡ read_slot page (slot_at inside.slots n)
+    → IsFit page number inside.working.pages → ReadsFit number old (record inside { disk = disk; slots = set inside.slots n slot })
+read-fits inside old disk number n page slot e same there nothing put fit _ =
+    let held : working_of (slot_at (set inside.slots n slot) number) ≡ Some page =
+    ap (λ i. working_of (slot_at (set inside.slots n slot) i)) (sym same)
+    ∙ ap working_of (slot_at-set_same inside.slots n slot there ∙ put)
+    ∙ working_of-read (slot_at inside.slots n) page nothing in
+    subst (λ h. IfSome h (λ p. IsFit p number old.working.pages)) (sym held)
+    (subst (λ (p : Paged _). IsFit page number p.working.pages) e fit)
+
+-- and so does the page that is held, where it was read
+pub loaded-fits : {D : Type 0} (old loaded mid : Paged D) → mid ≡ loaded → (number n : ℕ) → n ≡ number → (slot : HeldPage)
+    → slot ≡ slot_at mid.slots n → (page : List ℕ) → working_of slot ≡ Some page → ReadsFit number old loaded
+    → is_held old number ≡ false → IsFit page number old.working.pages
+loaded-fits old loaded mid loads number n same slot at page is fit unheld =
+    let held : working_of (slot_at loaded.slots number) ≡ Some page =
+    ap (λ (p : Paged _). working_of (slot_at p.slots number)) (sym loads)
+    ∙ ap (λ i. working_of (slot_at mid.slots i)) (sym same) ∙ ap working_of (sym at) ∙ is in
+    subst (λ h. IfSome h (λ p. IsFit p number old.working.pages)) held (fit unheld)

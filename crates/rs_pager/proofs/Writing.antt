@@ -9,8 +9,9 @@ use Rattle.rs_pager.specs.Slot.{changed_of}
 use Rattle.rs_pager.specs.Paged.{slot_at}
 use Rattle.rs_pager.specs.FileHeader.{IsFileHeader}
 use Rattle.rs_pager.specs.Stores.{HasBytes, HasFileHeader}
-use Rattle.rs_pager.specs.Writing.{KeepsPage, HasWhole, WritesSlot, WritesPages, WritesHeader, WritesOut, HasChanged, HasAll}
+use Rattle.rs_pager.specs.Writing.{KeepsPage, KeepsFlag, HasWhole, WritesSlot, WritesPages, WritesHeader, WritesOut, HasChanged, HasAll}
 use Rattle.rs_pager.specs.declared.file_header.FileHeader.{FileHeader}
+use Rattle.rs_pager.specs.declared.file_header.TheConstants.{FLAG_OFFSET}
 
 pub KeepsPage-refl : (n : ℕ) (content : Content) → KeepsPage n content content
 KeepsPage-refl n content = record { each = λ k lt. refl }
@@ -27,18 +28,19 @@ HasWhole-kept n old new page kept longer has = record { bytes = HasBytes-kept n 
 
 -- before the first write
 pub WritesPages-none : (slots : List HeldPage) (content : Content) → WritesPages slots content content
-WritesPages-none slots content = record { others = λ n _. KeepsPage-refl n content; no_shorter = omega arith }
+WritesPages-none slots content = record { others = λ n _. KeepsPage-refl n content; no_shorter = omega arith; no_longer = omega arith }
 
 -- one slot more
-pub WritesPages-more : (slots : List HeldPage) (n : ℕ) (slot : HeldPage) (a b c : Content) → slot ≡ slot_at slots n
+pub WritesPages-more : (slots : List HeldPage) (n : ℕ) (slot : HeldPage) (a b c : Content) → n < length slots → slot ≡ slot_at slots n
     → WritesPages slots a b → WritesSlot n slot b c → WritesPages slots a c
-WritesPages-more slots n slot a b c is so_far more = record {
+WritesPages-more slots n slot a b c there is so_far more = record {
   others = λ m none. KeepsPage-trans m a b c (so_far.others m none) (elim (nat_eq m n) as (λ t. nat_eq m n ≡ t → KeepsPage m b c) [
     | true ↦ λ e. let same : n ≡ m = search (rules, tests) in
         subst (λ i. KeepsPage i b c) same (more.unchanged (ap changed_of is ∙ ap (λ i. changed_of (slot_at slots i)) same ∙ none))
     | false ↦ λ e. let ne : m ≢ n = search (rules, tests) in more.others m ne
   ] refl);
   no_shorter = omega (arith, so_far.no_shorter, more.no_shorter);
+  no_longer = omega (arith, so_far.no_longer, more.no_longer);
 }
 
 pub HasChanged-none : (slots : List HeldPage) (content : Content) → HasChanged slots 0 content
@@ -114,12 +116,18 @@ on_ok (Err e) P p = tt
 behind_header : (b c : Content) (n : ℕ) → 0 < n → WritesHeader b c → KeepsPage n b c
 behind_header b c n pos header = record { each = λ k lt. header.behind (PAGE_SIZE * n + k) (omega arith) }
 
+-- the byte of the open flag, where page 0 is kept
+kept_flag : (a b : Content) → KeepsPage 0 a b → KeepsFlag a b
+kept_flag a b kept = kept.each FLAG_OFFSET (omega arith)
+
 -- the pages alone
 pub WritesOut-pages : (slots : List HeldPage) (h : Bool) (a b : Content) → WritesPages slots a b → WritesOut slots h a b
 WritesOut-pages slots h a b pages = record {
   others = λ n pos none. pages.others n none;
   header = λ e none. pages.others 0 none;
+  flag = λ none. kept_flag a b (pages.others 0 none);
   no_shorter = pages.no_shorter;
+  no_longer = λ _. pages.no_longer;
 }
 
 -- and page 0 behind them
@@ -128,7 +136,9 @@ pub WritesOut-all : (slots : List HeldPage) (h : Bool) (a b c : Content) → Wri
 WritesOut-all slots h a b c pages header same = record {
   others = λ n pos none. KeepsPage-trans n a b c (pages.others n none) (behind_header b c n pos header);
   header = λ e none. subst (KeepsPage 0 a) (sym (same e)) (pages.others 0 none);
+  flag = λ none. header.flag ∙ kept_flag a b (pages.others 0 none);
   no_shorter = omega (arith, pages.no_shorter, header.no_shorter);
+  no_longer = λ some. omega (arith, pages.no_longer, header.no_longer);
 }
 
 pub HasAll-written : (slots : List HeldPage) (fields : FileHeader) (h : Bool) (b c : Content)

@@ -1,5 +1,5 @@
 -- What becomes of a pager as a page comes into use, and as one is refused.
-use Rattle.std.specs.Prelude.{◌≡◌, ◌≢◌, ◌≤◌, ℕ, Bool, Some, List}
+use Rattle.std.specs.Prelude.{◌≡◌, ◌≢◌, ◌≤◌, ◌<◌, ℕ, Bool, IsTrue, Some, List}
 use Rattle.rs_disk.specs.Content.{Content}
 use Rattle.rs_pager.specs.Header.{IsHeader, Fits}
 use Rattle.rs_pager.specs.HeldPage.{HeldPage}
@@ -27,8 +27,11 @@ pub record AllocatesPage {D : Type 0} (is_honest : D → Bool) (seen : D → Con
   pub copied : (page : List ℕ) × (copies new number ≡ Some page) × IsBlank page kind number 0
   pub copied_others : (other : ℕ) → other ≢ number → copies new other ≡ copies old other
   pub lacks : lacks_fields new ≡ lacks_fields old
+  pub behind : 1 < number
+  pub committed_fields : new.kept ≡ old.kept
   pub honesty : is_honest new.disk ≡ is_honest old.disk
   pub count : failures old.disk ≤ failures new.disk
+  pub unwritten : IsTrue (is_honest old.disk) → seen new.disk ≡ seen old.disk
   pub tied : IsTied is_honest seen old → IsTied is_honest seen new
 
 -- nothing has changed but that pages are held and refusals counted
@@ -37,6 +40,7 @@ pub record RefusesPage {D : Type 0} (is_honest : D → Bool) (seen : D → Conte
   pub changes : KeepsChanges old new
   pub honesty : is_honest new.disk ≡ is_honest old.disk
   pub count : failures old.disk ≤ failures new.disk
+  pub unwritten : IsTrue (is_honest old.disk) → seen new.disk ≡ seen old.disk
   pub committed : IsTied is_honest seen old → SamePages (committed seen new) (committed seen old)
   pub working : IsTied is_honest seen old → SamePages (working seen new) (working seen old)
   pub tied : IsTied is_honest seen old → IsTied is_honest seen new

@@ -1,15 +1,15 @@
 -- What a pager becomes once it holds a copy of a page.
-use Rattle.std.specs.Prelude.{◌≡◌, ℕ, Bool, Some, List}
+use Rattle.std.specs.Prelude.{◌≡◌, ℕ, Bool, false, Some, List}
 use Rattle.std.specs.Prelude.{slice_set as set}
 use Rattle.rs_disk.specs.Content.{Content}
 use Rattle.rs_pager.specs.Pages.{HasPage}
 use Rattle.rs_pager.specs.HeldPage.{HeldPage}
 use Rattle.rs_pager.specs.Slot.{working_of, copied_slot}
 use Rattle.rs_pager.specs.Paged.{Paged, slot_at}
-use Rattle.rs_pager.specs.Maps.{working, IsTied}
+use Rattle.rs_pager.specs.Maps.{working, is_held, IsTied}
 use Rattle.rs_pager.specs.Changes.{IsHeldChange}
 use Rattle.rs_pager.specs.Rests.{ReturnsPage}
-use Rattle.rs_pager.specs.Reading.{IsInUse}
+use Rattle.rs_pager.specs.Reading.{IsInUse, IsFit}
 
 -- this copy of the page is held
 abbrev pub copied_pager : {D : Type 0} → ℕ → List ℕ → Paged D → Paged D
@@ -22,6 +22,7 @@ pub record CopiesPage {D : Type 0} (is_honest : D → Bool) (seen : D → Conten
   pub bytes : IsTied is_honest seen old → HasPage (working seen old) number page
   pub held : IsHeldChange old number page
   pub in_use : IsInUse page
+  pub fits : is_held old number ≡ false → IsFit page number old.working.pages
 
 -- a copy of the working page is held
 pub record MakesCopy (old new : HeldPage) : Type 0 where

@@ -1,6 +1,8 @@
 -- The first 16 bytes of a page.
-use Rattle.std.specs.Prelude.{◌≡◌, ◌≤◌, ◌<◌, ℕ, List}
+use Rattle.std.specs.Prelude.{◌≡◌, ◌≤◌, ◌<◌, ◌-◌, ℕ, List}
+use Rattle.rs_disk.specs.declared.disk.TheConstants.{PAGE_SIZE}
 use Rattle.rs_pager.specs.Number.{number_at}
+use Rattle.rs_pager.specs.declared.header.TheConstants.{HEADER_SIZE}
 use Rattle.rs_pager.specs.declared.header.PageKind.{PageKind}
 use Rattle.rs_pager.specs.declared.header.PageKind.TheVariants.{Header, Leaf, Inner, Catalogue, Free, Directory}
 use Rattle.rs_pager.specs.declared.header.PageHeader.{PageHeader}
@@ -30,7 +32,7 @@ FitsKind Header number count next pages = (number ≡ 0) × (count ≡ 0) × (ne
 FitsKind Directory number count next pages = (number ≡ 1) × (count ≡ 0) × (next ≡ 0)
 FitsKind Leaf number count next pages = (1 < number) × (1 ≤ count) × (next ≡ 0)
 FitsKind Inner number count next pages = (1 < number) × (2 ≤ count) × (next ≡ 0)
-FitsKind Catalogue number count next pages = (1 < number) × MayFollow next pages
+FitsKind Catalogue number count next pages = (1 < number) × (count ≤ PAGE_SIZE - HEADER_SIZE) × MayFollow next pages
 FitsKind Free number count next pages = (1 < number) × (count ≡ 0) × MayFollow next pages
 
 -- the header is one of the page with this number

@@ -1,5 +1,5 @@
 -- The two maps of pages of a pager, the changes that it holds, and what ties it to its disk.
-use Rattle.std.specs.Prelude.{◌≡◌, ◌<◌, ◌≤◌, ◌+◌, ◌*◌, ℕ, Bool, false, IsTrue, Option, Some, None, if◌then◌else◌, List, slice_index}
+use Rattle.std.specs.Prelude.{◌≡◌, ◌<◌, ◌≤◌, ◌+◌, ◌*◌, ℕ, Bool, false, IsTrue, Option, Some, None, if◌then◌else◌, is_some, List, slice_index}
 use Rattle.rs_disk.specs.Content.{Content}
 use Rattle.rs_disk.specs.declared.disk.TheConstants.{PAGE_SIZE}
 use Rattle.rs_pager.specs.HeldPage.{HeldPage}
@@ -38,6 +38,10 @@ changes p number = changed_of (slot_at p.slots number)
 -- the working copy of the page with this number
 abbrev pub copies : {D : Type 0} → Paged D → ℕ → Option (List ℕ)
 copies p number = (slot_at p.slots number).copy
+
+-- the working page with this number is held in memory: a call that lends it reads nothing from the disk
+abbrev pub is_held : {D : Type 0} → Paged D → ℕ → Bool
+is_held p number = is_some (working_of (slot_at p.slots number))
 
 -- the disk lacks the committed fields of page 0
 abbrev pub lacks_fields : {D : Type 0} → Paged D → Bool

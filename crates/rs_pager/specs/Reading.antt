@@ -1,12 +1,13 @@
 -- What a read of a page may give, and what a pager becomes once it holds the page.
-use Rattle.std.specs.Prelude.{◌≡◌, ◌≢◌, ◌⊎◌, ◌≤◌, ◌*◌, ℕ, List, length}
+use Rattle.std.specs.Prelude.{◌≡◌, ◌≢◌, ◌⊎◌, ◌≤◌, ◌*◌, ℕ, false, List, length, IfSome}
 use Rattle.std.specs.Prelude.{slice_set as set}
 use Rattle.rs_disk.specs.Content.{Content, Gives}
 use Rattle.rs_disk.specs.declared.disk.TheConstants.{PAGE_SIZE}
 use Rattle.rs_pager.specs.Header.{IsHeader, Fits}
 use Rattle.rs_pager.specs.Pages.{Pages, HasPage}
-use Rattle.rs_pager.specs.Slot.{read_slot}
+use Rattle.rs_pager.specs.Slot.{read_slot, working_of}
 use Rattle.rs_pager.specs.Paged.{Paged, slot_at}
+use Rattle.rs_pager.specs.Maps.{is_held}
 use Rattle.rs_pager.specs.declared.header.PageHeader.{PageHeader}
 use Rattle.rs_pager.specs.declared.header.PageKind.TheVariants.{Free}
 
@@ -41,6 +42,11 @@ pub record BeginsFree (page : List ℕ) : Type 0 where
   pub header : PageHeader
   pub there : IsHeader page header
   pub kind : header.kind ≡ Free
+
+-- what is held now of the page with this number fits it, if nothing was held of it before
+abbrev pub ReadsFit : {D : Type 0} → ℕ → Paged D → Paged D → Type 0
+ReadsFit number old new = is_held old number ≡ false
+    → IfSome (working_of (slot_at new.slots number)) (λ page. IsFit page number old.working.pages)
 
 -- a page that was read is held, and the disk is this one now
 abbrev pub read_pager : {D : Type 0} → D → ℕ → List ℕ → Paged D → Paged D

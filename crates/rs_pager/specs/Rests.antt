@@ -1,5 +1,5 @@
 -- What stays in a call that reads pages.
-use Rattle.std.specs.Prelude.{◌≡◌, ◌≢◌, ◌≤◌, ℕ, Bool, Some, Err, Result, List}
+use Rattle.std.specs.Prelude.{◌≡◌, ◌≢◌, ◌≤◌, ℕ, Bool, IsTrue, Some, Err, Result, List}
 use Rattle.rs_measure.specs.declared.refusal.Refusal.{Refusal}
 use Rattle.rs_measure.specs.declared.refusal.Refusal.TheVariants as refusal
 use Rattle.rs_disk.specs.Content.{Content}
@@ -9,13 +9,14 @@ use Rattle.rs_pager.specs.Paged.{Paged}
 use Rattle.rs_pager.specs.Changes.{ReplacesPage}
 use Rattle.rs_pager.specs.Maps.{committed, working, changes, copies, lacks_fields, KeepsChanges, KeepsCounts, IsTied}
 
--- nothing has changed but that pages are held
+-- nothing has changed but that pages are held, and the disk has what it had
 pub record Rests {D : Type 0} (is_honest : D → Bool) (seen : D → Content) (failures : D → ℕ)
     (old new : Paged D) : Type 0 where
   pub changes : KeepsChanges old new
   pub counts : KeepsCounts old new
   pub honesty : is_honest new.disk ≡ is_honest old.disk
   pub count : failures old.disk ≤ failures new.disk
+  pub unwritten : IsTrue (is_honest old.disk) → seen new.disk ≡ seen old.disk
   pub committed : IsTied is_honest seen old → SamePages (committed seen new) (committed seen old)
   pub working : IsTied is_honest seen old → SamePages (working seen new) (working seen old)
   pub tied : IsTied is_honest seen old → IsTied is_honest seen new
@@ -38,6 +39,7 @@ pub record ReturnsPage {D : Type 0} (is_honest : D → Bool) (seen : D → Conte
   pub counts : KeepsCounts old new
   pub honesty : is_honest new.disk ≡ is_honest old.disk
   pub count : failures old.disk ≤ failures new.disk
+  pub unwritten : IsTrue (is_honest old.disk) → seen new.disk ≡ seen old.disk
   pub committed : IsTied is_honest seen old → SamePages (committed seen new) (committed seen old)
   pub working : IsTied is_honest seen old → ReplacesPage number page (working seen old) (working seen new)
   pub tied : IsTied is_honest seen old → IsTied is_honest seen new

@@ -2,13 +2,14 @@
 //!
 //! The free list goes from page to page, the one that was released last first.
 
-ghost use Rattle.std.specs.Prelude.{◌≡◌, ◌≢◌, ◌⊎◌, ◌<◌, ◌≤◌, ◌-◌, ◌^◌, ℕ, List, true, [], ◌∷◌, Some, Err, IfOk, OnErr, OnOk, IsOkUnless};
+ghost use Rattle.std.specs.Prelude.{◌≡◌, ◌≢◌, ◌⊎◌, ◌<◌, ◌≤◌, ◌-◌, ◌^◌, ℕ, List, true, IsTrue, [], ◌∷◌, Some, Err, IfOk, IfErr, OnErr, OnOk, IsOkUnless};
 ghost use Rattle.rs_disk.specs.Counts.{Rose, counted_on};
 ghost use Rattle.rs_pager.specs.declared.header.PageKind.TheVariants.{Free};
-ghost use Rattle.rs_pager.specs.Pages.{SamePages, IsBlank};
+ghost use Rattle.rs_pager.specs.Pages.{SamePages, HasPage, IsBlank};
 ghost use Rattle.rs_pager.specs.FreeList.{IsFreeList};
 ghost use Rattle.rs_pager.specs.Maps.{committed, working, changes, copies, lacks_fields, KeepsChanges, KeepsCounts, IsTied};
 ghost use Rattle.rs_pager.specs.Changes.{Allocates, Releases, IsFull, IsNotInUse};
+ghost use Rattle.rs_pager.specs.Reading.{IsInUse};
 ghost use Rattle.rs_pager.specs.Allocated.{AllocatesPage, RefusesPage};
 
 use crate::header::PageKind;
@@ -41,7 +42,11 @@ impl<D: Disk> Pager<D> {
             × (copies self.new number ≡ Some page) × IsBlank page kind number 0) }
         ensures copied_others { IfOk result (λ number. (other : ℕ) → other ≢ number
             → copies self.new other ≡ copies self.old other) }
+        ensures behind { IfOk result (λ number. 1 < number) }
+        ensures committed_fields { self.new.kept ≡ self.old.kept }
         ensures lacks { lacks_fields self.new ≡ lacks_fields self.old }
+        ensures refused { IfErr result (λ refusal. (refusal ≡ Refusal.OutOfMemory)
+            ⊎ (refusal ≡ Refusal.Disk) ⊎ (refusal ≡ Refusal.DamagedFile) ⊎ (refusal ≡ Refusal.FileFull)) }
         ensures full { result ≡ Err Refusal.FileFull → IsFull self.old self.new }
         ensures full_refusals { result ≢ Err Refusal.FileFull
             → self.new.full_refusals ≡ self.old.full_refusals }
@@ -51,6 +56,7 @@ impl<D: Disk> Pager<D> {
             → Rose (D.failures self.old.disk) (D.failures self.new.disk) }
         ensures count { D.failures self.old.disk ≤ D.failures self.new.disk }
         ensures honesty { D.is_honest self.new.disk ≡ D.is_honest self.old.disk }
+        ensures unwritten { IsTrue (D.is_honest self.old.disk) → D.seen self.new.disk ≡ D.seen self.old.disk }
         ensures limit { self.new.limit ≡ self.old.limit }
         ensures begun { self.new.is_begun ≡ self.old.is_begun }
         ensures tied { IsTied D.is_honest D.seen self.old → IsTied D.is_honest D.seen self.new }
@@ -71,6 +77,8 @@ impl<D: Disk> Pager<D> {
         ensures refused { OnErr result (RefusesPage D.is_honest D.seen D.failures self.old self.new) }
         ensures full_refusals { result ≢ Err Refusal.FileFull
             → self.new.full_refusals ≡ self.old.full_refusals }
+        ensures refusals { IfErr result (λ refusal. (refusal ≡ Refusal.OutOfMemory)
+            ⊎ (refusal ≡ Refusal.FileFull)) }
         ensures not_damaged { result ≢ Err Refusal.DamagedFile }
         ensures cause { result ≡ Err Refusal.Disk
             → Rose (D.failures self.old.disk) (D.failures self.new.disk) }
@@ -102,6 +110,8 @@ impl<D: Disk> Pager<D> {
         ensures full_refusals { result ≢ Err Refusal.FileFull
             → self.new.full_refusals ≡ self.old.full_refusals }
         ensures not_full { result ≢ Err Refusal.FileFull }
+        ensures refusals { IfErr result (λ refusal. (refusal ≡ Refusal.OutOfMemory)
+            ⊎ (refusal ≡ Refusal.Disk) ⊎ (refusal ≡ Refusal.DamagedFile)) }
         ensures damaged { IsTied D.is_honest D.seen self.old → result ≡ Err Refusal.DamagedFile
             → (numbers : List ℕ) → IsFreeList (working D.seen self.old) numbers → ⊥ }
         ensures cause { result ≡ Err Refusal.Disk
@@ -130,6 +140,8 @@ impl<D: Disk> Pager<D> {
         requires { self.old.is_begun ≡ true }
         ensures releases { IsTied D.is_honest D.seen self.old → OnOk result
             (Releases (working D.seen self.old) (working D.seen self.new) number) }
+        ensures was_in_use { IsTied D.is_honest D.seen self.old → OnOk result ((page : List ℕ)
+            → HasPage (working D.seen self.old) number page → IsInUse page) }
         ensures free_list { IsTied D.is_honest D.seen self.old → OnOk result ((numbers : List ℕ)
             → IsFreeList (working D.seen self.old) numbers → IsFreeList (working D.seen self.new) (number ∷ numbers)) }
         ensures committed { IsTied D.is_honest D.seen self.old
@@ -142,8 +154,10 @@ impl<D: Disk> Pager<D> {
             × (copies self.new number ≡ Some page) × IsBlank page Free number self.old.working.first_free) }
         ensures copied_others { (other : ℕ) → other ≢ number
             → copies self.new other ≡ copies self.old other }
+        ensures committed_fields { self.new.kept ≡ self.old.kept }
         ensures lacks { lacks_fields self.new ≡ lacks_fields self.old }
-        ensures not_full { result ≢ Err Refusal.FileFull }
+        ensures refused { IfErr result (λ refusal. (refusal ≡ Refusal.OutOfMemory)
+            ⊎ (refusal ≡ Refusal.Disk) ⊎ (refusal ≡ Refusal.DamagedFile)) }
         ensures damaged { IsTied D.is_honest D.seen self.old → result ≡ Err Refusal.DamagedFile
             → IsNotInUse (working D.seen self.old) number ⊎ (number ≡ 1)
             ⊎ (2 ^ 32 - 1 ≤ (working D.seen self.old).fields.free_pages) }
@@ -151,6 +165,7 @@ impl<D: Disk> Pager<D> {
             → Rose (D.failures self.old.disk) (D.failures self.new.disk) }
         ensures count { D.failures self.old.disk ≤ D.failures self.new.disk }
         ensures honesty { D.is_honest self.new.disk ≡ D.is_honest self.old.disk }
+        ensures unwritten { IsTrue (D.is_honest self.old.disk) → D.seen self.new.disk ≡ D.seen self.old.disk }
         ensures counts { KeepsCounts self.old self.new }
         ensures tied { IsTied D.is_honest D.seen self.old → IsTied D.is_honest D.seen self.new }
     {

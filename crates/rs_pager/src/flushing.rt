@@ -2,12 +2,12 @@
 //!
 //! The changed pages are written, page 0 where its fields are changed, and the disk is synced.
 
-ghost use Rattle.std.specs.Prelude.{◌≡◌, ◌≤◌, ◌<◌, ℕ, List, Some, IsTrue, OnOk, OnErr, IsOkUnless, length, true, false};
+ghost use Rattle.std.specs.Prelude.{◌≡◌, ◌≤◌, ◌<◌, ◌*◌, ℕ, max, List, Some, IsTrue, OnOk, OnErr, IsOkUnless, length, true, false};
 ghost use Rattle.rs_disk.specs.Content.{Holds, KeepsOthers};
 ghost use Rattle.rs_disk.specs.Counts.{Counts};
 ghost use Rattle.rs_pager.specs.Pages.{SamePages};
 ghost use Rattle.rs_pager.specs.Slot.{changed_of};
-ghost use Rattle.rs_pager.specs.Stores.{Stores, HasFileHeader};
+ghost use Rattle.rs_pager.specs.Stores.{Stores, HasFileHeader, IsWholeFile};
 ghost use Rattle.rs_pager.specs.Writing.{HasAll, HasChanged, HasWhole, WritesHeader, WritesOut, WritesPage, WritesPages, WritesSlot};
 ghost use Rattle.rs_pager.specs.Maps.{committed, working, KeepsChanges, KeepsCounts, HoldsNoChange, IsTied};
 
@@ -19,12 +19,19 @@ use rs_disk::{Disk, PAGE_SIZE};
 use rs_measure::Refusal;
 
 impl<D: Disk> Pager<D> {
-    /// Writes the committed pages that the disk doesn't have, and waits until they are on the medium. After a
-    /// fault (91) they are held as before.
+    /// Writes the committed pages that the disk doesn't have, and waits until they are on the medium. The disk
+    /// is whole then, and grows as far as the pages need. The byte of the open flag is not written. After a
+    /// fault (91) the pages are held as before.
     pub fn flush(&mut self) -> Result<(), Refusal>
         requires { self.old.is_begun ≡ false }
         ensures stores { IsTied D.is_honest D.seen self.old
             → OnOk result (Stores (D.seen self.new.disk) (committed D.seen self.new)) }
+        ensures whole { IsTied D.is_honest D.seen self.old
+            → OnOk result (IsWholeFile (D.seen self.new.disk) (committed D.seen self.new).fields.pages) }
+        ensures size { IsTied D.is_honest D.seen self.old → OnOk result ((D.seen self.new.disk).size
+            ≡ max (D.seen self.old.disk).size (PAGE_SIZE * (committed D.seen self.new).fields.pages)) }
+        ensures flag { IsTrue (D.is_honest self.old.disk)
+            → (D.seen self.new.disk).byte FLAG_OFFSET ≡ (D.seen self.old.disk).byte FLAG_OFFSET }
         ensures committed { IsTied D.is_honest D.seen self.old
             → SamePages (committed D.seen self.new) (committed D.seen self.old) }
         ensures working { IsTied D.is_honest D.seen self.old

@@ -10,6 +10,7 @@ ghost use Rattle.rs_pager.specs.Header.{IsHeader, Fits, kind_number};
 
 use crate::bytes::{number_of_four, number_of_one, number_of_two, put_four, put_one, put_two};
 use crate::number::PageNumber;
+use rs_disk::PAGE_SIZE;
 
 /// The bytes of a page's header.
 pub const HEADER_SIZE: usize = 16;
@@ -112,7 +113,9 @@ impl PageHeader {
                 PageKind::Inner => number.number() > 1
                     && self.count >= 2
                     && self.next.number() == 0,
-                PageKind::Catalogue => number.number() > 1 && self.next.may_follow(pages),
+                PageKind::Catalogue => number.number() > 1
+                    && usize::from(self.count) <= PAGE_SIZE - HEADER_SIZE
+                    && self.next.may_follow(pages),
                 PageKind::Free => {
                     number.number() > 1 && self.count == 0 && self.next.may_follow(pages)
                 }

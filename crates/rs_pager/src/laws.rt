@@ -1,13 +1,18 @@
-//! What follows from what a disk stands for: one map of pages, and one free list.
+//! What follows from what a disk stands for: one map of pages, and one free list; and that a disk is whole
+//! where all that is committed was written.
 //!
 //! So a flush that answered Ok, and an `open` that answered Ok of the disk that is handed back, have the same
-//! pages.
+//! pages, and the pager that was opened is tied to the disk.
 
 ghost use Rattle.std.specs.Prelude.{◌≡◌, ℕ, List};
 ghost use Rattle.rs_disk.specs.Content.{Content};
 ghost use Rattle.rs_pager.specs.Pages.{Pages, SamePages};
 ghost use Rattle.rs_pager.specs.FreeList.{IsFreeList};
-ghost use Rattle.rs_pager.specs.Stores.{Stores, IsWholeHeader};
+ghost use Rattle.rs_pager.specs.Paged.{Paged};
+ghost use Rattle.rs_pager.specs.Maps.{committed, HoldsNoChange, IsTied};
+ghost use Rattle.rs_pager.specs.Stores.{Stores, IsWholeHeader, IsWholeFile};
+
+use rs_disk::Disk;
 
 /// A disk stands for one map of pages at the most.
 pub fn disk_stands_for_one_map()
@@ -19,6 +24,12 @@ pub fn disk_stands_for_one_map()
 pub fn written_pages_are_opened()
     ensures { (content : Content) (written opened : Pages) → Stores content written
         → (IsWholeHeader content → Stores content opened) → SamePages opened written }
+{}
+
+/// A disk that has all that is committed is whole.
+pub fn written_disk_is_whole<D: Disk>()
+    ensures { (pager : Paged D) → IsTied D.is_honest D.seen pager → HoldsNoChange pager
+        → IsWholeFile (D.seen pager.disk) (committed D.seen pager).fields.pages }
 {}
 
 /// The free list of a map of pages is one list of numbers at the most.

@@ -39,6 +39,7 @@ impl PageNumber {
     pub(crate) fn may_follow(self, pages: u32) -> bool
         ensures { IsTrue result ↔ MayFollow self pages }
     {
-        self.number == 0 || (self.number > 1 && self.number < pages)
+        let PageNumber { number: next } = self;
+        next == 0 || (next > 1 && next < pages)
     }
 }

@@ -2,14 +2,15 @@
 //!
 //! A refusal hands the disk back.
 
-ghost use Rattle.std.specs.Prelude.{◌≡◌, ◌≤◌, ◌⊎◌, ◌*◌, ℕ, IsTrue, IfOk, List, [], ◌∷◌, IfErr, IfSome, OnErr, OnOk, IsOkUnless, MatchResult, Err, true, false, replicate};
+ghost use Rattle.std.specs.Prelude.{◌≡◌, ◌≤◌, ◌⊎◌, ◌*◌, ℕ, IsTrue, IfOk, List, [], ◌∷◌, IfErr, IfSome, OnErr, OnOk, IsOkUnless, MatchResult, Some, Err, true, false, replicate};
 ghost use Rattle.rs_disk.specs.Content.{Gives};
 ghost use Rattle.rs_disk.specs.Counts.{Counts, Rose};
 ghost use Rattle.rs_pager.specs.declared.header.PageKind.TheVariants.{Directory};
+ghost use Rattle.rs_pager.specs.declared.file_header.TheConstants.{FLAG_OFFSET};
 ghost use Rattle.rs_pager.specs.Slot.{empty_slot, changed_slot};
 ghost use Rattle.rs_pager.specs.Pages.{SamePages, IsEmptyFile, IsBlank};
 ghost use Rattle.rs_pager.specs.Stores.{Stores, HasFileHeader, IsWholeHeader, IsWholeFile, IsNoFile};
-ghost use Rattle.rs_pager.specs.Maps.{committed, working, HoldsNoChange, IsTied};
+ghost use Rattle.rs_pager.specs.Maps.{committed, working, is_held, HoldsNoChange, IsTied};
 
 use crate::file_header::FileHeader;
 use crate::header::PageKind;
@@ -22,7 +23,8 @@ use rs_measure::Refusal;
 use std::alloc::{AllocError, Global};
 
 impl<D: Disk> Pager<D> {
-    /// Makes the pages of an empty file, page 0 and the directory, and writes them. What the disk held goes.
+    /// Makes the pages of an empty file, page 0 and the directory, and writes them. What the disk held goes:
+    /// it is two pages long then, and the open flag is 0.
     /// `limit` is the greatest number of pages. A refusal (90, 91) hands the disk back.
     #[tactic(auto, using(rs_disk::proofs::CountLemmas::Rose_counted_on, rs_disk::proofs::CountLemmas::counted_on_le))]
     pub fn create(alloc: Global, disk: D, limit: u32) -> Result<Pager<D>, (D, Refusal)>
@@ -33,6 +35,12 @@ impl<D: Disk> Pager<D> {
             → IfOk result (λ pager. SamePages (working D.seen pager) (committed D.seen pager)) }
         ensures stores { IsTrue (D.is_honest disk)
             → IfOk result (λ pager. Stores (D.seen pager.disk) (committed D.seen pager)) }
+        ensures whole { IsTrue (D.is_honest disk)
+            → IfOk result (λ pager. IsWholeFile (D.seen pager.disk) (committed D.seen pager).fields.pages) }
+        ensures size { IsTrue (D.is_honest disk)
+            → IfOk result (λ pager. (D.seen pager.disk).size ≡ 2 * PAGE_SIZE) }
+        ensures closed { IsTrue (D.is_honest disk)
+            → IfOk result (λ pager. (D.seen pager.disk).byte FLAG_OFFSET ≡ Some 0) }
         ensures tied { IsTrue (D.is_honest disk) → IfOk result (λ pager. IsTied D.is_honest D.seen pager) }
         ensures changes { IfOk result (λ pager. HoldsNoChange pager) }
         ensures limit { IfOk result (λ pager. pager.limit ≡ limit) }
@@ -88,6 +96,7 @@ impl<D: Disk> Pager<D> {
         ensures tied { IsTrue (D.is_honest disk) → IfOk result (λ pager.
             IsWholeFile (D.seen disk) (committed D.seen pager).fields.pages → IsTied D.is_honest D.seen pager) }
         ensures changes { IfOk result (λ pager. HoldsNoChange pager) }
+        ensures nothing_held { IfOk result (λ pager. (number : ℕ) → is_held pager number ≡ false) }
         ensures least { IfOk result (λ pager. 2 ≤ (committed D.seen pager).fields.pages) }
         ensures greatest { IfOk result (λ pager. (committed D.seen pager).fields.pages ≤ limit) }
         ensures limit { IfOk result (λ pager. pager.limit ≡ limit) }

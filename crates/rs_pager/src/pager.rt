@@ -3,10 +3,10 @@
 //! The committed pages are what the disk holds, but for those that are changed and held. The working pages
 //! are the committed ones with the changes since `begin`.
 
-ghost use Rattle.std.specs.Prelude.{◌≡◌, ◌≢◌, ◌≤◌, ℕ, Bool, None, true, false, OnOk, OnErr, Err, map};
+ghost use Rattle.std.specs.Prelude.{◌≡◌, ◌≤◌, ◌⊎◌, ℕ, Bool, None, true, false, OnOk, OnErr, IfErr, Err, map};
 ghost use Rattle.rs_disk.specs.Counts.{Rose};
 ghost use Rattle.rs_pager.specs.Pages.{SamePages};
-ghost use Rattle.rs_pager.specs.Maps.{committed, working, changes, copies, lacks_fields, KeepsChanges, KeepsCounts, CommitsChanges, AbandonsChanges, IsTied};
+ghost use Rattle.rs_pager.specs.Maps.{committed, working, changes, copies, is_held, lacks_fields, KeepsChanges, KeepsCounts, HoldsNoChange, CommitsChanges, AbandonsChanges, IsTied};
 ghost use Rattle.rs_pager.specs.Changes.{with_catalogue};
 
 use crate::file_header::FileHeader;
@@ -57,19 +57,24 @@ impl<D: Disk> Model for Pager<D> {
 }
 
 impl<D: Disk> Pager<D> {
-    /// Begins changes. The working pages are the committed ones. A refusal (90, 91) leaves all as it was.
+    /// Begins changes. The working pages are the committed ones. What is committed is held as before, or was
+    /// all written to the disk: callers count on neither, and on the pages alone. After a refusal (90, 91) no
+    /// changes are open, both maps of pages are as before, and what was held as changed is held still.
     pub fn begin(&mut self) -> Result<(), Refusal>
         requires { self.old.is_begun ≡ false }
-        ensures committed { SamePages (committed D.seen self.new) (committed D.seen self.old) }
-        ensures working { SamePages (working D.seen self.new) (committed D.seen self.old) }
-        ensures changes { KeepsChanges self.old self.new }
+        ensures committed { IsTied D.is_honest D.seen self.old
+            → SamePages (committed D.seen self.new) (committed D.seen self.old) }
+        ensures working { IsTied D.is_honest D.seen self.old
+            → SamePages (working D.seen self.new) (committed D.seen self.old) }
+        ensures changes { OnErr result (KeepsChanges self.old self.new) }
+        ensures kept_or_written { OnOk result (KeepsChanges self.old self.new ⊎ HoldsNoChange self.new) }
         ensures begun { OnOk result (self.new.is_begun ≡ true) }
         ensures refused { OnErr result (self.new.is_begun ≡ false) }
-        ensures not_damaged { result ≢ Err Refusal.DamagedFile }
-        ensures not_full { result ≢ Err Refusal.FileFull }
+        ensures refusals { IfErr result (λ refusal. (refusal ≡ Refusal.OutOfMemory) ⊎ (refusal ≡ Refusal.Disk)) }
         ensures cause { result ≡ Err Refusal.Disk
             → Rose (D.failures self.old.disk) (D.failures self.new.disk) }
-        ensures disk { self.new.disk ≡ self.old.disk }
+        ensures count { D.failures self.old.disk ≤ D.failures self.new.disk }
+        ensures honesty { D.is_honest self.new.disk ≡ D.is_honest self.old.disk }
         ensures limit { self.new.limit ≡ self.old.limit }
         ensures full_refusals { self.new.full_refusals ≡ self.old.full_refusals }
         ensures tied { IsTied D.is_honest D.seen self.old → IsTied D.is_honest D.seen self.new }
@@ -122,6 +127,7 @@ impl<D: Disk> Pager<D> {
         ensures working { IsTied D.is_honest D.seen self.old
             → SamePages (working D.seen self.new) (working D.seen self.old) }
         ensures changes { KeepsChanges self.old self.new }
+        ensures dropped { (number : ℕ) → changes self.new number ≡ None → is_held self.new number ≡ false }
         ensures counts { KeepsCounts self.old self.new }
         ensures disk { self.new.disk ≡ self.old.disk }
         ensures tied { IsTied D.is_honest D.seen self.old → IsTied D.is_honest D.seen self.new }

@@ -2,15 +2,15 @@
 //!
 //! A page is looked at when it comes from the disk. One to be changed is lent as a copy of its own.
 
-ghost use Rattle.std.specs.Prelude.{◌≡◌, ◌≢◌, ◌≤◌, ◌<◌, ◌*◌, ℕ, List, true, false, None, Err, IsTrue, IsSome, IfOk, IfErr, OnErr, OnOk, length};
+ghost use Rattle.std.specs.Prelude.{◌≡◌, ◌≢◌, ◌⊎◌, ◌≤◌, ◌<◌, ◌*◌, ℕ, List, true, false, None, Err, IsTrue, IsSome, IfOk, IfErr, OnErr, OnOk, length};
 ghost use Rattle.rs_disk.specs.Counts.{Rose};
 ghost use Rattle.rs_pager.specs.Slot.{working_of, read_slot};
 ghost use Rattle.rs_pager.specs.Pages.{HasPage};
 ghost use Rattle.rs_pager.specs.Paged.{slot_at};
-ghost use Rattle.rs_pager.specs.Maps.{working, IsTied};
+ghost use Rattle.rs_pager.specs.Maps.{working, is_held, IsTied};
 ghost use Rattle.rs_pager.specs.Changes.{IsHeldChange, IsNotInUse};
 ghost use Rattle.rs_pager.specs.Rests.{Rests};
-ghost use Rattle.rs_pager.specs.Reading.{MayBeRead, IsFit, IsUnfit, IsInUse, ReadsUnfit, HasNoFit};
+ghost use Rattle.rs_pager.specs.Reading.{MayBeRead, IsFit, IsUnfit, IsInUse, ReadsUnfit, ReadsFit, HasNoFit};
 ghost use Rattle.rs_pager.specs.Copying.{CopiesPage};
 
 use crate::header::PageHeader;
@@ -35,7 +35,10 @@ impl<D: Disk> Pager<D> {
             → IfOk result (λ page. HasPage (working D.seen self.old) number page.now.bytes) }
         ensures held { IfOk result (λ page. IsHeldChange self.old number page.now.bytes) }
         ensures in_use { IfOk result (λ page. IsInUse page.now.bytes) }
-        ensures not_full { IfErr result (λ refusal. refusal ≢ Refusal.FileFull) }
+        ensures fits { IfOk result (λ page. is_held self.old number ≡ false
+            → IsFit page.now.bytes number self.old.working.pages) }
+        ensures refused { IfErr result (λ refusal. (refusal ≡ Refusal.OutOfMemory)
+            ⊎ (refusal ≡ Refusal.Disk) ⊎ (refusal ≡ Refusal.DamagedFile)) }
         ensures damaged { IsTied D.is_honest D.seen self.old
             → IfErr result (λ refusal. refusal ≡ Refusal.DamagedFile
             → IsNotInUse (working D.seen self.old) number) }
@@ -56,7 +59,10 @@ impl<D: Disk> Pager<D> {
             → IfOk result (λ page. HasPage (working D.seen self.old) number page.now.bytes) }
         ensures held { IfOk result (λ page. IsHeldChange self.old number page.now.bytes) }
         ensures in_use { IfOk result (λ page. IsInUse page.now.bytes) }
-        ensures not_full { IfErr result (λ refusal. refusal ≢ Refusal.FileFull) }
+        ensures fits { IfOk result (λ page. is_held self.old number ≡ false
+            → IsFit page.now.bytes number self.old.working.pages) }
+        ensures refused { IfErr result (λ refusal. (refusal ≡ Refusal.OutOfMemory)
+            ⊎ (refusal ≡ Refusal.Disk) ⊎ (refusal ≡ Refusal.DamagedFile)) }
         ensures damaged { IsTied D.is_honest D.seen self.old
             → IfErr result (λ refusal. refusal ≡ Refusal.DamagedFile
             → IsNotInUse (working D.seen self.old) number) }
@@ -82,7 +88,8 @@ impl<D: Disk> Pager<D> {
         ensures rests { OnErr result (Rests D.is_honest D.seen D.failures self.old self.new) }
         ensures cause { result ≡ Err Refusal.Disk
             → Rose (D.failures self.old.disk) (D.failures self.new.disk) }
-        ensures not_full { result ≢ Err Refusal.FileFull }
+        ensures refusals { IfErr result (λ refusal. (refusal ≡ Refusal.OutOfMemory)
+            ⊎ (refusal ≡ Refusal.Disk) ⊎ (refusal ≡ Refusal.DamagedFile)) }
         ensures damaged { IsTied D.is_honest D.seen self.old → result ≡ Err Refusal.DamagedFile
             → IsNotInUse (working D.seen self.old) number }
     {
@@ -96,10 +103,13 @@ impl<D: Disk> Pager<D> {
         ensures cause { result ≡ Err Refusal.Disk
             → Rose (D.failures self.old.disk) (D.failures self.new.disk) }
         ensures not_full { result ≢ Err Refusal.FileFull }
+        ensures refusals { IfErr result (λ refusal. (refusal ≡ Refusal.OutOfMemory)
+            ⊎ (refusal ≡ Refusal.Disk) ⊎ (refusal ≡ Refusal.DamagedFile)) }
         ensures below { OnOk result (number < self.new.working.pages) }
         ensures slots { length self.new.slots ≡ self.new.working.pages }
         ensures behind { OnOk result (0 < number) }
         ensures held { OnOk result (IsSome (working_of (slot_at self.new.slots number))) }
+        ensures fits { OnOk result (ReadsFit number self.old self.new) }
         ensures rests { Rests D.is_honest D.seen D.failures self.old self.new }
         ensures damaged { IsTied D.is_honest D.seen self.old → result ≡ Err Refusal.DamagedFile
             → HasNoFit (working D.seen self.old) number }
@@ -123,7 +133,10 @@ impl<D: Disk> Pager<D> {
         ensures cause { result ≡ Err Refusal.Disk
             → Rose (D.failures self.old.disk) (D.failures self.new.disk) }
         ensures not_full { result ≢ Err Refusal.FileFull }
+        ensures refusals { IfErr result (λ refusal. (refusal ≡ Refusal.OutOfMemory)
+            ⊎ (refusal ≡ Refusal.Disk) ⊎ (refusal ≡ Refusal.DamagedFile)) }
         ensures held { OnOk result (IsSome (working_of (slot_at self.new.slots number))) }
+        ensures fits { OnOk result (ReadsFit number self.old self.new) }
         ensures rests { Rests D.is_honest D.seen D.failures self.old self.new }
         ensures damaged { IsTied D.is_honest D.seen self.old → result ≡ Err Refusal.DamagedFile
             → HasNoFit (working D.seen self.old) number }
@@ -146,9 +159,11 @@ fn read_page<D: Disk>(
 ) -> Result<Box<Page>, Refusal>
     ensures cause { result ≡ Err Refusal.Disk → Rose (D.failures disk.old) (D.failures disk.new) }
     ensures not_full { result ≢ Err Refusal.FileFull }
+    ensures refusals { IfErr result (λ refusal. (refusal ≡ Refusal.OutOfMemory)
+        ⊎ (refusal ≡ Refusal.Disk) ⊎ (refusal ≡ Refusal.DamagedFile)) }
     ensures bytes { IsTrue (D.is_honest disk.old)
         → IfOk result (λ page. MayBeRead (D.seen disk.old) number page.value.bytes) }
-    ensures fit { IfOk result (λ page. IsFit page.value.bytes number pages) }
+    ensures fits { IfOk result (λ page. IsFit page.value.bytes number pages) }
     ensures damaged { IsTrue (D.is_honest disk.old) → result ≡ Err Refusal.DamagedFile
         → ReadsUnfit (D.seen disk.old) number pages }
     ensures same { IsTrue (D.is_honest disk.old) → D.seen disk.new ≡ D.seen disk.old }
@@ -167,7 +182,7 @@ fn read_page<D: Disk>(
 
 /// Whether the page begins with a header that fits this number, in a file of so many pages.
 fn begins_fit(page: &Page, number: PageNumber, pages: u32) -> bool
-    ensures fit { result ≡ true → IsFit page.now.bytes number pages }
+    ensures fits { result ≡ true → IsFit page.now.bytes number pages }
     ensures unfit { result ≡ false → IsUnfit page.now.bytes number pages }
 {
     match PageHeader::read(&page.bytes) {

@@ -2,7 +2,7 @@
 //!
 //! Both versions lie side by side, so that a commit moves one into the other's place and takes no memory.
 
-ghost use Rattle.std.specs.Prelude.{◌≡◌, ◌≢◌, Bool, true, false, Option, Some, None, Err, List, ℕ, is_some, IfSome, IfOk, IsOkUnless, OnOk, OnErr, map, if◌then◌else◌};
+ghost use Rattle.std.specs.Prelude.{◌≡◌, ◌≢◌, ◌⊎◌, true, false, Option, Some, None, Err, List, ℕ, IfSome, IfOk, IfErr, IsOkUnless, OnOk, OnErr, map, if◌then◌else◌};
 ghost use Rattle.std.specs.Option.{option_map};
 ghost use Rattle.rs_pager.specs.Slot.{committed_slot, abandoned_slot, forgotten_slot, clean_slot, working_of, changed_of, read_slot, copied_slot, empty_slot};
 ghost use Rattle.rs_pager.specs.Reading.{BeginsFree, IsInUse};
@@ -91,18 +91,6 @@ impl Slot {
         }
     }
 
-    pub(crate) fn has_copy(&self) -> bool
-        ensures { result ≡ is_some self.now.copy }
-    {
-        self.copy.is_some()
-    }
-
-    pub(crate) fn is_changed(&self) -> bool
-        ensures { result ≡ self.now.is_changed }
-    {
-        self.is_changed
-    }
-
     /// Holds the committed page as the disk has it.
     pub(crate) fn hold(&mut self, page: Box<Page>)
         ensures { self.new ≡ read_slot page.value.bytes self.old }
@@ -125,7 +113,8 @@ impl Slot {
         ensures refused { OnErr result (self.new ≡ self.old) }
         ensures damaged { result ≡ Err Refusal.DamagedFile → IfSome (working_of self.old) BeginsFree }
         ensures not_disk { result ≢ Err Refusal.Disk }
-        ensures not_full { result ≢ Err Refusal.FileFull }
+        ensures refusals { IfErr result (λ refusal. (refusal ≡ Refusal.OutOfMemory)
+            ⊎ (refusal ≡ Refusal.DamagedFile)) }
     {
         let page = self.working().ok_or(Refusal::DamagedFile)?;
         if page.is_free() {

@@ -1,6 +1,7 @@
 //! Pages that come back from the disk, and what is refused, over a disk in memory.
 
 use crate::header::HEADER_SIZE;
+use crate::laws::written_disk_is_whole;
 use crate::{PageKind, PageNumber, Pager};
 use rs_disk::{FailedCut, FailingDisk, MemoryDisk};
 use rs_measure::Refusal;
@@ -24,6 +25,7 @@ fn pages_come_back_from_the_disk(rt: HostRuntime) -> Result<(), Fail> {
     page.bytes[HEADER_SIZE] = 7;
     pager.commit();
     assert!(rt; pager.flush().is_ok());
+    written_disk_is_whole::<MemoryDisk>();
     let disk = pager.into_disk();
     let Ok(mut pager) = Pager::open(rt.alloc(), disk, 5) else {
         return Err("not opened".into());

@@ -15,7 +15,8 @@ use std::test::Fail;
 /// The pages of the file, and the greatest number of pages.
 const PAGES: usize = 6;
 
-/// A file of six pages: a catalogue page, a leaf, an inner page, and a free page with the number 5.
+/// A file of six pages: a catalogue page with as many bytes as it has room for, a leaf, an inner page, and a free
+/// page with the number 5.
 static FILE: [Field; 12] = [
     (0, &[1]),
     (16, b"ROADSEG1"),
@@ -24,7 +25,7 @@ static FILE: [Field; 12] = [
     (36, &[0, 0, 0, 5]),
     (40, &[0, 0, 0, 1]),
     (4096, &[6, 0, 0, 0, 0, 0, 0, 1]),
-    (8192, &[4, 0, 0, 20, 0, 0, 0, 2, 0, 0, 0, 3]),
+    (8192, &[4, 0, 0x0f, 0xf0, 0, 0, 0, 2, 0, 0, 0, 3]),
     (12288, &[2, 0, 0, 1, 0, 0, 0, 3]),
     (12288 + 16, b"cell"),
     (16384, &[3, 0, 0, 2, 0, 0, 0, 4]),
@@ -61,7 +62,7 @@ static NO_FILE_HEADER: [Damage; 22] = [
 ];
 
 /// Bytes with which a page doesn't fit its kind and number.
-static DAMAGED_PAGES: [Damage; 30] = [
+static DAMAGED_PAGES: [Damage; 32] = [
     (1, 0, 4, "no directory"),
     (1, 0, 1, "a header that isn't page 0"),
     (1, 3, 1, "a count"),
@@ -73,6 +74,13 @@ static DAMAGED_PAGES: [Damage; 30] = [
     (2, 0, 255, "no kind has this number"),
     (2, 0, 1, "a header that isn't page 0"),
     (2, 0, 6, "a directory that isn't page 1"),
+    (
+        2,
+        3,
+        0xf1,
+        "one byte more than a catalogue page has room for",
+    ),
+    (2, 2, 0x10, "more bytes than a catalogue page has room for"),
     (2, 4, 1, "another page's number"),
     (2, 7, 3, "another page's number"),
     (2, 11, 1, "the directory as a next page"),

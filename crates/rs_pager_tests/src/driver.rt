@@ -98,6 +98,19 @@ impl<D: Disk> Driver<D> {
         self.pager.release(PageNumber::new(number))
     }
 
+    /// As `Pager::catalogue`.
+    pub fn catalogue(&self) -> (u32, u32) {
+        let (first, length) = self.pager.catalogue();
+        (first.number(), length)
+    }
+
+    /// As `Pager::set_catalogue`. It begins changes where none are open.
+    pub fn set_catalogue(&mut self, first: u32, length: u32) -> Result<(), Refusal> {
+        self.begin()?;
+        self.pager.set_catalogue(PageNumber::new(first), length);
+        Ok(())
+    }
+
     /// As `Pager::commit`. Nothing where no changes are open.
     pub fn commit(&mut self) {
         if self.is_begun {

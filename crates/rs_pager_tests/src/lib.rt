@@ -12,6 +12,8 @@ mod bytes_tests;
 #[cfg(test)]
 mod call;
 #[cfg(test)]
+mod catalogue_tests;
+#[cfg(test)]
 mod damage_tests;
 #[cfg(test)]
 mod driver;

@@ -9,7 +9,8 @@ ghost use Rattle.rs_disk.specs.Counts.{Counts};
 use rs_disk::{Disk, DiskFault, PAGE_SIZE};
 use std::cell::Cell;
 
-/// How often a disk was called, those calls that failed among them, and how many failed.
+/// How often a disk was called, those calls that failed among them, how many failed, and whether the last one
+/// was a sync.
 #[derive(Drop)]
 pub struct Watch {
     reads: Cell<u64>,
@@ -17,6 +18,7 @@ pub struct Watch {
     syncs: Cell<u64>,
     cuts: Cell<u64>,
     failures: Cell<u64>,
+    ends_with_sync: Cell<bool>,
 }
 
 impl Watch {
@@ -28,6 +30,7 @@ impl Watch {
             syncs: Cell::new(0),
             cuts: Cell::new(0),
             failures: Cell::new(0),
+            ends_with_sync: Cell::new(false),
         }
     }
 
@@ -54,6 +57,11 @@ impl Watch {
 
     pub fn failures(&self) -> u64 {
         self.failures.get()
+    }
+
+    /// Whether the last call was a sync, and answered Ok.
+    pub fn ends_with_sync(&self) -> bool {
+        self.ends_with_sync.get()
     }
 }
 
@@ -102,21 +110,26 @@ impl<D: Disk> Disk for Watched<'_, D> {
 
     fn read(&mut self, at: u64, buffer: &mut [u8]) -> Result<(), DiskFault> {
         count_on(&self.watch.reads);
+        self.watch.ends_with_sync.set(false);
         noted(self.disk.read(at, buffer), self.watch)
     }
 
     fn write(&mut self, at: u64, bytes: &[u8]) -> Result<(), DiskFault> {
         count_on(&self.watch.writes);
+        self.watch.ends_with_sync.set(false);
         noted(self.disk.write(at, bytes), self.watch)
     }
 
     fn sync(&mut self) -> Result<(), DiskFault> {
         count_on(&self.watch.syncs);
-        noted(self.disk.sync(), self.watch)
+        let outcome = noted(self.disk.sync(), self.watch);
+        self.watch.ends_with_sync.set(outcome.is_ok());
+        outcome
     }
 
     fn cut(&mut self, pages: u32) -> Result<(), DiskFault> {
         count_on(&self.watch.cuts);
+        self.watch.ends_with_sync.set(false);
         noted(self.disk.cut(pages), self.watch)
     }
 

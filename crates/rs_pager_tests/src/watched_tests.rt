@@ -1,5 +1,5 @@
-//! When the disk is called: a held page is not read, `forget` has the next reading ask the disk, and until a
-//! flush nothing is written.
+//! When the disk is called: a held page is not read, `forget` has the next reading ask the disk, until a flush
+//! nothing is written, and a flush that writes ends with a sync.
 
 use crate::driver::Driver;
 use crate::watched::{Watch, Watched};
@@ -127,6 +127,31 @@ fn nothing_is_written_before_a_flush(rt: HostRuntime) -> Result<(), Fail> {
     assert_mark(&rt, &mut driver, 2, 22)?;
     assert_mark(&rt, &mut driver, 3, 0)?;
     assert_mark(&rt, &mut driver, 5, 55)
+}
+
+#[test]
+fn a_flush_that_writes_ends_with_a_sync(rt: HostRuntime) -> Result<(), Fail> {
+    let watch = Watch::new();
+    let mut driver = three_pages(&rt, rt.alloc(), &watch)?;
+    assert!(rt;
+        watch.ends_with_sync(),
+        "pages that are new, and the fields"
+    );
+    for step in ["a page alone", "the fields alone", "both"] {
+        driver.forget();
+        if step != "the fields alone" {
+            driver.write(3, 16, &[9])?;
+        }
+        if step != "a page alone" {
+            driver.set_catalogue(2, step.len() as u32)?;
+        }
+        driver.commit();
+        let writes = watch.writes();
+        driver.flush()?;
+        assert!(rt; watch.writes() > writes, "{step}");
+        assert!(rt; watch.ends_with_sync(), "{step}");
+    }
+    Ok(())
 }
 
 #[test]

@@ -7,7 +7,7 @@ use Rattle.rs_pager.proofs.flushing.write_changed.Goals as goal
 pub returns-in_err-write_slot-clause-others : goal.returns-in_err-write_slot-clause-others
 returns-in_err-write_slot-clause-others g c = λ honest.
     let still : IsTrue (g.D.Disk.is_honest c.loop-number.disk) = subst IsTrue (sym c.loop-number.invariant.honesty) honest in
-    WritesPages-more c.args.slots.now c.loop-number.number c.index-slots-number.result _ _ _
+    WritesPages-more c.args.slots.now c.loop-number.number c.index-slots-number.result _ _ _ (omega arith)
     (slot_at-read c.args.slots.now c.loop-number.number _ _ (omega arith) c.index-slots-number.is)
     (c.loop-number.invariant.others honest) (c.write_slot.ensures.others still)
 
@@ -19,7 +19,7 @@ loop-number-preserved g c =
       failures = c.in_ok-write_slot.ensures.count ∙ c.loop-number.invariant.failures;
       others = λ honest.
           let still : IsTrue (g.D.Disk.is_honest c.loop-number.disk) = subst IsTrue (sym c.loop-number.invariant.honesty) honest in
-          WritesPages-more c.args.slots.now c.loop-number.number c.index-slots-number.result _ _ _ is
+          WritesPages-more c.args.slots.now c.loop-number.number c.index-slots-number.result _ _ _ (omega arith) is
           (c.loop-number.invariant.others honest) (c.write_slot.ensures.others still);
       written = λ honest.
           let still : IsTrue (g.D.Disk.is_honest c.loop-number.disk) = subst IsTrue (sym c.loop-number.invariant.honesty) honest in

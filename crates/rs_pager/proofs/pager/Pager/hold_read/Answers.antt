@@ -2,7 +2,7 @@
 use Rattle.std.proofs.Common.{arith, subst, sym, ◌∙◌, ap, None, ◌≡◌, ◌<◌, length, set, rules, Err}
 use Rattle.rs_measure.specs.declared.refusal.Refusal.TheVariants.{DamagedFile}
 use Rattle.rs_pager.proofs.Slots.{IsSound-read, slot_at-read}
-use Rattle.rs_pager.proofs.Reading.{disk-rests-at, read-rests-at, unfit-no_fit-at}
+use Rattle.rs_pager.proofs.Reading.{disk-rests-at, read-rests-at, read-fits, unfit-no_fit-at}
 use Rattle.rs_pager.specs.HeldPage.{HeldPage}
 use Rattle.rs_pager.specs.Slot.{read_slot, working_of}
 use Rattle.rs_pager.specs.Paged.{IsSound, Paged, slot_at}
@@ -46,3 +46,15 @@ returns-clause-rests g c =
     c.self.view_is c.read_page.ensures.honesty c.read_page.ensures.count c.read_page.ensures.same
     (omega arith) below there none (λ honest. rw c.number-index.ensures (c.in_ok-page.ensures.bytes honest))
     (c.hold.ensures ∙ ap (read_slot _) at)
+
+pub returns-clause-fits : goal.returns-clause-fits
+returns-clause-fits g c =
+    let slots = c.self.inside.slots.items in
+    let n = c.number-index.result in
+    let below : n < c.self.inside.working.pages = omega (arith, ap (λ (p : Paged _). p.working.pages) c.self.view_is) in
+    let there : n < length slots = omega (arith, c.self.invariant.room) in
+    let none : working_of (slot_at slots n) ≡ None = ap (λ (p : Paged _). working_of (slot_at p.slots n)) c.self.view_is
+    ∙ rw c.number-index.ensures c.requires.nothing in
+    let at = slot_at-read slots n _ _ there c.index_mut.ensures.value in
+    read-fits _ _ c.read_page.new.disk c.args.number n c.in_ok-page.page.value.bytes c.hold.new.self c.self.view_is c.number-index.ensures
+    there none (c.hold.ensures ∙ ap (read_slot _) at) c.in_ok-page.ensures.fits

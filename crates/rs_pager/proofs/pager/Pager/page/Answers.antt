@@ -1,10 +1,11 @@
 -- A page that is lent is the working page.
-use Rattle.std.proofs.Common.{arith, rules, ◌≡◌, ◌<◌, ◌∙◌, ap, sym, subst, refl, true, false, length, None, IsSome, option_map, Bor}
+use Rattle.std.proofs.Common.{arith, rules, ◌≡◌, ◌<◌, ◌∙◌, ap, sym, subst, refl, inr, true, false, length, None, IsSome, option_map, Bor}
 use Rattle.rs_pager.specs.Slot.{working_of}
 use Rattle.rs_pager.specs.Paged.{Paged, slot_at}
 use Rattle.rs_pager.specs.Rests.{Rests}
 use Rattle.rs_pager.specs.declared.page.Page.{Page}
 use Rattle.rs_pager.proofs.Slots.{slot_at-read}
+use Rattle.rs_pager.proofs.Reading.{loaded-fits}
 use Rattle.rs_pager.proofs.Copying.{page-loaded, is_loaded}
 use Rattle.rs_pager.proofs.pager.Pager.page.Goals.{in_default-via-in-Some+else-not-is_free, in_default-via-in_default}
 use Rattle.rs_pager.proofs.pager.Pager.page.Goals as goal
@@ -28,7 +29,8 @@ returns-in-Some g c =
         bytes = loaded.0;
         held = loaded.1;
         in_use = c.is_free.ensures.in_use free;
-        not_full = tt;
+        fits = loaded-fits old _ _ c.self.view_is c.args.number n c.number.ensures _ at _ held c.in_ok-load.ensures.fits;
+        refused = tt;
         damaged = λ _. tt;
       },
     )
@@ -50,7 +52,8 @@ returns-in_default g c =
         bytes = λ _. tt;
         held = tt;
         in_use = tt;
-        not_full = λ e. cc;
+        fits = tt;
+        refused = inr (inr refl);
         damaged = λ tied _. elim c.in_default.branch [
           | in_default-via-in-Some+else-not-is_free w ↦
               let held = c.working.ensures ∙ ap (option_map (λ (page : Bor Page). page.now.bytes)) w.in-Some.is in

@@ -30,7 +30,8 @@ returns-in-Some g c =
         bytes = lent.bytes;
         held = lent.held;
         in_use = lent.in_use;
-        not_full = tt;
+        fits = lent.fits;
+        refused = tt;
         damaged = λ _. tt;
       },
     )

@@ -50,6 +50,33 @@ returns-clause-committed g c =
     c.self.invariant.room _ _ _ _ _ c.index.ensures c.index_mut.ensures.value (c.is_free.ensures.in_use in_use) c.in_ok-page.page.value.bytes
     c.put_copy.ensures c.in_ok-page.ensures.blank c.in_ok-free_pages.free_pages more).committed
 
+pub returns-clause-was_in_use : goal.returns-clause-was_in_use
+returns-clause-was_in_use g c =
+    let in_use : c.is_free.result ≡ false = search rules in
+    let more : c.in_ok-free_pages.free_pages ≡ c.self.inside.working.free_pages + 1 = search rules in
+    (loaded-released g.D.Disk.is_honest g.D.Disk.seen g.D.Disk.failures c.args.self.now c.load.new.self _ c.self.view_is c.load.ensures.rests
+    c.args.number c.number-index.result c.number-index.ensures (omega (arith, c.number.ensures)) c.in_ok-load.ensures.below c.in_ok-load.ensures.held
+    c.self.invariant.room _ _ _ _ _ c.index.ensures c.index_mut.ensures.value (c.is_free.ensures.in_use in_use) c.in_ok-page.page.value.bytes
+    c.put_copy.ensures c.in_ok-page.ensures.blank c.in_ok-free_pages.free_pages more).was_in_use
+
+pub returns-clause-committed_fields : goal.returns-clause-committed_fields
+returns-clause-committed_fields g c =
+    let in_use : c.is_free.result ≡ false = search rules in
+    let more : c.in_ok-free_pages.free_pages ≡ c.self.inside.working.free_pages + 1 = search rules in
+    (loaded-released g.D.Disk.is_honest g.D.Disk.seen g.D.Disk.failures c.args.self.now c.load.new.self _ c.self.view_is c.load.ensures.rests
+    c.args.number c.number-index.result c.number-index.ensures (omega (arith, c.number.ensures)) c.in_ok-load.ensures.below c.in_ok-load.ensures.held
+    c.self.invariant.room _ _ _ _ _ c.index.ensures c.index_mut.ensures.value (c.is_free.ensures.in_use in_use) c.in_ok-page.page.value.bytes
+    c.put_copy.ensures c.in_ok-page.ensures.blank c.in_ok-free_pages.free_pages more).committed_fields
+
+pub returns-clause-unwritten : goal.returns-clause-unwritten
+returns-clause-unwritten g c =
+    let in_use : c.is_free.result ≡ false = search rules in
+    let more : c.in_ok-free_pages.free_pages ≡ c.self.inside.working.free_pages + 1 = search rules in
+    (loaded-released g.D.Disk.is_honest g.D.Disk.seen g.D.Disk.failures c.args.self.now c.load.new.self _ c.self.view_is c.load.ensures.rests
+    c.args.number c.number-index.result c.number-index.ensures (omega (arith, c.number.ensures)) c.in_ok-load.ensures.below c.in_ok-load.ensures.held
+    c.self.invariant.room _ _ _ _ _ c.index.ensures c.index_mut.ensures.value (c.is_free.ensures.in_use in_use) c.in_ok-page.page.value.bytes
+    c.put_copy.ensures c.in_ok-page.ensures.blank c.in_ok-free_pages.free_pages more).unwritten
+
 pub returns-clause-changed : goal.returns-clause-changed
 returns-clause-changed g c =
     let in_use : c.is_free.result ≡ false = search rules in
