@@ -1,10 +1,10 @@
--- What the bytes of a token are like: where it may be cut out of a line, and how long a name is.
+-- What the bytes of a token are like: where it may be cut out of a line, and what a name is.
 use Rattle.std.proofs.Common.{◌≡◌, ℕ, ◌+◌, ◌-◌, ◌<◌, ◌≤◌, Bool, true, false, List, [], ◌∷◌, length, take, drop, get_or, Option, Some, None, refl, sym, ap, ◌∙◌, subst, ⊎_elim, arith, leb-true, eqb-true, add-zero, get_or-drop, get_or-take, length-drop, length-take-le}
-use Rattle.std.specs.Prelude.{◌==◌, nat_le, if◌then◌else◌, slice_index, unwrap_or, IfSome}
+use Rattle.std.specs.Prelude.{◌==◌, ◌&&◌, nat_le, if◌then◌else◌, slice_index, unwrap_or, IfSome}
 use Rattle.std.specs.Char.{is_ascii_alphabetic, is_ascii_digit}
 use Rattle.std.specs.List.{list_all}
 use Rattle.std.specs.Str.{bytes_eq, IsUtf8, IsCharBoundary}
-use Rattle.std.proofs.lemmas.Bool.{cases_lt, false≢true, and_parts}
+use Rattle.std.proofs.lemmas.Bool.{cases_lt, false≢true, and_parts, and_from}
 use Rattle.std.proofs.lemmas.Bool.Decides.{nat_tests}
 use Rattle.std.proofs.Math.Seq.{take-length}
 use Rattle.std.proofs.lemmas.Str.{IsCharBoundary-before_ascii, IsCharBoundary-after_ascii}
@@ -18,9 +18,20 @@ use Rattle.rs_lexer.specs.Lexis.{reserved, kind_in, word_kind, is_word_byte, is_
 use Rattle.rs_lexer.specs.Scanning.{after_start, after, accepts, run, symbol_state}
 use Rattle.rs_lexer.proofs.ScanningLaws.{no_kind, run-next, run-dead}
 
+-- a letter, then letters, digits and `_`
+abbrev pub is_word : List ℕ → Bool
+is_word [] = false
+is_word (byte ∷ bytes) = is_ascii_alphabetic byte && list_all is_word_byte bytes
+
+-- a name: a word, not too long and not reserved
+pub record IsNameText (text : List ℕ) : Type 0 where
+  pub word : is_word text ≡ true
+  pub short : length text ≤ NAME_BYTES
+  pub free : kind_in reserved text ≡ None
+
 -- What the kind of a token tells of its bytes.
 abbrev pub Tells : TokenKind → List ℕ → Type 0
-Tells kinds.Name text = length text ≤ NAME_BYTES
+Tells kinds.Name text = IsNameText text
 Tells kinds.Quoted text = slice_index text 0 ≡ 39
 Tells _ text = Unit {0}
 
@@ -45,17 +56,17 @@ reserved_tell_nothing : list_all (λ row. tells_nothing row.1) reserved ≡ true
 unfolding reserved
 reserved_tell_nothing = refl
 
-unwrap_or-tells : (kind : Option TokenKind) (other : TokenKind) (text : List ℕ) → IfSome kind (λ k. Tells k text) → Tells other text → Tells (unwrap_or kind other) text
-unwrap_or-tells None other text p q = q
+unwrap_or-tells : (kind : Option TokenKind) (other : TokenKind) (text : List ℕ) → IfSome kind (λ k. Tells k text) → (kind ≡ None → Tells other text) → Tells (unwrap_or kind other) text
+unwrap_or-tells None other text p q = q refl
 unwrap_or-tells (Some kind) other text p q = p
 
-word_kind-tells : (word : List ℕ) → Tells (word_kind word) word
+word_kind-tells : (word : List ℕ) → is_word word ≡ true → Tells (word_kind word) word
 unfolding word_kind
-word_kind-tells word =
+word_kind-tells word is =
     unwrap_or-tells (kind_in reserved word) (if nat_le (length word) NAME_BYTES then kinds.Name else kinds.LongWord) word
     (kind_in-tells reserved word word reserved_tell_nothing)
-    (elim (nat_le (length word) NAME_BYTES) as (λ b. nat_le (length word) NAME_BYTES ≡ b → Tells (if b then kinds.Name else kinds.LongWord) word)
-    [ true ↦ λ e. leb-true (length word) NAME_BYTES e | false ↦ λ e. tt ] refl)
+    (λ free. elim (nat_le (length word) NAME_BYTES) as (λ b. nat_le (length word) NAME_BYTES ≡ b → Tells (if b then kinds.Name else kinds.LongWord) word)
+    [ true ↦ λ e. record { word = is; short = leb-true (length word) NAME_BYTES e; free = free } | false ↦ λ e. tt ] refl)
 
 abbrev pub TellsSome : Option TokenKind → List ℕ → Type 0
 TellsSome kind text = IfSome kind (λ k. Tells k text)
@@ -63,6 +74,10 @@ TellsSome kind text = IfSome kind (λ k. Tells k text)
 TellsSome-if : (b : Bool) (x y : Option TokenKind) (text : List ℕ) → TellsSome x text → TellsSome y text → TellsSome (if b then x else y) text
 TellsSome-if true x y text p q = p
 TellsSome-if false x y text p q = q
+
+TellsSome-test : (b : Bool) (x y : Option TokenKind) (text : List ℕ) → (b ≡ true → TellsSome x text) → TellsSome y text → TellsSome (if b then x else y) text
+TellsSome-test true x y text p q = p refl
+TellsSome-test false x y text p q = q
 
 single_kind-tells : (byte : ℕ) (text : List ℕ) → TellsSome (single_kind byte) text
 single_kind-tells byte text = TellsSome-if (byte == 40) (Some kinds.LeftParen) (if byte == 41 then Some kinds.RightParen else (if byte == 44 then Some kinds.Comma else (if byte == 61 then Some kinds.Equal else (if byte == 43 then Some kinds.PlusSign else (if byte == 45 then Some kinds.MinusSign else (if byte == 64 then Some kinds.AtSign else (if byte == 37 then Some kinds.PercentSign else None))))))) text tt (TellsSome-if (byte == 41) (Some kinds.RightParen) (if byte == 44 then Some kinds.Comma else (if byte == 61 then Some kinds.Equal else (if byte == 43 then Some kinds.PlusSign else (if byte == 45 then Some kinds.MinusSign else (if byte == 64 then Some kinds.AtSign else (if byte == 37 then Some kinds.PercentSign else None)))))) text tt (TellsSome-if (byte == 44) (Some kinds.Comma) (if byte == 61 then Some kinds.Equal else (if byte == 43 then Some kinds.PlusSign else (if byte == 45 then Some kinds.MinusSign else (if byte == 64 then Some kinds.AtSign else (if byte == 37 then Some kinds.PercentSign else None))))) text tt (TellsSome-if (byte == 61) (Some kinds.Equal) (if byte == 43 then Some kinds.PlusSign else (if byte == 45 then Some kinds.MinusSign else (if byte == 64 then Some kinds.AtSign else (if byte == 37 then Some kinds.PercentSign else None)))) text tt (TellsSome-if (byte == 43) (Some kinds.PlusSign) (if byte == 45 then Some kinds.MinusSign else (if byte == 64 then Some kinds.AtSign else (if byte == 37 then Some kinds.PercentSign else None))) text tt (TellsSome-if (byte == 45) (Some kinds.MinusSign) (if byte == 64 then Some kinds.AtSign else (if byte == 37 then Some kinds.PercentSign else None)) text tt (TellsSome-if (byte == 64) (Some kinds.AtSign) (if byte == 37 then Some kinds.PercentSign else None) text tt (TellsSome-if (byte == 37) (Some kinds.PercentSign) None text tt tt)))))))
@@ -94,8 +109,9 @@ kind_of-tells (byte ∷ bytes) =
     [ true ↦ λ e. TellsSome-if (is_quoted_rest false bytes) (Some kinds.Quoted) None (byte ∷ bytes) (eqb-true byte 39 e) tt | false ↦ λ e. less ] refl in
     let digits = TellsSome-if (is_ascii_digit byte) (if list_all is_ascii_digit bytes then Some kinds.Whole else if is_fraction bytes then Some kinds.Decimal else None) _ (byte ∷ bytes)
     (TellsSome-if (list_all is_ascii_digit bytes) (Some kinds.Whole) (if is_fraction bytes then Some kinds.Decimal else None) (byte ∷ bytes) tt (TellsSome-if (is_fraction bytes) (Some kinds.Decimal) None (byte ∷ bytes) tt tt)) other in
-    TellsSome-if (is_ascii_alphabetic byte) (if list_all is_word_byte bytes then Some (word_kind (byte ∷ bytes)) else None) _ (byte ∷ bytes)
-    (TellsSome-if (list_all is_word_byte bytes) (Some (word_kind (byte ∷ bytes))) None (byte ∷ bytes) (word_kind-tells (byte ∷ bytes)) tt) digits
+    TellsSome-test (is_ascii_alphabetic byte) (if list_all is_word_byte bytes then Some (word_kind (byte ∷ bytes)) else None) _ (byte ∷ bytes)
+    (λ letter. TellsSome-test (list_all is_word_byte bytes) (Some (word_kind (byte ∷ bytes))) None (byte ∷ bytes)
+    (λ others. word_kind-tells (byte ∷ bytes) (and_from (is_ascii_alphabetic byte) (list_all is_word_byte bytes) letter others)) tt) digits
 
 pub tells : (text : List ℕ) (kind : TokenKind) → kind_of text ≡ Some kind → Tells kind text
 tells text kind e = subst (λ k. TellsSome k text) e (kind_of-tells text)
@@ -181,6 +197,9 @@ module _ (line : List ℕ) (token : Token) (is_token : IsTokenOf line token) whe
       subst (IsCharBoundary line) next
       (IsCharBoundary-after_ascii line (token.first + (token.length - 1)) utf8 (omega (arith, is_token.inside)) (subst (λ b. b < 128) same ascii))
 
-  -- a name is no longer than names are
+  -- a name is a word, not too long and not reserved
+  pub name_tells : token.kind ≡ kinds.Name → IsNameText (text_of line token)
+  name_tells e = subst (λ k. Tells k (text_of line token)) e (tells (text_of line token) token.kind is_token.kind)
+
   pub name_fits : token.kind ≡ kinds.Name → length (text_of line token) ≤ NAME_BYTES
-  name_fits e = subst (λ k. Tells k (text_of line token)) e (tells (text_of line token) token.kind is_token.kind)
+  name_fits e = (name_tells e).short

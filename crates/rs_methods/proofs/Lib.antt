@@ -5,3 +5,4 @@ pub mod Place
 pub mod Found
 pub mod SaidPosition
 pub mod OfRoute
+pub mod SaidExpression

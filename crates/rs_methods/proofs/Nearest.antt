@@ -92,7 +92,7 @@ nearest_from_best k best [] = as_near_itself best
 nearest_from_best k best (mark ∷ marks) =
     as_near_through (nearest_from k (nearer k best mark) marks) (nearer k best mark) best (nearest_from_best k (nearer k best mark) marks) (nearer_best k best mark (nat_le mark.1 k) refl)
 
-only : (mark other : Mark) → Contains (mark ∷ []) other → mark ≡ other
+pub only : (mark other : Mark) → Contains (mark ∷ []) other → mark ≡ other
 only mark other (zero, within, is) = is
 only mark other (suc n, within, is) = absurd (omega (arith, within))
 

@@ -47,3 +47,8 @@ IsPrintable (absolute measure) = measure ≤ GREATEST_MEASURE
 IsPrintable (beyond name measure) = IsWord name × (measure ≤ GREATEST_MEASURE)
 IsPrintable (before name measure) = IsWord name × (measure ≤ GREATEST_MEASURE)
 IsPrintable (interpolative part) = part ≤ GREATEST_PART
+
+-- Names that a position's text can show: the name of each referent of the list is a word.
+abbrev pub AreWords : List (List ℕ × ℕ) → Type 0
+AreWords [] = Unit {0}
+AreWords (referent ∷ referents) = IsWord referent.0 × AreWords referents

@@ -1,12 +1,14 @@
 //! How a measure of a route is printed as a position.
 //!
-//! What is printed for a measure is located there, by each method; by the relative one it is printed
-//! with the nearest referent that is not above it.
+//! Where the names of the route's referents are words, what is printed for a measure says one position,
+//! and that position lies at the measure, by each method. By the relative one it is printed with the
+//! nearest referent that is not above it.
 
 ghost use Rattle.std.specs.Prelude.{◌≡◌, ℕ, ◌+◌, ◌-◌, ◌*◌, ◌/◌, ◌<◌, ◌≤◌, List, Ok, IfOk, string_bytes};
 ghost use Rattle.rs_measure.specs.declared.part.TheConstants.{GREATEST_PART};
 ghost use Rattle.rs_methods.specs.Position.{beyond, ceiling, expression_text, interpolative, nearest, IsNearest};
 ghost use Rattle.rs_methods.specs.OnRoute.{located_on, expressed_on};
+ghost use Rattle.rs_methods.specs.PositionText.{SaysPosition, AreWords};
 ghost use Rattle.rs_methods.specs.Referents.{referents_of};
 
 use crate::position::{Method, Name};
@@ -34,9 +36,14 @@ pub fn express(
     // above k, and at that measure the least name.
     ensures by_the_nearest { (near : List ℕ × ℕ) → method ≡ Method.Relative → IsNearest route.now.start (referents_of route.now.number referents.now) k near → IfOk result (λ text. string_bytes text ≡ expression_text (beyond near.0 (k - near.1))) }
 
-    // The position that is printed lies at k.
+    // Where the names of the route's referents are words, the text says this position ..
+    ensures says { AreWords (referents_of route.now.number referents.now) → IfOk result (λ text. SaysPosition (string_bytes text) (expressed_on route.now referents.now method k)) }
+
+    // .. which lies at k.
     ensures read_back { located_on route.now referents.now (expressed_on route.now referents.now method k) ≡ Ok k }
 {
+    // A measure is in its range, so its text is read back.
+    let _in_range = k.thousandths();
     match method {
         Method::Absolute => write_measure(k).to_string(alloc),
         Method::Relative => express_relative(alloc, route, referents, k),

@@ -1,7 +1,8 @@
 //! Positions on a route by three methods: absolute, relative to a referent, and interpolative.
 //!
-//! `locate` says where a position lies, `express` writes a measure as a position. The text that
-//! `express` writes says one position, and that position lies at the measure.
+//! `locate` says where a position lies, `express` writes a measure as a position. Where the names of the
+//! route's referents are words, the text that `express` writes says one position, and that position
+//! lies at the measure.
 #![tactic(auto)]
 
 pub mod expressing;
