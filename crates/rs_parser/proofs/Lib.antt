@@ -5,3 +5,7 @@ mod MeaningLaws
 mod SpellingLaws
 mod OneAnswer
 mod SoundLaws
+mod EveryCut
+mod Ranges
+mod Descent
+mod EveryLine

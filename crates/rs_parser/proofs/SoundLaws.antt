@@ -1,6 +1,10 @@
 -- What a line says is sound.
 use Rattle.std.proofs.Common.{◌≡◌, ℕ, zero, suc, ◌≤◌, ◌^◌, Bool, true, false, List, [], ◌∷◌, length, refl, sym, ap, ◌∙◌, subst, arith, pos, neg_ℤ}
 use Rattle.std.specs.Prelude.{nat_abs}
+use Rattle.std.specs.Char.{is_ascii_alphabetic}
+use Rattle.std.specs.List.{list_all}
+use Rattle.std.proofs.lemmas.Bool.{false≢true, and_parts}
+use Rattle.rs_methods.specs.PositionText.{IsWord}
 use Rattle.rs_measure.specs.Measure.{number_of_digits}
 use Rattle.rs_value.specs.declared.column.ColumnType.{ColumnType}
 use Rattle.rs_value.specs.declared.column.ColumnType.TheVariants as types
@@ -12,7 +16,7 @@ use Rattle.rs_parser.specs.declared.syntax.WrittenType.TheVariants as written_ty
 use Rattle.rs_parser.specs.declared.syntax.WrittenColumn.{WrittenColumn}
 use Rattle.rs_parser.specs.declared.syntax.WrittenValue.{WrittenValue}
 use Rattle.rs_parser.specs.declared.syntax.WrittenValue.TheVariants as written_values
-use Rattle.rs_lexer.specs.Lexis.{text_of, IsTokenOf}
+use Rattle.rs_lexer.specs.Lexis.{is_word_byte, text_of, IsTokenOf}
 use Rattle.rs_methods.specs.Position.{PositionExpression}
 use Rattle.rs_parser.specs.declared.syntax.WrittenPosition.{WrittenPosition}
 use Rattle.rs_parser.specs.declared.syntax.WrittenPosition.TheVariants as written_positions
@@ -22,14 +26,18 @@ use Rattle.rs_parser.specs.Tree.{PlaceTree, along, CommandTree}
 use Rattle.rs_parser.specs.Written.{Written, written_route, written_table, written_referent, written_move, written_drop, written_insert, written_translate, written_select, mark, column_pieces, position_pieces, place_pieces, further_pieces, list_pieces, spelling, signed, SaysType, SaysColumns, SaysDatum, SaysRow, SaysPosition, SaysPlace, Says}
 use Rattle.rs_parser.specs.Reading.{AreToldOf, IsFull}
 use Rattle.rs_parser.specs.Sound.{IsName, IsColumnType, AreColumns, IsInRange, AreInRange, IsPosition, IsPlace, IsSound}
-use Rattle.rs_lexer.proofs.TokenLaws.{first_is_ascii, name_fits}
+use Rattle.rs_lexer.proofs.TokenLaws.{is_word, IsNameText, name_tells}
 use Rattle.rs_parser.proofs.MeaningLaws.{AreToldOf-append}
 
+word_of : (bytes : List ℕ) → is_word bytes ≡ true → IsWord bytes
+word_of [] is = absurd (false≢true is)
+word_of (byte ∷ bytes) is = and_parts (is_ascii_alphabetic byte) (list_all is_word_byte bytes) is
+
+name_of : (bytes : List ℕ) → IsNameText bytes → IsName bytes
+name_of bytes is = record { word = word_of bytes is.word; short = is.short; not_reserved = is.free }
+
 name_sound : (line : List ℕ) (token : Token) (name : List ℕ) → IsTokenOf line token × (token.kind ≡ kinds.Name) → name ≡ text_of line token → IsName name
-name_sound line token name is same =
-    let some = (first_is_ascii (text_of line token) token.kind is.0.kind).0 in
-    let fits = name_fits line token is.0 is.1 in
-    (omega (arith, ap length same), omega (arith, ap length same))
+name_sound line token name is same = subst IsName (sym same) (name_of (text_of line token) (name_tells line token is.0 is.1))
 
 type_sound : (line : List ℕ) (w : WrittenType) (t : ColumnType) → SaysType line w t → IsColumnType t
 type_sound line written_types.Int types.Int says = tt

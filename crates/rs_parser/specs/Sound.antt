@@ -1,16 +1,20 @@
 -- What every command that a line says keeps to.
-use Rattle.std.specs.Prelude.{ℕ, ◌^◌, ◌≤◌, nat_abs, List, [], ◌∷◌, length}
+use Rattle.std.specs.Prelude.{◌≡◌, ℕ, ◌^◌, ◌≤◌, nat_abs, List, [], ◌∷◌, length, None}
 use Rattle.rs_value.specs.declared.column.TheConstants.{TEXT_BYTES}
 use Rattle.rs_value.specs.declared.column.ColumnType.{ColumnType}
 use Rattle.rs_value.specs.declared.column.ColumnType.TheVariants as types
 use Rattle.rs_value.specs.Row.{Datum, null, number, text, Row}
 use Rattle.rs_grammar.specs.declared.kind.TheConstants.{NAME_BYTES}
+use Rattle.rs_lexer.specs.Lexis.{reserved, kind_in}
 use Rattle.rs_methods.specs.Position.{PositionExpression, absolute, beyond, before, interpolative}
+use Rattle.rs_methods.specs.PositionText.{IsWord}
 use Rattle.rs_parser.specs.Tree.{PlaceTree, along, named, CommandTree, define_route, define_table, define_referent, move_referent, drop_referent, insert, translate, select}
 
--- 1 to NAME_BYTES bytes
-abbrev pub IsName : List ℕ → Type 0
-IsName name = (1 ≤ length name) × (length name ≤ NAME_BYTES)
+-- A name: a word of at most NAME_BYTES bytes that is not reserved.
+pub record IsName (name : List ℕ) : Type 0 where
+  pub word : IsWord name
+  pub short : length name ≤ NAME_BYTES
+  pub not_reserved : kind_in reserved name ≡ None
 
 -- a text's column has room for a byte at least
 abbrev pub IsColumnType : ColumnType → Type 0

@@ -1,7 +1,7 @@
 //! The language: the command that the tokens of a line are.
 //!
-//! The tokens are read by the table of the grammar, and then the ranges of numbers are looked at. What a
-//! line is, is one answer: its command, or the first refusal.
+//! The tokens are read by the table of the grammar, and then the ranges of numbers are looked at. Each
+//! line has an answer, and one only: its command, or the first refusal.
 #![tactic(auto)]
 
 pub mod commands;
@@ -17,7 +17,7 @@ mod syntax;
 mod tests;
 
 pub use commands::{ColumnDefinition, Command, Place, Query};
-pub use parser::{command_of, line_has_one_answer, parse};
+pub use parser::{command_of, line_has_an_answer, line_has_one_answer, parse};
 pub use rs_grammar::kind::{BRACKETS, NAME_BYTES, TokenKind};
 pub use rs_lexer::{Token, tokens};
 pub use rs_methods::{Method, Name, Position, Sign};

@@ -125,3 +125,8 @@ pub fn line_has_one_answer()
     text_says_one_measure();
     text_says_one_part();
 }
+
+/// The text of a line has an answer: a command, or a refusal.
+pub fn line_has_an_answer()
+    ensures { (line : List ℕ) (from : ℕ) → (answer : Result CommandTree Refusal) × Reads line from answer }
+{}

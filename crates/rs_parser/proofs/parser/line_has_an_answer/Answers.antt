@@ -1,0 +1,5 @@
+use Rattle.rs_parser.proofs.EveryLine.{reads_some}
+use Rattle.rs_parser.proofs.parser.line_has_an_answer.Goals as goal
+
+pub returns : goal.returns
+returns c = reads_some
