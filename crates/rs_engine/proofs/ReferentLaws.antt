@@ -1,6 +1,6 @@
 -- Laws of the referents that are kept of each route, and of the machine's referents that they stand for.
 use Rattle.std.proofs.Common.{◌≡◌, ℕ, Bool, true, false, cond, not, ◌&&◌, ◌||◌, T, IsTrue, List, [], ◌∷◌, length, filter, nat_eq, Option, Some, None, Result, Ok, Err, refl, sym, ap, subst, ◌∙◌}
-use Rattle.std.specs.Prelude.{unwrap_or}
+use Rattle.std.specs.Prelude.{◌≢◌, is_some, unwrap_or}
 use Rattle.std.proofs.Math.Path.{fun_ext}
 use Rattle.std.proofs.lemmas.Slice.Eq.{bytes_eq-Decides}
 use Rattle.std.proofs.lemmas.Bool.Decides.{Decides-eqb, same_from_decides}
@@ -234,6 +234,15 @@ start_found kept route = ap (λ b. b || has (referents_kept kept.referents route
 false_true : {P : Type 0} → false ≡ true → P
 false_true e = cc
 
+-- a referent that a route has stands in the list that is kept of it
+pub has_measure : (es : KeptReferents) (name : Name) → has (referents_by_name es) name ≡ true → measure_of name (referents_of OWN_ROUTE es) ≢ None
+has_measure es name there none = false_true (sym (ap is_some (get-referents es name ∙ none)) ∙ there)
+
+-- a route of which no list is kept has none
+pub no_list_has_none : {P : Type 0} (now : Names KeptReferents) (route name : Name) → names.get now route ≡ None → has (referents_kept now route) name ≡ true → P
+no_list_has_none now route name none there =
+    false_true (sym (ap (λ (kept : Names ℕ). has kept name) (kept_none now route none) ∙ ap is_some (get-referents [] name)) ∙ there)
+
 pub new_is_not_start : (kept : Kept) (route name : Name) → has_referent (state_of kept) route name ≡ false → name ≡ start_name → ⊥
 new_is_not_start kept route name e same = false_true (sym e ∙ ap (has_referent (state_of kept) route) same ∙ start_found kept route)
 
@@ -252,6 +261,23 @@ not_start_of : (o : Option RouteEnds) (there start : Bool) (found : RouteEnds)
     → (found_or o NoSuchRoute >>= λ ends. unless there NoSuchReferent >>= λ _. unless (not start) InUse >>= λ _. Ok ends) ≡ Ok found → start ≡ false
 not_start_of None there start found e = cc
 not_start_of (Some ends) there start found e = not_start_at there start ends found e
+
+there_of : (o : Option RouteEnds) (there start : Bool) (found : RouteEnds)
+    → (found_or o NoSuchRoute >>= λ ends. unless there NoSuchReferent >>= λ _. unless (not start) InUse >>= λ _. Ok ends) ≡ Ok found → there ≡ true
+there_of None there start found e = cc
+there_of (Some ends) true start found e = refl
+there_of (Some ends) false start found e = cc
+
+or_right : (a b : Bool) → a ≡ false → (a || b) ≡ true → b ≡ true
+or_right false b off either = either
+or_right true b off either = false_true (sym off)
+
+-- a referent that may be moved is among those of its route
+pub moved_is_there : (kept : Kept) (route name : Name) (ends : RouteEnds) → route_of_referent (state_of kept) route name ≡ Ok ends → has (referents_kept kept.referents route) name ≡ true
+moved_is_there kept route name ends e =
+    or_right (same_name start_name name) (has (referents_kept kept.referents route) name)
+    (not_start_of (names.get kept.routes route) (has_referent (state_of kept) route name) (same_name start_name name) ends e)
+    (there_of (names.get kept.routes route) (has_referent (state_of kept) route name) (same_name start_name name) ends e)
 
 pub moved_is_not_start : (kept : Kept) (route name : Name) (ends : RouteEnds) → route_of_referent (state_of kept) route name ≡ Ok ends → name ≡ start_name → ⊥
 moved_is_not_start kept route name ends e same =

@@ -8,3 +8,4 @@ pub mod Insertion
 pub mod View
 pub mod ReplyView
 pub mod Replied
+pub mod Memory

@@ -1,5 +1,5 @@
 -- What a reply of the code says.
-use Rattle.std.specs.Prelude.{List, map, string_bytes, String}
+use Rattle.std.specs.Prelude.{◌≡◌, List, [], map, string_bytes, String}
 use Rattle.rs_engine.specs.declared.reply.Reply.{Reply}
 use Rattle.rs_engine.specs.declared.reply.Finish.{Finish}
 use Rattle.rs_engine.specs.declared.reply.Finish.TheVariants.{Done, Refused}
@@ -16,3 +16,8 @@ finished rows (Refused refusal) = machine.refused refusal
 
 abbrev pub reply_of : Reply → machine.Reply
 reply_of reply = finished (rows_of reply.rows.items) reply.finish
+
+-- beside a refusal stand no rows
+abbrev pub StandsAlone : {A : Type 0} → List (String A) → Finish → Type 0
+StandsAlone rows (Done count) = Unit {0}
+StandsAlone rows (Refused refusal) = rows ≡ []

@@ -1,6 +1,6 @@
 //! The engine and its step: the checks of each command in their order, and what an accepted command changes.
 
-ghost use Rattle.std.specs.Prelude.{◌≡◌, ◌≤◌, ◌⊎◌, [], ◌∷◌, length, map, Ok, Err, IfOk, IfErr, OnErr};
+ghost use Rattle.std.specs.Prelude.{◌≡◌, ◌≤◌, ◌⊎◌, [], ◌∷◌, true, length, map, Ok, Err, IfOk, IfErr, OnErr};
 ghost use Rattle.std.specs.List.{list_any};
 ghost use Rattle.rs_methods.specs.Position.{expression_of};
 ghost use Rattle.rs_value.specs.View.{literal_row};
@@ -10,7 +10,7 @@ ghost use Rattle.rs_parser.specs.Tree.{named};
 ghost use Rattle.rs_parser.specs.View.{column_tree, place_tree, query_tree};
 ghost use Rattle.rs_machine.specs.Checks.{column_names, some_name_twice, span_on};
 ghost use Rattle.rs_machine.specs.Step.{effect, counted, route_defined, table_defined, row_inserted, position_text, position_translated, selected};
-ghost use Rattle.rs_engine.specs.ReplyView.{rows_of, reply_of};
+ghost use Rattle.rs_engine.specs.ReplyView.{rows_of, reply_of, StandsAlone};
 ghost use Rattle.rs_engine.specs.Replied.{count_reply_of, rows_reply_of};
 
 mod referent_commands;
@@ -61,6 +61,7 @@ impl Engine {
     ghost use Rattle.rs_parser.specs.View.{tree_of};
     ghost use Rattle.rs_engine.specs.Insertion.{MayBePut, span_of_place};
     ghost use Rattle.rs_engine.specs.Kept.{state_of};
+    ghost use Rattle.rs_engine.specs.Memory.{takes_no_memory, IsAnswered};
     ghost use Rattle.rs_engine.specs.View.{machine_of};
 
     /// An engine with no routes and no tables. It takes no memory.
@@ -76,10 +77,13 @@ impl Engine {
         }
     }
 
-    /// Serves one command of one session. A refusal changes nothing: it is that of the first check that fails, or
-    /// `Refusal::OutOfMemory` (90) where a growth was refused.
+    /// Serves one command of one session. A refusal changes nothing and stands alone, with no rows beside it: it is
+    /// that of the first check that fails, or `Refusal::OutOfMemory` (90) where a growth was refused. Moving and dropping
+    /// a referent takes no memory, and is never answered 90.
     pub fn step(&mut self, session: Session, command: Command) -> Reply
-        ensures { Served (machine_of self.old) session (tree_of command) (reply_of result) (machine_of self.new) }
+        ensures served { Served (machine_of self.old) session (tree_of command) (reply_of result) (machine_of self.new) }
+        ensures alone { StandsAlone result.rows.items result.finish }
+        ensures no_want { takes_no_memory (tree_of command) ≡ true → IsAnswered (machine_of self.old) session (tree_of command) (reply_of result) (machine_of self.new) }
     {
         let alloc = self.alloc;
         match command {
@@ -365,7 +369,8 @@ fn has_name(columns: &[ColumnDefinition], name: &Name) -> bool
 
 /// The reply with no rows and this count, or the refusal.
 fn count_reply(alloc: Global, answer: Result<u128, Refusal>) -> Reply
-    ensures { reply_of result ≡ count_reply_of answer }
+    ensures reply { reply_of result ≡ count_reply_of answer }
+    ensures alone { StandsAlone result.rows.items result.finish }
 {
     let finish = match answer {
         Ok(count) => Finish::Done(count),
@@ -379,7 +384,8 @@ fn count_reply(alloc: Global, answer: Result<u128, Refusal>) -> Reply
 
 /// The reply with these rows and their number, or the refusal.
 fn rows_reply(alloc: Global, answer: Result<Vec<String>, Refusal>) -> Reply
-    ensures { reply_of result ≡ rows_reply_of answer }
+    ensures reply { reply_of result ≡ rows_reply_of answer }
+    ensures alone { StandsAlone result.rows.items result.finish }
 {
     match answer {
         Ok(rows) => {

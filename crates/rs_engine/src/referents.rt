@@ -2,7 +2,7 @@
 //!
 //! Promises the machine's referents, where a position lies by them, and how a measure is printed by them.
 
-ghost use Rattle.std.specs.Prelude.{◌≡◌, ◌≤◌, ◌≢◌, IfOk, OnOk, OnErr, string_bytes};
+ghost use Rattle.std.specs.Prelude.{◌≡◌, ◌≤◌, ◌≢◌, true, IsOk, IfOk, OnOk, OnErr, string_bytes};
 ghost use Rattle.std.specs.FinMap as names;
 ghost use Rattle.rs_methods.specs.Position.{start_name, expression_of, located, expression_at, expression_text};
 ghost use Rattle.rs_machine.specs.State.{has};
@@ -102,12 +102,13 @@ impl RouteReferents {
         }
     }
 
-    /// Puts a referent of a route at a measure, whether it was there before or not. For want of memory it changes
-    /// nothing.
+    /// Puts a referent of a route at a measure, whether it was there before or not. One that was there is moved without
+    /// taking memory. Where memory is wanting for a new one, nothing changes.
     pub fn put(&mut self, route: Name, name: Name, measure: Measure) -> Result<(), AllocError>
         requires not_start { name.bytes ≢ start_name }
         ensures ok { OnOk result (referents_kept self.new ≡ referents_at route.bytes (names.insert (referents_kept self.old route.bytes) name.bytes measure) (referents_kept self.old)) }
         ensures err { OnErr result (self.new ≡ self.old) }
+        ensures moved { has (referents_kept self.old route.bytes) name.bytes ≡ true → IsOk result }
     {
         match self.by_route.get_mut(&route) {
             Some(referents) => referents.insert(OWN_ROUTE, name, measure),

@@ -5,7 +5,7 @@ use rs_measure::Refusal;
 /// The rows of an answer, and how it ends.
 #[derive(Drop)]
 pub struct Reply {
-    /// What follows `ROW ` in each line, in order. Beside a refusal they say nothing, and are not printed.
+    /// What follows `ROW ` in each line, in order. A reply of the engine has none beside a refusal, which stands alone.
     pub rows: Vec<String>,
     /// The last line.
     pub finish: Finish,

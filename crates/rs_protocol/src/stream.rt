@@ -78,7 +78,8 @@ fn end_of(kept: &Kept) -> End
 
 /// Serves the lines of the input, and gives what is answered.
 ///
-/// A fault is `Write`, for want of memory for the answers; what was accepted stands.
+/// A fault ends it, with what was accepted standing: `Write`, of which the answers are lost, where memory is wanting for
+/// them; or `Read`, where the reads that `run` makes at the most did not reach the input's end.
 pub fn answer(alloc: Global, engine: &mut Engine, input: &[u8]) -> Result<Vec<u8>, Fault>
     ensures answered { IfOk result (λ written.
         AnswersInput input.now written.items (machine_of engine.old) (machine_of engine.new)) }

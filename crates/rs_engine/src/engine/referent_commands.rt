@@ -2,9 +2,10 @@
 //!
 //! Promises the machine's checks in their order, and that a refusal changes nothing.
 
-ghost use Rattle.std.specs.Prelude.{◌≡◌, ◌<◌, ◌≢◌, ◌⊎◌, Ok, Err, IfOk, IfErr, OnOk, OnErr};
+ghost use Rattle.std.specs.Prelude.{◌≡◌, ◌<◌, ◌≢◌, ◌⊎◌, true, Ok, Err, IsOk, IfOk, IfErr, OnOk, OnErr};
 ghost use Rattle.rs_methods.specs.Position.{start_name, expression_of};
 ghost use Rattle.rs_facts.specs.Insert.{same_name};
+ghost use Rattle.rs_machine.specs.State.{has};
 ghost use Rattle.rs_machine.specs.Checks.{has_referent};
 ghost use Rattle.rs_machine.specs.Step.{counted, referent_defined, referent_moved, referent_dropped};
 ghost use Rattle.rs_machine.specs.declared.limits.TheConstants.{CHANGES};
@@ -17,7 +18,7 @@ use rs_measure::{Measure, Refusal};
 use rs_methods::{Name, Position, START};
 
 impl Engine {
-    ghost use Rattle.rs_engine.specs.Kept.{state_of};
+    ghost use Rattle.rs_engine.specs.Kept.{referents_kept, state_of};
 
     /// Defines a referent at a position of its route, unless a check stands in the way (20; 25, 30; 24; 27).
     pub(crate) fn define_referent(
@@ -34,7 +35,8 @@ impl Engine {
         self.put_referent(route, name, measure)
     }
 
-    /// Moves a referent to a position of its route, unless a check stands in the way (20; 25; 23; 25, 30; 27).
+    /// Moves a referent to a position of its route, unless a check stands in the way (20; 25; 23; 25, 30; 27). It takes
+    /// no memory.
     pub(crate) fn move_referent(
         &mut self,
         route: Name,
@@ -42,7 +44,7 @@ impl Engine {
         position: &Position,
     ) -> Result<u128, Refusal>
         ensures done { IfOk result (λ count. referent_moved (state_of self.old) route.bytes name.bytes (expression_of position.now) ≡ Ok (counted count (state_of self.new))) }
-        ensures refused { IfErr result (λ refusal. (refusal ≡ Refusal.OutOfMemory) ⊎ (referent_moved (state_of self.old) route.bytes name.bytes (expression_of position.now) ≡ Err refusal)) }
+        ensures refused { IfErr result (λ refusal. referent_moved (state_of self.old) route.bytes name.bytes (expression_of position.now) ≡ Err refusal) }
         ensures err { OnErr result (self.new ≡ self.old) }
     {
         let measure = self.place_of_moved_referent(&route, &name, position)?;
@@ -100,6 +102,7 @@ impl Engine {
         ensures accepted { IfOk result (λ measure. referent_moved (state_of self.now) route.now.bytes name.now.bytes (expression_of position.now) ≡ Ok (counted 0 (with_referent (state_of self.now) route.now.bytes name.now.bytes measure))) }
         ensures refused { IfErr result (λ refusal. referent_moved (state_of self.now) route.now.bytes name.now.bytes (expression_of position.now) ≡ Err refusal) }
         ensures not_start { OnOk result (name.now.bytes ≢ start_name) }
+        ensures there { OnOk result (has (referents_kept self.now.referents route.now.bytes) name.now.bytes ≡ true) }
         ensures may_change { OnOk result (self.now.changes < CHANGES) }
     {
         let ends = self.route_of_referent(route, name)?;
@@ -131,7 +134,8 @@ impl Engine {
         is_start(name) || self.referents.has(route, name)
     }
 
-    /// Puts a referent of a route at a measure, and counts the change. For want of memory it changes nothing.
+    /// Puts a referent of a route at a measure, and counts the change. One that is there is moved without taking memory.
+    /// Where memory is wanting for a new one, nothing changes.
     fn put_referent(&mut self, route: Name, name: Name, measure: Measure) -> Result<u128, Refusal>
         requires not_start { name.bytes ≢ start_name }
         requires may_change { self.old.changes < CHANGES }
@@ -139,6 +143,7 @@ impl Engine {
         ensures count { IfOk result (λ count. count ≡ 0) }
         ensures refused { IfErr result (λ refusal. refusal ≡ Refusal.OutOfMemory) }
         ensures err { OnErr result (self.new ≡ self.old) }
+        ensures moved { has (referents_kept self.old.referents route.bytes) name.bytes ≡ true → IsOk result }
     {
         match self.referents.put(route, name, measure) {
             Ok(()) => {

@@ -11,7 +11,7 @@ returns-in-Err g c = answers_unreadable (Unit {0}) c.put_refusal.result c.args.l
 pub returns-in-Ok-command_of : goal.returns-in-Ok-command_of
 returns-in-Ok-command_of g c = answers_command (Unit {0}) c.put_reply.result c.args.line.now c.in-Ok.request.text.now c.in-Ok.request.session c.in-Ok.request.digits
     (tree_of c.in-Ok-command_of.command) (reply_of c.step-reply.result) (machine_of c.args.engine.now) (machine_of c.step-reply.new.self)
-    (g.W.Write.contents c.args.writer.now) (g.W.Write.contents c.put_reply.new.writer) c.in-Ok.ensures c.in-Ok-command_of.ensures.ok c.step-reply.ensures
+    (g.W.Write.contents c.args.writer.now) (g.W.Write.contents c.put_reply.new.writer) c.in-Ok.ensures c.in-Ok-command_of.ensures.ok c.step-reply.ensures.served
     (rw (← c.number-session.ensures.value) c.put_reply.ensures)
 
 pub returns-in-Err-command_of : goal.returns-in-Err-command_of

@@ -3,7 +3,7 @@ use Rattle.std.proofs.lemmas.Result.{err_from_is_err_and}
 use Rattle.rs_machine.specs.Checks.{position_on}
 use Rattle.rs_methods.specs.Position.{expression_of}
 use Rattle.rs_engine.specs.Kept.{Kept, state_of}
-use Rattle.rs_engine.proofs.ReferentLaws.{moved_is_not_start, moved_off_route}
+use Rattle.rs_engine.proofs.ReferentLaws.{moved_is_not_start, moved_is_there, moved_off_route}
 use Rattle.rs_engine.proofs.engine.Engine.place_of_moved_referent.Goals as goal
 
 pub returns-in_err-measure-clause-refused : goal.returns-in_err-measure-clause-refused
@@ -14,3 +14,6 @@ returns-in_err-measure-clause-refused c =
 
 pub returns-clause-not_start : goal.returns-clause-not_start
 returns-clause-not_start c = moved_is_not_start c.args.self.now c.args.route.now.bytes c.args.name.now.bytes c.in_ok-ends.ends (sym c.in_ok-ends.ensures)
+
+pub returns-clause-there : goal.returns-clause-there
+returns-clause-there c = moved_is_there c.args.self.now c.args.route.now.bytes c.args.name.now.bytes c.in_ok-ends.ends (sym c.in_ok-ends.ensures)

@@ -1,12 +1,13 @@
-use Rattle.std.proofs.Common.{[], sym, ap, ◌∙◌}
+use Rattle.std.proofs.Common.{ℕ, [], sym, ap, ◌∙◌}
 use Rattle.std.proofs.lemmas.Result.{on_ok_weaker, on_err_weaker}
 use Rattle.std.specs.FinMap as names
 use Rattle.rs_facts.specs.Fact.{Names}
+use Rattle.rs_machine.specs.State.{has}
 use Rattle.rs_engine.specs.Kept.{KeptReferents}
 use Rattle.rs_engine.specs.Names.{names_of}
 use Rattle.rs_engine.proofs.Names.{names_of-put}
 use Rattle.rs_engine.proofs.TableLaws.{some_there, insert-same}
-use Rattle.rs_engine.proofs.ReferentLaws.{ByRoute, put_own, kept_at, kept_none, no_referents_in_order, found_list, found_no_list, referent_put}
+use Rattle.rs_engine.proofs.ReferentLaws.{ByRoute, put_own, kept_at, kept_none, no_referents_in_order, found_list, found_no_list, referent_put, has_measure, no_list_has_none}
 use Rattle.rs_engine.proofs.referents.RouteReferents.put.Goals as goal
 
 pub returns-in-Some-clause-ok : goal.returns-in-Some-clause-ok
@@ -35,3 +36,16 @@ returns-in_ok-insert-in-None-2-clause-ok c =
     let list = c.in_ok-insert-in-None.ensures.ok ∙ ap (put_own c.args.name.bytes c.args.measure) c.new-referents.ensures in
     referent_put c.args.self.now _ c.args.route.bytes c.args.name.bytes [] (kept_none c.args.self.now c.args.route.bytes there) c.args.measure no_referents_in_order
     (from_old ∙ ap (λ (old : Names KeptReferents). names.insert old c.args.route.bytes c.insert-in-None.new.self) c.self.view_is ∙ ap (names.insert c.args.self.now c.args.route.bytes) list)
+
+pub returns-in-Some-clause-moved : goal.returns-in-Some-clause-moved
+returns-in-Some-clause-moved c had =
+    let there = found_list c.self.inside.by_route.entries c.args.self.now c.args.route _ c.self.view_is (sym c.in-Some.ensures.value) in
+    c.insert.ensures.moved (has_measure c.in-Some.referents.now c.args.name.bytes (sym (ap (λ (kept : Names ℕ). has kept c.args.name.bytes) (kept_at c.args.self.now c.args.route.bytes _ there)) ∙ had))
+
+pub returns-in_err-insert-in-None-clause-moved : goal.returns-in_err-insert-in-None-clause-moved
+returns-in_err-insert-in-None-clause-moved c had =
+    no_list_has_none c.args.self.now c.args.route.bytes c.args.name.bytes (found_no_list c.self.inside.by_route.entries c.args.self.now c.args.route c.self.view_is (sym c.in-None.ensures.value)) had
+
+pub returns-in_err-insert-in-None-2-clause-moved : goal.returns-in_err-insert-in-None-2-clause-moved
+returns-in_err-insert-in-None-2-clause-moved c had =
+    no_list_has_none c.args.self.now c.args.route.bytes c.args.name.bytes (found_no_list c.self.inside.by_route.entries c.args.self.now c.args.route c.self.view_is (sym c.in-None.ensures.value)) had
