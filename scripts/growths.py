@@ -4,7 +4,7 @@
 
 Such a program prints the same whichever growth was refused; any other output, or status, is a failure. There is a
 line for each program, and the last line is `N passed, M failed, L not run` for all of them. No run begins after an
-hour, so that a slow machine ends in time; what was not run is counted.
+hour, so that a slow machine ends in time; all programs come equally far by then, and what was not run is counted.
 """
 
 import concurrent.futures
@@ -40,26 +40,33 @@ def run_in_time(program, number):
     return run(program, number)[0] if time.monotonic() < LAST_BEGINNING else None
 
 
-def run_each(program, pool):
-    """(how many runs of the program went as wanted, how many did not, how many were not begun)."""
-    is_right, last = run(program, 1_000_000)
-    if not is_right or last == 0:
-        return 0, 1, 0
-    results = list(pool.map(lambda number: run_in_time(program, number), range(1, last + 1)))
-    return results.count(True), results.count(False), results.count(None)
+def planned(last_growths):
+    """Each growth of each program, (program, number), so that all programs come equally far in any time."""
+    growths = [(program, number) for program, last in last_growths.items() for number in range(1, last + 1)]
+    return sorted(growths, key=lambda growth: growth[1] / last_growths[growth[0]])
 
 
 def main():
-    all_passed, all_failed, all_left = 0, 0, 0
+    failed_at_once, last_growths = 0, {}
+    for program in PROGRAMS:
+        is_right, last = run(program, 1_000_000)
+        if is_right and last > 0:
+            last_growths[program] = last
+        else:
+            failed_at_once += 1
+    growths = planned(last_growths)
     with concurrent.futures.ThreadPoolExecutor(os.cpu_count() or 1) as pool:
-        for program in PROGRAMS:
-            passed, failed, left = run_each(program, pool)
-            print("%s: %d passed, %d failed, %d not run" % (program, passed, failed, left), flush=True)
-            all_passed += passed
-            all_failed += failed
-            all_left += left
-    print("%d passed, %d failed, %d not run" % (all_passed, all_failed, all_left))
-    return 0 if all_failed == 0 else 1
+        results = list(pool.map(lambda growth: run_in_time(*growth), growths))
+    for program in last_growths:
+        of_program = [result for growth, result in zip(growths, results) if growth[0] == program]
+        print("%s: %s" % (program, told(of_program)), flush=True)
+    print(told(results + [False] * failed_at_once))
+    return 1 if failed_at_once or False in results else 0
+
+
+def told(results):
+    """How many runs went as wanted, how many did not, how many were not begun."""
+    return "%d passed, %d failed, %d not run" % tuple(results.count(result) for result in (True, False, None))
 
 
 if __name__ == "__main__":

@@ -21,7 +21,8 @@ struct Change {
     after: &'static [u8],
 }
 
-const OUT_OF_MEMORY: &[u8] = b"0 ERR 90 out of memory\n";
+/// What follows the session where memory was wanting.
+const OUT_OF_MEMORY: &[u8] = b" ERR 90 out of memory\n";
 
 const SELECT: &[u8] = b"0 SELECT pave\n";
 
@@ -29,9 +30,9 @@ const SELECT_BY_REFERENT: &[u8] = b"0 SELECT pave AS RELATIVE\n";
 
 const TRANSLATE: &[u8] = b"0 TRANSLATE A 4.25 AS RELATIVE\n";
 
-/// The conversation: definitions, referents that come, move and go, and insertions by each kind of position, looked at
-/// by each method.
-const CHANGES: [Change; 10] = [
+/// The conversation: definitions, referents that come, move and go, insertions by each kind of position, and lines of
+/// two sessions that are refused, looked at by each method.
+const CHANGES: [Change; 14] = [
     Change {
         line: b"0 DEFINE ROUTE A FROM 0 TO 10\n",
         reply: b"0 OK 0\n",
@@ -102,6 +103,34 @@ const CHANGES: [Change; 10] = [
         before: b"0 ROW A 0.500 2.500 'PC' NULL\n0 ROW A 3.500 6.000 'AC' 2\n0 OK 2\n",
         after: b"0 ROW A 0.500 2.500 'PC' NULL\n0 ROW A 3.500 6.000 'AC' 2\n0 OK 2\n",
     },
+    Change {
+        line: b"0 DEFINE ROUTE B FROM 1 TO 1.003\n",
+        reply: b"0 OK 0\n",
+        look: b"0 TRANSLATE B 33.3333334% AS ABSOLUTE\n",
+        before: b"0 ERR 20 no such route\n",
+        after: b"0 ROW 1.001\n0 OK 1\n",
+    },
+    Change {
+        line: b"5 MOVE REFERENT A START TO 1\n",
+        reply: b"5 ERR 23 in use\n",
+        look: b"0 TRANSLATE B 1.001 AS INTERPOLATIVE\n",
+        before: b"0 ROW 33.3333334%\n0 OK 1\n",
+        after: b"0 ROW 33.3333334%\n0 OK 1\n",
+    },
+    Change {
+        line: b"0 MOVE REFERENT A K1 TO 1\n",
+        reply: b"0 ERR 25 no such referent\n",
+        look: TRANSLATE,
+        before: b"0 ROW @K0+0.750\n0 OK 1\n",
+        after: b"0 ROW @K0+0.750\n0 OK 1\n",
+    },
+    Change {
+        line: b"0 DEFINE REFERENT B K0 AT 0.999\n",
+        reply: b"0 ERR 30 outside the route\n",
+        look: b"0 TRANSLATE B 1.001 AS RELATIVE\n",
+        before: b"0 ROW @START+0.001\n0 OK 1\n",
+        after: b"0 ROW @START+0.001\n0 OK 1\n",
+    },
 ];
 
 /// Room for a reply of the conversation; it takes no memory.
@@ -114,10 +143,18 @@ fn written(alloc: Global, engine: &mut Engine, line: &[u8]) -> Written {
     writer
 }
 
+/// Whether a reply says, under the line's session of one digit, that memory was wanting.
+fn is_out_of_memory(line: &[u8], reply: &[u8]) -> bool {
+    match reply.split_first() {
+        Some((session, rest)) => line.first() == Some(session) && rest == OUT_OF_MEMORY,
+        None => false,
+    }
+}
+
 /// Whether a line is answered as wanted, once more where memory was wanting.
 fn is_answered(alloc: Global, engine: &mut Engine, line: &[u8], reply: &[u8]) -> bool {
     let first = written(alloc, engine, line);
-    if first.as_slice() != OUT_OF_MEMORY {
+    if !is_out_of_memory(line, first.as_slice()) {
         return first.as_slice() == reply;
     }
     written(alloc, engine, line).as_slice() == reply
@@ -127,7 +164,7 @@ fn is_answered(alloc: Global, engine: &mut Engine, line: &[u8], reply: &[u8]) ->
 /// sent again.
 fn is_changed(alloc: Global, engine: &mut Engine, change: &Change) -> bool {
     let first = written(alloc, engine, change.line);
-    if first.as_slice() == OUT_OF_MEMORY {
+    if is_out_of_memory(change.line, first.as_slice()) {
         let is_unchanged = written(alloc, engine, change.look).as_slice() == change.before;
         let is_made = written(alloc, engine, change.line).as_slice() == change.reply;
         return is_unchanged && is_made && is_answered(alloc, engine, change.look, change.after);

@@ -5,8 +5,10 @@
 
 mod judge;
 mod pages;
+mod random_calls;
 
 use crate::judge::{AfterRefusal, Call, Judge};
+use crate::random_calls::RandomCalls;
 use std::alloc::Global;
 use std::io;
 
@@ -49,8 +51,11 @@ const AGAIN: [Call; 5] = [
     Call::Flush,
 ];
 
+/// How many pseudo-random calls follow.
+const RANDOM_CALLS: u32 = 40;
+
 /// Whether each call is answered as wanted.
-fn is_right(alloc: Global, after: AfterRefusal) -> bool {
+fn is_right(alloc: Global, after: AfterRefusal, seed: u64) -> bool {
     let Some(mut judge) = Judge::new(alloc, after) else {
         return false;
     };
@@ -64,13 +69,20 @@ fn is_right(alloc: Global, after: AfterRefusal) -> bool {
     for call in &AGAIN {
         judge.make(*call);
     }
+    let mut calls = RandomCalls::new(seed);
+    for _call in 0..RANDOM_CALLS {
+        judge.make(calls.next_call());
+    }
     judge.compare();
     judge.is_right
 }
 
 fn main(rt: HostRuntime) -> io::Result<()> {
-    let ends = [AfterRefusal::Abandon, AfterRefusal::Commit];
-    if ends.iter().all(|after| is_right(rt.alloc(), *after)) {
+    let ends = [(AfterRefusal::Abandon, 1), (AfterRefusal::Commit, 2)];
+    if ends
+        .iter()
+        .all(|(after, seed)| is_right(rt.alloc(), *after, *seed))
+    {
         println!(rt; "each call was answered as wanted")
     } else {
         println!(rt; "some call was answered otherwise")
