@@ -27,6 +27,10 @@ fn the_catalogue_begins_where_it_was_set(rt: HostRuntime) -> Result<(), Fail> {
     assert_eq!(rt; driver.catalogue(), (2, 66_051), "as the disk has it");
     let found = read(rt.alloc(), &mut driver.into_disk(), 1)?;
     let place = found.get(44..52).unwrap_or(&[]);
-    assert_eq!(rt; place, [0, 0, 0, 2, 0, 1, 2, 3].as_slice(), "its place in page 0");
+    assert_eq!(rt;
+        place,
+        [0, 0, 0, 2, 0, 1, 2, 3].as_slice(),
+        "its place in page 0"
+    );
     Ok(())
 }
