@@ -3,8 +3,9 @@
 (`rt try --fail-alloc N`).
 
 Such a program prints the same whichever growth was refused; any other output, or status, is a failure. There is a
-line for each program, and the last line is `N passed, M failed, L not run` for all of them. No run begins after an
-hour, so that a slow machine ends in time; all programs come equally far by then, and what was not run is counted.
+line for each program, and the last line is `N passed, M failed, L not run` for all of them. No run begins after
+forty minutes, so that a slow machine ends in time; all programs come equally far by then, and what was not run is
+counted.
 """
 
 import concurrent.futures
@@ -18,7 +19,7 @@ CRATES = os.path.join(os.path.dirname(os.path.abspath(__file__)), "..", "crates"
 
 PROGRAMS = ["rs_pager_growths", "rs_growths"]
 
-LAST_BEGINNING = time.monotonic() + 3600
+LAST_BEGINNING = time.monotonic() + 2400
 
 
 def run(program, number):
