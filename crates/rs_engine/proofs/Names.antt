@@ -6,7 +6,7 @@ use Rattle.std.specs.declared.cmp.Ordering.{Ordering}
 use Rattle.std.specs.declared.cmp.Ordering.TheVariants.{Less, Equal, Greater}
 use Rattle.std.specs.Ordering.{nat_cmp, is_eq, is_lt, eq_by_cmp}
 use Rattle.std.specs.Cmp.{IsTotalOrder, eq_by_cmp_equiv}
-use Rattle.std.specs.Cmp.Lexicographic.{slice_cmp, nat_list_cmp_total}
+use Rattle.std.specs.Cmp.Lexicographic.{slice_cmp}
 use Rattle.std.specs.List.{AllByRecursion}
 use Rattle.std.specs.List.Sorted.{IsStrictlySortedBy}
 use Rattle.std.specs.Map.{lookup, keys_of}
@@ -14,18 +14,11 @@ use Rattle.std.specs.BTreeMap.{is_at}
 use Rattle.std.specs.FinMap as names
 use Rattle.std.specs.FinMap.Entries.{below_all}
 use Rattle.std.proofs.lemmas.List.{length-map}
-use Rattle.std.specs.FinMap.{find, is_sorted, IsAntisymmetric, nat_cmp-IsAntisymmetric, slice_cmp-IsAntisymmetric, get-entries, get-from_entries, get-from_sorted, get-insert, get-empty, len-entries, entries-from_sorted, entries_sorted, same_map}
+use Rattle.std.specs.FinMap.{find, is_sorted, get-entries, get-from_entries, get-from_sorted, get-insert, get-empty, len-entries, entries-from_sorted, entries_sorted, same_map}
 use Rattle.arrayvec.specs.ArrayString.{ArrayString}
 use Rattle.rs_facts.specs.Fact.{Name, Names, name_cmp}
+pub use Rattle.rs_machine.proofs.NameOrder.{name_cmp-total, name_cmp-antisymmetric}
 use Rattle.rs_engine.specs.Names.{entries_by_bytes, names_of, map_values}
-
-pub name_cmp-total : IsTotalOrder name_cmp
-unfolding name_cmp
-name_cmp-total = nat_list_cmp_total
-
-pub name_cmp-antisymmetric : IsAntisymmetric name_cmp
-unfolding name_cmp
-name_cmp-antisymmetric = slice_cmp-IsAntisymmetric nat_cmp-IsAntisymmetric
 
 -- names compare by their bytes
 abbrev pub by_bytes : ArrayString → ArrayString → Ordering

@@ -2,7 +2,7 @@
 use Rattle.std.proofs.Common.{◌≡◌, ℕ, zero, suc, ◌+◌, ◌<◌, ◌≤◌, List, [], ◌∷◌, ◌++◌, length, take, drop, Some, None, refl, sym, ap, ◌∙◌, subst, ⊎_elim, arith, append_assoc, append-nil, length-drop, drop-cons}
 use Rattle.std.specs.Prelude.{slice_index, All}
 use Rattle.std.proofs.lemmas.Bool.{cases_order}
-use Rattle.std.proofs.lemmas.List.Elements.{All-push}
+use Rattle.std.proofs.lemmas.List.Elements.{All-push, All-cons}
 use Rattle.rs_grammar.specs.declared.kind.TokenKind.{TokenKind}
 use Rattle.rs_lexer.specs.declared.token.Token.{Token}
 use Rattle.rs_lexer.specs.Lexis.{kind_of, IsTokenOf, IsLongestToken, IsCut, at_end, at_blank, at_token}
@@ -89,6 +89,13 @@ IsTokenOf-longest line place kind count lt longest = record {
   inside = omega (arith, longest.inside, length-drop place line);
   kind = longest.token;
 }
+
+-- each token of a cut is one of the line
+pub cut_inside : (line : List ℕ) {place : ℕ} {tokens : List Token} → IsCut line place tokens → All (IsTokenOf line) tokens
+cut_inside line (at_end h) = λ k d lt. absurd (omega arith)
+cut_inside line (at_blank lt e rest) = cut_inside line rest
+cut_inside line {place} {tokens} (at_token kind count longest rest) =
+    All-cons (IsTokenOf line) (token_at kind place count) _ (IsTokenOf-longest line place kind count (token_inside line place kind count longest) longest) (cut_inside line rest)
 
 -- what the loop over a line keeps: the tokens so far, and those from a place on, are the line's
 pub record IsCutSoFar (line : List ℕ) (from : ℕ) (tokens : List Token) (place : ℕ) : Type 0 where

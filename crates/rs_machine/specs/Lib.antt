@@ -7,3 +7,4 @@ pub mod Request
 pub mod ReplyText
 pub mod Answered
 pub mod Stream
+pub mod ReferentNames

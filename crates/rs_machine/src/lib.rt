@@ -3,4 +3,5 @@
 //! The definitions stand in `specs/`. The limits that they name stand here, once, for code and definitions.
 #![tactic(auto)]
 
+pub mod laws;
 pub mod limits;

@@ -23,7 +23,7 @@ use Rattle.rs_pager.specs.declared.header.PageKind.TheVariants.{Free}
 use Rattle.rs_pager.proofs.Slots.{slot_at-past, slot_at-read}
 use Rattle.rs_pager.proofs.Reading.{IsHeader-one, IsHeader-same, HasPage-one, HasPage-held}
 use Rattle.rs_pager.proofs.Copying.{copied-returns, Rests-then, loaded-bytes}
-use Rattle.rs_pager.proofs.FreeLists.{stands_free, list_taken, list_released}
+use Rattle.rs_pager.proofs.FreeLists.{stands_free, not_free, list_taken, list_released}
 
 -- a header of a free page that fits is the one with nothing else in it
 free_header : (header : PageHeader) (number pages : ℕ) → header.kind ≡ Free → Fits header number pages
@@ -65,11 +65,6 @@ holds_none slot number pages next page held none free =
 pub holds_nothing : (slot : HeldPage) (number pages next : ℕ) → working_of slot ≡ None → HoldsFree slot number pages next → ⊥
 holds_nothing slot number pages next none free =
     let same : None ≡ Some free.page = sym none ∙ free.held in cc
-
--- a page that is lent out is no free page
-not_free : (pages : Pages) (n : ℕ) (page : List ℕ) → HasPage pages n page → IsInUse page → ((next : ℕ) × IsFreePage pages n next) → ⊥
-not_free pages n page there in_use free = in_use (empty_header Free n free.0)
-    (IsHeader-same free.1.page page (empty_header Free n free.0) (HasPage-one pages n free.1.page page free.1.there there) free.1.header) refl
 
 -- there is no working page past the count
 has_inside : {D : Type 0} (seen : D → Content) (p : Paged D) (m : ℕ) (page : List ℕ) → HasPage (working seen p) m page → m < p.working.pages

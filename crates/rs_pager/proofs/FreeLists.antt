@@ -3,8 +3,10 @@ use Rattle.std.proofs.Common.{◌≡◌, ◌≢◌, ◌<◌, ◌≤◌, ◌+◌,
 use Rattle.rs_pager.specs.Header.{Fits}
 use Rattle.rs_pager.specs.Follow.{MayFollow}
 use Rattle.rs_pager.specs.declared.file_header.FileHeader.{FileHeader}
-use Rattle.rs_pager.specs.Changes.{TakesFree, TakesLast, Releases}
-use Rattle.rs_pager.specs.Pages.{Pages, HasPage, KeepsOtherPages, empty_header}
+use Rattle.rs_pager.specs.Changes.{TakesFree, TakesLast, Releases, ReplacesPage, with_catalogue}
+use Rattle.rs_disk.specs.declared.disk.TheConstants.{PAGE_SIZE}
+use Rattle.rs_pager.specs.Pages.{Pages, SamePages, HasPage, KeepsOtherPages, empty_header}
+use Rattle.rs_pager.specs.Reading.{IsInUse}
 use Rattle.rs_pager.specs.FreeList.{IsFreePage, FreeFrom, IsFreeList}
 use Rattle.rs_pager.specs.declared.header.PageHeader.{PageHeader}
 use Rattle.rs_pager.specs.declared.header.PageKind.TheVariants.{Free}
@@ -59,6 +61,11 @@ pub stands_free : (pages : Pages) (first n : ℕ) (ns : List ℕ) → FreeFrom p
 stands_free pages first n [] chain stands = absurd stands
 stands_free pages first n (m ∷ ms) chain (inl is) = (chain.1.0, subst (λ i. IsFreePage pages i chain.1.0) (sym is) chain.1.1)
 stands_free pages first n (m ∷ ms) chain (inr stands) = stands_free pages chain.1.0 n ms chain.1.2 stands
+
+-- a page in use is no free page
+pub not_free : (pages : Pages) (n : ℕ) (page : List ℕ) → HasPage pages n page → IsInUse page → ((next : ℕ) × IsFreePage pages n next) → ⊥
+not_free pages n page there in_use free = in_use (empty_header Free n free.0)
+    (IsHeader-same free.1.page page (empty_header Free n free.0) (HasPage-one pages n free.1.page page free.1.there there) free.1.header) refl
 
 -- a page that another call wrote over stays free
 free_kept : (old new : Pages) (n m next : ℕ) → KeepsOtherPages n old new → new.fields.pages ≡ old.fields.pages → m ≢ n → IsFreePage old m next → IsFreePage new m next
@@ -131,3 +138,45 @@ list_released old new n ns past releases none inside list =
       );
       count = omega arith;
     }
+
+-- a page is free where as many pages have the same bytes
+free_same : (one other : Pages) → one.fields.pages ≡ other.fields.pages → ((m place : ℕ) → place < PAGE_SIZE → one.byte m place ≡ other.byte m place)
+    → (n next : ℕ) → IsFreePage other n next → IsFreePage one n next
+free_same one other count same n next free = record {
+  page = free.page;
+  there = record { bytes = λ k lt. same n k lt ∙ free.there.bytes k lt };
+  header = free.header;
+  fits = subst (λ pages. Fits (empty_header Free n next) n pages) (sym count) free.fits;
+}
+
+-- a free list from a page on is one where as many pages have the same bytes
+chain_same : (one other : Pages) → one.fields.pages ≡ other.fields.pages → ((m place : ℕ) → place < PAGE_SIZE → one.byte m place ≡ other.byte m place)
+    → (first : ℕ) (ns : List ℕ) → FreeFrom other first ns → FreeFrom one first ns
+chain_same one other count same first [] chain = chain
+chain_same one other count same first (m ∷ ms) chain =
+    (chain.0, (chain.1.0, free_same one other count same m chain.1.0 chain.1.1, chain_same one other count same chain.1.0 ms chain.1.2))
+
+-- the same pages have the same free list
+pub list_same : (one other : Pages) (ns : List ℕ) → SamePages one other → IsFreeList other ns → IsFreeList one ns
+list_same one other ns same list = record {
+  chain = subst (λ (f : FileHeader). FreeFrom one f.first_free ns) (sym same.fields)
+      (chain_same one other (ap (λ (f : FileHeader). f.pages) same.fields) same.bytes other.fields.first_free ns list.chain);
+  count = list.count ∙ ap (λ (f : FileHeader). f.free_pages) (sym same.fields);
+}
+
+-- a page in use is written, and the free list stays
+pub list_kept : (old new : Pages) (n : ℕ) (was page : List ℕ) (ns : List ℕ) → HasPage old n was → IsInUse was → ReplacesPage n page old new
+    → IsFreeList old ns → IsFreeList new ns
+list_kept old new n was page ns has in_use replaces list = record {
+  chain = subst (λ (f : FileHeader). FreeFrom new f.first_free ns) (sym replaces.fields)
+      (chain_kept old new n old.fields.first_free ns replaces.others (ap (λ (f : FileHeader). f.pages) replaces.fields)
+      (λ stands. not_free old n was has in_use (stands_free old old.fields.first_free n ns list.chain stands)) list.chain);
+  count = list.count ∙ ap (λ (f : FileHeader). f.free_pages) (sym replaces.fields);
+}
+
+-- the catalogue begins elsewhere, and the free list stays
+pub list_beside_catalogue : (pages : Pages) (first size : ℕ) (ns : List ℕ) → IsFreeList pages ns → IsFreeList (with_catalogue first size pages) ns
+list_beside_catalogue pages first size ns list = record {
+  chain = chain_same (with_catalogue first size pages) pages refl (λ m place lt. refl) pages.fields.first_free ns list.chain;
+  count = list.count;
+}

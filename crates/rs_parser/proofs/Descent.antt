@@ -15,8 +15,8 @@ use Rattle.rs_parser.specs.declared.syntax.WrittenType.TheVariants as written_ty
 use Rattle.rs_parser.specs.declared.syntax.WrittenValue.TheVariants as written_values
 use Rattle.rs_parser.specs.declared.syntax.WrittenPosition.TheVariants as written_positions
 use Rattle.rs_parser.specs.declared.syntax.WrittenPlace.TheVariants as written_places
-use Rattle.rs_parser.specs.Written.{written_route, written_table, written_referent, written_move, written_drop, written_insert, written_translate, written_select, Piece, mark, told, has_text, piece_of, measure_pieces, position_pieces, place_pieces, method_pieces, type_pieces, column_pieces, value_pieces, list_pieces, spelling}
-use Rattle.rs_parser.specs.Reading.{Lacks, Runs, is_done, is_fail, takes, skips, through, stops_in, pieces_of}
+use Rattle.rs_parser.specs.Written.{Written, written_route, written_table, written_referent, written_move, written_drop, written_insert, written_translate, written_select, Piece, mark, told, has_text, piece_of, measure_pieces, position_pieces, place_pieces, method_pieces, type_pieces, column_pieces, value_pieces, list_pieces, spelling}
+use Rattle.rs_parser.specs.Reading.{Lacks, Runs, is_done, is_fail, takes, skips, through, stops_in, pieces_of, IsFull}
 
 -- two kinds are the same, or not
 kind_cases : (a b : TokenKind) → (a ≡ b) ⊎ (a ≡ b → ⊥)
@@ -85,6 +85,10 @@ pub record Spelled {X : Type 0} (pieces : X → List Piece) (tokens : List Token
 
 abbrev pub Whole : {X : Type 0} → (X → List Piece) → List Token → List Token → Type 0
 Whole {X} pieces tokens rest = (x : X) × Spelled pieces tokens x rest
+
+-- a command was read, and each list of it has an item
+abbrev pub Full : List Token → List Token → Type 0
+Full tokens rest = (written : Written) × Spelled spelling tokens written rest × IsFull written
 
 -- a part, and what follows it
 part_through : {X : Type 0} (pieces : X → List Piece) (p : Part) (form : Form) (tokens rest : List Token) (Known : List Token → Type 0) → Runs (rules p) (kinds_of tokens) (Ok (kinds_of rest)) → Reading form rest Known → Reading (sub p form) tokens Known
@@ -233,7 +237,7 @@ read_values tokens = read_list g.value g.values value_pieces values_are value_ru
 -- The commands, each behind its first words, which the tokens of the whole line begin with.
 module _ (tokens : List Token) where
   abbrev pub Known : List Token → Type 0
-  Known = Whole spelling tokens
+  Known = Full tokens
 
   read_route : (a : List Token) → length a < length tokens → pieces_of tokens ≡ mark kinds.Define ∷ mark kinds.Route ∷ pieces_of a → Reading define_route_form a Known
   unfolding rules
@@ -243,7 +247,7 @@ module _ (tokens : List Token) where
       read_part measure_pieces g.measure (need kinds.To (sub g.measure done)) c Known (read_measure c) (λ d start ld hd.
       need_mark kinds.To (sub g.measure done) d Known refl (λ e le he.
       read_part measure_pieces g.measure done e Known (read_measure e) (λ f finish lf hf.
-      read_done f Known (written_route name start finish, record { spelled = cc; shorter = omega arith }))))))
+      read_done f Known (written_route name start finish, record { spelled = cc; shorter = omega arith }, tt))))))
 
   read_referent : (a : List Token) → length a < length tokens → pieces_of tokens ≡ mark kinds.Define ∷ mark kinds.Referent ∷ pieces_of a → Reading define_referent_form a Known
   unfolding rules
@@ -252,7 +256,7 @@ module _ (tokens : List Token) where
       need_text kinds.Name (need kinds.At (sub g.position done)) b Known refl (λ name c lc ic hc.
       need_mark kinds.At (sub g.position done) c Known refl (λ d ld hd.
       read_part position_pieces g.position done d Known (read_position d) (λ e position le he.
-      read_done e Known (written_referent route name position, record { spelled = cc; shorter = omega arith })))))
+      read_done e Known (written_referent route name position, record { spelled = cc; shorter = omega arith }, tt)))))
 
   read_table : (a : List Token) → length a < length tokens → pieces_of tokens ≡ mark kinds.Define ∷ mark kinds.Line ∷ pieces_of a → Reading define_table_form a Known
   unfolding rules
@@ -269,6 +273,7 @@ module _ (tokens : List Token) where
               (he ∙ ap (λ ps. Items column_pieces columns ++ ps) hf ∙ sym (append_assoc (Items column_pieces columns) (mark kinds.RightParen ∷ []) (pieces_of f))))));
           shorter = omega arith;
         },
+        omega arith,
       ))))))
 
   read_define : (a : List Token) → length a < length tokens → pieces_of tokens ≡ mark kinds.Define ∷ pieces_of a → Reading define_form a Known
@@ -285,7 +290,7 @@ module _ (tokens : List Token) where
       need_mark kinds.Referent (need kinds.Name (need kinds.Name done)) a Known refl (λ b lb hb.
       need_text kinds.Name (need kinds.Name done) b Known refl (λ route c lc ic hc.
       need_text kinds.Name done c Known refl (λ name d ld id hd.
-      read_done d Known (written_drop route name, record { spelled = cc; shorter = omega arith }))))
+      read_done d Known (written_drop route name, record { spelled = cc; shorter = omega arith }, tt))))
 
   read_move : (a : List Token) → length a < length tokens → pieces_of tokens ≡ mark kinds.Move ∷ pieces_of a → Reading move_form a Known
   unfolding rules
@@ -295,7 +300,7 @@ module _ (tokens : List Token) where
       need_text kinds.Name (need kinds.To (sub g.position done)) c Known refl (λ name d ld id hd.
       need_mark kinds.To (sub g.position done) d Known refl (λ e le he.
       read_part position_pieces g.position done e Known (read_position e) (λ f position lf hf.
-      read_done f Known (written_move route name position, record { spelled = cc; shorter = omega arith }))))))
+      read_done f Known (written_move route name position, record { spelled = cc; shorter = omega arith }, tt))))))
 
   read_insert : (a : List Token) → length a < length tokens → pieces_of tokens ≡ mark kinds.Insert ∷ pieces_of a → Reading insert_form a Known
   unfolding rules
@@ -318,6 +323,7 @@ module _ (tokens : List Token) where
               ∙ sym (append_assoc (place_pieces place) (mark kinds.Values ∷ mark kinds.LeftParen ∷ (Items value_pieces row ++ mark kinds.RightParen ∷ [])) (pieces_of l)))))));
           shorter = omega arith;
         },
+        omega arith,
       ))))))))))
 
   read_translate : (a : List Token) → length a < length tokens → pieces_of tokens ≡ mark kinds.Translate ∷ pieces_of a → Reading translate_form a Known
@@ -334,6 +340,7 @@ module _ (tokens : List Token) where
               (hc ∙ ap (λ ps. position_pieces position ++ ps) (hd ∙ ap (λ ps. mark kinds.As ∷ ps) he) ∙ sym (append_assoc (position_pieces position) (mark kinds.As ∷ method_pieces method) (pieces_of e))));
           shorter = omega arith;
         },
+        tt,
       )))))
 
   read_wanted : (name : Token) (b : List Token) → length b < length tokens → pieces_of tokens ≡ mark kinds.Select ∷ told kinds.Name name ∷ pieces_of b → Reading wanted_form b Known
@@ -341,8 +348,8 @@ module _ (tokens : List Token) where
   read_wanted name b lb hb =
       read_mark kinds.As (sub g.method done) done b Known refl
       (λ c lc hc. read_part method_pieces g.method done c Known (read_method c) (λ d method ld hd.
-      read_done d Known (written_select name (Some method), record { spelled = cc; shorter = omega arith })))
-      (read_done b Known (written_select name None, record { spelled = hb; shorter = lb }))
+      read_done d Known (written_select name (Some method), record { spelled = cc; shorter = omega arith }, tt)))
+      (read_done b Known (written_select name None, record { spelled = hb; shorter = lb }, tt))
 
   name_pieces : Token → List Piece
   name_pieces token = told kinds.Name token ∷ []
@@ -367,5 +374,5 @@ module _ (tokens : List Token) where
       (need_mark kinds.Select select_form tokens Known refl read_select)))))
 
 -- Reading to the end, or to where it stops.
-pub read_whole : (tokens : List Token) → Reading command_form tokens (Whole spelling tokens)
+pub read_whole : (tokens : List Token) → Reading command_form tokens (Full tokens)
 read_whole tokens = read_command tokens

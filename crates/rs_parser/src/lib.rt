@@ -17,7 +17,9 @@ mod syntax;
 mod tests;
 
 pub use commands::{ColumnDefinition, Command, Place, Query};
-pub use parser::{command_of, line_has_an_answer, line_has_one_answer, parse};
+pub use parser::{
+    command_of, command_of_a_line_is_sound, line_has_an_answer, line_has_one_answer, parse,
+};
 pub use rs_grammar::kind::{BRACKETS, NAME_BYTES, TokenKind};
 pub use rs_lexer::{Token, tokens};
 pub use rs_methods::{Method, Name, Position, Sign};

@@ -130,3 +130,12 @@ pub fn line_has_one_answer()
 pub fn line_has_an_answer()
     ensures { (line : List ℕ) (from : ℕ) → (answer : Result CommandTree Refusal) × Reads line from answer }
 {}
+
+/// A command that the text of a line says keeps to what `IsSound` says: its names are names, its lists have
+/// items, and its numbers are in their ranges.
+pub fn command_of_a_line_is_sound()
+    ensures { (line : List ℕ) (from : ℕ) (tree : CommandTree) → Reads line from (Ok tree) → IsSound tree }
+{
+    text_says_one_measure();
+    text_says_one_part();
+}

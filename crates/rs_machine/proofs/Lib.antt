@@ -1,0 +1,2 @@
+pub mod NameOrder
+mod ReferentNames
