@@ -4,8 +4,12 @@
 //! as written. What is printed is the same whichever growth was refused.
 #![tactic(auto)]
 
+mod conversations;
+
+use crate::conversations::{Line, METHODS, NEAREST_REFERENTS, PERCENTAGES};
 use arrayvec::ArrayVec;
 use rs_engine::Engine;
+use rs_growth_offset::ask_for_each_byte;
 use rs_protocol::run;
 use std::alloc::Global;
 use std::io;
@@ -172,14 +176,27 @@ fn is_changed(alloc: Global, engine: &mut Engine, change: &Change) -> bool {
     first.as_slice() == change.reply && is_answered(alloc, engine, change.look, change.after)
 }
 
+/// Whether each change is made as wanted.
+fn are_made(alloc: Global) -> bool {
+    let mut engine = Engine::fresh(alloc);
+    CHANGES
+        .iter()
+        .all(|change| is_changed(alloc, &mut engine, change))
+}
+
+/// Whether each line of a conversation is answered as wanted.
+fn is_held(alloc: Global, lines: &[Line]) -> bool {
+    let mut engine = Engine::fresh(alloc);
+    lines.iter().all(|line| is_answered(alloc, &mut engine, line.sent, line.answer))
+}
+
 fn main(rt: HostRuntime) -> io::Result<()> {
-    let mut engine = Engine::fresh(rt.alloc());
-    let mut is_right = true;
-    for change in &CHANGES {
-        if !is_changed(rt.alloc(), &mut engine, change) {
-            is_right = false;
-        }
-    }
+    let alloc = rt.alloc();
+    ask_for_each_byte(alloc, &mut rt.stdin());
+    let is_right = are_made(alloc)
+        && is_held(alloc, &PERCENTAGES)
+        && is_held(alloc, &NEAREST_REFERENTS)
+        && is_held(alloc, &METHODS);
     if is_right {
         println!(rt; "each line was answered as written")
     } else {

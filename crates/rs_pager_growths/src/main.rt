@@ -9,6 +9,7 @@ mod random_calls;
 
 use crate::judge::{AfterRefusal, Call, Judge};
 use crate::random_calls::RandomCalls;
+use rs_growth_offset::ask_for_each_byte;
 use std::alloc::Global;
 use std::io;
 
@@ -52,7 +53,7 @@ const AGAIN: [Call; 5] = [
 ];
 
 /// How many pseudo-random calls follow.
-const RANDOM_CALLS: u32 = 40;
+const RANDOM_CALLS: u32 = 250;
 
 /// Whether each call is answered as wanted.
 fn is_right(alloc: Global, after: AfterRefusal, seed: u64) -> bool {
@@ -78,6 +79,7 @@ fn is_right(alloc: Global, after: AfterRefusal, seed: u64) -> bool {
 }
 
 fn main(rt: HostRuntime) -> io::Result<()> {
+    ask_for_each_byte(rt.alloc(), &mut rt.stdin());
     let ends = [(AfterRefusal::Abandon, 1), (AfterRefusal::Commit, 2)];
     if ends
         .iter()

@@ -132,7 +132,7 @@ pub fn line_has_an_answer()
 {}
 
 /// A command that the text of a line says keeps to what `IsSound` says: its names are names, its lists have
-/// items, and its numbers are in their ranges.
+/// items, and the numbers of its rows and the lengths of its columns are in their ranges.
 pub fn command_of_a_line_is_sound()
     ensures { (line : List ℕ) (from : ℕ) (tree : CommandTree) → Reads line from (Ok tree) → IsSound tree }
 {

@@ -1,0 +1,23 @@
+//! Growths that a program asks for before its own, so that one build of it can be run with each of its own refused.
+//!
+//! One growth of a run is refused, always the one with the same number. It is another one of the program's own for
+//! each length of the input, since a growth is asked for before them for each byte of it.
+#![tactic(auto)]
+
+use std::alloc::Global;
+use std::io::Read;
+
+/// How many growths are asked for at the most.
+pub const GREATEST_OFFSET: u32 = 4_096;
+
+/// Asks for a growth for each byte of the input, and gives its memory back at once. It ends where the input does,
+/// or a read fails. Where a growth is refused nothing else changes.
+pub fn ask_for_each_byte<R: Read>(alloc: Global, input: &mut R) {
+    let mut byte = [0_u8];
+    for _ in 0..GREATEST_OFFSET {
+        if !matches!(input.read(&mut byte), Ok(1)) {
+            return;
+        }
+        let _given = Box::new(alloc, byte);
+    }
+}
