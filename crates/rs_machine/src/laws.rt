@@ -1,6 +1,6 @@
 //! What stays so whatever lines are answered: each referent has a name that a line can say.
 //!
-//! So each position that is printed can be read, with the names of referents among them.
+//! So a referent's name that is printed with a position can be written in a line again.
 
 ghost use Rattle.std.specs.Prelude.{List, ℕ};
 ghost use Rattle.std.specs.FinMap.{entries};
