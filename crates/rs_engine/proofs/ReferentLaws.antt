@@ -29,7 +29,8 @@ use Rattle.rs_machine.specs.State.{has, no_referents}
 use Rattle.rs_machine.specs.Checks.{◌>>=◌, unless, found as found_or, has_referent, position_on}
 use Rattle.rs_machine.specs.Step.{counted, may_change, referents_at, with_referents, referent_moved}
 use Rattle.rs_engine.specs.Names.{names_of}
-use Rattle.rs_engine.specs.Kept.{KeptReferents, Kept, OWN_ROUTE, referents_on, referents_kept, state_of}
+use Rattle.rs_engine.specs.declared.referents.TheConstants.{OWN_ROUTE}
+use Rattle.rs_engine.specs.Kept.{KeptReferents, Kept, referents_on, referents_kept, state_of}
 use Rattle.rs_engine.specs.Referents.{referents_by_name, route_of_referent}
 use Rattle.rs_engine.proofs.Names.{name_cmp-total, name_cmp-antisymmetric, by_bytes, entries-from_entries, get-names_of_same}
 use Rattle.rs_engine.proofs.TableLaws.{same_name-true}

@@ -9,6 +9,7 @@ use Rattle.rs_facts.specs.Runs.{Stretch}
 use Rattle.rs_facts.specs.Spans.{places_of}
 use Rattle.rs_machine.specs.State.{State}
 use Rattle.rs_engine.specs.Names.{map_values}
+use Rattle.rs_engine.specs.declared.referents.TheConstants.{OWN_ROUTE}
 
 -- a table: for each route that holds something, the spans that are kept
 pub record KeptTable : Type 0 where
@@ -19,10 +20,6 @@ pub record KeptTable : Type 0 where
 -- referents of one route, each by the route's number there and its name
 abbrev pub KeptReferents : Type 0
 KeptReferents = List ((ℕ × Name) × ℕ)
-
--- the number of the route in the referents that are kept of it: each route has a list of its own
-abbrev pub OWN_ROUTE : ℕ
-OWN_ROUTE = 0
 
 pub record Kept : Type 0 where
   pub routes : Names RouteEnds

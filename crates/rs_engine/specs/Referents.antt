@@ -11,7 +11,8 @@ use Rattle.rs_facts.specs.Query.{RouteEnds}
 use Rattle.rs_machine.specs.State.{State}
 use Rattle.rs_machine.specs.Checks.{◌>>=◌, unless, route_named, has_referent}
 use Rattle.rs_machine.specs.Step.{with_referents}
-use Rattle.rs_engine.specs.Kept.{KeptReferents, OWN_ROUTE}
+use Rattle.rs_engine.specs.declared.referents.TheConstants.{OWN_ROUTE}
+use Rattle.rs_engine.specs.Kept.{KeptReferents}
 
 -- the referents of one route, as the machine knows them
 abbrev pub referents_by_name : KeptReferents → Names ℕ

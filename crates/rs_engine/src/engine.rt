@@ -1,4 +1,7 @@
-//! The engine and its step: the checks of each command in their order, and what an accepted command changes.
+//! The engine: the routes, their referents, the tables with their facts, and the count of accepted changes.
+//!
+//! Promises that a step makes the checks of its command in their order, that an accepted command changes what the
+//! reference machine changes, and that a refused one changes nothing.
 
 ghost use Rattle.std.specs.Prelude.{◌≡◌, ◌≤◌, ◌⊎◌, [], ◌∷◌, true, length, map, Ok, Err, IfOk, IfErr, OnErr};
 ghost use Rattle.std.specs.List.{list_any};
@@ -13,6 +16,8 @@ ghost use Rattle.rs_machine.specs.Step.{effect, counted, route_defined, table_de
 ghost use Rattle.rs_engine.specs.ReplyView.{rows_of, reply_of, StandsAlone};
 ghost use Rattle.rs_engine.specs.Replied.{count_reply_of, rows_reply_of};
 
+#[cfg(test)]
+mod limit_tests;
 mod referent_commands;
 
 use crate::printer::PositionPrinter;

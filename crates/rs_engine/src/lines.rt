@@ -1,4 +1,6 @@
-//! The text of the rows that a query answers.
+//! The text of the rows that a query answers, one line for each run.
+//!
+//! Promises the machine's line of each run, in the order of the runs, behind the lines that were there.
 
 ghost use Rattle.std.specs.Prelude.{◌≡◌, ◌++◌, map, IfOk, OnOk, string_bytes};
 ghost use Rattle.std.specs.List.{AllByRecursion};

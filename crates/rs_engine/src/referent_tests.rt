@@ -1,4 +1,6 @@
 //! Referents that are defined, moved and dropped, and positions by three methods.
+//!
+//! Expected texts and the order of checks are written by hand. A route is filled up to its limit of referents.
 
 use crate::tests::{name, refuses, reply_to, route, select, serves, table};
 use crate::{Engine, Reply};
@@ -17,12 +19,12 @@ fn measure(rt: &impl Abort, text: &str) -> Measure {
 }
 
 /// A measure as a position.
-fn at(rt: &impl Abort, text: &str) -> Position {
+pub(crate) fn at(rt: &impl Abort, text: &str) -> Position {
     Position::Absolute(measure(rt, text))
 }
 
 /// A measure beyond a referent.
-fn beyond(rt: &impl Abort, referent: &str, text: &str) -> Position {
+pub(crate) fn beyond(rt: &impl Abort, referent: &str, text: &str) -> Position {
     Position::Relative(name(rt, referent), Sign::Plus, measure(rt, text))
 }
 
@@ -78,7 +80,7 @@ fn row(
 }
 
 /// The reply to a translation on a route.
-fn translation(
+pub(crate) fn translation(
     rt: &impl Abort,
     engine: &mut Engine,
     route: &str,
@@ -89,7 +91,7 @@ fn translation(
 }
 
 /// Serves a translation on the route A.
-fn translates(
+pub(crate) fn translates(
     rt: &impl Abort,
     engine: &mut Engine,
     position: Position,
@@ -114,7 +116,7 @@ fn translates_not(rt: &impl Abort, engine: &mut Engine, position: Position, want
 }
 
 /// The reply to a referent's definition.
-fn definition(
+pub(crate) fn definition(
     rt: &impl Abort,
     engine: &mut Engine,
     route: &str,
@@ -157,7 +159,12 @@ fn defines_not(
 }
 
 /// The reply to a move of a referent of the route A.
-fn moving(rt: &impl Abort, engine: &mut Engine, referent: &str, position: Position) -> Reply {
+pub(crate) fn moving(
+    rt: &impl Abort,
+    engine: &mut Engine,
+    referent: &str,
+    position: Position,
+) -> Reply {
     reply_to(rt, engine, || Ok(move_on_a(rt, referent, position)))
 }
 
@@ -176,7 +183,7 @@ fn moves_not(
 }
 
 /// The reply to a drop of a referent of the route A.
-fn dropping(rt: &impl Abort, engine: &mut Engine, referent: &str) -> Reply {
+pub(crate) fn dropping(rt: &impl Abort, engine: &mut Engine, referent: &str) -> Reply {
     reply_to(rt, engine, || Ok(drop_on_a(rt, referent)))
 }
 
@@ -189,7 +196,7 @@ fn drops_not(rt: &impl Abort, engine: &mut Engine, referent: &str, wanted: Refus
 }
 
 /// The reply to a row of `pave` on the route A.
-fn insertion(
+pub(crate) fn insertion(
     rt: &impl Abort,
     alloc: Global,
     engine: &mut Engine,
@@ -211,7 +218,7 @@ fn inserts_not(
 }
 
 /// Serves the only row of `pave`.
-fn selects(rt: &impl Abort, engine: &mut Engine, line: &str) {
+pub(crate) fn selects(rt: &impl Abort, engine: &mut Engine, line: &str) {
     serves(
         rt,
         reply_to(rt, engine, || Ok(select(rt, "pave"))),
@@ -221,7 +228,7 @@ fn selects(rt: &impl Abort, engine: &mut Engine, line: &str) {
 }
 
 /// Adds a route from 0 to 10.
-fn adds_route(rt: &impl Abort, engine: &mut Engine, added: &str) {
+pub(crate) fn adds_route(rt: &impl Abort, engine: &mut Engine, added: &str) {
     serves(rt, reply_to(rt, engine, || Ok(route(rt, added))), &[], 0);
 }
 
@@ -235,7 +242,7 @@ fn laid_out(rt: &impl Abort, alloc: Global) -> Engine {
 }
 
 /// These, with two referents at 4, K1 and then K0.
-fn with_two_at_four(rt: &impl Abort, alloc: Global) -> Engine {
+pub(crate) fn with_two_at_four(rt: &impl Abort, alloc: Global) -> Engine {
     let mut engine = laid_out(rt, alloc);
     defines(rt, &mut engine, "K1", at(rt, "4"));
     defines(rt, &mut engine, "K0", at(rt, "4"));
@@ -521,7 +528,7 @@ fn each_route_has_its_own_referents(rt: HostRuntime) {
 }
 
 /// The name M and a number.
-fn numbered(rt: &impl Abort, alloc: Global, number: u32) -> Name {
+pub(crate) fn numbered(rt: &impl Abort, alloc: Global, number: u32) -> Name {
     for _ in 0..2 {
         if let Ok(text) = format!(in alloc; "M{number}") {
             return name(rt, text.as_str());

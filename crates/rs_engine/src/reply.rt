@@ -1,4 +1,6 @@
-//! What a command is answered.
+//! What a command is answered: the text of its rows, and its count or its refusal.
+//!
+//! The engine promises that a refusal stands alone, and that it names the first check that failed.
 
 use rs_measure::Refusal;
 

@@ -2,7 +2,7 @@
 //!
 //! Promises the machine's map of routes, each with its start below its finish.
 
-ghost use Rattle.std.specs.Prelude.{◌≡◌, ◌<◌, ℕ, IfSome, OnOk, OnErr};
+ghost use Rattle.std.specs.Prelude.{◌≡◌, ◌<◌, OnOk, OnErr};
 ghost use Rattle.std.specs.FinMap as names;
 ghost use Rattle.rs_machine.specs.Checks.{found};
 ghost use Rattle.rs_engine.specs.Names.{entries_by_bytes};
@@ -63,12 +63,9 @@ pub struct Routes {
 }
 
 impl Model for Routes {
-    ghost use Rattle.std.specs.Coded.{codes, coded_ℕ, coded_list};
-    ghost use Rattle.std.specs.FinMap as map;
-    ghost use Rattle.rs_facts.specs.Fact.{Names, name_cmp};
+    ghost use Rattle.rs_facts.specs.Fact.{Names};
     ghost use Rattle.rs_facts.specs.Query.{RouteEnds};
     ghost use Rattle.rs_engine.specs.Codes.{route_ends_code, names_code};
-    ghost use Rattle.rs_machine.specs.Checks.{found};
     ghost use Rattle.rs_engine.specs.Names.{names_of};
 
     ghost Value = { Names RouteEnds };

@@ -1,4 +1,6 @@
 //! The number of a session.
+//!
+//! Promises that it is one of those that a line may begin with, 0 to 63, and that it is told as it was given.
 
 ghost use Rattle.std.specs.Prelude.{◌≡◌, ℕ, ◌<◌};
 ghost use Rattle.rs_machine.specs.declared.limits.TheConstants.{SESSIONS};

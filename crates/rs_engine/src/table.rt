@@ -2,7 +2,7 @@
 //!
 //! Promises that the facts of the spans are those of the machine's table.
 
-ghost use Rattle.std.specs.Prelude.{◌≡◌, ◌+◌, ◌++◌, ◌≤◌, length, map, Some, Ok, Err, IfOk, IfErr, OnOk, OnErr, vec_len};
+ghost use Rattle.std.specs.Prelude.{◌≡◌, ◌≤◌, length, map, Some, Ok, Err, IfOk, IfErr, OnOk, OnErr, vec_len};
 ghost use Rattle.std.specs.FinMap as names;
 ghost use Rattle.rs_value.specs.View.{row_of, literal_row};
 ghost use Rattle.rs_facts.specs.Insert.{new_facts};

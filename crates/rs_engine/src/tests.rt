@@ -1,4 +1,6 @@
-//! Commands served one after another, and what they answer.
+//! Commands served one after another, and what they answer: rows in order, counts of new facts, refusals.
+//!
+//! Expected lines are written by hand. Each command is given again where memory was refused, and then answered.
 
 ghost use Rattle.std.specs.Prelude.{◌≤◌};
 
@@ -46,7 +48,7 @@ pub(crate) fn table(
 }
 
 /// A row of `pave` on a route, from `from` to `to` thousandths.
-fn row(
+pub(crate) fn row(
     rt: &impl Abort,
     alloc: Global,
     route: &str,
@@ -290,7 +292,7 @@ fn rows_stand_by_route_then_place_then_row(rt: HostRuntime) {
 }
 
 /// A route that starts and ends at so many thousandths.
-fn route_between(rt: &impl Abort, route: &str, start: u32, finish: u32) -> Command
+pub(crate) fn route_between(rt: &impl Abort, route: &str, start: u32, finish: u32) -> Command
     requires start { start ≤ 20000 }
     requires finish { finish ≤ 20000 }
 {

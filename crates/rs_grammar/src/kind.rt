@@ -1,4 +1,6 @@
-//! The kinds of token: each reserved word and each symbol of the language is one of its own.
+//! The kinds of token, the reserved words, and the bounds of names and brackets.
+//!
+//! Each reserved word and each symbol of the language is a kind of its own, so the grammar speaks of kinds alone.
 
 /// How many bytes a name has at the most.
 pub const NAME_BYTES: usize = 32;

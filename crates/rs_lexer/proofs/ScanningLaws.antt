@@ -10,7 +10,8 @@ use Rattle.rs_grammar.specs.declared.kind.TokenKind.{TokenKind}
 use Rattle.rs_grammar.specs.declared.kind.TokenKind.TheVariants as kinds
 use Rattle.rs_lexer.specs.declared.scan.State.{State}
 use Rattle.rs_lexer.specs.declared.scan.State.TheVariants as states
-use Rattle.rs_lexer.specs.Lexis.{reserved, kind_in, IsLongestToken, word_kind, is_word_byte, is_whole, is_fraction, is_quoted_rest, single_kind, less_kind, greater_kind, alone, kind_of}
+use Rattle.rs_grammar.specs.Words.{is_word_byte}
+use Rattle.rs_lexer.specs.Lexis.{reserved, kind_in, IsLongestToken, word_kind, is_whole, is_fraction, is_quoted_rest, single_kind, less_kind, greater_kind, alone, kind_of}
 use Rattle.rs_lexer.specs.Scanning.{symbol_state, after_start, after, run, accepts, is_dead, kind_at, some_if, kind_from}
 
 pub kind_of-nil : kind_of [] ≡ None

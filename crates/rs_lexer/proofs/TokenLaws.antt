@@ -14,7 +14,8 @@ use Rattle.rs_grammar.specs.declared.kind.TokenKind.TheVariants as kinds
 use Rattle.rs_lexer.specs.declared.scan.State.{State}
 use Rattle.rs_lexer.specs.declared.scan.State.TheVariants as states
 use Rattle.rs_lexer.specs.declared.token.Token.{Token}
-use Rattle.rs_lexer.specs.Lexis.{reserved, kind_in, word_kind, is_word_byte, is_fraction, is_quoted_rest, single_kind, less_kind, greater_kind, alone, kind_of, text_of, IsTokenOf}
+use Rattle.rs_grammar.specs.Words.{is_word_byte}
+use Rattle.rs_lexer.specs.Lexis.{reserved, kind_in, word_kind, is_fraction, is_quoted_rest, single_kind, less_kind, greater_kind, alone, kind_of, text_of, IsTokenOf}
 use Rattle.rs_lexer.specs.Scanning.{after_start, after, accepts, run, symbol_state}
 use Rattle.rs_lexer.proofs.ScanningLaws.{no_kind, run-next, run-dead}
 

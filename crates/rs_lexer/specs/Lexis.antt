@@ -1,11 +1,12 @@
 -- What a token is, and how a line is cut into tokens.
-use Rattle.std.specs.Prelude.{◌≡◌, ℕ, ◌+◌, ◌<◌, ◌≤◌, Bool, true, false, ◌||◌, ◌==◌, nat_le, List, [], ◌∷◌, length, take, drop, map, slice_index, Option, Some, None, unwrap_or, if◌then◌else◌, codes}
-use Rattle.std.specs.Char.{is_ascii_alphabetic, is_ascii_alphanumeric, is_ascii_digit}
+use Rattle.std.specs.Prelude.{◌≡◌, ℕ, ◌+◌, ◌<◌, ◌≤◌, Bool, true, false, ◌==◌, nat_le, List, [], ◌∷◌, length, take, drop, map, slice_index, Option, Some, None, unwrap_or, if◌then◌else◌, codes}
+use Rattle.std.specs.Char.{is_ascii_alphabetic, is_ascii_digit}
 use Rattle.std.specs.List.{list_all}
 use Rattle.std.specs.Str.{bytes_eq}
 use Rattle.rs_grammar.specs.declared.kind.TheConstants.{NAME_BYTES}
 use Rattle.rs_grammar.specs.declared.kind.TokenKind.{TokenKind}
 use Rattle.rs_grammar.specs.declared.kind.TokenKind.TheVariants as kinds
+use Rattle.rs_grammar.specs.Words.{is_word_byte}
 use Rattle.rs_lexer.specs.declared.token.Token.{Token}
 
 -- the reserved words
@@ -73,10 +74,6 @@ kind_in (row ∷ rows) word = if bytes_eq row.0 word then Some row.1 else kind_i
 -- a reserved word, else a name, unless it is too long for one
 unfoldable pub word_kind : List ℕ → TokenKind
 word_kind word = unwrap_or (kind_in reserved word) (if nat_le (length word) NAME_BYTES then kinds.Name else kinds.LongWord)
-
--- what a word has behind its first letter
-abbrev pub is_word_byte : ℕ → Bool
-is_word_byte byte = is_ascii_alphanumeric byte || (byte == 95)
 
 -- one or more digits
 abbrev pub is_whole : List ℕ → Bool

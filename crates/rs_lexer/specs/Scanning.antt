@@ -7,7 +7,8 @@ use Rattle.rs_grammar.specs.declared.kind.TokenKind.TheVariants as kinds
 use Rattle.rs_grammar.specs.declared.kind.Reserved.{Reserved}
 use Rattle.rs_lexer.specs.declared.scan.State.{State}
 use Rattle.rs_lexer.specs.declared.scan.State.TheVariants as states
-use Rattle.rs_lexer.specs.Lexis.{word_kind, is_word_byte, is_whole, is_fraction, is_quoted_rest, single_kind, less_kind, greater_kind, alone, kind_of}
+use Rattle.rs_grammar.specs.Words.{is_word_byte}
+use Rattle.rs_lexer.specs.Lexis.{word_kind, is_whole, is_fraction, is_quoted_rest, single_kind, less_kind, greater_kind, alone, kind_of}
 
 -- the rows of a table of reserved words
 abbrev pub rows_of : List Reserved → List (List ℕ × TokenKind)

@@ -2,8 +2,9 @@
 //!
 //! It stops at the byte that no token goes on with, so a line is scanned in linear time.
 
-ghost use Rattle.std.specs.Prelude.{◌≡◌, ℕ, ◌+◌, ◌<◌, ◌≤◌, true, false, if◌then◌else◌, length, take, drop, MatchOption, None};
-ghost use Rattle.rs_lexer.specs.Lexis.{kind_in, word_kind, single_kind, kind_of, is_word_byte, IsLongestToken};
+ghost use Rattle.std.specs.Prelude.{◌≡◌, ℕ, ◌+◌, ◌<◌, ◌≤◌, true, false, if◌then◌else◌, length, take, MatchOption, None};
+ghost use Rattle.rs_grammar.specs.Words.{is_word_byte};
+ghost use Rattle.rs_lexer.specs.Lexis.{kind_in, word_kind, single_kind, kind_of, IsLongestToken};
 ghost use Rattle.rs_lexer.specs.Scanning.{rows_of, after, accepts, is_dead, kind_at, run};
 
 use rs_grammar::kind::{NAME_BYTES, RESERVED, Reserved, TokenKind};

@@ -1,4 +1,6 @@
 //! Lines and their tokens, with places counted by hand.
+//!
+//! They hold for each kind of token, for the longest match, and for lines that have no cut.
 
 use crate::{Token, TokenKind, tokens};
 use rs_measure::Refusal;

@@ -14,8 +14,11 @@ use std::alloc::Global;
 /// A token of a line: its kind, and the place and the number of its bytes in the line.
 #[derive(Clone, Copy, Debug)]
 pub struct Token {
+    /// What it is.
     pub kind: TokenKind,
+    /// How many bytes of the line stand before it.
     pub first: usize,
+    /// How many bytes it has.
     pub length: usize,
 }
 

@@ -1,4 +1,6 @@
-//! The limits of the machine, each once, by one name in code and definitions.
+//! The limits of the machine: how many routes, referents, tables, changes, sessions and bytes of a line there may be.
+//!
+//! Each stands here once; code and definitions take it under one name, so they cannot differ.
 
 /// How many routes there may be.
 pub const ROUTES: usize = 4_096;

@@ -3,9 +3,9 @@
 //! Promises that a `Measure` is always in that range, that exactly the texts of measures are read,
 //! and that what is printed is read back.
 
-ghost use Rattle.std.specs.Prelude.{◌≡◌, ℕ, ◌+◌, ◌-◌, ◌*◌, ◌/◌, ◌%◌, ◌^◌, ◌<◌, ◌≤◌, ◌∷◌, [], ◌++◌, List, length, codes, decimal, IfOk, IfErr, OnErr, IfSome, IfNone};
+ghost use Rattle.std.specs.Prelude.{◌≡◌, ℕ, ◌+◌, ◌-◌, ◌*◌, ◌/◌, ◌%◌, ◌^◌, ◌<◌, ◌≤◌, List, length, IfOk, IfErr, OnErr, IfSome, IfNone};
 ghost use Rattle.rs_measure.specs.declared.measure.TheConstants.{GREATEST_MEASURE};
-ghost use Rattle.rs_measure.specs.Measure.{AreDigits, AreWholeDigits, AreDecimals, SaysMeasure, number_of_digits, three_digits, measure_text};
+ghost use Rattle.rs_measure.specs.Measure.{AreWholeDigits, AreDecimals, SaysMeasure, number_of_digits, measure_text};
 
 use crate::digits::{push_three_digits, read_digits};
 use crate::refusal::Refusal;

@@ -4,7 +4,7 @@
 //! Promises that a `Part` is always in that range, that exactly the texts of percentages up to 100
 //! are read, and that what is printed is read back.
 
-ghost use Rattle.std.specs.Prelude.{◌≡◌, ℕ, ◌+◌, ◌-◌, ◌*◌, ◌/◌, ◌%◌, ◌^◌, ◌<◌, ◌≤◌, ◌∷◌, [], ◌++◌, List, length, codes, decimal, IfOk, IfErr, OnErr, IfSome, IfNone};
+ghost use Rattle.std.specs.Prelude.{◌≡◌, ℕ, ◌+◌, ◌-◌, ◌*◌, ◌/◌, ◌%◌, ◌^◌, ◌<◌, ◌≤◌, ◌++◌, List, length, IfOk, IfErr, OnErr, IfSome, IfNone};
 ghost use Rattle.rs_measure.specs.declared.part.TheConstants.{GREATEST_PART};
 ghost use Rattle.rs_measure.specs.Measure.{number_of_digits};
 ghost use Rattle.rs_measure.specs.Part.{ArePercentDigits, ArePercentDecimals, SaysPercent, SaysPart, seven_digits, part_text};

@@ -35,11 +35,11 @@ ceiling_in_range : (along whole : ℕ) → 0 < whole → along ≤ whole → cei
 ceiling_in_range along whole some inside =
     let below : ceiling (along * 1000000000) whole < 1000000001 = div_below (along * 1000000000 + (whole - 1)) whole 1000000001 some (omega arith) in omega arith
 
--- how a measure of the route is expressed can be printed
-printable : (start finish k : ℕ) (referents : List Mark) (method : Method) → start ≤ k → k ≤ finish → start < finish → k ≤ 999999999 → AreWords referents
+-- how a measure of the route is expressed can be printed, by the relative method where the names are words
+printable : (start finish k : ℕ) (referents : List Mark) (method : Method) → start ≤ k → k ≤ finish → start < finish → k ≤ 999999999 → (method ≡ methods.Relative → AreWords referents)
     → IsPrintable (expression_at start finish referents method k)
 printable start finish k referents methods.Absolute low high ordered fits words = fits
-printable start finish k referents methods.Relative low high ordered fits words = (nearest_is_word start k referents words, omega arith)
+printable start finish k referents methods.Relative low high ordered fits words = (nearest_is_word start k referents (words refl), omega arith)
 printable start finish k referents methods.Interpolative low high ordered fits words = ceiling_in_range (k - start) (finish - start) (omega arith) (omega arith)
 
 says_text : {A E : Type 0} (r : Result (String A) E) (position : PositionExpression) → IsPrintable position → IfOk r (λ text. string_bytes text ≡ expression_text position)
@@ -49,7 +49,7 @@ says_text (Err e) position fits printed = tt
 
 -- So the text says the position.
 pub says_expressed : {A E : Type 0} (start finish k : ℕ) (referents : List Mark) (method : Method) (r : Result (String A) E) → start ≤ k → k ≤ finish → start < finish → k ≤ 999999999
-    → IfOk r (λ text. string_bytes text ≡ expression_text (expression_at start finish referents method k)) → AreWords referents
+    → IfOk r (λ text. string_bytes text ≡ expression_text (expression_at start finish referents method k)) → (method ≡ methods.Relative → AreWords referents)
     → IfOk r (λ text. SaysPosition (string_bytes text) (expression_at start finish referents method k))
 says_expressed start finish k referents method r low high ordered fits printed words =
     says_text r (expression_at start finish referents method k) (printable start finish k referents method low high ordered fits words) printed

@@ -5,10 +5,11 @@ use Rattle.std.specs.Char.{is_ascii_alphabetic}
 use Rattle.std.proofs.lemmas.List.{append_cancel_right}
 use Rattle.std.proofs.lemmas.List.Folds.{list_all-append}
 use Rattle.std.proofs.lemmas.Bool.Decides.{nat_tests}
+use Rattle.rs_grammar.specs.Words.{is_word_byte}
 use Rattle.rs_measure.specs.Measure.{AreDigits, SaysMeasure, measure_text}
 use Rattle.rs_measure.specs.Part.{SaysPart, SaysPercent, part_text}
 use Rattle.rs_methods.specs.Position.{PositionExpression, absolute, beyond, before, interpolative, expression_text}
-use Rattle.rs_methods.specs.PositionText.{is_name_byte, IsWord, SaysReferent, SaysSigned, SaysPercentage, SaysPosition, IsPrintable}
+use Rattle.rs_methods.specs.PositionText.{IsWord, SaysReferent, SaysSigned, SaysPercentage, SaysPosition, IsPrintable}
 use Rattle.rs_methods.proofs.ReferentList.{both, first, second}
 
 -- What is printed says the position.
@@ -64,27 +65,27 @@ percent_sign_is_no_number (byte ∷ bytes) are = percent_sign_is_no_number bytes
 -- A name ends at the first byte that is none of its own.
 abbrev pub ends_name : List ℕ → Bool
 ends_name [] = true
-ends_name (byte ∷ bytes) = not (is_name_byte byte)
+ends_name (byte ∷ bytes) = not (is_word_byte byte)
 
 not_both : (b : Bool) → b ≡ true → not b ≡ true → ⊥
 not_both true is denied = cc
 not_both false is denied = cc
 
-names_same : (a b x y : List ℕ) → list_all is_name_byte a ≡ true → list_all is_name_byte b ≡ true → ends_name x ≡ true → ends_name y ≡ true → a ++ x ≡ b ++ y → (a ≡ b) × (x ≡ y)
+names_same : (a b x y : List ℕ) → list_all is_word_byte a ≡ true → list_all is_word_byte b ≡ true → ends_name x ≡ true → ends_name y ≡ true → a ++ x ≡ b ++ y → (a ≡ b) × (x ≡ y)
 names_same [] [] x y left right p q same = (refl, same)
-names_same [] (b ∷ rest_b) x y left right p q same = absurd (not_both (is_name_byte b) (first _ _ right) (subst (λ l. ends_name l ≡ true) same p))
-names_same (a ∷ rest_a) [] x y left right p q same = absurd (not_both (is_name_byte a) (first _ _ left) (subst (λ l. ends_name l ≡ true) (sym same) q))
+names_same [] (b ∷ rest_b) x y left right p q same = absurd (not_both (is_word_byte b) (first _ _ right) (subst (λ l. ends_name l ≡ true) same p))
+names_same (a ∷ rest_a) [] x y left right p q same = absurd (not_both (is_word_byte a) (first _ _ left) (subst (λ l. ends_name l ≡ true) (sym same) q))
 names_same (a ∷ rest_a) (b ∷ rest_b) x y left right p q same =
     let heads : a ≡ b = ap (λ l. get_or l 0 0) same in
     let rest : (rest_a ≡ rest_b) × (x ≡ y) = names_same rest_a rest_b x y (second _ _ left) (second _ _ right) p q (ap (drop 1) same) in
     ((λ i. heads i ∷ rest.0 i), rest.1)
 
-letter_is_name_byte : (byte : ℕ) → is_ascii_alphabetic byte ≡ true → is_name_byte byte ≡ true
-letter_is_name_byte byte is = grind (arith, nat_tests)
+letter_is_word_byte : (byte : ℕ) → is_ascii_alphabetic byte ≡ true → is_word_byte byte ≡ true
+letter_is_word_byte byte is = grind (arith, nat_tests)
 
-word_bytes : (name : List ℕ) → IsWord name → list_all is_name_byte name ≡ true
+word_bytes : (name : List ℕ) → IsWord name → list_all is_word_byte name ≡ true
 word_bytes [] word = absurd word
-word_bytes (byte ∷ bytes) word = both _ _ (letter_is_name_byte byte word.0) word.1
+word_bytes (byte ∷ bytes) word = both _ _ (letter_is_word_byte byte word.0) word.1
 
 -- `@`, a name and what stands behind it
 pub record IsRelative (text name rest : List ℕ) : Type 0 where
@@ -108,13 +109,13 @@ signed : (sign : ℕ) (text name : List ℕ) (measure : ℕ) (number : List ℕ)
 signed sign text name measure number said = record { word = said.name_is_word; cut = said.cut ∙ ap (λ l. 64 ∷ l) (append_assoc name (sign ∷ []) number) }
 
 -- One name and one measure.
-signed_one : ((text : List ℕ) (a b : ℕ) → SaysMeasure text a → SaysMeasure text b → a ≡ b) → (sign : ℕ) → not (is_name_byte sign) ≡ true → (text a b : List ℕ) (m n : ℕ) (x y : List ℕ)
+signed_one : ((text : List ℕ) (a b : ℕ) → SaysMeasure text a → SaysMeasure text b → a ≡ b) → (sign : ℕ) → not (is_word_byte sign) ≡ true → (text a b : List ℕ) (m n : ℕ) (x y : List ℕ)
     → SaysSigned (sign ∷ []) text a m x → SaysSigned (sign ∷ []) text b n y → (a ≡ b) × (m ≡ n)
 signed_one measures sign ends text a b m n x y said again =
     let same : (a ≡ b) × (sign ∷ x ≡ sign ∷ y) = one_cut text a b (sign ∷ x) (sign ∷ y) (signed sign text a m x said) (signed sign text b n y again) ends ends in
     (same.0, measures y m n (subst (λ l. SaysMeasure l m) (ap (drop 1) same.1) said.measure_said) again.measure_said)
 
-alone_not_signed : (sign : ℕ) → not (is_name_byte sign) ≡ true → (text a b : List ℕ) (m n : ℕ) (y : List ℕ) → SaysReferent text a m → SaysSigned (sign ∷ []) text b n y → ⊥
+alone_not_signed : (sign : ℕ) → not (is_word_byte sign) ≡ true → (text a b : List ℕ) (m n : ℕ) (y : List ℕ) → SaysReferent text a m → SaysSigned (sign ∷ []) text b n y → ⊥
 alone_not_signed sign ends text a b m n y said again =
     let same : (a ≡ b) × ([] ≡ sign ∷ y) = one_cut text a b [] (sign ∷ y) (alone text a m said) (signed sign text b n y again) refl ends in
     omega (arith, ap length same.1)

@@ -1,10 +1,10 @@
 //! How a measure of a route is printed as a position.
 //!
-//! Where the names of the route's referents are words, what is printed for a measure says one position,
-//! and that position lies at the measure, by each method. By the relative one it is printed with the
-//! nearest referent that is not above it.
+//! What is printed for a measure says one position, and that position lies at the measure. By the relative
+//! method it is printed with the nearest referent that is not above it, and there the names of the route's
+//! referents are to be words.
 
-ghost use Rattle.std.specs.Prelude.{◌≡◌, ℕ, ◌+◌, ◌-◌, ◌*◌, ◌/◌, ◌<◌, ◌≤◌, List, Ok, IfOk, string_bytes};
+ghost use Rattle.std.specs.Prelude.{◌≡◌, ◌≢◌, ℕ, ◌+◌, ◌-◌, ◌*◌, ◌/◌, ◌<◌, ◌≤◌, List, Ok, IfOk, string_bytes};
 ghost use Rattle.rs_measure.specs.declared.part.TheConstants.{GREATEST_PART};
 ghost use Rattle.rs_methods.specs.Position.{beyond, ceiling, expression_text, interpolative, nearest, IsNearest};
 ghost use Rattle.rs_methods.specs.OnRoute.{located_on, expressed_on};
@@ -36,10 +36,13 @@ pub fn express(
     // above k, and at that measure the least name.
     ensures by_the_nearest { (near : List ℕ × ℕ) → method ≡ Method.Relative → IsNearest route.now.start (referents_of route.now.number referents.now) k near → IfOk result (λ text. string_bytes text ≡ expression_text (beyond near.0 (k - near.1))) }
 
-    // Where the names of the route's referents are words, the text says this position ..
-    ensures says { AreWords (referents_of route.now.number referents.now) → IfOk result (λ text. SaysPosition (string_bytes text) (expressed_on route.now referents.now method k)) }
+    // By the relative method the text says this position where the names of the route's referents are words ..
+    ensures says { method ≡ Method.Relative → AreWords (referents_of route.now.number referents.now) → IfOk result (λ text. SaysPosition (string_bytes text) (expressed_on route.now referents.now method k)) }
 
-    // .. which lies at k.
+    // .. and by the others it says it whatever the names are.
+    ensures says_without_names { method ≢ Method.Relative → IfOk result (λ text. SaysPosition (string_bytes text) (expressed_on route.now referents.now method k)) }
+
+    // The position lies at k.
     ensures read_back { located_on route.now referents.now (expressed_on route.now referents.now method k) ≡ Ok k }
 {
     // A measure is in its range, so its text is read back.

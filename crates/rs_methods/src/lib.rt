@@ -1,8 +1,8 @@
 //! Positions on a route by three methods: absolute, relative to a referent, and interpolative.
 //!
-//! `locate` says where a position lies, `express` writes a measure as a position. Where the names of the
-//! route's referents are words, the text that `express` writes says one position, and that position
-//! lies at the measure.
+//! `locate` says where a position lies, `express` writes a measure as a position. That text says
+//! one position, which lies at the measure; by the relative method it does where the names of the route's
+//! referents are words.
 #![tactic(auto)]
 
 pub mod expressing;

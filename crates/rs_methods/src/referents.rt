@@ -3,7 +3,7 @@
 //! Promises that each is there once, in order, and that START, which every route has, is not among
 //! them.
 
-ghost use Rattle.std.specs.Prelude.{ℕ, List, false, ◌≡◌, ◌<◌, ◌≤◌, ◌&&◌, ◌∷◌, [], not, nat_eq, nat_le, map, length, filter, Some, None, IsOk, OnOk, OnErr, IfOk, IfErr, MatchResult, ◌≢◌};
+ghost use Rattle.std.specs.Prelude.{ℕ, List, false, ◌≡◌, ◌<◌, ◌≤◌, ◌&&◌, [], not, nat_eq, nat_le, map, length, filter, Some, None, IsOk, OnOk, OnErr, IfOk, IfErr, MatchResult, ◌≢◌};
 ghost use Rattle.std.specs.Ordering.{is_lt, nat_cmp};
 ghost use Rattle.std.specs.Cmp.Lexicographic.{slice_cmp};
 ghost use Rattle.std.specs.Str.{bytes_eq};

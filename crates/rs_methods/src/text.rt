@@ -1,8 +1,8 @@
 //! What the text of a position says.
 //!
 //! Promises that the printed text of a position whose name is a word says that position, and that a text
-//! says one position at the most. So what `express` prints is read back where the names of the route's
-//! referents are words.
+//! says one position at the most. So what `express` prints is read back; by the relative method it is where
+//! the names of the route's referents are words.
 
 ghost use Rattle.std.specs.Prelude.{◌≡◌, List, ℕ};
 ghost use Rattle.rs_methods.specs.Position.{PositionExpression, expression_text};

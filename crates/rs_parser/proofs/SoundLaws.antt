@@ -16,7 +16,8 @@ use Rattle.rs_parser.specs.declared.syntax.WrittenType.TheVariants as written_ty
 use Rattle.rs_parser.specs.declared.syntax.WrittenColumn.{WrittenColumn}
 use Rattle.rs_parser.specs.declared.syntax.WrittenValue.{WrittenValue}
 use Rattle.rs_parser.specs.declared.syntax.WrittenValue.TheVariants as written_values
-use Rattle.rs_lexer.specs.Lexis.{is_word_byte, text_of, IsTokenOf}
+use Rattle.rs_grammar.specs.Words.{is_word_byte}
+use Rattle.rs_lexer.specs.Lexis.{text_of, IsTokenOf}
 use Rattle.rs_methods.specs.Position.{PositionExpression}
 use Rattle.rs_parser.specs.declared.syntax.WrittenPosition.{WrittenPosition}
 use Rattle.rs_parser.specs.declared.syntax.WrittenPosition.TheVariants as written_positions

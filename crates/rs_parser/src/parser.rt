@@ -2,7 +2,7 @@
 //!
 //! The syntax comes before the ranges of numbers, and an unknown character before both.
 
-ghost use Rattle.std.specs.Prelude.{◌≡◌, ℕ, List, Result, ◌+◌, ◌<◌, ◌≤◌, ◌⊎◌, [], Ok, Err, length, take, drop, IfOk, IfErr, OnOk, All};
+ghost use Rattle.std.specs.Prelude.{◌≡◌, ℕ, List, Result, ◌+◌, ◌<◌, ◌≤◌, ◌⊎◌, [], Ok, Err, length, take, IfOk, IfErr, OnOk, All};
 ghost use Rattle.rs_lexer.specs.Lexis.{kinds_of, IsTokenOf};
 ghost use Rattle.rs_grammar.specs.Grammar.{IsShallow, command_form};
 ghost use Rattle.rs_parser.specs.Written.{spelling};

@@ -1,4 +1,6 @@
 //! Lines with positions, methods and referents, and their answers, with columns counted by hand.
+//!
+//! They hold for each form of a position, for the ends of the ranges of its numbers, and for where its syntax fails.
 
 use crate::tests::{command, expect_absolute, expect_all, expect_columns};
 use crate::{Command, Method, Place, Position, Sign};

@@ -17,7 +17,9 @@ pub enum WrittenType {
 /// A column of a table as written.
 #[derive(Clone, Copy)]
 pub struct WrittenColumn {
+    /// Its name.
     pub name: Token,
+    /// Its type.
     pub column_type: WrittenType,
 }
 
@@ -52,7 +54,9 @@ pub enum WrittenPosition {
 pub enum WrittenPlace {
     /// `FROM` a position `TO` another.
     Along {
+        /// Where it begins.
         from: WrittenPosition,
+        /// Where it ends.
         to: WrittenPosition,
     },
 }
@@ -62,48 +66,70 @@ pub enum WrittenPlace {
 pub enum WrittenCommand {
     /// `DEFINE ROUTE`.
     DefineRoute {
+        /// The route's name.
         name: Token,
+        /// The measure at which it starts.
         start: Token,
+        /// The measure at which it ends.
         finish: Token,
     },
     /// `DEFINE LINE TABLE`.
     DefineTable {
+        /// The table's name.
         name: Token,
+        /// Its columns, from the left.
         columns: Vec<WrittenColumn>,
     },
     /// `DEFINE REFERENT`.
     DefineReferent {
+        /// The route's name.
         route: Token,
+        /// The referent's name.
         name: Token,
+        /// Where it is put.
         position: WrittenPosition,
     },
     /// `MOVE REFERENT`.
     MoveReferent {
+        /// The route's name.
         route: Token,
+        /// The referent's name.
         name: Token,
+        /// Where it is moved.
         position: WrittenPosition,
     },
     /// `DROP REFERENT`.
     DropReferent {
+        /// The route's name.
         route: Token,
+        /// The referent's name.
         name: Token,
     },
     /// `INSERT`.
     Insert {
+        /// The table's name.
         table: Token,
+        /// The route's name.
         route: Token,
+        /// Where the event is put.
         place: WrittenPlace,
+        /// Its row, from the left.
         values: Vec<WrittenValue>,
     },
     /// `TRANSLATE`.
     Translate {
+        /// The route's name.
         route: Token,
+        /// The position on it.
         position: WrittenPosition,
+        /// How it is to be printed.
         method: Method,
     },
     /// `SELECT`, with the method behind `AS` where there is one.
     Select {
+        /// The table's name.
         table: Token,
+        /// How positions are to be printed, where the line says it.
         method: Option<Method>,
     },
 }

@@ -1,4 +1,6 @@
 //! Lines and their answers, with columns counted by hand.
+//!
+//! They hold for each command of a route or a table: what it says, where its syntax fails, which numbers are refused.
 
 use crate::{Command, Method, Place, Position, Query, command_of};
 use rs_measure::Refusal;

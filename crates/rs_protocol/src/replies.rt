@@ -1,4 +1,4 @@
-//! The text of replies: ROW lines and an OK line, or one ERR line alone.
+//! The text of a reply: the rows of an answer and its count, or its refusal.
 //!
 //! Digits are made on the stack, so that a reply takes no memory.
 

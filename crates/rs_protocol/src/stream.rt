@@ -1,8 +1,9 @@
 //! The server's loop: what a reader tells is cut into lines, and each line is answered into a writer.
 //!
-//! It takes no memory of its own and never flushes. No failed call is tried again.
+//! Its own buffers lie on the stack: memory is asked for by the reading of a command and by the engine alone. It flushes
+//! no writer, and tries no failed call again.
 
-ghost use Rattle.std.specs.Prelude.{◌≡◌, ◌==◌, ℕ, List, [], if◌then◌else◌, IfOk, IfErr};
+ghost use Rattle.std.specs.Prelude.{◌≡◌, ◌==◌, ℕ, List, if◌then◌else◌, IfOk, IfErr};
 ghost use Rattle.std.specs.Io.KnownBytes.{Consumes};
 ghost use Rattle.arrayvec.specs.ArrayVec.{array_vec_len};
 ghost use Rattle.rs_engine.specs.View.{machine_of};
@@ -21,28 +22,29 @@ const PIECE_BYTES: usize = 4_096;
 /// How the input ended.
 #[derive(Clone, Copy, PartialEq, Eq, Debug)]
 pub enum End {
-    /// At the end of a line, or before the first one.
+    /// Right behind an LF, or with no byte at all.
     Whole,
-    /// Inside a line, which is not answered.
+    /// Behind bytes that no LF follows; they get no reply.
     CutLine,
 }
 
-/// What ended the service before the input did.
+/// Why the service stopped before its input was served to the end.
 #[derive(Clone, Copy, PartialEq, Eq, Debug, Error)]
 pub enum Fault {
-    /// A read failed, or 2^32 - 1 reads did not reach the end.
+    /// The reader failed, or was asked 2^32 - 1 times and had still not told its end.
     #[error("read fault")]
     Read,
-    /// A write failed, or took nothing.
+    /// The writer failed, or accepted no byte.
     #[error("write fault")]
     Write,
 }
 
 /// Serves the lines that the reader tells, until its end or a fault.
 ///
-/// A line is answered once its LF was read, before the next read. After `Read` the lines read whole are
-/// answered; after `Write` the bytes out are a front of the replies, and what was accepted stands.
-/// `alloc` serves the reading of commands alone: where memory is wanting, that line is answered 90.
+/// As soon as a piece of the input has a line's LF, that line is served and its reply written; only then
+/// is more read. So `Read` leaves no whole line without its reply. `Write` may leave a reply cut off at any byte, while
+/// the engine keeps what it had accepted by then. `alloc` is for tokens and commands: a line that finds no
+/// memory for them gets `Refusal::OutOfMemory` (90), and the next one is served.
 pub fn run<R: Read, W: Write>(
     alloc: Global,
     engine: &mut Engine,
@@ -65,7 +67,7 @@ pub fn run<R: Read, W: Write>(
     Err(Fault::Read)
 }
 
-/// How an input ended behind which these bytes were kept.
+/// How the input ended, by what is kept of its last line.
 fn end_of(kept: &Kept) -> End
     ensures { result ≡ (if array_vec_len kept.now == 0 then Whole else CutLine) }
 {
@@ -78,8 +80,8 @@ fn end_of(kept: &Kept) -> End
 
 /// Serves the lines of the input, and gives what is answered.
 ///
-/// A fault ends it, with what was accepted standing: `Write`, of which the answers are lost, where memory is wanting for
-/// them; or `Read`, where the reads that `run` makes at the most did not reach the input's end.
+/// `Write` where no memory is left for the replies, which are lost with it; `Read` where the input is longer than the
+/// reads of one `run`. Either way the engine keeps what it had accepted by then.
 pub fn answer(alloc: Global, engine: &mut Engine, input: &[u8]) -> Result<Vec<u8>, Fault>
     ensures answered { IfOk result (λ written.
         AnswersInput input.now written.items (machine_of engine.old) (machine_of engine.new)) }

@@ -1,4 +1,6 @@
-//! Faults, short reads and short writes: what changes is the fault alone.
+//! Faults, short reads and short writes.
+//!
+//! Where one read or write fails, what is answered before it stays as it was: what changes is the fault alone.
 
 use crate::stream::{End, Fault, answer, run};
 use rs_engine::Engine;

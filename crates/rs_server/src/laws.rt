@@ -1,4 +1,6 @@
 //! Laws of the command line: what some words ask.
+//!
+//! Promises which words ask to serve, which ask for help, and what is at fault where a word is missing.
 
 ghost use Rattle.std.specs.Prelude.{◌≡◌, List, ℕ, [], ◌∷◌, codes};
 ghost use Rattle.clap.specs.Words.{fault_of};

@@ -1,4 +1,6 @@
 //! Pseudo-random lines of four sessions over short routes, refused ones among them.
+//!
+//! It keeps the generator's choices and the names that lines speak of. A seed gives the same lines each time.
 
 use crate::random_positions::{Half, RandomChoices, RandomRoute, measure, position};
 use std::alloc::{AllocError, Global};

@@ -1,5 +1,7 @@
-//! Pseudo-random measures, percentages and positions behind and before referents; a few are out of range, or lie
-//! beyond the route.
+//! Pseudo-random measures, percentages and positions behind and before referents.
+//!
+//! It keeps the generator and the routes that it is asked for. Most positions lie on their route; a few are out of
+//! range, or lie beyond it.
 
 use rand_core::utils::NextWord;
 use rand_pcg::Pcg32;

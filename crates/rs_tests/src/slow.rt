@@ -1,4 +1,7 @@
 //! The slow machine: it answers lines thousandth by thousandth, over sets of rows.
+//!
+//! It keeps routes and tables in the order of their definition, reads and checks each line by itself, and names no
+//! function of the crates that it judges.
 
 use crate::slow_lines::{number, push_row, thousandths, unquoted};
 use crate::slow_positions::{locate, position_of, push_position};
@@ -265,18 +268,13 @@ impl SlowMachine {
         row: &SlowRow,
     ) -> Result<u64, No> {
         let alloc = self.alloc;
-        let mut new_facts = 0u64;
         for table in &mut self.tables {
             if same(&table.name, name) {
                 check_row(&table.columns, row)?;
-                for place in from..to {
-                    if table.put(alloc, route, place, row)? {
-                        new_facts = new_facts.saturating_add(1);
-                    }
-                }
+                return put_each(alloc, table, route, from, to, row);
             }
         }
-        Ok(new_facts)
+        Ok(0)
     }
 
     fn values(&self, reader: &mut SlowReader<'_>) -> Result<(SlowRow, bool), No> {
@@ -328,23 +326,46 @@ impl SlowMachine {
             method = reader.method()?;
         }
         reader.end()?;
+        let table = self.table(name)?;
+        let names = self.route_names()?;
+        for route in &names {
+            let route = self.route(route.as_slice())?;
+            self.runs_on(table, route, method, rows)?;
+        }
+        Ok(rows.len() as u64)
+    }
+
+    fn table(&self, name: &[u8]) -> Result<&SlowTable, No> {
+        for table in &self.tables {
+            if same(&table.name, name) {
+                return Ok(table);
+            }
+        }
+        Err(No::Words("21 no such name"))
+    }
+
+    /// The names of the routes, in order.
+    fn route_names(&self) -> Result<Vec<Vec<u8>>, No> {
         let mut names = Vec::new(self.alloc);
         for route in &self.routes {
             names.push(Vec::from_slice(self.alloc, route.name.as_slice())?)?;
         }
         names.sort()?;
-        for table in &self.tables {
-            if same(&table.name, name) {
-                for route in &names {
-                    let route = self.route(route.as_slice())?;
-                    for place in route.start..route.finish {
-                        self.runs_from(table, route, place, method, rows)?;
-                    }
-                }
-                return Ok(rows.len() as u64);
-            }
+        Ok(names)
+    }
+
+    /// The runs on one route, thousandth by thousandth.
+    fn runs_on(
+        &self,
+        table: &SlowTable,
+        route: &SlowRoute,
+        method: SlowMethod,
+        rows: &mut Vec<Vec<u8>>,
+    ) -> Result<(), No> {
+        for place in route.start..route.finish {
+            self.runs_from(table, route, place, method, rows)?;
         }
-        Err(No::Words("21 no such name"))
+        Ok(())
     }
 
     /// The runs that begin at one thousandth: their rows did not hold right before it.
@@ -361,13 +382,7 @@ impl SlowMachine {
             if place > route.start && table.holds(name, place.saturating_sub(1), row) {
                 continue;
             }
-            let mut end = place;
-            for next in place..route.finish {
-                if !table.holds(name, next, row) {
-                    break;
-                }
-                end = next.saturating_add(1);
-            }
+            let end = end_of_run(table, route, place, row);
             let mut line = Vec::from_slice(self.alloc, name)?;
             line.extend_from_slice(b" ")?;
             push_position(&mut line, self.alloc, route, method, place)?;
@@ -380,6 +395,34 @@ impl SlowMachine {
     }
 }
 
+/// Puts the row at each thousandth of the span, and says at how many it was not there.
+fn put_each(
+    alloc: Global,
+    table: &mut SlowTable,
+    route: &[u8],
+    from: u32,
+    to: u32,
+    row: &SlowRow,
+) -> Result<u64, No> {
+    let mut new_facts = 0u64;
+    for place in from..to {
+        if table.put(alloc, route, place, row)? {
+            new_facts = new_facts.saturating_add(1);
+        }
+    }
+    Ok(new_facts)
+}
+
+/// The first thousandth from this one on at which the row does not hold, or the route's end.
+fn end_of_run(table: &SlowTable, route: &SlowRoute, place: u32, row: &SlowRow) -> u32 {
+    for next in place..route.finish {
+        if !table.holds(route.name.as_slice(), next, row) {
+            return next;
+        }
+    }
+    route.finish
+}
+
 fn signed(is_below_zero: bool, n: u64) -> i64 {
     let n = i64::try_from(n).unwrap_or(0);
     if is_below_zero { n.wrapping_neg() } else { n }
@@ -387,10 +430,18 @@ fn signed(is_below_zero: bool, n: u64) -> i64 {
 
 fn is_column_twice(columns: &Vec<SlowColumn>) -> bool {
     for (i, column) in columns.iter().enumerate() {
-        for (j, other) in columns.iter().enumerate() {
-            if i < j && column.name == other.name {
-                return true;
-            }
+        if is_named_before(columns, i, column) {
+            return true;
+        }
+    }
+    false
+}
+
+/// Whether one of the first columns, so many of them, has the name of this one.
+fn is_named_before(columns: &Vec<SlowColumn>, count: usize, column: &SlowColumn) -> bool {
+    for other in columns.iter().take(count) {
+        if other.name == column.name {
+            return true;
         }
     }
     false
@@ -400,6 +451,11 @@ fn check_row(columns: &Vec<SlowColumn>, row: &SlowRow) -> Result<(), No> {
     if columns.len() != row.len() {
         return Err(No::Words("33 wrong type or number of values"));
     }
+    check_types(columns, row)?;
+    check_lengths(columns, row)
+}
+
+fn check_types(columns: &Vec<SlowColumn>, row: &SlowRow) -> Result<(), No> {
     for (column, value) in columns.iter().zip(row.iter()) {
         match (column.text, value) {
             (None, SlowValue::Text(_)) | (Some(_), SlowValue::Number(_)) => {
@@ -408,6 +464,10 @@ fn check_row(columns: &Vec<SlowColumn>, row: &SlowRow) -> Result<(), No> {
             _ => {}
         }
     }
+    Ok(())
+}
+
+fn check_lengths(columns: &Vec<SlowColumn>, row: &SlowRow) -> Result<(), No> {
     for (column, value) in columns.iter().zip(row.iter()) {
         if let (Some(most), SlowValue::Text(bytes)) = (column.text, value)
             && bytes.len() > most

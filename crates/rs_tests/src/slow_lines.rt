@@ -1,4 +1,6 @@
 //! The texts that the slow machine writes and the numbers that it reads.
+//!
+//! Digits are added up one by one; a number past its bound is `None`.
 
 use crate::slow_tables::{SlowRow, SlowValue};
 use std::alloc::{AllocError, Global};

@@ -85,15 +85,22 @@ fn least_share(route: &SlowRoute, place: u32) -> u64 {
     let mut below = 0u64;
     let mut step = 1_000_000_000u64;
     for _ in 0..10 {
-        for _ in 0..9 {
-            let tried = below.saturating_add(step);
-            if share_of(route, tried) < place {
-                below = tried;
-            }
-        }
+        below = nine_steps_below(route, place, below, step);
         step /= 10;
     }
     below.saturating_add(1)
+}
+
+/// The billionths after up to nine more steps of one size, each of which is still read below the thousandth.
+fn nine_steps_below(route: &SlowRoute, place: u64, from: u64, step: u64) -> u64 {
+    let mut below = from;
+    for _ in 0..9 {
+        let tried = below.saturating_add(step);
+        if share_of(route, tried) < place {
+            below = tried;
+        }
+    }
+    below
 }
 
 /// Appends the thousandth in the method.

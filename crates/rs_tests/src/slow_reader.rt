@@ -1,4 +1,6 @@
 //! The slow machine's reading of a line: its tokens one by one, and the column of the first that does not fit.
+//!
+//! It keeps the tokens that are left. Each call takes what has to stand next, or tells the column where it does not.
 
 use std::alloc::{AllocError, Global};
 

@@ -1,4 +1,6 @@
 //! What the slow machine keeps: for each table, route and thousandth the set of rows that hold there.
+//!
+//! A row is in such a set once. Nothing is kept by spans, so nothing has to be joined or cut.
 
 use std::alloc::{AllocError, Global};
 use std::collections::BTreeMap;

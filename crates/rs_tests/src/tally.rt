@@ -1,5 +1,6 @@
-//! Counts of random lines by what they ask and how they are answered, so that a generator whose lines are mostly
-//! refused is noticed.
+//! Counts of random lines by what they ask and how they are answered.
+//!
+//! A generator whose lines are mostly refused, or never of some sort, is noticed by them.
 
 /// Lines of one sort: what the text behind the session begins with, what stands in it, what stands in the reply, and
 /// how many of them are wanted at the least.

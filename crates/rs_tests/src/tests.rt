@@ -1,4 +1,6 @@
 //! The program's answers beside those that are stated, and beside those of the slow machine.
+//!
+//! Worked conversations and the limits are compared with replies written by hand, random lines with the slow machine's.
 
 use crate::random_lines::{BEGINNING, LONG_BEGINNING, LONG_ROUTES, ROUTES, RandomLines};
 use crate::slow::SlowMachine;

@@ -1,4 +1,6 @@
 //! Worked conversations: what is sent and what must be answered, as the specification states them.
+//!
+//! Each starts with no routes and no tables. No reply was taken from the program's output.
 
 /// Each line is behind `> ` where it is sent and behind `< ` where it must be answered.
 pub struct Conversation {
@@ -11,7 +13,7 @@ pub struct Conversation {
 }
 
 /// The conversations.
-pub const CONVERSATIONS: [Conversation; 18] = [
+pub const CONVERSATIONS: [Conversation; 19] = [
     Conversation {
         name: "an empty table has no rows",
         sent: b"0 DEFINE ROUTE A FROM 0 TO 10\n0 DEFINE LINE TABLE pave (surf TEXT(8))\n0 SELECT pave\n",
@@ -48,6 +50,17 @@ pub const CONVERSATIONS: [Conversation; 18] = [
         answered: b"0 OK 0\n0 OK 0\n0 OK 1000\n0 OK 1000\n0 ROW A 0.000 2.000 'AC'\n0 OK 1\n0 OK 0\n0 ROW A 0.000 2.000 'AC'\n0 OK 1\n\
 0 OK 500\n0 ROW A 0.000 2.500 'AC'\n0 OK 1\n\
 0 ERR 31 empty span\n0 ERR 30 outside the route\n0 ERR 12 number out of range\n0 ERR 34 text too long\n0 ROW A 0.000 2.500 'AC'\n0 OK 1\n",
+    },
+    Conversation {
+        name: "a column named twice is refused behind the table's name and before the count of columns",
+        sent: b"0 DEFINE LINE TABLE t (a INT, b TEXT(8), a INT)\n0 SELECT t\n0 DEFINE LINE TABLE t (a INT, a TEXT(41))\n\
+0 DEFINE LINE TABLE t (a INT, A INT)\n0 DEFINE LINE TABLE t (a INT, a INT)\n\
+0 DEFINE LINE TABLE u (a INT, b INT, c INT, d INT, e INT, f INT, g INT, h INT, i INT, j INT, k INT, l INT, a INT)\n\
+0 DEFINE LINE TABLE u (a INT, b INT, c INT, d INT, e INT, f INT, g INT, h INT, i INT, j INT, k INT, l INT, m INT)\n0 SELECT u\n",
+        answered: b"0 ERR 41 column twice\n0 ERR 21 no such name\n0 ERR 12 number out of range\n\
+0 OK 0\n0 ERR 24 name taken\n\
+0 ERR 41 column twice\n\
+0 ERR 27 limit\n0 ERR 21 no such name\n",
     },
     Conversation {
         name: "lines that are no commands",

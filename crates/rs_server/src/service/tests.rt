@@ -1,3 +1,7 @@
+//! The program called with words and streams of a test: what it answers, prints and takes for a fault.
+//!
+//! Readers and writers that fail show which fault decides the status, and that it alone is printed.
+
 use super::*;
 use crate::report::report_unread_words;
 use std::cell::Cell;

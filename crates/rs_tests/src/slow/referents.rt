@@ -1,10 +1,11 @@
 //! The slow machine's referents: DEFINE, MOVE and DROP REFERENT, and TRANSLATE.
+//!
+//! They lie in a list beside their route, which is searched from its front. Checks come in their order.
 
 use super::{No, SlowMachine, same};
 use crate::slow_positions::{SlowPosition, locate, position_of, push_position};
 use crate::slow_reader::{SlowReader, SlowWritten};
 use crate::slow_tables::SlowReferent;
-use std::alloc::Global;
 
 const REFERENTS: usize = 1000;
 
@@ -12,6 +13,15 @@ fn in_range(written: SlowWritten<'_>) -> Result<SlowPosition<'_>, No> {
     match position_of(written) {
         Some(position) => Ok(position),
         None => Err(No::Words("12 number out of range")),
+    }
+}
+
+/// Puts the referent of this name at a thousandth.
+fn put_at(referents: &mut Vec<SlowReferent>, name: &[u8], at: u32) {
+    for referent in referents {
+        if same(&referent.name, name) {
+            referent.at = at;
+        }
     }
 }
 
@@ -64,11 +74,7 @@ impl SlowMachine {
         let at = locate(self.route(route)?, position)?;
         for other in &mut self.routes {
             if same(&other.name, route) {
-                for referent in &mut other.referents {
-                    if same(&referent.name, name) {
-                        referent.at = at;
-                    }
-                }
+                put_at(&mut other.referents, name, at);
             }
         }
         Ok(0)

@@ -1,4 +1,6 @@
 //! The slow machine answers the worked conversations as they are stated.
+//!
+//! So what the program is compared with is itself held to replies that were written by hand.
 
 use super::SlowMachine;
 use crate::worked::CONVERSATIONS;

@@ -1,4 +1,6 @@
 //! The slow positions on values that were worked out by hand.
+//!
+//! Each thousandth of many short routes is printed and read back; positions beyond a route are refused.
 
 use super::{SlowPosition, billionths, least_share, locate};
 use crate::slow_tables::{SlowReferent, SlowRoute};

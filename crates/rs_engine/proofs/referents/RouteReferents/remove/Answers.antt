@@ -3,7 +3,8 @@ use Rattle.std.specs.Option.{option_copied_mut}
 use Rattle.std.specs.FinMap as names
 use Rattle.rs_facts.specs.Fact.{Names}
 use Rattle.rs_methods.specs.Referents.{is_key}
-use Rattle.rs_engine.specs.Kept.{KeptReferents, OWN_ROUTE, referents_kept}
+use Rattle.rs_engine.specs.declared.referents.TheConstants.{OWN_ROUTE}
+use Rattle.rs_engine.specs.Kept.{KeptReferents, referents_kept}
 use Rattle.rs_engine.specs.Names.{names_of}
 use Rattle.rs_engine.proofs.Names.{names_of-put}
 use Rattle.rs_engine.proofs.TableLaws.{some_there}
