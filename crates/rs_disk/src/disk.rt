@@ -38,7 +38,8 @@ pub trait Disk {
 
     /// Writes `bytes` from offset `at` on. A write past the end makes the disk longer, with zeros between.
     /// After a fault any bytes may stand in the range, and reads of it need not agree with one another,
-    /// until a write there succeeds; the size is as before or reaches into the range.
+    /// until a write there succeeds. The bytes outside the range stay, and the size is no less than before,
+    /// and no more than the greater of that and the range's end.
     fn write(&mut self, at: u64, bytes: &[u8]) -> Result<(), DiskFault>
         ensures written { IsTrue (is_honest self.old) → OnOk result (Holds (seen self.new) at bytes.now) }
         ensures others { IsTrue (is_honest self.old)
@@ -79,8 +80,8 @@ pub(crate) fn count(outcome: Result<(), DiskFault>, failures: &mut u64) -> Resul
     ensures same { result ≡ outcome }
     ensures count { Counts outcome failures.old failures.new }
 {
-    if outcome.is_err() && *failures < u64::MAX {
-        *failures += 1;
+    if outcome.is_err() {
+        *failures = failures.saturating_add(1);
     }
     outcome
 }

@@ -1,28 +1,27 @@
 -- A page comes into use, or out of it.
 use Rattle.std.proofs.Common.{◌≡◌, ◌≢◌, ◌<◌, ◌≤◌, ◌+◌, ◌-◌, ℕ, zero, suc, Option, Some, None, IsSome, IfSome, IsTrue, Result, Ok, Err, IfOk, OnErr, List, [], ◌∷◌, ◌++◌, set, length, get_or, slice_index, ap, sym, ◌∙◌, subst, true, false, Bool, nat_eq, nat_lt, refl, inl, inr, ◌⊎◌, arith, rules, tests}
-use Rattle.std.specs.Prelude.{if◌then◌else◌, ◌&&◌}
+use Rattle.std.specs.Prelude.{if◌then◌else◌, ◌&&◌, is_some}
 use Rattle.std.proofs.lemmas.List.{get_or_push}
 use Rattle.rs_disk.specs.Content.{Content}
 use Rattle.rs_pager.specs.Header.{IsHeader, Fits, FitsKind}
 use Rattle.rs_pager.specs.HeldPage.{HeldPage}
-use Rattle.rs_pager.specs.Slot.{working_of, changed_of, copied_slot, empty_slot}
+use Rattle.rs_pager.specs.Slot.{working_of, changed_of, copy_or, copied_slot, empty_slot}
 use Rattle.rs_pager.specs.Pages.{Pages, HasPage, SamePages, KeepsOtherPages, IsBlank, empty_header, is_page}
-use Rattle.rs_pager.specs.Paged.{Paged, slot_at}
+use Rattle.rs_pager.specs.Paged.{Paged, slot_at, IsFresh}
 use Rattle.rs_pager.specs.FreeList.{IsFreePage, IsFreeList}
 use Rattle.rs_pager.specs.Stores.{IsWhole}
-use Rattle.rs_pager.specs.Maps.{byte_of, committed_byte, working_byte, committed, working, changes, IsClean, IsTied}
+use Rattle.rs_pager.specs.Maps.{byte_of, committed_byte, working_byte, committed, working, changes, is_held, IsClean, IsTied}
 use Rattle.rs_pager.specs.Changes.{Allocates, TakesFree, TakesLast, Releases}
 use Rattle.rs_pager.specs.Rests.{Rests, ReturnsPage}
-use Rattle.rs_pager.specs.Reading.{IsInUse, HasNoFit}
-use Rattle.rs_pager.specs.Copying.{copied_pager}
+use Rattle.rs_pager.specs.Reading.{IsInUse, IsFit, ReadsFit, HasNoFit}
 use Rattle.rs_pager.specs.Allocated.{HoldsFree, AllocatesPage, RefusesPage}
 use Rattle.rs_pager.specs.declared.file_header.FileHeader.{FileHeader}
 use Rattle.rs_pager.specs.declared.header.PageHeader.{PageHeader}
 use Rattle.rs_pager.specs.declared.header.PageKind.{PageKind}
 use Rattle.rs_pager.specs.declared.header.PageKind.TheVariants.{Free}
-use Rattle.rs_pager.proofs.Slots.{slot_at-past, slot_at-read}
-use Rattle.rs_pager.proofs.Reading.{IsHeader-one, IsHeader-same, HasPage-one, HasPage-held}
-use Rattle.rs_pager.proofs.Copying.{copied-returns, Rests-then, loaded-bytes}
+use Rattle.rs_pager.proofs.Slots.{slot_at-past, slot_at-read, slot_at-set_same}
+use Rattle.rs_pager.proofs.Reading.{IsHeader-one, IsHeader-same, HasPage-one, HasPage-held, HasPage-kept}
+use Rattle.rs_pager.proofs.Copying.{copied_pager, copied-returns, Rests-then, loaded-bytes}
 use Rattle.rs_pager.proofs.FreeLists.{stands_free, not_free, list_taken, list_released}
 
 -- a header of a free page that fits is the one with nothing else in it
@@ -293,6 +292,77 @@ loaded-released is_honest seen failures old loaded mid is rests number n same ab
     let at_read : read ≡ slot_at mid.slots n = slot_at-read mid.slots n past read there read_is in
     used-released is_honest seen failures old mid (subst (Rests is_honest seen failures old) (sym is) rests) number n same above below there slot copied at some
     (subst (λ s. IfSome (working_of s) IsInUse) (at_read ∙ sym at) used) page put blank free_pages more
+
+-- no copy is held of a page of which nothing is
+not_held : (slot : HeldPage) → is_some (working_of slot) ≡ false → slot.copy ≡ None
+not_held slot none = by_copy slot.copy none
+  where
+    by_copy : (copy : Option (List ℕ)) → is_some (copy_or copy slot.kept) ≡ false → copy ≡ None
+    by_copy (Some page) e = cc
+    by_copy None e = refl
+
+-- a page that is held, fits and is in use
+held_fit : (held : Option (List ℕ)) (number pages : ℕ) → IsSome held → IfSome held (λ page. IsFit page number pages) → IfSome held IsInUse
+    → (page : List ℕ) × (held ≡ Some page) × IsFit page number pages × IsInUse page
+held_fit (Some page) number pages some fit in_use = (page, refl, fit, in_use)
+held_fit None number pages some fit in_use = cc
+
+-- a page without a copy is a committed one
+not_fresh : {D : Type 0} (p : Paged D) (n : ℕ) → ((m : ℕ) → p.kept.pages ≤ m → m < p.working.pages → IsFresh (slot_at p.slots m))
+    → n < p.working.pages → (slot_at p.slots n).copy ≡ None → n < p.kept.pages
+not_fresh p n fresh below none = elim (nat_lt n p.kept.pages) as (λ b. nat_lt n p.kept.pages ≡ b → n < p.kept.pages) [
+  | true ↦ λ e. search (rules, tests)
+  | false ↦ λ e. let ge : p.kept.pages ≤ n = search (rules, tests) in
+      absurd (no_copy (slot_at p.slots n).copy none (fresh n ge below).copy)
+] refl
+  where
+    no_copy : (copy : Option (List ℕ)) → copy ≡ None → IsSome copy → ⊥
+    no_copy (Some page) e some = some_none page e
+    no_copy None e some = cc
+
+-- a page that was read to be put into the free list is the committed one, and it fits
+used-fits : {D : Type 0} (is_honest : D → Bool) (seen : D → Content) (failures : D → ℕ) (old mid : Paged D)
+    → Rests is_honest seen failures old mid → (n : ℕ) → 1 < n → n < mid.working.pages → n < length mid.slots
+    → ReadsFit n old mid → IsSome (working_of (slot_at mid.slots n)) → IfSome (working_of (slot_at mid.slots n)) IsInUse
+    → ((m : ℕ) → mid.kept.pages ≤ m → m < mid.working.pages → IsFresh (slot_at mid.slots m))
+    → (page : List ℕ) (fields : FileHeader) → is_held old n ≡ false
+    → (was : List ℕ) × HasPage (committed seen (record mid { slots = set mid.slots n (copied_slot page (slot_at mid.slots n)); working = fields })) n was
+    × IsFit was n old.working.pages × IsInUse was
+used-fits is_honest seen failures old mid rests n past below there fit some used fresh page fields unheld =
+    let last : Paged _ = record mid { slots = set mid.slots n (copied_slot page (slot_at mid.slots n)); working = fields } in
+    let none : (slot_at mid.slots n).copy ≡ None = rests.changes.copied n ∙ not_held (slot_at old.slots n) unheld in
+    let was = held_fit (working_of (slot_at mid.slots n)) n old.working.pages some (fit unheld) used in
+    let kept : (slot_at mid.slots n).kept ≡ Some was.0 = sym (ap (λ copy. copy_or copy (slot_at mid.slots n).kept) none) ∙ was.1 in (
+      was.0,
+      HasPage-kept seen last n was.0 (above_one n past) (not_fresh mid n fresh below none)
+          (ap (λ (s : HeldPage). s.kept) (slot_at-set_same mid.slots n (copied_slot page (slot_at mid.slots n)) there) ∙ kept),
+      was.2,
+      was.3,
+    )
+
+-- the same, over a page that was loaded into a pager that is known to be another by an equation
+pub loaded-fit : {D : Type 0} (is_honest : D → Bool) (seen : D → Content) (failures : D → ℕ) (old loaded mid : Paged D) → mid ≡ loaded
+    → Rests is_honest seen failures old loaded → (number n : ℕ) → n ≡ number → 1 < number → number < loaded.working.pages
+    → ReadsFit number old loaded → IsSome (working_of (slot_at loaded.slots number)) → length mid.slots ≡ mid.working.pages
+    → ((m : ℕ) → mid.kept.pages ≤ m → m < mid.working.pages → IsFresh (slot_at mid.slots m))
+    → (past past_too read slot copied : HeldPage) → read ≡ get_or mid.slots n past → slot ≡ get_or mid.slots n past_too → IfSome (working_of read) IsInUse
+    → (page : List ℕ) → copied ≡ copied_slot page slot → (fields : FileHeader) → is_held old number ≡ false
+    → (was : List ℕ) × HasPage (committed seen (record mid { slots = set mid.slots n copied; working = fields })) number was
+    × IsFit was number old.working.pages × IsInUse was
+loaded-fit is_honest seen failures old loaded mid is rests number n same above below_loaded fit some_loaded room fresh past past_too read slot copied read_is slot_is used page put fields =
+    let below : n < mid.working.pages = subst (λ i. i < mid.working.pages) (sym same) (subst (λ (p : Paged _). number < p.working.pages) (sym is) below_loaded) in
+    let there : n < length mid.slots = subst (λ i. n < i) (sym room) below in
+    let some : IsSome (working_of (slot_at mid.slots n)) = subst (λ i. IsSome (working_of (slot_at mid.slots i))) (sym same)
+    (subst (λ (p : Paged _). IsSome (working_of (slot_at p.slots number))) (sym is) some_loaded) in
+    let at : slot ≡ slot_at mid.slots n = slot_at-read mid.slots n past_too slot there slot_is in
+    let at_read : read ≡ slot_at mid.slots n = slot_at-read mid.slots n past read there read_is in
+    let fit_there : ReadsFit n old mid = subst (λ i. ReadsFit i old mid) (sym same) (subst (λ p. ReadsFit number old p) (sym is) fit) in
+    subst (λ i. is_held old i ≡ false → (was : List ℕ) × HasPage (committed seen (record mid { slots = set mid.slots n copied; working = fields })) i was
+    × IsFit was i old.working.pages × IsInUse was) same
+    (subst (λ s. is_held old n ≡ false → (was : List ℕ) × HasPage (committed seen (record mid { slots = set mid.slots n s; working = fields })) n was
+    × IsFit was n old.working.pages × IsInUse was) (sym (put ∙ ap (copied_slot page) at))
+    (used-fits is_honest seen failures old mid (subst (Rests is_honest seen failures old) (sym is) rests) n (subst (λ i. 1 < i) (sym same) above) below there
+    fit_there some (subst (λ s. IfSome (working_of s) IsInUse) at_read used) fresh page fields))
 
 -- the count of refusals is no part of a page
 counted-committed : {D : Type 0} (seen : D → Content) (p : Paged D) (count m k : ℕ)

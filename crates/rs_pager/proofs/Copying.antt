@@ -1,9 +1,10 @@
 -- A copy that is held is the working page, and all else stays.
-use Rattle.std.proofs.Common.{◌≡◌, ◌≢◌, ◌<◌, ℕ, Option, Some, None, IsSome, IfSome, IsTrue, Result, Ok, Err, OnOk, List, set, length, ap, sym, ◌∙◌, subst, Bool, false, refl, arith}
+use Rattle.std.proofs.Common.{◌≡◌, ◌≢◌, ◌<◌, ℕ, Option, Some, None, IsSome, IfSome, IsTrue, Result, Ok, Err, OnOk, List, set, length, ap, sym, ◌∙◌, subst, Bool, true, false, refl, arith}
 use Rattle.std.specs.Prelude.{if◌then◌else◌}
 use Rattle.rs_disk.specs.Content.{Content}
+use Rattle.rs_pager.specs.Header.{IsHeader}
 use Rattle.rs_pager.specs.HeldPage.{HeldPage}
-use Rattle.rs_pager.specs.Slot.{working_of, changed_of, copied_slot}
+use Rattle.rs_pager.specs.Slot.{working_of, changed_of, copied_slot, copy_or}
 use Rattle.rs_pager.specs.Pages.{Pages, HasPage, SamePages, KeepsOtherPages, is_page}
 use Rattle.rs_pager.specs.Paged.{Paged, slot_at}
 use Rattle.rs_pager.specs.Stores.{IsWhole}
@@ -11,9 +12,13 @@ use Rattle.rs_pager.specs.Maps.{byte_of, committed_byte, working_byte, committed
 use Rattle.rs_pager.specs.Changes.{IsNotInUse, IsHeldChange, ReplacesPage}
 use Rattle.rs_pager.specs.Rests.{Rests, ReturnsPage}
 use Rattle.rs_pager.specs.Reading.{BeginsFree, IsInUse, IsFit, ReadsFit}
-use Rattle.rs_pager.specs.Copying.{copied_pager, CopiesPage, MakesCopy}
+use Rattle.rs_pager.specs.Copying.{CopiesPage, MakesCopy}
 use Rattle.rs_pager.proofs.Slots.{slot_at-set_same, slot_at-set_other}
 use Rattle.rs_pager.proofs.Reading.{at-set, HasPage-held, HasPage-same, loaded-fits, held-change, held_change-same, free-not_in_use}
+
+-- this copy of the page is held
+abbrev pub copied_pager : {D : Type 0} → ℕ → List ℕ → Paged D → Paged D
+copied_pager number page p = record p { slots = set p.slots number (copied_slot page (slot_at p.slots number)) }
 
 some_none : (page : List ℕ) → Some page ≡ None → ⊥
 some_none page e = cc
@@ -263,3 +268,20 @@ pub no_copy-lent : {D : Type 0} (is_honest : D → Bool) (seen : D → Content) 
 no_copy-lent is_honest seen failures old mid number n first copied same slot at is =
     let now : (slot_at mid.slots n).copy ≡ None = sym (ap (λ (s : HeldPage). s.copy) at) ∙ is in
     some_none first (sym copied.returns.copied ∙ subst (λ i. (slot_at mid.slots i).copy ≡ None) same now)
+
+-- a held change is the working page
+pub change-working : (slot : HeldPage) (page : List ℕ) → copy_or slot.copy (changed_of slot) ≡ Some page → working_of slot ≡ Some page
+change-working slot page = by_copy slot.copy slot.kept slot.is_changed
+  where
+    by_kept : (kept : Option (List ℕ)) (is_changed : Bool) → (if is_changed then kept else None) ≡ Some page → kept ≡ Some page
+    by_kept kept true is = is
+    by_kept kept false is = absurd (some_none page (sym is))
+
+    by_copy : (copy kept : Option (List ℕ)) (is_changed : Bool) → copy_or copy (if is_changed then kept else None) ≡ Some page → copy_or copy kept ≡ Some page
+    by_copy (Some other) kept is_changed is = is
+    by_copy None kept is_changed is = by_kept kept is_changed is
+
+-- a page in use does not begin with the header of a free page
+pub in_use-not_free : (page other : List ℕ) → Some page ≡ Some other → IsInUse page → BeginsFree other → ⊥
+in_use-not_free page other same in_use free =
+    let e : page ≡ other = cc in in_use free.header (subst (λ p. IsHeader p free.header) (sym e) free.there) free.kind

@@ -12,6 +12,7 @@ use Rattle.rs_pager.specs.Stores.{IsWhole, IsWholeFile, HasFileHeader, Stores}
 use Rattle.rs_pager.specs.Maps.{byte_of, committed_byte, working_byte, committed, working, HoldsNoChange, IsClean, IsTied}
 use Rattle.rs_pager.specs.declared.file_header.FileHeader.{FileHeader}
 use Rattle.rs_pager.specs.declared.header.PageKind.TheVariants.{Directory}
+use Rattle.rs_pager.specs.declared.pager.TheConstants.{GREATEST_LIMIT, LEAST_LIMIT}
 use Rattle.rs_pager.proofs.Maps.{same_bytes}
 
 -- nothing is held
@@ -36,7 +37,7 @@ HaveNoCopies-empty : (m : ℕ) → HaveNoCopies (replicate m empty_slot)
 HaveNoCopies-empty zero = tt
 HaveNoCopies-empty (suc m) = (refl, HaveNoCopies-empty m)
 
-pub IsSound-opened : (limit : ℕ) (fields : FileHeader) → 2 ≤ fields.pages → fields.pages ≤ limit → limit ≤ 1048576
+pub IsSound-opened : (limit : ℕ) (fields : FileHeader) → 2 ≤ fields.pages → fields.pages ≤ limit → limit ≤ GREATEST_LIMIT
     → IsSound limit (replicate fields.pages empty_slot) fields fields false
 IsSound-opened limit fields least within limited = record {
   room = length-replicate fields.pages empty_slot;
@@ -106,7 +107,7 @@ created_pager disk limit page = record {
   full_refusals = 0;
 }
 
-pub IsSound-created : (limit : ℕ) (page : List ℕ) → 3 ≤ limit → limit ≤ 1048576
+pub IsSound-created : (limit : ℕ) (page : List ℕ) → LEAST_LIMIT ≤ limit → limit ≤ GREATEST_LIMIT
     → IsSound limit (empty_slot ∷ (changed_slot page ∷ [])) empty_fields empty_fields false
 IsSound-created limit page least limited = record {
   room = refl;

@@ -12,13 +12,20 @@ use Rattle.rs_pager.specs.Stores.{IsWhole, HasBytes, HasFileHeader}
 use Rattle.rs_pager.specs.Maps.{byte_of, committed_byte, working_byte, committed, working, changes, copies, is_held, KeepsChanges, IsClean, IsTied}
 use Rattle.rs_pager.specs.Changes.{IsNotInUse, IsHeldChange}
 use Rattle.rs_pager.specs.Rests.{Rests}
-use Rattle.rs_pager.specs.Reading.{MayBeRead, IsUnfit, IsFit, ReadsUnfit, ReadsFit, HasNoFit, BeginsFree, read_pager}
+use Rattle.rs_pager.specs.Reading.{MayBeRead, IsUnfit, IsFit, ReadsUnfit, ReadsFit, HasNoFit, BeginsFree}
 use Rattle.rs_pager.specs.declared.file_header.FileHeader.{FileHeader}
 use Rattle.rs_pager.specs.declared.header.PageHeader.{PageHeader}
 use Rattle.rs_pager.specs.declared.header.PageKind.{PageKind}
 use Rattle.rs_pager.specs.declared.header.PageKind.TheVariants.{Header, Leaf, Inner, Catalogue, Free, Directory}
 use Rattle.rs_pager.proofs.Numbers.{number_at-same}
 use Rattle.rs_pager.proofs.Slots.{slot_at-set_same, slot_at-set_other, no_kept-working}
+
+-- a page that was read is held, and the disk is this one now
+abbrev pub read_pager : {D : Type 0} → D → ℕ → List ℕ → Paged D → Paged D
+read_pager disk number page p = record p {
+  disk = disk;
+  slots = set p.slots number (read_slot page (slot_at p.slots number));
+}
 
 -- what holds of the slot that was written and of the others holds of each
 pub at-set : (P : ℕ → HeldPage → Type 0) (slots : List HeldPage) (n m : ℕ) (slot : HeldPage) → n < length slots
@@ -245,6 +252,15 @@ unfolding working_byte
 HasPage-stored seen p n page pos lt none has = record {
   bytes = λ k below. ap (λ b. if b then byte_of (seen p.disk) (working_of (slot_at p.slots n)) n k else None) (is_page-true p.working.pages n pos lt)
       ∙ ap (λ h. byte_of (seen p.disk) h n k) none ∙ has.each k below;
+}
+
+-- the committed page with this number, where it is held
+pub HasPage-kept : {D : Type 0} (seen : D → Content) (p : Paged D) (n : ℕ) (page : List ℕ) → 0 < n → n < p.kept.pages
+    → (slot_at p.slots n).kept ≡ Some page → HasPage (committed seen p) n page
+unfolding committed_byte
+HasPage-kept seen p n page pos lt kept = record {
+  bytes = λ k below. ap (λ b. if b then byte_of (seen p.disk) (slot_at p.slots n).kept n k else None) (is_page-true p.kept.pages n pos lt)
+      ∙ ap (λ h. byte_of (seen p.disk) h n k) kept;
 }
 
 -- a page that was read and doesn't fit is no page that fits

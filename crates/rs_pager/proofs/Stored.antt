@@ -10,6 +10,7 @@ use Rattle.rs_pager.specs.Pages.{Pages, SamePages}
 use Rattle.rs_pager.specs.Stores.{IsWholeHeader, HasFileHeader, Stores, IsNoFile, stored_byte}
 use Rattle.rs_pager.specs.declared.file_header.FileHeader.{FileHeader}
 use Rattle.rs_pager.specs.declared.header.PageHeader.{PageHeader}
+use Rattle.rs_pager.specs.declared.pager.TheConstants.{GREATEST_LIMIT}
 use Rattle.rs_pager.proofs.Numbers.{number_at-same, byte_at}
 
 -- what may be read of a byte that is known is that byte
@@ -144,6 +145,6 @@ pub Stores-whole : (content : Content) (pages : Pages) → Stores content pages 
 Stores-whole content pages stores = record { each = λ k lt ne. subst IsSome (sym (stores.header.bytes k lt ne)) refl }
 
 -- a disk that is long enough tells as many pages
-pub no_shorter : (pages limit size told : ℕ) → pages ≤ limit → limit ≤ 1048576 → PAGE_SIZE * pages ≤ size
+pub no_shorter : (pages limit size told : ℕ) → pages ≤ limit → limit ≤ GREATEST_LIMIT → PAGE_SIZE * pages ≤ size
     → told ≡ min (size / PAGE_SIZE) (2 ^ 32 - 1) → told < pages → ⊥
 no_shorter pages limit size told within limited long is short = omega arith

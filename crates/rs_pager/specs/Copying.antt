@@ -1,19 +1,14 @@
 -- What a pager becomes once it holds a copy of a page.
 use Rattle.std.specs.Prelude.{◌≡◌, ℕ, Bool, false, Some, List}
-use Rattle.std.specs.Prelude.{slice_set as set}
 use Rattle.rs_disk.specs.Content.{Content}
 use Rattle.rs_pager.specs.Pages.{HasPage}
 use Rattle.rs_pager.specs.HeldPage.{HeldPage}
 use Rattle.rs_pager.specs.Slot.{working_of, copied_slot}
-use Rattle.rs_pager.specs.Paged.{Paged, slot_at}
+use Rattle.rs_pager.specs.Paged.{Paged}
 use Rattle.rs_pager.specs.Maps.{working, is_held, IsTied}
 use Rattle.rs_pager.specs.Changes.{IsHeldChange}
 use Rattle.rs_pager.specs.Rests.{ReturnsPage}
 use Rattle.rs_pager.specs.Reading.{IsInUse, IsFit}
-
--- this copy of the page is held
-abbrev pub copied_pager : {D : Type 0} → ℕ → List ℕ → Paged D → Paged D
-copied_pager number page p = record p { slots = set p.slots number (copied_slot page (slot_at p.slots number)) }
 
 -- a copy of the working page is held, and nothing else has changed but that pages are held
 pub record CopiesPage {D : Type 0} (is_honest : D → Bool) (seen : D → Content) (failures : D → ℕ)

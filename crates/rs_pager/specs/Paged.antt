@@ -3,6 +3,7 @@ use Rattle.std.specs.Prelude.{◌≡◌, ◌≤◌, ◌<◌, ℕ, Bool, false, L
 use Rattle.rs_pager.specs.HeldPage.{HeldPage}
 use Rattle.rs_pager.specs.Slot.{empty_slot}
 use Rattle.rs_pager.specs.declared.file_header.FileHeader.{FileHeader}
+use Rattle.rs_pager.specs.declared.pager.TheConstants.{GREATEST_LIMIT}
 
 -- the disk, the greatest number of pages, what is held of each page, the committed and the working fields of page 0,
 -- whether the disk lacks the committed ones, whether changes are open, and how often the file was full
@@ -37,7 +38,7 @@ pub record IsSound (limit : ℕ) (slots : List HeldPage) (kept working : FileHea
   pub directory : 2 ≤ kept.pages
   pub kept_room : kept.pages ≤ working.pages
   pub within : working.pages ≤ limit
-  pub limited : limit ≤ 1048576
+  pub limited : limit ≤ GREATEST_LIMIT
   pub header : slot_at slots 0 ≡ empty_slot
   pub fresh : (number : ℕ) → kept.pages ≤ number → number < working.pages → IsFresh (slot_at slots number)
   pub same : is_begun ≡ false → working ≡ kept

@@ -1,11 +1,10 @@
--- What a read of a page may give, and what a pager becomes once it holds the page.
+-- What a read of a page may give, and which pages fit their number and are in use.
 use Rattle.std.specs.Prelude.{◌≡◌, ◌≢◌, ◌⊎◌, ◌≤◌, ◌*◌, ℕ, false, List, length, IfSome}
-use Rattle.std.specs.Prelude.{slice_set as set}
 use Rattle.rs_disk.specs.Content.{Content, Gives}
 use Rattle.rs_disk.specs.declared.disk.TheConstants.{PAGE_SIZE}
 use Rattle.rs_pager.specs.Header.{IsHeader, Fits}
 use Rattle.rs_pager.specs.Pages.{Pages, HasPage}
-use Rattle.rs_pager.specs.Slot.{read_slot, working_of}
+use Rattle.rs_pager.specs.Slot.{working_of}
 use Rattle.rs_pager.specs.Paged.{Paged, slot_at}
 use Rattle.rs_pager.specs.Maps.{is_held}
 use Rattle.rs_pager.specs.declared.header.PageHeader.{PageHeader}
@@ -47,13 +46,6 @@ pub record BeginsFree (page : List ℕ) : Type 0 where
 abbrev pub ReadsFit : {D : Type 0} → ℕ → Paged D → Paged D → Type 0
 ReadsFit number old new = is_held old number ≡ false
     → IfSome (working_of (slot_at new.slots number)) (λ page. IsFit page number old.working.pages)
-
--- a page that was read is held, and the disk is this one now
-abbrev pub read_pager : {D : Type 0} → D → ℕ → List ℕ → Paged D → Paged D
-read_pager disk number page p = record p {
-  disk = disk;
-  slots = set p.slots number (read_slot page (slot_at p.slots number));
-}
 
 -- the page doesn't begin with the header of a free page
 abbrev pub IsInUse : List ℕ → Type 0

@@ -2,14 +2,14 @@
 //!
 //! The free list goes from page to page, the one that was released last first.
 
-ghost use Rattle.std.specs.Prelude.{◌≡◌, ◌≢◌, ◌⊎◌, ◌<◌, ◌≤◌, ◌-◌, ◌^◌, ℕ, List, true, IsTrue, [], ◌∷◌, Some, Err, IfOk, IfErr, OnErr, OnOk, IsOkUnless};
-ghost use Rattle.rs_disk.specs.Counts.{Rose, counted_on};
+ghost use Rattle.std.specs.Prelude.{◌≡◌, ◌≢◌, ◌⊎◌, ◌<◌, ◌≤◌, ◌-◌, ◌^◌, ℕ, List, true, false, IsTrue, [], ◌∷◌, Some, Err, IfOk, IfErr, OnErr, OnOk};
+ghost use Rattle.rs_disk.specs.Counts.{Rose};
 ghost use Rattle.rs_pager.specs.declared.header.PageKind.TheVariants.{Free};
 ghost use Rattle.rs_pager.specs.Pages.{SamePages, HasPage, IsBlank};
 ghost use Rattle.rs_pager.specs.FreeList.{IsFreeList};
-ghost use Rattle.rs_pager.specs.Maps.{committed, working, changes, copies, lacks_fields, KeepsChanges, KeepsCounts, IsTied};
+ghost use Rattle.rs_pager.specs.Maps.{committed, working, changes, copies, lacks_fields, is_held, KeepsChanges, KeepsCounts, IsTied};
 ghost use Rattle.rs_pager.specs.Changes.{Allocates, Releases, IsFull, IsNotInUse};
-ghost use Rattle.rs_pager.specs.Reading.{IsInUse};
+ghost use Rattle.rs_pager.specs.Reading.{IsFit, IsInUse};
 ghost use Rattle.rs_pager.specs.Allocated.{AllocatesPage, RefusesPage};
 
 use crate::header::PageKind;
@@ -24,6 +24,10 @@ impl<D: Disk> Pager<D> {
     /// A page that was not in use, as a working page of this kind with nothing in it: the first of the free
     /// list, else one behind the last. It is refused with 92 where the file is full, with 94 where the free
     /// list is none, with 90 and 91 as `page` is. A refusal leaves the pages as they were.
+    ///
+    /// The kind is one of a tree or of the catalogue: `Leaf`, `Inner` or `Catalogue`. A page of another kind is of no
+    /// use: as `Free` it is never lent and can't be released, and as `Header` or `Directory` it doesn't fit its
+    /// number, and is refused with 94 once it is read from the disk again.
     pub fn allocate(&mut self, kind: PageKind) -> Result<PageNumber, Refusal>
         requires { self.old.is_begun ≡ true }
         ensures allocates { IsTied D.is_honest D.seen self.old → IfOk result (λ number.
@@ -43,7 +47,7 @@ impl<D: Disk> Pager<D> {
         ensures copied_others { IfOk result (λ number. (other : ℕ) → other ≢ number
             → copies self.new other ≡ copies self.old other) }
         ensures behind { IfOk result (λ number. 1 < number) }
-        ensures committed_fields { self.new.kept ≡ self.old.kept }
+        ensures committed_fields { (committed D.seen self.new).fields ≡ (committed D.seen self.old).fields }
         ensures lacks { lacks_fields self.new ≡ lacks_fields self.old }
         ensures refused { IfErr result (λ refusal. (refusal ≡ Refusal.OutOfMemory)
             ⊎ (refusal ≡ Refusal.Disk) ⊎ (refusal ≡ Refusal.DamagedFile) ⊎ (refusal ≡ Refusal.FileFull)) }
@@ -69,6 +73,7 @@ impl<D: Disk> Pager<D> {
     }
 
     /// A page behind the last one.
+    #[tactic(auto, unfolding(rs_disk::specs::Counts::counted_on))]
     fn allocate_last(&mut self, kind: PageKind) -> Result<PageNumber, Refusal>
         requires begun { self.old.is_begun ≡ true }
         requires none_free { self.old.working.first_free ≡ 0 }
@@ -87,7 +92,7 @@ impl<D: Disk> Pager<D> {
         ensures begun { self.new.is_begun ≡ self.old.is_begun }
     {
         if self.working.pages >= self.limit {
-            count_on(&mut self.full_refusals);
+            self.full_refusals = self.full_refusals.saturating_add(1);
             return Err(Refusal::FileFull);
         }
         let number = PageNumber::new(self.working.pages);
@@ -135,13 +140,19 @@ impl<D: Disk> Pager<D> {
     }
 
     /// Puts a working page into the free list. It is refused as `page` refuses it, and with 94 for pages 0 and 1
-    /// and where the count of free pages stands at 2^32 - 1. The page stays in use then.
+    /// and where the count of free pages stands at 2^32 - 1. The page stays in use then. A page of which nothing
+    /// is held is read and looked at first, whatever the disk gives.
     pub fn release(&mut self, number: PageNumber) -> Result<(), Refusal>
         requires { self.old.is_begun ≡ true }
         ensures releases { IsTied D.is_honest D.seen self.old → OnOk result
             (Releases (working D.seen self.old) (working D.seen self.new) number) }
         ensures was_in_use { IsTied D.is_honest D.seen self.old → OnOk result ((page : List ℕ)
             → HasPage (working D.seen self.old) number page → IsInUse page) }
+        ensures behind { OnOk result (1 < number) }
+        ensures below { OnOk result (number < (working D.seen self.old).fields.pages) }
+        ensures fits { OnOk result (is_held self.old number ≡ false → (page : List ℕ)
+            × HasPage (committed D.seen self.new) number page
+            × IsFit page number (working D.seen self.old).fields.pages × IsInUse page) }
         ensures free_list { IsTied D.is_honest D.seen self.old → OnOk result ((numbers : List ℕ)
             → IsFreeList (working D.seen self.old) numbers → IsFreeList (working D.seen self.new) (number ∷ numbers)) }
         ensures committed { IsTied D.is_honest D.seen self.old
@@ -151,10 +162,10 @@ impl<D: Disk> Pager<D> {
         ensures changes { OnErr result (KeepsChanges self.old self.new) }
         ensures changed { (other : ℕ) → changes self.new other ≡ changes self.old other }
         ensures copied { OnOk result ((page : List ℕ)
-            × (copies self.new number ≡ Some page) × IsBlank page Free number self.old.working.first_free) }
+            × (copies self.new number ≡ Some page) × IsBlank page Free number (working D.seen self.old).fields.first_free) }
         ensures copied_others { (other : ℕ) → other ≢ number
             → copies self.new other ≡ copies self.old other }
-        ensures committed_fields { self.new.kept ≡ self.old.kept }
+        ensures committed_fields { (committed D.seen self.new).fields ≡ (committed D.seen self.old).fields }
         ensures lacks { lacks_fields self.new ≡ lacks_fields self.old }
         ensures refused { IfErr result (λ refusal. (refusal ≡ Refusal.OutOfMemory)
             ⊎ (refusal ≡ Refusal.Disk) ⊎ (refusal ≡ Refusal.DamagedFile)) }
@@ -188,15 +199,5 @@ impl<D: Disk> Pager<D> {
         self.working.first_free = number;
         self.working.free_pages = free_pages;
         Ok(())
-    }
-}
-
-/// Counts one more, up to the last value.
-#[tactic(auto, unfolding(rs_disk::specs::Counts::counted_on))]
-fn count_on(count: &mut u64)
-    ensures { count.new ≡ counted_on count.old }
-{
-    if *count < u64::MAX {
-        *count += 1;
     }
 }

@@ -1,4 +1,7 @@
 //! Numbers in a page, the highest byte first.
+//!
+//! A number has one, two or four bytes, all of them in the page. One that is put at a place is read there again,
+//! and the bytes before and behind it stay.
 
 ghost use Rattle.std.specs.Prelude.{◌≡◌, ℕ, ◌+◌, ◌<◌, ◌≤◌, length, slice_index};
 ghost use Rattle.rs_pager.specs.Number.{number_at};

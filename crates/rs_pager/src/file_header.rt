@@ -65,10 +65,7 @@ impl FileHeader {
         ensures found { IfSome result (IsFileHeader page.now) }
         ensures none { IfNone result ((header : FileHeader) → IsFileHeader page.now header → ⊥) }
     {
-        let first = match PageHeader::read(page) {
-            Some(first) => first,
-            None => return None,
-        };
+        let first = PageHeader::read(page)?;
         if first != first_header() || !has_marks(page) || !ends_in_zeros(page) {
             return None;
         }

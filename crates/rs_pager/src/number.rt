@@ -1,4 +1,7 @@
 //! The numbers of pages.
+//!
+//! A number is a type of its own, so that no count of pages and no offset is taken for one. It says nothing of
+//! whether there is such a page.
 
 ghost use Rattle.std.specs.Prelude.{◌≡◌, ℕ, IsTrue, ◌↔◌};
 ghost use Rattle.rs_pager.specs.Follow.{MayFollow};

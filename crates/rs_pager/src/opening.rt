@@ -2,7 +2,7 @@
 //!
 //! A refusal hands the disk back.
 
-ghost use Rattle.std.specs.Prelude.{◌≡◌, ◌≤◌, ◌⊎◌, ◌*◌, ℕ, IsTrue, IfOk, List, [], ◌∷◌, IfErr, IfSome, OnErr, OnOk, IsOkUnless, MatchResult, Some, Err, true, false, replicate};
+ghost use Rattle.std.specs.Prelude.{◌≡◌, ◌≤◌, ◌⊎◌, ◌*◌, ℕ, IsTrue, IfOk, List, [], ◌∷◌, IfErr, OnOk, IsOkUnless, MatchResult, Some, Err, false, replicate};
 ghost use Rattle.rs_disk.specs.Content.{Gives};
 ghost use Rattle.rs_disk.specs.Counts.{Counts, Rose};
 ghost use Rattle.rs_pager.specs.declared.header.PageKind.TheVariants.{Directory};

@@ -1,4 +1,7 @@
 //! A page in memory.
+//!
+//! It has as many bytes as a page of the disk. A new one is of zeros, or has a header and zeros behind it; which
+//! kind it is, and whether it is free, is read from its first 16 bytes.
 
 ghost use Rattle.std.specs.Prelude.{◌≡◌, ◌≤◌, ℕ, true, false, IfOk, IfSome, IfNone, IsOkUnless};
 ghost use Rattle.rs_pager.specs.Number.{number_at};
@@ -44,10 +47,7 @@ impl Page {
             × IsHeader self.now.bytes header × (header.kind ≡ kind)) }
         ensures none { IfNone result ((header : PageHeader) → IsHeader self.now.bytes header → ⊥) }
     {
-        match PageHeader::read(&self.bytes) {
-            Some(header) => Some(header.kind),
-            None => None,
-        }
+        PageHeader::read(&self.bytes).map(|header| header.kind)
     }
 
     /// Whether the page begins with the header of a free page.

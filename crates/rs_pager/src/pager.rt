@@ -3,7 +3,7 @@
 //! The committed pages are what the disk holds, but for those that are changed and held. The working pages
 //! are the committed ones with the changes since `begin`.
 
-ghost use Rattle.std.specs.Prelude.{◌≡◌, ◌≤◌, ◌⊎◌, ℕ, Bool, None, true, false, OnOk, OnErr, IfErr, Err, map};
+ghost use Rattle.std.specs.Prelude.{◌≡◌, ◌≤◌, ◌⊎◌, ℕ, None, true, false, OnOk, OnErr, IfErr, Err};
 ghost use Rattle.rs_disk.specs.Counts.{Rose};
 ghost use Rattle.rs_pager.specs.Pages.{SamePages};
 ghost use Rattle.rs_pager.specs.Maps.{committed, working, changes, copies, is_held, lacks_fields, KeepsChanges, KeepsCounts, HoldsNoChange, CommitsChanges, AbandonsChanges, IsTied};

@@ -2,13 +2,13 @@
 //!
 //! A page is looked at when it comes from the disk. One to be changed is lent as a copy of its own.
 
-ghost use Rattle.std.specs.Prelude.{◌≡◌, ◌≢◌, ◌⊎◌, ◌≤◌, ◌<◌, ◌*◌, ℕ, List, true, false, None, Err, IsTrue, IsSome, IfOk, IfErr, OnErr, OnOk, length};
+ghost use Rattle.std.specs.Prelude.{◌≡◌, ◌≢◌, ◌⊎◌, ◌≤◌, ◌<◌, ℕ, List, true, false, None, Some, Err, IsTrue, IsSome, IfOk, IfErr, OnErr, OnOk, length};
 ghost use Rattle.rs_disk.specs.Counts.{Rose};
-ghost use Rattle.rs_pager.specs.Slot.{working_of, read_slot};
+ghost use Rattle.rs_pager.specs.Slot.{working_of};
 ghost use Rattle.rs_pager.specs.Pages.{HasPage};
 ghost use Rattle.rs_pager.specs.Paged.{slot_at};
 ghost use Rattle.rs_pager.specs.Maps.{working, is_held, IsTied};
-ghost use Rattle.rs_pager.specs.Changes.{IsHeldChange, IsNotInUse};
+ghost use Rattle.rs_pager.specs.Changes.{held_change, IsHeldChange, IsNotInUse};
 ghost use Rattle.rs_pager.specs.Rests.{Rests};
 ghost use Rattle.rs_pager.specs.Reading.{MayBeRead, IsFit, IsUnfit, IsInUse, ReadsUnfit, ReadsFit, HasNoFit};
 ghost use Rattle.rs_pager.specs.Copying.{CopiesPage};
@@ -17,7 +17,6 @@ use crate::header::PageHeader;
 use crate::number::PageNumber;
 use crate::page::Page;
 use crate::pager::Pager;
-use crate::slot::Slot;
 use rs_disk::{Disk, PAGE_SIZE};
 use rs_measure::Refusal;
 use std::alloc::Global;
@@ -35,8 +34,11 @@ impl<D: Disk> Pager<D> {
             → IfOk result (λ page. HasPage (working D.seen self.old) number page.now.bytes) }
         ensures held { IfOk result (λ page. IsHeldChange self.old number page.now.bytes) }
         ensures in_use { IfOk result (λ page. IsInUse page.now.bytes) }
+        ensures behind { OnOk result (0 < number) }
+        ensures below { OnOk result (number < (working D.seen self.old).fields.pages) }
         ensures fits { IfOk result (λ page. is_held self.old number ≡ false
-            → IsFit page.now.bytes number self.old.working.pages) }
+            → IsFit page.now.bytes number (working D.seen self.old).fields.pages) }
+        ensures lent { (page : List ℕ) → held_change self.old number ≡ Some page → IsInUse page → OnErr result ⊥ }
         ensures refused { IfErr result (λ refusal. (refusal ≡ Refusal.OutOfMemory)
             ⊎ (refusal ≡ Refusal.Disk) ⊎ (refusal ≡ Refusal.DamagedFile)) }
         ensures damaged { IsTied D.is_honest D.seen self.old
@@ -59,13 +61,17 @@ impl<D: Disk> Pager<D> {
             → IfOk result (λ page. HasPage (working D.seen self.old) number page.now.bytes) }
         ensures held { IfOk result (λ page. IsHeldChange self.old number page.now.bytes) }
         ensures in_use { IfOk result (λ page. IsInUse page.now.bytes) }
+        ensures behind { OnOk result (0 < number) }
+        ensures below { OnOk result (number < (working D.seen self.old).fields.pages) }
         ensures fits { IfOk result (λ page. is_held self.old number ≡ false
-            → IsFit page.now.bytes number self.old.working.pages) }
+            → IsFit page.now.bytes number (working D.seen self.old).fields.pages) }
         ensures refused { IfErr result (λ refusal. (refusal ≡ Refusal.OutOfMemory)
             ⊎ (refusal ≡ Refusal.Disk) ⊎ (refusal ≡ Refusal.DamagedFile)) }
         ensures damaged { IsTied D.is_honest D.seen self.old
             → IfErr result (λ refusal. refusal ≡ Refusal.DamagedFile
             → IsNotInUse (working D.seen self.old) number) }
+        ensures lent { (page : List ℕ) → held_change self.old number ≡ Some page → IsInUse page
+            → IfErr result (λ refusal. refusal ≡ Refusal.OutOfMemory) }
     {
         if let Err(refusal) = self.copy(number) {
             return Err(refusal);
@@ -92,6 +98,8 @@ impl<D: Disk> Pager<D> {
             ⊎ (refusal ≡ Refusal.Disk) ⊎ (refusal ≡ Refusal.DamagedFile)) }
         ensures damaged { IsTied D.is_honest D.seen self.old → result ≡ Err Refusal.DamagedFile
             → IsNotInUse (working D.seen self.old) number }
+        ensures lent { (page : List ℕ) → working_of (slot_at self.old.slots number) ≡ Some page → IsInUse page
+            → IfErr result (λ refusal. refusal ≡ Refusal.OutOfMemory) }
     {
         self.load(number)?;
         let alloc = *self.slots.allocator();
@@ -113,6 +121,9 @@ impl<D: Disk> Pager<D> {
         ensures rests { Rests D.is_honest D.seen D.failures self.old self.new }
         ensures damaged { IsTied D.is_honest D.seen self.old → result ≡ Err Refusal.DamagedFile
             → HasNoFit (working D.seen self.old) number }
+        ensures found { IsSome (working_of (slot_at self.old.slots number)) → OnErr result ⊥ }
+        ensures kept { IsSome (working_of (slot_at self.old.slots number))
+            → working_of (slot_at self.new.slots number) ≡ working_of (slot_at self.old.slots number) }
     {
         if number.number() == 0 || number.number() >= self.working.pages {
             return Err(Refusal::DamagedFile);

@@ -2,7 +2,7 @@
 //!
 //! Both versions lie side by side, so that a commit moves one into the other's place and takes no memory.
 
-ghost use Rattle.std.specs.Prelude.{◌≡◌, ◌≢◌, ◌⊎◌, true, false, Option, Some, None, Err, List, ℕ, IfSome, IfOk, IfErr, IsOkUnless, OnOk, OnErr, map, if◌then◌else◌};
+ghost use Rattle.std.specs.Prelude.{◌≡◌, ◌≢◌, ◌⊎◌, true, false, Some, None, Err, ℕ, IfSome, IfOk, IfErr, IsOkUnless, OnOk, OnErr, map};
 ghost use Rattle.std.specs.Option.{option_map};
 ghost use Rattle.rs_pager.specs.Slot.{committed_slot, abandoned_slot, forgotten_slot, clean_slot, working_of, changed_of, read_slot, copied_slot, empty_slot};
 ghost use Rattle.rs_pager.specs.Reading.{BeginsFree, IsInUse};

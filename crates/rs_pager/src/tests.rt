@@ -3,7 +3,7 @@
 use crate::header::HEADER_SIZE;
 use crate::laws::written_disk_is_whole;
 use crate::{PageKind, PageNumber, Pager};
-use rs_disk::{FailedCut, FailingDisk, MemoryDisk};
+use rs_disk::MemoryDisk;
 use rs_measure::Refusal;
 use std::test::Fail;
 
@@ -32,6 +32,7 @@ fn pages_come_back_from_the_disk(rt: HostRuntime) -> Result<(), Fail> {
     };
     assert!(rt; matches!(pager.page(number), Ok(page) if page.bytes[HEADER_SIZE] == 7));
     assert!(rt; matches!(pager.page(PageNumber::new(3)), Err(Refusal::DamagedFile)));
+    assert!(rt; matches!(pager.page(PageNumber::new(0)), Err(Refusal::DamagedFile)));
     pager.forget();
     assert!(rt; matches!(pager.page(number), Ok(page) if page.bytes[HEADER_SIZE] == 7));
     Ok(())
@@ -53,6 +54,7 @@ fn a_full_file_hands_out_what_was_released(rt: HostRuntime) -> Result<(), Fail> 
     let full = pager.allocate(PageKind::Leaf);
     let released = pager.release(PageNumber::new(3));
     let again = pager.allocate(PageKind::Leaf);
+    let directory = pager.release(PageNumber::new(1));
     pager.abandon();
     assert_eq!(rt; first.map(PageNumber::number), Ok(2));
     assert_eq!(rt; second.map(PageNumber::number), Ok(3));
@@ -60,6 +62,7 @@ fn a_full_file_hands_out_what_was_released(rt: HostRuntime) -> Result<(), Fail> 
     assert_eq!(rt; full, Err(Refusal::FileFull));
     assert_eq!(rt; released, Ok(()));
     assert_eq!(rt; again.map(PageNumber::number), Ok(3));
+    assert_eq!(rt; directory, Err(Refusal::DamagedFile));
     assert_eq!(rt; pager.full_refusals(), 1);
     assert!(rt;
         pager.page(PageNumber::new(2)).is_err(),
@@ -93,6 +96,10 @@ fn a_page_that_does_not_fit_is_not_lent(rt: HostRuntime) -> Result<(), Fail> {
     pager.forget();
     assert!(rt; matches!(pager.page(empty_leaf), Err(Refusal::DamagedFile)));
     assert!(rt; matches!(pager.page(released), Err(Refusal::DamagedFile)));
+    if pager.begin().is_err() {
+        return Err("not begun again".into());
+    }
+    assert_eq!(rt; pager.release(empty_leaf), Err(Refusal::DamagedFile));
     Ok(())
 }
 

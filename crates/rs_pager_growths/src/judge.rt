@@ -124,7 +124,7 @@ impl Judge {
         }
     }
 
-    /// Begins changes where none are open, once more where a growth was refused.
+    /// Begins changes where none are open. A refusal is handed on, and no changes are open then.
     fn begin(&mut self) -> Result<(), Refusal>
         ensures { OnOk result (self.new.is_begun ≡ true) }
     {

@@ -1,4 +1,6 @@
 //! The pager and the plain map over a few thousand pseudo-random calls, some of which the disk fails.
+//!
+//! Each answer is compared, and after a fault each page, at once and behind a commit or an abandon.
 
 use crate::beside::Beside;
 use crate::call::{CALL_KINDS, Call};
@@ -84,6 +86,28 @@ fn step<D: Disk>(
     Ok(())
 }
 
+/// Gives the disk back, and the plain map as it is opened again. It writes nothing.
+fn given_back(
+    rt: &impl Abort,
+    beside: Beside<'_, Watched<'_, Failing>>,
+) -> Result<(MemoryDisk, Plain), Fail> {
+    let Beside {
+        driver,
+        mut plain,
+        watch,
+    } = beside;
+    let changes = watch.changes();
+    let disk = driver.into_disk();
+    assert_eq!(rt;
+        watch.changes(),
+        changes,
+        "giving the disk back writes nothing"
+    );
+    assert!(rt; plain.is_disk_known());
+    plain.reopen()?;
+    Ok((disk.into_disk().into_disk().into_disk(), plain))
+}
+
 /// Opens the disk and makes calls, until it is known what the disk has; gives the disk back.
 fn session(
     rt: &impl Abort,
@@ -113,21 +137,7 @@ fn session(
         let _ = beside.make(rt, Call::Flush)?;
         let _ = beside.make(rt, Call::Flush)?;
     }
-    let changes = watch.changes();
-    let Beside {
-        driver,
-        mut plain,
-        watch: _,
-    } = beside;
-    let disk = driver.into_disk();
-    assert_eq!(rt;
-        watch.changes(),
-        changes,
-        "giving the disk back writes nothing"
-    );
-    assert!(rt; plain.is_disk_known());
-    plain.reopen()?;
-    Ok((disk.into_disk().into_disk().into_disk(), plain))
+    given_back(rt, beside)
 }
 
 #[test]

@@ -1,4 +1,6 @@
 //! What stands on the disk, byte by byte, after a creation and after a flush.
+//!
+//! The bytes that are wanted are stated here. The byte of the open flag is another's, and stays.
 
 use crate::driver::Driver;
 use crate::image::{Field, disk_of, image, put, read};

@@ -1,4 +1,6 @@
 //! The calls of a pager, as values.
+//!
+//! A script or a choice of calls is a list of them. Those that are counted are told apart by their kind alone.
 
 use crate::plain::PlainKind;
 

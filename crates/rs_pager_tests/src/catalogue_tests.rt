@@ -1,4 +1,6 @@
-//! Where the catalogue begins: what is committed comes back from the disk, and what is abandoned is gone.
+//! Where the catalogue begins.
+//!
+//! What is committed comes back from the disk, and stands at its place in page 0; what is abandoned is gone.
 
 use crate::driver::Driver;
 use crate::image::read;

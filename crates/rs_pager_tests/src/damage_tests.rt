@@ -1,4 +1,7 @@
 //! Disks that hold no file, or a damaged one: what is refused, and that nothing changes.
+//!
+//! One byte of a stated file is changed at a time. Page 0 is refused at the opening, another page where it is
+//! asked for, and the free list where a page is wanted.
 
 use crate::driver::Driver;
 use crate::image::{Field, disk_of, image, put, read};

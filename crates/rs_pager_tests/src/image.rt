@@ -1,4 +1,6 @@
 //! The bytes of a disk, whole and as they are stated.
+//!
+//! What is stated stands byte by byte in the test, and no code of the pager has a part in it.
 
 use rs_disk::{Disk, MemoryDisk, PAGE_SIZE};
 use std::alloc::{AllocError, Global};

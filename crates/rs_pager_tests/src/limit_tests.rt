@@ -1,4 +1,6 @@
 //! A file of five pages at most: what is refused when it is full, and which pages are handed out again.
+//!
+//! A refusal is counted and changes no page, and the page that was released last is handed out first.
 
 use crate::driver::Driver;
 use rs_disk::{Disk, MemoryDisk};

@@ -1,4 +1,6 @@
-//! Pseudo-random calls of a pager, always the same ones, each of which may come when it is made.
+//! Pseudo-random calls of a pager.
+//!
+//! A seed always gives the same ones. Each may come when it is made, and some ask for a page that is not there.
 
 use crate::call::Call;
 use crate::plain::PlainKind;

@@ -1,11 +1,14 @@
 //! One script of calls, of which the disk fails one after the other: what `commit` and `abandon` leave then.
+//!
+//! The pages are compared with the plain map's at the fault, behind the end of the changes, and once the disk was
+//! opened again.
 
 use crate::beside::Beside;
 use crate::call::Call;
 use crate::driver::Driver;
 use crate::plain::{Plain, PlainKind};
 use crate::watched::{Watch, Watched};
-use rs_disk::{FailedCut, FailingDisk, MemoryDisk};
+use rs_disk::{Disk, FailedCut, FailingDisk, MemoryDisk};
 use rs_measure::Refusal;
 use std::alloc::Global;
 use std::process::Abort;
@@ -122,7 +125,18 @@ fn opened<'a>(
     }
 }
 
-/// Makes the script's calls until the disk fails one, and answers whether it did. Then the changes are ended, as
+/// Makes the script's calls until the disk fails one, and answers whether it failed one, the opening's among them.
+fn make_script<D: Disk>(rt: &impl Abort, beside: &mut Beside<'_, D>) -> Result<bool, Fail> {
+    let mut is_fault = beside.watch.failures() > 0;
+    for call in script() {
+        if !is_fault {
+            is_fault = beside.make(rt, *call)?;
+        }
+    }
+    Ok(is_fault)
+}
+
+/// Runs the script until the disk fails a call, and answers whether it did. Then the changes are ended, as
 /// `is_kept` says, and flushed, and the disk is opened again.
 fn run_script(
     rt: &impl Abort,
@@ -139,13 +153,7 @@ fn run_script(
         plain,
         watch: &watch,
     };
-    let mut is_fault = watch.failures() > 0;
-    for call in script() {
-        if !is_fault {
-            is_fault = beside.make(rt, *call)?;
-        }
-    }
-    if !is_fault {
+    if !make_script(rt, &mut beside)? {
         return Ok(false);
     }
     beside.compare(rt)?;

@@ -2,11 +2,9 @@
 //!
 //! Each call is passed on to the disk below, and each answer back.
 
-ghost use Rattle.std.specs.Prelude.{◌≡◌, ◌*◌, length, IsTrue, OnOk};
-ghost use Rattle.rs_disk.specs.Content.{Gives, Holds, KeepsOthers, CutsTo};
-ghost use Rattle.rs_disk.specs.Counts.{Counts};
+ghost use Rattle.std.specs.Prelude.{◌≡◌};
 
-use rs_disk::{Disk, DiskFault, PAGE_SIZE};
+use rs_disk::{Disk, DiskFault};
 use std::cell::Cell;
 
 /// How often a disk was called, those calls that failed among them, how many failed, and whether the last one

@@ -7,7 +7,7 @@ use Rattle.rs_pager.proofs.Allocated.{counted-refuses, kept-refuses, last-alloca
 use Rattle.rs_pager.proofs.pager.Pager.allocate_last.Goals as goal
 
 pub returns-then-self-clause-refused : goal.returns-then-self-clause-refused
-returns-then-self-clause-refused g c = counted-refuses g.D.Disk.is_honest g.D.Disk.seen g.D.Disk.failures _ c.args.self.now c.count_on.new.count c.self.view_is
+returns-then-self-clause-refused g c = counted-refuses g.D.Disk.is_honest g.D.Disk.seen g.D.Disk.failures _ c.args.self.now _ c.self.view_is
 
 pub returns-in_err-map_err-clause-refused : goal.returns-in_err-map_err-clause-refused
 returns-in_err-map_err-clause-refused g c =

@@ -5,7 +5,7 @@ use Rattle.rs_pager.specs.Paged.{Paged, slot_at}
 use Rattle.rs_pager.specs.Rests.{Rests}
 use Rattle.rs_pager.proofs.Slots.{slot_at-read}
 use Rattle.rs_pager.proofs.Copying.{copies-damaged}
-use Rattle.rs_pager.proofs.Allocated.{loaded-released}
+use Rattle.rs_pager.proofs.Allocated.{loaded-released, loaded-fit}
 use Rattle.rs_pager.proofs.pager.Pager.release.Goals as goal
 
 pub returns-then-is_free-clause-damaged : goal.returns-then-is_free-clause-damaged
@@ -94,3 +94,11 @@ returns-clause-tied g c =
     c.args.number c.number-index.result c.number-index.ensures (omega (arith, c.number.ensures)) c.in_ok-load.ensures.below c.in_ok-load.ensures.held
     c.self.invariant.room _ _ _ _ _ c.index.ensures c.index_mut.ensures.value (c.is_free.ensures.in_use in_use) c.in_ok-page.page.value.bytes
     c.put_copy.ensures c.in_ok-page.ensures.blank c.in_ok-free_pages.free_pages more).tied
+
+pub returns-clause-fits : goal.returns-clause-fits
+returns-clause-fits g c =
+    let in_use : c.is_free.result ≡ false = search rules in
+    loaded-fit g.D.Disk.is_honest g.D.Disk.seen g.D.Disk.failures c.args.self.now c.load.new.self _ c.self.view_is c.load.ensures.rests
+    c.args.number c.number-index.result c.number-index.ensures (omega (arith, c.number.ensures)) c.in_ok-load.ensures.below c.in_ok-load.ensures.fits
+    c.in_ok-load.ensures.held c.self.invariant.room c.self.invariant.fresh _ _ _ _ _ c.index.ensures c.index_mut.ensures.value (c.is_free.ensures.in_use in_use)
+    c.in_ok-page.page.value.bytes c.put_copy.ensures _
