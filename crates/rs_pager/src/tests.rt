@@ -96,6 +96,23 @@ fn a_page_that_does_not_fit_is_not_lent(rt: HostRuntime) -> Result<(), Fail> {
     pager.forget();
     assert!(rt; matches!(pager.page(empty_leaf), Err(Refusal::DamagedFile)));
     assert!(rt; matches!(pager.page(released), Err(Refusal::DamagedFile)));
+    Ok(())
+}
+
+#[test]
+fn a_page_that_does_not_fit_is_not_released(rt: HostRuntime) -> Result<(), Fail> {
+    let Ok(mut pager) = Pager::create(rt.alloc(), MemoryDisk::new(rt.alloc()), 5) else {
+        return Err("not created".into());
+    };
+    if pager.begin().is_err() {
+        return Err("not begun".into());
+    }
+    let Ok(empty_leaf) = pager.allocate(PageKind::Leaf) else {
+        return Err("not allocated".into());
+    };
+    pager.commit();
+    assert!(rt; pager.flush().is_ok());
+    pager.forget();
     if pager.begin().is_err() {
         return Err("not begun again".into());
     }
