@@ -1,3 +1,4 @@
+pub mod Calls
 pub mod Content
 pub mod Counts
 pub mod Failing

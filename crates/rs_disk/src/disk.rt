@@ -1,11 +1,11 @@
 //! The disk as a trait: what its calls do to the bytes that it holds.
 //!
-//! A disk that keeps this model is honest. Whether it is so is a fact of the disk that no call changes,
-//! and each clause about bytes has it as its premise. The count of failures has none.
+//! A disk that keeps this model is honest. Whether it is honest is a fact of the disk that no call changes,
+//! and each clause about bytes has it as its premise. The clauses about failures and syncs have none.
 
-ghost use Rattle.std.specs.Prelude.{◌≡◌, ℕ, Bool, ◌*◌, ◌/◌, ◌-◌, ◌^◌, ◌≤◌, min, Some, length, IsTrue, OnOk};
+ghost use Rattle.std.specs.Prelude.{◌≡◌, ℕ, Bool, true, false, ◌*◌, ◌/◌, ◌-◌, ◌^◌, ◌≤◌, min, length, IsTrue, OnOk};
 ghost use Rattle.rs_disk.specs.Content.{Content, Gives, Holds, KeepsOthers, CutsTo};
-ghost use Rattle.rs_disk.specs.Counts.{Counts};
+ghost use Rattle.rs_disk.specs.Counts.{Counts, Syncs};
 
 use thiserror::Error;
 
@@ -19,7 +19,7 @@ pub struct DiskFault;
 
 /// Bytes at offsets from 0 on. Bytes past the end read as zeros.
 pub trait Disk {
-    /// What reads give.
+    /// How long the disk is, and the byte that a read gives at each offset.
     ghost seen: { Self → Content };
 
     /// The disk keeps this model. No call changes it, either way.
@@ -28,37 +28,44 @@ pub trait Disk {
     /// How many calls have failed.
     ghost failures: { Self → ℕ };
 
+    /// A sync has succeeded, and no write or cut was called since.
+    ghost is_synced: { Self → Bool };
+
     /// Fills `buffer` with the bytes from offset `at` on, zeros past the end. After a fault `buffer` may
-    /// hold any bytes, and the disk holds what it held.
+    /// hold any bytes. The disk's bytes stay.
     fn read(&mut self, at: u64, buffer: &mut [u8]) -> Result<(), DiskFault>
         ensures bytes { IsTrue (is_honest self.old) → OnOk result (Gives (seen self.old) at buffer.new) }
         ensures same { IsTrue (is_honest self.old) → seen self.new ≡ seen self.old }
         ensures honesty { is_honest self.new ≡ is_honest self.old }
-        ensures count { Counts result (failures self.old) (failures self.new) };
+        ensures count { Counts result (failures self.old) (failures self.new) }
+        ensures synced { is_synced self.new ≡ is_synced self.old };
 
-    /// Writes `bytes` from offset `at` on. A write past the end makes the disk longer, with zeros between.
-    /// After a fault any bytes may stand in the range, and reads of it need not agree with one another,
-    /// until a write there succeeds. The bytes outside the range stay, and the size is no less than before,
-    /// and no more than the greater of that and the range's end.
+    /// Writes `bytes` from offset `at` on. A write past the end makes the disk longer, with zeros between;
+    /// a write of no bytes changes nothing. After a fault the range has some bytes, not known which, until a
+    /// write there succeeds. The bytes outside the range stay, and the size is no less than before, and no
+    /// more than the greater of that and the range's end.
     fn write(&mut self, at: u64, bytes: &[u8]) -> Result<(), DiskFault>
         ensures written { IsTrue (is_honest self.old) → OnOk result (Holds (seen self.new) at bytes.now) }
         ensures others { IsTrue (is_honest self.old)
             → KeepsOthers at (length bytes.now) (seen self.old) (seen self.new) }
         ensures honesty { is_honest self.new ≡ is_honest self.old }
-        ensures count { Counts result (failures self.old) (failures self.new) };
+        ensures count { Counts result (failures self.old) (failures self.new) }
+        ensures synced { is_synced self.new ≡ false };
 
-    /// Waits until what was written and cut is on the medium. What reads give stays, after a fault too.
+    /// Waits until what was written and cut is on the medium. The disk's bytes stay, after a fault too.
     fn sync(&mut self) -> Result<(), DiskFault>
         ensures same { IsTrue (is_honest self.old) → seen self.new ≡ seen self.old }
         ensures honesty { is_honest self.new ≡ is_honest self.old }
-        ensures count { Counts result (failures self.old) (failures self.new) };
+        ensures count { Counts result (failures self.old) (failures self.new) }
+        ensures synced { Syncs result (is_synced self.old) (is_synced self.new) };
 
     /// Drops all bytes past so many pages. It never makes the disk longer. After a fault it is done or not.
     fn cut(&mut self, pages: u32) -> Result<(), DiskFault>
         ensures cut { IsTrue (is_honest self.old)
             → CutsTo result (PAGE_SIZE * pages) (seen self.old) (seen self.new) }
         ensures honesty { is_honest self.new ≡ is_honest self.old }
-        ensures count { Counts result (failures self.old) (failures self.new) };
+        ensures count { Counts result (failures self.old) (failures self.new) }
+        ensures synced { is_synced self.new ≡ false };
 
     /// How many whole pages the disk holds, 2^32 - 1 at the most.
     fn pages(&self) -> u32
@@ -71,17 +78,5 @@ pub trait Disk {
 
     /// Past the end an honest disk reads as zeros.
     ghost zeros_past_the_end: { (disk : Self) → IsTrue (is_honest disk)
-        → (i : ℕ) → (seen disk).size ≤ i → (seen disk).byte i ≡ Some 0 };
-}
-
-/// Counts a call that failed. What it answered is passed on.
-#[tactic(auto, unfolding(crate::specs::Counts::counted_on))]
-pub(crate) fn count(outcome: Result<(), DiskFault>, failures: &mut u64) -> Result<(), DiskFault>
-    ensures same { result ≡ outcome }
-    ensures count { Counts outcome failures.old failures.new }
-{
-    if outcome.is_err() {
-        *failures = failures.saturating_add(1);
-    }
-    outcome
+        → (i : ℕ) → (seen disk).size ≤ i → (seen disk).byte i ≡ 0 };
 }

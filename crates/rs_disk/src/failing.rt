@@ -2,11 +2,13 @@
 //!
 //! The call that fails may leave behind what the model allows: half a write, a cut that was done.
 
-ghost use Rattle.std.specs.Prelude.{◌≡◌, ◌==◌, ◌-◌, ◌*◌, length, IsTrue, IsErr, OnOk};
+ghost use Rattle.std.specs.Prelude.{◌≡◌, ◌==◌, ◌-◌, ◌*◌, false, length, IsTrue, IsErr, OnOk};
+ghost use Rattle.rs_disk.specs.Calls.{no_calls};
 ghost use Rattle.rs_disk.specs.Content.{Gives, Holds, KeepsOthers, CutsTo};
-ghost use Rattle.rs_disk.specs.Counts.{Counts};
+ghost use Rattle.rs_disk.specs.Counts.{Counts, Syncs};
 
-use crate::disk::{Disk, DiskFault, PAGE_SIZE, count};
+use crate::calls::CallLog;
+use crate::disk::{Disk, DiskFault, PAGE_SIZE};
 use std::marker::Model;
 
 /// Whether a cut that fails is done.
@@ -25,19 +27,19 @@ pub struct FailingDisk<D: Disk> {
     /// How many calls are left up to the one that fails, that one among them; 0: none is left to fail.
     calls_left: u64,
     failed_cut: FailedCut,
-    failures: u64,
+    calls: CallLog,
 }
 
 impl<D: Disk> Model for FailingDisk<D> {
-    ghost use Rattle.rs_disk.specs.Failing.{Passed};
+    ghost use Rattle.rs_disk.specs.Failing.{Failing};
 
-    ghost Value = { Passed D };
+    ghost Value = { Failing D };
 
     ghost view = { λ f. record {
       disk = f.disk;
       calls_left = f.calls_left;
       failed_cut = f.failed_cut;
-      failures = f.failures;
+      calls = f.calls;
     } };
 }
 
@@ -50,14 +52,14 @@ impl<D: Disk> FailingDisk<D> {
           disk = disk;
           calls_left = failing_call;
           failed_cut = failed_cut;
-          failures = 0;
+          calls = no_calls;
         } }
     {
         FailingDisk {
             disk,
             calls_left: failing_call,
             failed_cut,
-            failures: 0,
+            calls: CallLog::new(),
         }
     }
 
@@ -69,7 +71,7 @@ impl<D: Disk> FailingDisk<D> {
             disk,
             calls_left: _,
             failed_cut: _,
-            failures: _,
+            calls: _,
         } = self;
         disk
     }
@@ -92,7 +94,9 @@ impl<D: Disk> Disk for FailingDisk<D> {
 
     ghost is_honest = { λ failing. D.Disk.is_honest failing.disk };
 
-    ghost failures = { λ failing. failing.failures };
+    ghost failures = { λ failing. failing.calls.failures };
+
+    ghost is_synced = { λ failing. failing.calls.is_synced };
 
     ghost zeros_past_the_end = { λ failing. D.Disk.zeros_past_the_end failing.disk };
 
@@ -102,7 +106,8 @@ impl<D: Disk> Disk for FailingDisk<D> {
         ensures same { IsTrue (D.is_honest self.old.disk)
             → D.seen self.new.disk ≡ D.seen self.old.disk }
         ensures honesty { D.is_honest self.new.disk ≡ D.is_honest self.old.disk }
-        ensures count { Counts result self.old.failures self.new.failures }
+        ensures count { Counts result self.old.calls.failures self.new.calls.failures }
+        ensures synced { self.new.calls.is_synced ≡ self.old.calls.is_synced }
         ensures turn { FailsInTurn D.failures result self.old self.new }
     {
         let outcome = if is_failing_call(&mut self.calls_left) {
@@ -110,7 +115,7 @@ impl<D: Disk> Disk for FailingDisk<D> {
         } else {
             self.disk.read(at, buffer)
         };
-        count(outcome, &mut self.failures)
+        self.calls.note_read(outcome)
     }
 
     fn write(&mut self, at: u64, bytes: &[u8]) -> Result<(), DiskFault>
@@ -119,7 +124,8 @@ impl<D: Disk> Disk for FailingDisk<D> {
         ensures others { IsTrue (D.is_honest self.old.disk)
             → KeepsOthers at (length bytes.now) (D.seen self.old.disk) (D.seen self.new.disk) }
         ensures honesty { D.is_honest self.new.disk ≡ D.is_honest self.old.disk }
-        ensures count { Counts result self.old.failures self.new.failures }
+        ensures count { Counts result self.old.calls.failures self.new.calls.failures }
+        ensures synced { self.new.calls.is_synced ≡ false }
         ensures turn { FailsInTurn D.failures result self.old self.new }
     {
         let outcome = if is_failing_call(&mut self.calls_left) {
@@ -127,14 +133,15 @@ impl<D: Disk> Disk for FailingDisk<D> {
         } else {
             self.disk.write(at, bytes)
         };
-        count(outcome, &mut self.failures)
+        self.calls.note_change(outcome)
     }
 
     fn sync(&mut self) -> Result<(), DiskFault>
         ensures same { IsTrue (D.is_honest self.old.disk)
             → D.seen self.new.disk ≡ D.seen self.old.disk }
         ensures honesty { D.is_honest self.new.disk ≡ D.is_honest self.old.disk }
-        ensures count { Counts result self.old.failures self.new.failures }
+        ensures count { Counts result self.old.calls.failures self.new.calls.failures }
+        ensures synced { Syncs result self.old.calls.is_synced self.new.calls.is_synced }
         ensures turn { FailsInTurn D.failures result self.old self.new }
     {
         let outcome = if is_failing_call(&mut self.calls_left) {
@@ -142,14 +149,15 @@ impl<D: Disk> Disk for FailingDisk<D> {
         } else {
             self.disk.sync()
         };
-        count(outcome, &mut self.failures)
+        self.calls.note_sync(outcome)
     }
 
     fn cut(&mut self, pages: u32) -> Result<(), DiskFault>
         ensures cut { IsTrue (D.is_honest self.old.disk)
             → CutsTo result (PAGE_SIZE * pages) (D.seen self.old.disk) (D.seen self.new.disk) }
         ensures honesty { D.is_honest self.new.disk ≡ D.is_honest self.old.disk }
-        ensures count { Counts result self.old.failures self.new.failures }
+        ensures count { Counts result self.old.calls.failures self.new.calls.failures }
+        ensures synced { self.new.calls.is_synced ≡ false }
         ensures turn { FailsInTurn D.failures result self.old self.new }
     {
         let outcome = if is_failing_call(&mut self.calls_left) {
@@ -157,7 +165,7 @@ impl<D: Disk> Disk for FailingDisk<D> {
         } else {
             self.disk.cut(pages)
         };
-        count(outcome, &mut self.failures)
+        self.calls.note_change(outcome)
     }
 
     fn pages(&self) -> u32 {
@@ -165,7 +173,7 @@ impl<D: Disk> Disk for FailingDisk<D> {
     }
 
     fn failures(&self) -> u64 {
-        self.failures
+        self.calls.failures()
     }
 }
 

@@ -3,11 +3,13 @@
 //! No clause says what a file's bytes are. That a real file keeps the disk's model is a premise of whoever
 //! builds on one; what is promised here is that calls are safe, return, and count their failures.
 
-ghost use Rattle.std.specs.Prelude.{◌≡◌, false, None, IsErrOf, IfOk};
+ghost use Rattle.std.specs.Prelude.{◌≡◌, false, IsErrOf, IfOk};
 ghost use Rattle.std.proofs.lemmas.Bool.{false≢true};
+ghost use Rattle.rs_disk.specs.Calls.{no_calls};
 
-use crate::disk::{Disk, DiskFault, PAGE_SIZE, count};
-use std::fs::{File, OpenFile, OpenOptions};
+use crate::calls::CallLog;
+use crate::disk::{Disk, DiskFault, PAGE_SIZE};
+use std::fs::{File, OpenFile, OpenOptions, TryLockError};
 use std::io;
 use std::marker::Model;
 use std::os::unix::fs::FileExt;
@@ -23,36 +25,40 @@ pub enum OpenError {
     /// There is nothing at the path.
     #[error("no such file")]
     Missing,
+    /// Another disk has the file open, in this process or another.
+    #[error("file in use")]
+    InUse,
     /// The system refused it, or it is no regular file.
     #[error("cannot open file")]
     CannotOpen,
 }
 
-/// An open file, to be written by nobody else. It is closed where it is dropped.
+/// An open file, which `create` and `open` lock: no other disk opens it until this one is dropped, which closes
+/// the file. The lock is advisory, so a program that takes none can still write the file.
 #[derive(Drop)]
 pub struct FileDisk<F = File> {
     file: F,
-    failures: u64,
+    calls: CallLog,
 }
 
-/// Of a file nothing is known but how many calls have failed.
+/// Of a file nothing is known but its calls.
 impl<F> Model for FileDisk<F> {
-    ghost use Rattle.std.specs.Prelude.{ℕ};
+    ghost use Rattle.rs_disk.specs.Calls.{Calls};
 
-    ghost Value = { ℕ };
+    ghost Value = { Calls };
 
-    ghost view = { λ disk. disk.failures };
+    ghost view = { λ disk. disk.calls };
 }
 
 impl FileDisk {
     /// Makes an empty file at a path where there is nothing, and opens it. Where something is, that is
     /// left as it was.
     pub fn create<R: Files<File = File>>(rt: &R, path: &str) -> Result<FileDisk, OpenError>
-        ensures fresh { IfOk result (λ failures. failures ≡ 0) }
+        ensures fresh { IfOk result (λ disk. disk ≡ no_calls) }
         ensures not_missing { IsErrOf result OpenError.Missing → ⊥ }
     {
         match File::create_new(rt, path) {
-            Ok(file) => Ok(FileDisk::over(file)),
+            Ok(file) => locked(file),
             Err(error) if error.kind() == io::ErrorKind::AlreadyExists => Err(OpenError::Exists),
             Err(_) => Err(OpenError::CannotOpen),
         }
@@ -60,11 +66,11 @@ impl FileDisk {
 
     /// Opens a regular file that is there, and leaves its bytes as they are.
     pub fn open<R: Files<File = File>>(rt: &R, path: &str) -> Result<FileDisk, OpenError>
-        ensures fresh { IfOk result (λ failures. failures ≡ 0) }
+        ensures fresh { IfOk result (λ disk. disk ≡ no_calls) }
         ensures not_existing { IsErrOf result OpenError.Exists → ⊥ }
     {
         match OpenOptions::new().read(true).write(true).open(rt, path) {
-            Ok(file) if is_regular(&file) => Ok(FileDisk::over(file)),
+            Ok(file) if is_regular(&file) => locked(file),
             Err(error) if error.kind() == io::ErrorKind::NotFound => Err(OpenError::Missing),
             _ => Err(OpenError::CannotOpen),
         }
@@ -72,42 +78,47 @@ impl FileDisk {
 }
 
 impl<F> FileDisk<F> {
-    /// A disk over an open file.
-    pub(crate) fn over(file: F) -> FileDisk<F>
-        ensures { result ≡ 0 }
+    /// A disk over a file that is open already. It takes no lock.
+    pub fn over(file: F) -> FileDisk<F>
+        ensures { result ≡ no_calls }
     {
-        FileDisk { file, failures: 0 }
+        FileDisk {
+            file,
+            calls: CallLog::new(),
+        }
     }
 }
 
 impl<F: FileExt + OpenFile> Disk for FileDisk<F> {
-    ghost seen = { λ _. record { size = 0; byte = λ _. None } };
+    ghost seen = { λ _. record { size = 0; byte = λ _. 0 } };
 
     ghost is_honest = { λ _. false };
 
-    ghost failures = { λ failures. failures };
+    ghost failures = { λ calls. calls.failures };
+
+    ghost is_synced = { λ calls. calls.is_synced };
 
     ghost zeros_past_the_end = { λ _ honest. absurd (false≢true honest) };
 
     fn read(&mut self, at: u64, buffer: &mut [u8]) -> Result<(), DiskFault> {
         let outcome = read_at(&self.file, at, buffer).map_err(|_| DiskFault);
-        count(outcome, &mut self.failures)
+        self.calls.note_read(outcome)
     }
 
     fn write(&mut self, at: u64, bytes: &[u8]) -> Result<(), DiskFault> {
         let outcome = self.file.write_all_at(bytes, at).map_err(|_| DiskFault);
-        count(outcome, &mut self.failures)
+        self.calls.note_change(outcome)
     }
 
     fn sync(&mut self) -> Result<(), DiskFault> {
         let outcome = self.file.sync_all().map_err(|_| DiskFault);
-        count(outcome, &mut self.failures)
+        self.calls.note_sync(outcome)
     }
 
     fn cut(&mut self, pages: u32) -> Result<(), DiskFault> {
         let bound = PAGE_SIZE as u64 * u64::from(pages);
         let outcome = shorten(&self.file, bound).map_err(|_| DiskFault);
-        count(outcome, &mut self.failures)
+        self.calls.note_change(outcome)
     }
 
     /// It is 0 where the system doesn't tell the length.
@@ -117,7 +128,20 @@ impl<F: FileExt + OpenFile> Disk for FileDisk<F> {
     }
 
     fn failures(&self) -> u64 {
-        self.failures
+        self.calls.failures()
+    }
+}
+
+/// Locks a file, and makes a disk of it.
+fn locked(file: File) -> Result<FileDisk, OpenError>
+    ensures fresh { IfOk result (λ disk. disk ≡ no_calls) }
+    ensures not_missing { IsErrOf result OpenError.Missing → ⊥ }
+    ensures not_existing { IsErrOf result OpenError.Exists → ⊥ }
+{
+    match file.try_lock() {
+        Ok(()) => Ok(FileDisk::over(file)),
+        Err(TryLockError::WouldBlock) => Err(OpenError::InUse),
+        Err(TryLockError::Error(_)) => Err(OpenError::CannotOpen),
     }
 }
 
@@ -125,8 +149,18 @@ fn is_regular(file: &File) -> bool {
     file.metadata().is_ok_and(|found| found.is_file())
 }
 
-/// Reads the bytes from `at` on, zeros past the end of the file.
+/// Reads the bytes from `at` on, zeros past the end of the file. Where the file has all of them, as a rule one
+/// call of the system gives them.
 fn read_at<F: FileExt + OpenFile>(file: &F, at: u64, buffer: &mut [u8]) -> io::Result<()> {
+    match file.read_at(buffer, at) {
+        Ok(count) if count == buffer.len() => Ok(()),
+        Err(error) if error.kind() != io::ErrorKind::Interrupted => Err(error),
+        _ => read_to_the_end(file, at, buffer),
+    }
+}
+
+/// Reads the bytes from `at` on, zeros past the end of the file, in as many calls as it takes.
+fn read_to_the_end<F: FileExt + OpenFile>(file: &F, at: u64, buffer: &mut [u8]) -> io::Result<()> {
     let there = file.metadata()?.len().saturating_sub(at);
     let there = there.min(buffer.len() as u64) as usize;
     file.read_exact_at(&mut buffer[..there], at)?;

@@ -4,12 +4,11 @@
 //! knows what the bytes mean.
 #![tactic(auto)]
 
+mod calls;
 pub mod disk;
 pub mod failing;
 pub mod file;
 pub mod memory;
-#[cfg(test)]
-mod tests;
 
 pub use disk::{Disk, DiskFault, PAGE_SIZE};
 pub use failing::{FailedCut, FailingDisk};

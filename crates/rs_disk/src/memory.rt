@@ -2,13 +2,14 @@
 //!
 //! It is honest. Only a growth that is refused fails, and it leaves the disk as it was.
 
-ghost use Rattle.std.specs.Prelude.{◌≡◌, ℕ, ◌+◌, ◌<◌, ◌≤◌, max, ◌*◌, Some, true, [], length, slice_index, take, IsOk, OnOk, OnErr};
+ghost use Rattle.std.specs.Prelude.{◌≡◌, ℕ, ◌+◌, ◌<◌, ◌≤◌, max, ◌*◌, true, false, [], length, slice_index, take, IsOk, OnOk, OnErr};
+ghost use Rattle.rs_disk.specs.Calls.{no_calls};
 ghost use Rattle.rs_disk.specs.Content.{content_of, Gives, Holds, KeepsOthers};
 ghost use Rattle.rs_disk.specs.Counts.{Counts};
-ghost use Rattle.std.proofs.Common.{ap};
 ghost use Rattle.std.proofs.lemmas.List.{get_or_past};
 
-use crate::disk::{Disk, DiskFault, PAGE_SIZE, count};
+use crate::calls::CallLog;
+use crate::disk::{Disk, DiskFault, PAGE_SIZE};
 use std::alloc::{AllocError, Global};
 use std::marker::Model;
 
@@ -16,7 +17,7 @@ use std::marker::Model;
 #[derive(Drop)]
 pub struct MemoryDisk {
     bytes: Vec<u8>,
-    failures: u64,
+    calls: CallLog,
 }
 
 impl Model for MemoryDisk {
@@ -24,17 +25,17 @@ impl Model for MemoryDisk {
 
     ghost Value = { Stored };
 
-    ghost view = { λ m. record { bytes = m.bytes.items; failures = m.failures } };
+    ghost view = { λ m. record { bytes = m.bytes.items; calls = m.calls } };
 }
 
 impl MemoryDisk {
     /// An empty disk. It takes no memory until it is written.
     pub fn new(alloc: Global) -> MemoryDisk
-        ensures { result ≡ record { bytes = []; failures = 0 } }
+        ensures { result ≡ record { bytes = []; calls = no_calls } }
     {
         MemoryDisk {
             bytes: Vec::new(alloc),
-            failures: 0,
+            calls: CallLog::new(),
         }
     }
 }
@@ -44,9 +45,11 @@ impl Disk for MemoryDisk {
 
     ghost is_honest = { λ _. true };
 
-    ghost failures = { λ m. m.failures };
+    ghost failures = { λ m. m.calls.failures };
 
-    ghost zeros_past_the_end = { λ m _ i past. ap Some (get_or_past m.bytes i 0 past) };
+    ghost is_synced = { λ m. m.calls.is_synced };
+
+    ghost zeros_past_the_end = { λ m _ i past. get_or_past m.bytes i 0 past };
 
     fn read(&mut self, at: u64, buffer: &mut [u8]) -> Result<(), DiskFault>
         ensures succeeds { IsOk result }
@@ -65,26 +68,31 @@ impl Disk for MemoryDisk {
             (content_of self.old.bytes) (content_of self.new.bytes) }
         ensures inside { at + length bytes.now ≤ length self.old.bytes → IsOk result }
         ensures refused { OnErr result (self.new.bytes ≡ self.old.bytes) }
-        ensures count { Counts result self.old.failures self.new.failures }
+        ensures count { Counts result self.old.calls.failures self.new.calls.failures }
+        ensures synced { self.new.calls.is_synced ≡ false }
     {
         let outcome = write_in(&mut self.bytes, at as usize, bytes);
-        count(outcome, &mut self.failures)
+        self.calls.note_change(outcome)
     }
 
     fn sync(&mut self) -> Result<(), DiskFault>
         ensures succeeds { IsOk result }
-        ensures same { self.new ≡ self.old }
+        ensures same { self.new.bytes ≡ self.old.bytes }
+        ensures count { self.new.calls.failures ≡ self.old.calls.failures }
+        ensures synced { self.new.calls.is_synced ≡ true }
     {
-        // There is no medium behind it to wait for.
-        Ok(())
+        // There is no medium to wait for.
+        self.calls.note_sync(Ok(()))
     }
 
     fn cut(&mut self, pages: u32) -> Result<(), DiskFault>
         ensures succeeds { IsOk result }
-        ensures cut { self.new ≡ record self.old { bytes = take (PAGE_SIZE * pages) self.old.bytes } }
+        ensures cut { self.new.bytes ≡ take (PAGE_SIZE * pages) self.old.bytes }
+        ensures count { self.new.calls.failures ≡ self.old.calls.failures }
+        ensures synced { self.new.calls.is_synced ≡ false }
     {
         self.bytes.truncate(PAGE_SIZE * pages as usize);
-        Ok(())
+        self.calls.note_change(Ok(()))
     }
 
     fn pages(&self) -> u32 {
@@ -92,7 +100,7 @@ impl Disk for MemoryDisk {
     }
 
     fn failures(&self) -> u64 {
-        self.failures
+        self.calls.failures()
     }
 }
 

@@ -9,7 +9,6 @@ use Rattle.rs_pager.specs.Slot.{working_of, changed_of, copy_or, copied_slot, em
 use Rattle.rs_pager.specs.Pages.{Pages, HasPage, SamePages, KeepsOtherPages, IsBlank, empty_header, is_page}
 use Rattle.rs_pager.specs.Paged.{Paged, slot_at, IsFresh}
 use Rattle.rs_pager.specs.FreeList.{IsFreePage, IsFreeList}
-use Rattle.rs_pager.specs.Stores.{IsWhole}
 use Rattle.rs_pager.specs.Maps.{byte_of, committed_byte, working_byte, committed, working, changes, is_held, IsClean, IsTied}
 use Rattle.rs_pager.specs.Changes.{Allocates, TakesFree, TakesLast, Releases}
 use Rattle.rs_pager.specs.Rests.{Rests, ReturnsPage}
@@ -164,8 +163,6 @@ module _ {D : Type 0} (is_honest : D → Bool) (seen : D → Content) (failures 
   put-tied : IsTied is_honest seen old → IsTied is_honest seen last
   put-tied tied = let holds : IsTied is_honest seen held = put-returns.tied tied in record {
     honest = holds.honest;
-    committed_whole = holds.committed_whole;
-    working_whole = λ m above lt none. holds.working_whole m above (subst (λ pages. m < pages) same_count lt) none;
     clean = holds.clean;
     inside = holds.inside;
     header = holds.header;
@@ -391,8 +388,6 @@ counted-refuses is_honest seen failures inside old count e =
       working = λ tied. record { fields = refl; bytes = λ m k lt. counted-working seen p count m k };
       tied = λ tied. record {
         honest = tied.honest;
-        committed_whole = tied.committed_whole;
-        working_whole = tied.working_whole;
         clean = tied.clean;
         inside = tied.inside;
         header = tied.header;
@@ -433,11 +428,6 @@ module _ {D : Type 0} (is_honest : D → Bool) (seen : D → Content) (failures 
   push-tied : IsTied is_honest seen old → IsTied is_honest seen pushed
   push-tied tied = record {
     honest = tied.honest;
-    committed_whole = λ m above lt none. tied.committed_whole m above lt
-        (ap (λ (s : HeldPage). s.kept) (sym (push-others m (omega (arith, kept_room, lt)))) ∙ none);
-    working_whole = λ m. at-push (λ i s. 0 < i → i < old.working.pages + 1 → working_of s ≡ None → IsWhole (seen old.disk) i) old.slots m slot
-        (λ _ _ none. absurd (some_none page none))
-        (λ ne above lt none. tied.working_whole m above (less m old.working.pages (λ e. ne (e ∙ sym room)) lt) none);
     clean = λ m. at-push (λ i s. IsClean (seen old.disk) i s) old.slots m slot (record { bytes = λ _ other e. absurd (some_none other (sym e)) }) (λ _. tied.clean m);
     inside = λ m above lt none. tied.inside m above lt (sym (push-changed m) ∙ none);
     header = tied.header;

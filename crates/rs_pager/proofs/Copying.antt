@@ -7,7 +7,6 @@ use Rattle.rs_pager.specs.HeldPage.{HeldPage}
 use Rattle.rs_pager.specs.Slot.{working_of, changed_of, copied_slot, copy_or}
 use Rattle.rs_pager.specs.Pages.{Pages, HasPage, SamePages, KeepsOtherPages, is_page}
 use Rattle.rs_pager.specs.Paged.{Paged, slot_at}
-use Rattle.rs_pager.specs.Stores.{IsWhole}
 use Rattle.rs_pager.specs.Maps.{byte_of, committed_byte, working_byte, committed, working, changes, is_held, KeepsCounts, IsClean, IsTied}
 use Rattle.rs_pager.specs.Changes.{IsNotInUse, IsHeldChange, ReplacesPage}
 use Rattle.rs_pager.specs.Rests.{Rests, ReturnsPage}
@@ -66,10 +65,6 @@ module _ {D : Type 0} (is_honest : D → Bool) (seen : D → Content) (failures 
   copy-tied : IsTied is_honest seen old → IsTied is_honest seen new
   copy-tied tied = record {
     honest = tied.honest;
-    committed_whole = λ m. at-set (λ i slot. 0 < i → i < old.kept.pages → slot.kept ≡ None → IsWhole (seen old.disk) i)
-        old.slots n m copy there (tied.committed_whole n) (λ _. tied.committed_whole m);
-    working_whole = λ m. at-set (λ i slot. 0 < i → i < old.working.pages → working_of slot ≡ None → IsWhole (seen old.disk) i)
-        old.slots n m copy there (λ _ _ none. absurd (some_none page none)) (λ _. tied.working_whole m);
     clean = λ m. at-set (λ i slot. IsClean (seen old.disk) i slot) old.slots n m copy there
         (record { bytes = (tied.clean n).bytes }) (λ _. tied.clean m);
     inside = λ m above lt none. tied.inside m above lt (sym (copy-changed m) ∙ none);

@@ -1,5 +1,5 @@
 -- What a flush makes of a pager and its disk.
-use Rattle.std.proofs.Common.{IsTrue, ◌≡◌, ◌<◌, ◌≤◌, ◌+◌, ◌-◌, ◌*◌, ℕ, zero, suc, max, Option, Some, None, IsSome, List, [], ◌∷◌, map, length, ap, sym, ◌∙◌, subst, true, false, Bool, refl, arith}
+use Rattle.std.proofs.Common.{IsTrue, ◌≡◌, ◌<◌, ◌≤◌, ◌+◌, ◌-◌, ◌*◌, ℕ, zero, suc, max, Option, Some, None, List, [], ◌∷◌, map, length, ap, sym, ◌∙◌, subst, true, false, Bool, refl, arith}
 use Rattle.std.specs.Prelude.{if◌then◌else◌}
 use Rattle.rs_disk.specs.Content.{Content}
 use Rattle.rs_disk.specs.declared.disk.TheConstants.{PAGE_SIZE}
@@ -7,12 +7,12 @@ use Rattle.rs_pager.specs.HeldPage.{HeldPage}
 use Rattle.rs_pager.specs.Slot.{working_of, changed_of, clean_slot, copy_or}
 use Rattle.rs_pager.specs.Paged.{Paged, slot_at, HaveNoCopies, IsSound}
 use Rattle.rs_pager.specs.Pages.{SamePages}
-use Rattle.rs_pager.specs.Stores.{IsWhole, IsWholeFile, HasBytes, HasFileHeader, Stores}
+use Rattle.rs_pager.specs.Stores.{HasBytes, HasFileHeader, Stores}
 use Rattle.rs_pager.specs.Writing.{KeepsPage, KeepsFlag, WritesOut, HasAll}
 use Rattle.rs_pager.specs.Maps.{byte_of, committed_byte, working_byte, committed, working, KeepsChanges, HoldsNoChange, IsClean, IsTied}
 use Rattle.rs_pager.specs.declared.file_header.FileHeader.{FileHeader}
 use Rattle.rs_pager.proofs.Slots.{slot_at-clean, HaveNoCopies-slot_at}
-use Rattle.rs_pager.proofs.Maps.{same_bytes, HasBytes-whole}
+use Rattle.rs_pager.proofs.Maps.{same_bytes}
 use Rattle.rs_pager.proofs.Writing.{HasBytes-kept}
 
 -- the disk has all that is committed
@@ -39,9 +39,6 @@ changed_true : (kept : Option (List ℕ)) (b : Bool) → b ≡ true → (if b th
 changed_true kept true e = refl
 changed_true kept false e = cc
 
-whole_kept : (n : ℕ) (old new : Content) → KeepsPage n old new → IsWhole old n → IsWhole new n
-whole_kept n old new kept whole = record { each = λ k lt. subst IsSome (sym (kept.each k lt)) (whole.each k lt) }
-
 -- page 0 where it is kept
 header_kept : (old new : Content) (fields : FileHeader) → KeepsPage 0 old new → HasFileHeader old fields → HasFileHeader new fields
 header_kept old new fields kept has = record {
@@ -57,30 +54,13 @@ header_kept old new fields kept has = record {
 kept_byte : (old new : Content) (n k : ℕ) (held : Option (List ℕ)) → (held ≡ None → KeepsPage n old new) → k < PAGE_SIZE
     → byte_of new held n k ≡ byte_of old held n k
 kept_byte old new n k (Some page) kept lt = refl
-kept_byte old new n k None kept lt = (kept refl).each k lt
+kept_byte old new n k None kept lt = ap (λ b. Some b) ((kept refl).each k lt)
 
 -- a byte of what is held, where the content has it
 had_byte : (content : Content) (n k : ℕ) (held : Option (List ℕ)) → ((page : List ℕ) → held ≡ Some page → HasBytes content n page)
-    → k < PAGE_SIZE → byte_of content held n k ≡ content.byte (PAGE_SIZE * n + k)
-had_byte content n k (Some page) has lt = sym ((has page refl).each k lt)
+    → k < PAGE_SIZE → byte_of content held n k ≡ Some (content.byte (PAGE_SIZE * n + k))
+had_byte content n k (Some page) has lt = ap (λ b. Some b) (sym ((has page refl).each k lt))
 had_byte content n k None has lt = refl
-
--- a page that isn't changed is whole on the disk, held or not
-unchanged_whole : (content : Content) (n : ℕ) (kept : Option (List ℕ)) (b : Bool) → (kept ≡ None → IsWhole content n)
-    → (b ≡ false → (page : List ℕ) → kept ≡ Some page → HasBytes content n page) → (if b then kept else None) ≡ None
-    → IsWhole content n
-unchanged_whole content n None b whole clean e = whole refl
-unchanged_whole content n (Some page) true whole clean e = cc
-unchanged_whole content n (Some page) false whole clean e = HasBytes-whole content n page (clean refl page refl)
-
--- where no change is held, the disk is whole
-pub tied-whole : {D : Type 0} (is_honest : D → Bool) (seen : D → Content) (p : Paged D) → IsTied is_honest seen p
-    → HoldsNoChange p → IsWholeFile (seen p.disk) p.kept.pages
-tied-whole is_honest seen p tied none = record {
-  header = record { each = λ k lt ne. subst IsSome (sym ((tied.header none.lacks).bytes k lt ne)) refl };
-  each = λ n pos lt. unchanged_whole (seen p.disk) n (slot_at p.slots n).kept (slot_at p.slots n).is_changed
-      (tied.committed_whole n pos lt) (tied.clean n).bytes (none.changed n);
-}
 
 module _ {D : Type 0} (is_honest : D → Bool) (seen : D → Content) (old : Paged D) (disk : D) where
   -- of each page that isn't held, and of each that is held unchanged, the disk keeps the bytes
@@ -158,8 +138,6 @@ module _ {D : Type 0} (is_honest : D → Bool) (seen : D → Content) (old : Pag
       → IsTied is_honest seen old → IsTied is_honest seen (disk_pager disk old)
   disk-tied sound honesty out tied = record {
     honest = subst IsTrue (sym honesty) tied.honest;
-    committed_whole = λ n pos lt none. whole_kept n (seen old.disk) (seen disk) (keeps out n pos none) (tied.committed_whole n pos lt none);
-    working_whole = λ n pos lt none. whole_kept n (seen old.disk) (seen disk) (keeps_working out n pos none) (tied.working_whole n pos lt none);
     clean = clean-kept sound tied out;
     inside = λ n pos lt none. omega (arith, tied.inside n pos lt none, out.no_shorter);
     header = λ e. header_kept (seen old.disk) (seen disk) old.kept
@@ -232,12 +210,6 @@ module _ {D : Type 0} (is_honest : D → Bool) (seen : D → Content) (old : Pag
       let out = wrote tied.honest in
       record {
         honest = subst IsTrue (sym honesty) tied.honest;
-        committed_whole = λ n pos lt none.
-            let same : (slot_at old.slots n).kept ≡ None = sym (ap (λ (s : HeldPage). s.kept) (slot_at-clean old.slots n)) ∙ none in
-            whole_kept n (seen old.disk) (seen disk) (keeps out n pos same) (tied.committed_whole n pos lt same);
-        working_whole = λ n pos lt none.
-            let same : working_of (slot_at old.slots n) ≡ None = sym (ap working_of (slot_at-clean old.slots n)) ∙ none in
-            whole_kept n (seen old.disk) (seen disk) (keeps_working out n pos same) (tied.working_whole n pos lt same);
         clean = λ n. record { bytes = λ _ page is. has_held sound tied all out n page (sym (ap (λ (s : HeldPage). s.kept) (slot_at-clean old.slots n)) ∙ is) };
         inside = λ n pos lt _. inside_written sound tied all out n pos lt;
         header = λ _. header_written sound tied all out;

@@ -8,7 +8,7 @@ use Rattle.rs_pager.specs.HeldPage.{HeldPage}
 use Rattle.rs_pager.specs.Slot.{empty_slot, working_of, changed_of, committed_slot, abandoned_slot, forgotten_slot, copy_or}
 use Rattle.rs_pager.specs.Paged.{Paged, slot_at, HaveNoCopies, IsFresh, IsSound}
 use Rattle.rs_pager.specs.Pages.{Pages, SamePages, is_page}
-use Rattle.rs_pager.specs.Stores.{IsWhole, HasBytes, HasFileHeader}
+use Rattle.rs_pager.specs.Stores.{HasBytes, HasFileHeader}
 use Rattle.rs_pager.specs.Maps.{byte_of, committed_byte, working_byte, committed, working, KeepsChanges, CommitsChanges, AbandonsChanges, IsClean, IsTied}
 use Rattle.rs_pager.specs.Changes.{with_catalogue}
 use Rattle.rs_pager.specs.declared.file_header.FileHeader.{FileHeader}
@@ -108,8 +108,6 @@ pub begin-tied : {D : Type 0} (is_honest : D → Bool) (seen : D → Content) (o
     → IsTied is_honest seen old → IsTied is_honest seen (begun_pager old)
 begin-tied is_honest seen old tied = record {
   honest = tied.honest;
-  committed_whole = tied.committed_whole;
-  working_whole = tied.working_whole;
   clean = tied.clean;
   inside = tied.inside;
   header = tied.header;
@@ -175,8 +173,6 @@ pub commit-tied : {D : Type 0} (is_honest : D → Bool) (seen : D → Content) (
     → IsTied is_honest seen old → IsTied is_honest seen (committed_pager b old)
 commit-tied is_honest seen b old lacks sound tied = record {
   honest = tied.honest;
-  committed_whole = λ n pos lt none. tied.working_whole n pos lt (sym (ap (λ (s : HeldPage). s.kept) (slot_at-commit old.slots n)) ∙ none);
-  working_whole = λ n pos lt none. tied.working_whole n pos lt (sym (ap working_of (slot_at-commit old.slots n)) ∙ none);
   clean = λ n. subst (IsClean (seen old.disk) n) (sym (slot_at-commit old.slots n)) (record {
     bytes = clean_commit (seen old.disk) n (slot_at old.slots n).kept (slot_at old.slots n).copy (slot_at old.slots n).is_changed (tied.clean n).bytes;
   });
@@ -259,10 +255,6 @@ pub abandon-tied : {D : Type 0} (is_honest : D → Bool) (seen : D → Content) 
     → IsTied is_honest seen old → IsTied is_honest seen (abandoned_pager old)
 abandon-tied is_honest seen old sound tied = record {
   honest = tied.honest;
-  committed_whole = λ n pos lt none. tied.committed_whole n pos lt
-      (sym (ap (λ (s : HeldPage). s.kept) (slot_at-abandoned old.slots old.kept.pages n lt)) ∙ none);
-  working_whole = λ n pos lt none. tied.committed_whole n pos lt
-      (sym (ap working_of (slot_at-abandoned old.slots old.kept.pages n lt)) ∙ none);
   clean = λ n. elim (nat_lt n old.kept.pages) as (λ t. nat_lt n old.kept.pages ≡ t
       → IsClean (seen old.disk) n (slot_at (take old.kept.pages (map abandoned_slot old.slots)) n)) [
         | true ↦ λ e. let lt : n < old.kept.pages = search (rules, tests) in
@@ -283,7 +275,7 @@ forgotten_byte : (content : Content) (n k : ℕ) (kept copy : Option (List ℕ))
     → (b ≡ false → (page : List ℕ) → kept ≡ Some page → HasBytes content n page) → k < PAGE_SIZE
     → byte_of content (forgotten_slot (record { kept = kept; copy = copy; is_changed = b })).kept n k ≡ byte_of content kept n k
 forgotten_byte content n k kept copy true clean lt = refl
-forgotten_byte content n k (Some page) copy false clean lt = (clean refl page refl).each k lt
+forgotten_byte content n k (Some page) copy false clean lt = ap (λ b. Some b) ((clean refl page refl).each k lt)
 forgotten_byte content n k None copy false clean lt = refl
 
 forgotten_working : (content : Content) (n k : ℕ) (kept copy : Option (List ℕ)) (b : Bool)
@@ -291,7 +283,7 @@ forgotten_working : (content : Content) (n k : ℕ) (kept copy : Option (List �
     → byte_of content (working_of (forgotten_slot (record { kept = kept; copy = copy; is_changed = b }))) n k ≡ byte_of content (copy_or copy kept) n k
 forgotten_working content n k kept copy true clean lt = refl
 forgotten_working content n k kept (Some copy) false clean lt = refl
-forgotten_working content n k (Some page) None false clean lt = (clean refl page refl).each k lt
+forgotten_working content n k (Some page) None false clean lt = ap (λ b. Some b) ((clean refl page refl).each k lt)
 forgotten_working content n k None None false clean lt = refl
 
 pub forget-committed : {D : Type 0} (is_honest : D → Bool) (seen : D → Content) (old : Paged D) → IsTied is_honest seen old
@@ -335,24 +327,6 @@ forget-changes old = record {
   working_fields = refl;
 }
 
-pub HasBytes-whole : (content : Content) (n : ℕ) (page : List ℕ) → HasBytes content n page → IsWhole content n
-HasBytes-whole content n page has = record { each = λ k lt. subst IsSome (sym (has.each k lt)) refl }
-
-forgotten_whole : (content : Content) (n : ℕ) (kept copy : Option (List ℕ)) (b : Bool)
-    → (b ≡ false → (page : List ℕ) → kept ≡ Some page → HasBytes content n page) → (kept ≡ None → IsWhole content n)
-    → (forgotten_slot (record { kept = kept; copy = copy; is_changed = b })).kept ≡ None → IsWhole content n
-forgotten_whole content n kept copy true clean whole e = whole e
-forgotten_whole content n (Some page) copy false clean whole e = HasBytes-whole content n page (clean refl page refl)
-forgotten_whole content n None copy false clean whole e = whole refl
-
-forgotten_working_whole : (content : Content) (n : ℕ) (kept copy : Option (List ℕ)) (b : Bool)
-    → (b ≡ false → (page : List ℕ) → kept ≡ Some page → HasBytes content n page) → (copy_or copy kept ≡ None → IsWhole content n)
-    → working_of (forgotten_slot (record { kept = kept; copy = copy; is_changed = b })) ≡ None → IsWhole content n
-forgotten_working_whole content n kept copy true clean whole e = whole e
-forgotten_working_whole content n kept (Some copy) false clean whole e = cc
-forgotten_working_whole content n (Some page) None false clean whole e = HasBytes-whole content n page (clean refl page refl)
-forgotten_working_whole content n None None false clean whole e = whole refl
-
 forgotten_clean : (content : Content) (n : ℕ) (kept copy : Option (List ℕ)) (b : Bool)
     → (b ≡ false → (page : List ℕ) → kept ≡ Some page → HasBytes content n page)
     → IsClean content n (forgotten_slot (record { kept = kept; copy = copy; is_changed = b }))
@@ -363,12 +337,6 @@ pub forget-tied : {D : Type 0} (is_honest : D → Bool) (seen : D → Content) (
     → IsTied is_honest seen old → IsTied is_honest seen (forgotten_pager old)
 forget-tied is_honest seen old tied = record {
   honest = tied.honest;
-  committed_whole = λ n pos lt none.
-      forgotten_whole (seen old.disk) n (slot_at old.slots n).kept (slot_at old.slots n).copy (slot_at old.slots n).is_changed
-      (tied.clean n).bytes (tied.committed_whole n pos lt) (sym (ap (λ (s : HeldPage). s.kept) (slot_at-forget old.slots n)) ∙ none);
-  working_whole = λ n pos lt none.
-      forgotten_working_whole (seen old.disk) n (slot_at old.slots n).kept (slot_at old.slots n).copy (slot_at old.slots n).is_changed
-      (tied.clean n).bytes (tied.working_whole n pos lt) (sym (ap working_of (slot_at-forget old.slots n)) ∙ none);
   clean = λ n. subst (IsClean (seen old.disk) n) (sym (slot_at-forget old.slots n))
       (forgotten_clean (seen old.disk) n (slot_at old.slots n).kept (slot_at old.slots n).copy (slot_at old.slots n).is_changed (tied.clean n).bytes);
   inside = λ n pos lt none. tied.inside n pos lt (sym ((forget-changes old).changed n) ∙ none);
@@ -405,8 +373,6 @@ pub catalogue-tied : {D : Type 0} (is_honest : D → Bool) (seen : D → Content
     → IsTied is_honest seen old → IsTied is_honest seen (catalogue_pager first length old)
 catalogue-tied is_honest seen first length old tied = record {
   honest = tied.honest;
-  committed_whole = tied.committed_whole;
-  working_whole = tied.working_whole;
   clean = tied.clean;
   inside = tied.inside;
   header = tied.header;

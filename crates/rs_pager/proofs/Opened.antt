@@ -1,5 +1,5 @@
 -- A pager over what a disk holds, and one over an empty disk.
-use Rattle.std.proofs.Common.{IsTrue, ◌≡◌, ◌<◌, ◌≤◌, ◌+◌, ◌*◌, ℕ, zero, suc, max, Result, Ok, Err, None, List, [], ◌∷◌, replicate, ap, sym, ◌∙◌, subst, true, false, Bool, refl, arith}
+use Rattle.std.proofs.Common.{IsTrue, ◌≡◌, ◌<◌, ◌≤◌, ◌+◌, ◌*◌, ℕ, zero, suc, max, Result, Ok, Err, Some, None, List, [], ◌∷◌, replicate, ap, sym, ◌∙◌, subst, true, false, Bool, refl, arith}
 use Rattle.std.proofs.lemmas.List.{length-replicate}
 use Rattle.std.specs.Prelude.{is_err}
 use Rattle.rs_disk.specs.Content.{Content, CutsTo}
@@ -8,7 +8,7 @@ use Rattle.rs_pager.specs.HeldPage.{HeldPage}
 use Rattle.rs_pager.specs.Slot.{empty_slot, changed_slot, working_of, changed_of}
 use Rattle.rs_pager.specs.Paged.{Paged, slot_at, HaveNoCopies, IsSound}
 use Rattle.rs_pager.specs.Pages.{Pages, SamePages, IsBlank, IsEmptyFile, empty_fields}
-use Rattle.rs_pager.specs.Stores.{IsWhole, IsWholeFile, HasFileHeader, Stores}
+use Rattle.rs_pager.specs.Stores.{HasFileHeader, Stores}
 use Rattle.rs_pager.specs.Maps.{byte_of, committed_byte, working_byte, committed, working, HoldsNoChange, IsClean, IsTied}
 use Rattle.rs_pager.specs.declared.file_header.FileHeader.{FileHeader}
 use Rattle.rs_pager.specs.declared.header.PageKind.TheVariants.{Directory}
@@ -78,17 +78,14 @@ module _ {D : Type 0} (is_honest : D → Bool) (seen : D → Content) (disk : D)
       fields = refl;
       bytes = λ n k _. same_bytes fields.pages fields.pages n _ _ refl
           (λ _ _. ap (λ (s : HeldPage). byte_of (seen disk) s.kept n k) (slot_at-empty fields.pages n)
-          ∙ ap (λ (c : Content). c.byte (PAGE_SIZE * n + k)) same);
+          ∙ ap (λ (c : Content). Some (c.byte (PAGE_SIZE * n + k))) same);
     };
   }
 
   pub opened-tied : (content : Content) → seen disk ≡ content → IsTrue (is_honest disk) → HasFileHeader content fields
-      → PAGE_SIZE * fields.pages ≤ content.size → IsWholeFile content fields.pages
-      → IsTied is_honest seen (opened_pager disk limit fields)
-  opened-tied content same honest header room whole = record {
+      → PAGE_SIZE * fields.pages ≤ content.size → IsTied is_honest seen (opened_pager disk limit fields)
+  opened-tied content same honest header room = record {
     honest = honest;
-    committed_whole = λ n pos lt _. subst (λ (c : Content). IsWhole c n) (sym same) (whole.each n pos lt);
-    working_whole = λ n pos lt _. subst (λ (c : Content). IsWhole c n) (sym same) (whole.each n pos lt);
     clean = λ n. subst (IsClean (seen disk) n) (sym (slot_at-empty fields.pages n)) (record { bytes = λ _ page is. cc });
     inside = λ n pos lt _. subst (λ (c : Content). PAGE_SIZE * n + PAGE_SIZE ≤ c.size) (sym same) (omega arith);
     header = λ _. subst (λ (c : Content). HasFileHeader c fields) (sym same) header;
@@ -125,23 +122,11 @@ module _ {D : Type 0} (is_honest : D → Bool) (seen : D → Content) (disk : D)
   pub created-tied : IsTrue (is_honest disk) → IsTied is_honest seen (created_pager disk limit page)
   created-tied honest = record {
     honest = honest;
-    committed_whole = held_kept;
-    working_whole = held_working;
     clean = clean;
     inside = changed;
     header = λ e. cc;
   }
     where
-      held_kept : (n : ℕ) → 0 < n → n < 2 → (slot_at (empty_slot ∷ (changed_slot page ∷ [])) n).kept ≡ None → IsWhole (seen disk) n
-      held_kept zero pos lt none = absurd (omega arith)
-      held_kept (suc zero) pos lt none = cc
-      held_kept (suc (suc n)) pos lt none = absurd (omega arith)
-
-      held_working : (n : ℕ) → 0 < n → n < 2 → working_of (slot_at (empty_slot ∷ (changed_slot page ∷ [])) n) ≡ None → IsWhole (seen disk) n
-      held_working zero pos lt none = absurd (omega arith)
-      held_working (suc zero) pos lt none = cc
-      held_working (suc (suc n)) pos lt none = absurd (omega arith)
-
       clean : (n : ℕ) → IsClean (seen disk) n (slot_at (empty_slot ∷ (changed_slot page ∷ [])) n)
       clean zero = record { bytes = λ _ p is. cc }
       clean (suc zero) = record { bytes = λ unchanged p is. cc }

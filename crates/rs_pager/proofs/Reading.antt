@@ -1,5 +1,5 @@
 -- A page that is read and held leaves the pager as it was, but for what is held.
-use Rattle.std.proofs.Common.{◌≡◌, ◌≢◌, ◌<◌, ◌≤◌, ◌+◌, ◌*◌, ℕ, Option, Some, None, IsSome, IfSome, IsTrue, List, set, length, slice_index, ap, sym, ◌∙◌, subst, true, false, Bool, nat_eq, refl, inl, inr, arith, rules, tests}
+use Rattle.std.proofs.Common.{◌≡◌, ◌≢◌, ◌<◌, ◌≤◌, ◌+◌, ◌*◌, ℕ, Option, Some, None, IfSome, IsTrue, List, set, length, slice_index, ap, sym, ◌∙◌, subst, true, false, Bool, nat_eq, refl, inl, inr, arith, rules, tests}
 use Rattle.std.specs.Prelude.{if◌then◌else◌}
 use Rattle.rs_disk.specs.Content.{Content}
 use Rattle.rs_disk.specs.declared.disk.TheConstants.{PAGE_SIZE}
@@ -8,7 +8,7 @@ use Rattle.rs_pager.specs.Header.{IsHeader, Fits, kind_number}
 use Rattle.rs_pager.specs.Slot.{working_of, changed_of, read_slot, copy_or}
 use Rattle.rs_pager.specs.Pages.{Pages, HasPage, SamePages, is_page}
 use Rattle.rs_pager.specs.Paged.{Paged, slot_at}
-use Rattle.rs_pager.specs.Stores.{IsWhole, HasBytes, HasFileHeader}
+use Rattle.rs_pager.specs.Stores.{HasBytes, HasFileHeader}
 use Rattle.rs_pager.specs.Maps.{byte_of, committed_byte, working_byte, committed, working, changes, copies, is_held, KeepsChanges, IsClean, IsTied}
 use Rattle.rs_pager.specs.Changes.{IsNotInUse, IsHeldChange}
 use Rattle.rs_pager.specs.Rests.{Rests}
@@ -38,16 +38,9 @@ at-set P slots n m slot lt there others =
           subst (P m) (sym (slot_at-set_other slots n m slot ne)) (others ne)
     ] refl
 
--- what may be read of a byte that is known is that byte
-read_known : (byte : Option ℕ) (b : ℕ) → IsSome byte → IfSome byte (λ known. b ≡ known) → byte ≡ Some b
-read_known (Some known) b some is = sym (ap (λ n. Some n) is)
-read_known None b some is = cc
-
--- what is read of a page is the disk's, where each of its bytes is known
-pub whole-read : (content : Content) (n : ℕ) (page : List ℕ) → IsWhole content n → MayBeRead content n page → HasBytes content n page
-whole-read content n page whole read = record {
-  each = λ place lt. read_known _ _ (whole.each place lt) (read.gives.each place (omega (arith, read.size)));
-}
+-- what is read of a page is the disk's
+pub HasBytes-read : (content : Content) (n : ℕ) (page : List ℕ) → MayBeRead content n page → HasBytes content n page
+HasBytes-read content n page read = record { each = λ place lt. sym (read.gives.each place (omega (arith, read.size))) }
 
 -- a page that isn't held isn't changed
 not_changed : (slot : HeldPage) → slot.kept ≡ None → changed_of slot ≡ None
@@ -56,7 +49,7 @@ not_changed slot none = elim slot.is_changed as (λ b. (if b then slot.kept else
 -- what is held of the page as it was read is what the disk has
 byte_of-read : (content : Content) (n k : ℕ) (page : List ℕ) (held : Option (List ℕ)) → HasBytes content n page → k < PAGE_SIZE
     → held ≡ None → byte_of content (Some page) n k ≡ byte_of content held n k
-byte_of-read content n k page held has lt none = sym (ap (λ h. byte_of content h n k) none ∙ has.each k lt)
+byte_of-read content n k page held has lt none = sym (ap (λ h. byte_of content h n k) none ∙ ap (λ b. Some b) (has.each k lt))
 
 -- the working page once it is read
 working_of-read : (slot : HeldPage) (page : List ℕ) → working_of slot ≡ None → working_of (read_slot page slot) ≡ Some page
@@ -91,8 +84,6 @@ module _ {D : Type 0} (is_honest : D → Bool) (seen : D → Content) (failures 
   disk-tied tied =
       let is : seen old.disk ≡ seen disk = sym (same tied.honest) in record {
         honest = subst IsTrue (sym honesty) tied.honest;
-        committed_whole = λ m pos lt none. subst (λ content. IsWhole content m) is (tied.committed_whole m pos lt none);
-        working_whole = λ m pos lt none. subst (λ content. IsWhole content m) is (tied.working_whole m pos lt none);
         clean = λ m. subst (λ content. IsClean content m (slot_at old.slots m)) is (tied.clean m);
         inside = λ m pos lt none. subst (λ (content : Content). PAGE_SIZE * m + PAGE_SIZE ≤ content.size) is (tied.inside m pos lt none);
         header = λ has. subst (λ content. HasFileHeader content old.kept) is (tied.header has);
@@ -117,8 +108,8 @@ module _ {D : Type 0} (is_honest : D → Bool) (seen : D → Content) (failures 
     abbrev held : Paged D
     held = read_pager disk n page old
 
-    read_whole : IsTied is_honest seen old → HasBytes (seen old.disk) n page
-    read_whole tied = whole-read (seen old.disk) n page (tied.working_whole n pos below nothing) (read tied.honest)
+    read_bytes : IsTied is_honest seen old → HasBytes (seen old.disk) n page
+    read_bytes tied = HasBytes-read (seen old.disk) n page (read tied.honest)
 
     read-changed : (m : ℕ) → changes held m ≡ changes old m
     read-changed m = at-set (λ i slot. changed_of slot ≡ changes old i) old.slots n m (read_slot page (slot_at old.slots n)) there
@@ -136,7 +127,7 @@ module _ {D : Type 0} (is_honest : D → Bool) (seen : D → Content) (failures 
           ∙ ap (λ byte. if is_page old.kept.pages m then byte else None)
           (at-set (λ i slot. byte_of (seen old.disk) slot.kept i k ≡ byte_of (seen old.disk) (slot_at old.slots i).kept i k)
           old.slots n m (read_slot page (slot_at old.slots n)) there
-          (byte_of-read (seen old.disk) n k page (slot_at old.slots n).kept (read_whole tied) lt (no_kept-working (slot_at old.slots n) nothing))
+          (byte_of-read (seen old.disk) n k page (slot_at old.slots n).kept (read_bytes tied) lt (no_kept-working (slot_at old.slots n) nothing))
           (λ _. refl));
     }
 
@@ -150,7 +141,7 @@ module _ {D : Type 0} (is_honest : D → Bool) (seen : D → Content) (failures 
           (at-set (λ i slot. byte_of (seen old.disk) (working_of slot) i k ≡ byte_of (seen old.disk) (working_of (slot_at old.slots i)) i k)
           old.slots n m (read_slot page (slot_at old.slots n)) there
           (ap (λ h. byte_of (seen old.disk) h n k) (working_of-read (slot_at old.slots n) page nothing)
-          ∙ byte_of-read (seen old.disk) n k page (working_of (slot_at old.slots n)) (read_whole tied) lt nothing)
+          ∙ byte_of-read (seen old.disk) n k page (working_of (slot_at old.slots n)) (read_bytes tied) lt nothing)
           (λ _. refl));
     }
 
@@ -159,15 +150,9 @@ module _ {D : Type 0} (is_honest : D → Bool) (seen : D → Content) (failures 
         let is : seen old.disk ≡ seen disk = sym (same tied.honest) in
         let slot : HeldPage = read_slot page (slot_at old.slots n) in record {
           honest = subst IsTrue (sym honesty) tied.honest;
-          committed_whole = λ m above lt. subst (λ content. (slot_at held.slots m).kept ≡ None → IsWhole content m) is
-              (at-set (λ i s. s.kept ≡ None → IsWhole (seen old.disk) i) old.slots n m slot there
-              (λ _. tied.working_whole n pos below nothing) (λ _. tied.committed_whole m above lt));
-          working_whole = λ m above lt. subst (λ content. working_of (slot_at held.slots m) ≡ None → IsWhole content m) is
-              (at-set (λ i s. working_of s ≡ None → IsWhole (seen old.disk) i) old.slots n m slot there
-              (λ _. tied.working_whole n pos below nothing) (λ _. tied.working_whole m above lt));
           clean = λ m. subst (λ content. IsClean content m (slot_at held.slots m)) is
               (at-set (λ i s. IsClean (seen old.disk) i s) old.slots n m slot there
-              (record { bytes = λ _ other e. let same_page : page ≡ other = cc in subst (HasBytes (seen old.disk) n) same_page (read_whole tied) })
+              (record { bytes = λ _ other e. let same_page : page ≡ other = cc in subst (HasBytes (seen old.disk) n) same_page (read_bytes tied) })
               (λ _. tied.clean m));
           inside = λ m above lt none. subst (λ (content : Content). PAGE_SIZE * m + PAGE_SIZE ≤ content.size) is
               (tied.inside m above lt (sym (read-changed m) ∙ none));
@@ -251,7 +236,7 @@ pub HasPage-stored : {D : Type 0} (seen : D → Content) (p : Paged D) (n : ℕ)
 unfolding working_byte
 HasPage-stored seen p n page pos lt none has = record {
   bytes = λ k below. ap (λ b. if b then byte_of (seen p.disk) (working_of (slot_at p.slots n)) n k else None) (is_page-true p.working.pages n pos lt)
-      ∙ ap (λ h. byte_of (seen p.disk) h n k) none ∙ has.each k below;
+      ∙ ap (λ h. byte_of (seen p.disk) h n k) none ∙ ap (λ b. Some b) (has.each k below);
 }
 
 -- the committed page with this number, where it is held
@@ -268,7 +253,7 @@ pub unfit-no_fit : {D : Type 0} (is_honest : D → Bool) (seen : D → Content) 
     → working_of (slot_at p.slots n) ≡ None → IsTied is_honest seen p → ReadsUnfit (seen p.disk) n p.working.pages
     → HasNoFit (working seen p) n
 unfit-no_fit is_honest seen p n pos lt none tied reads =
-    let stored = HasPage-stored seen p n reads.page pos lt none (whole-read (seen p.disk) n reads.page (tied.working_whole n pos lt none) reads.read) in
+    let stored = HasPage-stored seen p n reads.page pos lt none (HasBytes-read (seen p.disk) n reads.page reads.read) in
     inr (inr (λ page has header is fits. reads.unfit header
     (IsHeader-same page reads.page header (HasPage-one (working seen p) n page reads.page has stored) is) fits))
 

@@ -1,5 +1,5 @@
 -- What a disk's content stands for, and that it stands for one thing.
-use Rattle.std.proofs.Common.{◌≡◌, ◌≢◌, ◌<◌, ◌≤◌, ◌+◌, ◌-◌, ◌*◌, ◌/◌, ◌^◌, ℕ, min, Option, Some, None, IsSome, IfSome, List, length, slice_index, ap, sym, ◌∙◌, subst, true, false, nat_lt, refl, arith, rules, tests}
+use Rattle.std.proofs.Common.{◌≡◌, ◌≢◌, ◌<◌, ◌≤◌, ◌+◌, ◌-◌, ◌*◌, ◌/◌, ◌^◌, ℕ, min, List, length, slice_index, ap, sym, ◌∙◌, subst, true, false, nat_lt, refl, arith, rules, tests}
 use Rattle.std.proofs.lemmas.List.{get_or_past}
 use Rattle.rs_disk.specs.Content.{Content, Gives}
 use Rattle.rs_disk.specs.declared.disk.TheConstants.{PAGE_SIZE}
@@ -7,31 +7,25 @@ use Rattle.rs_pager.specs.Number.{number_at}
 use Rattle.rs_pager.specs.Header.{IsHeader}
 use Rattle.rs_pager.specs.FileHeader.{IsFileHeader, HasMarks, EndsInZeros}
 use Rattle.rs_pager.specs.Pages.{Pages, SamePages}
-use Rattle.rs_pager.specs.Stores.{IsWholeHeader, HasFileHeader, Stores, IsNoFile, stored_byte}
+use Rattle.rs_pager.specs.Stores.{HasFileHeader, Stores, IsNoFile, stored_byte}
 use Rattle.rs_pager.specs.declared.file_header.FileHeader.{FileHeader}
 use Rattle.rs_pager.specs.declared.header.PageHeader.{PageHeader}
 use Rattle.rs_pager.specs.declared.pager.TheConstants.{GREATEST_LIMIT}
 use Rattle.rs_pager.proofs.Numbers.{number_at-same, byte_at}
 
--- what may be read of a byte that is known is that byte
-read_known : (byte : Option ℕ) (b : ℕ) → IsSome byte → IfSome byte (λ known. b ≡ known) → byte ≡ Some b
-read_known (Some known) b some is = ap Some (sym is)
-read_known None b some is = cc
-
-gives_at : (content : Content) (page : List ℕ) (k : ℕ) → IsWholeHeader content → Gives content 0 page → length page ≡ 4096
-    → k < 4096 → k ≢ 28 → content.byte k ≡ Some (slice_index page k)
-gives_at content page k whole gives size lt ne =
+gives_at : (content : Content) (page : List ℕ) (k : ℕ) → Gives content 0 page → length page ≡ 4096
+    → k < 4096 → content.byte k ≡ slice_index page k
+gives_at content page k gives size lt =
     let at : 0 + k ≡ k = omega arith in
-    read_known (content.byte k) (slice_index page k) (whole.each k lt ne)
-    (subst (λ i. IfSome (content.byte i) (λ known. slice_index page k ≡ known)) at (gives.each k (omega arith)))
+    subst (λ i. content.byte i ≡ slice_index page k) at (sym (gives.each k (omega arith)))
 
 -- a header that was read is the disk's
-pub HasFileHeader-read : (content : Content) (page : List ℕ) (fields : FileHeader) → IsWholeHeader content
-    → Gives content 0 page → length page ≡ 4096 → IsFileHeader page fields → HasFileHeader content fields
-HasFileHeader-read content page fields whole gives size is = record {
+pub HasFileHeader-read : (content : Content) (page : List ℕ) (fields : FileHeader) → Gives content 0 page
+    → length page ≡ 4096 → IsFileHeader page fields → HasFileHeader content fields
+HasFileHeader-read content page fields gives size is = record {
   page = page;
   header = is;
-  bytes = λ k lt ne. gives_at content page k whole gives size lt ne;
+  bytes = λ k lt ne. gives_at content page k gives size lt;
 }
 
 -- two pages agree but for the byte of the open flag
@@ -85,18 +79,13 @@ IsFileHeader-same one other fields agree size is = record {
 }
 
 -- where page 0 is no header, the content stands for nothing
-pub IsNoFile-header : (content : Content) (page : List ℕ) (limit : ℕ) → IsWholeHeader content → Gives content 0 page
+pub IsNoFile-header : (content : Content) (page : List ℕ) (limit : ℕ) → Gives content 0 page
     → length page ≡ 4096 → ((fields : FileHeader) → IsFileHeader page fields → ⊥) → IsNoFile content limit
-IsNoFile-header content page limit whole gives size none = record {
+IsNoFile-header content page limit gives size none = record {
   none = λ pages stores least greatest. none pages.fields
-      (IsFileHeader-same stores.header.page page pages.fields (agree stores.header.page stores.header.bytes) size stores.header.header);
+      (IsFileHeader-same stores.header.page page pages.fields
+      (λ k lt ne. sym (stores.header.bytes k lt ne) ∙ gives_at content page k gives size lt) size stores.header.header);
 }
-  where
-    agree : (other : List ℕ) → ((k : ℕ) → k < 4096 → k ≢ 28 → content.byte k ≡ Some (slice_index other k)) → Agree other page
-    agree other bytes k lt ne = some_same (sym (bytes k lt ne) ∙ gives_at content page k whole gives size lt ne)
-      where
-        some_same : Some (slice_index other k) ≡ Some (slice_index page k) → slice_index other k ≡ slice_index page k
-        some_same e = cc
 
 -- a content has one header
 abbrev fields_of : ℕ → ℕ → ℕ → ℕ → ℕ → FileHeader
@@ -110,16 +99,13 @@ same_fields a a' b b' c c' d d' e e' h i j k l =
 
 pub HasFileHeader-one : (content : Content) (a b : FileHeader) → HasFileHeader content a → HasFileHeader content b → a ≡ b
 HasFileHeader-one content a b one other =
-    let agree : Agree one.page other.page = (λ k lt ne. some_same k (sym (one.bytes k lt ne) ∙ other.bytes k lt ne)) in
+    let agree : Agree one.page other.page = (λ k lt ne. sym (one.bytes k lt ne) ∙ other.bytes k lt ne) in
     same_fields a.pages b.pages a.first_free b.first_free a.free_pages b.free_pages a.catalogue b.catalogue a.catalogue_length b.catalogue_length
     (sym one.header.pages ∙ same_number one.page other.page 32 4 agree (omega arith) (λ i lo hi. omega arith) ∙ other.header.pages)
     (sym one.header.first_free ∙ same_number one.page other.page 36 4 agree (omega arith) (λ i lo hi. omega arith) ∙ other.header.first_free)
     (sym one.header.free_pages ∙ same_number one.page other.page 40 4 agree (omega arith) (λ i lo hi. omega arith) ∙ other.header.free_pages)
     (sym one.header.catalogue ∙ same_number one.page other.page 44 4 agree (omega arith) (λ i lo hi. omega arith) ∙ other.header.catalogue)
     (sym one.header.catalogue_length ∙ same_number one.page other.page 48 4 agree (omega arith) (λ i lo hi. omega arith) ∙ other.header.catalogue_length)
-  where
-    some_same : (k : ℕ) → Some (slice_index one.page k) ≡ Some (slice_index other.page k) → slice_index one.page k ≡ slice_index other.page k
-    some_same k e = cc
 
 -- where page 0 tells a count of pages that can't be, the content stands for nothing
 pub IsNoFile-count : (content : Content) (fields : FileHeader) (limit : ℕ) → HasFileHeader content fields
@@ -139,10 +125,6 @@ Stores-one content one other a b =
       fields = same;
       bytes = λ n k lt. a.bytes.bytes n k lt ∙ ap (λ (f : FileHeader). stored_byte content f.pages n k) same ∙ sym (b.bytes.bytes n k lt);
     }
-
--- and its page 0 is whole
-pub Stores-whole : (content : Content) (pages : Pages) → Stores content pages → IsWholeHeader content
-Stores-whole content pages stores = record { each = λ k lt ne. subst IsSome (sym (stores.header.bytes k lt ne)) refl }
 
 -- a disk that is long enough tells as many pages
 pub no_shorter : (pages limit size told : ℕ) → pages ≤ limit → limit ≤ GREATEST_LIMIT → PAGE_SIZE * pages ≤ size

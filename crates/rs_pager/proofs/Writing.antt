@@ -80,14 +80,14 @@ back_length page size =
 parts_whole : (a b : Content) (page : List ℕ) (k : ℕ) → length page ≡ 4096 → Holds a 0 (take 28 page)
     → Holds b 29 (take (length page - 29) (drop 29 page))
     → KeepsOthers 29 (length (take (length page - 29) (drop 29 page))) a b
-    → k < 4096 → k ≢ 28 → b.byte k ≡ Some (slice_index page k)
-parts_whole a b page k size front back others lt ne = elim (nat_lt k 28) as (λ t. nat_lt k 28 ≡ t → b.byte k ≡ Some (slice_index page k)) [
+    → k < 4096 → k ≢ 28 → b.byte k ≡ slice_index page k
+parts_whole a b page k size front back others lt ne = elim (nat_lt k 28) as (λ t. nat_lt k 28 ≡ t → b.byte k ≡ slice_index page k) [
   | true ↦ λ e. let below : k < 28 = search (rules, tests) in
-      others.before k (omega arith) ∙ subst (λ i. a.byte i ≡ Some (slice_index (take 28 page) k)) (zero_more k) (front.each k (omega (arith, front_length page size)))
-      ∙ ap Some (front_part page k below size)
+      others.before k (omega arith) ∙ subst (λ i. a.byte i ≡ slice_index (take 28 page) k) (zero_more k) (front.each k (omega (arith, front_length page size)))
+      ∙ front_part page k below size
   | false ↦ λ e. let ge : 28 ≤ k = search (rules, tests) in
-      subst (λ i. b.byte i ≡ Some (slice_index (take (length page - 29) (drop 29 page)) (k - 29))) (back_at k (omega arith)) (back.each (k - 29) (omega (arith, back_length page size)))
-      ∙ ap Some (back_part page k (omega arith) lt size)
+      subst (λ i. b.byte i ≡ slice_index (take (length page - 29) (drop 29 page)) (k - 29)) (back_at k (omega arith)) (back.each (k - 29) (omega (arith, back_length page size)))
+      ∙ back_part page k (omega arith) lt size
 ] refl
   where
     zero_more : (k : ℕ) → 0 + k ≡ k

@@ -6,11 +6,11 @@ use Rattle.rs_pager.specs.HeldPage.{HeldPage}
 use Rattle.rs_pager.specs.Slot.{working_of, changed_of, copy_or}
 use Rattle.rs_pager.specs.Pages.{Pages, is_page}
 use Rattle.rs_pager.specs.Paged.{Paged, slot_at}
-use Rattle.rs_pager.specs.Stores.{IsWhole, HasBytes, HasFileHeader}
+use Rattle.rs_pager.specs.Stores.{HasBytes, HasFileHeader}
 
 -- the byte at a place of a page: of what is held, else of what the disk has there
 abbrev pub byte_of : Content → Option (List ℕ) → ℕ → ℕ → Option ℕ
-byte_of content None number place = content.byte (PAGE_SIZE * number + place)
+byte_of content None number place = Some (content.byte (PAGE_SIZE * number + place))
 byte_of content (Some page) number place = Some (slice_index page place)
 
 -- the byte at a place of a committed page
@@ -83,15 +83,10 @@ pub record KeepsCounts {D : Type 0} (old new : Paged D) : Type 0 where
 pub record IsClean (content : Content) (number : ℕ) (slot : HeldPage) : Type 0 where
   pub bytes : slot.is_changed ≡ false → (page : List ℕ) → slot.kept ≡ Some page → HasBytes content number page
 
--- the disk is honest, and what isn't held as a change is on it: each page that isn't held is whole, each that is
--- held unchanged is the disk's, no page but a changed one lies past the end, and page 0 says the committed fields
--- unless they are changed
+-- the disk is honest, and what isn't held as a change is on it: each page that is held unchanged is the disk's, no
+-- page but a changed one lies past the end, and page 0 says the committed fields unless they are changed
 pub record IsTied {D : Type 0} (is_honest : D → Bool) (seen : D → Content) (p : Paged D) : Type 0 where
   pub honest : IsTrue (is_honest p.disk)
-  pub committed_whole : (number : ℕ) → 0 < number → number < p.kept.pages
-      → (slot_at p.slots number).kept ≡ None → IsWhole (seen p.disk) number
-  pub working_whole : (number : ℕ) → 0 < number → number < p.working.pages
-      → working_of (slot_at p.slots number) ≡ None → IsWhole (seen p.disk) number
   pub clean : (number : ℕ) → IsClean (seen p.disk) number (slot_at p.slots number)
   pub inside : (number : ℕ) → 0 < number → number < p.kept.pages
       → changes p number ≡ None → PAGE_SIZE * number + PAGE_SIZE ≤ (seen p.disk).size

@@ -9,8 +9,7 @@ use Rattle.rs_pager.specs.declared.header.PageKind.TheVariants.{Directory}
 use Rattle.rs_pager.specs.declared.header.PageHeader.{PageHeader}
 use Rattle.rs_pager.specs.declared.file_header.FileHeader.{FileHeader}
 
--- the fields of page 0, and the byte at a place of each page behind it
--- (none: there is no such page, or any byte may be read there)
+-- the fields of page 0, and the byte at a place of each page after it (none: there is no such page)
 pub record Pages : Type 0 where
   pub fields : FileHeader
   pub byte : ℕ → ℕ → Option ℕ

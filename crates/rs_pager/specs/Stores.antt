@@ -1,5 +1,5 @@
 -- What the content of a disk stands for.
-use Rattle.std.specs.Prelude.{◌≡◌, ◌≢◌, ◌<◌, ◌≤◌, ◌+◌, ◌*◌, ℕ, Option, Some, None, IsSome, List, slice_index, if◌then◌else◌}
+use Rattle.std.specs.Prelude.{◌≡◌, ◌≢◌, ◌<◌, ◌≤◌, ◌+◌, ◌*◌, ℕ, Option, Some, None, List, slice_index, if◌then◌else◌}
 use Rattle.rs_disk.specs.Content.{Content}
 use Rattle.rs_disk.specs.declared.disk.TheConstants.{PAGE_SIZE}
 use Rattle.rs_pager.specs.FileHeader.{IsFileHeader}
@@ -7,33 +7,20 @@ use Rattle.rs_pager.specs.Pages.{Pages, SamePages, is_page}
 use Rattle.rs_pager.specs.declared.file_header.FileHeader.{FileHeader}
 use Rattle.rs_pager.specs.declared.file_header.TheConstants.{FLAG_OFFSET}
 
--- each byte of the page with this number is known
-pub record IsWhole (content : Content) (number : ℕ) : Type 0 where
-  pub each : (place : ℕ) → place < PAGE_SIZE → IsSome (content.byte (PAGE_SIZE * number + place))
-
--- each byte of page 0 is known, but for that of the open flag
-pub record IsWholeHeader (content : Content) : Type 0 where
-  pub each : (place : ℕ) → place < PAGE_SIZE → place ≢ FLAG_OFFSET → IsSome (content.byte place)
-
--- page 0 is whole, and so is each page behind it, of so many
-pub record IsWholeFile (content : Content) (pages : ℕ) : Type 0 where
-  pub header : IsWholeHeader content
-  pub each : (number : ℕ) → 0 < number → number < pages → IsWhole content number
-
 -- the page with this number has these bytes
 pub record HasBytes (content : Content) (number : ℕ) (page : List ℕ) : Type 0 where
-  pub each : (place : ℕ) → place < PAGE_SIZE → content.byte (PAGE_SIZE * number + place) ≡ Some (slice_index page place)
+  pub each : (place : ℕ) → place < PAGE_SIZE → content.byte (PAGE_SIZE * number + place) ≡ slice_index page place
 
 -- page 0 says these fields, whatever stands in the byte of the open flag
 pub record HasFileHeader (content : Content) (fields : FileHeader) : Type 0 where
   pub page : List ℕ
   pub header : IsFileHeader page fields
-  pub bytes : (place : ℕ) → place < PAGE_SIZE → place ≢ FLAG_OFFSET → content.byte place ≡ Some (slice_index page place)
+  pub bytes : (place : ℕ) → place < PAGE_SIZE → place ≢ FLAG_OFFSET → content.byte place ≡ slice_index page place
 
 -- the byte at a place of a page, as the content has it
 abbrev pub stored_byte : Content → ℕ → ℕ → ℕ → Option ℕ
 stored_byte content pages number place =
-    if is_page pages number then content.byte (PAGE_SIZE * number + place) else None
+    if is_page pages number then Some (content.byte (PAGE_SIZE * number + place)) else None
 
 -- the pages behind page 0, in a file of these fields
 abbrev pub stored_pages : Content → FileHeader → Pages

@@ -7,7 +7,7 @@ ghost use Rattle.rs_disk.specs.Content.{Holds, KeepsOthers};
 ghost use Rattle.rs_disk.specs.Counts.{Counts};
 ghost use Rattle.rs_pager.specs.Pages.{SamePages};
 ghost use Rattle.rs_pager.specs.Slot.{changed_of};
-ghost use Rattle.rs_pager.specs.Stores.{Stores, HasFileHeader, IsWholeFile};
+ghost use Rattle.rs_pager.specs.Stores.{Stores, HasFileHeader};
 ghost use Rattle.rs_pager.specs.Writing.{HasAll, HasChanged, HasWhole, WritesHeader, WritesOut, WritesPage, WritesPages, WritesSlot};
 ghost use Rattle.rs_pager.specs.Maps.{committed, working, KeepsChanges, KeepsCounts, HoldsNoChange, IsTied};
 
@@ -20,14 +20,12 @@ use rs_measure::Refusal;
 
 impl<D: Disk> Pager<D> {
     /// Writes the committed pages that the disk doesn't have, and waits until they are on the medium. The disk
-    /// is whole then, and grows as far as the pages need. The byte of the open flag is not written. After a
+    /// grows as far as the pages need. The byte of the open flag is not written. After a
     /// fault (91) the pages are held as before.
     pub fn flush(&mut self) -> Result<(), Refusal>
         requires { self.old.is_begun ≡ false }
         ensures stores { IsTied D.is_honest D.seen self.old
             → OnOk result (Stores (D.seen self.new.disk) (committed D.seen self.new)) }
-        ensures whole { IsTied D.is_honest D.seen self.old
-            → OnOk result (IsWholeFile (D.seen self.new.disk) (committed D.seen self.new).fields.pages) }
         ensures size { IsTied D.is_honest D.seen self.old → OnOk result ((D.seen self.new.disk).size
             ≡ max (D.seen self.old.disk).size (PAGE_SIZE * (committed D.seen self.new).fields.pages)) }
         ensures flag { IsTrue (D.is_honest self.old.disk)
@@ -41,6 +39,7 @@ impl<D: Disk> Pager<D> {
         ensures refused { IsOkUnless result Refusal.Disk }
         ensures count { Counts result (D.failures self.old.disk) (D.failures self.new.disk) }
         ensures counts { KeepsCounts self.old self.new }
+        ensures synced { OnOk result (D.is_synced self.new.disk ≡ true) }
         ensures honesty { D.is_honest self.new.disk ≡ D.is_honest self.old.disk }
         ensures tied { IsTied D.is_honest D.seen self.old → IsTied D.is_honest D.seen self.new }
     {
@@ -70,6 +69,7 @@ fn write_out<D: Disk>(
         → WritesOut slots.now is_header_changed (D.seen disk.old) (D.seen disk.new) }
     ensures honesty { D.is_honest disk.new ≡ D.is_honest disk.old }
     ensures refused { IsOkUnless result Refusal.Disk }
+    ensures synced { OnOk result (D.is_synced disk.new ≡ true) }
     ensures count { Counts result (D.failures disk.old) (D.failures disk.new) }
 {
     write_changed(disk, slots)?;

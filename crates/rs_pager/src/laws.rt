@@ -1,37 +1,21 @@
-//! What follows from what a disk stands for: one map of pages, and one free list; that a disk is whole where
-//! all that is committed was written; and which changes leave the free list as it was.
+//! What follows from what a disk stands for: one map of pages, and one free list; and which changes leave the
+//! free list as it was.
 //!
 //! So a flush that answered Ok, and an `open` that answered Ok of the disk that is handed back, have the same
-//! pages, and the pager that was opened is tied to the disk.
+//! pages.
 
 ghost use Rattle.std.specs.Prelude.{◌≡◌, ℕ, List};
 ghost use Rattle.rs_disk.specs.Content.{Content};
 ghost use Rattle.rs_pager.specs.Pages.{Pages, SamePages, HasPage};
 ghost use Rattle.rs_pager.specs.FreeList.{IsFreeList};
-ghost use Rattle.rs_pager.specs.Paged.{Paged};
-ghost use Rattle.rs_pager.specs.Maps.{committed, HoldsNoChange, IsTied};
 ghost use Rattle.rs_pager.specs.Changes.{ReplacesPage, with_catalogue};
 ghost use Rattle.rs_pager.specs.Reading.{IsInUse};
-ghost use Rattle.rs_pager.specs.Stores.{Stores, IsWholeHeader, IsWholeFile};
-
-use rs_disk::Disk;
+ghost use Rattle.rs_pager.specs.Stores.{Stores};
 
 /// A disk stands for one map of pages at the most.
 pub fn disk_stands_for_one_map()
     ensures { (content : Content) (one other : Pages)
         → Stores content one → Stores content other → SamePages one other }
-{}
-
-/// Pages that were written are those that are opened.
-pub fn written_pages_are_opened()
-    ensures { (content : Content) (written opened : Pages) → Stores content written
-        → (IsWholeHeader content → Stores content opened) → SamePages opened written }
-{}
-
-/// A disk that has all that is committed is whole.
-pub fn written_disk_is_whole<D: Disk>()
-    ensures { (pager : Paged D) → IsTied D.is_honest D.seen pager → HoldsNoChange pager
-        → IsWholeFile (D.seen pager.disk) (committed D.seen pager).fields.pages }
 {}
 
 /// The free list of a map of pages is one list of numbers at the most.

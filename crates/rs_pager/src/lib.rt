@@ -16,8 +16,6 @@ pub mod page;
 pub mod pager;
 mod paging;
 mod slot;
-#[cfg(test)]
-mod tests;
 
 pub use file_header::{FLAG_OFFSET, FileHeader};
 pub use header::{HEADER_SIZE, PageHeader, PageKind};

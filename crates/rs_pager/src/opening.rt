@@ -2,14 +2,14 @@
 //!
 //! A refusal hands the disk back.
 
-ghost use Rattle.std.specs.Prelude.{◌≡◌, ◌≤◌, ◌⊎◌, ◌*◌, ℕ, IsTrue, IfOk, List, [], ◌∷◌, IfErr, OnOk, IsOkUnless, MatchResult, Some, Err, false, replicate};
+ghost use Rattle.std.specs.Prelude.{◌≡◌, ◌≤◌, ◌⊎◌, ◌*◌, ℕ, IsTrue, IfOk, List, [], ◌∷◌, IfErr, OnOk, IsOkUnless, MatchResult, Err, false, replicate};
 ghost use Rattle.rs_disk.specs.Content.{Gives};
 ghost use Rattle.rs_disk.specs.Counts.{Counts, Rose};
 ghost use Rattle.rs_pager.specs.declared.header.PageKind.TheVariants.{Directory};
 ghost use Rattle.rs_pager.specs.declared.file_header.TheConstants.{FLAG_OFFSET};
 ghost use Rattle.rs_pager.specs.Slot.{empty_slot, changed_slot};
 ghost use Rattle.rs_pager.specs.Pages.{SamePages, IsEmptyFile, IsBlank};
-ghost use Rattle.rs_pager.specs.Stores.{Stores, HasFileHeader, IsWholeHeader, IsWholeFile, IsNoFile};
+ghost use Rattle.rs_pager.specs.Stores.{Stores, HasFileHeader, IsNoFile};
 ghost use Rattle.rs_pager.specs.Maps.{committed, working, is_held, HoldsNoChange, IsTied};
 
 use crate::file_header::FileHeader;
@@ -35,12 +35,10 @@ impl<D: Disk> Pager<D> {
             → IfOk result (λ pager. SamePages (working D.seen pager) (committed D.seen pager)) }
         ensures stores { IsTrue (D.is_honest disk)
             → IfOk result (λ pager. Stores (D.seen pager.disk) (committed D.seen pager)) }
-        ensures whole { IsTrue (D.is_honest disk)
-            → IfOk result (λ pager. IsWholeFile (D.seen pager.disk) (committed D.seen pager).fields.pages) }
         ensures size { IsTrue (D.is_honest disk)
             → IfOk result (λ pager. (D.seen pager.disk).size ≡ 2 * PAGE_SIZE) }
         ensures closed { IsTrue (D.is_honest disk)
-            → IfOk result (λ pager. (D.seen pager.disk).byte FLAG_OFFSET ≡ Some 0) }
+            → IfOk result (λ pager. (D.seen pager.disk).byte FLAG_OFFSET ≡ 0) }
         ensures tied { IsTrue (D.is_honest disk) → IfOk result (λ pager. IsTied D.is_honest D.seen pager) }
         ensures changes { IfOk result (λ pager. HoldsNoChange pager) }
         ensures limit { IfOk result (λ pager. pager.limit ≡ limit) }
@@ -87,14 +85,13 @@ impl<D: Disk> Pager<D> {
     pub fn open(alloc: Global, disk: D, limit: u32) -> Result<Pager<D>, (D, Refusal)>
         requires least { LEAST_LIMIT ≤ limit }
         requires greatest { limit ≤ GREATEST_LIMIT }
-        ensures stores { IsTrue (D.is_honest disk) → IsWholeHeader (D.seen disk)
+        ensures stores { IsTrue (D.is_honest disk)
             → IfOk result (λ pager. Stores (D.seen disk) (committed D.seen pager)) }
         ensures working { IfOk result (λ pager. SamePages (working D.seen pager) (committed D.seen pager)) }
         ensures seen { IsTrue (D.is_honest disk) → MatchResult result
             (λ pager. D.seen pager.disk ≡ D.seen disk)
             (λ refused. D.seen refused.0 ≡ D.seen disk) }
-        ensures tied { IsTrue (D.is_honest disk) → IfOk result (λ pager.
-            IsWholeFile (D.seen disk) (committed D.seen pager).fields.pages → IsTied D.is_honest D.seen pager) }
+        ensures tied { IsTrue (D.is_honest disk) → IfOk result (λ pager. IsTied D.is_honest D.seen pager) }
         ensures changes { IfOk result (λ pager. HoldsNoChange pager) }
         ensures nothing_held { IfOk result (λ pager. (number : ℕ) → is_held pager number ≡ false) }
         ensures least { IfOk result (λ pager. 2 ≤ (committed D.seen pager).fields.pages) }
@@ -106,7 +103,7 @@ impl<D: Disk> Pager<D> {
             ⊎ (refused.1 ≡ Refusal.Disk) ⊎ (refused.1 ≡ Refusal.DamagedFile)) }
         ensures cause { IfErr result (λ refused. refused.1 ≡ Refusal.Disk
             → Rose (D.failures disk) (D.failures refused.0)) }
-        ensures damaged { IsTrue (D.is_honest disk) → IsWholeHeader (D.seen disk)
+        ensures damaged { IsTrue (D.is_honest disk)
             → IfErr result (λ refused. refused.1 ≡ Refusal.DamagedFile → IsNoFile (D.seen disk) limit) }
         ensures count { MatchResult result
             (λ pager. D.failures pager.disk ≡ D.failures disk)
@@ -173,7 +170,7 @@ fn empty_slots(alloc: Global, pages: u32) -> Result<Vec<Slot>, AllocError>
 #[tactic(auto, using(rs_disk::proofs::CountLemmas::Rose_counted_on, rs_disk::proofs::CountLemmas::counted_on_le))]
 fn read_file_header<D: Disk>(disk: &mut D, limit: u32) -> Result<FileHeader, Refusal>
     requires { limit ≤ GREATEST_LIMIT }
-    ensures read { IsTrue (D.is_honest disk.old) → IsWholeHeader (D.seen disk.old)
+    ensures read { IsTrue (D.is_honest disk.old)
         → IfOk result (λ fields. HasFileHeader (D.seen disk.old) fields) }
     ensures least { IfOk result (λ fields. 2 ≤ fields.pages) }
     ensures greatest { IfOk result (λ fields. fields.pages ≤ limit) }
@@ -182,7 +179,7 @@ fn read_file_header<D: Disk>(disk: &mut D, limit: u32) -> Result<FileHeader, Ref
     ensures same { IsTrue (D.is_honest disk.old) → D.seen disk.new ≡ D.seen disk.old }
     ensures refused { IfErr result (λ refusal. (refusal ≡ Refusal.Disk) ⊎ (refusal ≡ Refusal.DamagedFile)) }
     ensures cause { result ≡ Err Refusal.Disk → Rose (D.failures disk.old) (D.failures disk.new) }
-    ensures damaged { IsTrue (D.is_honest disk.old) → IsWholeHeader (D.seen disk.old)
+    ensures damaged { IsTrue (D.is_honest disk.old)
         → result ≡ Err Refusal.DamagedFile → IsNoFile (D.seen disk.old) limit }
     ensures no_failure { OnOk result (D.failures disk.new ≡ D.failures disk.old) }
     ensures count { D.failures disk.old ≤ D.failures disk.new }

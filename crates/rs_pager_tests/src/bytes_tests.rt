@@ -3,12 +3,14 @@
 //! The bytes that are wanted are stated here. The byte of the open flag is another's, and stays.
 
 use crate::driver::Driver;
+use crate::expect::expect;
 use crate::image::{Field, disk_of, image, put, read};
-use rs_disk::{Disk, MemoryDisk};
+use rs_disk::Disk;
 use rs_pager::PageKind;
+use std::alloc::Global;
 use std::test::Fail;
 
-/// The pages that are looked at: those of the file, and what lies behind it.
+/// The pages that are looked at: those of the file, and what lies past its end.
 const LOOKED_AT: usize = 7;
 
 /// Page 0 and the directory of a file with nothing in it.
@@ -21,14 +23,16 @@ static EMPTY: [Field; 6] = [
     (4100, &[0, 0, 0, 1]),
 ];
 
-/// A file of five pages: 2 and 4 are free, and 3 is a leaf of one cell.
-static FIVE_PAGES: [Field; 14] = [
+/// A file of five pages: 2 and 4 are free, and 3 is a leaf of one cell, at which a catalogue of 66,052 bytes is said to
+/// begin.
+static FIVE_PAGES: [Field; 15] = [
     (0, &[1]),
     (16, b"ROADSEG1"),
     (24, &[0, 0, 0, 1]),
     (32, &[0, 0, 0, 5]),
     (36, &[0, 0, 0, 4]),
     (40, &[0, 0, 0, 2]),
+    (44, &[0, 0, 0, 3, 0, 1, 2, 4]),
     (4096, &[6]),
     (4100, &[0, 0, 0, 1]),
     (4096 + 16, b"roots"),
@@ -50,12 +54,19 @@ fn make_five_pages<D: Disk>(driver: &mut Driver<D>) -> Result<(), Fail> {
     driver.write(3, 16, b"leaf")?;
     driver.write(3, 4095, b"!")?;
     driver.release(2)?;
+    driver.set_catalogue(3, 66_052)?;
     driver.commit();
     driver.write(4, 16, b"gone too")?;
     driver.release(4)?;
     driver.commit();
     driver.flush()?;
     Ok(())
+}
+
+/// Whether the disk holds the pages that are looked at, and nothing more.
+fn is_image<D: Disk>(alloc: Global, disk: &mut D, wanted: &[u8]) -> Result<bool, Fail> {
+    let found = read(alloc, disk, LOOKED_AT)?;
+    Ok(found.as_slice() == wanted)
 }
 
 #[test]
@@ -68,30 +79,17 @@ fn a_creation_leaves_none_of_the_old_bytes(rt: HostRuntime) -> Result<(), Fail> 
             return Err("not created".into());
         };
         let mut disk = driver.into_disk();
-        assert_eq!(rt; disk.pages(), 2, "over {old_bytes} bytes");
-        let found = read(rt.alloc(), &mut disk, LOOKED_AT)?;
-        assert!(rt;
-            found.as_slice() == wanted.as_slice(),
-            "over {old_bytes} bytes"
-        );
+        expect(disk.pages() == 2, "two pages")?;
+        expect(
+            is_image(rt.alloc(), &mut disk, wanted.as_slice())?,
+            "page 0 and a directory",
+        )?;
     }
     Ok(())
 }
 
 #[test]
-fn a_flush_writes_pages_and_free_list(rt: HostRuntime) -> Result<(), Fail> {
-    let Ok(mut driver) = Driver::create(rt.alloc(), MemoryDisk::new(rt.alloc()), 5) else {
-        return Err("not created".into());
-    };
-    make_five_pages(&mut driver)?;
-    let mut disk = driver.into_disk();
-    let wanted = image(rt.alloc(), LOOKED_AT, &FIVE_PAGES)?;
-    assert!(rt; read(rt.alloc(), &mut disk, LOOKED_AT)?.as_slice() == wanted.as_slice());
-    Ok(())
-}
-
-#[test]
-fn a_flush_leaves_the_open_flag(rt: HostRuntime) -> Result<(), Fail> {
+fn a_flush_writes_all_but_the_open_flag(rt: HostRuntime) -> Result<(), Fail> {
     for flag in [0, 1, 255] {
         let mut start = image(rt.alloc(), 2, &EMPTY)?;
         let mut wanted = image(rt.alloc(), LOOKED_AT, &FIVE_PAGES)?;
@@ -103,27 +101,34 @@ fn a_flush_leaves_the_open_flag(rt: HostRuntime) -> Result<(), Fail> {
         };
         make_five_pages(&mut driver)?;
         let mut disk = driver.into_disk();
-        let found = read(rt.alloc(), &mut disk, LOOKED_AT)?;
-        assert!(rt; found.as_slice() == wanted.as_slice(), "flag {flag}");
+        expect(
+            is_image(rt.alloc(), &mut disk, wanted.as_slice())?,
+            "five pages",
+        )?;
     }
     Ok(())
 }
 
 #[test]
 fn what_is_abandoned_is_not_flushed(rt: HostRuntime) -> Result<(), Fail> {
-    let disk = disk_of(rt.alloc(), image(rt.alloc(), 5, &FIVE_PAGES)?.as_slice())?;
+    let wanted = image(rt.alloc(), LOOKED_AT, &FIVE_PAGES)?;
+    let start = image(rt.alloc(), 5, &FIVE_PAGES)?;
+    let disk = disk_of(rt.alloc(), start.as_slice())?;
     let Ok(mut driver) = Driver::open(rt.alloc(), disk, 8) else {
         return Err("not opened".into());
     };
+    expect(driver.catalogue() == (3, 66_052), "the catalogue's place")?;
     driver.write(3, 16, b"other")?;
     driver.release(3)?;
+    driver.set_catalogue(2, 5)?;
     for _ in 0..4 {
         let _ = driver.allocate(PageKind::Leaf)?;
     }
     driver.abandon();
     driver.flush()?;
     let mut disk = driver.into_disk();
-    let wanted = image(rt.alloc(), LOOKED_AT, &FIVE_PAGES)?;
-    assert!(rt; read(rt.alloc(), &mut disk, LOOKED_AT)?.as_slice() == wanted.as_slice());
-    Ok(())
+    expect(
+        is_image(rt.alloc(), &mut disk, wanted.as_slice())?,
+        "five pages",
+    )
 }

@@ -4,15 +4,14 @@
 //! asked for, and the free list where a page is wanted.
 
 use crate::driver::Driver;
+use crate::expect::expect;
 use crate::image::{Field, disk_of, image, put, read};
-use crate::watched::{Watch, Watched};
 use rand_core::utils::NextWord;
 use rand_pcg::Pcg32;
 use rs_disk::Disk;
 use rs_measure::Refusal;
 use rs_pager::PageKind;
 use std::alloc::Global;
-use std::process::Abort;
 use std::test::Fail;
 
 /// The pages of the file, and the greatest number of pages.
@@ -60,8 +59,8 @@ static NO_FILE_HEADER: [Damage; 22] = [
     (0, 35, 1, "no directory"),
     (0, 35, 7, "more pages than there are"),
     (0, 32, 1, "more pages than there may be"),
-    (0, 52, 1, "bytes behind the fields"),
-    (0, 4095, 1, "bytes behind the fields"),
+    (0, 52, 1, "bytes after the fields"),
+    (0, 4095, 1, "bytes after the fields"),
 ];
 
 /// Bytes with which a page doesn't fit its kind and number.
@@ -139,42 +138,27 @@ fn damaged(alloc: Global, damage: &Damage) -> Result<Vec<u8>, Fail> {
 }
 
 /// Asserts that these bytes are no file of at most `limit` pages, and that the disk comes back as it was.
-fn assert_no_file(
-    rt: &impl Abort,
-    alloc: Global,
-    bytes: &[u8],
-    limit: u32,
-    why: &str,
-) -> Result<(), Fail> {
-    let watch = Watch::new();
-    let disk = Watched::new(disk_of(alloc, bytes)?, &watch);
-    match Driver::open(alloc, disk, limit) {
-        Ok(_) => return Err("opened".into()),
-        Err((disk, refusal)) => {
-            assert_eq!(rt; refusal, Refusal::DamagedFile, "{why}");
-            assert_eq!(rt; watch.changes(), 0, "{why}");
-            let mut disk = disk.into_disk();
-            let pages = disk.pages() as usize;
-            let found = read(alloc, &mut disk, pages.saturating_add(1))?;
-            let start = found.get(..bytes.len()).unwrap_or(&[]);
-            assert!(rt; start == bytes, "{why}");
-        }
-    }
-    Ok(())
+fn expect_no_file(alloc: Global, bytes: &[u8], limit: u32, why: &str) -> Result<(), Fail> {
+    let Err((mut disk, refusal)) = Driver::open(alloc, disk_of(alloc, bytes)?, limit) else {
+        return expect(false, why);
+    };
+    let pages = disk.pages() as usize;
+    let found = read(alloc, &mut disk, pages.saturating_add(1))?;
+    let is_kept = found.get(..bytes.len()) == Some(bytes);
+    expect(refusal == Refusal::DamagedFile && is_kept, why)
 }
 
 #[test]
 fn bytes_that_are_no_file_are_refused(rt: HostRuntime) -> Result<(), Fail> {
     let mut words = Pcg32::new(7, 54);
     for length in [0, 1, 100, 4096, 8192, 8193, 24_576] {
-        let zeros = vec![in rt.alloc(); 0u8; length]?;
-        assert_no_file(&rt, rt.alloc(), zeros.as_slice(), 6, "zeros")?;
-        let mut random = zeros;
-        for place in random.iter_mut() {
+        let mut bytes = vec![in rt.alloc(); 0u8; length]?;
+        expect_no_file(rt.alloc(), bytes.as_slice(), 6, "zeros")?;
+        for place in bytes.iter_mut() {
             let [byte, _, _, _] = words.next_word().to_be_bytes();
             *place = byte;
         }
-        assert_no_file(&rt, rt.alloc(), random.as_slice(), 6, "random bytes")?;
+        expect_no_file(rt.alloc(), bytes.as_slice(), 6, "random bytes")?;
     }
     Ok(())
 }
@@ -183,7 +167,7 @@ fn bytes_that_are_no_file_are_refused(rt: HostRuntime) -> Result<(), Fail> {
 fn a_damaged_page_0_is_refused(rt: HostRuntime) -> Result<(), Fail> {
     for damage in no_file_header() {
         let bytes = damaged(rt.alloc(), damage)?;
-        assert_no_file(&rt, rt.alloc(), bytes.as_slice(), 8, damage.3)?;
+        expect_no_file(rt.alloc(), bytes.as_slice(), 8, damage.3)?;
     }
     Ok(())
 }
@@ -192,108 +176,92 @@ fn a_damaged_page_0_is_refused(rt: HostRuntime) -> Result<(), Fail> {
 fn a_file_that_is_cut_or_past_the_limit_is_refused(rt: HostRuntime) -> Result<(), Fail> {
     let bytes = image(rt.alloc(), PAGES, &FILE)?;
     for limit in 3..6 {
-        assert_no_file(&rt, rt.alloc(), bytes.as_slice(), limit, "a lower limit")?;
+        expect_no_file(rt.alloc(), bytes.as_slice(), limit, "a lower limit")?;
     }
     let cut = bytes.get(..24_575).unwrap_or(&[]);
-    assert_no_file(&rt, rt.alloc(), cut, 8, "a byte is missing")?;
+    expect_no_file(rt.alloc(), cut, 8, "a byte is missing")?;
     for limit in 6..9 {
         let disk = disk_of(rt.alloc(), bytes.as_slice())?;
-        assert!(rt; Driver::open(rt.alloc(), disk, limit).is_ok());
+        expect(
+            Driver::open(rt.alloc(), disk, limit).is_ok(),
+            "a limit that is enough",
+        )?;
     }
     Ok(())
 }
 
-/// Asserts that page `number` is refused by each call, and each other page in use reads as stated.
-fn assert_one_damaged<D: Disk>(
-    rt: &impl Abort,
+/// Whether a page that was asked for is refused where it is the damaged one, and else as stated.
+fn is_answered<D: Disk>(driver: &mut Driver<D>, bytes: &[u8], number: u32, damaged: u32) -> bool {
+    let start = (number as usize).saturating_mul(4096);
+    match driver.page(number) {
+        Ok(page) => {
+            let wanted = bytes.get(start..start.saturating_add(4096));
+            number != damaged && wanted == Some(page.bytes.as_slice())
+        }
+        Err(refusal) => number == damaged && refusal == Refusal::DamagedFile,
+    }
+}
+
+/// Asserts that the damaged page is refused by each call, and each other page in use reads as stated.
+fn expect_one_damaged<D: Disk>(
     driver: &mut Driver<D>,
     bytes: &[u8],
     damage: &Damage,
 ) -> Result<(), Fail> {
     let (damaged, _, _, why) = *damage;
-    for number in 1..5u32 {
-        let start = (number as usize).saturating_mul(4096);
-        let wanted = bytes.get(start..start.saturating_add(4096)).unwrap_or(&[]);
-        match driver.page(number) {
-            Ok(page) => {
-                assert!(rt; number != damaged, "page {number}: {why}");
-                assert!(rt; page.bytes.as_slice() == wanted, "page {number}: {why}");
-            }
-            Err(refusal) => {
-                assert_eq!(rt; refusal, Refusal::DamagedFile, "page {number}: {why}");
-                assert_eq!(rt; number, damaged, "{why}");
-            }
-        }
+    for number in 1..5 {
+        expect(is_answered(driver, bytes, number, damaged), why)?;
     }
-    assert_eq!(rt;
-        driver.write(damaged, 20, &[1]),
-        Err(Refusal::DamagedFile),
-        "{why}"
-    );
-    assert_eq!(rt; driver.release(damaged), Err(Refusal::DamagedFile), "{why}");
-    Ok(())
+    let written = driver.write(damaged, 20, &[1]);
+    expect(written == Err(Refusal::DamagedFile), why)?;
+    let released = driver.release(damaged);
+    expect(released == Err(Refusal::DamagedFile), why)
 }
 
 #[test]
 fn a_damaged_page_is_refused_at_each_reading(rt: HostRuntime) -> Result<(), Fail> {
     for damage in damaged_pages() {
         let bytes = damaged(rt.alloc(), damage)?;
-        let watch = Watch::new();
-        let disk = Watched::new(disk_of(rt.alloc(), bytes.as_slice())?, &watch);
+        let disk = disk_of(rt.alloc(), bytes.as_slice())?;
         let Ok(mut driver) = Driver::open(rt.alloc(), disk, 8) else {
             return Err("not opened".into());
         };
-        assert_one_damaged(&rt, &mut driver, bytes.as_slice(), damage)?;
-        driver.abandon();
-        assert_one_damaged(&rt, &mut driver, bytes.as_slice(), damage)?;
-        driver.commit();
-        driver.forget();
-        assert_one_damaged(&rt, &mut driver, bytes.as_slice(), damage)?;
-        assert_eq!(rt; watch.changes(), 0, "{}", damage.3);
+        for _ in 0..2 {
+            expect_one_damaged(&mut driver, bytes.as_slice(), damage)?;
+            driver.commit();
+            driver.forget();
+        }
         let mut disk = driver.into_disk();
-        assert!(rt; read(rt.alloc(), &mut disk, PAGES)?.as_slice() == bytes.as_slice());
+        let found = read(rt.alloc(), &mut disk, PAGES)?;
+        expect(found.as_slice() == bytes.as_slice(), damage.3)?;
     }
-    Ok(())
-}
-
-/// Asserts that no page is handed out, and that nothing is written.
-fn assert_hands_out_nothing<D: Disk>(
-    rt: &impl Abort,
-    driver: &mut Driver<D>,
-    why: &str,
-) -> Result<(), Fail> {
-    for _ in 0..2 {
-        let answer = driver.allocate(PageKind::Leaf);
-        assert_eq!(rt; answer, Err(Refusal::DamagedFile), "{why}");
-    }
-    assert_eq!(rt; driver.full_refusals(), 0, "{why}");
-    driver.commit();
-    driver.flush()?;
     Ok(())
 }
 
 /// Asserts that the free list is refused, at the opening or where a page is wanted, and that the disk stays.
-fn assert_free_list_refused(rt: &impl Abort, alloc: Global, damage: &Damage) -> Result<(), Fail> {
+fn expect_free_list_refused(alloc: Global, damage: &Damage) -> Result<(), Fail> {
     let bytes = damaged(alloc, damage)?;
     let mut disk = match Driver::open(alloc, disk_of(alloc, bytes.as_slice())?, 8) {
         Err((disk, refusal)) => {
-            assert_eq!(rt; refusal, Refusal::DamagedFile);
+            expect(refusal == Refusal::DamagedFile, damage.3)?;
             disk
         }
         Ok(mut driver) => {
-            assert_hands_out_nothing(rt, &mut driver, damage.3)?;
+            let answer = driver.allocate(PageKind::Leaf);
+            expect(answer == Err(Refusal::DamagedFile), damage.3)?;
+            driver.commit();
+            driver.flush()?;
             driver.into_disk()
         }
     };
     let found = read(alloc, &mut disk, PAGES)?;
-    assert!(rt; found.as_slice() == bytes.as_slice(), "{}", damage.3);
-    Ok(())
+    expect(found.as_slice() == bytes.as_slice(), damage.3)
 }
 
 #[test]
 fn a_damaged_free_list_hands_out_nothing(rt: HostRuntime) -> Result<(), Fail> {
     for damage in damaged_free_list() {
-        assert_free_list_refused(&rt, rt.alloc(), damage)?;
+        expect_free_list_refused(rt.alloc(), damage)?;
     }
     Ok(())
 }

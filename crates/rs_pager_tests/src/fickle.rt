@@ -2,7 +2,7 @@
 //!
 //! Nothing is promised of what it holds. Its calls fail where those of the disk below fail.
 
-ghost use Rattle.std.specs.Prelude.{◌≡◌, false, None};
+ghost use Rattle.std.specs.Prelude.{◌≡◌, false};
 ghost use Rattle.std.proofs.lemmas.Bool.{false≢true};
 
 use rs_disk::{Disk, DiskFault, PAGE_SIZE};
@@ -13,7 +13,7 @@ const TOLD_APART: usize = 16;
 /// Which bytes of a page are turned.
 #[derive(Clone, Copy, PartialEq, Eq, Debug)]
 pub enum Lie {
-    /// Those behind the first 16, which no reader can tell.
+    /// Those after the first 16, which no reader can tell.
     Content,
     /// All of them.
     All,
@@ -39,7 +39,7 @@ impl<D: Disk> FickleDisk<D> {
 
     /// Counts a reading that begins in this page, and answers whether there was one before.
     fn was_read(&mut self, at: u64) -> bool
-        ensures { D.Disk.failures self.new.disk ≡ D.Disk.failures self.old.disk }
+        ensures { self.new.disk ≡ self.old.disk }
     {
         let page = (at / PAGE_SIZE as u64) as usize;
         match self.readings.get_mut(page) {
@@ -65,11 +65,13 @@ fn turn(buffer: &mut [u8], lie: Lie) {
 }
 
 impl<D: Disk> Disk for FickleDisk<D> {
-    ghost seen = { λ _. record { size = 0; byte = λ _. None } };
+    ghost seen = { λ _. record { size = 0; byte = λ _. 0 } };
 
     ghost is_honest = { λ _. false };
 
     ghost failures = { λ fickle. D.Disk.failures fickle.disk };
+
+    ghost is_synced = { λ fickle. D.Disk.is_synced fickle.disk };
 
     ghost zeros_past_the_end = { λ _ honest. absurd (false≢true honest) };
 

@@ -1,4 +1,4 @@
-//! The pager beside a plain map of pages, over disks that fail, that are watched and that lie.
+//! The pager beside a plain map, over disks that fail, lie and are damaged, and over many pages.
 //!
 //! The plain map shares no code with the pager. Everything here is for the tests alone.
 #![tactic(auto)]
@@ -6,17 +6,15 @@
 #[cfg(test)]
 mod beside;
 #[cfg(test)]
-mod beside_tests;
-#[cfg(test)]
 mod bytes_tests;
 #[cfg(test)]
 mod call;
 #[cfg(test)]
-mod catalogue_tests;
-#[cfg(test)]
 mod damage_tests;
 #[cfg(test)]
 mod driver;
+#[cfg(test)]
+mod expect;
 #[cfg(test)]
 mod fickle;
 #[cfg(test)]
@@ -24,14 +22,12 @@ mod fickle_tests;
 #[cfg(test)]
 mod image;
 #[cfg(test)]
+mod large_tests;
+#[cfg(test)]
 mod limit_tests;
 #[cfg(test)]
 mod plain;
 #[cfg(test)]
-mod random_calls;
-#[cfg(test)]
 mod script_tests;
 #[cfg(test)]
-mod watched;
-#[cfg(test)]
-mod watched_tests;
+mod unfit_tests;

@@ -1,30 +1,33 @@
 //! One script of calls, of which the disk fails one after the other: what `commit` and `abandon` leave then.
 //!
-//! The pages are compared with the plain map's at the fault, behind the end of the changes, and once the disk was
+//! The pages are compared with the plain map's at the fault, after the end of the changes, and once the disk was
 //! opened again.
 
 use crate::beside::Beside;
 use crate::call::Call;
 use crate::driver::Driver;
-use crate::plain::{Plain, PlainKind};
-use crate::watched::{Watch, Watched};
+use crate::expect::expect;
+use crate::plain::Plain;
 use rs_disk::{Disk, FailedCut, FailingDisk, MemoryDisk};
 use rs_measure::Refusal;
+use rs_pager::PageKind;
 use std::alloc::Global;
-use std::process::Abort;
 use std::test::Fail;
 
 /// The greatest number of pages.
 const LIMIT: u32 = 8;
 
+/// A disk of which one call fails.
+type Failing = FailingDisk<MemoryDisk>;
+
 /// Makes pages 2 to 6, of which 5 and 3 are free.
 static BEGINNING: [Call; 14] = [
     Call::Begin,
-    Call::Allocate(PlainKind::Leaf),
-    Call::Allocate(PlainKind::Catalogue),
-    Call::Allocate(PlainKind::Inner),
-    Call::Allocate(PlainKind::Leaf),
-    Call::Allocate(PlainKind::Catalogue),
+    Call::Allocate(PageKind::Leaf),
+    Call::Allocate(PageKind::Catalogue),
+    Call::Allocate(PageKind::Inner),
+    Call::Allocate(PageKind::Leaf),
+    Call::Allocate(PageKind::Catalogue),
     Call::Write(2, 16, 22),
     Call::Write(4, 4090, 44),
     Call::Write(5, 300, 55),
@@ -42,14 +45,14 @@ static SCRIPT: [Call; 36] = [
     Call::Page(2),
     Call::Write(4, 16, 1),
     Call::Release(6),
-    Call::Allocate(PlainKind::Leaf),
+    Call::Allocate(PageKind::Leaf),
     Call::Write(6, 100, 2),
-    Call::Allocate(PlainKind::Inner),
+    Call::Allocate(PageKind::Inner),
     Call::Commit,
     Call::Flush,
     Call::Forget,
     Call::Begin,
-    Call::Allocate(PlainKind::Catalogue),
+    Call::Allocate(PageKind::Catalogue),
     Call::Write(2, 500, 3),
     Call::Release(3),
     Call::Abandon,
@@ -61,11 +64,11 @@ static SCRIPT: [Call; 36] = [
     Call::Commit,
     Call::Page(3),
     Call::Begin,
-    Call::Allocate(PlainKind::Leaf),
-    Call::Allocate(PlainKind::Leaf),
-    Call::Allocate(PlainKind::Leaf),
-    Call::Allocate(PlainKind::Leaf),
-    Call::Allocate(PlainKind::Leaf),
+    Call::Allocate(PageKind::Leaf),
+    Call::Allocate(PageKind::Leaf),
+    Call::Allocate(PageKind::Leaf),
+    Call::Allocate(PageKind::Leaf),
+    Call::Allocate(PageKind::Leaf),
     Call::Release(7),
     Call::Commit,
     Call::Flush,
@@ -83,122 +86,85 @@ fn script() -> &'static [Call] {
     &SCRIPT
 }
 
-/// A disk with the pages of the beginning, and the plain map of them.
-fn begun(rt: &impl Abort, alloc: Global) -> Result<(MemoryDisk, Plain), Fail> {
-    let watch = Watch::new();
-    let disk = Watched::new(MemoryDisk::new(alloc), &watch);
-    let Ok(driver) = Driver::create(alloc, disk, LIMIT) else {
-        return Err("not created".into());
-    };
-    let mut beside = Beside {
-        driver,
-        plain: Plain::new(alloc, LIMIT)?,
-        watch: &watch,
-    };
-    for call in beginning() {
-        let is_fault = beside.make(rt, *call)?;
-        assert!(rt; !is_fault);
+/// Makes the calls until the disk fails one, and answers whether it failed one.
+fn make_all<D: Disk>(beside: &mut Beside<D>, calls: &[Call]) -> Result<bool, Fail> {
+    for call in calls {
+        if beside.make(*call)? {
+            return Ok(true);
+        }
     }
-    let Beside {
-        driver,
-        plain,
-        watch: _,
-    } = beside;
-    Ok((driver.into_disk().into_disk(), plain))
+    Ok(false)
 }
 
-/// Opens the disk, which may fail, and then once more.
-fn opened<'a>(
-    rt: &impl Abort,
-    alloc: Global,
-    disk: Watched<'a, FailingDisk<MemoryDisk>>,
-) -> Result<Driver<Watched<'a, FailingDisk<MemoryDisk>>>, Fail> {
+/// A disk with the pages of the beginning, and the plain map of them.
+fn begun(alloc: Global) -> Result<(MemoryDisk, Plain), Fail> {
+    let Ok(driver) = Driver::create(alloc, MemoryDisk::new(alloc), LIMIT) else {
+        return Err("not created".into());
+    };
+    let plain = Plain::new(alloc, LIMIT)?;
+    let mut beside = Beside { driver, plain };
+    let is_fault = make_all(&mut beside, beginning())?;
+    expect(!is_fault, "nothing fails at the beginning")?;
+    let Beside { driver, plain } = beside;
+    Ok((driver.into_disk(), plain))
+}
+
+/// Opens the disk, and once more where that failed; answers whether it failed.
+fn opened(alloc: Global, disk: Failing) -> Result<(Driver<Failing>, bool), Fail> {
     match Driver::open(alloc, disk, LIMIT) {
-        Ok(driver) => Ok(driver),
+        Ok(driver) => Ok((driver, false)),
         Err((disk, refusal)) => {
-            assert_eq!(rt; refusal, Refusal::Disk);
+            expect(refusal == Refusal::Disk, "the disk has failed")?;
             match Driver::open(alloc, disk, LIMIT) {
-                Ok(driver) => Ok(driver),
+                Ok(driver) => Ok((driver, true)),
                 Err(_) => Err("not opened".into()),
             }
         }
     }
 }
 
-/// Makes the script's calls until the disk fails one, and answers whether it failed one, the opening's among them.
-fn make_script<D: Disk>(rt: &impl Abort, beside: &mut Beside<'_, D>) -> Result<bool, Fail> {
-    let mut is_fault = beside.watch.failures() > 0;
-    for call in script() {
-        if !is_fault {
-            is_fault = beside.make(rt, *call)?;
-        }
-    }
-    Ok(is_fault)
+/// Ends the changes as `is_kept` says, flushes, and opens the disk again.
+fn end_and_open(alloc: Global, mut beside: Beside<Failing>, is_kept: bool) -> Result<(), Fail> {
+    beside.compare()?;
+    beside.end(is_kept)?;
+    let is_fault = beside.make(Call::Flush)?;
+    expect(!is_fault, "one call fails alone")?;
+    let Beside { driver, plain } = beside;
+    let (driver, is_fault) = opened(alloc, driver.into_disk())?;
+    expect(!is_fault, "one call fails alone")?;
+    let mut beside = Beside { driver, plain };
+    beside.compare()
 }
 
-/// Runs the script until the disk fails a call, and answers whether it did. Then the changes are ended, as
-/// `is_kept` says, and flushed, and the disk is opened again.
-fn run_script(
-    rt: &impl Abort,
-    alloc: Global,
-    failing_call: u64,
-    is_kept: bool,
-) -> Result<bool, Fail> {
-    let (disk, plain) = begun(rt, alloc)?;
-    let watch = Watch::new();
+/// Runs the script until the disk fails a call, and answers whether it did.
+fn run_script(alloc: Global, failing_call: u64, is_kept: bool) -> Result<bool, Fail> {
+    let (disk, plain) = begun(alloc)?;
     let disk = FailingDisk::new(disk, failing_call, FailedCut::Done);
-    let driver = opened(rt, alloc, Watched::new(disk, &watch))?;
-    let mut beside = Beside {
-        driver,
-        plain,
-        watch: &watch,
-    };
-    if !make_script(rt, &mut beside)? {
-        return Ok(false);
+    let (driver, is_fault) = opened(alloc, disk)?;
+    let mut beside = Beside { driver, plain };
+    if is_fault || make_all(&mut beside, script())? {
+        end_and_open(alloc, beside, is_kept)?;
+        return Ok(true);
     }
-    beside.compare(rt)?;
-    beside.end(rt, is_kept)?;
-    let is_fault_again = beside.make(rt, Call::Flush)?;
-    assert!(rt; !is_fault_again);
-    assert_eq!(rt; watch.failures(), 1);
-    let Beside {
-        driver,
-        mut plain,
-        watch: _,
-    } = beside;
-    plain.reopen()?;
-    let mut beside = Beside {
-        driver: opened(rt, alloc, driver.into_disk())?,
-        plain,
-        watch: &watch,
-    };
-    beside.compare(rt)?;
-    Ok(true)
+    Ok(false)
 }
 
-/// Fails each call in turn, up to the first run without a fault; answers how many runs had one.
-fn fail_each(rt: &impl Abort, alloc: Global, is_kept: bool) -> Result<u64, Fail> {
-    let mut faults = 0;
+/// Fails each call in turn, up to the first run without a fault.
+fn fail_each(alloc: Global, is_kept: bool) -> Result<(), Fail> {
     for failing_call in 1..200 {
-        let is_fault = run_script(rt, alloc, failing_call, is_kept)?;
-        if !is_fault {
-            return Ok(faults);
+        if !run_script(alloc, failing_call, is_kept)? {
+            return expect(failing_call > 20, "more than 20 calls fail");
         }
-        faults = failing_call;
     }
     Err("each run had a fault".into())
 }
 
 #[test]
 fn after_each_fault_abandon_gives_the_old_pages(rt: HostRuntime) -> Result<(), Fail> {
-    let faults = fail_each(&rt, rt.alloc(), false)?;
-    assert!(rt; faults > 20, "{faults} calls failed");
-    Ok(())
+    fail_each(rt.alloc(), false)
 }
 
 #[test]
 fn after_each_fault_commit_keeps_the_working_pages(rt: HostRuntime) -> Result<(), Fail> {
-    let faults = fail_each(&rt, rt.alloc(), true)?;
-    assert!(rt; faults > 20, "{faults} calls failed");
-    Ok(())
+    fail_each(rt.alloc(), true)
 }

@@ -6,18 +6,18 @@ use Rattle.rs_pager.proofs.opening.read_file_header.Goals.{then-fields-lt2-via-t
 use Rattle.rs_pager.proofs.opening.read_file_header.Goals as goal
 
 pub returns-in_default-clause-damaged : goal.returns-in_default-clause-damaged
-returns-in_default-clause-damaged g c = λ honest whole _.
+returns-in_default-clause-damaged g c = λ honest _.
     let size : length c.in_ok-page.page.bytes ≡ 4096 = search rules in
-    IsNoFile-header _ c.in_ok-page.page.bytes _ whole (c.in_ok-page.ensures.bytes honest) size c.in_default.ensures.none
+    IsNoFile-header _ c.in_ok-page.page.bytes _ (c.in_ok-page.ensures.bytes honest) size c.in_default.ensures.none
 
 pub returns-then-fields-lt2-clause-damaged : goal.returns-then-fields-lt2-clause-damaged
-returns-then-fields-lt2-clause-damaged g c = λ honest whole _.
+returns-then-fields-lt2-clause-damaged g c = λ honest _.
     let size : length c.in_ok-page.page.bytes ≡ 4096 = search rules in
     let still : IsTrue (g.D.Disk.is_honest c.read_first.new.disk) = subst IsTrue (sym c.read_first.ensures.honesty) honest in
     let same = ap (λ (content : Content). content.size) (c.read_first.ensures.same honest) in
     let limited = c.requires in
     IsNoFile-count _ c.in-Some.fields _
-    (HasFileHeader-read _ c.in_ok-page.page.bytes _ whole (c.in_ok-page.ensures.bytes honest) size c.in-Some.ensures.found)
+    (HasFileHeader-read _ c.in_ok-page.page.bytes _ (c.in_ok-page.ensures.bytes honest) size c.in-Some.ensures.found)
     (λ least greatest room. elim c.then-fields-lt2.branch [
       | then-fields-lt2-via-then-fields-lt2 w ↦ absurd (omega arith)
       | then-fields-lt2-via-else-fields-lt2+then-fields-limit w ↦ absurd (omega arith)

@@ -45,14 +45,6 @@ returns-in-Ok-flush-clause-tied g c = λ honest.
     let before = created-tied g.D.Disk.is_honest g.D.Disk.seen c.cut.new.self c.args.limit told.0 still in
     c.flush.ensures.tied (subst (λ (p : Paged _). IsTied g.D.Disk.is_honest g.D.Disk.seen p) (search rules) before)
 
-pub returns-in-Ok-flush-clause-whole : goal.returns-in-Ok-flush-clause-whole
-returns-in-Ok-flush-clause-whole g c = λ honest.
-    let told = c.in-Ok.ensures.slots in
-    let still : IsTrue (g.D.Disk.is_honest c.cut.new.self) = subst IsTrue (sym c.cut.ensures.honesty) honest in
-    let created = created_pager c.cut.new.self c.args.limit told.0 in
-    let before = created-tied g.D.Disk.is_honest g.D.Disk.seen c.cut.new.self c.args.limit told.0 still in
-    c.in-Ok-flush.ensures.whole (subst (λ (p : Paged _). IsTied g.D.Disk.is_honest g.D.Disk.seen p) (search rules) before)
-
 pub returns-in-Ok-flush-clause-size : goal.returns-in-Ok-flush-clause-size
 returns-in-Ok-flush-clause-size g c = λ honest.
     let told = c.in-Ok.ensures.slots in

@@ -4,12 +4,12 @@ use Rattle.rs_disk.specs.declared.disk.TheConstants.{PAGE_SIZE}
 use Rattle.rs_pager.specs.HeldPage.{HeldPage}
 use Rattle.rs_pager.specs.Pages.{SamePages}
 use Rattle.rs_pager.specs.Paged.{Paged, IsSound, HaveNoCopies}
-use Rattle.rs_pager.specs.Stores.{Stores, IsWholeFile}
+use Rattle.rs_pager.specs.Stores.{Stores}
 use Rattle.rs_pager.specs.Writing.{WritesOut, HasAll}
 use Rattle.rs_pager.specs.Maps.{committed, working, HoldsNoChange, IsTied}
 use Rattle.rs_pager.proofs.Slots.{IsSound-clean}
 use Rattle.rs_pager.proofs.Maps.{to_new}
-use Rattle.rs_pager.proofs.Flushed.{disk_pager, written_pager, disk-committed, disk-working, disk-tied, written-committed, written-working, written-changes, written-stores, written-tied, written-size, kept-flag, tied-whole}
+use Rattle.rs_pager.proofs.Flushed.{disk_pager, written_pager, disk-committed, disk-working, disk-tied, written-committed, written-working, written-changes, written-stores, written-tied, written-size, kept-flag}
 use Rattle.rs_pager.proofs.pager.Pager.flush.Goals as goal
 
 pub invariant_of-self-2 : goal.invariant_of-self-2
@@ -105,23 +105,6 @@ returns-clause-flag g c =
     subst (λ (p : Paged _). IsTrue (g.D.Disk.is_honest p.disk) → WritesOut p.slots p.is_header_changed (g.D.Disk.seen p.disk) (g.D.Disk.seen c.write_out.new.disk)) c.self.view_is
     (subst (λ (slots : List HeldPage). IsTrue (g.D.Disk.is_honest c.self.inside.disk) → WritesOut slots c.self.inside.is_header_changed (g.D.Disk.seen c.self.inside.disk) (g.D.Disk.seen c.write_out.new.disk)) c.deref.ensures.value c.write_out.ensures.others) in
     λ honest. kept-flag g.D.Disk.is_honest g.D.Disk.seen c.args.self.now c.write_out.new.disk sound (wrote honest)
-
-pub returns-clause-whole : goal.returns-clause-whole
-returns-clause-whole g c =
-    let sound = subst (λ (p : Paged _). IsSound p.limit p.slots p.kept p.working p.is_begun) c.self.view_is c.self.invariant in
-    let shut = ap (λ (p : Paged _). p.is_begun) c.self.view_is ∙ c.requires in
-    let none = subst (λ (p : Paged _). HaveNoCopies p.slots) c.self.view_is (c.self.invariant.no_copies shut) in
-    let wrote : IsTrue (g.D.Disk.is_honest c.args.self.now.disk) → WritesOut c.args.self.now.slots c.args.self.now.is_header_changed (g.D.Disk.seen c.args.self.now.disk) (g.D.Disk.seen c.write_out.new.disk) =
-    subst (λ (p : Paged _). IsTrue (g.D.Disk.is_honest p.disk) → WritesOut p.slots p.is_header_changed (g.D.Disk.seen p.disk) (g.D.Disk.seen c.write_out.new.disk)) c.self.view_is
-    (subst (λ (slots : List HeldPage). IsTrue (g.D.Disk.is_honest c.self.inside.disk) → WritesOut slots c.self.inside.is_header_changed (g.D.Disk.seen c.self.inside.disk) (g.D.Disk.seen c.write_out.new.disk)) c.deref.ensures.value c.write_out.ensures.others) in
-    let has : IsTrue (g.D.Disk.is_honest c.args.self.now.disk) → HasAll c.args.self.now.slots c.args.self.now.kept c.args.self.now.is_header_changed (g.D.Disk.seen c.write_out.new.disk) =
-    subst (λ (p : Paged _). IsTrue (g.D.Disk.is_honest p.disk) → HasAll p.slots p.kept p.is_header_changed (g.D.Disk.seen c.write_out.new.disk)) c.self.view_is
-    (subst (λ (slots : List HeldPage). IsTrue (g.D.Disk.is_honest c.self.inside.disk) → HasAll slots c.self.inside.kept c.self.inside.is_header_changed (g.D.Disk.seen c.write_out.new.disk)) c.deref.ensures.value c.in_ok-write_out.ensures.written) in
-    let honesty : g.D.Disk.is_honest c.write_out.new.disk ≡ g.D.Disk.is_honest c.args.self.now.disk = c.write_out.ensures.honesty ∙ ap (λ (p : Paged _). g.D.Disk.is_honest p.disk) c.self.view_is in
-    subst (λ (p : Paged _). IsTied g.D.Disk.is_honest g.D.Disk.seen c.args.self.now → IsWholeFile (g.D.Disk.seen c.write_out.new.disk) p.kept.pages) (sym c.self.view_is)
-    (λ tied. tied-whole g.D.Disk.is_honest g.D.Disk.seen (written_pager c.write_out.new.disk c.args.self.now)
-    (written-tied g.D.Disk.is_honest g.D.Disk.seen c.args.self.now c.write_out.new.disk sound honesty has wrote tied)
-    (written-changes g.D.Disk.is_honest g.D.Disk.seen c.args.self.now c.write_out.new.disk none))
 
 pub returns-clause-size : goal.returns-clause-size
 returns-clause-size g c =

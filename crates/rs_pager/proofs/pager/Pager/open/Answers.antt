@@ -15,11 +15,11 @@ invariant_of-result g c =
     (IsSound-opened _ c.in-Ok.fields c.in-Ok.ensures.least c.in-Ok.ensures.greatest c.requires.greatest)
 
 pub returns-clause-stores : goal.returns-clause-stores
-returns-clause-stores g c = λ honest whole.
+returns-clause-stores g c = λ honest.
     let opened = opened_pager c.read_file_header.new.disk c.args.limit c.in-Ok.fields in
     to_new (λ (_p n : Paged _). Stores (g.D.Disk.seen c.args.disk) (committed g.D.Disk.seen n)) opened opened _ (search rules)
     (opened-stores g.D.Disk.is_honest g.D.Disk.seen c.read_file_header.new.disk c.args.limit c.in-Ok.fields _
-    (c.read_file_header.ensures.same honest) (c.in-Ok.ensures.read honest whole) (c.in-Ok.ensures.room honest))
+    (c.read_file_header.ensures.same honest) (c.in-Ok.ensures.read honest) (c.in-Ok.ensures.room honest))
 
 pub returns-clause-working : goal.returns-clause-working
 returns-clause-working g c =
