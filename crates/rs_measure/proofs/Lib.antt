@@ -1,3 +1,5 @@
+pub mod FixedPoint
 pub mod MeasureText
 mod RefusalWords
 pub mod PartText
+pub mod SaidOrNot

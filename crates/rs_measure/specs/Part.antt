@@ -1,32 +1,10 @@
 -- The text of a part: a percentage, what is read and what is printed.
-use Rattle.std.specs.Prelude.{◌≡◌, ℕ, ◌+◌, ◌-◌, ◌*◌, ◌/◌, ◌%◌, ◌^◌, ◌≤◌, ◌⊎◌, List, ◌∷◌, ◌++◌, length, codes, decimal}
-use Rattle.rs_measure.specs.Measure.{AreDigits, number_of_digits, three_digits}
+use Rattle.std.specs.Prelude.{ℕ, ◌+◌, ◌/◌, ◌%◌, ◌≤◌, List, ◌∷◌, ◌++◌, codes, decimal}
+use Rattle.rs_measure.specs.FixedPoint.{SaysFixedPoint, three_digits}
 
--- 1 to 3 digits before the point
-pub record ArePercentDigits (digits : List ℕ) : Type 0 where
-  pub digits_only : AreDigits digits
-  pub some : 1 ≤ length digits
-  pub at_most_three : length digits ≤ 3
-
--- 1 to 7 decimals behind the point
-pub record ArePercentDecimals (digits : List ℕ) : Type 0 where
-  pub digits_only : AreDigits digits
-  pub some : 1 ≤ length digits
-  pub at_most_seven : length digits ≤ 7
-
--- The text says a percentage, in billionths: whole digits alone, or whole digits, a point and decimals.
-pub record SaysWholePercent (text : List ℕ) (billionths : ℕ) : Type 0 where
-  pub whole : ArePercentDigits text
-  pub value : billionths ≡ 10000000 * number_of_digits text
-
-pub record SaysPercentParts (text : List ℕ) (billionths : ℕ) (whole decimals : List ℕ) : Type 0 where
-  pub whole_part : ArePercentDigits whole
-  pub decimal_part : ArePercentDecimals decimals
-  pub cut : text ≡ whole ++ codes "." ++ decimals
-  pub value : billionths ≡ 10000000 * number_of_digits whole + 10 ^ (7 - length decimals) * number_of_digits decimals
-
+-- The text says a percentage in billionths of the whole: 1 to 3 digits and, if wanted, a point and 1 to 7 decimals.
 abbrev pub SaysPercent : List ℕ → ℕ → Type 0
-SaysPercent text billionths = SaysWholePercent text billionths ⊎ ((whole : List ℕ) × (decimals : List ℕ) × SaysPercentParts text billionths whole decimals)
+SaysPercent text billionths = SaysFixedPoint 3 7 text billionths
 
 -- The text says the part: a percentage of at most 100.
 pub record SaysPart (text : List ℕ) (billionths : ℕ) : Type 0 where

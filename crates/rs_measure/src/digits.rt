@@ -1,9 +1,9 @@
 //! Decimal digits: the number that they say, and numbers in digits.
 //!
-//! Shared by the texts of measures and of parts.
+//! The texts of measures and of parts share them.
 
 ghost use Rattle.std.specs.Prelude.{◌≡◌, ◌+◌, ◌^◌, ◌<◌, ◌≤◌, ◌++◌, length, IfSome, IfNone};
-ghost use Rattle.rs_measure.specs.Measure.{AreDigits, number_of_digits, three_digits};
+ghost use Rattle.rs_measure.specs.FixedPoint.{AreDigits, number_of_digits, three_digits};
 
 use arrayvec::ArrayString;
 

@@ -1,10 +1,12 @@
 //! Measures along a route, parts of a route, and the refusals that every layer answers with.
 //!
-//! A measure is a whole number of thousandths, a part of billionths. What is read is what the text
-//! of a measure or a part may be, everything else is refused, and what is printed is read back.
+//! A measure is a whole number of thousandths, a part one of billionths. Exactly the texts of measures and
+//! of parts are read, all others are refused, and what is printed is read back.
 #![tactic(auto)]
 
 mod digits;
+mod fixed_point;
+pub mod limits;
 pub mod measure;
 pub mod part;
 pub mod refusal;

@@ -1,15 +1,15 @@
 //! A part of a route: a whole number of billionths from 0 to 1,000,000,000, read and printed as a
 //! percentage.
 //!
-//! Promises that a `Part` is always in that range, that exactly the texts of percentages up to 100
+//! It promises that a `Part` is always in that range, that exactly the texts of percentages up to 100
 //! are read, and that what is printed is read back.
 
-ghost use Rattle.std.specs.Prelude.{◌≡◌, ℕ, ◌+◌, ◌-◌, ◌*◌, ◌/◌, ◌%◌, ◌^◌, ◌<◌, ◌≤◌, ◌++◌, List, length, IfOk, IfErr, OnErr, IfSome, IfNone};
+ghost use Rattle.std.specs.Prelude.{◌≡◌, ℕ, ◌+◌, ◌<◌, ◌≤◌, ◌++◌, List, length, IfOk, IfErr, OnErr};
 ghost use Rattle.rs_measure.specs.declared.part.TheConstants.{GREATEST_PART};
-ghost use Rattle.rs_measure.specs.Measure.{number_of_digits};
-ghost use Rattle.rs_measure.specs.Part.{ArePercentDigits, ArePercentDecimals, SaysPercent, SaysPart, seven_digits, part_text};
+ghost use Rattle.rs_measure.specs.Part.{SaysPart, seven_digits, part_text};
 
-use crate::digits::{digit_char, push_three_digits, read_digits};
+use crate::digits::{digit_char, push_three_digits};
+use crate::fixed_point::read_fixed_point;
 use crate::refusal::Refusal;
 use arrayvec::ArrayString;
 use itoa::Buffer;
@@ -63,7 +63,7 @@ pub fn read_part(text: &str) -> Result<Part, Refusal>
     ensures err { IfErr result (λ refusal. refusal ≡ Refusal.NumberOutOfRange) }
     ensures refused { OnErr result ((n : ℕ) → SaysPart text.now n → ⊥) }
 {
-    match billionths_said(text) {
+    match read_fixed_point(text, 3, 7) {
         Some(billionths) => part_of(billionths),
         None => Err(Refusal::NumberOutOfRange),
     }
@@ -80,54 +80,6 @@ fn part_of(billionths: u64) -> Result<Part, Refusal>
         return Err(Refusal::NumberOutOfRange);
     }
     Ok(Part::from_billionths(billionths as u32))
-}
-
-// The billionths that a text says, where it is the text of a percentage of any size.
-fn billionths_said(text: &str) -> Option<u64>
-    ensures said { IfSome result (λ n. SaysPercent text.now n) }
-    ensures none { IfNone result ((n : ℕ) → SaysPercent text.now n → ⊥) }
-{
-    match text.split_once('.') {
-        None => whole_billionths(text.as_bytes()),
-        Some((whole, decimals)) => {
-            let whole = whole_billionths(whole.as_bytes())?;
-            let part = decimal_billionths(decimals.as_bytes())?;
-            Some(whole + part)
-        }
-    }
-}
-
-// The billionths that the digits before a point say.
-fn whole_billionths(digits: &[u8]) -> Option<u64>
-    ensures digits { IfSome result (λ n. ArePercentDigits digits.now) }
-    ensures value { IfSome result (λ n. n ≡ 10000000 * number_of_digits digits.now) }
-    ensures in_range { IfSome result (λ n. n ≤ 9990000000) }
-    ensures none { IfNone result (ArePercentDigits digits.now → ⊥) }
-{
-    if digits.is_empty() || digits.len() > 3 {
-        return None;
-    }
-    Some(10_000_000 * u64::from(read_digits(digits)?))
-}
-
-// The billionths that the decimals behind a point say.
-fn decimal_billionths(digits: &[u8]) -> Option<u64>
-    ensures digits { IfSome result (λ n. ArePercentDecimals digits.now) }
-    ensures value { IfSome result (λ n. n ≡ 10 ^ (7 - length digits.now) * number_of_digits digits.now) }
-    ensures in_range { IfSome result (λ n. n ≤ 9999999) }
-    ensures none { IfNone result (ArePercentDecimals digits.now → ⊥) }
-{
-    let unit = match digits.len() {
-        1 => 1_000_000,
-        2 => 100_000,
-        3 => 10_000,
-        4 => 1_000,
-        5 => 100,
-        6 => 10,
-        7 => 1,
-        _ => return None,
-    };
-    Some(unit * u64::from(read_digits(digits)?))
 }
 
 /// Prints a part as a percentage without its percent sign, with seven decimals, and one digit at
@@ -163,61 +115,3 @@ pub fn printed_part_is_read_back()
 pub fn text_says_one_part()
     ensures { (text : List ℕ) (a b : ℕ) → SaysPart text a → SaysPart text b → a ≡ b }
 {}
-
-#[cfg(test)]
-mod tests {
-    use super::*;
-    use std::test::Fail;
-
-    #[test]
-    fn reads_parts(rt: HostRuntime) -> Result<(), Fail> {
-        assert_eq!(rt; read_part("0")?.billionths(), 0);
-        assert_eq!(rt; read_part("050")?.billionths(), 500_000_000);
-        assert_eq!(rt; read_part("33.3333334")?.billionths(), 333_333_334);
-        assert_eq!(rt; read_part("0.0000001")?.billionths(), 1);
-        assert_eq!(rt; read_part("2.50")?.billionths(), 25_000_000);
-        assert_eq!(rt; read_part("000.5")?.billionths(), 5_000_000);
-        assert_eq!(rt; read_part("1.00001")?.billionths(), 10_000_100);
-        assert_eq!(rt; read_part("100")?.billionths(), GREATEST_PART);
-        assert_eq!(rt; read_part("100.0000000")?.billionths(), GREATEST_PART);
-        Ok(())
-    }
-
-    #[test]
-    fn refuses_what_is_no_part(rt: HostRuntime) {
-        for text in [
-            "",
-            ".",
-            "1.",
-            ".5",
-            "9.00000001",
-            "0050",
-            "100.0000001",
-            "101",
-            "+1",
-            "-1",
-            "1%",
-            " 1",
-            "1 ",
-            "1.2.3",
-            "a",
-        ] {
-            assert_eq!(rt;
-                read_part(text),
-                Err(Refusal::NumberOutOfRange),
-                "at {text:?}"
-            );
-        }
-    }
-
-    #[test]
-    fn prints_parts(rt: HostRuntime) {
-        assert_eq!(rt; write_part(Part::from_billionths(0)).as_str(), "0.0000000");
-        assert_eq!(rt;
-            write_part(Part::from_billionths(333_333_334)).as_str(),
-            "33.3333334"
-        );
-        let greatest = Part::from_billionths(GREATEST_PART);
-        assert_eq!(rt; write_part(greatest).as_str(), "100.0000000");
-    }
-}

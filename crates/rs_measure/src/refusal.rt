@@ -4,6 +4,7 @@
 
 use arrayvec::ArrayString;
 use itoa::Buffer;
+use std::alloc::{AllocError, AllocFailed};
 
 /// How many bytes the words of a refusal have room for.
 pub const WORDS_BYTES: usize = 32;
@@ -49,7 +50,7 @@ pub enum Refusal {
     TextTooLong,
     /// 40: the columns of two operands differ.
     ColumnsDiffer,
-    /// 41: a column stands twice.
+    /// 41: two columns have one name.
     ColumnTwice,
     /// 42: the kinds of two operands differ.
     KindsDiffer,
@@ -169,26 +170,26 @@ impl Refusal {
     }
 }
 
-#[cfg(test)]
-mod tests {
-    use super::*;
+/// Want of memory is refusal 90.
+impl From<AllocError> for Refusal {
+    ghost use Rattle.std.specs.Prelude.{◌≡◌};
+    ghost use Rattle.rs_measure.specs.declared.refusal.Refusal.TheVariants.{OutOfMemory};
 
-    #[test]
-    fn numbers_and_words_are_answered(rt: HostRuntime) {
-        assert_eq!(rt; Refusal::SessionNumber.number(), 3);
-        assert_eq!(rt; Refusal::SessionNumber.words().as_str(), "session number");
-        assert_eq!(rt; Refusal::Syntax(9).number(), 11);
-        assert_eq!(rt; Refusal::Syntax(9).words().as_str(), "syntax at 9");
-        let longest = Refusal::Syntax(usize::MAX);
-        assert_eq!(rt; longest.words().as_str(), "syntax at 18446744073709551615");
-        assert_eq!(rt;
-            Refusal::WrongValues.words().as_str(),
-            "wrong type or number of values"
-        );
-        assert_eq!(rt; Refusal::NameTaken.number(), 24);
-        assert_eq!(rt; Refusal::NameTaken.words().as_str(), "name taken");
-        assert_eq!(rt; Refusal::Disk.number(), 91);
-        assert_eq!(rt; Refusal::Disk.words().as_str(), "disk");
-        assert_eq!(rt; Refusal::FileNotClosed.number(), 95);
+    ghost from_gives = { λ _ refusal. refusal ≡ OutOfMemory };
+
+    fn from(_refused: AllocError) -> Refusal {
+        Refusal::OutOfMemory
+    }
+}
+
+/// Want of memory is refusal 90. The value that found no room is dropped.
+impl<T: Drop> From<AllocFailed<T>> for Refusal {
+    ghost use Rattle.std.specs.Prelude.{◌≡◌};
+    ghost use Rattle.rs_measure.specs.declared.refusal.Refusal.TheVariants.{OutOfMemory};
+
+    ghost from_gives = { λ _ refusal. refusal ≡ OutOfMemory };
+
+    fn from(_refused: AllocFailed<T>) -> Refusal {
+        Refusal::OutOfMemory
     }
 }

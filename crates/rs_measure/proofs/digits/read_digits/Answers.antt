@@ -1,6 +1,6 @@
 use Rattle.std.proofs.Common.{◌≤◌, ◌∙◌, sym, get_or, take, length, arith}
 use Rattle.std.proofs.lemmas.List.{length-take}
-use Rattle.rs_measure.proofs.MeasureText.{digit_in_range, number_of_digits_short, are_digits_more, number_of_digits_more, digit_range_from_test, no_digit_from_test}
+use Rattle.rs_measure.proofs.FixedPoint.{digit_in_range, number_of_digits_short, are_digits_more, number_of_digits_more, digit_range_from_test, no_digit_from_test}
 use Rattle.rs_measure.proofs.digits.read_digits.Goals as goal
 
 pub returns-then-not-is_ascii_digit-clause-none : goal.returns-then-not-is_ascii_digit-clause-none

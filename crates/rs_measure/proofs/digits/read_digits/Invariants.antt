@@ -1,5 +1,5 @@
 use Rattle.std.proofs.Common.{◌≡◌, take}
-use Rattle.rs_measure.specs.Measure.{AreDigits, number_of_digits}
+use Rattle.rs_measure.specs.FixedPoint.{AreDigits, number_of_digits}
 use Rattle.rs_measure.proofs.digits.read_digits.Given as goal
 
 abbrev pub invariant-loop-digit : goal.invariant-loop-digit
