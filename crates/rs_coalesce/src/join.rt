@@ -1,4 +1,4 @@
-//! Joins neighbours in a list of spans by row and place.
+//! The joining of neighbours in a list of spans that are in order by row and place.
 
 ghost use Rattle.std.specs.Prelude.{◌≡◌, ◌+◌, ◌≤◌, nat_lt, length, map, take};
 ghost use Rattle.rs_facts.specs.Spans.{seen, gap_of};
@@ -24,7 +24,7 @@ fn is_joined(kind: Kind, before: &Span, next: &Span) -> bool
     reaches(kind, before.hi, next.lo) && same_row(&before.tuple, &next.tuple)
 }
 
-/// Joins spans that stand by row and place, and says how many are left; what stands behind these is of no use.
+/// Joins spans that are in order by row and place, and says how many are left; elements past these are unspecified.
 fn join_in_place(kind: Kind, spans: &mut [Span]) -> usize
     ensures within { result ≤ length spans.new }
     ensures joined { map seen (take result spans.new) ≡ joined kind (map seen spans.old) }
@@ -45,7 +45,7 @@ fn join_in_place(kind: Kind, spans: &mut [Span]) -> usize
     last + 1
 }
 
-/// Joins spans that stand by row and place, and takes the rest away.
+/// Joins spans that are in order by row and place, and drops the rest.
 pub fn join_neighbours(kind: Kind, spans: &mut Vec<Span>)
     ensures { map seen spans.new.items ≡ joined kind (map seen spans.old.items) }
 {

@@ -1,6 +1,6 @@
 //! Maximal runs: the longest spans along which one row holds.
 //!
-//! Takes no memory: spans are sorted and joined where they stand.
+//! `runs` takes no memory: it sorts and joins the spans in place.
 #![tactic(auto)]
 
 mod join;

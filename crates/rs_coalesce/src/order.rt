@@ -1,4 +1,4 @@
-//! The two orders in which spans stand: by row and place, to be joined, and by place and row, to be printed.
+//! The two orders of spans: by row and place, to join them, and by place and row, to print them.
 
 ghost use Rattle.std.specs.Prelude.{◌≡◌, IsPermutation};
 ghost use Rattle.std.specs.Ordering.{is_lt};
@@ -11,14 +11,14 @@ use rs_facts::Span;
 use rs_value::compare_rows;
 use std::cmp::Ordering;
 
-/// How two spans stand by row, and by place where they have one row.
+/// Compares two spans by row, and by place where their rows are equal.
 fn by_row(left: &Span, right: &Span) -> Ordering
     ensures { result ≡ row_place_cmp (seen left.now) (seen right.now) }
 {
     compare_rows(&left.tuple, &right.tuple).then(left.lo.cmp(&right.lo))
 }
 
-/// How two spans stand by place, and by row where they begin at one place.
+/// Compares two spans by place, and by row where they begin at one place.
 fn by_place(left: &Span, right: &Span) -> Ordering
     ensures { result ≡ stretch_cmp (seen left.now) (seen right.now) }
 {

@@ -5,8 +5,8 @@ use Rattle.std.specs.List.{list_any}
 use Rattle.std.specs.Cmp.Lexicographic.{pointwise, texts_ties}
 use Rattle.rs_facts.specs.Fact.{Name, name_cmp}
 use Rattle.rs_facts.specs.Insert.{same_name}
-use Rattle.rs_parser.specs.declared.commands.ColumnDefinition.{ColumnDefinition}
-use Rattle.rs_parser.specs.View.{column_tree}
+use Rattle.rs_syntax.specs.declared.commands.ColumnDefinition.{ColumnDefinition}
+use Rattle.rs_syntax.specs.View.{column_tree}
 use Rattle.rs_machine.specs.Checks.{column_names, some_name_twice}
 
 pub same_name-by_bytes : (a b : Name) → pointwise nat_eq a b ≡ same_name a b

@@ -15,9 +15,9 @@ use Rattle.rs_value.specs.declared.column.TheConstants.{COLUMNS}
 use Rattle.rs_value.specs.Row.{Row}
 use Rattle.rs_facts.specs.Fact.{Name, Names, Facts, name_cmp}
 use Rattle.rs_facts.specs.Query.{RouteEnds, Column, Table}
-use Rattle.rs_parser.specs.declared.commands.ColumnDefinition.{ColumnDefinition}
-use Rattle.rs_parser.specs.View.{column_tree}
-use Rattle.rs_parser.specs.Tree.{PlaceTree, along}
+use Rattle.rs_syntax.specs.declared.commands.ColumnDefinition.{ColumnDefinition}
+use Rattle.rs_syntax.specs.View.{column_tree}
+use Rattle.rs_syntax.specs.Tree.{PlaceTree, along}
 use Rattle.rs_machine.specs.declared.limits.TheConstants.{TABLES, CHANGES}
 use Rattle.rs_machine.specs.Checks.{◌>>=◌, unless, found, some_name_twice, column_names, row_fits, holds_lines}
 use Rattle.rs_machine.specs.State.{State}

@@ -9,7 +9,7 @@ use Rattle.rs_facts.specs.Fact.{Name}
 use Rattle.rs_facts.specs.Query.{RouteEnds}
 use Rattle.rs_machine.specs.Checks.{◌>>=◌, unless, position_on, span_on}
 use Rattle.rs_machine.specs.State.{State}
-use Rattle.rs_parser.specs.Tree.{PlaceTree, along}
+use Rattle.rs_syntax.specs.Tree.{PlaceTree, along}
 use Rattle.rs_engine.specs.Insertion.{span_of_place}
 
 both_true : (a b : Bool) → (a && b) ≡ true → (a ≡ true) × (b ≡ true)

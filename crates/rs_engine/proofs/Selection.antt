@@ -8,7 +8,7 @@ use Rattle.rs_facts.specs.Fact.{Name, Names}
 use Rattle.rs_facts.specs.Query.{RouteEnds, Table, table_rows, table_kind, facts_of}
 use Rattle.rs_facts.specs.Runs.{runs_of}
 use Rattle.rs_facts.specs.LineText.{line_of}
-use Rattle.rs_parser.specs.Tree.{named}
+use Rattle.rs_syntax.specs.Tree.{named}
 use Rattle.rs_machine.specs.Step.{effect, selected, lines_of}
 use Rattle.rs_engine.specs.Printed.{printed_position}
 use Rattle.rs_engine.specs.Kept.{KeptReferents, KeptTable, Kept, facts_kept, table_of, state_of}

@@ -8,7 +8,7 @@ use Rattle.rs_facts.specs.Fact.{Name, Names}
 use Rattle.rs_facts.specs.Insert.{new_facts}
 use Rattle.rs_facts.specs.Query.{RouteEnds}
 use Rattle.rs_facts.specs.Runs.{Stretch}
-use Rattle.rs_parser.specs.Tree.{PlaceTree, along}
+use Rattle.rs_syntax.specs.Tree.{PlaceTree, along}
 use Rattle.rs_machine.specs.State.{State}
 use Rattle.rs_machine.specs.Checks.{span_on, row_fits}
 use Rattle.rs_machine.specs.Step.{with_facts_along}

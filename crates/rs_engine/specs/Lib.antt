@@ -6,6 +6,4 @@ pub mod Placed
 pub mod Printed
 pub mod Insertion
 pub mod View
-pub mod ReplyView
 pub mod Replied
-pub mod Memory

@@ -3,7 +3,7 @@ use Rattle.std.specs.Prelude.{ℕ, [], length, Result, Ok, Err, String, Vec}
 use Rattle.std.specs.declared.alloc.Global.{Global}
 use Rattle.rs_measure.specs.declared.refusal.Refusal.{Refusal}
 use Rattle.rs_machine.specs.Served as machine
-use Rattle.rs_engine.specs.ReplyView.{rows_of}
+use Rattle.rs_serve.specs.ReplyView.{rows_of}
 
 -- no rows and the count, or the refusal
 abbrev pub count_reply_of : Result ℕ Refusal → machine.Reply

@@ -1,6 +1,6 @@
 //! The engine: the routes, their referents, the tables with their facts, and the count of accepted changes.
 //!
-//! Promises that a step makes the checks of its command in their order, that an accepted command changes what the
+//! It promises that a step makes the checks of its command in their order, that an accepted command changes what the
 //! reference machine changes, and that a refused one changes nothing.
 
 ghost use Rattle.std.specs.Prelude.{◌≡◌, ◌≤◌, ◌⊎◌, [], ◌∷◌, true, length, map, Ok, Err, IfOk, IfErr, OnErr};
@@ -9,29 +9,26 @@ ghost use Rattle.rs_methods.specs.Position.{expression_of};
 ghost use Rattle.rs_value.specs.View.{literal_row};
 ghost use Rattle.rs_facts.specs.Insert.{same_name};
 ghost use Rattle.rs_facts.specs.Spans.{seen};
-ghost use Rattle.rs_parser.specs.Tree.{named};
-ghost use Rattle.rs_parser.specs.View.{column_tree, place_tree, query_tree};
+ghost use Rattle.rs_syntax.specs.Tree.{named};
+ghost use Rattle.rs_syntax.specs.View.{column_tree, place_tree, query_tree};
 ghost use Rattle.rs_machine.specs.Checks.{column_names, some_name_twice, span_on};
 ghost use Rattle.rs_machine.specs.Step.{effect, counted, route_defined, table_defined, row_inserted, position_text, position_translated, selected};
-ghost use Rattle.rs_engine.specs.ReplyView.{rows_of, reply_of, StandsAlone};
+ghost use Rattle.rs_serve.specs.ReplyView.{rows_of, reply_of, StandsAlone};
 ghost use Rattle.rs_engine.specs.Replied.{count_reply_of, rows_reply_of};
 
-#[cfg(test)]
-mod limit_tests;
 mod referent_commands;
 
 use crate::printer::PositionPrinter;
 use crate::referents::RouteReferents;
-use crate::reply::{Finish, Reply};
 use crate::routes::{Ends, Routes};
-use crate::session::Session;
 use crate::table::Table;
 use crate::tables::Tables;
 use rs_facts::Span;
 use rs_machine::limits::{CHANGES, ROUTES, TABLES};
 use rs_measure::{Measure, Refusal};
 use rs_methods::{Method, Name, Position};
-use rs_parser::{ColumnDefinition, Command, Place, Query};
+use rs_serve::{Finish, Reply, Serve, Session};
+use rs_syntax::{ColumnDefinition, Command, Place, Query};
 use rs_value::{COLUMNS, Kind, Literal};
 use std::alloc::{AllocError, Global};
 use std::marker::Model;
@@ -63,15 +60,14 @@ impl Model for Engine {
 impl Engine {
     ghost use Rattle.rs_machine.specs.Served.{Served};
     ghost use Rattle.rs_machine.specs.Fresh.{fresh_machine};
-    ghost use Rattle.rs_parser.specs.View.{tree_of};
+    ghost use Rattle.rs_syntax.specs.View.{tree_of};
     ghost use Rattle.rs_engine.specs.Insertion.{MayBePut, span_of_place};
     ghost use Rattle.rs_engine.specs.Kept.{state_of};
-    ghost use Rattle.rs_engine.specs.Memory.{takes_no_memory, IsAnswered};
     ghost use Rattle.rs_engine.specs.View.{machine_of};
 
     /// An engine with no routes and no tables. It takes no memory.
     pub fn fresh(alloc: Global) -> Self
-        ensures { machine_of result ≡ fresh_machine }
+        ensures { ⟦<Engine as Serve>⟧.is result fresh_machine }
     {
         Engine {
             alloc,
@@ -82,13 +78,11 @@ impl Engine {
         }
     }
 
-    /// Serves one command of one session. A refusal changes nothing and stands alone, with no rows beside it: it is
-    /// that of the first check that fails, or `Refusal::OutOfMemory` (90) where a growth was refused. Moving and dropping
-    /// a referent takes no memory, and is never answered 90.
-    pub fn step(&mut self, session: Session, command: Command) -> Reply
+    /// What a command is answered. A refusal changes nothing: it is that of the first check that fails, or
+    /// `Refusal::OutOfMemory` (90) where a growth was refused.
+    fn reply_to(&mut self, session: Session, command: Command) -> Reply
         ensures served { Served (machine_of self.old) session (tree_of command) (reply_of result) (machine_of self.new) }
         ensures alone { StandsAlone result.rows.items result.finish }
-        ensures no_want { takes_no_memory (tree_of command) ≡ true → IsAnswered (machine_of self.old) session (tree_of command) (reply_of result) (machine_of self.new) }
     {
         let alloc = self.alloc;
         match command {
@@ -131,7 +125,7 @@ impl Engine {
         }
     }
 
-    /// Defines a route, unless its name is taken (24), it is empty (31), or a limit stands in the way (27).
+    /// Defines a route. Checks, in order: its name is taken (24), it is empty (31), limits (27).
     fn define_route(&mut self, name: Name, start: Measure, finish: Measure) -> Result<u128, Refusal>
         ensures done { IfOk result (λ count. route_defined (state_of self.old) name.bytes start finish ≡ Ok (counted count (state_of self.new))) }
         ensures refused { IfErr result (λ refusal. (refusal ≡ Refusal.OutOfMemory) ⊎ (route_defined (state_of self.old) name.bytes start finish ≡ Err refusal)) }
@@ -158,7 +152,7 @@ impl Engine {
         }
     }
 
-    /// Defines a table, unless its name is taken (24), a column stands twice (41), or a limit stands in the way (27).
+    /// Defines a table. Checks, in order: its name is taken (24), two columns have one name (41), limits (27).
     fn define_table(
         &mut self,
         kind: Kind,
@@ -196,8 +190,8 @@ impl Engine {
         }
     }
 
-    /// Puts a row along a span, unless a check stands in the way (20; 21; 25, 30; 31; 32; 33; 34; 27). Its answer is
-    /// how many facts are new.
+    /// Puts a row along a span. Checks, in order: 20; 21; 25, 30; 31; 32; 33; 34; 27. Its answer is how many facts are
+    /// new.
     fn insert(
         &mut self,
         table: &Name,
@@ -346,6 +340,19 @@ impl Engine {
         }
         Ok(rows)
     }
+}
+
+impl Serve for Engine {
+    ghost use Rattle.std.proofs.Common.{sym, ◌∙◌};
+    ghost use Rattle.rs_engine.specs.View.{IsMachine};
+
+    ghost is = { IsMachine };
+
+    fn step(&mut self, session: Session, command: Command) -> Reply {
+        self.reply_to(session, command)
+    }
+
+    ghost one = { λ engine machine other is also. is ∙ sym also };
 }
 
 /// Whether two columns have one name.

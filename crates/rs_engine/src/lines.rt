@@ -1,12 +1,12 @@
 //! The text of the rows that a query answers, one line for each run.
 //!
-//! Promises the machine's line of each run, in the order of the runs, behind the lines that were there.
+//! It promises to append the machine's line of each run, in the order of the runs.
 
 ghost use Rattle.std.specs.Prelude.{◌≡◌, ◌++◌, map, IfOk, OnOk, string_bytes};
 ghost use Rattle.std.specs.List.{AllByRecursion};
 ghost use Rattle.rs_facts.specs.LineText.{line_of};
 ghost use Rattle.rs_facts.specs.Spans.{seen};
-ghost use Rattle.rs_engine.specs.ReplyView.{rows_of};
+ghost use Rattle.rs_serve.specs.ReplyView.{rows_of};
 ghost use Rattle.rs_engine.specs.Printed.{IsPrintable, printed_by};
 
 use crate::printer::PositionPrinter;

@@ -1,6 +1,6 @@
 //! How the positions of one route are printed.
 //!
-//! Promises the machine's text of a position by a method, behind a space.
+//! It promises to append a space and the machine's text of a position by a method.
 
 ghost use Rattle.std.specs.Prelude.{◌≡◌, ◌++◌, codes, OnOk, string_bytes};
 
@@ -26,7 +26,7 @@ pub struct PositionPrinter<'a> {
 impl PositionPrinter<'_> {
     ghost use Rattle.rs_engine.specs.Printed.{IsPlaceOn, printed_by};
 
-    /// Appends the position of a place of the route, in thousandths, behind a space. For want of memory the text may end
+    /// Appends a space and the position of a place of the route, in thousandths. For want of memory the text may end
     /// with a part of it.
     pub fn push(&self, text: &mut String, place: u32) -> Result<(), AllocError>
         requires { IsPlaceOn self.now.ends place }

@@ -1,6 +1,6 @@
 //! The referents of each route, by the route's name.
 //!
-//! Promises the machine's referents, where a position lies by them, and how a measure is printed by them.
+//! It promises the machine's referents, where a position lies by them, and how a measure is printed by them.
 
 ghost use Rattle.std.specs.Prelude.{◌≡◌, ◌≤◌, ◌≢◌, true, IsOk, IfOk, OnOk, OnErr, string_bytes};
 ghost use Rattle.std.specs.FinMap as names;

@@ -1,6 +1,6 @@
 //! The routes by name, and where each starts and ends.
 //!
-//! Promises the machine's map of routes, each with its start below its finish.
+//! It promises the machine's map of routes, each with its start below its finish.
 
 ghost use Rattle.std.specs.Prelude.{◌≡◌, ◌<◌, OnOk, OnErr};
 ghost use Rattle.std.specs.FinMap as names;

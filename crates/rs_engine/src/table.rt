@@ -1,27 +1,27 @@
 //! One table: its kind, its columns, and the spans that are kept of it on each route.
 //!
-//! Promises that the facts of the spans are those of the machine's table.
+//! It promises that the facts of the spans are those of the machine's table.
 
 ghost use Rattle.std.specs.Prelude.{◌≡◌, ◌≤◌, length, map, Some, Ok, Err, IfOk, IfErr, OnOk, OnErr, vec_len};
 ghost use Rattle.std.specs.FinMap as names;
 ghost use Rattle.rs_value.specs.View.{row_of, literal_row};
 ghost use Rattle.rs_facts.specs.Insert.{new_facts};
 ghost use Rattle.rs_facts.specs.Spans.{seen, IsPlaced};
-ghost use Rattle.rs_parser.specs.View.{column_tree};
+ghost use Rattle.rs_syntax.specs.View.{column_tree};
 ghost use Rattle.rs_machine.specs.Checks.{column_types, row_fits};
 ghost use Rattle.rs_machine.specs.Step.{with_facts_along};
 ghost use Rattle.rs_engine.specs.Kept.{facts_kept, table_of};
 ghost use Rattle.rs_engine.specs.Placed.{LieOn};
 ghost use Rattle.rs_engine.specs.Printed.{PrintsRuns, printed_by};
-ghost use Rattle.rs_engine.specs.ReplyView.{rows_of};
+ghost use Rattle.rs_serve.specs.ReplyView.{rows_of};
 
 use crate::lines::push_lines;
 use crate::printer::PositionPrinter;
 use rs_coalesce::runs;
 use rs_facts::Span;
 use rs_measure::{GREATEST_MEASURE, Refusal};
-use rs_parser::{ColumnDefinition, Name};
 use rs_spans::{copy_spans, insert};
+use rs_syntax::{ColumnDefinition, Name};
 use rs_value::{COLUMNS, Kind, Literal, Schema, Tuple, fits};
 use std::alloc::{AllocError, Global};
 use std::collections::BTreeMap;
@@ -40,7 +40,7 @@ pub struct Table {
 impl Model for Table {
     ghost use Rattle.std.specs.Prelude.{◌≡◌, map};
     ghost use Rattle.rs_facts.specs.Spans.{seen};
-    ghost use Rattle.rs_parser.specs.View.{column_tree};
+    ghost use Rattle.rs_syntax.specs.View.{column_tree};
     ghost use Rattle.rs_machine.specs.Checks.{column_types};
     ghost use Rattle.rs_engine.specs.Codes.{kept_table_code};
     ghost use Rattle.rs_engine.specs.Kept.{KeptTable};

@@ -1,6 +1,6 @@
 //! The tables by name.
 //!
-//! Promises the machine's map of tables, of which one row in one table changes one name alone.
+//! It promises the machine's map of tables; a row put into one table changes no other.
 
 ghost use Rattle.std.specs.Prelude.{◌≡◌, IsSome, IfSome, IfOk, OnOk, OnErr};
 ghost use Rattle.std.specs.Option.{option_copied};

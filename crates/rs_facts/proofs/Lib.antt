@@ -10,3 +10,4 @@ pub mod Apart
 pub mod RunsOf
 pub mod RunMeaning
 pub mod Inside
+mod KeptRuns

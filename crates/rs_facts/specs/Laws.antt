@@ -4,7 +4,7 @@ use Rattle.rs_value.specs.declared.column.Kind.{Kind}
 use Rattle.rs_value.specs.Row.{Row}
 use Rattle.rs_facts.specs.Fact.{Places, contains}
 use Rattle.rs_facts.specs.Runs.{Stretch, AreRunsOf, LieWithin, runs_of}
-use Rattle.rs_facts.specs.Spans.{places_of}
+use Rattle.rs_facts.specs.Spans.{places_of, AreKept, AreAllRunsOf}
 
 -- places with the same rows at each thousandth are the same
 abbrev pub SameRowsAreOneSet : Type 0
@@ -25,3 +25,7 @@ GoingAlongGivesTheRuns = (kind : Kind) (places : Places) (from to : ℕ) → Lie
 -- the maximal runs of places mean these places
 abbrev pub RunsMeanThePlaces : Type 0
 RunsMeanThePlaces = (kind : Kind) (places : Places) (from to : ℕ) (runs : List Stretch) → LieWithin from to places → AreRunsOf kind places runs → places_of runs ≡ places
+
+-- spans in the form in which they are kept are all the maximal runs of what they mean, each once
+abbrev pub KeptSpansAreTheRuns : Type 0
+KeptSpansAreTheRuns = (kind : Kind) (spans : List Stretch) → AreKept kind spans → AreAllRunsOf kind (places_of spans) spans

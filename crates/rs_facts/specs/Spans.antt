@@ -1,5 +1,5 @@
 -- What lists of spans mean, and in which form a table's spans on one route are kept.
-use Rattle.std.specs.Prelude.{◌≡◌, ℕ, suc, ◌+◌, ◌<◌, ◌≤◌, ◌⊎◌, List, [], ◌∷◌}
+use Rattle.std.specs.Prelude.{◌≡◌, ◌≢◌, ℕ, suc, ◌+◌, ◌<◌, ◌≤◌, ◌⊎◌, List, [], ◌∷◌, Contains}
 use Rattle.std.specs.List.{AllByRecursion}
 use Rattle.std.specs.declared.cmp.Ordering.TheVariants.{Less}
 use Rattle.rs_value.specs.declared.column.Kind.{Kind}
@@ -9,7 +9,7 @@ use Rattle.rs_value.specs.View.{row_of}
 use Rattle.rs_facts.specs.declared.fact.Span.{Span}
 use Rattle.rs_facts.specs.Fact.{Places, none}
 use Rattle.rs_facts.specs.Insert.{with_row}
-use Rattle.rs_facts.specs.Runs.{Stretch, stretch}
+use Rattle.rs_facts.specs.Runs.{Stretch, stretch, IsMaximalRun}
 
 -- a span of the code as a row along a span
 abbrev pub seen : Span → Stretch
@@ -41,3 +41,14 @@ Precedes kind a b = (row_cmp a.row b.row ≡ Less) ⊎ ((a.row ≡ b.row) × (a.
 abbrev pub AreKept : Kind → List Stretch → Type 0
 AreKept kind [] = Unit {0}
 AreKept kind (span ∷ spans) = IsPlaced kind span × AllByRecursion (Precedes kind span) spans × AreKept kind spans
+
+-- each span once
+abbrev pub AreOnce : List Stretch → Type 0
+AreOnce [] = Unit {0}
+AreOnce (span ∷ spans) = AllByRecursion (λ other. span ≢ other) spans × AreOnce spans
+
+-- All the maximal runs of places and nothing else, each once, in whatever order.
+pub record AreAllRunsOf (kind : Kind) (places : Places) (spans : List Stretch) : Type 0 where
+  pub once : AreOnce spans
+  pub maximal : AllByRecursion (IsMaximalRun kind places) spans
+  pub complete : (run : Stretch) → IsMaximalRun kind places run → Contains spans run

@@ -19,7 +19,7 @@ pub struct Fact {
 pub struct Span {
     /// The first thousandth at which the row holds.
     pub lo: u32,
-    /// The first thousandth behind the span; of a point, its place and one.
+    /// The first thousandth after the span; of a point, its place plus 1.
     pub hi: u32,
     /// The row that holds.
     pub tuple: Box<Tuple>,
@@ -32,8 +32,8 @@ pub struct Run {
     pub route: u32,
     /// The first thousandth at which the row holds.
     pub lo: u32,
-    /// The first thousandth behind the run; of a point, its place and one.
+    /// The first thousandth after the run; of a point, its place plus 1.
     pub hi: u32,
     /// The row that holds.
-    pub tuple: Tuple,
+    pub tuple: Box<Tuple>,
 }

@@ -1,7 +1,7 @@
 //! Facts, spans and runs, and the definitions of what they mean.
 //!
-//! The definitions stand in `specs/`: facts at single thousandths, insertion, the rows of a query,
-//! maximal runs and the text of a line. The code here only names what the layers above pass on.
+//! The definitions are in `specs/`: facts at single thousandths, insertion, the rows of a query,
+//! maximal runs and the text of a line. The code has the types that the layers above pass on, and laws.
 #![tactic(auto)]
 
 pub mod fact;

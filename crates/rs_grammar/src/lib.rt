@@ -10,6 +10,7 @@ ghost use Rattle.rs_grammar.specs.Grammar.{command_form, IsCommand, IsViable};
 ghost use Rattle.rs_grammar.specs.Reading.{Runs, StopsAt};
 
 pub mod kind;
+pub mod limits;
 
 pub use kind::{BRACKETS, NAME_BYTES, TokenKind};
 

@@ -1,7 +1,7 @@
 //! The tokens of a line.
 //!
-//! A line is cut by the longest match: each token is a slice of the line, in order, and blanks alone part
-//! them. A line has one cut, or none, and then it is refused.
+//! A line is cut by the longest match: each token is a slice of the line, in order, and only blanks come
+//! between them. A line has one cut, or none, and then it is refused.
 #![tactic(auto)]
 
 ghost use Rattle.std.specs.Prelude.{◌≡◌, ℕ, List};
@@ -9,8 +9,6 @@ ghost use Rattle.rs_lexer.specs.declared.token.Token.{Token};
 ghost use Rattle.rs_lexer.specs.Lexis.{IsCut};
 
 mod scan;
-#[cfg(test)]
-mod tests;
 pub mod token;
 
 pub use rs_grammar::kind::{NAME_BYTES, TokenKind};

@@ -1,6 +1,6 @@
 //! The tokens of a line, cut by the longest match.
 //!
-//! Blanks part tokens. Where no token begins at a byte that is no blank, the line has none.
+//! Blanks separate tokens. Where no token begins at a byte that is no blank, the line has no cut.
 
 ghost use Rattle.std.specs.Prelude.{◌≡◌, ◌==◌, ◌⊎◌, List, IfOk, IfErr, All};
 ghost use Rattle.rs_lexer.specs.declared.token.Token.{Token};
@@ -16,7 +16,7 @@ use std::alloc::Global;
 pub struct Token {
     /// What it is.
     pub kind: TokenKind,
-    /// How many bytes of the line stand before it.
+    /// How many bytes of the line come before it.
     pub first: usize,
     /// How many bytes it has.
     pub length: usize,

@@ -1,2 +1,3 @@
 pub mod NameOrder
+pub mod ReadableLines
 mod ReferentNames

@@ -1,6 +1,6 @@
 -- The names of referents stay names that a line can say.
 use Rattle.std.proofs.Common.{◌≡◌, ◌∙◌, ℕ, Bool, true, false, cond, List, [], ◌∷◌, Some, None, length, not, Result, Ok, Err, IfOk, refl, sym, ap, subst, inl, inr}
-use Rattle.std.specs.Prelude.{if◌then◌else◌, nat_le, nat_lt}
+use Rattle.std.specs.Prelude.{if◌then◌else◌, IsTrue, nat_le, nat_lt}
 use Rattle.std.specs.declared.cmp.Ordering.{Ordering}
 use Rattle.std.specs.declared.cmp.Ordering.TheVariants.{Less, Equal, Greater}
 use Rattle.std.specs.Ordering.{is_eq, eq_by_cmp}
@@ -15,17 +15,18 @@ use Rattle.rs_facts.specs.Fact.{Name, Names, name_cmp}
 use Rattle.rs_facts.specs.Insert.{same_name}
 use Rattle.rs_methods.specs.Position.{PositionExpression, start_name}
 use Rattle.rs_methods.specs.PositionText.{AreWords}
-use Rattle.rs_parser.specs.Tree.{CommandTree, define_route, define_table, define_referent, move_referent, drop_referent, insert, translate, PlaceTree, along, select}
-use Rattle.rs_parser.specs.Verdict.{Reads}
-use Rattle.rs_parser.specs.Sound.{IsName, IsSound}
+use Rattle.rs_syntax.specs.Tree.{CommandTree, define_route, define_table, define_referent, move_referent, drop_referent, insert, translate, PlaceTree, along, select}
+use Rattle.rs_syntax.specs.Verdict.{Reads}
+use Rattle.rs_syntax.specs.Sound.{IsName, IsSound}
 use Rattle.rs_machine.specs.State.{State, fresh, has}
 use Rattle.rs_machine.specs.Checks.{◌>>=◌, unless, route_named, table_named, has_referent, position_on, span_on, holds_lines, some_name_twice, column_names, row_fits}
 use Rattle.rs_machine.specs.declared.limits.TheConstants.{ROUTES, REFERENTS, TABLES}
 use Rattle.rs_machine.specs.Step.{Effect, may_change, referents_at, with_referents, referent_defined, referent_moved, referent_dropped, row_inserted, checked, outcome}
 use Rattle.rs_machine.specs.Served.{Machine, Reply, Answers, Served}
-use Rattle.rs_machine.specs.Request.{Request, unreadable, no_command, command, Asks}
+use Rattle.rs_machine.specs.Request.{Request, unreadable, no_command, command, Asks, is_text}
 use Rattle.rs_machine.specs.Answered.{Answer, Replies, AnswersLine, Answered}
 use Rattle.rs_machine.specs.ReferentNames.{AreNamed}
+use Rattle.rs_machine.proofs.ReadableLines.{readable_text}
 use Rattle.rs_machine.proofs.NameOrder.{name_cmp-total, name_cmp-antisymmetric}
 
 -- the names of one route's referents are names
@@ -145,12 +146,12 @@ served_named old session tree reply new sound named (inl answers) =
 served_named old session tree reply new sound named (inr want) = subst AreNamed (sym want.0.state) named
 
 -- The commands of lines are sound.
-module _ (read_sound : (line : List ℕ) (from : ℕ) (tree : CommandTree) → Reads line from (Ok tree) → IsSound tree) where
+module _ (read_sound : (line : List ℕ) (from : ℕ) (tree : CommandTree) → IsTrue (is_text line) → Reads line from (Ok tree) → IsSound tree) where
   replies_named : (old : Machine) (line : List ℕ) (request : Request) (given : Answer) (new : Machine) → Asks line request → AreNamed old.state → Replies old request given new → AreNamed new.state
   replies_named old line (unreadable refusal) given new asks named replies = subst (λ (m : Machine). AreNamed m.state) (sym replies.1) named
   replies_named old line (no_command session refusal) given new asks named replies = subst (λ (m : Machine). AreNamed m.state) (sym replies.1) named
   replies_named old line (command session tree) given new asks named replies =
-      served_named old session tree given.reply new (read_sound _ asks.digits tree asks.reads) named replies.1
+      served_named old session tree given.reply new (read_sound _ asks.digits tree (readable_text line asks.begins.is_readable) asks.reads) named replies.1
 
   line_named : (old : Machine) (line : List ℕ) (given : Answer) (new : Machine) → AreNamed old.state → AnswersLine old line given new → AreNamed new.state
   line_named old line given new named (inl asked) = replies_named old line asked.0 given new asked.1 named asked.2

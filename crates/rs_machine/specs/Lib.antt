@@ -8,3 +8,4 @@ pub mod ReplyText
 pub mod Answered
 pub mod Stream
 pub mod ReferentNames
+pub mod Lawful

@@ -1,12 +1,12 @@
 -- What a line asks: its refusal as a line, or its session and its command.
-use Rattle.std.specs.Prelude.{◌≡◌, ℕ, Bool, true, not, ◌&&◌, ◌||◌, ◌==◌, nat_lt, List, [], ◌∷◌, length, take, drop, Option, Some, None, Result, Ok, Err, if◌then◌else◌}
-use Rattle.std.specs.List.{list_any}
-use Rattle.std.specs.Str.{is_utf8, all_ascii_digits}
+use Rattle.std.specs.Prelude.{◌≡◌, ℕ, Bool, true, not, ◌&&◌, ◌==◌, nat_lt, List, [], ◌∷◌, length, take, drop, Option, Some, None, Result, Ok, Err, if◌then◌else◌}
+use Rattle.std.specs.Str.{all_ascii_digits}
 use Rattle.rs_measure.specs.declared.refusal.Refusal.{Refusal}
 use Rattle.rs_measure.specs.declared.refusal.Refusal.TheVariants.{LineIsNotText, LineTooLong, SessionNumber}
-use Rattle.rs_measure.specs.Measure.{number_of_digits}
-use Rattle.rs_parser.specs.Tree.{CommandTree}
-use Rattle.rs_parser.specs.Verdict.{Reads}
+use Rattle.rs_measure.specs.FixedPoint.{number_of_digits}
+pub use Rattle.rs_value.specs.Values.{is_control, is_text}
+use Rattle.rs_syntax.specs.Tree.{CommandTree}
+use Rattle.rs_syntax.specs.Verdict.{Reads}
 use Rattle.rs_machine.specs.declared.limits.TheConstants.{LINE_BYTES, SESSIONS}
 
 abbrev pub CARRIAGE_RETURN : ℕ
@@ -20,13 +20,6 @@ abbrev pub without_return : List ℕ → List ℕ
 without_return [] = []
 without_return (byte ∷ []) = if byte == CARRIAGE_RETURN then [] else byte ∷ []
 without_return (byte ∷ next ∷ bytes) = byte ∷ without_return (next ∷ bytes)
-
--- a byte below the space, and 127
-abbrev pub is_control : ℕ → Bool
-is_control byte = nat_lt byte SPACE || byte == 127
-
-abbrev pub is_text : List ℕ → Bool
-is_text bytes = is_utf8 bytes && not (list_any is_control bytes)
 
 -- the end, or a space
 abbrev pub ends_number : List ℕ → Bool

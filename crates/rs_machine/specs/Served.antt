@@ -1,8 +1,9 @@
 -- What may be answered to a command: the machine's answer, or a want that is named.
-use Rattle.std.specs.Prelude.{◌≡◌, ℕ, ◌-◌, ◌^◌, ◌<◌, ◌≤◌, ◌⊎◌, List, Result, Ok, Err}
+use Rattle.std.specs.Prelude.{◌≡◌, ℕ, ◌≤◌, ◌⊎◌, List, Result, Ok, Err}
 use Rattle.rs_measure.specs.declared.refusal.Refusal.{Refusal}
 use Rattle.rs_measure.specs.declared.refusal.Refusal.TheVariants.{OutOfMemory, Disk, FileFull}
-use Rattle.rs_parser.specs.Tree.{CommandTree}
+use Rattle.rs_measure.specs.Counts.{Rose}
+use Rattle.rs_syntax.specs.Tree.{CommandTree}
 use Rattle.rs_machine.specs.State.{State, RowText}
 use Rattle.rs_machine.specs.Step.{Effect, outcome}
 
@@ -16,13 +17,6 @@ pub record Machine : Type 0 where
 pub data Reply : Type 0 where
   done : List RowText → ℕ → Reply
   refused : Refusal → Reply
-
-abbrev pub GREATEST_COUNT : ℕ
-GREATEST_COUNT = 2 ^ 64 - 1
-
--- a count is greater than it was, or stands at its greatest number
-abbrev pub Rose : ℕ → ℕ → Type 0
-Rose old new = (old < new) ⊎ (new ≡ GREATEST_COUNT)
 
 -- no count falls
 pub record CountsOn (old new : Machine) : Type 0 where

@@ -11,9 +11,9 @@ use Rattle.rs_value.specs.Row.{Row}
 use Rattle.rs_facts.specs.Fact.{Name, Names, no_facts}
 use Rattle.rs_facts.specs.Insert.{same_name, after_insert, new_facts}
 use Rattle.rs_facts.specs.Query.{RouteEnds, Column, Table, Query, table_rows, rows_at, kind_of}
-use Rattle.rs_facts.specs.Runs.{runs_of}
+use Rattle.rs_facts.specs.Runs.{Stretch, runs_of}
 use Rattle.rs_facts.specs.LineText.{line_of}
-use Rattle.rs_parser.specs.Tree.{CommandTree, define_route, define_table, define_referent, move_referent, drop_referent, insert, translate, select, PlaceTree, along, QueryTree, named}
+use Rattle.rs_syntax.specs.Tree.{CommandTree, define_route, define_table, define_referent, move_referent, drop_referent, insert, translate, select, PlaceTree, along, QueryTree, named}
 use Rattle.rs_machine.specs.declared.limits.TheConstants.{ROUTES, REFERENTS, TABLES, CHANGES}
 use Rattle.rs_machine.specs.State.{State, RowText, world_of, has}
 use Rattle.rs_machine.specs.Checks.{◌>>=◌, unless, route_named, table_named, has_referent, position_on, span_on, holds_lines, some_name_twice, column_names, row_fits}
@@ -143,9 +143,11 @@ checked state (named name) = do
 
 -- The query's runs on one route. A point may stand at the route's end, so the end itself is looked at; no line
 -- holds there.
+abbrev pub printed_runs : State → Query → Name → RouteEnds → List Stretch
+printed_runs state query route ends = runs_of (kind_of (world_of state) query) (rows_at (world_of state) query route) ends.start (ends.finish + 1)
+
 abbrev pub lines_on : State → Query → Method → Name → RouteEnds → List RowText
-lines_on state query method route ends = map (line_of (position_text state route ends method) (kind_of (world_of state) query) route)
-    (runs_of (kind_of (world_of state) query) (rows_at (world_of state) query route) ends.start (ends.finish + 1))
+lines_on state query method route ends = map (line_of (position_text state route ends method) (kind_of (world_of state) query) route) (printed_runs state query route ends)
 
 -- by route name, then by place, then by row
 abbrev pub lines_of : State → Query → Method → List RowText

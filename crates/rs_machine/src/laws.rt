@@ -1,4 +1,4 @@
-//! What stays so whatever lines are answered: each referent has a name that a line can say.
+//! What stays true whatever lines are answered: each referent has a name that a line can say.
 //!
 //! So a referent's name that is printed with a position can be written in a line again.
 
@@ -11,7 +11,7 @@ ghost use Rattle.rs_machine.specs.Served.{Machine};
 ghost use Rattle.rs_machine.specs.Answered.{Answer, Answered};
 ghost use Rattle.rs_machine.specs.ReferentNames.{AreNamed};
 
-use rs_parser::command_of_a_line_is_sound;
+use rs_syntax::command_of_a_line_is_sound;
 
 /// At the beginning there is no referent.
 pub fn fresh_referents_are_named()

@@ -1,6 +1,6 @@
 //! The reference machine: its state, its step, what may be answered, and the stream of lines.
 //!
-//! The definitions stand in `specs/`. The limits that they name stand here, once, for code and definitions.
+//! The definitions are in `specs/`. The limits that they name are constants here, which code and definitions share.
 #![tactic(auto)]
 
 pub mod laws;

@@ -1,6 +1,10 @@
 //! The limits of the machine: how many routes, referents, tables, changes, sessions and bytes of a line there may be.
 //!
-//! Each stands here once; code and definitions take it under one name, so they cannot differ.
+//! Each is written here once; code and definitions use the same constant, so they cannot differ. A law says which numbers
+//! they are.
+
+ghost use Rattle.std.specs.Prelude.{◌≡◌, ◌-◌, ◌^◌};
+ghost use Rattle.rs_machine.specs.declared.limits.TheConstants.{ROUTES, REFERENTS, TABLES, CHANGES, SESSIONS, LINE_BYTES};
 
 /// How many routes there may be.
 pub const ROUTES: usize = 4_096;
@@ -19,3 +23,13 @@ pub const SESSIONS: u8 = 64;
 
 /// How many bytes a line has before its LF at the most, a CR among them.
 pub const LINE_BYTES: usize = 4_096;
+
+/// The limits are these numbers.
+pub fn limits_are_those()
+    ensures routes { ROUTES ≡ 4096 }
+    ensures referents { REFERENTS ≡ 1000 }
+    ensures tables { TABLES ≡ 128 }
+    ensures changes { CHANGES ≡ 2 ^ 63 - 1 }
+    ensures sessions { SESSIONS ≡ 64 }
+    ensures line_bytes { LINE_BYTES ≡ 4096 }
+{}

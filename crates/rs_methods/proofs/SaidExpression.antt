@@ -19,11 +19,11 @@ word_among (referent ∷ referents) near words among =
     (λ later. word_among referents near words.1 later)
     (Contains-append_cases (referent ∷ []) referents near among)
 
-start_is_word : IsWord start_name
+pub start_is_word : IsWord start_name
 start_is_word = (refl, refl)
 
 -- the nearest is START or one of the list
-nearest_is_word : (start k : ℕ) (referents : List Mark) → AreWords referents → IsWord (nearest start referents k).0
+pub nearest_is_word : (start k : ℕ) (referents : List Mark) → AreWords referents → IsWord (nearest start referents k).0
 nearest_is_word start k referents words =
     ⊎_elim
     (λ first. subst (λ (m : Mark). IsWord m.0) (sym first) start_is_word)
@@ -36,7 +36,7 @@ ceiling_in_range along whole some inside =
     let below : ceiling (along * 1000000000) whole < 1000000001 = div_below (along * 1000000000 + (whole - 1)) whole 1000000001 some (omega arith) in omega arith
 
 -- how a measure of the route is expressed can be printed, by the relative method where the names are words
-printable : (start finish k : ℕ) (referents : List Mark) (method : Method) → start ≤ k → k ≤ finish → start < finish → k ≤ 999999999 → (method ≡ methods.Relative → AreWords referents)
+pub printable : (start finish k : ℕ) (referents : List Mark) (method : Method) → start ≤ k → k ≤ finish → start < finish → k ≤ 999999999 → (method ≡ methods.Relative → AreWords referents)
     → IsPrintable (expression_at start finish referents method k)
 printable start finish k referents methods.Absolute low high ordered fits words = fits
 printable start finish k referents methods.Relative low high ordered fits words = (nearest_is_word start k referents (words refl), omega arith)

@@ -6,7 +6,8 @@ use Rattle.std.proofs.lemmas.List.{append_cancel_right}
 use Rattle.std.proofs.lemmas.List.Folds.{list_all-append}
 use Rattle.std.proofs.lemmas.Bool.Decides.{nat_tests}
 use Rattle.rs_grammar.specs.Words.{is_word_byte}
-use Rattle.rs_measure.specs.Measure.{AreDigits, SaysMeasure, measure_text}
+use Rattle.rs_measure.specs.FixedPoint.{AreDigits, SaysFixedPoint}
+use Rattle.rs_measure.specs.Measure.{SaysMeasure, measure_text}
 use Rattle.rs_measure.specs.Part.{SaysPart, SaysPercent, part_text}
 use Rattle.rs_methods.specs.Position.{PositionExpression, absolute, beyond, before, interpolative, expression_text}
 use Rattle.rs_methods.specs.PositionText.{IsWord, SaysReferent, SaysSigned, SaysPercentage, SaysPosition, IsPrintable}
@@ -34,13 +35,15 @@ joined_bytes : (text whole decimals : List ℕ) → text ≡ whole ++ codes "." 
 joined_bytes text whole decimals cut left right =
     ap (list_all is_number_byte) (cut ∙ append_assoc whole (46 ∷ []) decimals) ∙ (list_all-append is_number_byte whole (46 ∷ decimals) ∙ both _ _ (digits_are_number_bytes whole left) (digits_are_number_bytes decimals right))
 
+number_bytes : (most places : ℕ) (text : List ℕ) (n : ℕ) → SaysFixedPoint most places text n → list_all is_number_byte text ≡ true
+number_bytes most places text n (inl said) = digits_are_number_bytes text said.whole.digits_only
+number_bytes most places text n (inr (whole, decimals, said)) = joined_bytes text whole decimals said.cut said.whole_part.digits_only said.decimal_part.digits_only
+
 measure_bytes : (text : List ℕ) (n : ℕ) → SaysMeasure text n → list_all is_number_byte text ≡ true
-measure_bytes text n (inl said) = digits_are_number_bytes text said.whole.digits_only
-measure_bytes text n (inr (whole, decimals, said)) = joined_bytes text whole decimals said.cut said.whole_part.digits_only said.decimal_part.digits_only
+measure_bytes text n said = number_bytes 6 3 text n said
 
 percent_bytes : (text : List ℕ) (n : ℕ) → SaysPercent text n → list_all is_number_byte text ≡ true
-percent_bytes text n (inl said) = digits_are_number_bytes text said.whole.digits_only
-percent_bytes text n (inr (whole, decimals, said)) = joined_bytes text whole decimals said.cut said.whole_part.digits_only said.decimal_part.digits_only
+percent_bytes text n said = number_bytes 3 7 text n said
 
 -- Only what begins with `@` is relative, and only what ends with `%` is a part.
 abbrev pub starts_at : List ℕ → Bool

@@ -1,8 +1,8 @@
 //! How a measure of a route is printed as a position.
 //!
-//! What is printed for a measure says one position, and that position lies at the measure. By the relative
-//! method it is printed with the nearest referent that is not above it, and there the names of the route's
-//! referents are to be words.
+//! The text of a measure says one position, which lies at the measure. By the relative method the position is
+//! counted from the nearest referent that is not above it; there the text says it where the names of the
+//! route's referents are words.
 
 ghost use Rattle.std.specs.Prelude.{◌≡◌, ◌≢◌, ℕ, ◌+◌, ◌-◌, ◌*◌, ◌/◌, ◌<◌, ◌≤◌, List, Ok, IfOk, string_bytes};
 ghost use Rattle.rs_measure.specs.declared.part.TheConstants.{GREATEST_PART};

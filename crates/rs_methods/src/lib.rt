@@ -1,7 +1,7 @@
 //! Positions on a route by three methods: absolute, relative to a referent, and interpolative.
 //!
 //! `locate` says where a position lies, `express` writes a measure as a position. That text says
-//! one position, which lies at the measure; by the relative method it does where the names of the route's
+//! one position, which lies at the measure; by the relative method this holds where the names of the route's
 //! referents are words.
 #![tactic(auto)]
 
@@ -10,8 +10,6 @@ pub mod locating;
 pub mod position;
 pub mod referents;
 pub mod route;
-#[cfg(test)]
-mod tests;
 pub mod text;
 
 pub use expressing::{

@@ -1,6 +1,6 @@
 //! Where a position lies on a route.
 //!
-//! Takes no memory. What lies outside the route is refused, and so is a referent that isn't there.
+//! `locate` takes no memory. It refuses a position outside the route, and a referent that isn't there.
 
 ghost use Rattle.std.specs.Prelude.{◌≡◌, ◌+◌, ◌-◌, ◌*◌, ◌/◌, ◌≤◌, IfOk};
 ghost use Rattle.rs_methods.specs.Position.{expression_of, located_beyond, located_before, on_route, referent_measure};

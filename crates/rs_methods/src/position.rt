@@ -1,7 +1,7 @@
 //! Positions as a line writes them, and the methods by which they are printed.
 //!
-//! Keeps the names of referents within the room of a name. What a position means on a route is said
-//! by `locate`, and how a measure is printed by a method is said by `express`.
+//! A referent's name has at most as many bytes as any name. `locate` says where a position lies on a route,
+//! and `express` how a measure is printed by a method.
 
 use arrayvec::ArrayString;
 use rs_grammar::kind::NAME_BYTES;

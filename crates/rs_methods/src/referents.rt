@@ -1,6 +1,6 @@
 //! The referents of some routes: named measures, by route number and name.
 //!
-//! Promises that each is there once, in order, and that START, which every route has, is not among
+//! It promises that each is there once, in order, and that START, which every route has, is not among
 //! them.
 
 ghost use Rattle.std.specs.Prelude.{ℕ, List, false, ◌≡◌, ◌<◌, ◌≤◌, ◌&&◌, [], not, nat_eq, nat_le, map, length, filter, Some, None, IsOk, OnOk, OnErr, IfOk, IfErr, MatchResult, ◌≢◌};
@@ -19,14 +19,14 @@ use std::alloc::{AllocError, Global};
 use std::cmp::Ordering;
 use std::marker::Model;
 
-/// A referent: a name that stands at a measure of a route.
+/// A referent: a name at a measure of a route.
 #[derive(Clone, Copy, Debug)]
 pub struct Referent {
     /// The number of the route.
     pub route: u32,
     /// The name, once on a route.
     pub name: Name,
-    /// Where it stands on the route, in thousandths.
+    /// Its measure, in thousandths.
     pub measure: Measure,
 }
 
@@ -89,7 +89,7 @@ impl Referents {
             .retain(|referent| !is_named(referent, route, name));
     }
 
-    /// Where a referent of the route stands, if it is there. START is never found here, though every
+    /// The measure of a referent of the route, if it is there. START is never found here, though every
     /// route has it: the caller tests for it. Takes no memory.
     pub fn get(&self, route: u32, name: &str) -> Option<Measure>
         ensures measure { result ≡ measure_of name.now (referents_of route self.now) }
@@ -108,7 +108,7 @@ impl Referents {
         of_route(&self.items, route).len()
     }
 
-    /// They stand in order, each once, and none is START.
+    /// They are in order, each once, and none is START.
     pub fn stand_in_order(&self)
         ensures { AreReferents self.now }
     {
@@ -131,13 +131,13 @@ impl Referents {
     }
 }
 
-/// What is put stands among the referents of its route, and those of the other routes stay.
+/// A referent that is put is among those of its route, and those of the other routes stay.
 pub fn put_stands_on_its_route()
     ensures own { (entries : List ((ℕ × List ℕ) × ℕ)) (route : ℕ) (name : List ℕ) (measure : ℕ) → AreReferents entries → referents_of route (put key_cmp (route, name) measure entries) ≡ put (slice_cmp nat_cmp) name measure (referents_of route entries) }
     ensures others { (entries : List ((ℕ × List ℕ) × ℕ)) (route other : ℕ) (name : List ℕ) (measure : ℕ) → nat_eq route other ≡ false → referents_of other (put key_cmp (route, name) measure entries) ≡ referents_of other entries }
 {}
 
-/// What is taken out goes from the referents of its route, and those of the other routes stay.
+/// A referent that is removed is gone from those of its route, and those of the other routes stay.
 pub fn removal_goes_from_its_route()
     ensures own { (entries : List ((ℕ × List ℕ) × ℕ)) (route : ℕ) (name : List ℕ) → referents_of route (filter (λ e. not (is_key route name e.0)) entries) ≡ filter (λ referent. not (bytes_eq referent.0 name)) (referents_of route entries) }
     ensures others { (entries : List ((ℕ × List ℕ) × ℕ)) (route other : ℕ) (name : List ℕ) → nat_eq route other ≡ false → referents_of other (filter (λ e. not (is_key route name e.0)) entries) ≡ referents_of other entries }
@@ -150,7 +150,7 @@ pub fn put_referent_is_found()
     ensures others { (referents : List (List ℕ × ℕ)) (name other : List ℕ) (measure : ℕ) → bytes_eq name other ≡ false → measure_of other (put (slice_cmp nat_cmp) name measure referents) ≡ measure_of other referents }
 {}
 
-/// A referent that is taken out of those of a route is not found, and each other where it was found
+/// A referent that is removed from those of a route is not found, and each other where it was found
 /// before.
 pub fn removed_referent_is_missing()
     ensures own { (referents : List (List ℕ × ℕ)) (name : List ℕ) → measure_of name (filter (λ referent. not (bytes_eq referent.0 name)) referents) ≡ None }

@@ -1,6 +1,6 @@
 //! A route as positions see it: its number, and the measures of its start and its finish.
 //!
-//! Promises that the start lies below the finish.
+//! It promises that the start lies below the finish.
 
 ghost use Rattle.std.specs.Prelude.{◌<◌};
 
@@ -11,7 +11,7 @@ use rs_measure::Measure;
 pub struct Route {
     /// The number under which its referents are listed.
     pub number: u32,
-    /// The least measure of the route, in thousandths. The referent START stands here.
+    /// The least measure of the route, in thousandths. The referent START is here.
     pub start: Measure,
     /// The greatest measure of the route, in thousandths.
     pub finish: Measure,

@@ -1,7 +1,7 @@
 //! What the text of a position says.
 //!
-//! Promises that the printed text of a position whose name is a word says that position, and that a text
-//! says one position at the most. So what `express` prints is read back; by the relative method it is where
+//! It promises that the printed text of a position whose name is a word says that position, and that a text
+//! says one position at the most. So what `express` prints is read back; by the relative method this holds where
 //! the names of the route's referents are words.
 
 ghost use Rattle.std.specs.Prelude.{◌≡◌, List, ℕ};

@@ -1,11 +1,2 @@
 mod Steps
-mod BracketLaws
-mod VerdictLaws
 mod MeaningLaws
-mod SpellingLaws
-mod OneAnswer
-mod SoundLaws
-mod EveryCut
-mod Ranges
-mod Descent
-mod EveryLine

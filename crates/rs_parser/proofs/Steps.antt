@@ -7,9 +7,9 @@ use Rattle.rs_grammar.specs.declared.kind.TokenKind.TheVariants as kinds
 use Rattle.rs_lexer.specs.declared.token.Token.{Token}
 use Rattle.rs_parser.specs.declared.front.Stop.{Stop}
 use Rattle.rs_lexer.specs.Lexis.{kinds_of}
-use Rattle.rs_parser.specs.Written.{Piece, mark, list_pieces, further_pieces}
+use Rattle.rs_syntax.specs.Written.{Piece, mark, list_pieces, further_pieces, pieces_of}
 use Rattle.rs_grammar.specs.Grammar.{Part, Form, done, pick, sub, need, rules}
-use Rattle.rs_parser.specs.Reading.{Lacks, halt_of, RunsTo, pieces_of, leading_pieces, Runs, is_done, is_fail, takes, skips, through, stops_in}
+use Rattle.rs_parser.specs.Reading.{Lacks, halt_of, RunsTo, leading_pieces, Runs, is_done, is_fail, takes, skips, through, stops_in}
 
 -- the token wanted stands at the front
 pub takes_as : {kind : TokenKind} {form other : Form} {tokens rest : List TokenKind} {outcome : Result (List TokenKind) (Option (List TokenKind))}

@@ -1,6 +1,1 @@
-pub mod Tree
-pub mod View
-pub mod Written
-pub mod Verdict
 pub mod Reading
-pub mod Sound

@@ -1,11 +1,11 @@
-//! What stands at the front of some tokens: a mark, or a token whose text counts.
+//! The token at the front of some tokens: a mark, or a token whose text counts.
 //!
-//! Each function hands back the tokens behind it, or those at which it stopped.
+//! Each function returns the tokens after it, or those at which it stopped.
 
 ghost use Rattle.std.specs.Prelude.{◌≡◌, ◌<◌, ◌∷◌, length, true, false, Some, MatchOption, IfSome, MatchResult, IfOk};
 ghost use Rattle.rs_lexer.specs.Lexis.{kinds_of};
-ghost use Rattle.rs_parser.specs.Written.{mark, told, has_text};
-ghost use Rattle.rs_parser.specs.Reading.{Lacks, halt_of, pieces_of};
+ghost use Rattle.rs_syntax.specs.Written.{mark, told, has_text, pieces_of};
+ghost use Rattle.rs_parser.specs.Reading.{Lacks, halt_of};
 
 use rs_grammar::kind::TokenKind;
 use rs_lexer::Token;
@@ -26,7 +26,7 @@ fn is_kind(token: Token, kind: TokenKind) -> bool
     token.kind == kind
 }
 
-/// What follows a word or a symbol, if it stands at the front.
+/// What follows a word or a symbol, if it is at the front.
 pub fn mark(tokens: &[Token], kind: TokenKind) -> Option<&[Token]>
     requires { has_text kind ≡ false }
     ensures found { MatchOption result (Lacks kind (kinds_of tokens.now))
@@ -59,7 +59,7 @@ pub fn text(tokens: &[Token], kind: TokenKind) -> Option<(Token, &[Token])>
     }
 }
 
-/// What follows a word or a symbol that has to stand at the front.
+/// What follows a word or a symbol that has to be at the front.
 pub fn need_mark(tokens: &[Token], kind: TokenKind) -> Result<&[Token], Stop<'_>>
     requires { has_text kind ≡ false }
     ensures found { MatchResult result (λ rest. kinds_of tokens.now ≡ kind ∷ kinds_of rest.now)
@@ -73,7 +73,7 @@ pub fn need_mark(tokens: &[Token], kind: TokenKind) -> Result<&[Token], Stop<'_>
     }
 }
 
-/// A name, a number or a text that has to stand at the front, and what follows it.
+/// A name, a number or a text that has to be at the front, and what follows it.
 pub fn need_text(tokens: &[Token], kind: TokenKind) -> Result<(Token, &[Token]), Stop<'_>>
     requires { has_text kind ≡ true }
     ensures found { MatchResult result (λ found. kinds_of tokens.now ≡ kind ∷ kinds_of found.1.now)

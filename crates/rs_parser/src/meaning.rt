@@ -3,7 +3,8 @@
 //! The syntax has been read, so a number out of its range is all that can be wrong with it.
 
 ghost use Rattle.std.specs.Prelude.{◌≡◌, ℕ, ◌≤◌, ◌^◌, ◌⊎◌, List, Some, map, MatchOption, SomeIff, IfOk, IfErr, OnErr, string_bytes};
-ghost use Rattle.rs_measure.specs.Measure.{SaysMeasure, number_of_digits};
+ghost use Rattle.rs_measure.specs.FixedPoint.{number_of_digits};
+ghost use Rattle.rs_measure.specs.Measure.{SaysMeasure};
 ghost use Rattle.rs_measure.specs.Part.{SaysPart};
 ghost use Rattle.rs_methods.specs.Position.{PositionExpression, expression_of};
 ghost use Rattle.rs_value.specs.declared.column.ColumnType.{ColumnType};
@@ -11,18 +12,18 @@ ghost use Rattle.rs_value.specs.Row.{Datum, Row};
 ghost use Rattle.rs_value.specs.View.{literal_datum, literal_row};
 ghost use Rattle.rs_grammar.specs.declared.kind.TokenKind.TheVariants as kinds;
 ghost use Rattle.rs_lexer.specs.Lexis.{kind_of, text_of, IsTokenOf};
-ghost use Rattle.rs_parser.specs.Tree.{PlaceTree};
-ghost use Rattle.rs_parser.specs.View.{column_tree, place_tree, tree_of};
-ghost use Rattle.rs_parser.specs.Written.{written_route, written_table, written_referent, written_move, written_insert, written_translate, position_pieces, place_pieces, type_pieces, column_pieces, value_pieces, list_pieces, spelling, SaysType, SaysColumns, unquoted, SaysDatum, SaysRow, SaysPosition, SaysPlace, Says};
-ghost use Rattle.rs_parser.specs.Reading.{AreToldOf, written_of, IsRefusal};
+ghost use Rattle.rs_syntax.specs.Tree.{PlaceTree};
+ghost use Rattle.rs_syntax.specs.View.{column_tree, place_tree, tree_of, written_of};
+ghost use Rattle.rs_syntax.specs.Written.{written_route, written_table, written_referent, written_move, written_insert, written_translate, position_pieces, place_pieces, type_pieces, column_pieces, value_pieces, list_pieces, spelling, SaysType, SaysColumns, unquoted, SaysDatum, SaysRow, SaysPosition, SaysPlace, Says, AreToldOf};
+ghost use Rattle.rs_parser.specs.Reading.{IsRefusal};
 
-use crate::commands::{ColumnDefinition, Command, Place, Query};
-use crate::syntax::{
-    WrittenColumn, WrittenCommand, WrittenPlace, WrittenPosition, WrittenType, WrittenValue,
-};
 use rs_lexer::Token;
 use rs_measure::{Measure, Part, Refusal, read_measure, read_part};
 use rs_methods::{Method, Name, Position, Sign};
+use rs_syntax::written::{
+    WrittenColumn, WrittenCommand, WrittenPlace, WrittenPosition, WrittenType, WrittenValue,
+};
+use rs_syntax::{ColumnDefinition, Command, Place, Query};
 use rs_value::column::TEXT_BYTES;
 use rs_value::{ColumnType, Kind, Literal};
 use std::alloc::Global;

@@ -2,25 +2,24 @@
 //!
 //! The syntax comes before the ranges of numbers, and an unknown character before both.
 
-ghost use Rattle.std.specs.Prelude.{◌≡◌, ℕ, List, Result, ◌+◌, ◌<◌, ◌≤◌, ◌⊎◌, [], Ok, Err, length, take, IfOk, IfErr, OnOk, All};
+ghost use Rattle.std.specs.Prelude.{◌≡◌, ◌+◌, ◌<◌, ◌≤◌, ◌⊎◌, [], Ok, Err, length, take, IfOk, IfErr, OnOk, All, IsTrue};
 ghost use Rattle.rs_lexer.specs.Lexis.{kinds_of, IsTokenOf};
 ghost use Rattle.rs_grammar.specs.Grammar.{IsShallow, command_form};
-ghost use Rattle.rs_parser.specs.Written.{spelling};
-ghost use Rattle.rs_measure.specs.declared.refusal.Refusal.{Refusal};
-ghost use Rattle.rs_parser.specs.Tree.{CommandTree};
-ghost use Rattle.rs_parser.specs.View.{tree_of};
-ghost use Rattle.rs_parser.specs.Reading.{Runs, halt_of, pieces_of, written_of, StopsAt, IsFull};
-ghost use Rattle.rs_parser.specs.Sound.{IsSound};
-ghost use Rattle.rs_parser.specs.Verdict.{fault_column, IsWritten, Parses, Reads};
+ghost use Rattle.rs_syntax.specs.Written.{spelling, pieces_of, IsFull};
+ghost use Rattle.rs_syntax.specs.View.{tree_of, written_of};
+ghost use Rattle.rs_parser.specs.Reading.{Runs, halt_of, StopsAt};
+ghost use Rattle.rs_value.specs.Values.{is_text};
+ghost use Rattle.rs_syntax.specs.Sound.{IsSound};
+ghost use Rattle.rs_syntax.specs.Verdict.{fault_column, IsWritten, Parses, Reads};
 
-use crate::commands::Command;
 use crate::front::Stop;
 use crate::meaning::meaning;
 use crate::reading::command;
-use crate::syntax::WrittenCommand;
 use rs_grammar::kind::{BRACKETS, TokenKind};
 use rs_lexer::{Token, tokens};
-use rs_measure::{Refusal, text_says_one_measure, text_says_one_part};
+use rs_measure::Refusal;
+use rs_syntax::Command;
+use rs_syntax::written::WrittenCommand;
 use std::alloc::Global;
 
 // How many tokens stand before the first that opens a bracket too many.
@@ -99,7 +98,7 @@ fn syntax(alloc: Global, line: &str, tokens: &[Token]) -> Result<WrittenCommand,
 pub fn parse(alloc: Global, line: &str, tokens: &[Token]) -> Result<Command, Refusal>
     requires { All (IsTokenOf line.now) tokens.now }
     ensures ok { IfOk result (λ command. Parses line.now tokens.now (Ok (tree_of command))) }
-    ensures sound { IfOk result (λ command. IsSound (tree_of command)) }
+    ensures sound { IsTrue (is_text line.now) → IfOk result (λ command. IsSound (tree_of command)) }
     ensures err { IfErr result (λ refusal. (refusal ≡ Refusal.OutOfMemory) ⊎ Parses line.now tokens.now (Err refusal)) }
 {
     let written = syntax(alloc, line, tokens)?;
@@ -111,31 +110,9 @@ pub fn parse(alloc: Global, line: &str, tokens: &[Token]) -> Result<Command, Ref
 /// Refused `UnknownCharacter` where the text can't be cut into tokens, then as by `parse`.
 pub fn command_of(alloc: Global, line: &str, from: usize) -> Result<Command, Refusal>
     ensures ok { IfOk result (λ command. Reads line.now from (Ok (tree_of command))) }
-    ensures sound { IfOk result (λ command. IsSound (tree_of command)) }
+    ensures sound { IsTrue (is_text line.now) → IfOk result (λ command. IsSound (tree_of command)) }
     ensures err { IfErr result (λ refusal. (refusal ≡ Refusal.OutOfMemory) ⊎ Reads line.now from (Err refusal)) }
 {
     let tokens = tokens(alloc, line, from)?;
     parse(alloc, line, &tokens)
-}
-
-/// The text of a line has one answer at the most: a command, or a refusal.
-pub fn line_has_one_answer()
-    ensures { (line : List ℕ) (from : ℕ) (a b : Result CommandTree Refusal) → Reads line from a → Reads line from b → a ≡ b }
-{
-    text_says_one_measure();
-    text_says_one_part();
-}
-
-/// The text of a line has an answer: a command, or a refusal.
-pub fn line_has_an_answer()
-    ensures { (line : List ℕ) (from : ℕ) → (answer : Result CommandTree Refusal) × Reads line from answer }
-{}
-
-/// A command that the text of a line says keeps to what `IsSound` says: its names are names, its lists have
-/// items, and the numbers of its rows and the lengths of its columns are in their ranges.
-pub fn command_of_a_line_is_sound()
-    ensures { (line : List ℕ) (from : ℕ) (tree : CommandTree) → Reads line from (Ok tree) → IsSound tree }
-{
-    text_says_one_measure();
-    text_says_one_part();
 }

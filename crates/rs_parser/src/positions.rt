@@ -1,18 +1,18 @@
 //! The descent's part for measures, positions, places and methods.
 //!
-//! Each function takes tokens from the front and hands back the others, or those at which it stopped.
+//! Each function takes tokens from the front and returns the others, or those at which it stopped.
 
 ghost use Rattle.std.specs.Prelude.{◌≡◌, ◌∷◌, ◌++◌, IfOk};
 ghost use Rattle.rs_grammar.specs.declared.kind.TokenKind.TheVariants as kinds;
 ghost use Rattle.rs_grammar.specs.Grammar.{place_form, measure_form, position_form, offset_form, method_form, wanted_form};
-ghost use Rattle.rs_parser.specs.Written.{mark, told, measure_pieces, position_pieces, place_pieces, method_pieces, wanted_pieces};
-ghost use Rattle.rs_parser.specs.Reading.{RunsTo, pieces_of};
+ghost use Rattle.rs_syntax.specs.Written.{mark, told, measure_pieces, position_pieces, place_pieces, method_pieces, wanted_pieces, pieces_of};
+ghost use Rattle.rs_parser.specs.Reading.{RunsTo};
 
 use crate::front::{Stop, mark, need_mark, need_text, text};
-use crate::syntax::{WrittenPlace, WrittenPosition};
 use rs_grammar::kind::TokenKind;
 use rs_lexer::Token;
 use rs_methods::Method;
+use rs_syntax::written::{WrittenPlace, WrittenPosition};
 
 /// Whole | Decimal
 pub fn measure(tokens: &[Token]) -> Result<(Token, &[Token]), Stop<'_>>

@@ -1,19 +1,20 @@
 //! The descent: reads the syntax of a command by the table of the grammar, one token ahead.
 //!
-//! Each function takes tokens from the front and hands back the others, or the tokens from the first on
+//! Each function takes tokens from the front and returns the others, or the tokens from the first on
 //! that no rule goes on with. Lists are loops, so no call nests deeper than the brackets of a line.
 
 ghost use Rattle.std.specs.Prelude.{◌≡◌, ◌<◌, ◌∷◌, ◌++◌, length, IfOk};
 ghost use Rattle.rs_grammar.specs.declared.kind.TokenKind.TheVariants as kinds;
 ghost use Rattle.rs_grammar.specs.Grammar.{command_form, define_form, define_route_form, define_referent_form, define_table_form, drop_form, move_form, insert_form, translate_form, select_form, columns_form, column_form, type_form, values_form, value_form};
-ghost use Rattle.rs_parser.specs.Written.{mark, type_pieces, column_pieces, value_pieces, list_pieces, spelling};
-ghost use Rattle.rs_parser.specs.Reading.{RunsTo, pieces_of, written_of, IsFull};
+ghost use Rattle.rs_syntax.specs.Written.{mark, type_pieces, column_pieces, value_pieces, list_pieces, spelling, pieces_of, IsFull};
+ghost use Rattle.rs_parser.specs.Reading.{RunsTo};
+ghost use Rattle.rs_syntax.specs.View.{written_of};
 
 use crate::front::{Stop, mark, need_mark, need_text, text};
 use crate::positions::{measure, method, place, position, wanted_method};
-use crate::syntax::{WrittenColumn, WrittenCommand, WrittenType, WrittenValue};
 use rs_grammar::kind::TokenKind;
 use rs_lexer::Token;
+use rs_syntax::written::{WrittenColumn, WrittenCommand, WrittenType, WrittenValue};
 use std::alloc::Global;
 
 // INT | TEXT "(" Whole ")"
@@ -260,7 +261,7 @@ fn select(tokens: &[Token]) -> Result<(WrittenCommand, &[Token]), Stop<'_>>
     Ok((WrittenCommand::Select { table, method }, rest))
 }
 
-/// Reads the syntax of a command from the front, and hands back the tokens behind it.
+/// Reads the syntax of a command from the front, and returns the tokens after it.
 pub fn command(alloc: Global, tokens: &[Token]) -> Result<(WrittenCommand, &[Token]), Stop<'_>>
     ensures runs { RunsTo command_form tokens.now result }
     ensures spelled { IfOk result (λ found. pieces_of tokens.now ≡ spelling (written_of found.0) ++ pieces_of found.1.now) }

@@ -1,9 +1,9 @@
 -- A line asks one thing.
 use Rattle.std.proofs.Common.{◌≡◌, ℕ, List, take, Some, None, Result, Ok, Err, sym, ap, ◌∙◌, subst}
 use Rattle.rs_measure.specs.declared.refusal.Refusal.{Refusal}
-use Rattle.rs_measure.specs.Measure.{number_of_digits}
-use Rattle.rs_parser.specs.Tree.{CommandTree}
-use Rattle.rs_parser.specs.Verdict.{Reads}
+use Rattle.rs_measure.specs.FixedPoint.{number_of_digits}
+use Rattle.rs_syntax.specs.Tree.{CommandTree}
+use Rattle.rs_syntax.specs.Verdict.{Reads}
 use Rattle.rs_machine.specs.Request.{Request, unreadable, no_command, command, Asks, SessionReads, line_refusal, without_return}
 use Rattle.rs_protocol.specs.Laws.{ReadsOneThing}
 

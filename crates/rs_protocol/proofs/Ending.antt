@@ -1,5 +1,5 @@
 -- The whole service: reads, pieces and how it ends.
-use Rattle.std.proofs.Common.{◌≡◌, ℕ, ◌==◌, Bool, true, false, List, [], ◌∷◌, ◌++◌, length, take, Option, Result, Ok, Err, if◌then◌else◌, refl, sym, ap, ◌∙◌, subst, append-nil, arith, min, length-take}
+use Rattle.std.proofs.Common.{◌≡◌, ℕ, ◌==◌, Bool, true, false, List, [], ◌∷◌, ◌++◌, length, take, Option, Some, Result, Ok, Err, if◌then◌else◌, refl, sym, ap, ◌∙◌, subst, append-nil, arith, min, length-take}
 use Rattle.std.specs.Io.KnownBytes.{Consumes, Keeps, IsAtEnd}
 use Rattle.std.proofs.KnownBytes.{Consumes-nil, Consumes-trans, Consumes-kept}
 use Rattle.std.proofs.lemmas.Bool.{eqb-true, eqb-false}
@@ -9,38 +9,33 @@ use Rattle.rs_protocol.specs.declared.stream.End.{End}
 use Rattle.rs_protocol.specs.declared.stream.End.TheVariants.{Whole, CutLine}
 use Rattle.rs_protocol.specs.declared.stream.Fault.{Fault}
 use Rattle.rs_protocol.specs.declared.stream.Fault.TheVariants.{Read, Write}
-use Rattle.rs_protocol.specs.Ends.{WroteAll, WroteFront, Ends}
-use Rattle.rs_protocol.specs.Inner.{IsServed, GoesOn, IsUnderWay}
+use Rattle.rs_machine.specs.Stream.{AllAnswered}
+use Rattle.rs_protocol.specs.Ends.{WroteAll, WroteFront, Ends, AnswersInput, StopsInInput}
+use Rattle.rs_protocol.specs.Inner.{IsServed, IsUnderWay}
 use Rattle.rs_protocol.proofs.Serving.{IsServed-nothing, WroteAll-served}
 
 -- what the contract of the whole says
 abbrev pub Ended : Result End Fault → Machine → Machine → Option (List ℕ) → Option (List ℕ) → Option (List ℕ) → Option (List ℕ) → Type 0
 Ended result old new unread left before after = (told : List ℕ) × Consumes unread left told × Ends result told left old new before after
 
--- what is known of a piece that was taken, whatever came before it
-abbrev pub Takes : {T : Type 0} → Result T Fault → List ℕ → List ℕ → List ℕ → Machine → Machine → Option (List ℕ) → Option (List ℕ) → Type 0
-Takes result kept kept' piece mid new b c = (told : List ℕ) (first : Machine) (before : Option (List ℕ)) →
-    IsServed kept told first mid before b → GoesOn result kept' (told ++ piece) first new before c
-
 pub under_way : (kept : List ℕ) (machine : Machine) (unread a : Option (List ℕ)) → kept ≡ [] → IsUnderWay kept machine machine unread unread a a
 under_way kept machine unread a none = record { told = []; consumed = Consumes-nil unread; served = IsServed-nothing kept machine a none }
 
 -- a piece was read and served
-pub under_way_on : (T : Type 0) (done : T) (kept kept' piece : List ℕ) (old mid new : Machine) (unread mid_unread left a b c : Option (List ℕ))
-    → Consumes mid_unread left piece → Takes {T = T} (Ok done) kept kept' piece mid new b c
-    → IsUnderWay kept old mid unread mid_unread a b → IsUnderWay kept' old new unread left a c
-under_way_on T done kept kept' piece old mid new unread mid_unread left a b c consumes takes way = record {
+pub under_way_on : (kept kept' piece : List ℕ) (old mid new : Machine) (unread mid_unread left a b c : Option (List ℕ))
+    → Consumes mid_unread left piece → (way : IsUnderWay kept old mid unread mid_unread a b)
+    → IsServed kept' (way.told ++ piece) old new a c → IsUnderWay kept' old new unread left a c
+under_way_on kept kept' piece old mid new unread mid_unread left a b c consumes way served = record {
   told = way.told ++ piece;
   consumed = Consumes-trans unread mid_unread left way.told piece way.consumed consumes;
-  served = takes way.told old a way.served;
+  served = served;
 }
 
 -- a write fault in a piece
-pub ended_writing : (T : Type 0) (fault : Fault) (kept kept' piece : List ℕ) (old mid new : Machine) (unread mid_unread left a b c : Option (List ℕ))
-    → Consumes mid_unread left piece → Takes {T = T} (Err fault) kept kept' piece mid new b c
-    → IsUnderWay kept old mid unread mid_unread a b → Ended (Err fault) old new unread left a c
-ended_writing T fault kept kept' piece old mid new unread mid_unread left a b c consumes takes way =
-    let stop : (fault ≡ Write) × WroteFront (way.told ++ piece) old new a c = takes way.told old a way.served in
+pub ended_writing : (fault : Fault) (kept piece : List ℕ) (old mid new : Machine) (unread mid_unread left a b c : Option (List ℕ))
+    → Consumes mid_unread left piece → (way : IsUnderWay kept old mid unread mid_unread a b)
+    → (fault ≡ Write) × WroteFront (way.told ++ piece) old new a c → Ended (Err fault) old new unread left a c
+ended_writing fault kept piece old mid new unread mid_unread left a b c consumes way stop =
     let P : Fault → Type 0 = λ f. Ended (Err f) old new unread left a c in
     subst P (sym stop.0) (way.told ++ piece, Consumes-trans unread mid_unread left way.told piece way.consumed consumes, stop.1)
 
@@ -78,3 +73,26 @@ ended end kept old new unread mid_unread left a b end_is consumes at_end way =
     let told_all : Consumes unread left way.told = subst (Consumes unread left) (append-nil way.told) (Consumes-trans unread mid_unread left way.told [] way.consumed consumes) in
     let P : End → Type 0 = λ e. Ended (Ok e) old new unread left a b in
     subst P (sym end_is) (way.told, told_all, end_kept kept way.told left old new a b at_end way.served (length kept == 0) refl)
+
+-- no read is left
+pub ended_unread : (kept : List ℕ) (old new : Machine) (unread left a b : Option (List ℕ)) → IsUnderWay kept old new unread left a b → Ended (Err Read) old new unread left a b
+ended_unread kept old new unread left a b way = let all = WroteAll-served kept way.told old new a b way.served in (way.told, way.consumed, (all.0, all.2))
+
+-- ---- over bytes in memory, of which each is known
+
+all_of_it : (input told left rest before after : List ℕ) (old new : Machine) → before ≡ [] → input ≡ told ++ left → left ≡ []
+    → WroteAll told rest old new (Some before) (Some after) → AllAnswered old input rest after new
+all_of_it input told left rest before after old new empty cut at_end all =
+    let told_all : input ≡ told = cut ∙ (ap (λ more. told ++ more) at_end ∙ append-nil told) in
+    let written : after ≡ all.written = all.put ∙ ap (λ front. front ++ all.written) empty in
+    subst (λ bytes. AllAnswered old bytes rest after new) (sym told_all) (subst (λ bytes. AllAnswered old told rest bytes new) (sym written) all.answered)
+
+pub answers_input : (end : End) (input left before after : List ℕ) (old new : Machine) → before ≡ []
+    → Ended (Ok end) old new (Some input) (Some left) (Some before) (Some after) → AnswersInput input after old new
+answers_input Whole input left before after old new empty (told, cut, (at_end, all)) = ([], all_of_it input told left [] before after old new empty cut at_end all)
+answers_input CutLine input left before after old new empty (told, cut, (at_end, (rest, some, all))) = (rest, all_of_it input told left rest before after old new empty cut at_end all)
+
+pub stops_in_input : (fault : Fault) (input left : List ℕ) (before after : Option (List ℕ)) (old new : Machine)
+    → Ended (Err fault) old new (Some input) (Some left) before after → StopsInInput fault input old new
+stops_in_input Read input left before after old new (told, cut, (rest, all)) = (told, left, cut, (rest, all.written, all.answered))
+stops_in_input Write input left before after old new (told, cut, front) = (told, left, cut, (front.written, front.stopped))

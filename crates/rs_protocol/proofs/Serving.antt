@@ -208,13 +208,15 @@ at_feed T result kept kept' line told byte old mid new a b c is_feed line_is emp
     subst P (sym is_feed)
     (GoesOn-feed T result kept kept' told old mid new a b c emptied served (subst (λ l. PutsAnswer result l mid new b c) line_is answer))
 
+-- one byte more of a piece is told
+pub told_more : (told piece : List ℕ) (i : ℕ) → i < length piece → (told ++ take i piece) ++ get_or piece i 0 ∷ [] ≡ told ++ take (i + 1) piece
+told_more told piece i within = append_assoc told (take i piece) (get_or piece i 0 ∷ []) ∙ ap (λ l. told ++ l) (sym (take_more piece i 0 within))
+
 -- a byte of a piece ends the service, and the rest of the piece comes behind it
 pub stops_in_piece : (told piece : List ℕ) (i : ℕ) (old new : Machine) (a b : Option (List ℕ)) → i < length piece
     → WroteFront ((told ++ take i piece) ++ get_or piece i 0 ∷ []) old new a b → WroteFront (told ++ piece) old new a b
 stops_in_piece told piece i old new a b within stop =
-    let here : (told ++ take i piece) ++ get_or piece i 0 ∷ [] ≡ told ++ take (i + 1) piece =
-    append_assoc told (take i piece) (get_or piece i 0 ∷ []) ∙ ap (λ l. told ++ l) (sym (take_more piece i 0 within)) in
     let all : (told ++ take (i + 1) piece) ++ drop (i + 1) piece ≡ told ++ piece =
     append_assoc told (take (i + 1) piece) (drop (i + 1) piece) ∙ ap (λ l. told ++ l) (take-append-drop (i + 1) piece) in
     subst (λ l. WroteFront l old new a b) all
-    (WroteFront-more (told ++ take (i + 1) piece) (drop (i + 1) piece) old new a b (subst (λ l. WroteFront l old new a b) here stop))
+    (WroteFront-more (told ++ take (i + 1) piece) (drop (i + 1) piece) old new a b (subst (λ l. WroteFront l old new a b) (told_more told piece i within) stop))

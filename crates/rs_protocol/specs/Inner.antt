@@ -1,7 +1,7 @@
 -- What the functions of this crate hand to one another.
 use Rattle.std.specs.Prelude.{◌≡◌, ◌≢◌, ℕ, ◌<◌, List, [], ◌++◌, take, Option, None, Some, Result, MatchResult}
 use Rattle.std.specs.Io.KnownBytes.{Appends, Consumes}
-use Rattle.rs_measure.specs.Measure.{number_of_digits}
+use Rattle.rs_measure.specs.FixedPoint.{number_of_digits}
 use Rattle.rs_machine.specs.Served.{Machine}
 use Rattle.rs_machine.specs.ReplyText.{reply_text}
 use Rattle.rs_machine.specs.Request.{without_return, line_refusal, session_digits}
@@ -12,18 +12,7 @@ use Rattle.rs_protocol.specs.declared.lines.TheConstants.{KEPT_BYTES}
 use Rattle.rs_protocol.specs.declared.stream.Fault.{Fault}
 use Rattle.rs_protocol.specs.declared.stream.Fault.TheVariants.{Write}
 use Rattle.rs_protocol.specs.Ends.{WroteFront}
-
--- a writer has grown by the bytes but for what is lost at their end
-pub record PutsBut (bytes lost : List ℕ) (before after : Option (List ℕ)) : Type 0 where
-  pub front : List ℕ
-  pub whole : bytes ≡ front ++ lost
-  pub put : Appends before after front
-
--- a writer has grown by the bytes, or by a front of them with a fault
-abbrev pub Puts : {T : Type 0} → Result T Fault → List ℕ → Option (List ℕ) → Option (List ℕ) → Type 0
-Puts result bytes before after =
-    MatchResult result (λ _. Appends before after bytes)
-    (λ fault. (fault ≡ Write) × ((lost : List ℕ) × (lost ≢ []) × PutsBut bytes lost before after))
+pub use Rattle.rs_protocol.specs.Puts.{PutsBut, Puts}
 
 -- the text begins with the session, in so many digits
 pub record HasSession (text : List ℕ) (session digits : ℕ) : Type 0 where

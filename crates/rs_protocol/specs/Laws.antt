@@ -1,8 +1,8 @@
 -- Laws of the request stream.
 use Rattle.std.specs.Prelude.{◌≡◌, ℕ, List, Result}
 use Rattle.rs_measure.specs.declared.refusal.Refusal.{Refusal}
-use Rattle.rs_parser.specs.Tree.{CommandTree}
-use Rattle.rs_parser.specs.Verdict.{Reads}
+use Rattle.rs_syntax.specs.Tree.{CommandTree}
+use Rattle.rs_syntax.specs.Verdict.{Reads}
 use Rattle.rs_machine.specs.Request.{Request, Asks}
 use Rattle.rs_machine.specs.Stream.{IsCut}
 

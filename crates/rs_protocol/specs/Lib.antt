@@ -1,3 +1,4 @@
+pub mod Puts
 pub mod Ends
 pub mod Inner
 pub mod Laws

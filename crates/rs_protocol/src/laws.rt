@@ -5,7 +5,7 @@
 ghost use Rattle.std.specs.Prelude.{ℕ, List};
 ghost use Rattle.rs_protocol.specs.Laws.{HasOneCut, AsksOneThing};
 
-use rs_parser::line_has_one_answer;
+use rs_syntax::line_has_one_answer;
 
 /// Bytes are cut at each LF into lines and a rest in one way.
 pub fn stream_has_one_cut()

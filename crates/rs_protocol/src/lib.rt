@@ -6,11 +6,10 @@
 
 pub mod laws;
 mod lines;
-mod put;
+pub mod put;
 mod replies;
 mod requests;
 pub mod stream;
-#[cfg(test)]
-mod tests;
 
+pub use put::put_parts;
 pub use stream::{End, Fault, answer, run};

@@ -4,16 +4,15 @@
 
 ghost use Rattle.std.specs.Prelude.{ℕ, List, Option, [], ◌∷◌, ◌++◌};
 ghost use Rattle.rs_machine.specs.Served.{Machine};
-ghost use Rattle.rs_engine.specs.View.{machine_of};
 ghost use Rattle.rs_protocol.specs.Inner.{PutsAnswer, IsServed, GoesOn};
 
 use crate::replies::{put_refusal, put_reply};
 use crate::requests::request_of;
 use crate::stream::Fault;
 use arrayvec::ArrayVec;
-use rs_engine::Engine;
 use rs_machine::limits::LINE_BYTES;
 use rs_parser::command_of;
+use rs_serve::Serve;
 use std::alloc::Global;
 use std::io::Write;
 
@@ -27,14 +26,14 @@ pub(crate) type Kept = ArrayVec<u8, KEPT_BYTES>;
 pub(crate) const LINE_FEED: u8 = b'\n';
 
 /// Answers one line, given without its LF.
-pub(crate) fn answer_line<W: Write>(
+pub(crate) fn answer_line<E: Serve, W: Write>(
     alloc: Global,
-    engine: &mut Engine,
+    engine: &mut E,
     line: &[u8],
     writer: &mut W,
 ) -> Result<(), Fault>
-    ensures { PutsAnswer result line.now (machine_of engine.old) (machine_of engine.new)
-        (W.contents writer.old) (W.contents writer.new) }
+    ensures { (old : Machine) → E.is engine.old old → (new : Machine) × E.is engine.new new
+        × PutsAnswer result line.now old new (W.contents writer.old) (W.contents writer.new) }
 {
     let request = match request_of(line) {
         Ok(request) => request,
@@ -51,17 +50,17 @@ pub(crate) fn answer_line<W: Write>(
 }
 
 /// Takes one byte of the stream: at an LF the line kept is answered.
-pub(crate) fn take_byte<W: Write>(
+pub(crate) fn take_byte<E: Serve, W: Write>(
     alloc: Global,
-    engine: &mut Engine,
+    engine: &mut E,
     kept: &mut Kept,
     byte: u8,
     writer: &mut W,
 ) -> Result<(), Fault>
-    ensures { (told : List ℕ) (first : Machine) (before : Option (List ℕ)) →
-        IsServed kept.old.items told first (machine_of engine.old) before (W.contents writer.old) →
-        GoesOn result kept.new.items (told ++ byte ∷ []) first (machine_of engine.new)
-        before (W.contents writer.new) }
+    ensures { (told : List ℕ) (first old : Machine) (before : Option (List ℕ)) → E.is engine.old old →
+        IsServed kept.old.items told first old before (W.contents writer.old) →
+        (new : Machine) × E.is engine.new new
+        × GoesOn result kept.new.items (told ++ byte ∷ []) first new before (W.contents writer.new) }
 {
     if byte != LINE_FEED {
         if !kept.is_full() {
@@ -75,17 +74,17 @@ pub(crate) fn take_byte<W: Write>(
 }
 
 /// Takes the bytes of a piece, one after another.
-pub(crate) fn take_piece<W: Write>(
+pub(crate) fn take_piece<E: Serve, W: Write>(
     alloc: Global,
-    engine: &mut Engine,
+    engine: &mut E,
     kept: &mut Kept,
     piece: &[u8],
     writer: &mut W,
 ) -> Result<(), Fault>
-    ensures { (told : List ℕ) (first : Machine) (before : Option (List ℕ)) →
-        IsServed kept.old.items told first (machine_of engine.old) before (W.contents writer.old) →
-        GoesOn result kept.new.items (told ++ piece.now) first (machine_of engine.new)
-        before (W.contents writer.new) }
+    ensures { (told : List ℕ) (first old : Machine) (before : Option (List ℕ)) → E.is engine.old old →
+        IsServed kept.old.items told first old before (W.contents writer.old) →
+        (new : Machine) × E.is engine.new new
+        × GoesOn result kept.new.items (told ++ piece.now) first new before (W.contents writer.new) }
 {
     for byte in piece {
         take_byte(alloc, engine, kept, *byte, writer)?;

@@ -3,7 +3,7 @@
 //! What is put is written whole, or a front of it and then a fault.
 
 ghost use Rattle.std.specs.Prelude.{◌≡◌, flat_map, IfSome};
-ghost use Rattle.rs_protocol.specs.Inner.{Puts};
+ghost use Rattle.rs_protocol.specs.Puts.{Puts};
 
 use crate::stream::Fault;
 use arrayvec::ArrayVec;
@@ -49,8 +49,8 @@ fn put_each<W: Write>(writer: &mut W, parts: &[&[u8]]) -> Result<(), Fault>
     Ok(())
 }
 
-/// Writes the parts, one after another, and short ones together.
-pub(crate) fn put_parts<W: Write>(writer: &mut W, parts: &[&[u8]]) -> Result<(), Fault>
+/// Writes the parts, one after another, and short ones together. After a fault a front of them is out.
+pub fn put_parts<W: Write>(writer: &mut W, parts: &[&[u8]]) -> Result<(), Fault>
     ensures { Puts result (flat_map (λ part. part.now) parts.now) (W.contents writer.old) (W.contents writer.new) }
 {
     match gathered(parts) {

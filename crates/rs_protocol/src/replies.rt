@@ -4,14 +4,14 @@
 
 ghost use Rattle.std.specs.Prelude.{flat_map};
 ghost use Rattle.rs_machine.specs.ReplyText.{row_text, ok_text, refusal_text, reply_text};
-ghost use Rattle.rs_engine.specs.ReplyView.{reply_of, rows_of};
+ghost use Rattle.rs_serve.specs.ReplyView.{reply_of, rows_of};
 ghost use Rattle.rs_protocol.specs.Inner.{Puts};
 
 use crate::put::put_parts;
 use crate::stream::Fault;
 use itoa::Buffer;
-use rs_engine::{Finish, Reply};
 use rs_measure::Refusal;
+use rs_serve::{Finish, Reply};
 use std::io::Write;
 
 /// Writes `S ROW` and what follows it.

@@ -8,12 +8,12 @@ ghost use Rattle.std.specs.Char.{is_ascii_digit};
 ghost use Rattle.rs_machine.specs.Request.{without_return as line_text, is_control, is_text, ends_number as may_end, session_digits, line_refusal};
 ghost use Rattle.rs_protocol.specs.Inner.{HasSession, IsRequest};
 
-use rs_engine::Session;
 use rs_machine::limits::{LINE_BYTES, SESSIONS};
 use rs_measure::Refusal;
+use rs_serve::Session;
 use std::str;
 
-/// A carriage return, which may stand once before the LF.
+/// A carriage return, which may come once before the LF.
 const CARRIAGE_RETURN: u8 = b'\r';
 
 /// The text of a line, without its CR, and the session that it begins with.
@@ -23,11 +23,11 @@ pub(crate) struct Request<'a> {
     pub(crate) text: &'a str,
     /// The session.
     pub(crate) session: Session,
-    /// In how many digits the session stands: where the command's text begins.
+    /// How many digits the session has; the command's text begins after them.
     pub(crate) digits: usize,
 }
 
-/// The line without the one CR that may stand at its end.
+/// The line without the one CR that may be at its end.
 fn without_return(line: &[u8]) -> &[u8]
     ensures { result.now ≡ line_text line.now }
 {

@@ -1,17 +1,17 @@
 //! The server's loop: what a reader tells is cut into lines, and each line is answered into a writer.
 //!
-//! Its own buffers lie on the stack: memory is asked for by the reading of a command and by the engine alone. It flushes
-//! no writer, and tries no failed call again.
+//! Its own buffers are on the stack: only the reading of a command and the engine ask for memory. It flushes no
+//! writer, and tries no failed call again.
 
 ghost use Rattle.std.specs.Prelude.{◌≡◌, ◌==◌, ℕ, List, if◌then◌else◌, IfOk, IfErr};
 ghost use Rattle.std.specs.Io.KnownBytes.{Consumes};
 ghost use Rattle.arrayvec.specs.ArrayVec.{array_vec_len};
-ghost use Rattle.rs_engine.specs.View.{machine_of};
+ghost use Rattle.rs_machine.specs.Served.{Machine};
 ghost use Rattle.rs_protocol.specs.declared.stream.End.TheVariants.{Whole, CutLine};
 ghost use Rattle.rs_protocol.specs.Ends.{Ends, AnswersInput, StopsInInput};
 
 use crate::lines::{Kept, take_piece};
-use rs_engine::Engine;
+use rs_serve::Serve;
 use std::alloc::Global;
 use std::io::{Read, Write};
 use thiserror::Error;
@@ -22,9 +22,9 @@ const PIECE_BYTES: usize = 4_096;
 /// How the input ended.
 #[derive(Clone, Copy, PartialEq, Eq, Debug)]
 pub enum End {
-    /// Right behind an LF, or with no byte at all.
+    /// Right after an LF, or with no byte at all.
     Whole,
-    /// Behind bytes that no LF follows; they get no reply.
+    /// After bytes that no LF follows; they get no reply.
     CutLine,
 }
 
@@ -39,21 +39,22 @@ pub enum Fault {
     Write,
 }
 
-/// Serves the lines that the reader tells, until its end or a fault.
+/// Serves the lines that the reader tells, until its end or a fault. Whichever reference machine the engine is, the
+/// answers are that machine's.
 ///
 /// As soon as a piece of the input has a line's LF, that line is served and its reply written; only then
 /// is more read. So `Read` leaves no whole line without its reply. `Write` may leave a reply cut off at any byte, while
 /// the engine keeps what it had accepted by then. `alloc` is for tokens and commands: a line that finds no
 /// memory for them gets `Refusal::OutOfMemory` (90), and the next one is served.
-pub fn run<R: Read, W: Write>(
+pub fn run<E: Serve, R: Read, W: Write>(
     alloc: Global,
-    engine: &mut Engine,
+    engine: &mut E,
     reader: &mut R,
     writer: &mut W,
 ) -> Result<End, Fault>
-    ensures { (told : List ℕ) × Consumes (R.remaining reader.old) (R.remaining reader.new) told
-        × Ends result told (R.remaining reader.new) (machine_of engine.old) (machine_of engine.new)
-        (W.contents writer.old) (W.contents writer.new) }
+    ensures { (old : Machine) → E.is engine.old old → (new : Machine) × E.is engine.new new
+        × ((told : List ℕ) × Consumes (R.remaining reader.old) (R.remaining reader.new) told
+        × Ends result told (R.remaining reader.new) old new (W.contents writer.old) (W.contents writer.new)) }
 {
     let mut kept = Kept::new();
     let mut piece = [0u8; PIECE_BYTES];
@@ -82,11 +83,11 @@ fn end_of(kept: &Kept) -> End
 ///
 /// `Write` where no memory is left for the replies, which are lost with it; `Read` where the input is longer than the
 /// reads of one `run`. Either way the engine keeps what it had accepted by then.
-pub fn answer(alloc: Global, engine: &mut Engine, input: &[u8]) -> Result<Vec<u8>, Fault>
-    ensures answered { IfOk result (λ written.
-        AnswersInput input.now written.items (machine_of engine.old) (machine_of engine.new)) }
-    ensures fault { IfErr result (λ fault.
-        StopsInInput fault input.now (machine_of engine.old) (machine_of engine.new)) }
+pub fn answer<E: Serve>(alloc: Global, engine: &mut E, input: &[u8]) -> Result<Vec<u8>, Fault>
+    ensures answered { (old : Machine) → E.is engine.old old → IfOk result (λ written.
+        (new : Machine) × E.is engine.new new × AnswersInput input.now written.items old new) }
+    ensures fault { (old : Machine) → E.is engine.old old → IfErr result (λ fault.
+        (new : Machine) × E.is engine.new new × StopsInInput fault input.now old new) }
 {
     let mut reader = input;
     let mut written = Vec::new(alloc);

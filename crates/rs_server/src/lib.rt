@@ -1,4 +1,4 @@
-//! The program behind its words and streams: what is asked is read, served and ended with a status.
+//! The program over its words and streams: it reads what is asked, serves it, and ends with a status.
 //!
 //! `program` takes the words of the command line, `serve` the streams alone. Neither knows the process
 //! that it runs in, so that both can be called over memory.
@@ -10,4 +10,4 @@ pub mod report;
 pub mod service;
 
 pub use report::{report_refusal, report_unread_words};
-pub use service::{program, serve};
+pub use service::{do_as_asked, program, serve, show_help};

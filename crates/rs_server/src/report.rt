@@ -1,13 +1,15 @@
 //! What the program says of a fault: one line on the errors stream.
 //!
-//! Where that stream takes nothing the fault is the same, so that a failed write is passed over.
+//! The status does not depend on that stream: a write to it that fails is ignored.
 
 ghost use Rattle.std.specs.Prelude.{◌≡◌, ◌≢◌};
 ghost use Rattle.std.specs.IoError.{error_kind};
+ghost use Rattle.rs_protocol.specs.Puts.{Puts};
+ghost use Rattle.rs_server.specs.Saying.{refusal_line, fault_line, SaysFront};
 
+use itoa::Buffer;
 use rs_measure::Refusal;
-use rs_protocol::Fault;
-use std::fmt::Display;
+use rs_protocol::{Fault, put_parts};
 use std::io;
 use std::io::{ErrorKind, Write};
 
@@ -22,36 +24,50 @@ pub const MISUSE: u8 = 2;
 
 /// Says `roadseg: ERR n words` on the errors stream, and gives the status of a fault.
 pub fn report_refusal<E: Write>(errors: &mut E, refusal: &Refusal) -> u8
-    ensures { result ≡ FAULT }
+    ensures status { result ≡ FAULT }
+    ensures said { SaysFront (refusal_line refusal.now) (E.contents errors.old) (E.contents errors.new) }
 {
-    let number = refusal.number();
-    let words = refusal.words();
-    report(errors, format_args!("ERR {number} {words}"))
+    let _ = say_refusal(errors, refusal);
+    FAULT
 }
 
 /// Says `roadseg: read fault` or `roadseg: write fault` on the errors stream, and gives the status of
 /// a fault.
 pub(crate) fn report_fault<E: Write>(errors: &mut E, fault: Fault) -> u8
-    ensures { result ≡ FAULT }
+    ensures status { result ≡ FAULT }
+    ensures said { SaysFront (fault_line fault) (E.contents errors.old) (E.contents errors.new) }
 {
-    match fault {
-        Fault::Read => report(errors, "read fault"),
-        Fault::Write => report(errors, "write fault"),
-    }
+    let _ = say_fault(errors, fault);
+    FAULT
 }
 
-/// Says `roadseg: ` and the text on the errors stream, and gives the status of a fault.
-fn report<E: Write, D: Display + Drop>(errors: &mut E, text: D) -> u8
-    ensures { result ≡ FAULT }
+/// Writes the line of a refusal.
+fn say_refusal<E: Write>(errors: &mut E, refusal: &Refusal) -> Result<(), Fault>
+    ensures { Puts result (refusal_line refusal.now) (E.contents errors.old) (E.contents errors.new) }
 {
-    let _ = writeln!(errors, "roadseg: {text}");
-    FAULT
+    let mut digits = Buffer::new();
+    let number = digits.format(refusal.number()).as_bytes();
+    let words = refusal.words();
+    let words_text = words.as_str().as_bytes();
+    put_parts(errors, &[b"roadseg: ERR ", number, b" ", words_text, b"\n"])
+}
+
+/// Writes the line of a fault.
+fn say_fault<E: Write>(errors: &mut E, fault: Fault) -> Result<(), Fault>
+    ensures { Puts result (fault_line fault) (E.contents errors.old) (E.contents errors.new) }
+{
+    match fault {
+        Fault::Read => put_parts(errors, &[b"roadseg: read fault\n"]),
+        Fault::Write => put_parts(errors, &[b"roadseg: write fault\n"]),
+    }
 }
 
 /// Says why the process gave no words, and gives the status: want of memory is the refusal 90 and a
 /// fault, and words that are not text are no command line.
 pub fn report_unread_words<E: Write>(errors: &mut E, error: &io::Error) -> u8
     ensures wanting { error_kind error.now ≡ ErrorKind.OutOfMemory → result ≡ FAULT }
+    ensures said { error_kind error.now ≡ ErrorKind.OutOfMemory
+        → SaysFront (refusal_line Refusal.OutOfMemory) (E.contents errors.old) (E.contents errors.new) }
     ensures mistaken { error_kind error.now ≢ ErrorKind.OutOfMemory → result ≡ MISUSE }
 {
     if error.kind() == ErrorKind::OutOfMemory {

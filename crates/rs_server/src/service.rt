@@ -2,11 +2,12 @@
 //!
 //! The status says how it ended: 0, 1 for a fault, 2 for a command line that is refused.
 
-ghost use Rattle.std.specs.Prelude.{◌≡◌, ◌⊎◌, map};
-ghost use Rattle.std.specs.Io.KnownBytes.{Keeps};
+ghost use Rattle.std.specs.Prelude.{◌≡◌, ◌⊎◌, map, OnOk, IfSome};
+ghost use Rattle.std.specs.Io.KnownBytes.{Appends, Keeps};
 ghost use Rattle.clap.specs.Words.{fault_of};
 ghost use Rattle.rs_server.specs.CommandLine.{command_line};
-ghost use Rattle.rs_server.specs.Ending.{Serves, EndsBy};
+ghost use Rattle.rs_server.specs.Saying.{fault_line, SaysFront};
+ghost use Rattle.rs_server.specs.Ending.{Serves, EndsBy, EndsAs};
 
 use crate::command_line::read_words;
 use crate::report::{FAULT, MISUSE, SUCCESS, report_fault, report_refusal};
@@ -17,6 +18,7 @@ use rs_measure::Refusal;
 use rs_protocol::{Fault, run};
 use std::alloc::Global;
 use std::convert::AsStr;
+use std::fmt::Display;
 use std::io;
 use std::io::{Read, Write};
 
@@ -34,10 +36,29 @@ pub fn program<S: AsStr, R: Read, W: Write, E: Write>(
     errors: &mut E,
 ) -> u8
     ensures ends { EndsBy (fault_of command_line (map S.text words.now)) result
-        (R.remaining input.old) (R.remaining input.new) (W.contents output.old) (W.contents output.new) }
+        (R.remaining input.old) (R.remaining input.new) (W.contents output.old) (W.contents output.new)
+        (E.contents errors.old) (E.contents errors.new) }
     ensures quiet { result ≡ SUCCESS → Keeps (E.contents errors.old) (E.contents errors.new) }
 {
-    match read_words(alloc, words) {
+    let asked = read_words(alloc, words);
+    do_as_asked(alloc, asked, input, output, errors)
+}
+
+/// Does what the words ask, as they were read, and gives the exit status.
+///
+/// It serves wherever they ask to; want of memory is said where reading them answered it, and nowhere else.
+pub fn do_as_asked<R: Read, W: Write, E: Write>(
+    alloc: Global,
+    asked: Result<(), Error>,
+    input: &mut R,
+    output: &mut W,
+    errors: &mut E,
+) -> u8
+    ensures ends { EndsAs asked result (R.remaining input.old) (R.remaining input.new)
+        (W.contents output.old) (W.contents output.new) (E.contents errors.old) (E.contents errors.new) }
+    ensures quiet { result ≡ SUCCESS → Keeps (E.contents errors.old) (E.contents errors.new) }
+{
+    match asked {
         Ok(()) => serve(alloc, input, output, errors),
         Err(error) => match error.kind() {
             ErrorKind::OutOfMemory => report_refusal(errors, &Refusal::OutOfMemory),
@@ -57,7 +78,7 @@ pub fn serve<R: Read, W: Write, E: Write>(
     errors: &mut E,
 ) -> u8
     ensures serves { Serves result (R.remaining input.old) (R.remaining input.new)
-        (W.contents output.old) (W.contents output.new) }
+        (W.contents output.old) (W.contents output.new) (E.contents errors.old) (E.contents errors.new) }
     ensures quiet { result ≡ SUCCESS → Keeps (E.contents errors.old) (E.contents errors.new) }
 {
     let mut engine = Engine::fresh(alloc);
@@ -75,22 +96,26 @@ fn refuse_words<E: Write>(error: &Error, errors: &mut E) -> u8
     MISUSE
 }
 
-/// Shows the help that was asked for, and gives the exit status.
-fn show_help<W: Write, E: Write>(help: &Error, output: &mut W, errors: &mut E) -> u8
-    ensures status { (result ≡ SUCCESS) ⊎ (result ≡ FAULT) }
-    ensures quiet { result ≡ SUCCESS → Keeps (E.contents errors.old) (E.contents errors.new) }
+/// Shows the help that was asked for, and gives the exit status: a fault where it is not out whole.
+pub fn show_help<W: Write, E: Write, D: Display + Drop>(
+    help: D,
+    output: &mut W,
+    errors: &mut E,
+) -> u8
+    ensures status { ((result ≡ SUCCESS) × Keeps (E.contents errors.old) (E.contents errors.new))
+        ⊎ ((result ≡ FAULT) × SaysFront (fault_line Fault.Write) (E.contents errors.old) (E.contents errors.new)) }
+    ensures whole { result ≡ SUCCESS → IfSome (D.output help) (Appends (W.contents output.old) (W.contents output.new)) }
 {
-    match write_help(help, output) {
+    match write_whole(help, output) {
         Ok(()) => SUCCESS,
         Err(_) => report_fault(errors, Fault::Write),
     }
 }
 
-/// Writes the help, and lets nothing of it wait.
-fn write_help<W: Write>(help: &Error, output: &mut W) -> io::Result<()> {
-    write!(output, "{help}")?;
+/// Writes the text, and flushes it.
+fn write_whole<W: Write, D: Display + Drop>(text: D, output: &mut W) -> io::Result<()>
+    ensures { OnOk result (IfSome (D.output text) (Appends (W.contents output.old) (W.contents output.new))) }
+{
+    write!(output, "{text}")?;
     output.flush()
 }
-
-#[cfg(test)]
-mod tests;

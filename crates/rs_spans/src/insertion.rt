@@ -1,6 +1,6 @@
 //! Insertion of a row along a span into the spans that are kept.
 //!
-//! Promises that the list stays in its form and means what it meant with the new row, and how many
+//! It promises that the list stays in its form and means what it meant with the new row, and how many
 //! facts are new.
 
 ghost use Rattle.std.specs.Prelude.{◌≡◌, ℕ, ◌≤◌, ◌+◌, ◌∷◌, ◌++◌, map, take, drop, length, IfOk, OnOk, OnErr, vec_len};
@@ -18,7 +18,8 @@ use std::alloc::AllocError;
 /// Puts a row along a span, in thousandths, into the kept spans of one table on one route. It answers
 /// how many facts are new: at how many thousandths of the span the row did not hold.
 ///
-/// What is within a stretch stays so. The only refusal is for want of memory, and then nothing changes.
+/// Spans that lie between two ends still do, if the new one does. The only refusal is for want of memory, and
+/// then nothing changes.
 pub fn insert(kind: Kind, spans: &mut Vec<Span>, mut span: Span) -> Result<u32, AllocError>
     requires kept { AreKept kind (map seen spans.old.items) }
     requires placed { IsPlaced kind (seen span) }
@@ -38,7 +39,7 @@ pub fn insert(kind: Kind, spans: &mut Vec<Span>, mut span: Span) -> Result<u32, 
     Ok(new_facts)
 }
 
-/// Puts the span in the place of so many spans from `place` on. It needs memory only where there are none.
+/// Replaces `count` spans from `place` on by the span. It needs memory only where `count` is 0.
 fn put(spans: &mut Vec<Span>, place: usize, count: usize, span: Span) -> Result<(), AllocError>
     requires { place + count ≤ vec_len spans.old }
     ensures ok { OnOk result (spans.new.items

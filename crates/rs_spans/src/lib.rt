@@ -11,6 +11,3 @@ mod order;
 
 pub use copies::copy_spans;
 pub use insertion::insert;
-
-#[cfg(test)]
-mod tests;

@@ -17,7 +17,7 @@ pub(crate) struct Met {
 }
 
 /// Widens the span over those that it overlaps or touches, which are the first of `spans`, as none
-/// of these stands before it.
+/// of these comes wholly before it.
 pub(crate) fn absorb(kind: Kind, spans: &[Span], span: &mut Span) -> Met
     requires kept { AreKept kind (map seen spans.now) }
     requires placed { IsPlaced kind (seen span.old) }

@@ -22,7 +22,7 @@ fn is_apart(kind: Kind, hi: u32, lo: u32) -> bool
     }
 }
 
-/// Whether the first span stands wholly before the second.
+/// Whether the first span comes wholly before the second.
 #[tactic(auto, unfolding(crate::specs::Inner::before))]
 pub(crate) fn is_before(kind: Kind, first: &Span, second: &Span) -> bool
     ensures { result ≡ before kind (seen first.now) (seen second.now) }
@@ -34,7 +34,7 @@ pub(crate) fn is_before(kind: Kind, first: &Span, second: &Span) -> bool
     }
 }
 
-/// Where the spans begin that do not stand wholly before the span.
+/// How many of the spans come wholly before the span; they are the first ones.
 pub(crate) fn place_among(kind: Kind, spans: &[Span], span: &Span) -> usize
     requires { AreKept kind (map seen spans.now) }
     ensures bound { result ≤ length spans.now }

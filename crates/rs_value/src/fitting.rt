@@ -1,6 +1,6 @@
 //! Whether the values that a line writes fit the columns of a table.
 //!
-//! Promises the row where they fit, and else the refusal of the first check that fails.
+//! It promises the row where they fit, and else the refusal of the first check that fails.
 
 ghost use Rattle.std.specs.Prelude.{◌≡◌, ◌<◌, ◌≤◌, min, true, false, not, ◌&&◌, length, None, Some, IfOk, IfErr, OnOk};
 ghost use Rattle.rs_value.specs.Row as rows;
@@ -103,48 +103,5 @@ fn bounded_text(most: usize, text: &str) -> Result<Value, Refusal>
     match ArrayString::from(text) {
         Ok(bytes) => Ok(Value::Text(bytes)),
         Err(_) => Err(Refusal::TextTooLong),
-    }
-}
-
-#[cfg(test)]
-mod tests {
-    use super::*;
-    use std::test::Fail;
-
-    fn columns(types: &[ColumnType]) -> Schema {
-        let mut schema = Schema::new();
-        for column in types {
-            let _ = schema.try_push(*column);
-        }
-        schema
-    }
-
-    #[test]
-    fn fitting_values_make_a_row(rt: HostRuntime) -> Result<(), Fail> {
-        let schema = columns(&[ColumnType::Text(2), ColumnType::Int, ColumnType::Int]);
-        let literals = [
-            Literal::Text(String::from_str(rt.alloc(), "AC")?),
-            Literal::Int(-3),
-            Literal::Null,
-        ];
-        let tuple = fits(&schema, &literals)?;
-        let text = ArrayString::from("AC").ok().ok_or("AC")?;
-        assert_eq!(rt;
-            tuple.as_slice(),
-            [Value::Text(text), Value::Int(-3), Value::Null].as_slice()
-        );
-        Ok(())
-    }
-
-    #[test]
-    fn other_values_are_refused(rt: HostRuntime) -> Result<(), Fail> {
-        let schema = columns(&[ColumnType::Text(2), ColumnType::Int]);
-        let long = Literal::Text(String::from_str(rt.alloc(), "ACX")?);
-        assert!(rt; fits(&schema, &[Literal::Null]) == Err(Refusal::WrongValues));
-        assert!(rt; fits(&schema, &[long, Literal::Null]) == Err(Refusal::TextTooLong));
-        let long = Literal::Text(String::from_str(rt.alloc(), "ACX")?);
-        let number = Literal::Text(String::from_str(rt.alloc(), "1")?);
-        assert!(rt; fits(&schema, &[long, number]) == Err(Refusal::WrongValues));
-        Ok(())
     }
 }

@@ -5,6 +5,7 @@
 
 pub mod column;
 pub mod fitting;
+pub mod limits;
 pub mod row_order;
 pub mod row_text;
 pub mod value;

@@ -1,6 +1,6 @@
 //! The commands that define, move and drop a referent of a route, and what is looked at before.
 //!
-//! Promises the machine's checks in their order, and that a refusal changes nothing.
+//! It promises the machine's checks in their order, and that a refusal changes nothing.
 
 ghost use Rattle.std.specs.Prelude.{◌≡◌, ◌<◌, ◌≢◌, ◌⊎◌, true, Ok, Err, IsOk, IfOk, IfErr, OnOk, OnErr};
 ghost use Rattle.rs_methods.specs.Position.{start_name, expression_of};
@@ -20,7 +20,7 @@ use rs_methods::{Name, Position, START};
 impl Engine {
     ghost use Rattle.rs_engine.specs.Kept.{referents_kept, state_of};
 
-    /// Defines a referent at a position of its route, unless a check stands in the way (20; 25, 30; 24; 27).
+    /// Defines a referent at a position of its route. Checks, in order: 20; 25, 30; 24; 27.
     pub(crate) fn define_referent(
         &mut self,
         route: Name,
@@ -35,8 +35,7 @@ impl Engine {
         self.put_referent(route, name, measure)
     }
 
-    /// Moves a referent to a position of its route, unless a check stands in the way (20; 25; 23; 25, 30; 27). It takes
-    /// no memory.
+    /// Moves a referent to a position of its route. Checks, in order: 20; 25; 23; 25, 30; 27. It takes no memory.
     pub(crate) fn move_referent(
         &mut self,
         route: Name,
@@ -51,7 +50,7 @@ impl Engine {
         self.put_referent(route, name, measure)
     }
 
-    /// Drops a referent of a route, unless a check stands in the way (20; 25; 23; 27). It takes no memory.
+    /// Drops a referent of a route. Checks, in order: 20; 25; 23; 27. It takes no memory.
     pub(crate) fn drop_referent(&mut self, route: &Name, name: &Name) -> Result<u128, Refusal>
         ensures done { IfOk result (λ count. referent_dropped (state_of self.old) route.now.bytes name.now.bytes ≡ Ok (counted count (state_of self.new))) }
         ensures refused { IfErr result (λ refusal. referent_dropped (state_of self.old) route.now.bytes name.now.bytes ≡ Err refusal) }
@@ -66,7 +65,7 @@ impl Engine {
         Ok(0)
     }
 
-    /// Where a referent that may be defined would stand (20; 25, 30; 24; 27).
+    /// The measure of a referent that may be defined (20; 25, 30; 24; 27).
     fn place_of_new_referent(
         &self,
         route: &Name,
@@ -92,7 +91,7 @@ impl Engine {
         Ok(measure)
     }
 
-    /// Where a referent that may be moved would stand (20; 25; 23; 25, 30; 27).
+    /// The new measure of a referent that may be moved (20; 25; 23; 25, 30; 27).
     fn place_of_moved_referent(
         &self,
         route: &Name,

@@ -2,7 +2,7 @@ use Rattle.std.proofs.Common.{◌≡◌, ◌++◌, map, take}
 use Rattle.rs_facts.specs.LineText.{line_of}
 use Rattle.rs_facts.specs.Spans.{seen}
 use Rattle.rs_engine.specs.Printed.{printed_by}
-use Rattle.rs_engine.specs.ReplyView.{rows_of}
+use Rattle.rs_serve.specs.ReplyView.{rows_of}
 use Rattle.rs_engine.proofs.lines.push_lines.Given as goal
 
 abbrev pub invariant-loop-run : goal.invariant-loop-run

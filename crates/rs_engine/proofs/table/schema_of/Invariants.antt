@@ -1,5 +1,5 @@
 use Rattle.std.proofs.Common.{◌≡◌, map, take}
-use Rattle.rs_parser.specs.View.{column_tree}
+use Rattle.rs_syntax.specs.View.{column_tree}
 use Rattle.rs_machine.specs.Checks.{column_types}
 use Rattle.rs_engine.proofs.table.schema_of.Given as goal
 

@@ -3,10 +3,10 @@ use Rattle.std.proofs.ResultArms.{chosen}
 use Rattle.std.specs.Prelude.{map}
 use Rattle.std.proofs.lemmas.List.{map-append}
 use Rattle.rs_grammar.specs.declared.kind.TokenKind.TheVariants as kinds
-use Rattle.rs_parser.specs.declared.syntax.WrittenColumn.{WrittenColumn}
-use Rattle.rs_parser.specs.declared.syntax.WrittenType.TheVariants as types
-use Rattle.rs_parser.specs.View.{column_tree}
-use Rattle.rs_parser.specs.Written.{column_pieces, SaysColumns}
+use Rattle.rs_syntax.specs.declared.written.WrittenColumn.{WrittenColumn}
+use Rattle.rs_syntax.specs.declared.written.WrittenType.TheVariants as types
+use Rattle.rs_syntax.specs.View.{column_tree}
+use Rattle.rs_syntax.specs.Written.{column_pieces, SaysColumns}
 use Rattle.rs_parser.proofs.MeaningLaws.{list_told, columns_more, no_columns}
 use Rattle.rs_parser.proofs.meaning.columns.Goals as goal
 

@@ -1,7 +1,7 @@
 use Rattle.std.proofs.Common.{take}
 use Rattle.std.specs.Prelude.{map}
-use Rattle.rs_parser.specs.View.{column_tree}
-use Rattle.rs_parser.specs.Written.{SaysColumns}
+use Rattle.rs_syntax.specs.View.{column_tree}
+use Rattle.rs_syntax.specs.Written.{SaysColumns}
 use Rattle.rs_parser.proofs.meaning.columns.Given as goal
 
 abbrev pub invariant-loop-column : goal.invariant-loop-column

@@ -1,5 +1,5 @@
 use Rattle.std.proofs.Common.{ℕ, ◌+◌, ◌-◌, ◌*◌, ◌<◌, ◌≤◌, suc, List, [], ◌∷◌, length, get_or, drop, ap, arith, drop-cons}
-use Rattle.rs_measure.specs.Measure.{number_from, number_of_digits}
+use Rattle.rs_measure.specs.FixedPoint.{number_from, number_of_digits}
 use Rattle.rs_parser.proofs.meaning.number.Goals as goal
 
 -- further digits make a number no less

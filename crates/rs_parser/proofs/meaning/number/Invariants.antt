@@ -1,5 +1,5 @@
 use Rattle.std.proofs.Common.{◌≡◌, ◌≤◌, drop}
-use Rattle.rs_measure.specs.Measure.{number_from, number_of_digits}
+use Rattle.rs_measure.specs.FixedPoint.{number_from, number_of_digits}
 use Rattle.rs_parser.proofs.meaning.number.Given as goal
 
 abbrev pub invariant-loop-byte : goal.invariant-loop-byte

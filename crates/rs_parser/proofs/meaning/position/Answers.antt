@@ -1,7 +1,7 @@
 use Rattle.std.proofs.Common.{sym, subst}
 use Rattle.std.proofs.lemmas.Result.{err_from_is_err_and}
 use Rattle.rs_methods.specs.Position.{PositionExpression}
-use Rattle.rs_parser.specs.Written.{SaysPosition}
+use Rattle.rs_syntax.specs.Written.{SaysPosition}
 use Rattle.rs_parser.proofs.meaning.position.Goals as goal
 
 pub returns-in_err-measure-in-Measure-clause-refused : goal.returns-in_err-measure-in-Measure-clause-refused

@@ -1,5 +1,5 @@
-use Rattle.rs_parser.specs.Written.{list_pieces, column_pieces}
-use Rattle.rs_parser.proofs.MeaningLaws.{AreToldOf-append}
+use Rattle.rs_syntax.specs.Written.{list_pieces, column_pieces}
+use Rattle.rs_syntax.proofs.ToldLaws.{AreToldOf-append}
 use Rattle.rs_parser.proofs.meaning.table.Goals as goal
 
 pub columns-requires : goal.columns-requires

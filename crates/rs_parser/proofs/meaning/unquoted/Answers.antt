@@ -4,9 +4,10 @@ use Rattle.std.proofs.lemmas.Str.{lead_after_ascii}
 use Rattle.std.specs.Char.{encode_utf8}
 use Rattle.std.specs.Str.Iter.{chars_rest}
 use Rattle.rs_grammar.specs.declared.kind.TokenKind.TheVariants as kinds
-use Rattle.rs_parser.specs.Written.{unquoted, unquoted_rest}
+use Rattle.rs_syntax.specs.Written.{unquoted, unquoted_rest}
 use Rattle.rs_lexer.proofs.TokenLaws.{first_is_ascii}
-use Rattle.rs_parser.proofs.MeaningLaws.{unquoted-behind, unquoted-other, unquoted_more}
+use Rattle.rs_syntax.proofs.UnquotedLaws.{unquoted-behind, unquoted-other}
+use Rattle.rs_parser.proofs.MeaningLaws.{unquoted_more}
 use Rattle.rs_parser.proofs.meaning.unquoted.Goals as goal
 use Rattle.rs_parser.proofs.meaning.unquoted.Goals.{else-character-eq39-via-then-character-eq39+else-not-is_behind_quote, else-character-eq39-via-else-character-eq39}
 

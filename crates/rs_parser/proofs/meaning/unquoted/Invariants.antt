@@ -1,6 +1,6 @@
 use Rattle.std.proofs.Common.{◌≡◌, ◌++◌, string_bytes}
 use Rattle.std.specs.Str.Iter.{chars_rest}
-use Rattle.rs_parser.specs.Written.{unquoted, unquoted_rest}
+use Rattle.rs_syntax.specs.Written.{unquoted, unquoted_rest}
 use Rattle.rs_parser.proofs.meaning.unquoted.Given as goal
 
 abbrev pub invariant-loop-character : goal.invariant-loop-character

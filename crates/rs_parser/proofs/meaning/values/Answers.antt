@@ -4,8 +4,8 @@ use Rattle.std.specs.Prelude.{map}
 use Rattle.std.proofs.lemmas.List.{map-append}
 use Rattle.std.proofs.lemmas.Result.{err_from_is_err_and}
 use Rattle.rs_value.specs.View.{literal_datum, literal_row}
-use Rattle.rs_parser.specs.declared.syntax.WrittenValue.TheVariants.{Null}
-use Rattle.rs_parser.specs.Written.{value_pieces, SaysRow}
+use Rattle.rs_syntax.specs.declared.written.WrittenValue.TheVariants.{Null}
+use Rattle.rs_syntax.specs.Written.{value_pieces, SaysRow}
 use Rattle.rs_parser.proofs.MeaningLaws.{list_told, values_more, no_row}
 use Rattle.rs_parser.proofs.meaning.values.Goals as goal
 

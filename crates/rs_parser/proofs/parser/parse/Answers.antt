@@ -2,14 +2,13 @@ use Rattle.std.proofs.Common.{◌≡◌, Ok, Err, sym, subst, inl, inr, ⊎_elim
 use Rattle.std.specs.Prelude.{◌⊎◌}
 use Rattle.std.proofs.lemmas.Result.{IfOk-weaker, IfErr-weaker}
 use Rattle.rs_measure.specs.declared.refusal.Refusal.TheVariants.{OutOfMemory, NumberOutOfRange}
-use Rattle.rs_parser.specs.Tree.{CommandTree}
-use Rattle.rs_parser.specs.View.{tree_of}
-use Rattle.rs_parser.specs.Written.{Says}
-use Rattle.rs_parser.specs.Reading.{AreToldOf, written_of}
-use Rattle.rs_parser.specs.Verdict.{Parses, is_command, is_out_of_range}
-use Rattle.rs_parser.specs.Sound.{IsSound}
-use Rattle.rs_parser.proofs.SoundLaws.{sound}
-use Rattle.rs_parser.proofs.VerdictLaws.{told_of}
+use Rattle.rs_syntax.specs.Tree.{CommandTree}
+use Rattle.rs_syntax.specs.View.{tree_of, written_of}
+use Rattle.rs_syntax.specs.Written.{Says, AreToldOf}
+use Rattle.rs_syntax.specs.Verdict.{Parses, is_command, is_out_of_range}
+use Rattle.rs_syntax.specs.Sound.{IsSound}
+use Rattle.rs_syntax.proofs.SoundLaws.{sound}
+use Rattle.rs_syntax.proofs.VerdictLaws.{told_of}
 use Rattle.rs_parser.proofs.parser.parse.Goals as goal
 
 pub meaning-requires : goal.meaning-requires
@@ -32,8 +31,8 @@ returns-clause-err c =
     c.meaning.ensures.err
 
 pub returns-clause-sound : goal.returns-clause-sound
-returns-clause-sound c =
+returns-clause-sound c = λ clean.
     let written = written_of c.in_ok-written.written in
     let all = subst (AreToldOf c.args.line.now) c.in_ok-written.ensures.ok.spelled (told_of c.args.line.now c.args.tokens.now c.requires) in
     IfOk-weaker c.meaning.result (λ command. Says c.args.line.now written (tree_of command)) (λ command. IsSound (tree_of command))
-    (λ command says. sound c.args.line.now written (tree_of command) c.in_ok-written.ensures.full all says) c.meaning.ensures.ok
+    (λ command says. sound c.args.line.now written (tree_of command) clean c.in_ok-written.ensures.full all says) c.meaning.ensures.ok

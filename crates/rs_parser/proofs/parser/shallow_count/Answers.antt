@@ -2,7 +2,7 @@ use Rattle.std.proofs.Common.{get_or, sym, ap, ◌∙◌, arith}
 use Rattle.rs_grammar.specs.declared.kind.TokenKind.TheVariants as kinds
 use Rattle.rs_lexer.specs.declared.token.Token.{Token}
 use Rattle.rs_grammar.specs.Grammar.{open_after}
-use Rattle.rs_parser.proofs.BracketLaws.{open_after-other, counted_more, shallow_more, too_deep}
+use Rattle.rs_syntax.proofs.BracketLaws.{open_after-other, counted_more, shallow_more, too_deep}
 use Rattle.rs_parser.proofs.parser.shallow_count.Goals as goal
 use Rattle.rs_parser.proofs.parser.shallow_count.Goals.{in-LeftParen+else-open-eq-BRACKETS, in-RightParen, in_default}
 

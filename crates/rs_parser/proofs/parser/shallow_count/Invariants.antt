@@ -2,7 +2,7 @@ use Rattle.std.proofs.Common.{◌≡◌, ◌≤◌, true, take}
 use Rattle.rs_grammar.specs.declared.kind.TheConstants.{BRACKETS}
 use Rattle.rs_lexer.specs.Lexis.{kinds_of}
 use Rattle.rs_grammar.specs.Grammar.{is_shallow}
-use Rattle.rs_parser.proofs.BracketLaws.{open_behind}
+use Rattle.rs_syntax.proofs.BracketLaws.{open_behind}
 use Rattle.rs_parser.proofs.parser.shallow_count.Given as goal
 
 abbrev pub invariant-loop-place : goal.invariant-loop-place

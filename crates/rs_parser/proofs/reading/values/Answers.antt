@@ -1,10 +1,10 @@
 use Rattle.std.proofs.Common.{◌≡◌, ◌++◌, is_ok, refl, sym, ap, ◌∙◌, subst, rules as search_rules}
 use Rattle.std.proofs.ResultArms.{chosen}
 use Rattle.rs_parser.specs.declared.front.Stop.TheVariants.{OutOfMemory}
-use Rattle.rs_parser.specs.Written.{value_pieces, list_pieces}
+use Rattle.rs_syntax.specs.Written.{value_pieces, list_pieces, pieces_of}
 use Rattle.std.proofs.lemmas.Result.{err_from_is_err_and}
 use Rattle.rs_grammar.specs.Grammar.{rules, value, values}
-use Rattle.rs_parser.specs.Reading.{pieces_of, gives_up}
+use Rattle.rs_parser.specs.Reading.{gives_up}
 use Rattle.rs_parser.proofs.Steps.{IsListSoFar, list-stops, list-next, list-end, list-spelled}
 use Rattle.rs_parser.proofs.reading.values.Goals as goal
 

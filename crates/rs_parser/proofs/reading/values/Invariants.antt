@@ -1,6 +1,6 @@
 use Rattle.std.proofs.Common.{length}
 use Rattle.rs_grammar.specs.Grammar.{rules, values}
-use Rattle.rs_parser.specs.Written.{value_pieces}
+use Rattle.rs_syntax.specs.Written.{value_pieces}
 use Rattle.rs_parser.proofs.Steps.{IsListSoFar}
 use Rattle.rs_parser.proofs.reading.values.Given as goal
 

@@ -1,24 +1,33 @@
 use Rattle.std.proofs.Common.{◌≡◌, ◌<◌, length, arith, sym, refl}
 use Rattle.std.proofs.lemmas.Bool.{eqb-true, eqb-false}
 use Rattle.rs_protocol.proofs.Serving.{IsServed-kept, IsServed-dropped, at_feed}
-use Rattle.rs_engine.specs.View.{machine_of}
 use Rattle.rs_protocol.proofs.lines.take_byte.Goals as goal
 
 pub returns-then-not-is_full : goal.returns-then-not-is_full
-returns-then-not-is_full g c told first before served =
+returns-then-not-is_full g c told first old before is served =
     let apart : length c.args.kept.now.items ≡ 4097 → ⊥ = eqb-false _ _ (sym c.if-not-is_full.ensures.value) in
-    let room : length c.args.kept.now.items < 4097 = omega (arith, apart, c.is_full.ensures.fits) in
-    IsServed-kept c.args.kept.now.items c.push.new.self.items told c.args.byte first (machine_of c.args.engine.now) before (g.W.Write.contents c.args.writer.now)
-    c.if-byte-ne-LINE_FEED.true room c.push.ensures.items served
+    let room : length c.args.kept.now.items < 4097 = omega (arith, apart, c.is_full.ensures.fits) in (
+      old,
+      is,
+      IsServed-kept c.args.kept.now.items c.push.new.self.items told c.args.byte first old before (g.W.Write.contents c.args.writer.now)
+          c.if-byte-ne-LINE_FEED.true room c.push.ensures.items served,
+    )
 
 pub returns-else-not-is_full : goal.returns-else-not-is_full
-returns-else-not-is_full g c told first before served =
-    let full : length c.args.kept.now.items ≡ 4097 = eqb-true _ _ (sym c.if-not-is_full.ensures.value) in
-    IsServed-dropped c.args.kept.now.items c.args.kept.now.items told c.args.byte first (machine_of c.args.engine.now) before (g.W.Write.contents c.args.writer.now)
-    c.if-byte-ne-LINE_FEED.true full refl served
+returns-else-not-is_full g c told first old before is served =
+    let full : length c.args.kept.now.items ≡ 4097 = eqb-true _ _ (sym c.if-not-is_full.ensures.value) in (
+      old,
+      is,
+      IsServed-dropped c.args.kept.now.items c.args.kept.now.items told c.args.byte first old before (g.W.Write.contents c.args.writer.now)
+          c.if-byte-ne-LINE_FEED.true full refl served,
+    )
 
 pub returns : goal.returns
-returns g c told first before served =
-    at_feed (Unit {0}) c.answer_line-answered.result c.args.kept.now.items c.clear.new.self.items c.as_slice.result.now told c.args.byte first
-    (machine_of c.args.engine.now) (machine_of c.answer_line-answered.new.engine) before (g.W.Write.contents c.args.writer.now)
-    (g.W.Write.contents c.answer_line-answered.new.writer) c.if-byte-ne-LINE_FEED.false c.as_slice.ensures.value c.clear.ensures served c.answer_line-answered.ensures
+returns g c told first old before is served =
+    let answered = c.answer_line-answered.ensures old is in (
+      answered.0,
+      answered.1,
+      at_feed (Unit {0}) c.answer_line-answered.result c.args.kept.now.items c.clear.new.self.items c.as_slice.result.now told c.args.byte first
+          old answered.0 before (g.W.Write.contents c.args.writer.now)
+          (g.W.Write.contents c.answer_line-answered.new.writer) c.if-byte-ne-LINE_FEED.false c.as_slice.ensures.value c.clear.ensures served answered.2,
+    )

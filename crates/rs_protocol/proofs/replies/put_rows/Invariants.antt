@@ -2,7 +2,7 @@ use Rattle.std.proofs.Common.{take}
 use Rattle.std.specs.Prelude.{flat_map}
 use Rattle.std.specs.Io.KnownBytes.{Appends}
 use Rattle.rs_machine.specs.ReplyText.{row_text}
-use Rattle.rs_engine.specs.ReplyView.{rows_of}
+use Rattle.rs_serve.specs.ReplyView.{rows_of}
 use Rattle.rs_protocol.proofs.replies.put_rows.Given as goal
 
 abbrev pub invariant-loop-row : goal.invariant-loop-row

@@ -2,7 +2,7 @@ use Rattle.std.proofs.Common.{◌≡◌, Some, inr, sym, ap, ◌∙◌}
 use Rattle.std.proofs.lemmas.Result.{err_from_is_err_and}
 use Rattle.std.specs.FinMap as names
 use Rattle.rs_value.specs.View.{literal_row, row_of}
-use Rattle.rs_parser.specs.View.{place_tree}
+use Rattle.rs_syntax.specs.View.{place_tree}
 use Rattle.rs_machine.specs.Checks.{row_fits}
 use Rattle.rs_engine.specs.Kept.{Kept}
 use Rattle.rs_engine.proofs.Outcomes.{found_there, lent_found, lent_none, row_no_table, row_off_route, row_not_lines, row_misfit}

@@ -1,6 +1,6 @@
 use Rattle.std.proofs.Common.{true, false, Ok, length, map, sym, ap, subst, ◌∙◌, arith}
 use Rattle.std.specs.FinMap as names
-use Rattle.rs_parser.specs.View.{column_tree}
+use Rattle.rs_syntax.specs.View.{column_tree}
 use Rattle.rs_machine.specs.Step.{counted, table_defined}
 use Rattle.rs_machine.specs.State.{State}
 use Rattle.rs_engine.specs.Kept.{Kept, state_of}

@@ -23,8 +23,10 @@ machine routes referents tables = record { state = record { routes = routes; ref
 pub returns : goal.returns
 unfolding fresh_machine fresh
 returns c =
+    sym (
     ap (λ (routes : Names RouteEnds). machine_of (record { routes = routes; referents = c.new-2.result; tables = c.new-3.result; changes = 0 })) c.new.ensures
     ∙ ap (λ (referents : Names KeptReferents). machine_of (record { routes = names.empty; referents = referents; tables = c.new-3.result; changes = 0 })) c.new-2.ensures
     ∙ ap (λ (tables : Names KeptTable). machine_of (record { routes = names.empty; referents = names.empty; tables = tables; changes = 0 })) c.new-3.ensures
     ∙ ap (machine names.empty (referents_kept names.empty)) tables_of-empty
     ∙ ap (λ (referents : Name → Names ℕ). machine names.empty referents names.empty) referents_kept-empty
+    )

@@ -2,7 +2,7 @@ use Rattle.std.proofs.Common.{◌+◌, Option, inr, Ok, sym, ap, subst, ◌∙�
 use Rattle.std.specs.Prelude.{IfSome}
 use Rattle.rs_value.specs.View.{literal_row}
 use Rattle.rs_facts.specs.Spans.{seen, IsPlaced}
-use Rattle.rs_parser.specs.View.{place_tree}
+use Rattle.rs_syntax.specs.View.{place_tree}
 use Rattle.rs_machine.specs.Step.{counted, row_inserted}
 use Rattle.rs_engine.specs.Insertion.{MayBePut}
 use Rattle.rs_engine.specs.Kept.{KeptTable, Kept, state_of}

@@ -4,7 +4,7 @@ use Rattle.std.specs.FinMap as names
 use Rattle.rs_facts.specs.Fact.{Names}
 use Rattle.rs_engine.specs.Kept.{KeptReferents, Kept, facts_kept}
 use Rattle.rs_engine.specs.Names.{entries_by_bytes}
-use Rattle.rs_engine.specs.ReplyView.{rows_of}
+use Rattle.rs_serve.specs.ReplyView.{rows_of}
 use Rattle.rs_facts.specs.Runs.{Stretch}
 use Rattle.rs_facts.specs.LineText.{line_of}
 use Rattle.rs_engine.specs.Placed.{LieOn}

@@ -2,7 +2,7 @@ use Rattle.std.proofs.Common.{◌≡◌, Some, ◌++◌, flat_map}
 use Rattle.std.specs.List.{AllByRecursion}
 use Rattle.std.specs.FinMap as names
 use Rattle.rs_engine.specs.Names.{entries_by_bytes}
-use Rattle.rs_engine.specs.ReplyView.{rows_of}
+use Rattle.rs_serve.specs.ReplyView.{rows_of}
 use Rattle.rs_engine.proofs.Selection.{printed}
 use Rattle.rs_engine.proofs.engine.Engine.select_table.Given as goal
 

@@ -7,7 +7,7 @@ use Rattle.rs_facts.proofs.KeptLaws.{kept-placed}
 use Rattle.rs_engine.specs.Kept.{KeptTable, facts_kept}
 use Rattle.rs_engine.specs.Placed.{LieOn}
 use Rattle.rs_engine.specs.Printed.{PrintsRuns, printed_by}
-use Rattle.rs_engine.specs.ReplyView.{rows_of}
+use Rattle.rs_serve.specs.ReplyView.{rows_of}
 use Rattle.rs_engine.proofs.TableLaws.{kept_at, seen_at, seen_none, facts-at, facts-none}
 use Rattle.rs_engine.proofs.Printing.{runs_printable, no_runs}
 use Rattle.rs_engine.proofs.table.Table.push_rows.Goals as goal

@@ -1,0 +1,10 @@
+//! The limits of names and brackets, as numbers.
+
+ghost use Rattle.std.specs.Prelude.{◌≡◌};
+ghost use Rattle.rs_grammar.specs.declared.kind.TheConstants.{NAME_BYTES, BRACKETS};
+
+/// The limits are these numbers.
+pub fn limits_are_those()
+    ensures name_bytes { NAME_BYTES ≡ 32 }
+    ensures brackets { BRACKETS ≡ 32 }
+{}

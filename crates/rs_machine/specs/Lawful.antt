@@ -1,0 +1,96 @@
+-- What is so of every state that the machine comes to.
+--
+-- A law says so: the state at the beginning is lawful, and whatever lines are answered leave it lawful.
+use Rattle.std.specs.Prelude.{◌≡◌, ◌≢◌, ℕ, ◌<◌, ◌≤◌, true, List, [], ◌∷◌, length, Some}
+use Rattle.std.specs.List.{AllByRecursion}
+use Rattle.std.specs.FinMap as names
+use Rattle.rs_measure.specs.declared.measure.TheConstants.{GREATEST_MEASURE}
+use Rattle.rs_methods.specs.Position.{start_name}
+use Rattle.rs_value.specs.declared.column.Kind.{Kind}
+use Rattle.rs_value.specs.declared.column.Kind.TheVariants.{Point, Line}
+use Rattle.rs_value.specs.declared.column.TheConstants.{COLUMNS}
+use Rattle.rs_value.specs.Row.{Row}
+use Rattle.rs_value.specs.Values.{IsRowOf}
+use Rattle.rs_facts.specs.Fact.{Name, Names, contains}
+use Rattle.rs_facts.specs.Query.{RouteEnds, Column, Table}
+use Rattle.rs_syntax.specs.Sound.{IsName, AreColumns}
+use Rattle.rs_machine.specs.declared.limits.TheConstants.{ROUTES, REFERENTS, TABLES, CHANGES}
+use Rattle.rs_machine.specs.State.{State}
+use Rattle.rs_machine.specs.Checks.{column_names, column_types}
+use Rattle.rs_machine.specs.ReferentNames.{AreNamed}
+
+-- what stands under each name is so
+abbrev pub Each : {X : Type 0} → Names X → (Name → X → Type 0) → Type 0
+Each {X} things IsSo = (name : Name) (thing : X) → names.get things name ≡ Some thing → IsSo name thing
+
+-- ---- routes
+
+-- a name, and two measures, the start below the end
+pub record IsRoute (name : Name) (ends : RouteEnds) : Type 0 where
+  pub named : IsName name
+  pub start_is_measure : ends.start ≤ GREATEST_MEASURE
+  pub end_is_measure : ends.finish ≤ GREATEST_MEASURE
+  pub start_below_end : ends.start < ends.finish
+
+-- a route of this name is there, and this is so of its ends
+pub record OnRoute (routes : Names RouteEnds) (route : Name) (IsSo : RouteEnds → Type 0) : Type 0 where
+  pub ends : RouteEnds
+  pub there : names.get routes route ≡ Some ends
+  pub is_so : IsSo ends
+
+-- from the route's start to its end
+abbrev pub IsPlaceOf : ℕ → RouteEnds → Type 0
+IsPlaceOf measure ends = (ends.start ≤ measure) × (measure ≤ ends.finish)
+
+-- where a row may hold: a line from the route's start on and below its end, a point up to its end
+abbrev pub MayHoldAt : Kind → ℕ → RouteEnds → Type 0
+MayHoldAt Line k ends = (ends.start ≤ k) × (k < ends.finish)
+MayHoldAt Point k ends = IsPlaceOf k ends
+
+-- ---- referents
+
+-- a referent beside START lies on its route
+pub record IsReferent (routes : Names RouteEnds) (route name : Name) (measure : ℕ) : Type 0 where
+  pub not_start : name ≢ start_name
+  pub lies : OnRoute routes route (IsPlaceOf measure)
+
+-- ---- tables
+
+-- no name stands twice
+abbrev pub AreDistinct : List Name → Type 0
+AreDistinct [] = Unit {0}
+AreDistinct (name ∷ more) = AllByRecursion (λ other. name ≢ other) more × AreDistinct more
+
+-- from 1 to COLUMNS columns, each with a name of its own and a type
+pub record AreColumnsOfTable (columns : List Column) : Type 0 where
+  pub some : 1 ≤ length columns
+  pub few : length columns ≤ COLUMNS
+  pub sound : AreColumns columns
+  pub distinct : AreDistinct (column_names columns)
+
+-- a fact of a table: a row of the table's columns that may hold there
+pub record IsFactOf (routes : Names RouteEnds) (table : Table) (route : Name) (k : ℕ) (row : Row) : Type 0 where
+  pub fits : IsRowOf (column_types table.columns) row
+  pub lies : OnRoute routes route (MayHoldAt table.kind k)
+
+pub record IsTable (routes : Names RouteEnds) (name : Name) (table : Table) : Type 0 where
+  pub named : IsName name
+  pub columns : AreColumnsOfTable table.columns
+  pub facts : (route : Name) (k : ℕ) (row : Row) → contains (table.facts route k) row ≡ true → IsFactOf routes table route k row
+
+-- ---- the state
+
+-- how many there may be
+pub record IsWithinLimits (state : State) : Type 0 where
+  pub routes : names.len state.routes ≤ ROUTES
+  pub referents : (route : Name) → names.len (state.referents route) ≤ REFERENTS
+  pub tables : names.len state.tables ≤ TABLES
+  pub changes : state.changes ≤ CHANGES
+
+-- What is so of every state.
+pub record IsLawful (state : State) : Type 0 where
+  pub routes : Each state.routes IsRoute
+  pub referents_named : AreNamed state
+  pub referents : (route : Name) → Each (state.referents route) (IsReferent state.routes route)
+  pub tables : Each state.tables (IsTable state.routes)
+  pub limits : IsWithinLimits state

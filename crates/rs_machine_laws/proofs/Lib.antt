@@ -1,0 +1,10 @@
+mod Names
+mod Checked
+mod Rows
+mod Facts
+mod Commands
+mod Lines
+mod Runs
+mod Tokens
+mod PositionTokens
+mod PrintedPositions

@@ -1,0 +1,2 @@
+pub mod TokensSay
+pub mod PrintedPositions

@@ -1,0 +1,9 @@
+//! Laws of the reference machine: what is so of every state that it comes to.
+//!
+//! They are proved beside the engine, which needs none of them. Each is the contract of a function that does
+//! nothing.
+#![tactic(auto)]
+
+pub mod lawful;
+pub mod positions;
+pub mod printed;

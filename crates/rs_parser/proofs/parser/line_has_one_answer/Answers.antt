@@ -1,5 +1,0 @@
-use Rattle.rs_parser.proofs.OneAnswer.{reads_same}
-use Rattle.rs_parser.proofs.parser.line_has_one_answer.Goals as goal
-
-pub returns : goal.returns
-returns c = λ line from a b p q. reads_same (record { measures = c.text_says_one_measure.ensures; parts = c.text_says_one_part.ensures }) line from p q

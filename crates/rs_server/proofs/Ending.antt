@@ -1,0 +1,59 @@
+-- How the program ends on its words follows from how it ends as they were read.
+use Rattle.std.proofs.Common.{◌≡◌, ◌≢◌, ℕ, List, [], ◌∷◌, ◌⊎◌, Option, Result, Ok, Err, inl, inr, refl, sym, subst}
+use Rattle.clap.specs.Words.{FailsBy, IsAmong, Kinds}
+use Rattle.clap.specs.Values.{kind_of}
+use Rattle.clap.specs.declared.error.Error.{Error}
+use Rattle.clap.specs.declared.error.kind.ErrorKind.{ErrorKind}
+use Rattle.clap.specs.declared.error.kind.ErrorKind.TheVariants as kinds
+use Rattle.std.specs.Io.KnownBytes.{Keeps}
+use Rattle.rs_server.specs.declared.report.TheConstants.{MISUSE}
+use Rattle.rs_server.specs.Ending.{ShowsHelp, RefusesWords, LacksMemory, EndsBy, EndsOn, EndsAs}
+
+-- the one kind of a list
+only : (kind other : ErrorKind) → IsAmong kind (other ∷ []) → kind ≡ other
+only kind other (inl is) = is
+only kind other (inr none) = absurd none
+
+module _ (all : Kinds) (status : ℕ) (a b c d e f : Option (List ℕ)) where
+  shows : (kind : ErrorKind) → IsAmong kind all → ShowsHelp (kind ∷ []) status a b e f → EndsBy all status a b c d e f
+  shows kind among help = inr (inl (record { asked = subst (λ k. IsAmong k all) (sym (only kinds.DisplayHelp kind help.asked)) among; status_is = help.status_is; input = help.input }))
+
+  refuses : (kind : ErrorKind) → IsAmong kind all → RefusesWords (kind ∷ []) status a b c d → EndsBy all status a b c d e f
+  refuses kind among words = inr (inr (inl (record {
+    kind = words.kind;
+    is_fault = subst (λ k. IsAmong k all) (sym (only words.kind kind words.is_fault)) among;
+    no_help = words.no_help;
+    status_is = words.status_is;
+    input = words.input;
+    output = words.output;
+  })))
+
+  on_kind : (kind : ErrorKind) → (kind ≡ kinds.OutOfMemory) ⊎ IsAmong kind all → EndsOn kind status a b c d e f → EndsBy all status a b c d e f
+  on_kind kinds.OutOfMemory why ends = inr (inr (inr ends))
+  on_kind kinds.DisplayHelp (inl is) ends = cc
+  on_kind kinds.DisplayHelp (inr among) ends = shows kinds.DisplayHelp among ends
+  on_kind kind (inl is) ends = cc
+  on_kind kind (inr among) ends = refuses kind among ends
+
+  pub ends_by : (asked : Result (Unit {0}) Error) → FailsBy all asked → EndsAs asked status a b c d e f → EndsBy all status a b c d e f
+  ends_by (Ok done) none ends = inl (none, ends)
+  ends_by (Err error) why ends = on_kind (kind_of error) why ends
+
+-- how it ends on a kind of fault, by that kind
+pub on_memory : (kind : ErrorKind) (status : ℕ) (a b c d e f : Option (List ℕ)) → kind ≡ kinds.OutOfMemory → LacksMemory status a b c d e f → EndsOn kind status a b c d e f
+on_memory kind status a b c d e f is ends = subst (λ k. EndsOn k status a b c d e f) (sym is) ends
+
+pub on_help : (kind : ErrorKind) (status : ℕ) (a b c d e f : Option (List ℕ)) → kind ≡ kinds.DisplayHelp → ShowsHelp (kinds.DisplayHelp ∷ []) status a b e f → EndsOn kind status a b c d e f
+on_help kind status a b c d e f is ends = subst (λ k. EndsOn k status a b c d e f) (sym is) ends
+
+pub on_others : (kind : ErrorKind) (status : ℕ) (a b c d e f : Option (List ℕ)) → kind ≢ kinds.OutOfMemory → kind ≢ kinds.DisplayHelp → status ≡ MISUSE → Keeps a b → Keeps c d → EndsOn kind status a b c d e f
+on_others kinds.OutOfMemory status a b c d e f no_memory no_help is input output = absurd (no_memory refl)
+on_others kinds.DisplayHelp status a b c d e f no_memory no_help is input output = absurd (no_help refl)
+on_others kind status a b c d e f no_memory no_help is input output = record {
+  kind = kind;
+  is_fault = inl refl;
+  no_help = no_help;
+  status_is = is;
+  input = input;
+  output = output;
+}

@@ -1,0 +1,26 @@
+-- What was put is said, or a front of it.
+use Rattle.std.proofs.Common.{◌≡◌, ◌∙◌, List, [], ◌∷◌, ◌++◌, ℕ, Option, Result, Ok, Err, sym, ap, subst, append_assoc, append-nil}
+use Rattle.std.specs.Prelude.{codes, decimal}
+use Rattle.rs_measure.specs.declared.refusal.Refusal.{Refusal}
+use Rattle.rs_measure.specs.Refusal.{number_of, words_of}
+use Rattle.rs_protocol.specs.declared.stream.Fault.{Fault}
+use Rattle.rs_protocol.specs.Puts.{Puts}
+use Rattle.rs_server.specs.Saying.{refusal_line, SaysFront}
+
+pub said_from_puts : (T : Type 0) (result : Result T Fault) (text : List ℕ) (before after : Option (List ℕ)) → Puts result text before after → SaysFront text before after
+said_from_puts T (Ok done) text before after puts = record { front = text; lost = []; whole = sym (append-nil text); put = puts }
+said_from_puts T (Err fault) text before after puts = let but = puts.1.2 in record { front = but.front; lost = puts.1.0; whole = but.whole; put = but.put }
+
+joined : (n w : List ℕ) → n ++ (32 ∷ (w ++ 10 ∷ [])) ≡ n ++ 32 ∷ [] ++ w ++ 10 ∷ []
+joined n w = sym (append_assoc (n ++ 32 ∷ []) w (10 ∷ []) ∙ append_assoc n (32 ∷ []) (w ++ 10 ∷ []))
+
+-- the parts of a refusal's line are that line
+pub line_from_parts : (T : Type 0) (result : Result T Fault) (refusal : Refusal) (number words : List ℕ) (before after : Option (List ℕ))
+    → number ≡ decimal (number_of refusal) → words ≡ words_of refusal
+    → Puts result (codes "roadseg: ERR " ++ (number ++ (32 ∷ (words ++ 10 ∷ [])))) before after → Puts result (refusal_line refusal) before after
+line_from_parts T result refusal number words before after is_number are_words puts =
+    subst (λ bytes. Puts result bytes before after)
+    (ap (λ n. codes "roadseg: ERR " ++ (n ++ (32 ∷ (words ++ 10 ∷ [])))) is_number
+    ∙ ap (λ w. codes "roadseg: ERR " ++ (decimal (number_of refusal) ++ (32 ∷ (w ++ 10 ∷ [])))) are_words
+    ∙ ap (λ bytes. codes "roadseg: ERR " ++ bytes) (joined (decimal (number_of refusal)) (words_of refusal)))
+    puts

@@ -1,0 +1,5 @@
+pub mod Tree
+pub mod View
+pub mod Written
+pub mod Verdict
+pub mod Sound

@@ -1,0 +1,110 @@
+//! The syntax tree: the commands that a line may be.
+//!
+//! Names have 1 to `NAME_BYTES` bytes, and each list has one item at least.
+
+use rs_measure::Measure;
+use rs_methods::{Method, Name, Position};
+use rs_value::{ColumnType, Kind, Literal};
+
+/// A column of a table: its name and what it holds.
+#[derive(Clone, Copy)]
+pub struct ColumnDefinition {
+    /// Its name, of 1 to 32 bytes.
+    pub name: Name,
+    /// What it holds: numbers, or texts of so many bytes at the most.
+    pub column_type: ColumnType,
+}
+
+/// Where an event is put on its route.
+#[derive(Clone, Copy)]
+pub enum Place {
+    /// Along the span between two positions.
+    Along {
+        /// Where the span begins; it holds there.
+        from: Position,
+        /// Where it ends; it does not hold there.
+        to: Position,
+    },
+}
+
+/// A query.
+#[derive(Clone, Copy)]
+pub enum Query {
+    /// The rows of a table by its name.
+    Named(Name),
+}
+
+/// A command of a line.
+#[derive(Drop)]
+pub enum Command {
+    /// A route from its start to its finish.
+    DefineRoute {
+        /// The route's name.
+        name: Name,
+        /// Where it starts, in thousandths.
+        start: Measure,
+        /// Where it ends, in thousandths; it may be written below the start.
+        finish: Measure,
+    },
+    /// A table for events of one kind.
+    DefineTable {
+        /// Whether it holds points or lines.
+        kind: Kind,
+        /// The table's name.
+        name: Name,
+        /// Its columns, from the left; two of them may still have one name.
+        columns: Vec<ColumnDefinition>,
+    },
+    /// A referent of a route, at a position.
+    DefineReferent {
+        /// The route's name.
+        route: Name,
+        /// The referent's name.
+        name: Name,
+        /// Where it is put on the route.
+        position: Position,
+    },
+    /// Another position for a referent of a route.
+    MoveReferent {
+        /// The route's name.
+        route: Name,
+        /// The referent's name.
+        name: Name,
+        /// Where it is moved on the route.
+        position: Position,
+    },
+    /// A referent of a route, to be dropped.
+    DropReferent {
+        /// The route's name.
+        route: Name,
+        /// The referent's name.
+        name: Name,
+    },
+    /// An event for a table: its place on a route, and its row.
+    Insert {
+        /// The table's name.
+        table: Name,
+        /// The route's name.
+        route: Name,
+        /// Where the row is put on the route.
+        place: Place,
+        /// The row as it is written, from the left; a text may be longer than its column.
+        values: Vec<Literal>,
+    },
+    /// A position on a route, to be printed by a method.
+    Translate {
+        /// The route's name.
+        route: Name,
+        /// The position on it.
+        position: Position,
+        /// How it is to be printed.
+        method: Method,
+    },
+    /// The rows of a query, their positions printed by a method.
+    Select {
+        /// What is asked for.
+        query: Query,
+        /// How positions are to be printed; absolute where the line says nothing of it.
+        method: Method,
+    },
+}
