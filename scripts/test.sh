@@ -1,6 +1,12 @@
 #!/usr/bin/env bash
-# Proves every crate from nothing and runs all tests: the gate, then the runs in which a growth is refused.
+# Proves every crate from nothing and runs its tests and the program: the gate. Then the program that it built holds the
+# conversations, answers pseudo-random lines beside the slow machine, and has its growths refused in turn.
 set -eu
 cd "$(dirname "$0")/.."
 rt ci
+if [ ! -x crates/roadseg/out/roadseg ]; then
+    (cd crates/roadseg && rt run -- --help > /dev/null)
+fi
+python3 tests/conversations.py
+python3 tests/compare.py
 python3 scripts/growths.py

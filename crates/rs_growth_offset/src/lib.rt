@@ -1,7 +1,7 @@
 //! Growths that a program asks for before its own, so that one build of it can be run with each of its own refused.
 //!
 //! One growth of a run is refused, always the one with the same number. It is another one of the program's own for
-//! each length of the input, since a growth is asked for before them for each byte of it.
+//! each number of growths before them, which the program reads from its input.
 #![tactic(auto)]
 
 use std::alloc::Global;
@@ -9,6 +9,13 @@ use std::io::Read;
 
 /// How many growths are asked for at the most.
 pub const GREATEST_OFFSET: u32 = 4_096;
+
+/// Asks for so many growths, and gives their memory back at once. Where a growth is refused nothing else changes.
+pub fn ask_for(alloc: Global, growths: u32) {
+    for _ in 0..growths.min(GREATEST_OFFSET) {
+        let _given = Box::new(alloc, [0_u8]);
+    }
+}
 
 /// Asks for a growth for each byte of the input, and gives its memory back at once. It ends where the input does,
 /// or a read fails. Where a growth is refused nothing else changes.

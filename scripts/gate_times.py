@@ -1,0 +1,148 @@
+#!/usr/bin/env python3
+"""Runs the gate and says where its time goes.
+
+    gate_times.py [COMMAND ..]     (default: bash scripts/test.sh)
+
+For each crate it prints the seconds and the processor seconds of its proof, its tests and its must-fail edits, and
+then the longest chain of proofs, each crate after those that it stands on. It looks at the running processes several
+times a second, so a figure may lack what a process did since it was last seen. The command's own output goes to
+standard error.
+"""
+
+import collections
+import os
+import resource
+import subprocess
+import sys
+import threading
+import time
+
+ROOT = os.path.join(os.path.dirname(os.path.abspath(__file__)), "..")
+TICK = os.sysconf("SC_CLK_TCK")
+SECONDS_BETWEEN_LOOKS = 0.25
+KINDS = ["proof", "tests", "edits"]
+
+
+class Span:
+    """When the first process of some work was seen and when the last, and the processor seconds of each."""
+
+    def __init__(self):
+        self.first, self.last, self.processor = None, 0.0, {}
+
+    def see(self, now, process, processor):
+        self.first = now if self.first is None else self.first
+        self.last = now
+        self.processor[process] = processor
+
+    def seconds(self):
+        return 0.0 if self.first is None else self.last - self.first
+
+    def processor_seconds(self):
+        return sum(self.processor.values())
+
+
+def crates():
+    """Each crate of crates.txt with what it stands on."""
+    below = {}
+    with open(os.path.join(ROOT, "crates.txt"), encoding="utf-8") as file:
+        for line in file:
+            name, colon, rest = line.partition("#")[0].partition(":")
+            if colon:
+                below[name.split()[0]] = rest.split()
+    return {name: [it for it in names if it in below] for name, names in below.items()}
+
+
+def work_of(process):
+    """The crate and the kind of work of a process of the prover, or None."""
+    with open("/proc/%s/cmdline" % process, "rb") as file:
+        words = file.read().decode(errors="replace").split("\0")
+    if not words[0].endswith("/rattle") or "--crate-name" not in words:
+        return None
+    if os.path.basename(os.readlink("/proc/%s/cwd" % process)).startswith("rt-edit-"):
+        kind = "edits"
+    else:
+        kind = "tests" if "--test" in words else "proof"
+    return words[words.index("--crate-name") + 1], kind
+
+
+def processor_seconds_of(process):
+    with open("/proc/%s/stat" % process, encoding="utf-8", errors="replace") as file:
+        fields = file.read().rpartition(")")[2].split()
+    return (int(fields[11]) + int(fields[12])) / TICK
+
+
+def is_of_session(process, session):
+    with open("/proc/%s/stat" % process, encoding="utf-8", errors="replace") as file:
+        return file.read().rpartition(")")[2].split()[3] == session
+
+
+def look(spans, session, start):
+    now = time.monotonic() - start
+    for process in filter(str.isdigit, os.listdir("/proc")):
+        try:
+            if not is_of_session(process, session):
+                continue
+            work = work_of(process)
+            if work:
+                spans[work].see(now, process, processor_seconds_of(process))
+        except OSError:
+            pass
+
+
+def run(command):
+    """The exit status, the seconds, and what was seen of each crate's work."""
+    spans, start = collections.defaultdict(Span), time.monotonic()
+    gate = subprocess.Popen(command, cwd=ROOT, stdin=subprocess.DEVNULL, stdout=sys.stderr, start_new_session=True)
+    ended = threading.Event()
+
+    def watch():
+        while not ended.wait(SECONDS_BETWEEN_LOOKS):
+            look(spans, str(gate.pid), start)
+
+    watcher = threading.Thread(target=watch)
+    watcher.start()
+    status = gate.wait()
+    ended.set()
+    watcher.join()
+    return status, time.monotonic() - start, spans
+
+
+def longest_chain(below, seconds):
+    """The crates of the longest chain of proofs, lowest first, and its seconds."""
+    chains = {}
+
+    def chain_to(name):
+        if name not in chains:
+            before = max((chain_to(it) for it in below[name]), key=lambda it: it[1], default=([], 0.0))
+            chains[name] = (before[0] + [name], before[1] + seconds(name))
+        return chains[name]
+
+    return max((chain_to(it) for it in below), key=lambda it: it[1])
+
+
+def table(below, spans):
+    yield "| Crate | " + " | ".join("%s: seconds, processor" % it for it in KINDS) + " | starts | ends |"
+    yield "|---|" + "---|" * (len(KINDS) + 2)
+    whole = {name: sum(spans[name, kind].processor_seconds() for kind in KINDS) for name in below}
+    for name in sorted((it for it in below if whole[it]), key=lambda it: -whole[it]):
+        seen = [spans[name, kind] for kind in KINDS]
+        cells = ["%.0f, %.0f" % (it.seconds(), it.processor_seconds()) if it.processor else "" for it in seen]
+        starts = min((it.first for it in seen if it.first is not None), default=0.0)
+        yield "| `%s` | %s | %.0f | %.0f |" % (name, " | ".join(cells), starts, max(it.last for it in seen))
+
+
+def main():
+    status, seconds, spans = run(sys.argv[1:] or ["bash", "scripts/test.sh"])
+    used = resource.getrusage(resource.RUSAGE_CHILDREN)
+    below = crates()
+    print("\n".join(table(below, spans)))
+    for kind in KINDS:
+        print("%s: %.1f processor minutes" % (kind, sum(it.processor_seconds() for key, it in spans.items() if key[1] == kind) / 60))
+    names, length = longest_chain(below, lambda name: spans[name, "proof"].seconds())
+    print("longest chain of proofs: %.1f minutes: %s" % (length / 60, ", ".join(names)))
+    print("whole: %.1f minutes, %.1f processor minutes, status %d" % (seconds / 60, (used.ru_utime + used.ru_stime) / 60, status))
+    return status
+
+
+if __name__ == "__main__":
+    sys.exit(main())
