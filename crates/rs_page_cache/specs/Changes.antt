@@ -1,0 +1,43 @@
+-- The pages that are held as changes.
+use Rattle.std.specs.Prelude.{◌≡◌, ◌≢◌, ◌<◌, ℕ, Option, None, IsSome, List, length, slice_index}
+use Rattle.std.specs.Option.{option_map, unwrap_or}
+use Rattle.std.specs.Map.{lookup}
+use Rattle.std.specs.BTreeMap.{is_at}
+use Rattle.std.specs.Ordering.{nat_cmp}
+use Rattle.std.specs.declared.alloc.Global.{Global}
+use Rattle.std.specs.declared.boxed.Box.{Box}
+use Rattle.rs_page.specs.declared.page.Page.{Page}
+use Rattle.rs_page.specs.PageBytes.{IsBlank}
+use Rattle.rs_page.specs.declared.header.PageKind.{PageKind}
+use Rattle.rs_pages.specs.Held.{HeldPage, nothing_held, held_change, with_copy}
+
+-- each changed page by its number
+abbrev pub Changes : Type 0
+Changes = List (ℕ × HeldPage)
+
+-- what is held of the page with this number
+abbrev pub held_at : Changes → ℕ → HeldPage
+held_at changes number = unwrap_or (lookup (is_at (nat_cmp number)) changes) nothing_held
+
+-- the bytes of a page, where there is one
+abbrev pub bytes_of : Option (Box Page Global) → Option (List ℕ)
+bytes_of page = option_map (λ p. p.value.bytes) page
+
+-- the copy takes the committed page's place
+abbrev pub committed_held : HeldPage → HeldPage
+committed_held held = record { committed = held_change held; copy = None }
+
+-- the copy goes
+abbrev pub abandoned_held : HeldPage → HeldPage
+abandoned_held held = record held { copy = None }
+
+-- each number with a working copy is among these
+pub record HasCopied (changes : Changes) (copied : List ℕ) : Type 0 where
+  pub among : (number : ℕ) → IsSome (held_at changes number).copy → (k : ℕ) × (k < length copied) × (slice_index copied k ≡ number)
+
+-- a page with a header of this kind and zeros after it is the working copy now, and all else stays
+pub record PutsBlank (kind : PageKind) (number next : ℕ) (old new : Changes) : Type 0 where
+  pub page : List ℕ
+  pub blank : IsBlank page kind number next
+  pub there : held_at new number ≡ with_copy page (held_at old number)
+  pub others : (other : ℕ) → other ≢ number → held_at new other ≡ held_at old other

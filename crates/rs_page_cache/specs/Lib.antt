@@ -1,0 +1,4 @@
+pub mod Changes
+pub mod Clean
+pub mod Lending
+pub mod Stored

@@ -1,0 +1,239 @@
+//! The changed pages: by number, the committed page that the disk lacks and the working copy.
+//!
+//! The numbers of the working copies are listed apart, so that a commit or an abandonment visits these alone. Room in
+//! that list is made before each copy, so neither of the two takes memory.
+
+ghost use Rattle.std.specs.Prelude.{◌≡◌, ◌≢◌, ◌≤◌, ◌<◌, ◌^◌, ℕ, Some, None, [], length, is_some, OnOk, OnErr, IsTrue, IsOkUnless, slice_index};
+ghost use Rattle.std.specs.Option.{option_map};
+ghost use Rattle.rs_pages.specs.Held.{HeldPage, nothing_held, held_change, with_copy};
+ghost use Rattle.rs_page_cache.specs.Changes.{held_at, committed_held, abandoned_held, PutsBlank};
+
+use crate::slot::Slot;
+use rs_measure::Refusal;
+use rs_page::{Page, PageKind, PageNumber};
+use std::alloc::{AllocError, Global};
+use std::collections::BTreeMap;
+use std::marker::Model;
+
+/// The changed pages.
+#[derive(Drop)]
+pub struct Changes {
+    slots: BTreeMap<u32, Slot>,
+    /// The numbers of the pages with a working copy are among these.
+    copied: Vec<u32>,
+}
+
+impl Model for Changes {
+    ghost use Rattle.rs_page_cache.specs.Changes.{Changes, HasCopied};
+
+    ghost Value = { Changes };
+
+    ghost view = { λ c. c.slots.entries };
+
+    ghost invariant = { λ c. HasCopied c.slots.entries c.copied.items };
+}
+
+impl Changes {
+    ghost use Rattle.rs_page_cache.specs.Lending.{lends_change};
+    ghost use Rattle.std.specs.Borrow.{sem};
+
+    /// No page is changed. It takes no memory until a page is.
+    pub fn new(alloc: Global) -> Changes
+        ensures { result ≡ [] }
+    {
+        Changes {
+            slots: BTreeMap::new(alloc),
+            copied: Vec::new(alloc),
+        }
+    }
+
+    /// How many pages are changed.
+    pub fn len(&self) -> usize
+        ensures { result ≡ length self.now }
+    {
+        self.slots.len()
+    }
+
+    /// What the changed pages are by number, to be read.
+    pub fn slots(&self) -> &BTreeMap<u32, Slot>
+        ensures { result.now.entries ≡ self.now }
+    {
+        &self.slots
+    }
+
+    /// The working page with this number, where it is changed.
+    pub fn working(&self, number: PageNumber) -> Option<&Page>
+        ensures { option_map (λ page. page.now.bytes) result ≡ held_change (held_at self.now number) }
+    {
+        match self.slots.get(&number.number()) {
+            Some(slot) => slot.working(),
+            None => None,
+        }
+    }
+
+    /// Whether the page with this number has a working copy.
+    pub fn has_copy(&self, number: PageNumber) -> bool
+        ensures { result ≡ is_some (held_at self.now number).copy }
+    {
+        match self.slots.get(&number.number()) {
+            Some(slot) => slot.has_copy(),
+            None => false,
+        }
+    }
+
+    /// The working copy of the page with this number, to be changed.
+    pub fn copy_mut(&mut self, number: PageNumber) -> Option<&mut Page>
+        ensures* lends { sem 𝓛 (lends_change self.entry number result) }
+        ensures held { option_map (λ page. page.now.bytes) result ≡ (held_at self.old number).copy }
+    {
+        if !self.has_copy(number) {
+            return None;
+        }
+        match self.slots.get_mut(&number.number()) {
+            Some(slot) => slot.copy_mut(),
+            None => None,
+        }
+    }
+
+    /// Puts a working copy of a page in place. After a refusal nothing has changed.
+    pub fn put_copy(&mut self, number: PageNumber, page: Box<Page>) -> Result<(), AllocError>
+        ensures there { OnOk result (held_at self.new number ≡ with_copy page.value.bytes (held_at self.old number)) }
+        ensures others { OnOk result ((other : ℕ) → other ≢ number → held_at self.new other ≡ held_at self.old other) }
+        ensures refused { OnErr result (self.new ≡ self.old) }
+    {
+        self.copied.push(number.number())?;
+        match self.slots.get_mut(&number.number()) {
+            Some(slot) => {
+                slot.put_copy(page);
+                Ok(())
+            }
+            None => match self.slots.insert(number.number(), Slot::copied(page)) {
+                Ok(_) => Ok(()),
+                Err(_) => Err(AllocError),
+            },
+        }
+    }
+
+    /// Puts a working copy in place that has a header of this kind and zeros after it. After a refusal (90) nothing has
+    /// changed.
+    pub fn put_blank(
+        &mut self,
+        kind: PageKind,
+        number: PageNumber,
+        next: PageNumber,
+    ) -> Result<(), Refusal>
+        ensures blank { OnOk result (PutsBlank kind number next self.old self.new) }
+        ensures refused { OnErr result (self.new ≡ self.old) }
+        ensures refusal { IsOkUnless result Refusal.OutOfMemory }
+    {
+        let page = Box::new(self.allocator(), Page::blank(kind, number, next)).map_err(
+            |_| Refusal::OutOfMemory,
+        )?;
+        self.put_copy(number, page)
+            .map_err(|_| Refusal::OutOfMemory)
+    }
+
+    /// What gives the memory for pages.
+    pub fn allocator(&self) -> Global {
+        *self.copied.allocator()
+    }
+
+    /// Puts a committed page in place that the disk lacks. After a refusal nothing has changed.
+    pub fn put_committed(&mut self, number: PageNumber, page: Box<Page>) -> Result<(), AllocError>
+        requires { self.old ≡ [] }
+        ensures there { OnOk result (held_at self.new number ≡ record { committed = Some page.value.bytes; copy = None }) }
+        ensures others { OnOk result ((other : ℕ) → other ≢ number → held_at self.new other ≡ nothing_held) }
+    {
+        match self.slots.insert(number.number(), Slot::changed(page)) {
+            Ok(_) => Ok(()),
+            Err(_) => Err(AllocError),
+        }
+    }
+
+    /// Each working copy becomes the committed page.
+    pub fn commit(&mut self)
+        ensures { (number : ℕ) → held_at self.new number ≡ committed_held (held_at self.old number) }
+    {
+        commit_all(&mut self.slots, &self.copied);
+        self.copied.clear();
+    }
+
+    /// Each working copy goes.
+    pub fn abandon(&mut self)
+        ensures { (number : ℕ) → held_at self.new number ≡ abandoned_held (held_at self.old number) }
+    {
+        abandon_all(&mut self.slots, &self.copied);
+        self.copied.clear();
+    }
+
+    /// No page is changed any more.
+    pub fn clear(&mut self)
+        ensures { self.new ≡ [] }
+    {
+        self.slots.clear();
+        self.copied.clear();
+    }
+}
+
+/// Commits the pages with these numbers.
+fn commit_all(slots: &mut BTreeMap<u32, Slot>, copied: &[u32])
+    ensures commits { (number : ℕ) → committed_held (held_at slots.new.entries number)
+        ≡ committed_held (held_at slots.old.entries number) }
+    ensures done { (k : ℕ) → k < length copied.now
+        → (held_at slots.new.entries (slice_index copied.now k)).copy ≡ None }
+    ensures others { (number : ℕ) → (held_at slots.old.entries number).copy ≡ None
+        → (held_at slots.new.entries number).copy ≡ None }
+{
+    for number in copied {
+        commit_one(slots, *number);
+    }
+}
+
+/// Commits the page with this number, if it is changed.
+fn commit_one(slots: &mut BTreeMap<u32, Slot>, number: u32)
+    ensures there { held_at slots.new.entries number ≡ committed_held (held_at slots.old.entries number) }
+    ensures others { (other : ℕ) → other ≢ number
+        → held_at slots.new.entries other ≡ held_at slots.old.entries other }
+{
+    if let Some(slot) = slots.get_mut(&number) {
+        slot.commit();
+    }
+}
+
+/// Abandons the pages with these numbers.
+fn abandon_all(slots: &mut BTreeMap<u32, Slot>, copied: &[u32])
+    ensures abandons { (number : ℕ) → abandoned_held (held_at slots.new.entries number)
+        ≡ abandoned_held (held_at slots.old.entries number) }
+    ensures done { (k : ℕ) → k < length copied.now
+        → (held_at slots.new.entries (slice_index copied.now k)).copy ≡ None }
+    ensures others { (number : ℕ) → (held_at slots.old.entries number).copy ≡ None
+        → (held_at slots.new.entries number).copy ≡ None }
+{
+    for number in copied {
+        abandon_one(slots, *number);
+    }
+}
+
+/// Abandons the page with this number, if it is changed. Where nothing is held of it then, it is no changed page.
+fn abandon_one(slots: &mut BTreeMap<u32, Slot>, number: u32)
+    ensures there { held_at slots.new.entries number ≡ abandoned_held (held_at slots.old.entries number) }
+    ensures others { (other : ℕ) → other ≢ number
+        → held_at slots.new.entries other ≡ held_at slots.old.entries other }
+{
+    if drop_copy(slots, number) {
+        slots.remove(&number);
+    }
+}
+
+/// Drops the working copy of a page, and answers whether nothing is held of it then.
+fn drop_copy(slots: &mut BTreeMap<u32, Slot>, number: u32) -> bool
+    ensures there { held_at slots.new.entries number ≡ abandoned_held (held_at slots.old.entries number) }
+    ensures others { (other : ℕ) → other ≢ number
+        → held_at slots.new.entries other ≡ held_at slots.old.entries other }
+    ensures nothing { IsTrue result → held_at slots.new.entries number ≡ nothing_held }
+{
+    match slots.get_mut(&number) {
+        Some(slot) => slot.abandon(),
+        None => false,
+    }
+}

@@ -1,0 +1,157 @@
+//! The clean pages that are held: a bounded number of pages as the disk has them.
+//!
+//! A page is read into a spare one that is always there, so a read wants no memory. The spare page joins the others
+//! before the next read where there is memory for another; else it is dropped.
+
+ghost use Rattle.std.specs.Prelude.{◌≡◌, ◌≤◌, ◌⊎◌, ℕ, Some, None, [], length, is_some, IfOk, OnOk, OnErr, IsTrue, IsSome, Err, IsOkUnless, Contains};
+ghost use Rattle.std.specs.Option.{option_map};
+ghost use Rattle.rs_disk.specs.Counts.{Counts};
+ghost use Rattle.rs_page_cache.specs.Stored.{disk_page};
+ghost use Rattle.rs_page_cache.specs.Clean.{clean_at, has_number, kept_pages, Loads};
+
+use lru::LruCache;
+use rs_disk::{Disk, PAGE_SIZE};
+use rs_measure::Refusal;
+use rs_page::{Page, PageNumber};
+use std::alloc::{AllocError, Global};
+use std::marker::Model;
+use std::mem;
+use std::num::NonZeroUsize;
+
+/// The greatest number of clean pages that are held, the spare one among them.
+pub const MOST_CLEAN: usize = 256;
+
+/// The clean pages.
+#[derive(Drop)]
+pub struct CleanPages {
+    kept: LruCache<u32, Box<Page>>,
+    spare: Box<Page>,
+    /// The number of the page in the spare one, where it is one of the disk's.
+    spare_number: Option<PageNumber>,
+}
+
+impl Model for CleanPages {
+    ghost use Rattle.std.specs.Prelude.{◌≡◌};
+    ghost use Rattle.rs_page_cache.specs.Clean.{Clean, spare_page, kept_pages};
+
+    ghost Value = { Clean };
+
+    ghost use Rattle.std.specs.Prelude.{◌++◌};
+
+    ghost view = { λ c. spare_page c.spare_number c.spare ++ kept_pages c.kept.entries };
+
+    ghost invariant = { λ c. c.kept.cap ≡ 255 };
+}
+
+impl CleanPages {
+    /// No page is held, and the spare one is allocated.
+    pub fn new(alloc: Global) -> Result<CleanPages, AllocError>
+        ensures { IfOk result (λ clean. clean ≡ []) }
+    {
+        let most = NonZeroUsize::new(MOST_CLEAN - 1).unwrap();
+        let kept = LruCache::new(alloc, most)?;
+        let spare = Box::new(alloc, Page::new()).map_err(|_| AllocError)?;
+        Ok(CleanPages {
+            kept,
+            spare,
+            spare_number: None,
+        })
+    }
+
+    /// How many clean pages are held.
+    pub fn len(&self) -> usize
+        ensures length { result ≡ length self.now }
+        ensures bound { result ≤ MOST_CLEAN }
+    {
+        match self.spare_number {
+            Some(_) => self.kept.len() + 1,
+            None => self.kept.len(),
+        }
+    }
+
+    /// The clean page with this number, where it is held.
+    pub fn get(&self, number: PageNumber) -> Option<&Page>
+        ensures { option_map (λ page. page.now.bytes) result ≡ clean_at self.now number }
+    {
+        if is_number(self.spare_number, number) {
+            return Some(&self.spare);
+        }
+        match self.kept.peek(&number.number()) {
+            Some(page) => Some(page),
+            None => None,
+        }
+    }
+
+    /// Holds the page with this number, and reads it where it isn't held.
+    pub fn load<D: Disk>(&mut self, disk: &mut D, number: PageNumber) -> Result<(), Refusal>
+        requires { number ≤ 1048576 }
+        ensures loaded { OnOk result (IsSome (clean_at self.new number)) }
+        ensures loads { IsTrue (D.is_honest disk.old)
+            → Loads number (λ page. page ≡ disk_page (D.seen disk.old) number) self.old self.new }
+        ensures same { IsTrue (D.is_honest disk.old) → D.seen disk.new ≡ D.seen disk.old }
+        ensures honesty { D.is_honest disk.new ≡ D.is_honest disk.old }
+        ensures synced { D.is_synced disk.new ≡ D.is_synced disk.old }
+        ensures refused { IsOkUnless result Refusal.Disk }
+        ensures count { Counts result (D.failures disk.old) (D.failures disk.new) }
+    {
+        if self.promote(number) {
+            return Ok(());
+        }
+        self.keep_spare();
+        self.spare_number = None;
+        let at = u64::from(number.number()) * PAGE_SIZE as u64;
+        disk.read(at, &mut self.spare.bytes)
+            .map_err(|_| Refusal::Disk)?;
+        self.spare_number = Some(number);
+        Ok(())
+    }
+
+    /// Whether the page with this number is held. It is the most recently used then.
+    fn promote(&mut self, number: PageNumber) -> bool
+        ensures held { result ≡ is_some (clean_at self.old number) }
+        ensures there { IsTrue result → IsSome (clean_at self.new number) }
+        ensures pages { (e : _) → Contains self.new e → Contains self.old e }
+    {
+        is_number(self.spare_number, number) || self.kept.promote(&number.number())
+    }
+
+    /// Holds the spare page among the others, if there is memory for another. It holds no page of the disk then.
+    fn keep_spare(&mut self)
+        ensures { (e : _) → Contains self.new e → Contains self.old e }
+    {
+        let Some(number) = self.spare_number.take() else {
+            return;
+        };
+        if let Ok(fresh) = Box::new(*self.kept.allocator(), Page::new()) {
+            let page = mem::replace(&mut self.spare, fresh);
+            put_page(&mut self.kept, number.number(), page);
+        }
+    }
+
+    /// No page is held any more.
+    pub fn clear(&mut self)
+        ensures { self.new ≡ [] }
+    {
+        self.kept.clear();
+        self.spare_number = None;
+    }
+}
+
+/// Whether the spare page is the one with this number.
+fn is_number(spare: Option<PageNumber>, number: PageNumber) -> bool
+    ensures { result ≡ has_number spare number }
+{
+    match spare {
+        Some(spare) => number == spare,
+        None => false,
+    }
+}
+
+/// Holds a page among the others, if there is memory for it.
+fn put_page(kept: &mut LruCache<u32, Box<Page>>, number: u32, page: Box<Page>)
+    ensures pages { (e : _) → Contains (kept_pages kept.new.entries) e
+        → Contains (kept_pages kept.old.entries) e ⊎ (e ≡ (number, page.value.bytes)) }
+    ensures cap { kept.new.cap ≡ kept.old.cap }
+{
+    let _ = kept.put(number, page);
+}

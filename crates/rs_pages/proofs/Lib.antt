@@ -1,0 +1,4 @@
+pub mod FreeLists
+pub mod PlainLending
+pub mod PlainStore
+pub mod Stores
