@@ -4,7 +4,8 @@
     gate_times.py [COMMAND ..]     (default: bash scripts/test.sh)
 
 For each crate it prints the seconds and the processor seconds of its proof, its tests and its must-fail edits, and
-then the longest chain of proofs, each crate after those that it stands on. It looks at the running processes several
+then the longest chain of proofs, each crate after those that it stands on, in processor seconds: the seconds have waits
+for a free processor in them. It looks at the running processes several
 times a second, so a figure may lack what a process did since it was last seen. The command's own output goes to
 standard error.
 """
@@ -108,7 +109,7 @@ def run(command):
 
 
 def longest_chain(below, seconds):
-    """The crates of the longest chain of proofs, lowest first, and its seconds."""
+    """The crates of the longest chain of proofs, lowest first, and the sum of their seconds."""
     chains = {}
 
     def chain_to(name):
@@ -138,8 +139,8 @@ def main():
     print("\n".join(table(below, spans)))
     for kind in KINDS:
         print("%s: %.1f processor minutes" % (kind, sum(it.processor_seconds() for key, it in spans.items() if key[1] == kind) / 60))
-    names, length = longest_chain(below, lambda name: spans[name, "proof"].seconds())
-    print("longest chain of proofs: %.1f minutes: %s" % (length / 60, ", ".join(names)))
+    names, length = longest_chain(below, lambda name: spans[name, "proof"].processor_seconds())
+    print("longest chain of proofs: %.1f processor minutes: %s" % (length / 60, ", ".join(names)))
     print("whole: %.1f minutes, %.1f processor minutes, status %d" % (seconds / 60, (used.ru_utime + used.ru_stime) / 60, status))
     return status
 

@@ -7,8 +7,9 @@
 
 Such a program prints the same whichever growth was refused; any other output, or status, is a failure. `rt try
 --fail-alloc N --cases FOLDER` builds a program once and always refuses the growth with number N; a program asks for as
-many growths before its own as its input says, so that the refused one is another of its own in each case. There is a
-line for each program, and the last line is `N passed, M failed` for all runs.
+many growths before its own as its input says, so that the refused one is another of its own in each case. The growths
+are counted once, by the interpreter; up to the refused one a run goes as the counted one, so it comes to that growth.
+There is a line for each program, and the last line is `N passed, M failed` for all runs.
 """
 
 import concurrent.futures
@@ -54,9 +55,9 @@ class Case:
     def __init__(self, program, name, text, is_counted, offset=0):
         self.program, self.name, self.text, self.is_counted, self.offset = program, name, text, is_counted, offset
 
-    def behind(self, offset):
-        """The same, with so many growths asked for first."""
-        return Case(self.program, self.name, self.text, self.is_counted, offset)
+    def after(self, offset):
+        """The same, with so many growths asked for first, which are not counted again."""
+        return Case(self.program, self.name, self.text, False, offset)
 
     def key(self):
         return "%s_%d" % (self.name, self.offset)
@@ -157,7 +158,7 @@ def refused_cases(plain):
     print("%d runs in which a growth is refused, of %d at the most" % (runs, MOST_RUNS), flush=True)
     if runs > MOST_RUNS:
         sys.exit(" ".join("%s:%d" % (case.name, count) for case, count in counts.items()))
-    return [case.behind(refused - own) for case, count in counts.items() for own in range(1, count + 1)], refused
+    return [case.after(refused - own) for case, count in counts.items() for own in range(1, count + 1)], refused
 
 
 def report(results):
@@ -176,8 +177,7 @@ def main():
         plain = run_all(pool, workers, NONE_REFUSED, all_cases())
         results = [(case.program, is_right) for case, (is_right, _asked) in plain.items()]
         cases, refused = refused_cases(plain)
-        for case, (is_right, asked) in run_all(pool, workers, refused, cases).items():
-            results.append((case.program, is_right and asked >= refused))
+        results += [(case.program, is_right) for case, (is_right, _asked) in run_all(pool, workers, refused, cases).items()]
     return 1 if report(results) else 0
 
 
