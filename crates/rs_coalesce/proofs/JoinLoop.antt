@@ -47,7 +47,7 @@ so_far-join kind xs ys last next y all below within is near grown so_far d =
     ∙ sym (ap (λ zs. map seen (take last xs) ++ joined_onto kind (seen (get_or xs last d)) (map seen zs)) (drop_more xs next d within))
     ∙ so_far d
 
--- the next one stands apart, and goes behind the last
+-- the next one stands apart, and goes after the last
 pub so_far-apart : (kind : Kind) (xs ys : List Span) (last next : ℕ) (all : List Stretch) → last < next → next < length xs
     → ((d : Span) → get_or ys (last + 1) d ≡ get_or xs next d)
     → ((d : Span) → ys ≡ set (set xs (last + 1) (get_or xs next d)) next (get_or xs (last + 1) d))

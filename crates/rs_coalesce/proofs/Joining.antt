@@ -71,7 +71,7 @@ joins-false kind a b e (inr same) = elim (and_cases (nat_lt b.lo (a.hi + gap_of 
   | inr other ↦ let one : same_row a.row b.row ≡ true = same_row-equal a.row b.row same.0 in cc
 ]
 
--- what stands behind the second stands behind the two joined
+-- what stands after the second stands after the two joined
 join-stands : (a b c : Stretch) → a.row ≡ b.row → a.lo ≤ b.lo → NotBehind b c → NotBehind (join a b) c
 join-stands a b c same l (inl less) = inl (subst (λ r. row_cmp r c.row ≡ Less) (sym same) less)
 join-stands a b c same l (inr h) = inr (same ∙ h.0, omega (arith, h.1))

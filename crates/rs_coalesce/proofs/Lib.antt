@@ -1,4 +1,4 @@
-mod Orders
-mod Joining
+pub mod Orders
+pub mod Joining
 mod JoinLoop
 mod Whole

@@ -2,6 +2,7 @@
 use Rattle.std.proofs.Common.{◌≡◌, suc, ◌+◌, ◌<◌, true, false, inl, inr, List, [], ◌∷◌, map, get_or, Less, Equal, Greater, is_lt, refl, sym, ap, ◌∙◌, subst, arith}
 use Rattle.std.proofs.lemmas.List.Elements.{All-from_recursion, recursion_from_All}
 use Rattle.std.proofs.lemmas.List.Sorted.{IsPermutation-map, All-permutation}
+use Rattle.std.specs.Borrow.{Bor}
 use Rattle.std.specs.List.Sorted.{IsSortedBy, IsPermutation}
 use Rattle.rs_value.specs.declared.column.Kind.{Kind}
 use Rattle.rs_facts.specs.declared.fact.Span.{Span}
@@ -13,10 +14,11 @@ use Rattle.rs_facts.proofs.KeptLaws.{placed-some, kept-placed, every-weaker}
 use Rattle.rs_facts.proofs.RunLaws.{IsApart, LieApart, runs-from_apart}
 use Rattle.rs_facts.proofs.Apart.{apart-permutation, kept-apart}
 use Rattle.rs_coalesce.specs.Inner.{joined}
+use Rattle.rs_coalesce.specs.Lent.{seen_lent}
 use Rattle.rs_coalesce.proofs.Joining.{BySorted, kept-from_sorted, means-from_sorted}
 
-abbrev pub ByPlace : List Span → Type 0
-ByPlace spans = IsSortedBy (λ a b. is_lt (stretch_cmp (seen a) (seen b))) spans
+abbrev pub ByPlace : {X : Type 0} → (X → Stretch) → List X → Type 0
+ByPlace at spans = IsSortedBy (λ a b. is_lt (stretch_cmp (at a) (at b))) spans
 
 placed-permutation : (kind : Kind) (xs ys : List Stretch) → IsPermutation xs ys → ArePlaced kind xs → ArePlaced kind ys
 placed-permutation kind xs ys h placed = recursion_from_All (IsPlaced kind) ys (All-permutation (IsPlaced kind) xs ys h (All-from_recursion (IsPlaced kind) xs placed))
@@ -40,19 +42,20 @@ before kind a b x y apart e =
 rest_apart : (kind : Kind) (first : Stretch) (rest : List Stretch) → LieApart kind (first ∷ rest) → LieApart kind rest
 rest_apart kind first rest h i j d a b other = h (suc i) (suc j) d (omega arith) (omega arith) (λ e. other (omega (arith, e)))
 
-rest_sorted : (first : Span) (rest : List Span) → ByPlace (first ∷ rest) → ByPlace rest
-rest_sorted first rest h k d a b =
-    let more : suc k + 1 ≡ suc (k + 1) = omega arith in
-    subst (λ n. is_lt (stretch_cmp (seen (get_or (first ∷ rest) n d)) (seen (get_or rest k d))) ≡ false) more (h (suc k) d (omega arith) (omega arith))
+module _ {X : Type 0} (at : X → Stretch) where
+  rest_sorted : (first : X) (rest : List X) → ByPlace at (first ∷ rest) → ByPlace at rest
+  rest_sorted first rest h k d a b =
+      let more : suc k + 1 ≡ suc (k + 1) = omega arith in
+      subst (λ n. is_lt (stretch_cmp (at (get_or (first ∷ rest) n d)) (at (get_or rest k d))) ≡ false) more (h (suc k) d (omega arith) (omega arith))
 
--- sorted by place, spans that lie apart stand in strict order
-ordered-from_sorted : (kind : Kind) (spans : List Span) → ByPlace spans → ArePlaced kind (map seen spans) → LieApart kind (map seen spans) → AreOrdered (map seen spans)
-ordered-from_sorted kind [] h p apart = tt
-ordered-from_sorted kind (first ∷ []) h p apart = (tt, tt)
-ordered-from_sorted kind (first ∷ next ∷ rest) h p apart =
-    let later = ordered-from_sorted kind (next ∷ rest) (rest_sorted first (next ∷ rest) h) p.1 (rest_apart kind (seen first) (map seen (next ∷ rest)) apart) in
-    let less = before kind (seen first) (seen next) p.0 p.1.0 (apart 0 1 (seen first) (omega arith) (omega arith) (omega arith)) (h 0 first (omega arith) (omega arith)) in
-    ((less, every-weaker (λ run. stretch_cmp (seen next) run ≡ Less) (λ run. stretch_cmp (seen first) run ≡ Less) (λ run l. stretch_cmp-on (seen first) (seen next) run less l) (map seen rest) later.0), later)
+  -- sorted by place, spans that lie apart stand in strict order
+  ordered-from_sorted : (kind : Kind) (spans : List X) → ByPlace at spans → ArePlaced kind (map at spans) → LieApart kind (map at spans) → AreOrdered (map at spans)
+  ordered-from_sorted kind [] h p apart = tt
+  ordered-from_sorted kind (first ∷ []) h p apart = (tt, tt)
+  ordered-from_sorted kind (first ∷ next ∷ rest) h p apart =
+      let later = ordered-from_sorted kind (next ∷ rest) (rest_sorted first (next ∷ rest) h) p.1 (rest_apart kind (at first) (map at (next ∷ rest)) apart) in
+      let less = before kind (at first) (at next) p.0 p.1.0 (apart 0 1 (at first) (omega arith) (omega arith) (omega arith)) (h 0 first (omega arith) (omega arith)) in
+      ((less, every-weaker (λ run. stretch_cmp (at next) run ≡ Less) (λ run. stretch_cmp (at first) run ≡ Less) (λ run l. stretch_cmp-on (at first) (at next) run less l) (map at rest) later.0), later)
 
 -- ---- from the spans given to the runs
 
@@ -62,7 +65,7 @@ pub record Made (kind : Kind) (given left : List Span) : Type 0 where
   pub same : places_of (map seen left) ≡ places_of (map seen given)
 
 pub made : (kind : Kind) (given sorted left runs : List Span) → ArePlaced kind (map seen given)
-    → IsPermutation given sorted → BySorted sorted → map seen left ≡ joined kind (map seen sorted) → IsPermutation left runs → ByPlace runs
+    → IsPermutation given sorted → BySorted sorted → map seen left ≡ joined kind (map seen sorted) → IsPermutation left runs → ByPlace seen runs
     → Made kind given runs
 made kind given sorted left runs placed moved by_row are_joined moved_again by_place =
     let placed_sorted = placed-permutation kind (map seen given) (map seen sorted) (IsPermutation-map seen given sorted moved) placed in
@@ -76,7 +79,18 @@ made kind given sorted left runs placed moved by_row are_joined moved_again by_p
     ∙ means-from_sorted kind sorted by_row placed_sorted
     ∙ sym (places_of-permutation (map seen given) (map seen sorted) (IsPermutation-map seen given sorted moved)) in
     record {
-      runs = subst (λ p. AreRunsOf kind p (map seen runs)) means (runs-from_apart kind (map seen runs) placed_runs apart (ordered-from_sorted kind runs by_place placed_runs apart));
+      runs = subst (λ p. AreRunsOf kind p (map seen runs)) means (runs-from_apart kind (map seen runs) placed_runs apart (ordered-from_sorted seen kind runs by_place placed_runs apart));
       placed = placed_runs;
       same = means;
     }
+
+-- ---- from kept spans to the runs
+
+pub kept_by_place : (kind : Kind) (spans : List Stretch) (lent runs : List (Bor Span)) → AreKept kind spans → map seen_lent lent ≡ spans
+    → IsPermutation lent runs → ByPlace seen_lent runs → AreRunsOf kind (places_of spans) (map seen_lent runs)
+kept_by_place kind spans lent runs kept same moved by_place =
+    let over : IsPermutation spans (map seen_lent runs) = subst (λ spans. IsPermutation spans (map seen_lent runs)) same (IsPermutation-map seen_lent lent runs moved) in
+    let placed = placed-permutation kind spans (map seen_lent runs) over (kept-placed kind spans kept) in
+    let apart = apart-permutation kind spans (map seen_lent runs) over (kept-apart kind spans kept) in
+    subst (λ p. AreRunsOf kind p (map seen_lent runs)) (sym (places_of-permutation spans (map seen_lent runs) over))
+    (runs-from_apart kind (map seen_lent runs) placed apart (ordered-from_sorted seen_lent kind runs by_place placed apart))

@@ -11,3 +11,5 @@ pub mod RunsOf
 pub mod RunMeaning
 pub mod Inside
 mod KeptRuns
+pub mod RowSets
+mod OperatorRows

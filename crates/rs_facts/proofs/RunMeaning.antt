@@ -41,7 +41,7 @@ starts places row (suc j) e =
       | false ↦ λ free. (suc j, here places row (suc j) e (λ i s. let same : j ≡ i = omega (arith, s) in subst (λ m. contains (places m) row ≡ false) same free))
     ] refl
 
--- the row's run goes on behind a thousandth at which it holds
+-- the row's run goes on after a thousandth at which it holds
 past : (from to : ℕ) (places : Places) → LieWithin from to places → (k : ℕ) (row : Row) → contains (places k) row ≡ true → k < end_of_run places row k (to - k)
 past from to places inside k row held =
     let bounds = inside k row held in

@@ -65,7 +65,7 @@ found row k (span ∷ spans) e = elim (or_cases (holds row k span) (list_any (ho
 pub Covers-from_contains : (spans : List Stretch) (row : Row) (k : ℕ) → contains (places_of spans k) row ≡ true → Covers spans row k
 Covers-from_contains spans row k e = found row k spans (sym (contains-places_of spans k row) ∙ e)
 
--- a list with an element is another before and behind it
+-- a list with an element is another before and after it
 pub record Around (spans : List Stretch) (span : Stretch) : Type 0 where
   pub before : List Stretch
   pub behind : List Stretch
@@ -131,7 +131,7 @@ places_of-middle (first ∷ xs) span ys =
     ap (with_row first.lo first.hi first.row) (places_of-middle xs span ys)
     ∙ with_row-commutes first.lo first.hi first.row span.lo span.hi span.row (places_of (xs ++ ys))
 
--- a row that is put in goes before or behind the rest alike
+-- a row that is put in goes before or after the rest alike
 pub with_row-append : (lo hi : ℕ) (row : Row) (xs ys : List Stretch) → with_row lo hi row (places_of (xs ++ ys)) ≡ places_of (xs ++ stretch lo hi row ∷ ys)
 with_row-append lo hi row xs ys = sym (places_of-middle xs (stretch lo hi row) ys)
 

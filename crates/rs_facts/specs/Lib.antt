@@ -5,3 +5,7 @@ pub mod Runs
 pub mod LineText
 pub mod Spans
 pub mod Laws
+pub mod Operators
+pub mod Condition
+pub mod OperatorLaws
+pub mod ConditionView

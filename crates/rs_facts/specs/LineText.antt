@@ -11,6 +11,6 @@ abbrev pub positions_text : (ℕ → List ℕ) → Kind → Stretch → List ℕ
 positions_text position_text Point run = position_text run.lo
 positions_text position_text Line run = position_text run.lo ++ codes " " ++ position_text run.hi
 
--- `route f t values`, or `route m values`, each value behind a space
+-- `route f t values`, or `route m values`, each value after a space
 unfoldable pub line_of : (ℕ → List ℕ) → Kind → Name → Stretch → List ℕ
 line_of position_text kind route run = route ++ codes " " ++ positions_text position_text kind run ++ values_text run.row

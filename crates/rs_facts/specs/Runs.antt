@@ -23,7 +23,7 @@ stretch lo hi row = record { lo = lo; hi = hi; row = row }
 
 -- ---- what a maximal run is
 
--- The row holds all along the span, not right before it, and not right behind it. Before 0 there is no thousandth.
+-- The row holds all along the span, not right before it, and not right after it. Before 0 there is no thousandth.
 pub record IsLineRun (places : Places) (run : Stretch) : Type 0 where
   pub some : run.lo < run.hi
   pub holds : (k : ℕ) → run.lo ≤ k → k < run.hi → contains (places k) run.row ≡ true

@@ -1,10 +1,13 @@
-//! Facts, spans and runs, and the definitions of what they mean.
+//! Facts, spans, runs and conditions, and the definitions of what they mean.
 //!
-//! The definitions are in `specs/`: facts at single thousandths, insertion, the rows of a query,
-//! maximal runs and the text of a line. The code has the types that the layers above pass on, and laws.
+//! The definitions are in `specs/`: facts at single thousandths, insertion, operators on sets of rows, conditions, the
+//! rows of a query, maximal runs and the text of a line. The code has the types that the layers above pass on, and laws.
 #![tactic(auto)]
 
+pub mod condition;
 pub mod fact;
 pub mod laws;
+pub mod operator_laws;
 
+pub use condition::{Comparison, Condition, Term};
 pub use fact::{Fact, Run, Span};

@@ -1,0 +1,65 @@
+-- What the operators make, said of single rows.
+use Rattle.std.specs.Prelude.{◌≡◌, ◌↔◌, ℕ, not, ◌&&◌, ◌||◌, IsTrue, List, ◌++◌, Contains}
+use Rattle.rs_value.specs.Row.{Row}
+use Rattle.rs_facts.specs.Fact.{RowSet, none, contains}
+use Rattle.rs_facts.specs.Insert.{within}
+use Rattle.rs_facts.specs.Operators.{from_rows, mapped, nulls, chosen, dissolved, overlaid, covered, merged, without, windowed}
+
+-- a row of the first before a row of the second
+pub record IsPair (a b : RowSet) (row : Row) : Type 0 where
+  pub left : Row
+  pub right : Row
+  pub in_first : IsTrue (contains a left)
+  pub in_second : IsTrue (contains b right)
+  pub together : row ≡ left ++ right
+
+-- what a row of the set becomes
+pub record IsChanged (change : Row → Row) (rows : RowSet) (row : Row) : Type 0 where
+  pub from : Row
+  pub among : IsTrue (contains rows from)
+  pub is : row ≡ change from
+
+-- some row is in the set
+pub record HasRow (rows : RowSet) : Type 0 where
+  pub row : Row
+  pub among : IsTrue (contains rows row)
+
+-- the set of a list has its rows and no other
+abbrev pub SetsHaveTheirRows : Type 0
+SetsHaveTheirRows = (rows : List Row) (row : Row) → IsTrue (contains (from_rows rows) row) ↔ Contains rows row
+
+-- rows that are changed are those that some row becomes
+abbrev pub ChangedRowsAreThose : Type 0
+ChangedRowsAreThose = (change : Row → Row) (rows : RowSet) (row : Row) → IsTrue (contains (mapped change rows) row) ↔ IsChanged change rows row
+
+-- DISSOLVE has what the columns named make of each row, and no other row
+abbrev pub DissolvedRowsAreChosen : Type 0
+DissolvedRowsAreChosen = (columns : List ℕ) (rows : RowSet) (row : Row) → IsTrue (contains (dissolved columns rows) row) ↔ IsChanged (chosen columns) rows row
+
+-- OVERLAY has all pairs, and no other row
+abbrev pub OverlaidRowsArePairs : Type 0
+OverlaidRowsArePairs = (a b : RowSet) (row : Row) → IsTrue (contains (overlaid a b) row) ↔ IsPair a b row
+
+-- where both have rows COVER is OVERLAY
+abbrev pub CoveredIsOverlaid : Type 0
+CoveredIsOverlaid = (m n : ℕ) (a b : RowSet) → HasRow a → HasRow b → covered m n a b ≡ overlaid a b
+
+-- where the first has no row, it has those of the second, each after NULLs
+abbrev pub CoveredOfNoneBefore : Type 0
+CoveredOfNoneBefore = (m n : ℕ) (b : RowSet) (row : Row) → IsTrue (contains (covered m n none b) row) ↔ IsChanged (λ y. nulls m ++ y) b row
+
+-- where the second has no row, it has those of the first, each before NULLs
+abbrev pub CoveredOfNoneAfter : Type 0
+CoveredOfNoneAfter = (m n : ℕ) (a : RowSet) (row : Row) → IsTrue (contains (covered m n a none) row) ↔ IsChanged (λ x. x ++ nulls n) a row
+
+-- MERGE has the rows of either
+abbrev pub MergedRowsAreOfEither : Type 0
+MergedRowsAreOfEither = (a b : RowSet) (row : Row) → contains (merged a b) row ≡ (contains a row || contains b row)
+
+-- MINUS has the rows of the first that are not of the second
+abbrev pub LeftRowsAreNotOfTheOther : Type 0
+LeftRowsAreNotOfTheOther = (a b : RowSet) (row : Row) → contains (without a b) row ≡ (contains a row && not (contains b row))
+
+-- WINDOW has the same rows inside and none outside
+abbrev pub WindowedRowsAreInside : Type 0
+WindowedRowsAreInside = (lo hi k : ℕ) (rows : RowSet) (row : Row) → contains (windowed lo hi k rows) row ≡ (within lo hi k && contains rows row)

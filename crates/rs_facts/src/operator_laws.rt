@@ -1,0 +1,58 @@
+//! Laws of the operators on sets of rows, each the contract of a function that does nothing.
+//!
+//! They say of single rows what the definitions say of sets: which rows an operator has, and that it has no others.
+
+ghost use Rattle.rs_facts.specs.OperatorLaws.{
+  SetsHaveTheirRows,
+  ChangedRowsAreThose,
+  DissolvedRowsAreChosen,
+  OverlaidRowsArePairs,
+  CoveredIsOverlaid,
+  CoveredOfNoneBefore,
+  CoveredOfNoneAfter,
+  MergedRowsAreOfEither,
+  LeftRowsAreNotOfTheOther,
+  WindowedRowsAreInside,
+};
+
+/// The set of a list has its rows and no others.
+pub fn sets_have_their_rows()
+    ensures { SetsHaveTheirRows }
+{}
+
+/// A set whose rows are changed has what its rows become, and no others.
+pub fn changed_rows_are_those()
+    ensures { ChangedRowsAreThose }
+{}
+
+/// DISSOLVE has the columns named of each row, and no other row.
+pub fn dissolved_rows_are_chosen()
+    ensures { DissolvedRowsAreChosen }
+{}
+
+/// OVERLAY has each row of the one before each row of the other, and no other row.
+pub fn overlaid_rows_are_pairs()
+    ensures { OverlaidRowsArePairs }
+{}
+
+/// COVER is OVERLAY where both have rows, and where one alone has rows it has these beside NULLs.
+pub fn covered_rows_are_those()
+    ensures both { CoveredIsOverlaid }
+    ensures second_alone { CoveredOfNoneBefore }
+    ensures first_alone { CoveredOfNoneAfter }
+{}
+
+/// MERGE has the rows of either.
+pub fn merged_rows_are_of_either()
+    ensures { MergedRowsAreOfEither }
+{}
+
+/// MINUS has the rows of the first that are not rows of the second.
+pub fn rows_left_are_not_of_the_other()
+    ensures { LeftRowsAreNotOfTheOther }
+{}
+
+/// WINDOW has the same rows inside and none outside.
+pub fn windowed_rows_are_inside()
+    ensures { WindowedRowsAreInside }
+{}

@@ -1,0 +1,10 @@
+mod InPlace
+mod Arrangement
+mod Edits
+mod Choosing
+mod LaidSpans
+mod SweptPairs
+mod TakenLaws
+mod PartLaws
+mod CutLaws
+mod TestLaws

@@ -1,0 +1,35 @@
+-- What is said of lists of spans beside their meaning: order, width, kind, and how many pairs of them share a thousandth.
+use Rattle.std.specs.Prelude.{◌≡◌, ℕ, ◌+◌, ◌≤◌, min, max, Bool, nat_lt, List, [], ◌∷◌, length, sum_by, count_by}
+use Rattle.std.specs.List.{AllByRecursion}
+use Rattle.rs_value.specs.declared.column.Kind.{Kind}
+use Rattle.rs_value.specs.declared.column.Kind.TheVariants.{Point, Line}
+use Rattle.rs_value.specs.declared.column.TheConstants.{COLUMNS}
+use Rattle.rs_facts.specs.Runs.{Stretch}
+
+-- none begins before an earlier one
+abbrev pub AreSorted : List Stretch → Type 0
+AreSorted [] = Unit {0}
+AreSorted (span ∷ spans) = AllByRecursion (λ later. span.lo ≤ later.lo) spans × AreSorted spans
+
+-- each row has so many values
+abbrev pub AreWide : ℕ → List Stretch → Type 0
+AreWide width spans = AllByRecursion (λ span. length span.row ≡ width) spans
+
+-- a row of the one and a row of the other are together no wider than a row may be
+abbrev pub Fit : List Stretch → List Stretch → Type 0
+Fit left right = AllByRecursion (λ a. AllByRecursion (λ b. length a.row + length b.row ≤ COLUMNS) right) left
+
+-- lines over lines are lines, all else is points
+abbrev pub overlaid_kind : Kind → Kind → Kind
+overlaid_kind Line Line = Line
+overlaid_kind Line Point = Point
+overlaid_kind Point Line = Point
+overlaid_kind Point Point = Point
+
+-- whether two spans share a thousandth
+abbrev pub shares : Stretch → Stretch → Bool
+shares a b = nat_lt (max a.lo b.lo) (min a.hi b.hi)
+
+-- how many pairs do
+unfoldable pub pairs : List Stretch → List Stretch → ℕ
+pairs left right = sum_by (λ a. count_by (λ b. shares a b) right) left

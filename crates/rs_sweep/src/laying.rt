@@ -1,0 +1,67 @@
+//! One span laid over spans of the other list.
+
+ghost use Rattle.std.specs.Prelude.{◌≡◌, ◌≤◌, ◌+◌, ◌*◌, ◌++◌, map, length, IfOk, OnOk};
+ghost use Rattle.std.specs.List.{AllByRecursion};
+ghost use Rattle.rs_value.specs.declared.column.TheConstants.{COLUMNS};
+ghost use Rattle.rs_facts.specs.Spans.{seen};
+ghost use Rattle.rs_sweep.specs.Inner.{piece_of, laid};
+
+use crate::comparisons::Comparisons;
+use crate::rows::joined;
+use rs_facts::Span;
+use std::alloc::AllocError;
+
+/// Of which list a span is.
+#[derive(Clone, Copy)]
+pub(crate) enum Side {
+    Left,
+    Right,
+}
+
+/// Lays a span over those of the other list that begin before it ends. None of these begins before it, and they are
+/// sorted. The only refusal is for want of memory.
+pub(crate) fn lay(
+    side: Side,
+    one: &Span,
+    others: &[Span],
+    found: &mut Vec<Span>,
+    comparisons: &mut Comparisons,
+) -> Result<(), AllocError>
+    requires { AllByRecursion (λ other. length (seen one.now).row + length other.row ≤ COLUMNS)
+        (map seen others.now) }
+    ensures found { OnOk result (map seen found.new.items
+        ≡ map seen found.old.items ++ laid side (seen one.now) (map seen others.now)) }
+    ensures counted { OnOk result (comparisons.new.made
+        ≤ comparisons.old.made + 1 + 2 * length (laid side (seen one.now) (map seen others.now))) }
+{
+    for other in others {
+        if !comparisons.is_below(other.lo, one.hi) {
+            break;
+        }
+        found.push(piece(side, one, other, comparisons)?)?;
+    }
+    Ok(())
+}
+
+/// What a span has in common with one that begins within it.
+fn piece(
+    side: Side,
+    one: &Span,
+    other: &Span,
+    comparisons: &mut Comparisons,
+) -> Result<Span, AllocError>
+    requires { length (seen one.now).row + length (seen other.now).row ≤ COLUMNS }
+    ensures piece { IfOk result (λ span. seen span ≡ piece_of side (seen one.now) (seen other.now)) }
+    ensures counted { comparisons.new.made ≤ comparisons.old.made + 1 }
+{
+    let hi = comparisons.lesser(one.hi, other.hi);
+    let tuple = match side {
+        Side::Left => joined(&one.tuple, &other.tuple)?,
+        Side::Right => joined(&other.tuple, &one.tuple)?,
+    };
+    Ok(Span {
+        lo: other.lo,
+        hi,
+        tuple,
+    })
+}

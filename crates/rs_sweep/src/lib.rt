@@ -1,0 +1,29 @@
+//! The operators on lists of spans of one route, each a sweep along the route.
+//!
+//! Lists are sorted by `lo`; rows of one list may overlap. Each operator says which rows its result has at each
+//! thousandth, that it is sorted, that its spans are points or lines where those given are, and how wide its rows are.
+#![tactic(auto)]
+
+mod clipping;
+mod columns;
+mod comparisons;
+mod conditions;
+mod covering;
+mod difference;
+mod filter;
+mod laying;
+mod order;
+mod overlaying;
+mod parts;
+mod rows;
+mod taken;
+mod union;
+
+pub use clipping::window;
+pub use columns::dissolve;
+pub use conditions::meets;
+pub use covering::cover;
+pub use difference::minus;
+pub use filter::select;
+pub use overlaying::overlay;
+pub use union::merge;

@@ -1,0 +1,15 @@
+//! The order of lists of spans: by where they begin.
+
+ghost use Rattle.std.specs.Prelude.{◌≡◌, IsPermutation, map};
+ghost use Rattle.rs_facts.specs.Spans.{seen};
+ghost use Rattle.rs_sweep.specs.Lists.{AreSorted};
+
+use rs_facts::Span;
+
+/// Sorts spans by where they begin. It takes no memory.
+pub fn sort_by_place(spans: &mut Vec<Span>)
+    ensures moved { IsPermutation spans.old.items spans.new.items }
+    ensures sorted { AreSorted (map seen spans.new.items) }
+{
+    spans.sort_unstable_by(|left, right| left.lo.cmp(&right.lo));
+}
