@@ -1,6 +1,6 @@
 //! A disk for tests: one of its calls fails, and the others are another disk's.
 //!
-//! The call that fails may leave behind what the model allows: half a write, a cut that was done.
+//! The call that fails may leave after what the model allows: half a write, a cut that was done.
 
 ghost use Rattle.std.specs.Prelude.{◌≡◌, ◌==◌, ◌-◌, ◌*◌, false, length, IsTrue, IsErr, OnOk};
 ghost use Rattle.rs_disk.specs.Calls.{no_calls};

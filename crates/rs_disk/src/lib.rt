@@ -8,6 +8,7 @@ mod calls;
 pub mod disk;
 pub mod failing;
 pub mod file;
+pub mod limits;
 pub mod memory;
 
 pub use disk::{Disk, DiskFault, PAGE_SIZE};

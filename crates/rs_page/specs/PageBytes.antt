@@ -27,3 +27,8 @@ pub record IsBlank (page : List ℕ) (kind : PageKind) (number next : ℕ) : Typ
   pub header : IsHeader page (empty_header kind number next)
   pub zeros : (place : ℕ) → HEADER_SIZE ≤ place → number_at place 1 page ≡ 0
   pub size : length page ≡ PAGE_SIZE
+
+-- a page of a free list, in a file of so many pages: nothing but a header that fits this number and says the next free page
+pub record IsFreeLink (page : List ℕ) (number next pages : ℕ) : Type 0 where
+  pub blank : IsBlank page Free number next
+  pub fits : Fits (empty_header Free number next) number pages

@@ -3,7 +3,7 @@
 //! A number has one, two or four bytes, all of them in the page. One that is put at a place is read there again,
 //! and the bytes before and after it stay.
 
-ghost use Rattle.std.specs.Prelude.{◌≡◌, ℕ, ◌+◌, ◌<◌, ◌≤◌, length, slice_index};
+ghost use Rattle.std.specs.Prelude.{◌≡◌, ℕ, ◌+◌, ◌<◌, ◌≤◌, length, slice_index, EachIndex, IsTrue, ◌↔◌};
 ghost use Rattle.rs_page.specs.Number.{number_at};
 
 use byteorder::{BigEndian, ByteOrder};
@@ -33,6 +33,20 @@ pub fn number_of_four(page: &[u8], at: usize) -> u32
     ensures { result ≡ number_at at 4 page.now }
 {
     BigEndian::read_u32(&page[at..at + 4])
+}
+
+/// Whether there are zeros from a place on.
+pub fn are_zeros_from(page: &[u8], at: usize) -> bool
+    requires { at ≤ length page.now }
+    ensures { IsTrue result ↔ ((k : ℕ) → at ≤ k → number_at k 1 page.now ≡ 0) }
+{
+    are_zeros(&page[at..])
+}
+
+fn are_zeros(bytes: &[u8]) -> bool
+    ensures { IsTrue result ↔ EachIndex bytes.now (λ k. slice_index bytes.now k ≡ 0) }
+{
+    bytes.iter().all(|byte| *byte == 0)
 }
 
 /// Puts a byte at a place. The other bytes stay.

@@ -2,14 +2,14 @@
 //!
 //! The page is the pager's own. The layers above set the catalogue's place in it, and nothing else.
 
-ghost use Rattle.std.specs.Prelude.{◌≡◌, ◌+◌, ◌≤◌, ℕ, length, IfSome, IfNone, IsTrue, ◌↔◌, EachIndex, slice_index};
+ghost use Rattle.std.specs.Prelude.{◌≡◌, ◌+◌, ◌≤◌, ℕ, length, IfSome, IfNone, IsTrue, ◌↔◌};
 ghost use Rattle.rs_page.specs.declared.file_header.FileHeader.{FileHeader};
 ghost use Rattle.rs_page.specs.declared.header.PageKind.TheVariants.{Header};
 ghost use Rattle.rs_page.specs.Number.{number_at};
 ghost use Rattle.rs_page.specs.Header.{IsHeader};
 ghost use Rattle.rs_page.specs.FileHeader.{IsFileHeader, HasMarks, EndsInZeros};
 
-use crate::bytes::{number_of_four, number_of_one, number_of_two, put_four};
+use crate::bytes::{are_zeros_from, number_of_four, number_of_one, number_of_two, put_four};
 use crate::header::{PageHeader, PageKind};
 use crate::number::PageNumber;
 use crate::page::Page;
@@ -153,11 +153,5 @@ fn ends_in_zeros(page: &[u8]) -> bool
     requires { length page.now ≡ PAGE_SIZE }
     ensures { IsTrue result ↔ EndsInZeros page.now }
 {
-    are_zeros(&page[FIELDS_END..])
-}
-
-fn are_zeros(bytes: &[u8]) -> bool
-    ensures { IsTrue result ↔ EachIndex bytes.now (λ k. slice_index bytes.now k ≡ 0) }
-{
-    bytes.iter().all(|byte| *byte == 0)
+    are_zeros_from(page, FIELDS_END)
 }

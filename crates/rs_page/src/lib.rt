@@ -7,6 +7,7 @@ pub mod bytes;
 pub mod file_header;
 pub mod header;
 pub mod laws;
+pub mod limits;
 pub mod number;
 pub mod page;
 

@@ -6,10 +6,10 @@
 ghost use Rattle.std.specs.Prelude.{◌≡◌, ◌≤◌, ℕ, IfSome, IfNone, IsTrue, ◌↔◌, length};
 ghost use Rattle.rs_page.specs.Number.{number_at};
 ghost use Rattle.rs_page.specs.Header.{IsHeader};
-ghost use Rattle.rs_page.specs.PageBytes.{IsBlank, IsFit, is_free};
+ghost use Rattle.rs_page.specs.PageBytes.{IsBlank, IsFit, IsFreeLink, is_free};
 ghost use Rattle.rs_page.specs.declared.header.PageHeader.{PageHeader};
 
-use crate::bytes::number_of_one;
+use crate::bytes::{are_zeros_from, number_of_one};
 use crate::header::{HEADER_SIZE, PageHeader, PageKind};
 use crate::number::PageNumber;
 use rs_disk::PAGE_SIZE;
@@ -78,6 +78,21 @@ impl Page {
         match self.header() {
             Some(header) => header.fits(number, pages),
             None => false,
+        }
+    }
+
+    /// The page that follows this free one in the free list; none where this is no page of one, with this number in a
+    /// file of so many pages: its header is another or doesn't fit, or other bytes than zeros follow.
+    pub fn free_link(&self, number: PageNumber, pages: u32) -> Option<PageNumber>
+        ensures found { IfSome result (λ next. IsFreeLink self.now.bytes number next pages) }
+        ensures none { IfNone result ((next : ℕ) → IsFreeLink self.now.bytes number next pages → ⊥) }
+    {
+        match self.header() {
+            Some(header)
+                if header.kind == PageKind::Free
+                    && header.fits(number, pages)
+                    && are_zeros_from(&self.bytes, HEADER_SIZE) => { Some(header.next) }
+            _ => None,
         }
     }
 }

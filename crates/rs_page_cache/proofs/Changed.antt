@@ -1,15 +1,19 @@
 -- The changed pages: what is held after one was written, and after the copies were committed or dropped.
-use Rattle.std.proofs.Common.{◌≡◌, ◌≢◌, ◌<◌, inl, inr, ℕ, Bool, true, false, Option, Some, None, IsSome, is_none, List, [], ◌∷◌, ◌++◌, length, slice_index, refl, sym, ap, ◌∙◌, subst, arith}
+use Rattle.std.proofs.Common.{◌≡◌, ◌≢◌, ◌<◌, inl, inr, ℕ, true, false, Option, Some, None, IsSome, List, [], ◌∷◌, ◌++◌, length, slice_index, Contains, refl, sym, ap, ◌∙◌, subst, arith}
 use Rattle.std.specs.Option.{unwrap_or}
-use Rattle.std.specs.Map.{lookup}
+use Rattle.std.specs.Map.{lookup, keys_of}
+use Rattle.std.specs.List.Sorted.{IsStrictlySortedBy}
 use Rattle.std.specs.BTreeMap.{is_at}
-use Rattle.std.specs.Ordering.{nat_cmp}
+use Rattle.std.specs.Ordering.{nat_cmp, eq_by_cmp}
 use Rattle.std.specs.Cmp.{Equal-is}
 use Rattle.std.proofs.lemmas.Bool.{cases_eq}
 use Rattle.std.proofs.lemmas.Grind.{common_steps}
 use Rattle.std.proofs.lemmas.Map.Lookups.{exact_unsigned}
-use Rattle.rs_pages.specs.Held.{HeldPage, nothing_held, page_or}
-use Rattle.rs_page_cache.specs.Changes.{Changes, held_at, committed_held, abandoned_held, HasCopied}
+use Rattle.std.proofs.lemmas.Map.Views.{Contains-from_lookup, lookup-from_Contains}
+use Rattle.std.proofs.lemmas.Map.Keys.{IsDistinct-from_sorted}
+use Rattle.std.proofs.lemmas.Cmp.{eq_by_cmp_equiv, nat_cmp_total}
+use Rattle.rs_pages.specs.Held.{HeldPage, nothing_held, page_or, held_change}
+use Rattle.rs_page_cache.specs.Changes.{Changes, held_at, committed_held, abandoned_held, HasCopied, HoldsEach, ListsHeld}
 
 -- another number is found at another place
 pub apart : (a b : ℕ) → b ≢ a → is_at (nat_cmp a) b ≡ false
@@ -17,6 +21,10 @@ apart a b ne = elim (is_at (nat_cmp a) b) as (λ t. is_at (nat_cmp a) b ≡ t �
   | true ↦ λ e. absurd (ne (sym (exact_unsigned a b ((Equal-is (nat_cmp a b)).0 e))))
   | false ↦ λ e. e
 ] refl
+
+-- what is found by a number has it
+same_number : (a b : ℕ) → eq_by_cmp nat_cmp a b ≡ true → a ≡ b
+same_number a b is = exact_unsigned a b ((Equal-is (nat_cmp a b)).0 is)
 
 -- what is held where the entry is the same
 pub held-same : (old new : Changes) (n : ℕ) → lookup (is_at (nat_cmp n)) new ≡ lookup (is_at (nat_cmp n)) old → held_at new n ≡ held_at old n
@@ -101,6 +109,16 @@ lists_more old new copied number lists others = record {
   ];
 }
 
+-- a listed number stays listed where its copy was there before
+pub lists_same : (old new : Changes) (copied : List ℕ) (number : ℕ) → HasCopied old copied → IsSome (held_at old number).copy
+    → ((other : ℕ) → other ≢ number → held_at new other ≡ held_at old other) → HasCopied new copied
+lists_same old new copied number lists there others = record {
+  among = λ n some. elim (cases_eq n number) [
+    | inl same ↦ lists.among n (subst (λ i. IsSome (held_at old i).copy) (sym same) there)
+    | inr ne ↦ lists.among n (subst (λ (h : HeldPage). IsSome h.copy) (others n ne) some)
+  ];
+}
+
 -- one page more was committed
 module _ (first old new : Changes) (x : ℕ) (there : held_at new x ≡ committed_held (held_at old x))
     (others : (m : ℕ) → m ≢ x → held_at new m ≡ held_at old m) where
@@ -137,11 +155,48 @@ module _ (first old new : Changes) (x : ℕ) (there : held_at new x ≡ abandone
     | inr ne ↦ ap abandoned_held (others n ne) ∙ abandons n
   ]
 
--- nothing is held where the copy goes and there is no committed page
-gone_parts : (committed : Option (List ℕ)) → is_none committed ≡ true → ◌≡◌ {A = HeldPage} (record { committed = committed; copy = None }) nothing_held
-gone_parts None none = refl
-gone_parts (Some page) none = cc
+-- something is held in each entry after one was put in place, or taken out
+pub holds_put : (old new : Changes) (n : ℕ) (v : HeldPage) → lookup (is_at (nat_cmp n)) new ≡ Some v
+    → ((m : ℕ) → is_at (nat_cmp n) m ≡ false → lookup (is_at (nat_cmp m)) new ≡ lookup (is_at (nat_cmp m)) old)
+    → IsSome (held_change v) → HoldsEach old → HoldsEach new
+holds_put old new n v there others some holds = record {
+  some = λ m h found. elim (cases_eq m n) [
+    | inl same ↦
+        let at : lookup (is_at (nat_cmp n)) new ≡ Some h = subst (λ i. lookup (is_at (nat_cmp i)) new ≡ Some h) same found in
+        let both : Some v ≡ Some h = sym there ∙ at in
+        let is : v ≡ h = cc in
+        subst (λ x. IsSome (held_change x)) is some
+    | inr ne ↦ holds.some m h (sym (others m (apart n m ne)) ∙ found)
+  ];
+}
 
-pub nothing_left : (old new : Changes) (n : ℕ) (none : Bool) → held_at new n ≡ abandoned_held (held_at old n) → none ≡ is_none (held_at old n).committed → none ≡ true
-    → held_at new n ≡ nothing_held
-nothing_left old new n none there is so = there ∙ gone_parts (held_at old n).committed (sym is ∙ so)
+pub holds_removed : (old new : Changes) (n : ℕ) → lookup (is_at (nat_cmp n)) new ≡ None
+    → ((m : ℕ) → is_at (nat_cmp n) m ≡ false → lookup (is_at (nat_cmp m)) new ≡ lookup (is_at (nat_cmp m)) old)
+    → HoldsEach old → HoldsEach new
+holds_removed old new n gone others holds = record {
+  some = λ m h found. elim (cases_eq m n) [
+    | inl same ↦
+        let at : lookup (is_at (nat_cmp n)) new ≡ Some h = subst (λ i. lookup (is_at (nat_cmp i)) new ≡ Some h) same found in
+        let wrong : None ≡ Some h = sym gone ∙ at in
+        cc
+    | inr ne ↦ holds.some m h (sym (others m (apart n m ne)) ∙ found)
+  ];
+}
+
+-- a page that is held has an entry
+entry_of : (changes : Changes) (n : ℕ) (found : Option HeldPage) → lookup (is_at (nat_cmp n)) changes ≡ found → IsSome (held_change (held_at changes n))
+    → Contains changes (n, held_at changes n)
+entry_of changes n None is some = absurd (none_some (held_change (held_at changes n)) (ap held_change (held-none changes n is)) some)
+entry_of changes n (Some held) is some =
+    subst (λ h. Contains changes (n, h)) (sym (held-found changes n held is)) (Contains-from_lookup {eq = eq_by_cmp nat_cmp} same_number n held changes is)
+
+-- the entries are the pages that are held
+pub lists_held : (changes : Changes) → IsStrictlySortedBy nat_cmp (keys_of changes) → HoldsEach changes → ListsHeld changes
+lists_held changes ordered holds =
+    let at = λ (n : ℕ) (h : HeldPage) (there : Contains changes (n, h)). lookup-from_Contains (eq_by_cmp_equiv nat_cmp_total) n h changes (IsDistinct-from_sorted nat_cmp (keys_of changes) ordered) there in
+    record {
+      once = ordered;
+      each = λ n h there. sym (held-found changes n h (at n h there));
+      some = λ n h there. holds.some n h (at n h there);
+      all = λ n some. entry_of changes n (lookup (is_at (nat_cmp n)) changes) refl some;
+    }

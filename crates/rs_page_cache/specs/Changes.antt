@@ -1,7 +1,8 @@
 -- The pages that are held as changes.
-use Rattle.std.specs.Prelude.{◌≡◌, ◌≢◌, ◌<◌, ℕ, Option, None, IsSome, List, length, slice_index}
+use Rattle.std.specs.Prelude.{◌≡◌, ◌≢◌, ◌<◌, ℕ, Option, Some, None, IsSome, List, length, slice_index, Contains}
+use Rattle.std.specs.List.Sorted.{IsStrictlySortedBy}
 use Rattle.std.specs.Option.{option_map, unwrap_or}
-use Rattle.std.specs.Map.{lookup}
+use Rattle.std.specs.Map.{lookup, keys_of}
 use Rattle.std.specs.BTreeMap.{is_at}
 use Rattle.std.specs.Ordering.{nat_cmp}
 use Rattle.std.specs.declared.alloc.Global.{Global}
@@ -34,6 +35,17 @@ abandoned_held held = record held { copy = None }
 -- each number with a working copy is among these
 pub record HasCopied (changes : Changes) (copied : List ℕ) : Type 0 where
   pub among : (number : ℕ) → IsSome (held_at changes number).copy → (k : ℕ) × (k < length copied) × (slice_index copied k ≡ number)
+
+-- each entry holds something
+pub record HoldsEach (changes : Changes) : Type 0 where
+  pub some : (number : ℕ) (held : HeldPage) → lookup (is_at (nat_cmp number)) changes ≡ Some held → IsSome (held_change held)
+
+-- the entries are the pages that are held as changes: each is there once, with what is held of it, and something is
+pub record ListsHeld (changes : Changes) : Type 0 where
+  pub once : IsStrictlySortedBy nat_cmp (keys_of changes)
+  pub each : (number : ℕ) (held : HeldPage) → Contains changes (number, held) → held ≡ held_at changes number
+  pub some : (number : ℕ) (held : HeldPage) → Contains changes (number, held) → IsSome (held_change held)
+  pub all : (number : ℕ) → IsSome (held_change (held_at changes number)) → Contains changes (number, held_at changes number)
 
 -- a page with a header of this kind and zeros after it is the working copy now, and all else stays
 pub record PutsBlank (kind : PageKind) (number next : ℕ) (old new : Changes) : Type 0 where

@@ -3,10 +3,10 @@
 //! The numbers of the working copies are listed apart, so that a commit or an abandonment visits these alone. Room in
 //! that list is made before each copy, so neither of the two takes memory.
 
-ghost use Rattle.std.specs.Prelude.{◌≡◌, ◌≢◌, ◌≤◌, ◌<◌, ◌^◌, ℕ, Some, None, [], length, is_some, OnOk, OnErr, IsTrue, IsOkUnless, slice_index};
+ghost use Rattle.std.specs.Prelude.{◌≡◌, ◌≢◌, ◌≤◌, ◌<◌, ◌^◌, ℕ, Some, None, [], length, is_some, IsSome, OnOk, OnErr, IsOkUnless, slice_index};
 ghost use Rattle.std.specs.Option.{option_map};
 ghost use Rattle.rs_pages.specs.Held.{HeldPage, nothing_held, held_change, with_copy};
-ghost use Rattle.rs_page_cache.specs.Changes.{held_at, committed_held, abandoned_held, PutsBlank};
+ghost use Rattle.rs_page_cache.specs.Changes.{held_at, committed_held, abandoned_held, HasCopied, HoldsEach, ListsHeld, PutsBlank};
 
 use crate::slot::Slot;
 use rs_measure::Refusal;
@@ -24,13 +24,13 @@ pub struct Changes {
 }
 
 impl Model for Changes {
-    ghost use Rattle.rs_page_cache.specs.Changes.{Changes, HasCopied};
+    ghost use Rattle.rs_page_cache.specs.Changes.{Changes, HasCopied, HoldsEach};
 
     ghost Value = { Changes };
 
     ghost view = { λ c. c.slots.entries };
 
-    ghost invariant = { λ c. HasCopied c.slots.entries c.copied.items };
+    ghost invariant = { λ c. HasCopied c.slots.entries c.copied.items × HoldsEach c.slots.entries };
 }
 
 impl Changes {
@@ -50,6 +50,14 @@ impl Changes {
     /// How many pages are changed.
     pub fn len(&self) -> usize
         ensures { result ≡ length self.now }
+    {
+        self.slots.len()
+    }
+
+    /// How many pages are held as changes: each entry is one of them, and each of them has one entry.
+    pub fn held(&self) -> usize
+        ensures count { result ≡ length self.now }
+        ensures pages { ListsHeld self.now }
     {
         self.slots.len()
     }
@@ -101,16 +109,27 @@ impl Changes {
         ensures others { OnOk result ((other : ℕ) → other ≢ number → held_at self.new other ≡ held_at self.old other) }
         ensures refused { OnErr result (self.new ≡ self.old) }
     {
+        if self.has_copy(number) {
+            put_slot(&mut self.slots, number.number(), page)
+        } else {
+            self.add_copy(number, page)
+        }
+    }
+
+    /// Puts a working copy in place of a page that has none, with room for its number first. After a refusal nothing has
+    /// changed.
+    fn add_copy(&mut self, number: PageNumber, page: Box<Page>) -> Result<(), AllocError>
+        ensures there { OnOk result (held_at self.new number ≡ with_copy page.value.bytes (held_at self.old number)) }
+        ensures others { OnOk result ((other : ℕ) → other ≢ number → held_at self.new other ≡ held_at self.old other) }
+        ensures refused { OnErr result (self.new ≡ self.old) }
+    {
         self.copied.push(number.number())?;
-        match self.slots.get_mut(&number.number()) {
-            Some(slot) => {
-                slot.put_copy(page);
-                Ok(())
+        match put_slot(&mut self.slots, number.number(), page) {
+            Ok(()) => Ok(()),
+            Err(error) => {
+                let _ = self.copied.pop();
+                Err(error)
             }
-            None => match self.slots.insert(number.number(), Slot::copied(page)) {
-                Ok(_) => Ok(()),
-                Err(_) => Err(AllocError),
-            },
         }
     }
 
@@ -138,18 +157,6 @@ impl Changes {
         *self.copied.allocator()
     }
 
-    /// Puts a committed page in place that the disk lacks. After a refusal nothing has changed.
-    pub fn put_committed(&mut self, number: PageNumber, page: Box<Page>) -> Result<(), AllocError>
-        requires { self.old ≡ [] }
-        ensures there { OnOk result (held_at self.new number ≡ record { committed = Some page.value.bytes; copy = None }) }
-        ensures others { OnOk result ((other : ℕ) → other ≢ number → held_at self.new other ≡ nothing_held) }
-    {
-        match self.slots.insert(number.number(), Slot::changed(page)) {
-            Ok(_) => Ok(()),
-            Err(_) => Err(AllocError),
-        }
-    }
-
     /// Each working copy becomes the committed page.
     pub fn commit(&mut self)
         ensures { (number : ℕ) → held_at self.new number ≡ committed_held (held_at self.old number) }
@@ -175,6 +182,27 @@ impl Changes {
     }
 }
 
+/// Puts a working copy of the page with this number in place. After a refusal nothing has changed.
+fn put_slot(slots: &mut BTreeMap<u32, Slot>, number: u32, page: Box<Page>) -> Result<(), AllocError>
+    ensures there { OnOk result (held_at slots.new.entries number
+        ≡ with_copy page.value.bytes (held_at slots.old.entries number)) }
+    ensures others { OnOk result ((other : ℕ) → other ≢ number
+        → held_at slots.new.entries other ≡ held_at slots.old.entries other) }
+    ensures some { HoldsEach slots.old.entries → HoldsEach slots.new.entries }
+    ensures refused { OnErr result (slots.new.entries ≡ slots.old.entries) }
+{
+    match slots.get_mut(&number) {
+        Some(slot) => {
+            slot.put_copy(page);
+            Ok(())
+        }
+        None => match slots.insert(number, Slot::copied(page)) {
+            Ok(_) => Ok(()),
+            Err(_) => Err(AllocError),
+        },
+    }
+}
+
 /// Commits the pages with these numbers.
 fn commit_all(slots: &mut BTreeMap<u32, Slot>, copied: &[u32])
     ensures commits { (number : ℕ) → committed_held (held_at slots.new.entries number)
@@ -183,6 +211,7 @@ fn commit_all(slots: &mut BTreeMap<u32, Slot>, copied: &[u32])
         → (held_at slots.new.entries (slice_index copied.now k)).copy ≡ None }
     ensures others { (number : ℕ) → (held_at slots.old.entries number).copy ≡ None
         → (held_at slots.new.entries number).copy ≡ None }
+    ensures some { HoldsEach slots.old.entries → HoldsEach slots.new.entries }
 {
     for number in copied {
         commit_one(slots, *number);
@@ -194,6 +223,7 @@ fn commit_one(slots: &mut BTreeMap<u32, Slot>, number: u32)
     ensures there { held_at slots.new.entries number ≡ committed_held (held_at slots.old.entries number) }
     ensures others { (other : ℕ) → other ≢ number
         → held_at slots.new.entries other ≡ held_at slots.old.entries other }
+    ensures some { HoldsEach slots.old.entries → HoldsEach slots.new.entries }
 {
     if let Some(slot) = slots.get_mut(&number) {
         slot.commit();
@@ -208,6 +238,7 @@ fn abandon_all(slots: &mut BTreeMap<u32, Slot>, copied: &[u32])
         → (held_at slots.new.entries (slice_index copied.now k)).copy ≡ None }
     ensures others { (number : ℕ) → (held_at slots.old.entries number).copy ≡ None
         → (held_at slots.new.entries number).copy ≡ None }
+    ensures some { HoldsEach slots.old.entries → HoldsEach slots.new.entries }
 {
     for number in copied {
         abandon_one(slots, *number);
@@ -219,21 +250,34 @@ fn abandon_one(slots: &mut BTreeMap<u32, Slot>, number: u32)
     ensures there { held_at slots.new.entries number ≡ abandoned_held (held_at slots.old.entries number) }
     ensures others { (other : ℕ) → other ≢ number
         → held_at slots.new.entries other ≡ held_at slots.old.entries other }
+    ensures some { HoldsEach slots.old.entries → HoldsEach slots.new.entries }
 {
-    if drop_copy(slots, number) {
+    if is_committed(slots, number) {
+        drop_copy(slots, number);
+    } else {
         slots.remove(&number);
     }
 }
 
-/// Drops the working copy of a page, and answers whether nothing is held of it then.
-fn drop_copy(slots: &mut BTreeMap<u32, Slot>, number: u32) -> bool
+/// Whether the committed page with this number is held.
+fn is_committed(slots: &BTreeMap<u32, Slot>, number: u32) -> bool
+    ensures { result ≡ is_some (held_at slots.now.entries number).committed }
+{
+    match slots.get(&number) {
+        Some(slot) => slot.committed().is_some(),
+        None => false,
+    }
+}
+
+/// Drops the working copy of a page whose committed page is held.
+fn drop_copy(slots: &mut BTreeMap<u32, Slot>, number: u32)
+    requires { IsSome (held_at slots.old.entries number).committed }
     ensures there { held_at slots.new.entries number ≡ abandoned_held (held_at slots.old.entries number) }
     ensures others { (other : ℕ) → other ≢ number
         → held_at slots.new.entries other ≡ held_at slots.old.entries other }
-    ensures nothing { IsTrue result → held_at slots.new.entries number ≡ nothing_held }
+    ensures some { HoldsEach slots.old.entries → HoldsEach slots.new.entries }
 {
-    match slots.get_mut(&number) {
-        Some(slot) => slot.abandon(),
-        None => false,
+    if let Some(slot) = slots.get_mut(&number) {
+        slot.abandon();
     }
 }

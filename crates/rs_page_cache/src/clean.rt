@@ -6,6 +6,7 @@
 ghost use Rattle.std.specs.Prelude.{◌≡◌, ◌≤◌, ◌⊎◌, ℕ, Some, None, [], length, is_some, IfOk, OnOk, OnErr, IsTrue, IsSome, Err, IsOkUnless, Contains};
 ghost use Rattle.std.specs.Option.{option_map};
 ghost use Rattle.rs_disk.specs.Counts.{Counts};
+ghost use Rattle.rs_pages.specs.declared.pages.TheConstants.{GREATEST_LIMIT};
 ghost use Rattle.rs_page_cache.specs.Stored.{disk_page};
 ghost use Rattle.rs_page_cache.specs.Clean.{clean_at, has_number, kept_pages, Loads};
 
@@ -84,7 +85,7 @@ impl CleanPages {
 
     /// Holds the page with this number, and reads it where it isn't held.
     pub fn load<D: Disk>(&mut self, disk: &mut D, number: PageNumber) -> Result<(), Refusal>
-        requires { number ≤ 1048576 }
+        requires { number ≤ GREATEST_LIMIT }
         ensures loaded { OnOk result (IsSome (clean_at self.new number)) }
         ensures loads { IsTrue (D.is_honest disk.old)
             → Loads number (λ page. page ≡ disk_page (D.seen disk.old) number) self.old self.new }

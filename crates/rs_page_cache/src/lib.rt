@@ -6,6 +6,7 @@
 
 pub mod changes;
 pub mod clean;
+pub mod limits;
 pub mod slot;
 
 pub use changes::Changes;

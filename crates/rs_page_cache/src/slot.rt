@@ -2,7 +2,7 @@
 //!
 //! Both are side by side, so that a commit moves one into the other's place and takes no memory.
 
-ghost use Rattle.std.specs.Prelude.{◌≡◌, Some, None, is_some, is_none};
+ghost use Rattle.std.specs.Prelude.{◌≡◌, Some, None, is_some};
 ghost use Rattle.std.specs.Option.{option_map};
 ghost use Rattle.rs_pages.specs.Held.{held_change, with_copy};
 ghost use Rattle.rs_page_cache.specs.Changes.{committed_held, abandoned_held};
@@ -39,16 +39,6 @@ impl Slot {
         Slot {
             committed: None,
             copy: Some(page),
-        }
-    }
-
-    /// A committed page that the disk lacks.
-    pub fn changed(page: Box<Page>) -> Slot
-        ensures { result ≡ record { committed = Some page.value.bytes; copy = None } }
-    {
-        Slot {
-            committed: Some(page),
-            copy: None,
         }
     }
 
@@ -106,12 +96,10 @@ impl Slot {
         }
     }
 
-    /// The copy goes. Answers whether nothing is held then.
-    pub fn abandon(&mut self) -> bool
-        ensures held { self.new ≡ abandoned_held self.old }
-        ensures nothing { result ≡ is_none self.old.committed }
+    /// The copy goes.
+    pub fn abandon(&mut self)
+        ensures { self.new ≡ abandoned_held self.old }
     {
         self.copy = None;
-        self.committed.is_none()
     }
 }

@@ -1,254 +1,286 @@
 -- What a flush makes of a pager and its disk.
-use Rattle.std.proofs.Common.{IsTrue, ◌≡◌, ◌<◌, ◌≤◌, ◌+◌, ◌-◌, ◌*◌, ℕ, zero, suc, max, Option, Some, None, List, [], ◌∷◌, map, length, ap, sym, ◌∙◌, subst, true, false, Bool, refl, arith}
-use Rattle.std.specs.Prelude.{if◌then◌else◌}
+use Rattle.std.proofs.Common.{IsTrue, ◌≡◌, ◌<◌, ◌≤◌, ◌+◌, ◌-◌, ◌*◌, ℕ, Option, Some, None, List, [], ◌∷◌, Contains, ap, sym, ◌∙◌, subst, true, false, Bool, nat_lt, refl, arith, rules, tests}
+use Rattle.std.specs.Prelude.{if◌then◌else◌, ◌&&◌}
 use Rattle.rs_disk.specs.Content.{Content}
+use Rattle.rs_disk.specs.declared.disk.Disk as disk
 use Rattle.rs_disk.specs.declared.disk.TheConstants.{PAGE_SIZE}
-use Rattle.rs_pager.specs.HeldPage.{HeldPage}
-use Rattle.rs_pager.specs.Slot.{working_of, changed_of, clean_slot, copy_or}
-use Rattle.rs_pager.specs.Paged.{Paged, slot_at, HaveNoCopies, IsSound}
-use Rattle.rs_pager.specs.Pages.{SamePages}
-use Rattle.rs_pager.specs.Stores.{HasBytes, HasFileHeader, Stores}
-use Rattle.rs_pager.specs.Writing.{KeepsPage, KeepsFlag, WritesOut, HasAll}
-use Rattle.rs_pager.specs.Maps.{byte_of, committed_byte, working_byte, committed, working, KeepsChanges, HoldsNoChange, IsClean, IsTied}
-use Rattle.rs_pager.specs.declared.file_header.FileHeader.{FileHeader}
-use Rattle.rs_pager.proofs.Slots.{slot_at-clean, HaveNoCopies-slot_at}
-use Rattle.rs_pager.proofs.Maps.{same_bytes}
-use Rattle.rs_pager.proofs.Writing.{HasBytes-kept}
+use Rattle.rs_page.specs.FileHeader.{IsFileHeader}
+use Rattle.rs_page.specs.declared.file_header.FileHeader.{FileHeader}
+use Rattle.rs_pages.specs.Held.{HeldPage, page_or, held_change}
+use Rattle.rs_pages.specs.PageMap.{SamePages, is_page}
+use Rattle.rs_pages.specs.declared.pages.TheConstants.{GREATEST_LIMIT}
+use Rattle.rs_page_cache.specs.Changes.{Changes, held_at}
+use Rattle.rs_page_cache.specs.Clean.{Clean, AreClean, AreAfterHeader}
+use Rattle.rs_page_cache.specs.Stored.{disk_page}
+use Rattle.rs_pager.specs.Paged.{Paged, IsSound, held}
+use Rattle.rs_pager.specs.Writing.{AreBelow, WritesOut, HasAll}
+use Rattle.rs_pager.specs.Maps.{page_or_stored, committed, working, KeepsChanges, KeepsMaps, KeepsDiskMasked, HoldsNoChange, IsTied}
+use Rattle.rs_pager.specs.Opened.{WritesAll, WritesAtMost}
 
--- the disk has all that is committed
+-- the clean pages are dropped and the disk is another
+abbrev pub faulted_pager : {D : Type 0} → D → Paged D → Paged D
+faulted_pager disk p = record p { disk = disk; clean = [] }
+
+-- and the disk has all that is committed
 abbrev pub written_pager : {D : Type 0} → D → Paged D → Paged D
-written_pager disk p = record p {
-  disk = disk;
-  slots = map clean_slot p.slots;
-  is_header_changed = false;
+written_pager disk p = record p { disk = disk; changes = []; clean = []; is_header_changed = false }
+
+-- no page is among none
+no_clean : (clean : Clean) (n : ℕ) (page : List ℕ) → clean ≡ [] → Contains clean (n, page) → ⊥
+no_clean [] n page e (k, lt, is) = absurd (omega arith)
+no_clean (one ∷ rest) n page e there = cc
+
+pub none-clean : (content : Content) → AreClean content []
+none-clean content = record { each = λ n page there. absurd (no_clean [] n page refl there) }
+
+pub none-after_header : AreAfterHeader []
+none-after_header = record { each = λ n page there. absurd (no_clean [] n page refl there) }
+
+-- a page that is not held stays where the disk keeps it
+pub stored-kept : (pages n : ℕ) (change : Option (List ℕ)) (new old : Content) → (0 < n → change ≡ None → disk_page new n ≡ disk_page old n)
+    → page_or_stored pages change new n ≡ page_or_stored pages change old n
+stored-kept pages n (Some page) new old same = refl
+stored-kept pages n None new old same = elim (nat_lt 0 n) as (λ t. nat_lt 0 n ≡ t →
+    (if t && nat_lt n pages then Some (disk_page new n) else None) ≡ (if t && nat_lt n pages then Some (disk_page old n) else None)) [
+      | true ↦ λ e. let pos : 0 < n = search (rules, tests) in ap (λ (p : List ℕ). if nat_lt n pages then Some p else None) (same pos refl)
+      | false ↦ λ e. refl
+    ] refl
+
+-- and so does one that is written
+pub stored-written : (pages n : ℕ) (change : Option (List ℕ)) (new old : Content) → (0 < n → change ≡ None → disk_page new n ≡ disk_page old n)
+    → ((page : List ℕ) → change ≡ Some page → disk_page new n ≡ page) → page_or_stored pages None new n ≡ page_or_stored pages change old n
+stored-written pages n None new old same has = stored-kept pages n None new old same
+stored-written pages n (Some page) new old same has = ap (λ (p : List ℕ). if is_page pages n then Some p else None) (has page refl)
+
+page_or-none : (copy committed_fields : Option (List ℕ)) → page_or copy committed_fields ≡ None → committed_fields ≡ None
+page_or-none (Some page) committed_fields e = cc
+page_or-none None committed_fields e = e
+
+page_or-no_copy : (copy committed_fields : Option (List ℕ)) → copy ≡ None → page_or copy committed_fields ≡ committed_fields
+page_or-no_copy copy committed_fields none = ap (λ (o : Option (List ℕ)). page_or o committed_fields) none
+
+-- the changed pages of a sound pager are pages of the file, and none is page 0
+pub sound-below : (limit : ℕ) (changes : Changes) (committed_fields working : FileHeader) (begun : Bool) → IsSound limit changes committed_fields working begun → AreBelow changes committed_fields.pages
+sound-below limit changes committed_fields working begun sound = record { each = λ n page is. (sound.committed_inside n page is).1 }
+
+pub sound-limited : (limit : ℕ) (changes : Changes) (committed_fields working : FileHeader) (begun : Bool) → IsSound limit changes committed_fields working begun → AreBelow changes GREATEST_LIMIT
+sound-limited limit changes committed_fields working begun sound = record {
+  each = λ n page is. let lt : n < committed_fields.pages = (sound.committed_inside n page is).1 in omega (arith, sound.kept_room, sound.within, sound.limited);
 }
 
--- the disk alone is another
-abbrev pub disk_pager : {D : Type 0} → D → Paged D → Paged D
-disk_pager disk p = record p { disk = disk }
+-- the committed pages are within the limit
+pub sound-within : (limit : ℕ) (changes : Changes) (committed_fields working : FileHeader) (begun : Bool) → IsSound limit changes committed_fields working begun → committed_fields.pages ≤ limit
+sound-within limit changes committed_fields working begun sound = omega (arith, sound.kept_room, sound.within)
 
-unchanged_none : (kept : Option (List ℕ)) (b : Bool) → kept ≡ None → (if b then kept else None) ≡ None
-unchanged_none kept true e = e
-unchanged_none kept false e = refl
-
-unchanged_false : (kept : Option (List ℕ)) (b : Bool) → b ≡ false → (if b then kept else None) ≡ None
-unchanged_false kept true e = cc
-unchanged_false kept false e = refl
-
-changed_true : (kept : Option (List ℕ)) (b : Bool) → b ≡ true → (if b then kept else None) ≡ kept
-changed_true kept true e = refl
-changed_true kept false e = cc
-
--- page 0 where it is kept
-header_kept : (old new : Content) (fields : FileHeader) → KeepsPage 0 old new → HasFileHeader old fields → HasFileHeader new fields
-header_kept old new fields kept has = record {
-  page = has.page;
-  header = has.header;
-  bytes = λ k lt ne. subst (λ i. new.byte i ≡ old.byte i) (at_zero k) (kept.each k lt) ∙ has.bytes k lt ne;
-}
+pub sound-header : (limit : ℕ) (changes : Changes) (committed_fields working : FileHeader) (begun : Bool) → IsSound limit changes committed_fields working begun → (held_at changes 0).committed ≡ None
+sound-header limit changes committed_fields working begun sound = by_page (held_at changes 0).committed refl
   where
-    at_zero : (k : ℕ) → PAGE_SIZE * 0 + k ≡ k
-    at_zero k = omega arith
+    by_page : (page : Option (List ℕ)) → (held_at changes 0).committed ≡ page → page ≡ None
+    by_page None e = refl
+    by_page (Some p) e = absurd (omega (arith, (sound.committed_inside 0 p e).0))
 
--- a byte of what is held, else of a page that is kept
-kept_byte : (old new : Content) (n k : ℕ) (held : Option (List ℕ)) → (held ≡ None → KeepsPage n old new) → k < PAGE_SIZE
-    → byte_of new held n k ≡ byte_of old held n k
-kept_byte old new n k (Some page) kept lt = refl
-kept_byte old new n k None kept lt = ap (λ b. Some b) ((kept refl).each k lt)
+pub IsSound-written : (limit : ℕ) (changes : Changes) (committed_fields working : FileHeader) (begun : Bool) → begun ≡ false → IsSound limit changes committed_fields working begun
+    → IsSound limit [] committed_fields working begun
+IsSound-written limit changes committed_fields working begun shut sound = record {
+  directory = sound.directory;
+  kept_room = sound.kept_room;
+  within = sound.within;
+  limited = sound.limited;
+  committed_inside = λ n page is. cc;
+  copied_inside = λ n page is. cc;
+  fresh = λ n past below. let same : working.pages ≡ committed_fields.pages = ap (λ (f : FileHeader). f.pages) (sound.same shut) in absurd (omega arith);
+  same = sound.same;
+  no_copies = λ _ n. refl;
+}
 
--- a byte of what is held, where the content has it
-had_byte : (content : Content) (n k : ℕ) (held : Option (List ℕ)) → ((page : List ℕ) → held ≡ Some page → HasBytes content n page)
-    → k < PAGE_SIZE → byte_of content held n k ≡ Some (content.byte (PAGE_SIZE * n + k))
-had_byte content n k (Some page) has lt = ap (λ b. Some b) (sym ((has page refl).each k lt))
-had_byte content n k None has lt = refl
+module _ {D : Type 0} (d : disk.Ghosts D) (old : Paged D) (disk : D)
+    (sound : IsSound old.limit old.changes old.committed_fields old.working old.is_begun)
+    (honesty : d.is_honest disk ≡ d.is_honest old.disk)
+    (out : IsTrue (d.is_honest old.disk) → WritesOut old.changes old.is_header_changed (d.seen old.disk) (d.seen disk)) where
+  kept_header : IsTied d old → old.is_header_changed ≡ false → IsFileHeader (disk_page (d.seen disk) 0) old.committed_fields
+  kept_header tied e = subst (λ (page : List ℕ). IsFileHeader page old.committed_fields) (sym ((out tied.honest).header e)) (tied.header e)
 
-module _ {D : Type 0} (is_honest : D → Bool) (seen : D → Content) (old : Paged D) (disk : D) where
-  -- of each page that isn't held, and of each that is held unchanged, the disk keeps the bytes
-  keeps : WritesOut old.slots old.is_header_changed (seen old.disk) (seen disk)
-      → (n : ℕ) → 0 < n → (slot_at old.slots n).kept ≡ None → KeepsPage n (seen old.disk) (seen disk)
-  keeps out n pos none = out.others n pos (unchanged_none (slot_at old.slots n).kept (slot_at old.slots n).is_changed none)
-
-  keeps_working : WritesOut old.slots old.is_header_changed (seen old.disk) (seen disk)
-      → (n : ℕ) → 0 < n → working_of (slot_at old.slots n) ≡ None → KeepsPage n (seen old.disk) (seen disk)
-  keeps_working out n pos none = keeps out n pos (by_copy (slot_at old.slots n).copy none)
-    where
-      by_copy : (copy : Option (List ℕ)) → copy_or copy (slot_at old.slots n).kept ≡ None → (slot_at old.slots n).kept ≡ None
-      by_copy (Some page) e = cc
-      by_copy None e = e
-
-  -- nothing is held of page 0
-  behind : IsSound old.limit old.slots old.kept old.working old.is_begun
-      → (n : ℕ) (page : List ℕ) → (slot_at old.slots n).kept ≡ Some page → 0 < n
-  behind sound zero page is = cc (ap (λ (s : HeldPage). s.kept) sound.header)
-  behind sound (suc n) page is = omega arith
-
-  -- and past the slots nothing is
-  below : (n : ℕ) (page : List ℕ) → (slot_at old.slots n).kept ≡ Some page → n < length old.slots
-  below n page is = within old.slots n is
-    where
-      within : (slots : List HeldPage) (m : ℕ) → (slot_at slots m).kept ≡ Some page → m < length slots
-      within [] m e = cc
-      within (slot ∷ slots) zero e = omega arith
-      within (slot ∷ slots) (suc m) e = let h = within slots m e in omega arith
-
-  -- the pages that are held unchanged after a fault
-  pub clean-kept : IsSound old.limit old.slots old.kept old.working old.is_begun → IsTied is_honest seen old
-      → WritesOut old.slots old.is_header_changed (seen old.disk) (seen disk) → (n : ℕ) → IsClean (seen disk) n (slot_at old.slots n)
-  clean-kept sound tied out n = record {
-    bytes = λ unchanged page is.
-        HasBytes-kept n (seen old.disk) (seen disk) page
-        (out.others n (behind sound n page is) (unchanged_false (slot_at old.slots n).kept (slot_at old.slots n).is_changed unchanged))
-        ((tied.clean n).bytes unchanged page is);
-  }
-
-  -- all pages that are held, after a flush
-  has_held : IsSound old.limit old.slots old.kept old.working old.is_begun → IsTied is_honest seen old
-      → HasAll old.slots old.kept old.is_header_changed (seen disk)
-      → WritesOut old.slots old.is_header_changed (seen old.disk) (seen disk)
-      → (n : ℕ) (page : List ℕ) → (slot_at old.slots n).kept ≡ Some page → HasBytes (seen disk) n page
-  has_held sound tied all out n page is =
-      elim (slot_at old.slots n).is_changed as (λ b. (slot_at old.slots n).is_changed ≡ b → HasBytes (seen disk) n page) [
-        | true ↦ λ e. (all.pages n (behind sound n page is) (below n page is) page
-            (changed_true (slot_at old.slots n).kept (slot_at old.slots n).is_changed e ∙ is)).bytes
-        | false ↦ λ e. (clean-kept sound tied out n).bytes e page is
-      ] refl
-
-  -- the maps stay, after a fault too
-  pub disk-committed : WritesOut old.slots old.is_header_changed (seen old.disk) (seen disk)
-      → SamePages (committed seen (disk_pager disk old)) (committed seen old)
-  unfolding committed_byte
-  disk-committed out = record {
-    fields = refl;
-    bytes = λ n k lt. same_bytes old.kept.pages old.kept.pages n _ _ refl
-        (λ pos _. kept_byte (seen old.disk) (seen disk) n k (slot_at old.slots n).kept (keeps out n pos) lt);
-  }
-
-  pub disk-working : WritesOut old.slots old.is_header_changed (seen old.disk) (seen disk)
-      → SamePages (working seen (disk_pager disk old)) (working seen old)
-  unfolding working_byte
-  disk-working out = record {
-    fields = refl;
-    bytes = λ n k lt. same_bytes old.working.pages old.working.pages n _ _ refl
-        (λ pos _. kept_byte (seen old.disk) (seen disk) n k (working_of (slot_at old.slots n)) (keeps_working out n pos) lt);
-  }
-
-  pub disk-tied : IsSound old.limit old.slots old.kept old.working old.is_begun
-      → (is_honest disk ≡ is_honest old.disk)
-      → WritesOut old.slots old.is_header_changed (seen old.disk) (seen disk)
-      → IsTied is_honest seen old → IsTied is_honest seen (disk_pager disk old)
-  disk-tied sound honesty out tied = record {
+  faulted_tied : IsTied d old → IsTied d (faulted_pager disk old)
+  faulted_tied tied = record {
     honest = subst IsTrue (sym honesty) tied.honest;
-    clean = clean-kept sound tied out;
-    inside = λ n pos lt none. omega (arith, tied.inside n pos lt none, out.no_shorter);
-    header = λ e. header_kept (seen old.disk) (seen disk) old.kept
-        (out.header e (ap changed_of sound.header)) (tied.header e);
+    clean = none-clean (d.seen disk);
+    after_header = none-after_header;
+    first = omega (arith, tied.first, (out tied.honest).no_shorter);
+    inside = λ n pos lt none. omega (arith, tied.inside n pos lt none, (out tied.honest).no_shorter);
+    header = kept_header tied;
   }
 
-  pub disk-changes : KeepsChanges old (disk_pager disk old)
-  disk-changes = record {
-    changed = λ n. refl;
-    copied = λ n. refl;
-    lacks = refl;
+  -- the maps stay after a fault
+  pub faulted-keeps : KeepsMaps d old (faulted_pager disk old)
+  faulted-keeps = record {
+    tied = faulted_tied;
+    committed = λ tied. record {
+      fields = refl;
+      pages = λ n. stored-kept old.committed_fields.pages n (held old n).committed (d.seen disk) (d.seen old.disk) (λ pos none. (out tied.honest).others n pos none);
+    };
+    working = λ tied. record {
+      fields = refl;
+      pages = λ n. stored-kept old.working.pages n (held_change (held old n)) (d.seen disk) (d.seen old.disk)
+          (λ pos none. (out tied.honest).others n pos (page_or-none (held old n).copy (held old n).committed none));
+    };
     committed_fields = refl;
     working_fields = refl;
+    honesty = honesty;
+    limit = refl;
+    full = refl;
+    least = sound.directory;
+    within = sound-within old.limit old.changes old.committed_fields old.working old.is_begun sound;
   }
 
-  -- after a flush
-  pub written-committed : WritesOut old.slots old.is_header_changed (seen old.disk) (seen disk)
-      → SamePages (committed seen (written_pager disk old)) (committed seen old)
-  unfolding committed_byte
-  written-committed out = record {
-    fields = refl;
-    bytes = λ n k lt. same_bytes old.kept.pages old.kept.pages n _ _ refl
-        (λ pos _. ap (λ (s : HeldPage). byte_of (seen disk) s.kept n k) (slot_at-clean old.slots n)
-        ∙ kept_byte (seen old.disk) (seen disk) n k (slot_at old.slots n).kept (keeps out n pos) lt);
+  pub faulted-changes : KeepsChanges old (faulted_pager disk old)
+  faulted-changes = record { held = λ n. refl; lacks = refl; committed_fields = refl; working_fields = refl }
+
+  no_change-past : (n : ℕ) → old.committed_fields.pages ≤ n → (held old n).committed ≡ None
+  no_change-past n past = elim (held old n).committed as (λ page. (held old n).committed ≡ page → page ≡ None) [
+    | Some page ↦ λ e. absurd (omega (arith, past, (sound.committed_inside n page e).1))
+    | None ↦ λ e. refl
+  ] refl
+
+  pub writes-at_most : IsTrue (d.is_honest old.disk) → WritesAtMost d old (faulted_pager disk old)
+  writes-at_most honest = record {
+    changes = out honest;
+    past = λ n past. (out honest).others n (omega (arith, past, sound.directory)) (no_change-past n past);
+    no_longer = (out honest).no_longer old.committed_fields.pages (omega (arith, sound.directory)) (sound-below old.limit old.changes old.committed_fields old.working old.is_begun sound);
   }
 
-  pub written-working : WritesOut old.slots old.is_header_changed (seen old.disk) (seen disk)
-      → SamePages (working seen (written_pager disk old)) (working seen old)
-  unfolding working_byte
-  written-working out = record {
-    fields = refl;
-    bytes = λ n k lt. same_bytes old.working.pages old.working.pages n _ _ refl
-        (λ pos _. ap (λ (s : HeldPage). byte_of (seen disk) (working_of s) n k) (slot_at-clean old.slots n)
-        ∙ kept_byte (seen old.disk) (seen disk) n k (working_of (slot_at old.slots n)) (keeps_working out n pos) lt);
+  pub masked-kept : KeepsDiskMasked d old (faulted_pager disk old)
+  masked-kept = λ honest. (out honest).masked
+
+  module _ (shut : old.is_begun ≡ false) (has : IsTrue (d.is_honest old.disk) → HasAll old.changes old.committed_fields old.is_header_changed (d.seen disk)) where
+    written_header : IsTied d old → IsFileHeader (disk_page (d.seen disk) 0) old.committed_fields
+    written_header tied = elim old.is_header_changed as (λ t. old.is_header_changed ≡ t → IsFileHeader (disk_page (d.seen disk) 0) old.committed_fields) [
+      | true ↦ λ e. (has tied.honest).header e
+      | false ↦ λ e. kept_header tied e
+    ] refl
+
+    written_inside : IsTied d old → (n : ℕ) → 0 < n → n < old.committed_fields.pages → PAGE_SIZE * n + PAGE_SIZE ≤ (d.seen disk).size
+    written_inside tied n pos lt = elim (held old n).committed as (λ page. (held old n).committed ≡ page → PAGE_SIZE * n + PAGE_SIZE ≤ (d.seen disk).size) [
+      | Some page ↦ λ e. ((has tied.honest).pages.each n page e).inside
+      | None ↦ λ e. omega (arith, tied.inside n pos lt e, (out tied.honest).no_shorter)
+    ] refl
+
+    written_tied : IsTied d old → IsTied d (written_pager disk old)
+    written_tied tied = record {
+      honest = subst IsTrue (sym honesty) tied.honest;
+      clean = none-clean (d.seen disk);
+      after_header = none-after_header;
+      first = omega (arith, tied.first, (out tied.honest).no_shorter);
+      inside = λ n pos lt _. written_inside tied n pos lt;
+      header = λ _. written_header tied;
+    }
+
+    written_pages : IsTied d old → (pages n : ℕ)
+        → page_or_stored pages None (d.seen disk) n ≡ page_or_stored pages (held old n).committed (d.seen old.disk) n
+    written_pages tied pages n = stored-written pages n (held old n).committed (d.seen disk) (d.seen old.disk)
+        (λ pos none. (out tied.honest).others n pos none) (λ page is. ((has tied.honest).pages.each n page is).bytes)
+
+    -- the maps stay as they are written
+    pub written-keeps : KeepsMaps d old (written_pager disk old)
+    written-keeps = record {
+      tied = written_tied;
+      committed = λ tied. record { fields = refl; pages = λ n. written_pages tied old.committed_fields.pages n };
+      working = λ tied. record {
+        fields = refl;
+        pages = λ n. written_pages tied old.working.pages n
+            ∙ ap (λ (change : Option (List ℕ)). page_or_stored old.working.pages change (d.seen old.disk) n) (sym (page_or-no_copy (held old n).copy (held old n).committed (sound.no_copies shut n)));
+      };
+      committed_fields = refl;
+      working_fields = refl;
+      honesty = honesty;
+      limit = refl;
+      full = refl;
+      least = sound.directory;
+      within = sound-within old.limit old.changes old.committed_fields old.working old.is_begun sound;
+    }
+
+    pub written-all : IsTied d old → WritesAll d old (written_pager disk old)
+    written-all tied =
+        let last : PAGE_SIZE * (old.committed_fields.pages - 1) + PAGE_SIZE ≤ (d.seen disk).size =
+        written_inside tied (old.committed_fields.pages - 1) (omega (arith, sound.directory)) (omega (arith, sound.directory)) in
+        let long : PAGE_SIZE * old.committed_fields.pages ≤ (d.seen disk).size = omega (arith, sound.directory) in
+        let most = (out tied.honest).no_longer old.committed_fields.pages (omega (arith, sound.directory)) (sound-below old.limit old.changes old.committed_fields old.working old.is_begun sound) in
+        record {
+          stores = record {
+            header = written_header tied;
+            size = long;
+            pages = record { fields = refl; pages = λ n. refl };
+          };
+          size = omega (arith, long, most, (out tied.honest).no_shorter);
+        }
+
+pub written-no_change : {D : Type 0} (disk : D) (p : Paged D) → HoldsNoChange (written_pager disk p)
+written-no_change disk p = record { none = λ n. refl; lacks = refl }
+
+-- what a flush leaves where a call of the disk failed
+pub record FaultsHome {D : Type 0} (d : disk.Ghosts D) (old new : Paged D) : Type 0 where
+  pub keeps : KeepsMaps d old new
+  pub masked : KeepsDiskMasked d old new
+  pub others : IsTrue (d.is_honest old.disk) → WritesAtMost d old new
+  pub changes : KeepsChanges old new
+
+-- and where none did
+pub record WritesHome {D : Type 0} (d : disk.Ghosts D) (old new : Paged D) : Type 0 where
+  pub keeps : KeepsMaps d old new
+  pub masked : KeepsDiskMasked d old new
+  pub others : IsTrue (d.is_honest old.disk) → WritesAtMost d old new
+  pub written : IsTied d old → WritesAll d old new
+  pub no_change : HoldsNoChange new
+
+module _ {D : Type 0} (d : disk.Ghosts D) (p old : Paged D) (disk : D) (clean : Clean) (slots : Changes)
+    (is : p ≡ old) (dropped : clean ≡ []) (same : slots ≡ p.changes)
+    (sound : IsSound p.limit p.changes p.committed_fields p.working p.is_begun)
+    (honesty : d.is_honest disk ≡ d.is_honest p.disk)
+    (out : IsTrue (d.is_honest p.disk) → WritesOut slots p.is_header_changed (d.seen p.disk) (d.seen disk)) where
+  told : IsTrue (d.is_honest p.disk) → WritesOut p.changes p.is_header_changed (d.seen p.disk) (d.seen disk)
+  told honest = subst (λ (l : Changes). WritesOut l p.is_header_changed (d.seen p.disk) (d.seen disk)) same (out honest)
+
+  pub faults-home : FaultsHome d old (record p { disk = disk; clean = clean })
+  faults-home =
+      subst (λ (o : Paged D). FaultsHome d o (record p { disk = disk; clean = clean })) is
+      (subst (λ (l : Clean). FaultsHome d p (record p { disk = disk; clean = l })) (sym dropped)
+      (record {
+        keeps = faulted-keeps d p disk sound honesty told;
+        masked = masked-kept d p disk sound honesty told;
+        others = writes-at_most d p disk sound honesty told;
+        changes = faulted-changes d p disk sound honesty told;
+      }))
+
+  pub writes-home : (changes : Changes) → changes ≡ [] → p.is_begun ≡ false
+      → (IsTrue (d.is_honest p.disk) → HasAll slots p.committed_fields p.is_header_changed (d.seen disk))
+      → WritesHome d old (record p { disk = disk; changes = changes; clean = clean; is_header_changed = false })
+  writes-home changes none shut has =
+      let all : IsTrue (d.is_honest p.disk) → HasAll p.changes p.committed_fields p.is_header_changed (d.seen disk) =
+      λ honest. subst (λ (l : Changes). HasAll l p.committed_fields p.is_header_changed (d.seen disk)) same (has honest) in
+      subst (λ (o : Paged D). WritesHome d o (record p { disk = disk; changes = changes; clean = clean; is_header_changed = false })) is
+      (subst (λ (l : Clean). WritesHome d p (record p { disk = disk; changes = changes; clean = l; is_header_changed = false })) (sym dropped)
+      (subst (λ (l : Changes). WritesHome d p (record p { disk = disk; changes = l; clean = []; is_header_changed = false })) (sym none)
+      (record {
+        keeps = written-keeps d p disk sound honesty told shut all;
+        masked = masked-kept d p disk sound honesty told;
+        others = λ honest.
+            let at_most = writes-at_most d p disk sound honesty told honest in
+            record { changes = at_most.changes; past = at_most.past; no_longer = at_most.no_longer };
+        written = written-all d p disk sound honesty told shut all;
+        no_change = written-no_change disk p;
+      })))
+
+-- while no changes are begun, what keeps the held changes leaves the two maps the same
+module _ {D : Type 0} (d : disk.Ghosts D) where
+  pub same-shut : (old new : Paged D) → IsSound old.limit old.changes old.committed_fields old.working old.is_begun → old.is_begun ≡ false
+      → KeepsChanges old new → SamePages (working d new) (committed d new)
+  same-shut old new sound shut keeps = record {
+    fields = same;
+    pages = λ n. ap (λ (f : FileHeader). page_or_stored f.pages (held_change (held new n)) (d.seen new.disk) n) same
+        ∙ ap (λ (change : Option (List ℕ)). page_or_stored new.committed_fields.pages change (d.seen new.disk) n) (page_or-no_copy (held new n).copy (held new n).committed (none n));
   }
+    where
+      same : new.working ≡ new.committed_fields
+      same = keeps.working_fields ∙ sound.same shut ∙ sym keeps.committed_fields
 
-  pub written-changes : HaveNoCopies old.slots → HoldsNoChange (written_pager disk old)
-  written-changes none = record {
-    changed = λ n. ap changed_of (slot_at-clean old.slots n);
-    copied = λ n. ap (λ (s : HeldPage). s.copy) (slot_at-clean old.slots n) ∙ HaveNoCopies-slot_at old.slots n none;
-    lacks = refl;
-  }
-
-  header_written : IsSound old.limit old.slots old.kept old.working old.is_begun → IsTied is_honest seen old
-      → HasAll old.slots old.kept old.is_header_changed (seen disk)
-      → WritesOut old.slots old.is_header_changed (seen old.disk) (seen disk) → HasFileHeader (seen disk) old.kept
-  header_written sound tied all out =
-      elim old.is_header_changed as (λ b. old.is_header_changed ≡ b → HasFileHeader (seen disk) old.kept) [
-        | true ↦ λ e. all.header e
-        | false ↦ λ e. header_kept (seen old.disk) (seen disk) old.kept (out.header e (ap changed_of sound.header)) (tied.header e)
-      ] refl
-
-  inside_written : IsSound old.limit old.slots old.kept old.working old.is_begun → IsTied is_honest seen old
-      → HasAll old.slots old.kept old.is_header_changed (seen disk)
-      → WritesOut old.slots old.is_header_changed (seen old.disk) (seen disk)
-      → (n : ℕ) → 0 < n → n < old.kept.pages → PAGE_SIZE * n + PAGE_SIZE ≤ (seen disk).size
-  inside_written sound tied all out n pos lt =
-      elim (changed_of (slot_at old.slots n)) as (λ page. changed_of (slot_at old.slots n) ≡ page → PAGE_SIZE * n + PAGE_SIZE ≤ (seen disk).size) [
-        | Some page ↦ λ e. (all.pages n pos (omega (arith, sound.room, sound.kept_room)) page e).inside
-        | None ↦ λ e. let before : PAGE_SIZE * n + PAGE_SIZE ≤ (seen old.disk).size = tied.inside n pos lt e in omega (arith, out.no_shorter)
-      ] refl
-
-  pub written-tied : IsSound old.limit old.slots old.kept old.working old.is_begun
-      → (is_honest disk ≡ is_honest old.disk)
-      → (IsTrue (is_honest old.disk) → HasAll old.slots old.kept old.is_header_changed (seen disk))
-      → (IsTrue (is_honest old.disk) → WritesOut old.slots old.is_header_changed (seen old.disk) (seen disk))
-      → IsTied is_honest seen old → IsTied is_honest seen (written_pager disk old)
-  written-tied sound honesty has wrote tied =
-      let all = has tied.honest in
-      let out = wrote tied.honest in
-      record {
-        honest = subst IsTrue (sym honesty) tied.honest;
-        clean = λ n. record { bytes = λ _ page is. has_held sound tied all out n page (sym (ap (λ (s : HeldPage). s.kept) (slot_at-clean old.slots n)) ∙ is) };
-        inside = λ n pos lt _. inside_written sound tied all out n pos lt;
-        header = λ _. header_written sound tied all out;
-      }
-
-  pub written-stores : IsSound old.limit old.slots old.kept old.working old.is_begun
-      → (IsTrue (is_honest old.disk) → HasAll old.slots old.kept old.is_header_changed (seen disk))
-      → (IsTrue (is_honest old.disk) → WritesOut old.slots old.is_header_changed (seen old.disk) (seen disk))
-      → IsTied is_honest seen old → Stores (seen disk) (committed seen (written_pager disk old))
-  unfolding committed_byte
-  written-stores sound has wrote tied =
-      let all = has tied.honest in
-      let out = wrote tied.honest in
-      record {
-        header = header_written sound tied all out;
-        size = let last : PAGE_SIZE * (old.kept.pages - 1) + PAGE_SIZE ≤ (seen disk).size =
-            inside_written sound tied all out (old.kept.pages - 1) (omega (arith, sound.directory)) (omega (arith, sound.directory)) in
-            omega (arith, sound.directory);
-        bytes = record {
-          fields = refl;
-          bytes = λ n k lt. same_bytes old.kept.pages old.kept.pages n _ _ refl
-              (λ pos _. ap (λ (s : HeldPage). byte_of (seen disk) s.kept n k) (slot_at-clean old.slots n)
-              ∙ had_byte (seen disk) n k (slot_at old.slots n).kept (has_held sound tied all out n) lt);
-        };
-      }
-
-  -- the byte of the open flag stays, after a fault too
-  pub kept-flag : IsSound old.limit old.slots old.kept old.working old.is_begun
-      → WritesOut old.slots old.is_header_changed (seen old.disk) (seen disk) → KeepsFlag (seen old.disk) (seen disk)
-  kept-flag sound out = out.flag (ap changed_of sound.header)
-
-  -- the disk grows as far as the committed pages need
-  pub written-size : IsSound old.limit old.slots old.kept old.working old.is_begun → old.working ≡ old.kept
-      → (IsTrue (is_honest old.disk) → HasAll old.slots old.kept old.is_header_changed (seen disk))
-      → (IsTrue (is_honest old.disk) → WritesOut old.slots old.is_header_changed (seen old.disk) (seen disk))
-      → IsTied is_honest seen old → (seen disk).size ≡ max (seen old.disk).size (PAGE_SIZE * old.kept.pages)
-  written-size sound shut has wrote tied =
-      let out = wrote tied.honest in
-      let room : length old.slots ≡ old.kept.pages = sound.room ∙ ap (λ (f : FileHeader). f.pages) shut in
-      let least = (written-stores sound has wrote tied).size in
-      let most = out.no_longer (omega (arith, sound.directory)) in
-      omega (arith, least, most, room, out.no_shorter)
+      none : (n : ℕ) → (held new n).copy ≡ None
+      none n = ap (λ (h : HeldPage). h.copy) (keeps.held n) ∙ sound.no_copies shut n

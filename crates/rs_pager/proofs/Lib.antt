@@ -1,11 +1,14 @@
-mod Allocated
-mod Copying
-mod Flushed
-mod FreeLists
-mod Maps
-mod Numbers
-mod Opened
-mod Reading
-mod Slots
-mod Stored
-mod Writing
+pub mod Allocated
+pub mod AllocatedFree
+pub mod Copied
+pub mod DiskBytes
+pub mod Edited
+pub mod Flushed
+pub mod Headers
+pub mod Lent
+pub mod Loaded
+pub mod Opened
+pub mod Released
+pub mod Stored
+pub mod Taken
+pub mod Writing

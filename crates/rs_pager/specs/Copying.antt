@@ -1,27 +1,36 @@
 -- What a pager becomes once it holds a copy of a page.
-use Rattle.std.specs.Prelude.{◌≡◌, ℕ, Bool, false, Some, List}
-use Rattle.rs_disk.specs.Content.{Content}
-use Rattle.rs_pager.specs.Pages.{HasPage}
-use Rattle.rs_pager.specs.HeldPage.{HeldPage}
-use Rattle.rs_pager.specs.Slot.{working_of, copied_slot}
-use Rattle.rs_pager.specs.Paged.{Paged}
-use Rattle.rs_pager.specs.Maps.{working, is_held, IsTied}
-use Rattle.rs_pager.specs.Changes.{IsHeldChange}
-use Rattle.rs_pager.specs.Rests.{ReturnsPage}
-use Rattle.rs_pager.specs.Reading.{IsInUse, IsFit}
+use Rattle.std.specs.Prelude.{◌≡◌, ◌⊎◌, ℕ, None, IsSome, List}
+use Rattle.rs_measure.specs.declared.refusal.Refusal.{Refusal}
+use Rattle.rs_measure.specs.declared.refusal.Refusal.TheVariants as refusal
+use Rattle.rs_disk.specs.declared.disk.Disk as disk
+use Rattle.rs_pages.specs.PageMap.{HasNoFit}
+use Rattle.rs_pages.specs.Store.{Edits}
+use Rattle.rs_pages.specs.Uses.{Lends, HoldsUsed}
+use Rattle.rs_pager.specs.Paged.{Paged, held}
+use Rattle.rs_pager.specs.Maps.{working, pager_store, KeepsBelow, IsTied}
 
--- a copy of the working page is held, and nothing else has changed but that pages are held
-pub record CopiesPage {D : Type 0} (is_honest : D → Bool) (seen : D → Content) (failures : D → ℕ)
-    (number : ℕ) (page : List ℕ) (old new : Paged D) : Type 0 where
-  pub returns : ReturnsPage is_honest seen failures number page old new
-  pub bytes : IsTied is_honest seen old → HasPage (working seen old) number page
-  pub held : IsHeldChange old number page
-  pub in_use : IsInUse page
-  pub fits : is_held old number ≡ false → IsFit page number old.working.pages
-
--- a copy of the working page is held
-pub record MakesCopy (old new : HeldPage) : Type 0 where
+-- the working page is held as a copy, and nothing else has changed but which clean pages are held
+pub record CopiesPage {D : Type 0} (d : disk.Ghosts D) (number : ℕ) (old new : Paged D) : Type 0 where
   pub page : List ℕ
-  pub held : working_of old ≡ Some page
-  pub in_use : IsInUse page
-  pub copied : new ≡ copied_slot page old
+  pub lends : Lends (IsTied d old) (pager_store d old) number page
+  pub edits : Edits (IsTied d old) number page (pager_store d old) (pager_store d new)
+  pub keeps : KeepsBelow d old new
+  pub failures : d.failures new.disk ≡ d.failures old.disk
+
+-- the page has no working copy, and is lent
+pub record LacksCopy {D : Type 0} (d : disk.Ghosts D) (number : ℕ) (page : List ℕ) (p : Paged D) : Type 0 where
+  pub lends : Lends (IsTied d p) (pager_store d p) number page
+  pub none : (held p number).copy ≡ None
+
+-- the page has a working copy, and is lent
+pub record HasCopy {D : Type 0} (d : disk.Ghosts D) (number : ℕ) (p : Paged D) : Type 0 where
+  pub page : List ℕ
+  pub lends : Lends (IsTied d p) (pager_store d p) number page
+  pub copied : IsSome (held p number).copy
+
+-- why a page that is at hand is not copied: there is no memory, or it isn't lent
+pub record RefusesCopy {D : Type 0} (d : disk.Ghosts D) (number : ℕ) (p : Paged D) (why : Refusal) : Type 0 where
+  pub cause : (why ≡ refusal.OutOfMemory) ⊎ (why ≡ refusal.DamagedFile)
+  pub damaged : IsTied d p → why ≡ refusal.DamagedFile → HasNoFit (working d p) number
+  pub used : HoldsUsed (pager_store d p) number → why ≡ refusal.OutOfMemory
+  pub copied : HoldsUsed (pager_store d p) number → (held p number).copy ≡ None

@@ -1,45 +1,40 @@
 -- A pager as one value.
-use Rattle.std.specs.Prelude.{◌≡◌, ◌≤◌, ◌<◌, ℕ, Bool, false, List, [], ◌∷◌, length, get_or, None, IsSome}
-use Rattle.rs_pager.specs.HeldPage.{HeldPage}
-use Rattle.rs_pager.specs.Slot.{empty_slot}
-use Rattle.rs_pager.specs.declared.file_header.FileHeader.{FileHeader}
-use Rattle.rs_pager.specs.declared.pager.TheConstants.{GREATEST_LIMIT}
+use Rattle.std.specs.Prelude.{◌≡◌, ◌≤◌, ◌<◌, ℕ, Bool, false, Some, None, IsSome, List}
+use Rattle.rs_page.specs.declared.file_header.FileHeader.{FileHeader}
+use Rattle.rs_pages.specs.Held.{HeldPage}
+use Rattle.rs_pages.specs.declared.pages.TheConstants.{GREATEST_LIMIT}
+use Rattle.rs_page_cache.specs.Changes.{Changes, held_at}
+use Rattle.rs_page_cache.specs.Clean.{Clean}
 
--- the disk, the greatest number of pages, what is held of each page, the committed and the working fields of page 0,
--- whether the disk lacks the committed ones, whether changes are open, and how often the file was full
+-- the disk, the greatest number of pages, the changed pages and the clean ones that are held, the committed and the
+-- working fields of page 0, whether the disk lacks the committed ones, whether changes are begun, and how often the file
+-- was full
 pub record Paged (D : Type 0) : Type 0 where
   pub disk : D
   pub limit : ℕ
-  pub slots : List HeldPage
-  pub kept : FileHeader
+  pub changes : Changes
+  pub clean : Clean
+  pub committed_fields : FileHeader
   pub working : FileHeader
   pub is_header_changed : Bool
   pub is_begun : Bool
   pub full_refusals : ℕ
 
--- what is held of the page with this number
-abbrev pub slot_at : List HeldPage → ℕ → HeldPage
-slot_at slots number = get_or slots number empty_slot
+-- what is held of the page with this number as a change
+abbrev pub held : {D : Type 0} → Paged D → ℕ → HeldPage
+held p number = held_at p.changes number
 
--- no page has a working copy
-abbrev pub HaveNoCopies : List HeldPage → Type 0
-HaveNoCopies [] = Unit {0}
-HaveNoCopies (slot ∷ slots) = (slot.copy ≡ None) × HaveNoCopies slots
-
--- a page that isn't committed yet: its copy is held, and nothing else
-pub record IsFresh (slot : HeldPage) : Type 0 where
-  pub kept : slot.kept ≡ None
-  pub copy : IsSome slot.copy
-
--- there is a slot for each working page, and no more; the limit is kept; nothing is held of page 0; the pages
--- past the committed ones are fresh; and while no changes are open, the working pages are the committed ones
-pub record IsSound (limit : ℕ) (slots : List HeldPage) (kept working : FileHeader) (is_begun : Bool) : Type 0 where
-  pub room : length slots ≡ working.pages
-  pub directory : 2 ≤ kept.pages
-  pub kept_room : kept.pages ≤ working.pages
+-- the limit is kept; only pages of the file are held; each page past the committed ones has a working copy; and
+-- while no changes are begun, the working pages are the committed ones
+pub record IsSound (limit : ℕ) (changes : Changes) (committed_fields working : FileHeader) (is_begun : Bool) : Type 0 where
+  pub directory : 2 ≤ committed_fields.pages
+  pub kept_room : committed_fields.pages ≤ working.pages
   pub within : working.pages ≤ limit
   pub limited : limit ≤ GREATEST_LIMIT
-  pub header : slot_at slots 0 ≡ empty_slot
-  pub fresh : (number : ℕ) → kept.pages ≤ number → number < working.pages → IsFresh (slot_at slots number)
-  pub same : is_begun ≡ false → working ≡ kept
-  pub no_copies : is_begun ≡ false → HaveNoCopies slots
+  pub committed_inside : (number : ℕ) (page : List ℕ) → (held_at changes number).committed ≡ Some page
+      → (0 < number) × (number < committed_fields.pages)
+  pub copied_inside : (number : ℕ) (page : List ℕ) → (held_at changes number).copy ≡ Some page
+      → (0 < number) × (number < working.pages)
+  pub fresh : (number : ℕ) → committed_fields.pages ≤ number → number < working.pages → IsSome (held_at changes number).copy
+  pub same : is_begun ≡ false → working ≡ committed_fields
+  pub no_copies : is_begun ≡ false → (number : ℕ) → (held_at changes number).copy ≡ None

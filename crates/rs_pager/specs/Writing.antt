@@ -1,70 +1,64 @@
 -- What the writes of a flush make of a disk's content.
-use Rattle.std.specs.Prelude.{◌≡◌, ◌≢◌, ◌<◌, ◌≤◌, ◌+◌, ◌*◌, ℕ, max, Bool, true, false, Some, None, List, length}
+use Rattle.std.specs.Prelude.{◌≡◌, ◌≢◌, ◌≤◌, ◌<◌, ◌+◌, ◌*◌, ℕ, Bool, true, false, max, None, Some, List}
 use Rattle.rs_disk.specs.Content.{Content}
 use Rattle.rs_disk.specs.declared.disk.TheConstants.{PAGE_SIZE}
-use Rattle.rs_pager.specs.HeldPage.{HeldPage}
-use Rattle.rs_pager.specs.Slot.{changed_of}
-use Rattle.rs_pager.specs.Paged.{slot_at}
-use Rattle.rs_pager.specs.Stores.{HasBytes, HasFileHeader}
-use Rattle.rs_pager.specs.declared.file_header.FileHeader.{FileHeader}
-use Rattle.rs_pager.specs.declared.file_header.TheConstants.{FLAG_OFFSET}
+use Rattle.rs_page.specs.FileHeader.{IsFileHeader}
+use Rattle.rs_page.specs.declared.file_header.FileHeader.{FileHeader}
+use Rattle.rs_pages.specs.Held.{HeldPage}
+use Rattle.rs_page_cache.specs.Changes.{Changes, held_at}
+use Rattle.rs_page_cache.specs.Stored.{disk_page}
+use Rattle.rs_pager.specs.Stored.{KeepsMasked}
 
--- the page with this number is as it was
-pub record KeepsPage (number : ℕ) (old new : Content) : Type 0 where
-  pub each : (place : ℕ) → place < PAGE_SIZE → new.byte (PAGE_SIZE * number + place) ≡ old.byte (PAGE_SIZE * number + place)
+-- each changed page lies below this number
+pub record AreBelow (changes : Changes) (bound : ℕ) : Type 0 where
+  pub each : (number : ℕ) (page : List ℕ) → (held_at changes number).committed ≡ Some page → number < bound
 
 -- the page with this number has these bytes, and lies within the content
-pub record HasWhole (content : Content) (number : ℕ) (page : List ℕ) : Type 0 where
-  pub bytes : HasBytes content number page
+pub record HasPage (content : Content) (number : ℕ) (page : List ℕ) : Type 0 where
+  pub bytes : disk_page content number ≡ page
   pub inside : PAGE_SIZE * number + PAGE_SIZE ≤ content.size
 
 -- each page but one is as it was, and the content grows to the end of that one at most
 pub record WritesPage (number : ℕ) (old new : Content) : Type 0 where
-  pub others : (other : ℕ) → other ≢ number → KeepsPage other old new
+  pub others : (other : ℕ) → other ≢ number → disk_page new other ≡ disk_page old other
   pub no_shorter : old.size ≤ new.size
   pub no_longer : new.size ≤ max old.size (PAGE_SIZE * number + PAGE_SIZE)
 
--- and where it isn't changed, so is that one
-pub record WritesSlot (number : ℕ) (slot : HeldPage) (old new : Content) : Type 0 where
-  pub others : (other : ℕ) → other ≢ number → KeepsPage other old new
-  pub unchanged : changed_of slot ≡ None → KeepsPage number old new
+-- each page but one is as it was, and so is all where that one isn't changed
+pub record WritesSlot (number : ℕ) (held : HeldPage) (old new : Content) : Type 0 where
+  pub others : (other : ℕ) → other ≢ number → disk_page new other ≡ disk_page old other
+  pub unchanged : held.committed ≡ None → new ≡ old
   pub no_shorter : old.size ≤ new.size
   pub no_longer : new.size ≤ max old.size (PAGE_SIZE * number + PAGE_SIZE)
 
--- each page that isn't changed is as it was, and the content grows to the end of the last page at most
-pub record WritesPages (slots : List HeldPage) (old new : Content) : Type 0 where
-  pub others : (number : ℕ) → changed_of (slot_at slots number) ≡ None → KeepsPage number old new
+-- each page that isn't changed is as it was, and the content grows to the end of a changed one at most
+pub record WritesChanges (changes : Changes) (old new : Content) : Type 0 where
+  pub others : (number : ℕ) → (held_at changes number).committed ≡ None → disk_page new number ≡ disk_page old number
   pub no_shorter : old.size ≤ new.size
-  pub no_longer : new.size ≤ max old.size (PAGE_SIZE * length slots)
+  pub no_longer : (bound : ℕ) → AreBelow changes bound → new.size ≤ max old.size (PAGE_SIZE * bound)
 
--- of the first pages, each changed one is there
-pub record HasChanged (slots : List HeldPage) (bound : ℕ) (content : Content) : Type 0 where
-  pub each : (number : ℕ) → number < bound → (page : List ℕ) → changed_of (slot_at slots number) ≡ Some page
-      → HasWhole content number page
+-- each changed page is there
+pub record HasChanges (changes : Changes) (content : Content) : Type 0 where
+  pub each : (number : ℕ) (page : List ℕ) → (held_at changes number).committed ≡ Some page → HasPage content number page
 
--- the byte of the open flag is as it was
-abbrev pub KeepsFlag : Content → Content → Type 0
-KeepsFlag old new = new.byte FLAG_OFFSET ≡ old.byte FLAG_OFFSET
-
--- the pages behind page 0 are as they were, and so is the byte of the open flag; the content grows to the end of
+-- the pages after page 0 are as they were, and so are the bytes of page 0 that no map has; the content grows to the end of
 -- page 0 at most
 pub record WritesHeader (old new : Content) : Type 0 where
-  pub behind : (place : ℕ) → PAGE_SIZE ≤ place → new.byte place ≡ old.byte place
-  pub flag : KeepsFlag old new
+  pub after : (place : ℕ) → PAGE_SIZE ≤ place → new.byte place ≡ old.byte place
+  pub masked : KeepsMasked old new
   pub no_shorter : old.size ≤ new.size
   pub no_longer : new.size ≤ max old.size PAGE_SIZE
 
--- each page behind page 0 that isn't changed is as it was, and so is page 0 where its fields aren't, and the byte of
--- the open flag in any case; the content grows to the end of the last page at most
-pub record WritesOut (slots : List HeldPage) (is_header_changed : Bool) (old new : Content) : Type 0 where
-  pub others : (number : ℕ) → 0 < number → changed_of (slot_at slots number) ≡ None → KeepsPage number old new
-  pub header : is_header_changed ≡ false → changed_of (slot_at slots 0) ≡ None → KeepsPage 0 old new
-  pub flag : changed_of (slot_at slots 0) ≡ None → KeepsFlag old new
+-- each page after page 0 that isn't changed is as it was, and so is page 0 where its fields aren't; of page 0 the bytes
+-- that no map has are as they were in any case; the content grows to the end of a changed page at most
+pub record WritesOut (changes : Changes) (is_header_changed : Bool) (old new : Content) : Type 0 where
+  pub others : (number : ℕ) → 0 < number → (held_at changes number).committed ≡ None → disk_page new number ≡ disk_page old number
+  pub header : is_header_changed ≡ false → disk_page new 0 ≡ disk_page old 0
+  pub masked : KeepsMasked old new
   pub no_shorter : old.size ≤ new.size
-  pub no_longer : 0 < length slots → new.size ≤ max old.size (PAGE_SIZE * length slots)
+  pub no_longer : (bound : ℕ) → 0 < bound → AreBelow changes bound → new.size ≤ max old.size (PAGE_SIZE * bound)
 
 -- each changed page is there, and page 0 where its fields are changed
-pub record HasAll (slots : List HeldPage) (fields : FileHeader) (is_header_changed : Bool) (content : Content) : Type 0 where
-  pub pages : (number : ℕ) → 0 < number → number < length slots → (page : List ℕ)
-      → changed_of (slot_at slots number) ≡ Some page → HasWhole content number page
-  pub header : is_header_changed ≡ true → HasFileHeader content fields
+pub record HasAll (changes : Changes) (fields : FileHeader) (is_header_changed : Bool) (content : Content) : Type 0 where
+  pub pages : HasChanges changes content
+  pub header : is_header_changed ≡ true → IsFileHeader (disk_page content 0) fields

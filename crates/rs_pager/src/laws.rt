@@ -1,44 +1,40 @@
-//! What follows from what a disk stands for: one map of pages, and one free list; and which changes leave the
-//! free list as it was.
+//! What follows of the disk's content: which map of pages it stands for.
 //!
-//! So a flush that answered Ok, and an `open` that answered Ok of the disk that is handed back, have the same
-//! pages.
+//! It is one at the most. So a flush that answered Ok, and an `open` that answered Ok of the disk that is handed back, have
+//! the same pages; and such a disk is not refused as damaged.
 
-ghost use Rattle.std.specs.Prelude.{◌≡◌, ℕ, List};
+ghost use Rattle.std.specs.Prelude.{◌≡◌, ◌≤◌, ℕ, false};
 ghost use Rattle.rs_disk.specs.Content.{Content};
-ghost use Rattle.rs_pager.specs.Pages.{Pages, SamePages, HasPage};
-ghost use Rattle.rs_pager.specs.FreeList.{IsFreeList};
-ghost use Rattle.rs_pager.specs.Changes.{ReplacesPage, with_catalogue};
-ghost use Rattle.rs_pager.specs.Reading.{IsInUse};
-ghost use Rattle.rs_pager.specs.Stores.{Stores};
+ghost use Rattle.rs_page.specs.FileHeader.{is_masked};
+ghost use Rattle.rs_pages.specs.PageMap.{PageMap, SamePages};
+ghost use Rattle.rs_pager.specs.Maps.{committed, KeepsMaps, HoldsNoChange, IsTied};
+ghost use Rattle.rs_pager.specs.Opened.{WritesAll};
+ghost use Rattle.rs_pager.specs.Paged.{Paged};
+ghost use Rattle.rs_pager.specs.Stored.{Stores, IsNoFile};
+
+use rs_disk::Disk;
 
 /// A disk stands for one map of pages at the most.
 pub fn disk_stands_for_one_map()
-    ensures { (content : Content) (one other : Pages)
+    ensures { (content : Content) (one other : PageMap)
         → Stores content one → Stores content other → SamePages one other }
 {}
 
-/// The free list of a map of pages is one list of numbers at the most.
-pub fn free_list_is_one()
-    ensures { (pages : Pages) (one other : List ℕ)
-        → IsFreeList pages one → IsFreeList pages other → one ≡ other }
+/// The bytes of page 0 that no map has are no part of what a disk stands for.
+pub fn masked_bytes_are_in_no_map()
+    ensures { (one other : Content) (map : PageMap) → one.size ≡ other.size
+        → ((place : ℕ) → is_masked place ≡ false → one.byte place ≡ other.byte place) → Stores one map → Stores other map }
 {}
 
-/// Where the pages are the same, the free list is.
-pub fn same_pages_have_one_free_list()
-    ensures { (one other : Pages) (numbers : List ℕ)
-        → SamePages one other → IsFreeList other numbers → IsFreeList one numbers }
+/// A tied pager that holds no change has its committed pages on the disk.
+pub fn pager_without_changes_is_stored<D: Disk>()
+    ensures { (p : Paged D) → IsTied D.Disk p → HoldsNoChange p → 2 ≤ p.committed_fields.pages
+        → Stores (D.seen p.disk) (committed D.Disk p) }
 {}
 
-/// Writing a page that was in use leaves the free list, whatever is written.
-pub fn page_in_use_leaves_the_free_list()
-    ensures { (old new : Pages) (number : ℕ) (was page : List ℕ) (numbers : List ℕ)
-        → HasPage old number was → IsInUse was → ReplacesPage number page old new
-        → IsFreeList old numbers → IsFreeList new numbers }
-{}
-
-/// The place of the catalogue is nothing to the free list.
-pub fn catalogue_leaves_the_free_list()
-    ensures { (pages : Pages) (first length : ℕ) (numbers : List ℕ)
-        → IsFreeList pages numbers → IsFreeList (with_catalogue first length pages) numbers }
+/// A disk to which a flush wrote all is a file within the pager's limit: no `open` with this limit, or a greater one, finds
+/// it damaged.
+pub fn flushed_disk_is_a_file<D: Disk>()
+    ensures { (old new : Paged D) (limit : ℕ) → KeepsMaps D.Disk old new → WritesAll D.Disk old new
+        → new.limit ≤ limit → IsNoFile (D.seen new.disk) limit → ⊥ }
 {}

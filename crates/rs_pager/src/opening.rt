@@ -1,191 +1,219 @@
-//! How a pager comes to be: over an empty disk, and over one that holds pages.
+//! How a pager comes to be: over an empty disk, and over one that holds pages; and the flag that says whether a file is open.
 //!
 //! A refusal hands the disk back.
 
-ghost use Rattle.std.specs.Prelude.{◌≡◌, ◌≤◌, ◌⊎◌, ◌*◌, ℕ, IsTrue, IfOk, List, [], ◌∷◌, IfErr, OnOk, IsOkUnless, MatchResult, Err, false, replicate};
-ghost use Rattle.rs_disk.specs.Content.{Gives};
-ghost use Rattle.rs_disk.specs.Counts.{Counts, Rose};
-ghost use Rattle.rs_pager.specs.declared.header.PageKind.TheVariants.{Directory};
-ghost use Rattle.rs_pager.specs.declared.file_header.TheConstants.{FLAG_OFFSET};
-ghost use Rattle.rs_pager.specs.Slot.{empty_slot, changed_slot};
-ghost use Rattle.rs_pager.specs.Pages.{SamePages, IsEmptyFile, IsBlank};
-ghost use Rattle.rs_pager.specs.Stores.{Stores, HasFileHeader, IsNoFile};
-ghost use Rattle.rs_pager.specs.Maps.{committed, working, is_held, HoldsNoChange, IsTied};
+ghost use Rattle.std.specs.Prelude.{◌≡◌, ◌≤◌, ◌*◌, ◌⊎◌, [], true, false, IsTrue, IfOk, IfErr, OnOk, IsOkUnless, MatchResult, Err};
+ghost use Rattle.rs_disk.specs.Counts.{Counts};
+ghost use Rattle.rs_page.specs.FileHeader.{IsFileHeader};
+ghost use Rattle.rs_page_cache.specs.Stored.{disk_page};
+ghost use Rattle.rs_pages.specs.PageMap.{SamePages};
+ghost use Rattle.rs_pager.specs.Stored.{IsNoFile};
+ghost use Rattle.rs_pager.specs.Maps.{committed, working, KeepsChanges, KeepsMaps};
+ghost use Rattle.rs_pager.specs.Opened.{IsFresh, HasEmptyFile, IsCreated, IsOpened, SetsFlag, CountsFault};
 
-use crate::file_header::FileHeader;
-use crate::header::PageKind;
-use crate::number::PageNumber;
-use crate::page::{Page, new_page};
-use crate::pager::{GREATEST_LIMIT, LEAST_LIMIT, Pager};
-use crate::slot::Slot;
+use crate::flushing::{write_at, write_file_header, write_page};
+use crate::pager::Pager;
 use rs_disk::{Disk, PAGE_SIZE};
 use rs_measure::Refusal;
-use std::alloc::{AllocError, Global};
+use rs_page::{FLAG_OFFSET, FileHeader, Page, PageKind, PageNumber};
+use rs_page_cache::{Changes, CleanPages};
+use rs_pages::{GREATEST_LIMIT, LEAST_LIMIT};
+use std::alloc::Global;
 
 impl<D: Disk> Pager<D> {
     /// Makes the pages of an empty file, page 0 and the directory, and writes them. What the disk held goes:
     /// it is two pages long then, and the open flag is 0.
-    /// `limit` is the greatest number of pages. A refusal (90, 91) hands the disk back.
-    #[tactic(auto, using(rs_disk::proofs::CountLemmas::Rose_counted_on, rs_disk::proofs::CountLemmas::counted_on_le))]
+    /// `limit` is the greatest number of pages. A refusal (90, 91) hands the disk back: untouched after 90, with any part of
+    /// this done after 91.
     pub fn create(alloc: Global, disk: D, limit: u32) -> Result<Pager<D>, (D, Refusal)>
         requires least { LEAST_LIMIT ≤ limit }
         requires greatest { limit ≤ GREATEST_LIMIT }
-        ensures empty { IsTrue (D.is_honest disk) → IfOk result (λ pager. IsEmptyFile (committed D.seen pager)) }
-        ensures working { IsTrue (D.is_honest disk)
-            → IfOk result (λ pager. SamePages (working D.seen pager) (committed D.seen pager)) }
-        ensures stores { IsTrue (D.is_honest disk)
-            → IfOk result (λ pager. Stores (D.seen pager.disk) (committed D.seen pager)) }
-        ensures size { IsTrue (D.is_honest disk)
-            → IfOk result (λ pager. (D.seen pager.disk).size ≡ 2 * PAGE_SIZE) }
-        ensures closed { IsTrue (D.is_honest disk)
-            → IfOk result (λ pager. (D.seen pager.disk).byte FLAG_OFFSET ≡ 0) }
-        ensures tied { IsTrue (D.is_honest disk) → IfOk result (λ pager. IsTied D.is_honest D.seen pager) }
-        ensures changes { IfOk result (λ pager. HoldsNoChange pager) }
-        ensures limit { IfOk result (λ pager. pager.limit ≡ limit) }
-        ensures shut { IfOk result (λ pager. pager.is_begun ≡ false) }
-        ensures full_refusals { IfOk result (λ pager. pager.full_refusals ≡ 0) }
+        ensures fresh { IfOk result (IsFresh limit) }
+        ensures same { IfOk result (λ pager. SamePages (working D.Disk pager) (committed D.Disk pager)) }
+        ensures created { IsTrue (D.is_honest disk) → IfOk result (IsCreated D.Disk) }
+        ensures synced { IfOk result (λ pager. D.is_synced pager.disk ≡ true) }
         ensures refused { IfErr result (λ refused.
             (refused.1 ≡ Refusal.OutOfMemory) ⊎ (refused.1 ≡ Refusal.Disk)) }
-        ensures cause { IfErr result (λ refused. refused.1 ≡ Refusal.Disk
-            → Rose (D.failures disk) (D.failures refused.0)) }
-        ensures count { MatchResult result
-            (λ pager. D.failures pager.disk ≡ D.failures disk)
-            (λ refused. D.failures disk ≤ D.failures refused.0) }
-        ensures honesty { MatchResult result
-            (λ pager. D.is_honest pager.disk ≡ D.is_honest disk)
+        ensures count { MatchResult result (λ pager. D.failures pager.disk ≡ D.failures disk)
+            (λ refused. CountsFault refused.1 (D.failures disk) (D.failures refused.0)) }
+        ensures honesty { MatchResult result (λ pager. D.is_honest pager.disk ≡ D.is_honest disk)
             (λ refused. D.is_honest refused.0 ≡ D.is_honest disk) }
+        ensures untouched { IfErr result (λ refused. refused.1 ≡ Refusal.OutOfMemory → refused.0 ≡ disk) }
     {
-        let slots = match new_slots(alloc) {
-            Ok(slots) => slots,
-            Err(refusal) => return Err((disk, refusal)),
+        let clean = match CleanPages::new(alloc) {
+            Ok(clean) => clean,
+            Err(_) => return Err((disk, Refusal::OutOfMemory)),
         };
         let mut disk = disk;
-        if disk.cut(0).is_err() {
-            return Err((disk, Refusal::Disk));
-        }
-        let mut pager = Pager {
-            disk,
-            limit,
-            slots,
-            kept: FileHeader::empty(),
-            working: FileHeader::empty(),
-            is_header_changed: true,
-            is_begun: false,
-            full_refusals: 0,
-        };
-        match pager.flush() {
-            Ok(()) => Ok(pager),
-            Err(refusal) => Err((pager.into_disk(), refusal)),
+        match write_empty_file(&mut disk) {
+            Ok(()) => Ok(new_pager(alloc, disk, limit, clean, FileHeader::empty())),
+            Err(refusal) => Err((disk, refusal)),
         }
     }
 
-    /// Opens the pages that the disk holds. `limit` is the greatest number of pages. It is refused with 94
-    /// where page 0 is no header, or tells more pages than the limit or the disk has. A refusal (90, 91,
-    /// 94) hands the disk back.
+    /// Opens the pages that the disk holds, and reads page 0 alone. `limit` is the greatest number of pages. It is refused
+    /// with 94 where page 0 is no header, or tells more pages than the limit or the disk has. A refusal (90, 91, 94) hands
+    /// the disk back.
     pub fn open(alloc: Global, disk: D, limit: u32) -> Result<Pager<D>, (D, Refusal)>
         requires least { LEAST_LIMIT ≤ limit }
         requires greatest { limit ≤ GREATEST_LIMIT }
-        ensures stores { IsTrue (D.is_honest disk)
-            → IfOk result (λ pager. Stores (D.seen disk) (committed D.seen pager)) }
-        ensures working { IfOk result (λ pager. SamePages (working D.seen pager) (committed D.seen pager)) }
-        ensures seen { IsTrue (D.is_honest disk) → MatchResult result
-            (λ pager. D.seen pager.disk ≡ D.seen disk)
-            (λ refused. D.seen refused.0 ≡ D.seen disk) }
-        ensures tied { IsTrue (D.is_honest disk) → IfOk result (λ pager. IsTied D.is_honest D.seen pager) }
-        ensures changes { IfOk result (λ pager. HoldsNoChange pager) }
-        ensures nothing_held { IfOk result (λ pager. (number : ℕ) → is_held pager number ≡ false) }
-        ensures least { IfOk result (λ pager. 2 ≤ (committed D.seen pager).fields.pages) }
-        ensures greatest { IfOk result (λ pager. (committed D.seen pager).fields.pages ≤ limit) }
-        ensures limit { IfOk result (λ pager. pager.limit ≡ limit) }
-        ensures shut { IfOk result (λ pager. pager.is_begun ≡ false) }
-        ensures full_refusals { IfOk result (λ pager. pager.full_refusals ≡ 0) }
+        ensures fresh { IfOk result (IsFresh limit) }
+        ensures same { IfOk result (λ pager. SamePages (working D.Disk pager) (committed D.Disk pager)) }
+        ensures opened { IsTrue (D.is_honest disk) → IfOk result (IsOpened D.Disk (D.seen disk)) }
         ensures refused { IfErr result (λ refused. (refused.1 ≡ Refusal.OutOfMemory)
             ⊎ (refused.1 ≡ Refusal.Disk) ⊎ (refused.1 ≡ Refusal.DamagedFile)) }
-        ensures cause { IfErr result (λ refused. refused.1 ≡ Refusal.Disk
-            → Rose (D.failures disk) (D.failures refused.0)) }
         ensures damaged { IsTrue (D.is_honest disk)
             → IfErr result (λ refused. refused.1 ≡ Refusal.DamagedFile → IsNoFile (D.seen disk) limit) }
-        ensures count { MatchResult result
-            (λ pager. D.failures pager.disk ≡ D.failures disk)
-            (λ refused. D.failures disk ≤ D.failures refused.0) }
-        ensures honesty { MatchResult result
-            (λ pager. D.is_honest pager.disk ≡ D.is_honest disk)
+        ensures count { MatchResult result (λ pager. D.failures pager.disk ≡ D.failures disk)
+            (λ refused. CountsFault refused.1 (D.failures disk) (D.failures refused.0)) }
+        ensures honesty { MatchResult result (λ pager. D.is_honest pager.disk ≡ D.is_honest disk)
             (λ refused. D.is_honest refused.0 ≡ D.is_honest disk) }
+        ensures synced { MatchResult result (λ pager. D.is_synced pager.disk ≡ D.is_synced disk)
+            (λ refused. D.is_synced refused.0 ≡ D.is_synced disk) }
+        ensures seen { IsTrue (D.is_honest disk) → MatchResult result (λ pager. D.seen pager.disk ≡ D.seen disk)
+            (λ refused. D.seen refused.0 ≡ D.seen disk) }
+        ensures untouched { IfErr result (λ refused. refused.1 ≡ Refusal.OutOfMemory → refused.0 ≡ disk) }
     {
+        let clean = match CleanPages::new(alloc) {
+            Ok(clean) => clean,
+            Err(_) => return Err((disk, Refusal::OutOfMemory)),
+        };
         let mut disk = disk;
-        let kept = match read_file_header(&mut disk, limit) {
+        let committed_fields = match read_file_header(&mut disk, limit) {
             Ok(fields) => fields,
             Err(refusal) => return Err((disk, refusal)),
         };
-        let slots = match empty_slots(alloc, kept.pages) {
-            Ok(slots) => slots,
-            Err(_) => return Err((disk, Refusal::OutOfMemory)),
-        };
-        let working = kept;
-        Ok(Pager {
-            disk,
-            limit,
-            slots,
-            kept,
-            working,
-            is_header_changed: false,
-            is_begun: false,
-            full_refusals: 0,
-        })
+        Ok(new_pager(alloc, disk, limit, clean, committed_fields))
+    }
+
+    /// The byte that says whether the file is open, as the disk has it: 0 where it is closed. It is refused with 91 alone.
+    pub fn open_flag(&mut self) -> Result<u8, Refusal>
+        ensures flag { IsTrue (D.is_honest self.old.disk)
+            → IfOk result (λ flag. flag ≡ (D.seen self.old.disk).byte FLAG_OFFSET) }
+        ensures seen { IsTrue (D.is_honest self.old.disk) → D.seen self.new.disk ≡ D.seen self.old.disk }
+        ensures keeps { KeepsMaps D.Disk self.old self.new }
+        ensures changes { KeepsChanges self.old self.new }
+        ensures begun { self.new.is_begun ≡ self.old.is_begun }
+        ensures synced { D.is_synced self.new.disk ≡ D.is_synced self.old.disk }
+        ensures refusal { IsOkUnless result Refusal.Disk }
+        ensures count { Counts result (D.failures self.old.disk) (D.failures self.new.disk) }
+    {
+        let mut flag = [0];
+        self.disk
+            .read(FLAG_OFFSET as u64, &mut flag)
+            .map_err(|_| Refusal::Disk)?;
+        Ok(flag[0])
+    }
+
+    /// Writes the byte that says whether the file is open, and waits until it is on the medium. Nothing else is written.
+    /// It is refused with 91 alone, after which any byte may be there.
+    pub fn set_open_flag(&mut self, is_open: bool) -> Result<(), Refusal>
+        ensures flag { IsTrue (D.is_honest self.old.disk)
+            → SetsFlag result is_open (D.seen self.old.disk) (D.seen self.new.disk) }
+        ensures keeps { KeepsMaps D.Disk self.old self.new }
+        ensures changes { KeepsChanges self.old self.new }
+        ensures begun { self.new.is_begun ≡ self.old.is_begun }
+        ensures synced { OnOk result (D.is_synced self.new.disk ≡ true) }
+        ensures refusal { IsOkUnless result Refusal.Disk }
+        ensures count { Counts result (D.failures self.old.disk) (D.failures self.new.disk) }
+    {
+        write_flag(&mut self.disk, is_open)
     }
 }
 
-/// Page 0, of which nothing is held, and the directory.
-fn new_slots(alloc: Global) -> Result<Vec<Slot>, Refusal>
-    ensures slots { IfOk result (λ slots. (page : List ℕ) × IsBlank page Directory 1 0
-        × (slots.items ≡ empty_slot ∷ (changed_slot page ∷ []))) }
-    ensures refused { IsOkUnless result Refusal.OutOfMemory }
+/// Writes the byte of the open flag alone, and syncs.
+fn write_flag<D: Disk>(disk: &mut D, is_open: bool) -> Result<(), Refusal>
+    ensures flag { IsTrue (D.is_honest disk.old) → SetsFlag result is_open (D.seen disk.old) (D.seen disk.new) }
+    ensures honesty { D.is_honest disk.new ≡ D.is_honest disk.old }
+    ensures synced { OnOk result (D.is_synced disk.new ≡ true) }
+    ensures refused { IsOkUnless result Refusal.Disk }
+    ensures count { Counts result (D.failures disk.old) (D.failures disk.new) }
 {
-    let page = new_page(
-        alloc,
-        PageKind::Directory,
-        PageNumber::new(1),
-        PageNumber::new(0),
-    )?;
-    let mut directory = Slot::fresh(page);
-    directory.commit();
-    let mut slots = Vec::with_capacity(alloc, 2).map_err(|_| Refusal::OutOfMemory)?;
-    slots.push(Slot::empty()).map_err(|_| Refusal::OutOfMemory)?;
-    slots.push(directory).map_err(|_| Refusal::OutOfMemory)?;
-    Ok(slots)
+    write_at(disk, FLAG_OFFSET as u64, &[u8::from(is_open)])?;
+    disk.sync().map_err(|_| Refusal::Disk)
 }
 
-/// Slots for so many pages, of which nothing is held.
-fn empty_slots(alloc: Global, pages: u32) -> Result<Vec<Slot>, AllocError>
-    ensures { IfOk result (λ slots. slots.items ≡ replicate pages empty_slot) }
+/// The pager over a disk that has all the pages of these fields.
+fn new_pager<D: Disk>(
+    alloc: Global,
+    disk: D,
+    limit: u32,
+    clean: CleanPages,
+    fields: FileHeader,
+) -> Pager<D>
+    requires empty { clean ≡ [] }
+    requires least { 2 ≤ fields.pages }
+    requires within { fields.pages ≤ limit }
+    requires greatest { limit ≤ GREATEST_LIMIT }
+    ensures fresh { IsFresh limit result }
+    ensures disk { result.disk ≡ disk }
+    ensures committed_fields { result.committed_fields ≡ fields }
 {
-    let mut slots = Vec::with_capacity(alloc, pages as usize)?;
-    for _number in 0..pages {
-        slots.push(Slot::empty())?;
+    let working = fields;
+    Pager {
+        disk,
+        limit,
+        changes: Changes::new(alloc),
+        clean,
+        committed_fields: fields,
+        working,
+        is_header_changed: false,
+        is_begun: false,
+        full_refusals: 0,
     }
-    Ok(slots)
+}
+
+/// Writes the pages of an empty file in place of all that the disk holds, and syncs.
+fn write_empty_file<D: Disk>(disk: &mut D) -> Result<(), Refusal>
+    ensures written { IsTrue (D.is_honest disk.old) → OnOk result (HasEmptyFile (D.seen disk.new)) }
+    ensures honesty { D.is_honest disk.new ≡ D.is_honest disk.old }
+    ensures synced { OnOk result (D.is_synced disk.new ≡ true) }
+    ensures refused { IsOkUnless result Refusal.Disk }
+    ensures count { Counts result (D.failures disk.old) (D.failures disk.new) }
+{
+    disk.cut(0).map_err(|_| Refusal::Disk)?;
+    let directory = Page::blank(PageKind::Directory, PageNumber::new(1), PageNumber::new(0));
+    write_page(disk, 1, &directory)?;
+    write_file_header(disk, &FileHeader::empty())?;
+    disk.sync().map_err(|_| Refusal::Disk)
+}
+
+/// Reads page 0.
+fn read_first_page<D: Disk>(disk: &mut D) -> Result<Page, Refusal>
+    ensures bytes { IsTrue (D.is_honest disk.old)
+        → IfOk result (λ page. page.bytes ≡ disk_page (D.seen disk.old) 0) }
+    ensures same { IsTrue (D.is_honest disk.old) → D.seen disk.new ≡ D.seen disk.old }
+    ensures honesty { D.is_honest disk.new ≡ D.is_honest disk.old }
+    ensures synced { D.is_synced disk.new ≡ D.is_synced disk.old }
+    ensures refused { IsOkUnless result Refusal.Disk }
+    ensures count { Counts result (D.failures disk.old) (D.failures disk.new) }
+{
+    let mut page = Page::new();
+    match disk.read(0, &mut page.bytes) {
+        Ok(()) => Ok(page),
+        Err(_) => Err(Refusal::Disk),
+    }
 }
 
 /// Reads page 0, and looks at its fields and at the disk's length.
-#[tactic(auto, using(rs_disk::proofs::CountLemmas::Rose_counted_on, rs_disk::proofs::CountLemmas::counted_on_le))]
 fn read_file_header<D: Disk>(disk: &mut D, limit: u32) -> Result<FileHeader, Refusal>
     requires { limit ≤ GREATEST_LIMIT }
     ensures read { IsTrue (D.is_honest disk.old)
-        → IfOk result (λ fields. HasFileHeader (D.seen disk.old) fields) }
+        → IfOk result (IsFileHeader (disk_page (D.seen disk.old) 0)) }
     ensures least { IfOk result (λ fields. 2 ≤ fields.pages) }
     ensures greatest { IfOk result (λ fields. fields.pages ≤ limit) }
     ensures room { IsTrue (D.is_honest disk.old)
         → IfOk result (λ fields. PAGE_SIZE * fields.pages ≤ (D.seen disk.old).size) }
     ensures same { IsTrue (D.is_honest disk.old) → D.seen disk.new ≡ D.seen disk.old }
+    ensures honesty { D.is_honest disk.new ≡ D.is_honest disk.old }
+    ensures synced { D.is_synced disk.new ≡ D.is_synced disk.old }
     ensures refused { IfErr result (λ refusal. (refusal ≡ Refusal.Disk) ⊎ (refusal ≡ Refusal.DamagedFile)) }
-    ensures cause { result ≡ Err Refusal.Disk → Rose (D.failures disk.old) (D.failures disk.new) }
+    ensures count { MatchResult result (λ _. D.failures disk.new ≡ D.failures disk.old)
+        (λ refusal. CountsFault refusal (D.failures disk.old) (D.failures disk.new)) }
     ensures damaged { IsTrue (D.is_honest disk.old)
         → result ≡ Err Refusal.DamagedFile → IsNoFile (D.seen disk.old) limit }
-    ensures no_failure { OnOk result (D.failures disk.new ≡ D.failures disk.old) }
-    ensures count { D.failures disk.old ≤ D.failures disk.new }
-    ensures honesty { D.is_honest disk.new ≡ D.is_honest disk.old }
 {
-    let page = read_first(disk)?;
+    let page = read_first_page(disk)?;
     let Some(fields) = FileHeader::read(&page.bytes) else {
         return Err(Refusal::DamagedFile);
     };
@@ -193,18 +221,4 @@ fn read_file_header<D: Disk>(disk: &mut D, limit: u32) -> Result<FileHeader, Ref
         return Err(Refusal::DamagedFile);
     }
     Ok(fields)
-}
-
-/// Reads the bytes of page 0.
-fn read_first<D: Disk>(disk: &mut D) -> Result<Page, Refusal>
-    ensures bytes { IsTrue (D.is_honest disk.old)
-        → IfOk result (λ page. Gives (D.seen disk.old) 0 page.bytes) }
-    ensures same { IsTrue (D.is_honest disk.old) → D.seen disk.new ≡ D.seen disk.old }
-    ensures honesty { D.is_honest disk.new ≡ D.is_honest disk.old }
-    ensures refused { IsOkUnless result Refusal.Disk }
-    ensures count { Counts result (D.failures disk.old) (D.failures disk.new) }
-{
-    let mut page = Page::new();
-    disk.read(0, &mut page.bytes).map_err(|_| Refusal::Disk)?;
-    Ok(page)
 }

@@ -1,203 +1,255 @@
-//! How pages are lent: held first, and read from the disk where they aren't.
+//! The pager as a store of pages: how pages are lent, come into use and are released.
 //!
-//! A page is looked at when it comes from the disk. One to be changed is lent as a copy of its own.
+//! A page is looked at each time that it is lent, unless it is held as a change. One to be changed is lent as a copy of
+//! its own.
 
-ghost use Rattle.std.specs.Prelude.{◌≡◌, ◌≢◌, ◌⊎◌, ◌≤◌, ◌<◌, ℕ, List, true, false, None, Some, Err, IsTrue, IsSome, IfOk, IfErr, OnErr, OnOk, length};
-ghost use Rattle.rs_disk.specs.Counts.{Rose};
-ghost use Rattle.rs_pager.specs.Slot.{working_of};
-ghost use Rattle.rs_pager.specs.Pages.{HasPage};
-ghost use Rattle.rs_pager.specs.Paged.{slot_at};
-ghost use Rattle.rs_pager.specs.Maps.{working, is_held, IsTied};
-ghost use Rattle.rs_pager.specs.Changes.{held_change, IsHeldChange, IsNotInUse};
-ghost use Rattle.rs_pager.specs.Rests.{Rests};
-ghost use Rattle.rs_pager.specs.Reading.{MayBeRead, IsFit, IsUnfit, IsInUse, ReadsUnfit, ReadsFit, HasNoFit};
-ghost use Rattle.rs_pager.specs.Copying.{CopiesPage};
+ghost use Rattle.std.specs.Prelude.{◌≡◌, ◌≢◌, ◌<◌, ℕ, true, IfErr, IfOk, IfSome, IfNone, OnErr, OnOk, IsOkUnless};
+ghost use Rattle.rs_page.specs.declared.header.PageKind.{PageKind};
+ghost use Rattle.rs_pages.specs.Lending.{RestsAfter};
+ghost use Rattle.rs_pages.specs.Uses.{RefusesToEdit, AllocatesPage, RefusesPage, ReleasesPage};
+ghost use Rattle.rs_pager.specs.Maps.{pager_store, KeepsBelow, IsTied};
 
-use crate::header::PageHeader;
-use crate::number::PageNumber;
-use crate::page::Page;
 use crate::pager::Pager;
-use rs_disk::{Disk, PAGE_SIZE};
+use rs_disk::Disk;
 use rs_measure::Refusal;
-use std::alloc::Global;
+use rs_page::{ContentKind, Page, PageKind, PageNumber};
+use rs_pages::Pages;
 
-impl<D: Disk> Pager<D> {
-    ghost use Rattle.rs_pager.specs.Lending.{page_rests, page_returns};
-    ghost use Rattle.std.specs.Borrow.{sem};
+impl<D: Disk> Pages for Pager<D> {
+    ghost use Rattle.rs_pager.specs.Maps.{pager_store, KeepsBelow, IsTied};
+    ghost use Rattle.rs_pager.specs.Below.{KeepsBelow-refl, KeepsBelow-trans};
+    ghost use Rattle.rs_pages.specs.PageMap.{with_catalogue};
+    ghost use Rattle.rs_pages.specs.Uses.{SetsCatalogue};
 
-    /// The working page with this number; the committed one where no changes are open. It is refused with
-    /// 94 where no such page is in use, or its first 16 bytes don't fit it; with 90 or 91 where it could
-    /// not be read.
-    pub fn page(&mut self, number: PageNumber) -> Result<&Page, Refusal>
-        ensures* rests { sem 𝓛 (page_rests D.row D.Disk self.entry result) }
-        ensures bytes { IsTied D.is_honest D.seen self.old
-            → IfOk result (λ page. HasPage (working D.seen self.old) number page.now.bytes) }
-        ensures held { IfOk result (λ page. IsHeldChange self.old number page.now.bytes) }
-        ensures in_use { IfOk result (λ page. IsInUse page.now.bytes) }
-        ensures behind { OnOk result (0 < number) }
-        ensures below { OnOk result (number < (working D.seen self.old).fields.pages) }
-        ensures fits { IfOk result (λ page. is_held self.old number ≡ false
-            → IsFit page.now.bytes number (working D.seen self.old).fields.pages) }
-        ensures lent { (page : List ℕ) → held_change self.old number ≡ Some page → IsInUse page → OnErr result ⊥ }
-        ensures refused { IfErr result (λ refusal. (refusal ≡ Refusal.OutOfMemory)
-            ⊎ (refusal ≡ Refusal.Disk) ⊎ (refusal ≡ Refusal.DamagedFile)) }
-        ensures damaged { IsTied D.is_honest D.seen self.old
-            → IfErr result (λ refusal. refusal ≡ Refusal.DamagedFile
-            → IsNotInUse (working D.seen self.old) number) }
-    {
+    ghost store = { pager_store D.Disk };
+
+    ghost is_tied = { IsTied D.Disk };
+
+    ghost keeps = { KeepsBelow D.Disk };
+
+    ghost keeps_refl = { KeepsBelow-refl _ };
+
+    ghost keeps_trans = { KeepsBelow-trans _ };
+
+    ghost keeps_tied = { λ a b keeps. keeps.tied };
+
+    fn page(&mut self, number: PageNumber) -> Result<&Page, Refusal> {
         self.load(number)?;
-        match self.slots[number.number() as usize].working() {
-            Some(page) if !page.is_free() => Ok(page),
-            _ => Err(Refusal::DamagedFile),
-        }
-    }
-
-    /// The working page with this number, to be changed. It is refused as `page` refuses it, and with 90 where
-    /// there is no memory for a copy.
-    pub fn page_mut(&mut self, number: PageNumber) -> Result<&mut Page, Refusal>
-        requires { self.old.is_begun ≡ true }
-        ensures* returns { sem 𝓛 (page_returns D.row D.Disk self.entry number result) }
-        ensures bytes { IsTied D.is_honest D.seen self.old
-            → IfOk result (λ page. HasPage (working D.seen self.old) number page.now.bytes) }
-        ensures held { IfOk result (λ page. IsHeldChange self.old number page.now.bytes) }
-        ensures in_use { IfOk result (λ page. IsInUse page.now.bytes) }
-        ensures behind { OnOk result (0 < number) }
-        ensures below { OnOk result (number < (working D.seen self.old).fields.pages) }
-        ensures fits { IfOk result (λ page. is_held self.old number ≡ false
-            → IsFit page.now.bytes number (working D.seen self.old).fields.pages) }
-        ensures refused { IfErr result (λ refusal. (refusal ≡ Refusal.OutOfMemory)
-            ⊎ (refusal ≡ Refusal.Disk) ⊎ (refusal ≡ Refusal.DamagedFile)) }
-        ensures damaged { IsTied D.is_honest D.seen self.old
-            → IfErr result (λ refusal. refusal ≡ Refusal.DamagedFile
-            → IsNotInUse (working D.seen self.old) number) }
-        ensures lent { (page : List ℕ) → held_change self.old number ≡ Some page → IsInUse page
-            → IfErr result (λ refusal. refusal ≡ Refusal.OutOfMemory) }
-    {
-        if let Err(refusal) = self.copy(number) {
-            return Err(refusal);
-        }
-        let slot = &mut self.slots[number.number() as usize];
-        match slot.copy_mut() {
+        match self.used(number) {
             Some(page) => Ok(page),
             None => Err(Refusal::DamagedFile),
         }
     }
 
-    /// Holds a copy of the working page with this number.
-    fn copy(&mut self, number: PageNumber) -> Result<(), Refusal>
-        requires { self.old.is_begun ≡ true }
-        ensures below { OnOk result (number < self.new.working.pages) }
-        ensures behind { OnOk result (0 < number) }
-        ensures slots { length self.new.slots ≡ self.new.working.pages }
-        ensures copied { OnOk result ((page : List ℕ)
-            × CopiesPage D.is_honest D.seen D.failures number page self.old self.new) }
-        ensures rests { OnErr result (Rests D.is_honest D.seen D.failures self.old self.new) }
-        ensures cause { result ≡ Err Refusal.Disk
-            → Rose (D.failures self.old.disk) (D.failures self.new.disk) }
-        ensures refusals { IfErr result (λ refusal. (refusal ≡ Refusal.OutOfMemory)
-            ⊎ (refusal ≡ Refusal.Disk) ⊎ (refusal ≡ Refusal.DamagedFile)) }
-        ensures damaged { IsTied D.is_honest D.seen self.old → result ≡ Err Refusal.DamagedFile
-            → IsNotInUse (working D.seen self.old) number }
-        ensures lent { (page : List ℕ) → working_of (slot_at self.old.slots number) ≡ Some page → IsInUse page
-            → IfErr result (λ refusal. refusal ≡ Refusal.OutOfMemory) }
-    {
-        self.load(number)?;
-        let alloc = *self.slots.allocator();
-        self.slots[number.number() as usize].make_copy(alloc)
+    fn page_mut(&mut self, number: PageNumber) -> Result<&mut Page, Refusal> {
+        if let Err(refusal) = self.copy(number) {
+            return Err(refusal);
+        }
+        match self.changes.copy_mut(number) {
+            Some(page) => Ok(page),
+            None => Err(Refusal::DamagedFile),
+        }
     }
 
-    /// Holds the working page with this number.
-    pub(crate) fn load(&mut self, number: PageNumber) -> Result<(), Refusal>
-        ensures cause { result ≡ Err Refusal.Disk
-            → Rose (D.failures self.old.disk) (D.failures self.new.disk) }
-        ensures not_full { result ≢ Err Refusal.FileFull }
-        ensures refusals { IfErr result (λ refusal. (refusal ≡ Refusal.OutOfMemory)
-            ⊎ (refusal ≡ Refusal.Disk) ⊎ (refusal ≡ Refusal.DamagedFile)) }
-        ensures below { OnOk result (number < self.new.working.pages) }
-        ensures slots { length self.new.slots ≡ self.new.working.pages }
-        ensures behind { OnOk result (0 < number) }
-        ensures held { OnOk result (IsSome (working_of (slot_at self.new.slots number))) }
-        ensures fits { OnOk result (ReadsFit number self.old self.new) }
-        ensures rests { Rests D.is_honest D.seen D.failures self.old self.new }
-        ensures damaged { IsTied D.is_honest D.seen self.old → result ≡ Err Refusal.DamagedFile
-            → HasNoFit (working D.seen self.old) number }
-        ensures found { IsSome (working_of (slot_at self.old.slots number)) → OnErr result ⊥ }
-        ensures kept { IsSome (working_of (slot_at self.old.slots number))
-            → working_of (slot_at self.new.slots number) ≡ working_of (slot_at self.old.slots number) }
-    {
-        if number.number() == 0 || number.number() >= self.working.pages {
+    fn allocate(&mut self, kind: ContentKind) -> Result<PageNumber, Refusal> {
+        if self.working.first_free.number() == 0 {
+            self.allocate_last(kind.kind())
+        } else {
+            self.allocate_free(kind.kind())
+        }
+    }
+
+    fn release(&mut self, number: PageNumber) -> Result<(), Refusal> {
+        if number.number() == 1 {
             return Err(Refusal::DamagedFile);
         }
-        if self.slots[number.number() as usize].working().is_some() {
-            return Ok(());
-        }
-        self.hold_read(number)
+        self.load(number)?;
+        self.free(number)
     }
 
-    /// Reads the page with this number, of which nothing is held, and holds it.
-    fn hold_read(&mut self, number: PageNumber) -> Result<(), Refusal>
-        requires behind { 0 < number }
-        requires below { number < self.old.working.pages }
-        requires nothing { working_of (slot_at self.old.slots number) ≡ None }
-        ensures below { number < self.new.working.pages }
-        ensures slots { length self.new.slots ≡ self.new.working.pages }
-        ensures cause { result ≡ Err Refusal.Disk
-            → Rose (D.failures self.old.disk) (D.failures self.new.disk) }
-        ensures not_full { result ≢ Err Refusal.FileFull }
-        ensures refusals { IfErr result (λ refusal. (refusal ≡ Refusal.OutOfMemory)
-            ⊎ (refusal ≡ Refusal.Disk) ⊎ (refusal ≡ Refusal.DamagedFile)) }
-        ensures held { OnOk result (IsSome (working_of (slot_at self.new.slots number))) }
-        ensures fits { OnOk result (ReadsFit number self.old self.new) }
-        ensures rests { Rests D.is_honest D.seen D.failures self.old self.new }
-        ensures damaged { IsTied D.is_honest D.seen self.old → result ≡ Err Refusal.DamagedFile
-            → HasNoFit (working D.seen self.old) number }
+    fn count(&self) -> u32 {
+        self.working.pages
+    }
+
+    fn next_free(&mut self, number: PageNumber) -> Result<PageNumber, Refusal> {
+        self.load_free(number)
+    }
+
+    fn free_list(&self) -> (PageNumber, u32) {
+        (self.working.first_free, self.working.free_pages)
+    }
+
+    fn catalogue(&self) -> (PageNumber, u32) {
+        (self.working.catalogue, self.working.catalogue_length)
+    }
+
+    fn set_catalogue(&mut self, first: PageNumber, length: u32)
+        requires { self.old.is_begun ≡ true }
+        ensures alone { self.new ≡ record self.old { working = with_catalogue first length self.old.working } }
+        ensures sets { SetsCatalogue (IsTied D.Disk self.old) first length
+            (pager_store D.Disk self.old) (pager_store D.Disk self.new) }
+        ensures keeps { KeepsBelow D.Disk self.old self.new }
     {
-        let index = number.number() as usize;
-        let alloc = *self.slots.allocator();
-        let page = read_page(&mut self.disk, alloc, number, self.working.pages)?;
-        self.slots[index].hold(page);
+        self.working.catalogue = first;
+        self.working.catalogue_length = length;
+    }
+}
+
+impl<D: Disk> Pager<D> {
+    ghost use Rattle.rs_pager.specs.Copying.{CopiesPage, RefusesCopy, HasCopy, LacksCopy};
+    ghost use Rattle.rs_pager.specs.Found.{IsAtHand};
+    ghost use Rattle.rs_pager.specs.Taking.{FindsFree, FindsNoFree, RefusesToTake, RefusesToFree};
+
+    /// Holds a working copy of the page with this number.
+    fn copy(&mut self, number: PageNumber) -> Result<(), Refusal>
+        requires { self.old.is_begun ≡ true }
+        ensures copies { OnOk result (CopiesPage D.Disk number self.old self.new) }
+        ensures rests { OnErr result (RestsAfter (IsTied D.Disk) (pager_store D.Disk) (KeepsBelow D.Disk) result self.old self.new) }
+        ensures refused { IfErr result (RefusesToEdit (IsTied D.Disk self.old) (pager_store D.Disk self.old) number) }
+    {
+        self.load(number)?;
+        self.copy_at_hand(number)
+    }
+
+    /// Holds a working copy of the page with this number, which is at hand. After a refusal (90, 94) nothing has changed.
+    fn copy_at_hand(&mut self, number: PageNumber) -> Result<(), Refusal>
+        requires begun { self.old.is_begun ≡ true }
+        requires at_hand { IsAtHand number self.old }
+        ensures copies { OnOk result (CopiesPage D.Disk number self.old self.new) }
+        ensures same { OnErr result (self.new ≡ self.old) }
+        ensures refused { IfErr result (RefusesCopy D.Disk number self.old) }
+    {
+        if let Some(copy) = self.copy_of(number)? {
+            self.changes
+                .put_copy(number, copy)
+                .map_err(|_| Refusal::OutOfMemory)?;
+        }
         Ok(())
     }
-}
 
-/// Reads a page, and looks at its first 16 bytes.
-#[tactic(auto, using(rs_disk::proofs::CountLemmas::Rose_counted_on, rs_disk::proofs::CountLemmas::counted_on_le))]
-fn read_page<D: Disk>(
-    disk: &mut D,
-    alloc: Global,
-    number: PageNumber,
-    pages: u32,
-) -> Result<Box<Page>, Refusal>
-    ensures cause { result ≡ Err Refusal.Disk → Rose (D.failures disk.old) (D.failures disk.new) }
-    ensures not_full { result ≢ Err Refusal.FileFull }
-    ensures refusals { IfErr result (λ refusal. (refusal ≡ Refusal.OutOfMemory)
-        ⊎ (refusal ≡ Refusal.Disk) ⊎ (refusal ≡ Refusal.DamagedFile)) }
-    ensures bytes { IsTrue (D.is_honest disk.old)
-        → IfOk result (λ page. MayBeRead (D.seen disk.old) number page.value.bytes) }
-    ensures fits { IfOk result (λ page. IsFit page.value.bytes number pages) }
-    ensures damaged { IsTrue (D.is_honest disk.old) → result ≡ Err Refusal.DamagedFile
-        → ReadsUnfit (D.seen disk.old) number pages }
-    ensures same { IsTrue (D.is_honest disk.old) → D.seen disk.new ≡ D.seen disk.old }
-    ensures count { D.failures disk.old ≤ D.failures disk.new }
-    ensures honesty { D.is_honest disk.new ≡ D.is_honest disk.old }
-{
-    let mut page = Box::new(alloc, Page::new()).map_err(|_| Refusal::OutOfMemory)?;
-    let at = u64::from(number.number()) * PAGE_SIZE as u64;
-    disk.read(at, &mut page.bytes).map_err(|_| Refusal::Disk)?;
-    if begins_fit(&page, number, pages) {
-        Ok(page)
-    } else {
-        Err(Refusal::DamagedFile)
+    /// The working page with this number, which is at hand, in memory of its own; none where it has a working copy.
+    fn copy_of(&self, number: PageNumber) -> Result<Option<Box<Page>>, Refusal>
+        requires { IsAtHand number self.now }
+        ensures copy { IfOk result (λ copy. IfSome copy (λ page. LacksCopy D.Disk number page.value.bytes self.now)) }
+        ensures copied { IfOk result (λ copy. IfNone copy (HasCopy D.Disk number self.now)) }
+        ensures refused { IfErr result (RefusesCopy D.Disk number self.now) }
+    {
+        let Some(page) = self.used(number) else {
+            return Err(Refusal::DamagedFile);
+        };
+        if self.changes.has_copy(number) {
+            return Ok(None);
+        }
+        let copy = Box::new(self.changes.allocator(), *page).map_err(|_| Refusal::OutOfMemory)?;
+        Ok(Some(copy))
     }
-}
 
-/// Whether the page begins with a header that fits this number, in a file of so many pages.
-fn begins_fit(page: &Page, number: PageNumber, pages: u32) -> bool
-    ensures fits { result ≡ true → IsFit page.now.bytes number pages }
-    ensures unfit { result ≡ false → IsUnfit page.now.bytes number pages }
-{
-    match PageHeader::read(&page.bytes) {
-        Some(header) => header.fits(number, pages),
-        None => false,
+    /// A page after the last one.
+    fn allocate_last(&mut self, kind: PageKind) -> Result<PageNumber, Refusal>
+        requires begun { self.old.is_begun ≡ true }
+        requires none_free { self.old.working.first_free ≡ 0 }
+        ensures allocates { IfOk result (λ number.
+            AllocatesPage (IsTied D.Disk self.old) kind number (pager_store D.Disk self.old) (pager_store D.Disk self.new)) }
+        ensures refused { IfErr result (λ why.
+            RefusesPage (IsTied D.Disk self.old) why (pager_store D.Disk self.old) (pager_store D.Disk self.new)) }
+        ensures keeps { KeepsBelow D.Disk self.old self.new }
+    {
+        if self.working.pages >= self.limit {
+            self.full_refusals = self.full_refusals.saturating_add(1);
+            return Err(Refusal::FileFull);
+        }
+        let number = PageNumber::new(self.working.pages);
+        self.changes.put_blank(kind, number, PageNumber::new(0))?;
+        self.working.pages += 1;
+        Ok(number)
+    }
+
+    /// The first page of the free list.
+    fn allocate_free(&mut self, kind: PageKind) -> Result<PageNumber, Refusal>
+        requires begun { self.old.is_begun ≡ true }
+        requires some_free { self.old.working.first_free ≢ 0 }
+        ensures allocates { IfOk result (λ number.
+            AllocatesPage (IsTied D.Disk self.old) kind number (pager_store D.Disk self.old) (pager_store D.Disk self.new)) }
+        ensures refused { IfErr result (λ why.
+            RefusesPage (IsTied D.Disk self.old) why (pager_store D.Disk self.old) (pager_store D.Disk self.new)) }
+        ensures keeps { KeepsBelow D.Disk self.old self.new }
+    {
+        let number = self.working.first_free;
+        let next = self.load_free(number)?;
+        self.take_free(kind, number, next)?;
+        Ok(number)
+    }
+
+    /// Holds the free page with this number, and answers the one that follows it in the free list.
+    fn load_free(&mut self, number: PageNumber) -> Result<PageNumber, Refusal>
+        ensures rests { RestsAfter (IsTied D.Disk) (pager_store D.Disk) (KeepsBelow D.Disk) result self.old self.new }
+        ensures at_hand { OnOk result (IsAtHand number self.new) }
+        ensures free { IfOk result (λ next. FindsFree number next self.new) }
+        ensures none { IfErr result (FindsNoFree D.Disk number self.old) }
+    {
+        self.load(number)?;
+        self.free_after(number)
+    }
+
+    /// The page that follows this free one, which is at hand, in the free list.
+    fn free_after(&self, number: PageNumber) -> Result<PageNumber, Refusal>
+        ensures free { IfOk result (λ next. FindsFree number next self.now) }
+        ensures none { OnErr result ((next : ℕ) → FindsFree number next self.now → ⊥) }
+        ensures refused { IsOkUnless result Refusal.DamagedFile }
+    {
+        let Some(page) = self.found(number) else {
+            return Err(Refusal::DamagedFile);
+        };
+        match page.free_link(number, self.working.pages) {
+            Some(next) => Ok(next),
+            None => Err(Refusal::DamagedFile),
+        }
+    }
+
+    /// Takes the first page of the free list, which is at hand, from it. After a refusal (90, 94) nothing has changed.
+    fn take_free(
+        &mut self,
+        kind: PageKind,
+        number: PageNumber,
+        next: PageNumber,
+    ) -> Result<(), Refusal>
+        requires begun { self.old.is_begun ≡ true }
+        requires first { self.old.working.first_free ≡ number }
+        requires at_hand { IsAtHand number self.old }
+        requires free { FindsFree number next self.old }
+        ensures allocates { OnOk result
+            (AllocatesPage (IsTied D.Disk self.old) kind number (pager_store D.Disk self.old) (pager_store D.Disk self.new)) }
+        ensures keeps { KeepsBelow D.Disk self.old self.new }
+        ensures same { OnErr result (self.new ≡ self.old) }
+        ensures refused { IfErr result (RefusesToTake self.old) }
+    {
+        if self.working.free_pages == 0 {
+            return Err(Refusal::DamagedFile);
+        }
+        self.changes.put_blank(kind, number, PageNumber::new(0))?;
+        self.working.first_free = next;
+        self.working.free_pages -= 1;
+        Ok(())
+    }
+
+    /// Puts the page with this number, which is at hand, into the free list. After a refusal (90, 94) nothing has changed.
+    fn free(&mut self, number: PageNumber) -> Result<(), Refusal>
+        requires begun { self.old.is_begun ≡ true }
+        requires past { 1 < number }
+        requires at_hand { IsAtHand number self.old }
+        ensures releases { OnOk result
+            (ReleasesPage (IsTied D.Disk self.old) number (pager_store D.Disk self.old) (pager_store D.Disk self.new)) }
+        ensures keeps { KeepsBelow D.Disk self.old self.new }
+        ensures same { OnErr result (self.new ≡ self.old) }
+        ensures refused { IfErr result (RefusesToFree D.Disk number self.old) }
+    {
+        if self.used(number).is_none() || self.working.free_pages >= self.working.pages {
+            return Err(Refusal::DamagedFile);
+        }
+        self.changes
+            .put_blank(PageKind::Free, number, self.working.first_free)?;
+        self.working.first_free = number;
+        self.working.free_pages += 1;
+        Ok(())
     }
 }

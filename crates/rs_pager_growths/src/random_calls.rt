@@ -1,9 +1,8 @@
 //! Pseudo-random calls of a pager, always the same ones, in any order. They take no memory.
 
-use crate::judge::Call;
-use crate::pages::LIMIT;
 use rand_core::utils::NextWord;
 use rand_pcg::Pcg32;
+use rs_pager_judge::{Call, LIMIT};
 
 /// Makes the calls.
 #[derive(Drop)]
@@ -35,7 +34,7 @@ impl RandomCalls {
         mark
     }
 
-    /// The next call. The directory is never released.
+    /// The next call.
     pub fn next_call(&mut self) -> Call {
         match self.below(16) {
             0..=2 => Call::Page(self.number(0)),

@@ -1,10 +1,11 @@
 //! A pager of 1,100 pages: flushed, forgotten, read whole, opened again, and 200 of them released.
 
-use crate::driver::Driver;
 use crate::expect::expect;
-use rs_disk::{Disk, MemoryDisk};
+use crate::image::{disk_of, made};
+use rs_disk::Disk;
 use rs_measure::Refusal;
-use rs_pager::PageKind;
+use rs_page::ContentKind;
+use rs_pager_judge::Driver;
 use std::alloc::Global;
 use std::test::Fail;
 
@@ -17,87 +18,113 @@ const PAGES: u32 = 1_102;
 /// How many pages are released.
 const RELEASED: u32 = 200;
 
-/// The page that is released as the one with this number, from 0: one page in five.
+/// The page that is released as the one with this number, from 0: one page in five. Before the first there is none.
 fn released(k: u32) -> u32 {
     k.saturating_mul(5).saturating_add(2)
 }
 
-/// Whether this page is released.
-fn is_released(number: u32) -> bool {
-    number % 5 == 2 && number < released(RELEASED)
-}
-
-/// A file of 1,100 catalogue pages that end in their numbers, flushed.
-fn large(alloc: Global) -> Result<Driver<MemoryDisk>, Fail> {
-    let Ok(mut driver) = Driver::create(alloc, MemoryDisk::new(alloc), LIMIT) else {
-        return Err("not created".into());
-    };
-    for number in 2..PAGES {
-        let answer = driver.allocate(PageKind::Catalogue);
-        expect(answer == Ok(number), "pages come in their order")?;
-        driver.write(number, 4_092, &number.to_be_bytes())?;
-    }
-    driver.commit();
-    driver.flush()?;
+/// A file of catalogue pages that end in their numbers, so many pages in all, committed.
+pub fn numbered(alloc: Global, pages: u32, failing_call: u64) -> Result<Driver, Fail> {
+    let disk = disk_of(alloc, &[], failing_call)?;
+    let mut driver = made(Driver::create(alloc, disk, LIMIT))?;
+    number_pages(&mut driver, pages)?;
     Ok(driver)
 }
 
-/// Whether a page ends in its number.
-fn is_numbered<D: Disk>(driver: &mut Driver<D>, number: u32) -> Result<bool, Refusal> {
-    let page = driver.page(number)?;
-    let end = &page.bytes[4_092..];
-    Ok(end == number.to_be_bytes().as_slice())
+/// Allocates catalogue pages that end in their numbers, and commits them.
+fn number_pages(driver: &mut Driver, pages: u32) -> Result<(), Fail> {
+    for number in 2..pages {
+        let answer = driver.allocate(ContentKind::Catalogue);
+        expect(answer == Ok(number), "pages come in their order")?;
+        driver.write(number, 4_092, &number.to_be_bytes())?;
+    }
+    driver.end(true);
+    Ok(())
 }
 
-/// Asserts that each page ends in its number, and that those that are free aren't lent.
-fn expect_pages<D: Disk>(driver: &mut Driver<D>, are_released: bool) -> Result<(), Fail> {
+/// Whether a page ends in its number.
+fn is_numbered(driver: &mut Driver, number: u32) -> Result<bool, Refusal> {
+    let page = driver.page(number)?;
+    Ok(&page.bytes[4_092..] == number.to_be_bytes().as_slice())
+}
+
+/// Asserts that each page ends in its number, those left out that are free, and that as many are held as may be.
+fn expect_pages(driver: &mut Driver, are_released: bool) -> Result<(), Fail> {
     for number in 2..PAGES {
-        let is_free = are_released && is_released(number);
-        let answer = is_numbered(driver, number);
+        let is_free = are_released && number % 5 == 2 && number < released(RELEASED);
         let wanted = if is_free {
             Err(Refusal::DamagedFile)
         } else {
             Ok(true)
         };
+        let answer = is_numbered(driver, number);
         expect(answer == wanted, "a page is read as written, or free")?;
+        let read = number.saturating_sub(1);
+        expect(
+            driver.held() == (0, read.min(256)),
+            "256 clean pages are held at the most",
+        )?;
     }
     Ok(())
 }
 
 /// Gives the disk back, and opens it.
-fn opened_again(alloc: Global, driver: Driver<MemoryDisk>) -> Result<Driver<MemoryDisk>, Fail> {
+fn opened_again(alloc: Global, driver: Driver) -> Result<Driver, Fail> {
     let disk = driver.into_disk();
     expect(disk.pages() == PAGES, "the disk is as long as its pages")?;
-    match Driver::open(alloc, disk, LIMIT) {
-        Ok(driver) => Ok(driver),
-        Err(_) => Err("not opened".into()),
-    }
+    made(Driver::open(alloc, disk, LIMIT))
 }
 
-#[test]
-fn a_large_file_is_read_whole(rt: HostRuntime) -> Result<(), Fail> {
-    let mut driver = large(rt.alloc())?;
+/// Writes the pages out, and reads all of them, twice.
+fn flush_and_read(driver: &mut Driver) -> Result<(), Fail> {
+    expect(driver.held() == (1_100, 0), "each page is a change")?;
+    driver.flush()?;
+    expect_pages(driver, false)?;
     driver.forget();
-    expect_pages(&mut driver, false)?;
-    let mut driver = opened_again(rt.alloc(), driver)?;
-    expect_pages(&mut driver, false)
+    expect_pages(driver, false)
 }
 
-#[test]
-fn many_pages_are_released_and_handed_out_again(rt: HostRuntime) -> Result<(), Fail> {
-    let driver = large(rt.alloc())?;
-    let mut driver = opened_again(rt.alloc(), driver)?;
+/// Reads all pages, and releases 200 of them.
+fn read_and_release(driver: &mut Driver) -> Result<(), Fail> {
+    expect_pages(driver, false)?;
     for k in 0..RELEASED {
         driver.release(released(k))?;
     }
-    driver.commit();
+    driver.end(true);
     driver.flush()?;
-    let mut driver = opened_again(rt.alloc(), driver)?;
-    expect_pages(&mut driver, true)?;
+    Ok(())
+}
+
+/// Asserts that the free list is the pages that were released, the last one first.
+fn expect_free_list(driver: &mut Driver) -> Result<(), Fail> {
+    let mut free = driver.fields().first_free.number();
     for k in (0..RELEASED).rev() {
-        let answer = driver.allocate(PageKind::Leaf);
+        expect(free == released(k), "the last one comes first")?;
+        free = driver.next_free(free)?;
+    }
+    let is_counted = driver.fields().free_pages == RELEASED;
+    expect(free == 0 && is_counted, "there are no others")
+}
+
+/// Reads all pages that are in use, and allocates those that were released.
+fn read_and_allocate(driver: &mut Driver) -> Result<(), Fail> {
+    expect_pages(driver, true)?;
+    expect_free_list(driver)?;
+    for k in (0..RELEASED).rev() {
+        let answer = driver.allocate(ContentKind::Leaf);
         expect(answer == Ok(released(k)), "the last one comes first")?;
     }
-    let answer = driver.allocate(PageKind::Leaf);
-    expect(answer == Ok(PAGES), "none is free")
+    let answer = driver.allocate(ContentKind::Leaf);
+    let is_longer = answer == Ok(PAGES) && driver.fields().pages == 1_103;
+    expect(is_longer, "none is free, so the file is a page longer")
+}
+
+#[test]
+fn a_large_file_is_read_whole_and_reused(rt: HostRuntime) -> Result<(), Fail> {
+    let mut driver = numbered(rt.alloc(), PAGES, 0)?;
+    flush_and_read(&mut driver)?;
+    let mut driver = opened_again(rt.alloc(), driver)?;
+    read_and_release(&mut driver)?;
+    let mut driver = opened_again(rt.alloc(), driver)?;
+    read_and_allocate(&mut driver)
 }

@@ -1,14 +1,13 @@
 -- The free list: there is one, no page is in it twice, it is shorter than the count, and what is written elsewhere
 -- leaves it.
-use Rattle.std.proofs.Common.{◌≡◌, ◌≢◌, ◌<◌, ◌≤◌, ◌+◌, ◌-◌, ℕ, suc, true, false, Some, None, List, [], ◌∷◌, length, drop, ap, sym, ◌∙◌, subst, refl, inl, inr, ◌⊎◌, arith}
+use Rattle.std.proofs.Common.{◌≡◌, ◌≢◌, ◌<◌, ◌≤◌, ◌+◌, ◌-◌, ℕ, zero, suc, true, false, Some, None, List, [], ◌∷◌, length, drop, get_or, slice_index, nat_lt, Contains, ap, sym, ◌∙◌, subst, refl, inl, inr, ◌⊎◌, arith}
 use Rattle.std.proofs.Math.Dec.{eqb}
-use Rattle.std.proofs.lemmas.Bool.Decides.{eqb_tells}
-use Rattle.std.proofs.lemmas.Map.Keys.{IsDistinct-cons}
+use Rattle.std.proofs.lemmas.Bool.Decides.{eqb_tells, nat_tests}
+use Rattle.std.proofs.lemmas.Map.Keys.{IsDistinct-cons, apart_from_distinct}
 use Rattle.std.proofs.lemmas.Map.Steps.{length-le_from_distinct_below}
 use Rattle.std.specs.List.{AllByRecursion, IsDistinct, list_any}
-use Rattle.rs_page.specs.Header.{Fits}
 use Rattle.rs_page.specs.Follow.{MayFollow}
-use Rattle.rs_page.specs.PageBytes.{empty_header, is_free}
+use Rattle.rs_page.specs.PageBytes.{empty_header, is_free, IsFreeLink}
 use Rattle.rs_page.specs.declared.file_header.FileHeader.{FileHeader}
 use Rattle.rs_page.specs.declared.header.PageHeader.{PageHeader}
 use Rattle.rs_page.specs.declared.header.PageKind.{PageKind}
@@ -26,12 +25,12 @@ page_one map n a b one other = let same : Some a ≡ Some b = sym one ∙ other 
 next_one : (map : PageMap) (n a b : ℕ) → IsFreePage map n a → IsFreePage map n b → a ≡ b
 next_one map n a b one other =
     let page : one.page ≡ other.page = page_one map n one.page other.page one.there other.there in
-    let header : IsHeader other.page (empty_header Free n a) = subst (λ p. IsHeader p (empty_header Free n a)) page one.header in
-    ap (λ (h : PageHeader). h.next) (header_is_one other.page (empty_header Free n a) (empty_header Free n b) header other.header)
+    let header : IsHeader other.page (empty_header Free n a) = subst (λ p. IsHeader p (empty_header Free n a)) page one.link.blank.header in
+    ap (λ (h : PageHeader). h.next) (header_is_one other.page (empty_header Free n a) (empty_header Free n b) header other.link.blank.header)
 
 -- a free page has a number past the header and the directory
 free_past : (map : PageMap) (n next : ℕ) → IsFreePage map n next → 1 < n
-free_past map n next free = free.fits.1.0
+free_past map n next free = free.link.fits.1.0
 
 not_zero : (n : ℕ) → 1 < n → n ≡ 0 → ⊥
 not_zero n h e = omega arith
@@ -84,19 +83,18 @@ free-not_used map n page there free = rw (there, free) refl
 -- a page in use is no free page
 pub not_free : (map : PageMap) (n : ℕ) (page : List ℕ) → in_use map n ≡ Some page → ((next : ℕ) × IsFreePage map n next) → ⊥
 not_free map n page used free =
-    let none : in_use map n ≡ None = free-not_used map n free.1.page free.1.there (begins_free free.1.page n free.0 free.1.header) in
+    let none : in_use map n ≡ None = free-not_used map n free.1.page free.1.there (begins_free free.1.page n free.0 free.1.link.blank.header) in
     let wrong : Some page ≡ None = sym used ∙ none in
     cc
 
 -- a page that another call wrote over stays free
 free_kept : (old new : PageMap) (n m next : ℕ) → KeepsOtherPages n old new → old.fields.pages ≤ new.fields.pages → m ≢ n → IsFreePage old m next
-    → (Fits (empty_header Free m next) m old.fields.pages → Fits (empty_header Free m next) m new.fields.pages) → IsFreePage new m next
-free_kept old new n m next keeps count ne free fits = record {
+    → ((page : List ℕ) → IsFreeLink page m next old.fields.pages → IsFreeLink page m next new.fields.pages) → IsFreePage new m next
+free_kept old new n m next keeps count ne free links = record {
   below = omega (arith, free.below);
   page = free.page;
   there = keeps.pages m ne ∙ free.there;
-  header = free.header;
-  fits = fits free.fits;
+  link = links free.page free.link;
 }
 
 same_count : (a b : ℕ) → a ≡ b → b ≤ a
@@ -111,7 +109,7 @@ chain_kept old new n first (m ∷ ms) keeps count none chain = (
   (
     chain.1.0,
     free_kept old new n m chain.1.0 keeps (same_count new.fields.pages old.fields.pages count) (λ e. none (inl (sym e))) chain.1.1
-        (subst (λ pages. Fits (empty_header Free m chain.1.0) m pages) (sym count)),
+        (λ page. subst (IsFreeLink page m chain.1.0) (sym count)),
     chain_kept old new n chain.1.0 ms keeps count (λ s. none (inr s)) chain.1.2,
   ),
 )
@@ -176,8 +174,10 @@ released_page_is_the_first_free old new n was ns past below used releases list =
             below = subst (λ pages. n < pages) (sym count) below;
             page = releases.there.page;
             there = releases.there.there;
-            header = releases.there.blank.header;
-            fits = (refl, (past, refl, subst (λ pages. MayFollow old.fields.first_free pages) (sym count) (follows old old.fields.first_free ns list.chain)));
+            link = record {
+              blank = releases.there.blank;
+              fits = (refl, (past, refl, subst (λ pages. MayFollow old.fields.first_free pages) (sym count) (follows old old.fields.first_free ns list.chain)));
+            };
           },
           chain_kept old new n old.fields.first_free ns releases.others count none list.chain,
         ),
@@ -192,8 +192,7 @@ free_same one other count same n next free = record {
   below = subst (λ pages. n < pages) (sym count) free.below;
   page = free.page;
   there = same n ∙ free.there;
-  header = free.header;
-  fits = subst (λ pages. Fits (empty_header Free n next) n pages) (sym count) free.fits;
+  link = subst (IsFreeLink free.page n next) (sym count) free.link;
 }
 
 -- a free list from a page on is one where as many pages are the same
@@ -249,7 +248,7 @@ distinct map first (n ∷ ns) chain =
 
 -- page 0 and the free pages, each once
 below_all : (map : PageMap) (first q : ℕ) (ns : List ℕ) → 0 < map.fields.pages → FreeFrom map first ns → IsIn q (0 ∷ ns) → q < map.fields.pages
-below_all map first q ns some chain (inl zero) = omega arith
+below_all map first q ns some chain (inl is) = omega arith
 below_all map first q ns some chain (inr is_in) = (in_free map first q ns chain is_in).1.below
 
 header_apart : (map : PageMap) (first : ℕ) (ns : List ℕ) → FreeFrom map first ns → IsIn 0 ns → ⊥
@@ -267,3 +266,36 @@ free_list_is_shorter_than_the_count map ns some list =
     (λ q any. below_all map map.fields.first_free q ns some chain (found q (0 ∷ ns) any)) in
     let count : length ns ≡ map.fields.free_pages = list.count in
     omega arith
+
+-- a number that the list contains is in it
+at_in : (n : ℕ) (ns : List ℕ) (k : ℕ) → k < length ns → get_or ns k n ≡ n → IsIn n ns
+at_in n [] k lt is = absurd (omega arith)
+at_in n (m ∷ ms) zero lt is = inl (sym is)
+at_in n (m ∷ ms) (suc k) lt is = inr (at_in n ms k (omega arith) is)
+
+-- each page of a free list comes after page 1, is one of the file's, and is not in use
+pub free_page_is_not_in_use : (map : PageMap) (ns : List ℕ) (n : ℕ) → IsFreeList map ns → Contains ns n
+    → (1 < n) × (n < map.fields.pages) × (in_use map n ≡ None)
+free_page_is_not_in_use map ns n list there =
+    let free = in_free map map.fields.first_free n ns list.chain (at_in n ns there.0 there.1 there.2) in
+    let link = free.1.link in
+    (free_past map n free.0 free.1, free.1.below, free-not_used map n free.1.page free.1.there (begins_free free.1.page n free.0 link.blank.header))
+
+-- where numbers differ, an earlier one is no later one
+not_again : (ns : List ℕ) (i j : ℕ) → IsDistinct eqb ns → i < j → j < length ns → slice_index ns i ≡ slice_index ns j → ⊥
+not_again ns i j once before inside same =
+    let other : eqb (slice_index ns i) (slice_index ns j) ≡ false = apart_from_distinct eqb ns i j 0 once before inside in
+    grind (arith, nat_tests)
+
+-- no page is in a free list twice
+pub free_list_has_each_page_once : (map : PageMap) (ns : List ℕ) → IsFreeList map ns
+    → (i j : ℕ) → i < length ns → j < length ns → slice_index ns i ≡ slice_index ns j → i ≡ j
+free_list_has_each_page_once map ns list i j one other same =
+    let once : IsDistinct eqb ns = distinct map map.fields.first_free ns list.chain in
+    elim (nat_lt i j) as (λ b. nat_lt i j ≡ b → i ≡ j) [
+      | true ↦ λ e. absurd (not_again ns i j once (grind (arith, nat_tests)) other same)
+      | false ↦ λ e. elim (nat_lt j i) as (λ b. nat_lt j i ≡ b → i ≡ j) [
+        | true ↦ λ f. absurd (not_again ns j i once (grind (arith, nat_tests)) one (sym same))
+        | false ↦ λ f. grind (arith, nat_tests)
+      ] refl
+    ] refl

@@ -1,5 +1,5 @@
 -- Pages in a list: one is written, one comes after the last.
-use Rattle.std.proofs.Common.{◌≡◌, ◌≢◌, ◌≤◌, ◌<◌, ◌+◌, ◌-◌, inl, inr, ℕ, zero, suc, true, false, Option, Some, None, List, [], ◌∷◌, ◌++◌, length, nat_lt, slice_get, refl, sym, ap, ◌∙◌, subst, arith, get_or, IfNone, IfSome}
+use Rattle.std.proofs.Common.{◌≡◌, ◌≢◌, ◌≤◌, ◌<◌, ◌+◌, ◌-◌, inl, inr, ℕ, zero, suc, true, false, Option, Some, None, List, [], ◌∷◌, ◌++◌, length, nat_lt, slice_get, refl, sym, ap, ◌∙◌, subst, arith, get_or, IfSome}
 use Rattle.std.specs.Prelude.{⊤}
 use Rattle.std.proofs.Math.ListN.{set}
 use Rattle.std.proofs.lemmas.Option.{slice_get_past, slice_get_read}
@@ -9,10 +9,7 @@ use Rattle.rs_disk.specs.Counts.{counted_on}
 use Rattle.rs_disk.specs.declared.disk.TheConstants.{PAGE_SIZE}
 use Rattle.rs_disk.proofs.CountLemmas.{counted_on_le}
 use Rattle.rs_measure.specs.declared.refusal.Refusal.TheVariants as refusal
-use Rattle.rs_page.specs.Header.{IsHeader}
-use Rattle.rs_page.specs.PageBytes.{IsBlank, is_free, empty_header}
-use Rattle.rs_page.specs.declared.header.PageHeader.{PageHeader}
-use Rattle.rs_page.proofs.Headers.{header_is_one}
+use Rattle.rs_page.specs.PageBytes.{IsBlank, IsFreeLink, is_free}
 use Rattle.rs_page.specs.declared.page.Page.{Page}
 use Rattle.rs_page.specs.declared.file_header.FileHeader.{FileHeader}
 use Rattle.rs_page.specs.declared.header.PageKind.{PageKind}
@@ -135,9 +132,9 @@ pub free-allocated : (ps : List Page) (fields : FileHeader) (limit full : ℕ) (
     → AllocatesPage ⊤ kind n (listed_store ps fields limit full) (listed_store (set ps n page) (with_free fields next (fields.free_pages - 1)) limit full)
 free-allocated ps fields limit full kind n next page first some room within counted free blank =
     let after : FileHeader = with_free fields next (fields.free_pages - 1) in
-    let past : 1 < n = free.fits.1.0 in
+    let past : 1 < n = free.link.fits.1.0 in
     let inside : n < fields.pages = free.below in
-    let takes : TakesFree fields after n next = record { first = first; some = some; counted = counted; follows = free.fits.1.2; fields = refl } in
+    let takes : TakesFree fields after n next = record { first = first; some = some; counted = counted; follows = free.link.fits.1.2; fields = refl } in
     let there : listed_page (set ps n page) n ≡ Some page.bytes = listed (set ps n page) n page (omega arith) (at_set ps n page (omega arith)) in
     let others = λ (m : ℕ) (ne : m ≢ n). listed-same (set ps n page) ps m (beside_set ps n m page ne) in
     record {
@@ -147,8 +144,8 @@ free-allocated ps fields limit full kind n next page first some room within coun
         others = record { pages = others };
       };
       fields = inl (next, takes);
-      fresh = λ _. free-not_used (record { fields = fields; page = listed_page ps }) n free.page free.there (begins_free free.page n next free.header);
-      not_held = λ used. free_not_held ps n used.page free.page free.there (begins_free free.page n next free.header) used.held used.in_use;
+      fresh = λ _. free-not_used (record { fields = fields; page = listed_page ps }) n free.page free.there (begins_free free.page n next free.link.blank.header);
+      not_held = λ used. free_not_held ps n used.page free.page free.there (begins_free free.page n next free.link.blank.header) used.held used.in_use;
       after = past;
       below = omega arith;
       no_fewer = omega arith;
@@ -244,15 +241,6 @@ listed-read ps size n i page same some long inside read =
     let at : slice_get ps i ≡ Some page = slice_get_read ps size i page long inside read in
     listed ps n page (omega arith) (subst (λ j. slice_get ps j ≡ Some page) same at)
 
--- a free page has the header that is read from it
-pub header_of_free : (map : PageMap) (n next : ℕ) (page : List ℕ) (header : PageHeader) → map.page n ≡ Some page → IsHeader page header → IsFreePage map n next
-    → header ≡ empty_header Free n next
-header_of_free map n next page header there is free =
-    header_is_one page header (empty_header Free n next) is (subst (λ p. IsHeader p (empty_header Free n next)) (page_one map n free.page page free.there there) free.header)
-
--- a page with no header is no free page
-pub free_has_header : (map : PageMap) (n next : ℕ) (page : List ℕ) (read : Option PageHeader) → map.page n ≡ Some page → read ≡ None
-    → IfNone read ((header : PageHeader) → IsHeader page header → ⊥) → IsFreePage map n next → ⊥
-free_has_header map n next page (Some header) there none unread free = cc
-free_has_header map n next page None there none unread free =
-    unread (empty_header Free n next) (subst (λ p. IsHeader p (empty_header Free n next)) (page_one map n free.page page free.there there) free.header)
+-- a free page that is there is a link of a free list
+pub free_has_link : (map : PageMap) (n next : ℕ) (page : List ℕ) → map.page n ≡ Some page → IsFreePage map n next → IsFreeLink page n next map.fields.pages
+free_has_link map n next page there free = subst (λ p. IsFreeLink p n next map.fields.pages) (page_one map n free.page page free.there there) free.link

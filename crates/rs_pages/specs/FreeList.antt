@@ -1,20 +1,18 @@
 -- The free list, and how pages come from it and go to it.
 use Rattle.std.specs.Prelude.{◌≡◌, ◌≢◌, ◌⊎◌, ◌<◌, ◌+◌, ◌-◌, ℕ, Some, List, [], ◌∷◌, length}
 use Rattle.rs_page.specs.Follow.{MayFollow}
-use Rattle.rs_page.specs.Header.{IsHeader, Fits}
-use Rattle.rs_page.specs.PageBytes.{empty_header}
+use Rattle.rs_page.specs.PageBytes.{IsFreeLink}
 use Rattle.rs_page.specs.declared.file_header.FileHeader.{FileHeader}
 use Rattle.rs_page.specs.declared.header.PageKind.{PageKind}
 use Rattle.rs_page.specs.declared.header.PageKind.TheVariants.{Free}
 use Rattle.rs_pages.specs.PageMap.{PageMap, HasBlank, KeepsOtherPages}
 
--- the page with this number is free, and this is the next free one (0: it is the last)
+-- the page with this number is free and says nothing but the next free one (0: it is the last)
 pub record IsFreePage (map : PageMap) (number next : ℕ) : Type 0 where
   pub below : number < map.fields.pages
   pub page : List ℕ
   pub there : map.page number ≡ Some page
-  pub header : IsHeader page (empty_header Free number next)
-  pub fits : Fits (empty_header Free number next) number map.fields.pages
+  pub link : IsFreeLink page number next map.fields.pages
 
 -- these are the free pages, from this one on
 abbrev pub FreeFrom : PageMap → ℕ → List ℕ → Type 0

@@ -1,7 +1,7 @@
 //! What follows of pages and free lists: there is one free list, it is shorter than the count of pages, and what
 //! each change of pages makes of it.
 
-ghost use Rattle.std.specs.Prelude.{◌≡◌, ◌<◌, ℕ, Some, List, ◌∷◌, drop};
+ghost use Rattle.std.specs.Prelude.{◌≡◌, ◌<◌, ℕ, Some, None, List, ◌∷◌, drop, length, slice_index, Contains};
 ghost use Rattle.rs_page.specs.declared.header.PageKind.{PageKind};
 ghost use Rattle.rs_pages.specs.PageMap.{PageMap, SamePages, ReplacesPage, in_use, with_catalogue};
 ghost use Rattle.rs_pages.specs.FreeList.{IsFreeList, Allocates, Releases};
@@ -16,6 +16,18 @@ pub fn free_list_is_one()
 pub fn free_list_is_shorter_than_the_count()
     ensures { (map : PageMap) (free : List ℕ) → 0 < map.fields.pages
         → IsFreeList map free → map.fields.free_pages < map.fields.pages }
+{}
+
+/// Each page of a free list comes after page 1, is one of the file's, and is not in use.
+pub fn free_page_is_not_in_use()
+    ensures { (map : PageMap) (free : List ℕ) (number : ℕ) → IsFreeList map free → Contains free number
+        → (1 < number) × (number < map.fields.pages) × (in_use map number ≡ None) }
+{}
+
+/// No page is in a free list twice.
+pub fn free_list_has_each_page_once()
+    ensures { (map : PageMap) (free : List ℕ) → IsFreeList map free
+        → (i j : ℕ) → i < length free → j < length free → slice_index free i ≡ slice_index free j → i ≡ j }
 {}
 
 /// Where the pages are the same, the free list is.

@@ -5,6 +5,7 @@
 #![tactic(auto)]
 
 pub mod laws;
+pub mod limits;
 pub mod pages;
 pub mod plain;
 

@@ -81,12 +81,9 @@ impl PlainPages {
         if index == 0 || index >= self.pages.len() {
             return Err(Refusal::DamagedFile);
         }
-        match self.pages[index].header() {
-            Some(header)
-                if header.kind == PageKind::Free && header.fits(number, self.fields.pages) => {
-                Ok(header.next)
-            }
-            _ => Err(Refusal::DamagedFile),
+        match self.pages[index].free_link(number, self.fields.pages) {
+            Some(next) => Ok(next),
+            None => Err(Refusal::DamagedFile),
         }
     }
 

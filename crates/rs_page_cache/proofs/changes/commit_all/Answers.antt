@@ -9,4 +9,5 @@ loop-number-preserved c = record {
   done = below_more _ _ (λ k h. commit-none c.loop-number.slots.entries c.loop-number.slots.entries _ _ c.commit_one.ensures.there c.commit_one.ensures.others _ (c.loop-number.invariant.done k h))
       (commit-here c.loop-number.slots.entries _ _ _ c.commit_one.ensures.there c.commit_one.ensures.others);
   others = λ n none. commit-none c.loop-number.slots.entries _ _ _ c.commit_one.ensures.there c.commit_one.ensures.others n (c.loop-number.invariant.others n none);
+  some = λ was. c.commit_one.ensures.some (c.loop-number.invariant.some was);
 }

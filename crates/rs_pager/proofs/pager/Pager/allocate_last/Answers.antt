@@ -1,24 +1,60 @@
--- A page behind the last, and a refusal that is counted.
-use Rattle.std.proofs.Common.{rules, ◌≡◌, ◌∙◌, ap, ◌++◌, [], ◌∷◌, subst}
-use Rattle.rs_pager.specs.HeldPage.{HeldPage}
-use Rattle.rs_pager.specs.Pages.{IsBlank}
+-- A page after the last, and a full file.
+use Rattle.std.proofs.Common.{◌≡◌, ◌+◌, ℕ, subst, sym, arith}
+use Rattle.std.proofs.lemmas.Bool.Decides.{nat_tests}
+use Rattle.rs_disk.specs.Counts.{counted_on}
+use Rattle.rs_measure.specs.declared.refusal.Refusal.TheVariants as refusal
+use Rattle.rs_page_cache.specs.Changes.{PutsBlank}
+use Rattle.rs_pages.specs.Uses.{AllocatesPage, RefusesPage}
 use Rattle.rs_pager.specs.Paged.{Paged}
-use Rattle.rs_pager.proofs.Allocated.{counted-refuses, kept-refuses, last-allocated, on_err}
+use Rattle.rs_pager.specs.Maps.{pager_store, IsTied}
+use Rattle.rs_pager.proofs.Edited.{with_changes}
+use Rattle.rs_pager.proofs.Allocated.{last-allocated, full-refused, with_pages, with_full}
 use Rattle.rs_pager.proofs.pager.Pager.allocate_last.Goals as goal
 
 pub returns-then-self-clause-refused : goal.returns-then-self-clause-refused
-returns-then-self-clause-refused g c = counted-refuses g.D.Disk.is_honest g.D.Disk.seen g.D.Disk.failures _ c.args.self.now _ c.self.view_is
+unfolding counted_on
+returns-then-self-clause-refused g c =
+    let d = g.D.Disk in
+    let i = c.self.inside in
+    let s : Paged _ = record {
+      disk = i.disk;
+      limit = i.limit;
+      changes = i.changes;
+      clean = i.clean;
+      committed_fields = i.committed_fields;
+      working = i.working;
+      is_header_changed = i.is_header_changed;
+      is_begun = i.is_begun;
+      full_refusals = i.full_refusals;
+    } in
+    let more = c.saturating_add-self-inside.result in
+    let counted : more ≡ counted_on i.full_refusals = grind (arith, nat_tests) in
+    let none : s.working.first_free ≡ 0 = subst (λ (p : Paged _). p.working.first_free ≡ 0) (sym c.self.view_is) c.requires.none_free in
+    subst (λ (old : Paged _). RefusesPage (IsTied d old) refusal.FileFull (pager_store d old) (pager_store d (with_full s more))) c.self.view_is
+    (full-refused d s more c.if-self.true none counted)
 
-pub returns-in_err-map_err-clause-refused : goal.returns-in_err-map_err-clause-refused
-returns-in_err-map_err-clause-refused g c =
-    let kept : c.push.new.self.items ≡ c.self.inside.slots.items = search rules in
-    on_err c.from_residual-in_err-map_err.result
-    (kept-refuses g.D.Disk.is_honest g.D.Disk.seen g.D.Disk.failures _ c.args.self.now c.push.new.self.items c.self.view_is kept)
-
-pub returns-clause-allocated : goal.returns-clause-allocated
-returns-clause-allocated g c =
-    let pushed : c.push.new.self.items ≡ c.self.inside.slots.items ++ c.fresh.result ∷ [] = search rules in
-    last-allocated g.D.Disk.is_honest g.D.Disk.seen g.D.Disk.failures _ c.args.self.now c.self.view_is c.self.invariant.room c.self.invariant.kept_room
-    c.self.invariant.directory c.args.kind c.new-number.result c.new-number.ensures c.in_ok-page.page.value.bytes
-    (subst (λ i. IsBlank c.in_ok-page.page.value.bytes c.args.kind c.new-number.result i) c.new.ensures c.in_ok-page.ensures.blank) (ap (λ (p : Paged _). p.working.first_free) c.self.view_is ∙ c.requires.none_free)
-    c.push.new.self.items (pushed ∙ ap (λ (slot : HeldPage). c.self.inside.slots.items ++ slot ∷ []) c.fresh.ensures)
+pub returns-clause-allocates : goal.returns-clause-allocates
+returns-clause-allocates g c =
+    let d = g.D.Disk in
+    let i = c.self.inside in
+    let s : Paged _ = record {
+      disk = i.disk;
+      limit = i.limit;
+      changes = i.changes;
+      clean = i.clean;
+      committed_fields = i.committed_fields;
+      working = i.working;
+      is_header_changed = i.is_header_changed;
+      is_begun = i.is_begun;
+      full_refusals = i.full_refusals;
+    } in
+    let kind = c.args.kind in
+    let changes = c.put_blank.new.self in
+    let none : s.working.first_free ≡ 0 = subst (λ (p : Paged _). p.working.first_free ≡ 0) (sym c.self.view_is) c.requires.none_free in
+    let same : c.new-number.result ≡ s.working.pages = c.new-number.ensures in
+    let numbered : PutsBlank kind s.working.pages c.new.result s.changes changes = subst (λ n. PutsBlank kind n c.new.result s.changes changes) same c.in_ok-put_blank.ensures.blank in
+    let blank : PutsBlank kind s.working.pages 0 s.changes changes = subst (λ next. PutsBlank kind s.working.pages next s.changes changes) c.new.ensures numbered in
+    let new : Paged _ = with_changes s changes (with_pages s.working (s.working.pages + 1)) in
+    subst (λ (n : ℕ). AllocatesPage (IsTied d c.args.self.now) kind n (pager_store d c.args.self.now) (pager_store d new)) (sym same)
+    (subst (λ (old : Paged _). AllocatesPage (IsTied d old) kind s.working.pages (pager_store d old) (pager_store d new)) c.self.view_is
+    (last-allocated d s kind changes blank c.self.invariant none c.if-self.false))

@@ -1,34 +1,27 @@
--- What is copied is the working page.
-use Rattle.std.proofs.Common.{arith, ◌<◌, ap, sym, subst, length, IsSome}
-use Rattle.rs_pager.specs.Slot.{working_of}
-use Rattle.rs_pager.specs.Paged.{Paged, slot_at}
-use Rattle.rs_pager.specs.Rests.{Rests}
-use Rattle.rs_pager.specs.Reading.{ReadsFit}
-use Rattle.rs_pager.proofs.Slots.{slot_at-read}
-use Rattle.rs_pager.proofs.Copying.{copies-made, copies-damaged}
+-- The page is read, and then it is copied.
+use Rattle.std.proofs.lemmas.Result.{on_ok_weaker, IfErr-weaker}
+use Rattle.rs_pages.specs.Uses.{RefusesToEdit}
+use Rattle.rs_pager.specs.Maps.{pager_store, IsTied}
+use Rattle.rs_pager.specs.Copying.{RefusesCopy}
+use Rattle.rs_pager.proofs.Copied.{Loaded, copies-after, refuses-after}
 use Rattle.rs_pager.proofs.pager.Pager.copy.Goals as goal
 
-pub returns-clause-copied : goal.returns-clause-copied
-returns-clause-copied g c =
-    let slots = c.self.inside.slots.items in
-    let n = c.number.result in
-    let old = c.args.self.now in
-    let below : n < c.self.inside.working.pages = omega (arith, ap (λ (p : Paged _). p.working.pages) c.self.view_is, c.in_ok-load.ensures.below) in
-    let there : n < length slots = omega (arith, c.self.invariant.room) in
-    let at = slot_at-read slots n _ _ there c.index_mut.ensures.value in
-    copies-made g.D.Disk.is_honest g.D.Disk.seen g.D.Disk.failures old _ (subst (Rests g.D.Disk.is_honest g.D.Disk.seen g.D.Disk.failures old) (sym c.self.view_is) c.load.ensures.rests)
-    c.args.number n c.number.ensures (omega (arith, c.in_ok-load.ensures.behind)) below there
-    (subst (ReadsFit c.args.number old) (sym c.self.view_is) c.in_ok-load.ensures.fits) _ _ at c.make_copy.result c.make_copy.ensures.made
+pub returns-clause-copies : goal.returns-clause-copies
+returns-clause-copies g c =
+    let loaded : Loaded g.D.Disk c.args.self.now c.load.new.self = record {
+      rests = c.load.ensures.rests.rests;
+      below = c.load.ensures.rests.below;
+      count = c.in_ok-load.ensures.rests.count;
+    } in
+    on_ok_weaker c.copy_at_hand.result (copies-after g.D.Disk c.args.number c.args.self.now c.load.new.self loaded c.copy_at_hand.new.self) c.copy_at_hand.ensures.copies
 
-pub returns-clause-damaged : goal.returns-clause-damaged
-returns-clause-damaged g c = λ tied damaged.
-    let slots = c.self.inside.slots.items in
-    let n = c.number.result in
-    let old = c.args.self.now in
-    let below : n < c.self.inside.working.pages = omega (arith, ap (λ (p : Paged _). p.working.pages) c.self.view_is, c.in_ok-load.ensures.below) in
-    let there : n < length slots = omega (arith, c.self.invariant.room) in
-    let at = slot_at-read slots n _ _ there c.index_mut.ensures.value in
-    copies-damaged g.D.Disk.is_honest g.D.Disk.seen g.D.Disk.failures old _ (subst (Rests g.D.Disk.is_honest g.D.Disk.seen g.D.Disk.failures old) (sym c.self.view_is) c.load.ensures.rests)
-    c.args.number n c.number.ensures (omega (arith, c.in_ok-load.ensures.behind)) below _ at
-    (subst (λ i. IsSome (working_of (slot_at slots i))) (sym c.number.ensures) (subst (λ (p : Paged _). IsSome (working_of (slot_at p.slots c.args.number))) (sym c.self.view_is) c.in_ok-load.ensures.held))
-    (c.make_copy.ensures.damaged damaged) tied
+pub returns-clause-refused : goal.returns-clause-refused
+returns-clause-refused g c =
+    let loaded : Loaded g.D.Disk c.args.self.now c.load.new.self = record {
+      rests = c.load.ensures.rests.rests;
+      below = c.load.ensures.rests.below;
+      count = c.in_ok-load.ensures.rests.count;
+    } in
+    IfErr-weaker c.copy_at_hand.result (RefusesCopy g.D.Disk c.args.number c.load.new.self)
+    (RefusesToEdit (IsTied g.D.Disk c.args.self.now) (pager_store g.D.Disk c.args.self.now) c.args.number)
+    (refuses-after g.D.Disk c.args.number c.args.self.now c.load.new.self loaded) c.copy_at_hand.ensures.refused

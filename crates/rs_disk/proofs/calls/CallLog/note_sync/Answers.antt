@@ -1,0 +1,5 @@
+use Rattle.std.proofs.Common.{rules}
+use Rattle.rs_disk.proofs.calls.CallLog.note_sync.Goals as goal
+
+pub returns-clause-synced : goal.returns-clause-synced
+returns-clause-synced c = search rules

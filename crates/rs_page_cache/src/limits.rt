@@ -1,0 +1,9 @@
+//! The greatest number of clean pages, as a number.
+
+ghost use Rattle.std.specs.Prelude.{◌≡◌};
+ghost use Rattle.rs_page_cache.specs.declared.clean.TheConstants.{MOST_CLEAN};
+
+/// The limits are these numbers.
+pub fn limits_are_those()
+    ensures most_clean { MOST_CLEAN ≡ 256 }
+{}

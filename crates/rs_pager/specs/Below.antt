@@ -1,0 +1,32 @@
+-- What is kept below the working pages is kept in one call after another.
+use Rattle.std.specs.Prelude.{IsTrue, refl}
+use Rattle.std.proofs.Common.{◌∙◌, subst, sym}
+use Rattle.rs_disk.specs.declared.disk.Disk as disk
+use Rattle.rs_pages.proofs.Stores.{SamePages-trans}
+use Rattle.rs_pager.specs.Paged.{Paged}
+use Rattle.rs_pager.specs.Maps.{KeepsBelow}
+
+module _ {D : Type 0} (d : disk.Ghosts D) where
+  pub KeepsBelow-refl : (p : Paged D) → KeepsBelow d p p
+  KeepsBelow-refl p = record {
+    tied = λ tied. tied;
+    committed = λ _. record { fields = refl; pages = λ n. refl };
+    committed_fields = refl;
+    changed = λ n. refl;
+    lacks = refl;
+    honesty = refl;
+    synced = refl;
+    unwritten = λ _. refl;
+  }
+
+  pub KeepsBelow-trans : (a b c : Paged D) → KeepsBelow d a b → KeepsBelow d b c → KeepsBelow d a c
+  KeepsBelow-trans a b c one other = record {
+    tied = λ tied. other.tied (one.tied tied);
+    committed = λ tied. SamePages-trans _ _ _ (other.committed (one.tied tied)) (one.committed tied);
+    committed_fields = other.committed_fields ∙ one.committed_fields;
+    changed = λ n. other.changed n ∙ one.changed n;
+    lacks = other.lacks ∙ one.lacks;
+    honesty = other.honesty ∙ one.honesty;
+    synced = other.synced ∙ one.synced;
+    unwritten = λ honest. other.unwritten (subst IsTrue (sym one.honesty) honest) ∙ one.unwritten honest;
+  }

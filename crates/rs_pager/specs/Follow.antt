@@ -1,6 +1,0 @@
--- Which page may stand as the next of another.
-use Rattle.std.specs.Prelude.{◌≡◌, ◌⊎◌, ℕ, ◌<◌}
-
--- none, or one past the header and the directory
-abbrev pub MayFollow : ℕ → ℕ → Type 0
-MayFollow next pages = (next ≡ 0) ⊎ ((1 < next) × (next < pages))

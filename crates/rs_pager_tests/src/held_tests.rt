@@ -1,0 +1,116 @@
+//! How many pages are held, each limit from both sides by its number, and calls that want memory, with ample memory.
+
+use crate::expect::expect;
+use crate::image::{disk_of, made};
+use crate::large_tests::numbered;
+use rs_disk::{Disk, FailedCut, FailingDisk};
+use rs_measure::Refusal;
+use rs_page::{ContentKind, PageNumber};
+use rs_page_cache::{CleanPages, MOST_CLEAN};
+use rs_pager::MOST_CHANGED;
+use rs_pager_judge::Driver;
+use rs_pages::{GREATEST_LIMIT, LEAST_LIMIT, Pages, PlainPages};
+use std::test::Fail;
+
+/// The calls of the disk that a creation makes.
+const CREATION: u64 = 5;
+
+/// Begins changes where 1,024 pages are changed, and where 1,025 are: the disk fails its next call.
+fn begin_twice(driver: &mut Driver) -> Result<(), Fail> {
+    driver.begin()?;
+    let is_held = driver.held() == (1_024, 0);
+    expect(is_held, "1,024 changes are held, and the disk isn't called")?;
+    let last = driver.allocate(ContentKind::Catalogue)?;
+    driver.write(last, 16, b"last")?;
+    driver.end(true);
+    let answer = driver.begin();
+    expect(answer == Err(Refusal::Disk), "1,025 changes are written")?;
+    expect(driver.held() == (1_025, 0), "after a fault they are held")?;
+    driver.begin()?;
+    expect(driver.held() == (0, 0), "all of them are written")?;
+    let page = driver.page(last)?;
+    let is_last = &page.bytes[16..20] == b"last".as_slice();
+    expect(is_last, "the last one is read from the disk")
+}
+
+#[test]
+fn begin_writes_home_where_more_than_1024_pages_are_changed(rt: HostRuntime) -> Result<(), Fail> {
+    let mut driver = numbered(rt.alloc(), 1_026, CREATION + 1)?;
+    begin_twice(&mut driver)?;
+    let pages = driver.into_disk().pages();
+    expect(pages == 1_027, "the disk is as long as its pages")
+}
+
+/// Reads the pages from one number up to another, backwards.
+fn read_backwards(driver: &mut Driver, first: u32, after: u32) -> Result<(), Refusal> {
+    for number in (first..after).rev() {
+        let _ = driver.page(number)?;
+    }
+    Ok(())
+}
+
+/// Reads 300 pages, and the last 256 of them again, down to page 46. Then page 45 takes the place of page 300, which was used
+/// longest ago: page 301, read last, counts as used when the next page is read.
+fn read_again(driver: &mut Driver) -> Result<(), Fail> {
+    for number in 2..302 {
+        let _ = driver.page(number)?;
+    }
+    read_backwards(driver, 46, 302)?;
+    read_backwards(driver, 45, 300)?;
+    expect(driver.held() == (0, 256), "256 pages are held")?;
+    let is_read = matches!(driver.page(300), Err(Refusal::Disk));
+    expect(is_read, "it is read, and the disk fails")?;
+    expect(driver.held() == (0, 255), "what was not read isn't held")?;
+    let _ = driver.page(300)?;
+    expect(driver.held() == (0, 256), "256 pages are held")
+}
+
+#[test]
+fn the_256_pages_used_last_are_not_read_again(rt: HostRuntime) -> Result<(), Fail> {
+    let mut driver = numbered(rt.alloc(), 302, 0)?;
+    driver.flush()?;
+    let disk = driver.into_disk().into_disk();
+    // the opening reads page 0, and 301 calls read pages: each of 2 to 301, and 45 again
+    let disk = FailingDisk::new(disk, 303, FailedCut::Done);
+    let mut driver = made(Driver::open(rt.alloc(), disk, 302))?;
+    read_again(&mut driver)
+}
+
+#[test]
+fn limits_are_those(rt: HostRuntime) -> Result<(), Fail> {
+    let limits = (LEAST_LIMIT, GREATEST_LIMIT, MOST_CHANGED, MOST_CLEAN);
+    expect(
+        limits == (3, 1_048_576, 1_024, 256),
+        "the limits by their numbers",
+    )?;
+    let disk = disk_of(rt.alloc(), &[], 0)?;
+    let mut driver = made(Driver::create(rt.alloc(), disk, 3))?;
+    let (first, second) = (
+        driver.allocate(ContentKind::Leaf),
+        driver.allocate(ContentKind::Leaf),
+    );
+    let is_one = first == Ok(2) && second == Err(Refusal::FileFull);
+    expect(is_one, "the least limit leaves one page")
+}
+
+#[test]
+fn ample_memory_is_enough(rt: HostRuntime) -> Result<(), Fail> {
+    let clean = CleanPages::new(rt.alloc())?;
+    expect(clean.len() == 0, "no page is held")?;
+    let mut pages = PlainPages::new(rt.alloc(), 3)?;
+    use_one_page(&mut pages)
+}
+
+/// Allocates a page, asks for a second one, and releases the first.
+fn use_one_page(pages: &mut PlainPages) -> Result<(), Fail> {
+    let number = pages.allocate(ContentKind::Leaf)?;
+    let answer = pages.allocate(ContentKind::Leaf);
+    let is_one = number.number() == 2 && answer == Err(Refusal::FileFull);
+    expect(is_one, "there is room for one page")?;
+    pages.release(number)?;
+    let next = pages.next_free(number);
+    expect(
+        next == Ok(PageNumber::new(0)) && pages.count() == 3,
+        "it is the only free page",
+    )
+}
