@@ -2,11 +2,11 @@
 
 ghost use Rattle.std.specs.Prelude.{◌≡◌, IfOk};
 
-use rs_coalesce::runs;
+use rs_coalesce::{kept_runs, runs};
 use rs_facts::Span;
 use rs_measure::{Measure, Refusal};
 use rs_methods::{Method, Name, Referents, Route, START, express};
-use rs_spans::insert;
+use rs_spans::{copy_spans, insert};
 use rs_value::{Kind, Tuple, Value};
 use std::alloc::{AllocError, Global};
 use std::test::Fail;
@@ -22,16 +22,15 @@ fn span(alloc: Global, lo: u32, hi: u32, number: i64) -> Result<Span, AllocError
     Ok(Span { lo, hi, tuple })
 }
 
-/// Whether the spans are these, each from `lo` to `hi` with the row of a number.
+/// Whether the span is this, from `lo` to `hi` with the row of a number.
+fn is(span: &Span, wanted: &(u32, u32, i64)) -> bool {
+    let (lo, hi, number) = wanted;
+    span.lo == *lo && span.hi == *hi && span.tuple.as_slice() == [Value::Int(*number)].as_slice()
+}
+
+/// Whether the spans are these.
 fn are(spans: &[Span], wanted: &[(u32, u32, i64)]) -> bool {
-    if spans.len() != wanted.len() {
-        return false;
-    }
-    spans.iter().zip(wanted).all(|(span, (lo, hi, number))| {
-        span.lo == *lo
-            && span.hi == *hi
-            && span.tuple.as_slice() == [Value::Int(*number)].as_slice()
-    })
+    spans.len() == wanted.len() && spans.iter().zip(wanted).all(|(span, one)| is(span, one))
 }
 
 #[test]
@@ -46,6 +45,23 @@ fn points_that_follow_each_other_are_two(rt: HostRuntime) -> Result<(), Fail> {
 }
 
 #[test]
+fn kept_spans_are_lent_by_place_and_then_by_row(rt: HostRuntime) -> Result<(), Fail> {
+    let alloc = rt.alloc();
+    let mut spans = Vec::new(alloc);
+    insert(Kind::Point, &mut spans, span(alloc, 4, 5, 7)?)?;
+    insert(Kind::Point, &mut spans, span(alloc, 3, 4, 7)?)?;
+    insert(Kind::Point, &mut spans, span(alloc, 9, 10, 1)?)?;
+    insert(Kind::Point, &mut spans, span(alloc, 4, 5, 5)?)?;
+    let by_row = [(9, 10, 1), (4, 5, 5), (3, 4, 7), (4, 5, 7)];
+    assert!(rt; are(spans.as_slice(), &by_row));
+    let lent = kept_runs(alloc, spans.as_slice())?;
+    let by_place = [(3, 4, 7), (4, 5, 5), (4, 5, 7), (9, 10, 1)];
+    assert_eq!(rt; lent.len(), by_place.len());
+    assert!(rt; lent.iter().zip(&by_place).all(|(span, one)| is(span, one)));
+    Ok(())
+}
+
+#[test]
 fn runs_of_lines_join_and_points_stay_apart(rt: HostRuntime) -> Result<(), Fail> {
     let alloc = rt.alloc();
     let lines = vec![in alloc;
@@ -56,9 +72,10 @@ fn runs_of_lines_join_and_points_stay_apart(rt: HostRuntime) -> Result<(), Fail>
         span(alloc, 12, 20, 2)?,
         span(alloc, 0, 1, 2)?,
     ]?;
-    let found = runs(Kind::Line, lines);
+    let found = runs(Kind::Line, copy_spans(alloc, lines.as_slice())?);
     let wanted = [(0, 12, 1), (0, 1, 2), (12, 20, 2), (20, 30, 1)];
     assert!(rt; are(found.as_slice(), &wanted));
+    assert_eq!(rt; lines.len(), 6);
     let points = vec![in alloc;
         span(alloc, 6, 7, 1)?,
         span(alloc, 5, 6, 2)?,

@@ -25,7 +25,7 @@ twice_in columns = some_name_twice (names_in columns)
 whole : (columns : List ColumnDefinition) (i : ℕ) → take (length columns - (i + 1)) (drop (i + 1) columns) ≡ drop (i + 1) columns
 whole columns i = take_all _ _ (omega (arith, length-drop (i + 1) columns))
 
--- a name among the columns from the first on, by the first and by those behind it
+-- a name among the columns from the first on, by the first and by those after it
 pub first_has : (name : Name) (all : Bool) (columns : List ColumnDefinition) (i : ℕ) (item : ColumnDefinition) (b : Bool)
     → all ≡ has_name_in name (drop i columns) → i < length columns → item ≡ get_or columns i item → pointwise nat_eq name item.name.bytes ≡ b
     → all ≡ (b || has_name_in name (drop (i + 1) columns))

@@ -1,5 +1,6 @@
 -- The text of a line, put together from its parts.
 use Rattle.std.proofs.Common.{◌≡◌, ℕ, zero, suc, ◌<◌, ◌++◌, codes, List, [], ◌∷◌, length, get_or, map, sym, ap, ◌∙◌, append_assoc, arith}
+use Rattle.std.specs.Borrow.{Bor}
 use Rattle.std.specs.List.{AllByRecursion}
 use Rattle.rs_measure.specs.Measure.{measure_text}
 use Rattle.rs_methods.specs.declared.position.Method.{Method}
@@ -13,22 +14,22 @@ use Rattle.rs_facts.specs.declared.fact.Span.{Span}
 use Rattle.rs_facts.specs.Fact.{Name, Names}
 use Rattle.rs_facts.specs.Query.{RouteEnds}
 use Rattle.rs_facts.specs.Runs.{Stretch}
-use Rattle.rs_facts.specs.Spans.{seen}
+use Rattle.rs_coalesce.specs.Lent.{seen_lent}
 use Rattle.rs_facts.specs.LineText.{line_of}
-use Rattle.rs_engine.specs.Kept.{KeptReferents, referents_kept}
+use Rattle.rs_engine.specs.Held.{HeldReferents, referents_held}
 use Rattle.rs_engine.specs.Printed.{printed_position}
 
 -- ---- a position
 
-module _ (referents : Names KeptReferents) (route : Name) (ends : RouteEnds) (method : Method) (place : ℕ) where
+module _ (referents : Names HeldReferents) (route : Name) (ends : RouteEnds) (method : Method) (place : ℕ) where
   pub printed_absolute : method ≡ Absolute → printed_position referents route ends method place ≡ measure_text place
   unfolding printed_position
-  printed_absolute e = ap (λ (m : Method). expression_text (expression_at ends.start ends.finish (names.entries (referents_kept referents route)) m place)) e
+  printed_absolute e = ap (λ (m : Method). expression_text (expression_at ends.start ends.finish (names.entries (referents_held referents route)) m place)) e
 
-  pub printed_expressed : (k : ℕ) (text : List ℕ) → k ≡ place → text ≡ expression_text (expression_at ends.start ends.finish (names.entries (referents_kept referents route)) method k)
+  pub printed_expressed : (k : ℕ) (text : List ℕ) → k ≡ place → text ≡ expression_text (expression_at ends.start ends.finish (names.entries (referents_held referents route)) method k)
       → text ≡ printed_position referents route ends method place
   unfolding printed_position
-  printed_expressed k text e said = said ∙ ap (λ (k : ℕ). expression_text (expression_at ends.start ends.finish (names.entries (referents_kept referents route)) method k)) e
+  printed_expressed k text e said = said ∙ ap (λ (k : ℕ). expression_text (expression_at ends.start ends.finish (names.entries (referents_held referents route)) method k)) e
 
 -- ---- a line
 
@@ -52,7 +53,7 @@ line_line at kind route run a b d t k e f g h =
     g ∙ ap (λ b. b ++ space ++ hi) begun ∙ ap (λ x. x ++ hi) (append_assoc (route ++ space) lo space) ∙ append_assoc (route ++ space) (lo ++ space) hi in
     h ∙ ap (λ d. d ++ values_text run.row) both ∙ ap (λ kind. line_of at kind route run) (sym k)
 
-pub each_seen : (P : Stretch → Type 0) (spans : List Span) (i : ℕ) (other : Span) → i < length spans → AllByRecursion P (map seen spans) → P (seen (get_or spans i other))
-each_seen P [] i other h all = absurd (omega arith)
-each_seen P (span ∷ spans) zero other h all = all.0
-each_seen P (span ∷ spans) (suc i) other h all = each_seen P spans i other (omega arith) all.1
+pub each_lent : (P : Stretch → Type 0) (spans : List (Bor Span)) (i : ℕ) (other : Bor Span) → i < length spans → AllByRecursion P (map seen_lent spans) → P (seen_lent (get_or spans i other))
+each_lent P [] i other h all = absurd (omega arith)
+each_lent P (span ∷ spans) zero other h all = all.0
+each_lent P (span ∷ spans) (suc i) other h all = each_lent P spans i other (omega arith) all.1

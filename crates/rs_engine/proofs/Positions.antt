@@ -9,8 +9,8 @@ use Rattle.rs_facts.specs.Fact.{Name}
 use Rattle.rs_facts.specs.Query.{RouteEnds}
 use Rattle.rs_machine.specs.Checks.{◌>>=◌, unless, position_on, span_on}
 use Rattle.rs_machine.specs.State.{State}
-use Rattle.rs_syntax.specs.Tree.{PlaceTree, along}
-use Rattle.rs_engine.specs.Insertion.{span_of_place}
+use Rattle.rs_syntax.specs.Tree.{EventLocationTree, along}
+use Rattle.rs_engine.specs.Insertion.{span_of_location}
 
 both_true : (a b : Bool) → (a && b) ≡ true → (a ≡ true) × (b ≡ true)
 both_true true b e = (refl, e)
@@ -74,6 +74,6 @@ span_on-bounds state route ends from to span e =
     subst (λ (s : ℕ × ℕ). (ends.start ≤ s.0) × (s.0 < s.1) × (s.1 ≤ ends.finish)) third.1
     ((located-between _ _ _ from first.0 first.1).0, less_than _ _ third.0, (located-between _ _ _ to second.0 second.1).1)
 
-pub span_bounds : (state : State) (route : Name) (ends : RouteEnds) (place : PlaceTree) (span : ℕ × ℕ) → span_of_place state route ends place ≡ Ok span
+pub span_bounds : (state : State) (route : Name) (ends : RouteEnds) (place : EventLocationTree) (span : ℕ × ℕ) → span_of_location state route ends place ≡ Ok span
     → (ends.start ≤ span.0) × (span.0 < span.1) × (span.1 ≤ ends.finish)
 span_bounds state route ends (along from to) span e = span_on-bounds state route ends from to span e

@@ -1,6 +1,5 @@
 -- What a query answers, route by route.
-use Rattle.std.proofs.Common.{◌≡◌, ℕ, ◌+◌, List, ◌∷◌, ◌++◌, map, length, flat_map, Option, Some, None, Result, Ok, Err, OnOk, false, sym, ap, ◌∙◌, append_assoc}
-use Rattle.std.specs.Result.{is_err}
+use Rattle.std.proofs.Common.{◌≡◌, ℕ, ◌+◌, List, ◌∷◌, ◌++◌, map, length, flat_map, Option, Some, None, Ok, Err, sym, ap, ◌∙◌, append_assoc}
 use Rattle.std.specs.FinMap as names
 use Rattle.rs_measure.specs.declared.refusal.Refusal.TheVariants.{NoSuchName}
 use Rattle.rs_methods.specs.declared.position.Method.{Method}
@@ -11,39 +10,34 @@ use Rattle.rs_facts.specs.LineText.{line_of}
 use Rattle.rs_syntax.specs.Tree.{named}
 use Rattle.rs_machine.specs.Step.{effect, selected, lines_of}
 use Rattle.rs_engine.specs.Printed.{printed_position}
-use Rattle.rs_engine.specs.Kept.{KeptReferents, KeptTable, Kept, facts_kept, table_of, state_of}
+use Rattle.rs_engine.specs.Held.{HeldReferents, HeldTable, Held, facts_held, table_of, state_of}
 use Rattle.rs_engine.proofs.Outcomes.{table_at, no_table_at}
 
 -- the lines of a table on one route
-abbrev pub printed : Names KeptReferents → Method → KeptTable → Name × RouteEnds → List (List ℕ)
+abbrev pub printed : Names HeldReferents → Method → HeldTable → Name × RouteEnds → List (List ℕ)
 printed referents method table route = map (line_of (printed_position referents route.0 route.1 method) table.kind route.0)
-    (runs_of table.kind (facts_kept table route.0) route.1.start (route.1.finish + 1))
+    (runs_of table.kind (facts_held table route.0) route.1.start (route.1.finish + 1))
 
-pub no_selection : (kept : Kept) (name : Name) (method : Method) → names.get kept.tables name ≡ None → selected (state_of kept) (named name) method ≡ Err NoSuchName
-no_selection kept name method e = rw (no_table_at kept.tables name e)
+pub no_selection : (held : Held) (name : Name) (method : Method) → names.get held.tables name ≡ None → selected (state_of held) (named name) method ≡ Err NoSuchName
+no_selection held name method e = rw (no_table_at held.tables name e)
 
 -- the lines of a table that was looked up
-lines_by : Names KeptReferents → Names RouteEnds → Method → Option Table → List (List ℕ)
+lines_by : Names HeldReferents → Names RouteEnds → Method → Option Table → List (List ℕ)
 lines_by referents routes method table = flat_map (λ route. map (line_of (printed_position referents route.0 route.1 method) (table_kind table) route.0)
     (runs_of (table_kind table) (facts_of table route.0) route.1.start (route.1.finish + 1))) (names.entries routes)
 
-lines_found : (kept : Kept) (name : Name) (method : Method) (table : KeptTable) → names.get kept.tables name ≡ Some table
-    → lines_of (state_of kept) (table_rows name) method ≡ flat_map (printed kept.referents method table) (names.entries kept.routes)
+lines_found : (held : Held) (name : Name) (method : Method) (table : HeldTable) → names.get held.tables name ≡ Some table
+    → lines_of (state_of held) (table_rows name) method ≡ flat_map (printed held.referents method table) (names.entries held.routes)
 unfolding table_of lines_by printed_position
-lines_found kept name method table e = ap (lines_by kept.referents kept.routes method) (table_at kept.tables name table e)
+lines_found held name method table e = ap (lines_by held.referents held.routes method) (table_at held.tables name table e)
 
 -- what is answered where these are the table's lines on all routes
-pub selection : (kept : Kept) (name : Name) (method : Method) (table : KeptTable) (rows : List (List ℕ)) → names.get kept.tables name ≡ Some table
-    → rows ≡ flat_map (printed kept.referents method table) (names.entries kept.routes) → selected (state_of kept) (named name) method ≡ Ok (effect rows (length rows) (state_of kept))
-selection kept name method table rows e lines =
-    rw (table_at kept.tables name table e) (ap (λ (rows : List (List ℕ)). Ok (effect rows (length rows) (state_of kept))) (lines_found kept name method table e ∙ sym lines))
+pub selection : (held : Held) (name : Name) (method : Method) (table : HeldTable) (rows : List (List ℕ)) → names.get held.tables name ≡ Some table
+    → rows ≡ flat_map (printed held.referents method table) (names.entries held.routes) → selected (state_of held) (named name) method ≡ Ok (effect rows (length rows) (state_of held))
+selection held name method table rows e lines =
+    rw (table_at held.tables name table e) (ap (λ (rows : List (List ℕ)). Ok (effect rows (length rows) (state_of held))) (lines_found held name method table e ∙ sym lines))
 
--- one route's lines behind those of the routes before it
+-- one route's lines after those of the routes before it
 pub one_more_route : (each : Name × RouteEnds → List (List ℕ)) (rows : List (List ℕ)) (more : List (List ℕ)) (route : Name × RouteEnds) (rest : List (Name × RouteEnds)) (all : List (List ℕ))
     → rows ++ flat_map each (route ∷ rest) ≡ all → more ≡ rows ++ each route → more ++ flat_map each rest ≡ all
 one_more_route each rows more route rest all e f = ap (λ (m : List (List ℕ)). m ++ flat_map each rest) f ∙ append_assoc rows (each route) (flat_map each rest) ∙ e
-
--- what holds of a call that did not fail
-pub if_not_err : {X Y : Type 0} (result : Result X Y) (P : Type 0) → is_err result ≡ false → OnOk result P → P
-if_not_err (Ok x) P e h = h
-if_not_err (Err y) P e h = cc

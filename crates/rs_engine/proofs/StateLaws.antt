@@ -16,7 +16,7 @@ use Rattle.rs_facts.specs.Runs.{Stretch}
 use Rattle.rs_facts.proofs.Sets.{contains-none}
 use Rattle.rs_facts.proofs.Placing.{within-true, cases_within, with_row-outside}
 use Rattle.rs_engine.specs.Insertion.{TakesRow}
-use Rattle.rs_engine.specs.Kept.{KeptTable, facts_kept, table_of, tables_of}
+use Rattle.rs_engine.specs.Held.{HeldTable, facts_held, table_of, tables_of}
 use Rattle.rs_engine.specs.Placed.{behind, may_hold, LieOn, AreMeasured, AreOnRoutes}
 use Rattle.rs_engine.proofs.Names.{name_cmp-total, get-map_values, map_values-empty, map_values-insert, len-map_values}
 use Rattle.rs_engine.proofs.TableLaws.{cases_insert, same_name-true, none_some, facts-none}
@@ -31,15 +31,15 @@ pub tables_of-empty : tables_of names.empty ≡ names.empty
 unfolding tables_of
 tables_of-empty = map_values-empty table_of
 
-pub tables_of-insert : (tables : Names KeptTable) (name : Name) (table : KeptTable) → tables_of (names.insert tables name table) ≡ names.insert (tables_of tables) name (table_of table)
+pub tables_of-insert : (tables : Names HeldTable) (name : Name) (table : HeldTable) → tables_of (names.insert tables name table) ≡ names.insert (tables_of tables) name (table_of table)
 unfolding tables_of
 tables_of-insert tables name table = map_values-insert table_of tables name table
 
-pub get-tables_of : (tables : Names KeptTable) (name : Name) → names.get (tables_of tables) name ≡ option_map table_of (names.get tables name)
+pub get-tables_of : (tables : Names HeldTable) (name : Name) → names.get (tables_of tables) name ≡ option_map table_of (names.get tables name)
 unfolding tables_of
 get-tables_of tables name = get-map_values table_of tables name
 
-pub len-tables_of : (tables : Names KeptTable) → names.len (tables_of tables) ≡ names.len tables
+pub len-tables_of : (tables : Names HeldTable) → names.len (tables_of tables) ≡ names.len tables
 unfolding tables_of
 len-tables_of tables = len-map_values table_of tables
 
@@ -64,10 +64,10 @@ pub on_routes-empty : (routes : Names RouteEnds) → AreOnRoutes routes names.em
 unfolding AreOnRoutes
 on_routes-empty routes name table there route = none_some table (sym (get-empty name_cmp name) ∙ there)
 
-pub on_route_at : (routes : Names RouteEnds) (tables : Names KeptTable) (name route : Name) (table : KeptTable) (ends : RouteEnds) → AreOnRoutes routes tables
-    → names.get tables name ≡ Some table → names.get routes route ≡ Some ends → LieOn table.kind (Some ends) (facts_kept table route)
+pub on_route_at : (routes : Names RouteEnds) (tables : Names HeldTable) (name route : Name) (table : HeldTable) (ends : RouteEnds) → AreOnRoutes routes tables
+    → names.get tables name ≡ Some table → names.get routes route ≡ Some ends → LieOn table.kind (Some ends) (facts_held table route)
 unfolding AreOnRoutes
-on_route_at routes tables name route table ends all there on = subst (λ (o : Option RouteEnds). LieOn table.kind o (facts_kept table route)) on (all name table there route)
+on_route_at routes tables name route table ends all there on = subst (λ (o : Option RouteEnds). LieOn table.kind o (facts_held table route)) on (all name table there route)
 
 false_true : {P : Type 0} → false ≡ true → P
 false_true e = cc
@@ -75,26 +75,26 @@ false_true e = cc
 -- a place on a route stays on it where another route is added
 still_on : (kind : Kind) (routes : Names RouteEnds) (name : Name) (ends : RouteEnds) (route : Name) (k : ℕ) → names.get routes name ≡ None
     → may_hold kind (names.get routes route) k ≡ true → may_hold kind (names.get (names.insert routes name ends) route) k ≡ true
-still_on kind routes name ends route k new held =
+still_on kind routes name ends route k new holding =
     ap (λ (o : Option RouteEnds). may_hold kind o k) (get-insert name_cmp-total routes name ends route)
     ∙ elim (eq_by_cmp name_cmp route name) as (λ b. eq_by_cmp name_cmp route name ≡ b → may_hold kind (cond b (Some ends) (names.get routes route)) k ≡ true) [
-      | true ↦ λ e. false_true (sym (ap (λ (o : Option RouteEnds). may_hold kind o k) (ap (names.get routes) (same_name-true route name e) ∙ new)) ∙ held)
-      | false ↦ λ e. held
+      | true ↦ λ e. false_true (sym (ap (λ (o : Option RouteEnds). may_hold kind o k) (ap (names.get routes) (same_name-true route name e) ∙ new)) ∙ holding)
+      | false ↦ λ e. holding
     ] refl
 
-pub on_routes-route : (routes : Names RouteEnds) (tables : Names KeptTable) (name : Name) (ends : RouteEnds) → names.get routes name ≡ None → AreOnRoutes routes tables → AreOnRoutes (names.insert routes name ends) tables
+pub on_routes-route : (routes : Names RouteEnds) (tables : Names HeldTable) (name : Name) (ends : RouteEnds) → names.get routes name ≡ None → AreOnRoutes routes tables → AreOnRoutes (names.insert routes name ends) tables
 unfolding AreOnRoutes LieOn
-on_routes-route routes tables name ends new all q table there route k row held = still_on table.kind routes name ends route k new (all q table there route k row held)
+on_routes-route routes tables name ends new all q table there route k row holding = still_on table.kind routes name ends route k new (all q table there route k row holding)
 
-pub on_routes-table : (routes : Names RouteEnds) (tables : Names KeptTable) (name : Name) (kind : Kind) (columns : List Column) → AreOnRoutes routes tables
+pub on_routes-table : (routes : Names RouteEnds) (tables : Names HeldTable) (name : Name) (kind : Kind) (columns : List Column) → AreOnRoutes routes tables
     → AreOnRoutes routes (names.insert tables name (record { kind = kind; columns = columns; spans = names.empty }))
 unfolding AreOnRoutes LieOn
-on_routes-table routes tables name kind columns all q table there route k row held =
+on_routes-table routes tables name kind columns all q table there route k row holding =
     ⊎_elim
     (λ (same : (q ≡ name) × (record { kind = kind; columns = columns; spans = names.empty } ≡ table)).
     false_true (sym (contains-none row) ∙ ap (λ (places : Places). contains (places k) row) (sym (facts-none (record { kind = kind; columns = columns; spans = names.empty }) route (get-empty name_cmp route)))
-    ∙ ap (λ (t : KeptTable). contains (facts_kept t route k) row) same.1 ∙ held))
-    (λ before. all q table before route k row held)
+    ∙ ap (λ (t : HeldTable). contains (facts_held t route k) row) same.1 ∙ holding))
+    (λ before. all q table before route k row holding)
     (cases_insert tables name _ q table there)
 
 reaches : (kind : Kind) (ends : RouteEnds) → ends.finish ≤ behind kind ends
@@ -111,28 +111,28 @@ held_after : (kind : Kind) (facts : Facts) (routes : Names RouteEnds) (route : N
     → names.get routes route ≡ Some ends → ends.start ≤ span.lo → span.hi ≤ ends.finish
     → (r : Name) (k : ℕ) (row : Row) → contains (after_insert facts route span.lo span.hi span.row r k) row ≡ true → may_hold kind (names.get routes r) k ≡ true
 unfolding on_route
-held_after kind facts routes route span ends all there from upto r k row held =
+held_after kind facts routes route span ends all there from upto r k row holding =
     elim (eq_by_cmp name_cmp r route) as (λ b. eq_by_cmp name_cmp r route ≡ b → contains ((cond b (with_row span.lo span.hi span.row (facts route)) (facts r)) k) row ≡ true → may_hold kind (names.get routes r) k ≡ true) [
-      | true ↦ λ e held.
+      | true ↦ λ e holding.
           let at : names.get routes r ≡ Some ends = ap (names.get routes) (same_name-true r route e) ∙ there in
           ⊎_elim
           (λ (inside : (within span.lo span.hi k ≡ true) × (span.lo ≤ k) × (k < span.hi)). ap (λ (o : Option RouteEnds). may_hold kind o k) at ∙ may_hold_between kind ends span.lo span.hi k from upto inside.1 inside.2)
           (λ (outside : (within span.lo span.hi k ≡ false) × ((k < span.lo) ⊎ (span.hi ≤ k))).
-          ap (λ (o : Option RouteEnds). may_hold kind o k) (at ∙ sym there) ∙ all route k row (sym (with_row-outside span.lo span.hi span.row (facts route) k row outside.1) ∙ held))
+          ap (λ (o : Option RouteEnds). may_hold kind o k) (at ∙ sym there) ∙ all route k row (sym (with_row-outside span.lo span.hi span.row (facts route) k row outside.1) ∙ holding))
           (cases_within span.lo span.hi k)
-      | false ↦ λ e held. all r k row held
-    ] refl held
+      | false ↦ λ e holding. all r k row holding
+    ] refl holding
 
-pub on_routes-row : (routes : Names RouteEnds) (tables new : Names KeptTable) (name route : Name) (span : Stretch) (count : ℕ) (ends : RouteEnds)
+pub on_routes-row : (routes : Names RouteEnds) (tables new : Names HeldTable) (name route : Name) (span : Stretch) (count : ℕ) (ends : RouteEnds)
     → AreOnRoutes routes tables → TakesRow tables name route span new count → names.get routes route ≡ Some ends → ends.start ≤ span.lo → span.hi ≤ ends.finish → AreOnRoutes routes new
 unfolding AreOnRoutes LieOn table_of
-on_routes-row routes tables new name route span count ends all takes there from upto q table at r k row held =
+on_routes-row routes tables new name route span count ends all takes there from upto q table at r k row holding =
     ⊎_elim
     (λ (same : (q ≡ name) × (takes.after ≡ table)).
-    let facts : facts_kept table ≡ after_insert (facts_kept takes.table) route span.lo span.hi span.row = ap (λ (t : KeptTable). facts_kept t) (sym same.1) ∙ ap (λ (t : Table). t.facts) takes.facts in
-    let kind : takes.table.kind ≡ table.kind = sym (ap (λ (t : Table). t.kind) takes.facts) ∙ ap (λ (t : KeptTable). t.kind) same.1 in
+    let facts : facts_held table ≡ after_insert (facts_held takes.table) route span.lo span.hi span.row = ap (λ (t : HeldTable). facts_held t) (sym same.1) ∙ ap (λ (t : Table). t.facts) takes.facts in
+    let kind : takes.table.kind ≡ table.kind = sym (ap (λ (t : Table). t.kind) takes.facts) ∙ ap (λ (t : HeldTable). t.kind) same.1 in
     ap (λ (kind : Kind). may_hold kind (names.get routes r) k) (sym kind)
-    ∙ held_after takes.table.kind (facts_kept takes.table) routes route span ends (all name takes.table takes.there) there from upto r k row
-    (ap (λ (f : Facts). contains (f r k) row) (sym facts) ∙ held))
-    (λ before. all q table before r k row held)
-    (cases_insert tables name takes.after q table (ap (λ (m : Names KeptTable). names.get m q) (sym takes.put) ∙ at))
+    ∙ held_after takes.table.kind (facts_held takes.table) routes route span ends (all name takes.table takes.there) there from upto r k row
+    (ap (λ (f : Facts). contains (f r k) row) (sym facts) ∙ holding))
+    (λ before. all q table before r k row holding)
+    (cases_insert tables name takes.after q table (ap (λ (m : Names HeldTable). names.get m q) (sym takes.put) ∙ at))

@@ -20,7 +20,7 @@ use Rattle.rs_facts.specs.Runs.{Stretch}
 use Rattle.rs_facts.specs.Spans.{seen, places_of, AreKept}
 use Rattle.rs_machine.specs.Step.{with_facts_along}
 use Rattle.rs_engine.specs.Names.{names_of}
-use Rattle.rs_engine.specs.Kept.{KeptTable, facts_kept, table_of}
+use Rattle.rs_engine.specs.Held.{HeldTable, facts_held, table_of}
 use Rattle.rs_engine.specs.Placed.{AreAllKept}
 use Rattle.rs_engine.proofs.Names.{name_cmp-total, name_cmp-antisymmetric, by_bytes, get-names_of}
 
@@ -59,40 +59,40 @@ cases_insert values key value q found there =
 
 pub all_kept-empty : (kind : Kind) → AreAllKept kind names.empty
 unfolding AreAllKept
-all_kept-empty kind route kept there = none_some kept (sym (get-empty name_cmp route) ∙ there)
+all_kept-empty kind route held there = none_some held (sym (get-empty name_cmp route) ∙ there)
 
 pub all_kept-insert : (kind : Kind) (spans : Names (List Stretch)) (route : Name) (after : List Stretch) → AreAllKept kind spans → AreKept kind after → AreAllKept kind (names.insert spans route after)
 unfolding AreAllKept
-all_kept-insert kind spans route after all one q kept there =
-    ⊎_elim (λ (same : (q ≡ route) × (after ≡ kept)). subst (AreKept kind) same.1 one) (λ before. all q kept before) (cases_insert spans route after q kept there)
+all_kept-insert kind spans route after all one q held there =
+    ⊎_elim (λ (same : (q ≡ route) × (after ≡ held)). subst (AreKept kind) same.1 one) (λ before. all q held before) (cases_insert spans route after q held there)
 
-pub kept_at : (kind : Kind) (spans : Names (List Stretch)) (route : Name) (kept : List Stretch) → AreAllKept kind spans → names.get spans route ≡ Some kept → AreKept kind kept
+pub held_at : (kind : Kind) (spans : Names (List Stretch)) (route : Name) (held : List Stretch) → AreAllKept kind spans → names.get spans route ≡ Some held → AreKept kind held
 unfolding AreAllKept
-kept_at kind spans route kept all there = all route kept there
+held_at kind spans route held all there = all route held there
 
-pub facts-at : (table : KeptTable) (route : Name) (kept : List Stretch) → names.get table.spans route ≡ Some kept → facts_kept table route ≡ places_of kept
-unfolding facts_kept
-facts-at table route kept there = ap (λ o. places_of (unwrap_or o [])) there
+pub facts-at : (table : HeldTable) (route : Name) (held : List Stretch) → names.get table.spans route ≡ Some held → facts_held table route ≡ places_of held
+unfolding facts_held
+facts-at table route held there = ap (λ o. places_of (unwrap_or o [])) there
 
-pub facts-none : (table : KeptTable) (route : Name) → names.get table.spans route ≡ None → facts_kept table route ≡ places_of []
-unfolding facts_kept
+pub facts-none : (table : HeldTable) (route : Name) → names.get table.spans route ≡ None → facts_held table route ≡ places_of []
+unfolding facts_held
 facts-none table route there = ap (λ o. places_of (unwrap_or o [])) there
 
-abbrev pub with_spans : KeptTable → Name → List Stretch → KeptTable
+abbrev pub with_spans : HeldTable → Name → List Stretch → HeldTable
 with_spans table route after = record table { spans = names.insert table.spans route after }
 
-facts-insert_at : (table : KeptTable) (route : Name) (after : List Stretch) (places : Places) → places_of after ≡ places → (r : Name)
-    → facts_kept (with_spans table route after) r ≡ on_route route places (facts_kept table) r
-unfolding facts_kept on_route
+facts-insert_at : (table : HeldTable) (route : Name) (after : List Stretch) (places : Places) → places_of after ≡ places → (r : Name)
+    → facts_held (with_spans table route after) r ≡ on_route route places (facts_held table) r
+unfolding facts_held on_route
 facts-insert_at table route after places means r =
     ap (λ o. places_of (unwrap_or o [])) (get-insert name_cmp-total table.spans route after r)
-    ∙ elim (eq_by_cmp name_cmp r route) as (λ b. places_of (unwrap_or (cond b (Some after) (names.get table.spans r)) []) ≡ cond b places (facts_kept table r)) [
+    ∙ elim (eq_by_cmp name_cmp r route) as (λ b. places_of (unwrap_or (cond b (Some after) (names.get table.spans r)) []) ≡ cond b places (facts_held table r)) [
       | true ↦ means
       | false ↦ refl
     ]
 
 -- one change of one table on one route
-pub table_of-with_spans : (table : KeptTable) (route : Name) (after : List Stretch) (lo hi : ℕ) (row : Row) → places_of after ≡ with_row lo hi row (facts_kept table route)
+pub table_of-with_spans : (table : HeldTable) (route : Name) (after : List Stretch) (lo hi : ℕ) (row : Row) → places_of after ≡ with_row lo hi row (facts_held table route)
     → table_of (with_spans table route after) ≡ with_facts_along (table_of table) route lo hi row
 unfolding table_of
 table_of-with_spans table route after lo hi row means =
@@ -117,20 +117,20 @@ seen_none entries route there = get-names_of spans_seen entries route.bytes ∙ 
 pub some_there : {X : Type 0} (o : Option X) (x : X) → o ≡ Some x → is_some o ≡ true
 some_there o x e = ap is_some e
 
-pub inserted_facts : (old now : KeptTable) (spans : Names (List Stretch)) (route : Name) (before after : List Stretch) (lo hi : ℕ) (row : Row)
-    → old ≡ now → facts_kept old route ≡ places_of before → spans ≡ names.insert old.spans route after → places_of after ≡ with_row lo hi row (places_of before)
+pub inserted_facts : (old now : HeldTable) (spans : Names (List Stretch)) (route : Name) (before after : List Stretch) (lo hi : ℕ) (row : Row)
+    → old ≡ now → facts_held old route ≡ places_of before → spans ≡ names.insert old.spans route after → places_of after ≡ with_row lo hi row (places_of before)
     → table_of (record old { spans = spans }) ≡ with_facts_along (table_of now) route lo hi row
-inserted_facts old now spans route before after lo hi row same held put means =
+inserted_facts old now spans route before after lo hi row same holding put means =
     ap (λ (spans : Names (List Stretch)). table_of (record old { spans = spans })) put
-    ∙ table_of-with_spans old route after lo hi row (means ∙ ap (with_row lo hi row) (sym held))
-    ∙ ap (λ (table : KeptTable). with_facts_along (table_of table) route lo hi row) same
+    ∙ table_of-with_spans old route after lo hi row (means ∙ ap (with_row lo hi row) (sym holding))
+    ∙ ap (λ (table : HeldTable). with_facts_along (table_of table) route lo hi row) same
 
-pub inserted_count : (old now : KeptTable) (route : Name) (before : List Stretch) (lo hi : ℕ) (row : Row) (n : ℕ)
-    → old ≡ now → facts_kept old route ≡ places_of before → n ≡ missing lo hi row (places_of before) → n ≡ new_facts (facts_kept now) route lo hi row
-inserted_count old now route before lo hi row n same held counted =
-    counted ∙ ap (missing lo hi row) (sym held ∙ ap (λ (table : KeptTable). facts_kept table route) same)
+pub inserted_count : (old now : HeldTable) (route : Name) (before : List Stretch) (lo hi : ℕ) (row : Row) (n : ℕ)
+    → old ≡ now → facts_held old route ≡ places_of before → n ≡ missing lo hi row (places_of before) → n ≡ new_facts (facts_held now) route lo hi row
+inserted_count old now route before lo hi row n same holding counted =
+    counted ∙ ap (missing lo hi row) (sym holding ∙ ap (λ (table : HeldTable). facts_held table route) same)
 
-pub inserted_nothing : (old now : KeptTable) (spans : Names (List Stretch)) (route : Name) (before after : List Stretch)
+pub inserted_nothing : (old now : HeldTable) (spans : Names (List Stretch)) (route : Name) (before after : List Stretch)
     → old ≡ now → names.get old.spans route ≡ Some before → spans ≡ names.insert old.spans route after → after ≡ before → record old { spans = spans } ≡ now
 inserted_nothing old now spans route before after same there put unchanged =
     ap (λ (spans : Names (List Stretch)). record old { spans = spans }) (put ∙ ap (names.insert old.spans route) unchanged ∙ insert-same old.spans route before there) ∙ same

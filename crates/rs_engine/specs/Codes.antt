@@ -11,7 +11,7 @@ use Rattle.rs_value.specs.Row.{Datum, null, number, text}
 use Rattle.rs_facts.specs.Fact.{Name, Names}
 use Rattle.rs_facts.specs.Query.{RouteEnds, Column}
 use Rattle.rs_facts.specs.Runs.{Stretch, stretch}
-use Rattle.rs_engine.specs.Kept.{KeptReferents, KeptTable, Kept}
+use Rattle.rs_engine.specs.Held.{HeldReferents, HeldTable, Held}
 
 abbrev pub name_code : Coded Name
 name_code = coded_list coded_ℕ
@@ -73,13 +73,13 @@ datum_code = code_by (Option (ℤ ⊎ List ℕ)) (coded_option (coded⊎ coded_�
 abbrev pub stretch_code : Coded Stretch
 stretch_code = code_by (ℕ × (ℕ × List Datum)) (coded× coded_ℕ (coded× coded_ℕ (coded_list datum_code))) (λ s. (s.lo, (s.hi, s.row))) (λ p. stretch p.0 p.1.0 p.1.1) (λ _. refl)
 
-abbrev pub kept_table_code : Coded KeptTable
-kept_table_code = code_by (Kind × (List Column × Names (List Stretch))) (coded× kind_code (coded× (coded_list column_code) (names_code (coded_list stretch_code))))
+abbrev pub held_table_code : Coded HeldTable
+held_table_code = code_by (Kind × (List Column × Names (List Stretch))) (coded× kind_code (coded× (coded_list column_code) (names_code (coded_list stretch_code))))
     (λ t. (t.kind, (t.columns, t.spans))) (λ p. record { kind = p.0; columns = p.1.0; spans = p.1.1 }) (λ _. refl)
 
-abbrev pub kept_referents_code : Coded KeptReferents
-kept_referents_code = coded_list (coded× (coded× coded_ℕ name_code) coded_ℕ)
+abbrev pub held_referents_code : Coded HeldReferents
+held_referents_code = coded_list (coded× (coded× coded_ℕ name_code) coded_ℕ)
 
-abbrev pub kept_code : Coded Kept
-kept_code = code_by (Names RouteEnds × (Names KeptReferents × (Names KeptTable × ℕ))) (coded× (names_code route_ends_code) (coded× (names_code kept_referents_code) (coded× (names_code kept_table_code) coded_ℕ)))
+abbrev pub held_code : Coded Held
+held_code = code_by (Names RouteEnds × (Names HeldReferents × (Names HeldTable × ℕ))) (coded× (names_code route_ends_code) (coded× (names_code held_referents_code) (coded× (names_code held_table_code) coded_ℕ)))
     (λ k. (k.routes, (k.referents, (k.tables, k.changes)))) (λ p. record { routes = p.0; referents = p.1.0; tables = p.1.1.0; changes = p.1.1.1 }) (λ _. refl)

@@ -1,5 +1,6 @@
 pub mod Names
-pub mod Kept
+pub mod Lends
+pub mod Held
 pub mod Referents
 pub mod Codes
 pub mod Placed

@@ -10,9 +10,9 @@ use Rattle.rs_facts.specs.Insert.{within}
 use Rattle.rs_facts.specs.Query.{RouteEnds}
 use Rattle.rs_facts.specs.Runs.{Stretch}
 use Rattle.rs_facts.specs.Spans.{AreKept}
-use Rattle.rs_engine.specs.Kept.{KeptTable, facts_kept}
+use Rattle.rs_engine.specs.Held.{HeldTable, facts_held}
 
--- the first place behind all those at which a row may hold: of a route's two ends, the second holds points alone
+-- the first place after all those at which a row may hold: of a route's two ends, the second holds points alone
 abbrev pub behind : Kind → RouteEnds → ℕ
 behind Line ends = ends.finish
 behind Point ends = ends.finish + 1
@@ -27,9 +27,9 @@ unfoldable pub LieOn : Kind → Option RouteEnds → Places → Type 0
 LieOn kind ends places = (k : ℕ) (row : Row) → contains (places k) row ≡ true → may_hold kind ends k ≡ true
 
 -- each fact of each table lies on its route
-unfoldable pub AreOnRoutes : Names RouteEnds → Names KeptTable → Type 0
-AreOnRoutes routes tables = (name : Name) (table : KeptTable) → names.get tables name ≡ Some table
-    → (route : Name) → LieOn table.kind (names.get routes route) (facts_kept table route)
+unfoldable pub AreOnRoutes : Names RouteEnds → Names HeldTable → Type 0
+AreOnRoutes routes tables = (name : Name) (table : HeldTable) → names.get tables name ≡ Some table
+    → (route : Name) → LieOn table.kind (names.get routes route) (facts_held table route)
 
 -- each route's end is a measure
 unfoldable pub AreMeasured : Names RouteEnds → Type 0
@@ -37,4 +37,4 @@ AreMeasured routes = (name : Name) (ends : RouteEnds) → names.get routes name 
 
 -- the spans of each route are in their form
 unfoldable pub AreAllKept : Kind → Names (List Stretch) → Type 0
-AreAllKept kind spans = (route : Name) (kept : List Stretch) → names.get spans route ≡ Some kept → AreKept kind kept
+AreAllKept kind spans = (route : Name) (held : List Stretch) → names.get spans route ≡ Some held → AreKept kind held

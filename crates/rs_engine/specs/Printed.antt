@@ -12,11 +12,11 @@ use Rattle.rs_facts.specs.Runs.{Stretch, AreRunsOf}
 use Rattle.rs_facts.specs.LineText.{line_of}
 use Rattle.rs_machine.specs.State.{RowText}
 use Rattle.rs_engine.specs.declared.printer.PositionPrinter.{PositionPrinter}
-use Rattle.rs_engine.specs.Kept.{KeptReferents, referents_kept}
+use Rattle.rs_engine.specs.Held.{HeldReferents, referents_held}
 
 -- how a measure of a route is printed by a method, by the referents that are kept
-unfoldable pub printed_position : Names KeptReferents → Name → RouteEnds → Method → ℕ → RowText
-printed_position referents route ends method k = expression_text (expression_at ends.start ends.finish (names.entries (referents_kept referents route)) method k)
+unfoldable pub printed_position : Names HeldReferents → Name → RouteEnds → Method → ℕ → RowText
+printed_position referents route ends method k = expression_text (expression_at ends.start ends.finish (names.entries (referents_held referents route)) method k)
 
 -- what a printer prints of a place
 abbrev pub printed_by : PositionPrinter → ℕ → RowText
@@ -29,11 +29,11 @@ pub record IsPlaceOn (ends : RouteEnds) (place : ℕ) : Type 0 where
   pub measured : place ≤ GREATEST_MEASURE
 
 -- the positions of a run that its line prints lie on the route
-abbrev pub IsPrintable : RouteEnds → Kind → Stretch → Type 0
-IsPrintable ends Line run = IsPlaceOn ends run.lo × IsPlaceOn ends run.hi
-IsPrintable ends Point run = IsPlaceOn ends run.lo
+abbrev pub IsWithinEnds : RouteEnds → Kind → Stretch → Type 0
+IsWithinEnds ends Line run = IsPlaceOn ends run.lo × IsPlaceOn ends run.hi
+IsWithinEnds ends Point run = IsPlaceOn ends run.lo
 
--- Behind the lines that stood there stand those of all the runs of what holds on the route.
+-- After the lines that stood there stand those of all the runs of what holds on the route.
 pub record PrintsRuns (position_text : ℕ → RowText) (kind : Kind) (route : Name) (places : Places) (old new : List RowText) : Type 0 where
   pub runs : List Stretch
   pub are_runs : AreRunsOf kind places runs

@@ -12,10 +12,10 @@ use Rattle.rs_machine.specs.State.{State}
 use Rattle.rs_machine.specs.Checks.{◌>>=◌, unless, route_named, has_referent}
 use Rattle.rs_machine.specs.Step.{with_referents}
 use Rattle.rs_engine.specs.declared.referents.TheConstants.{OWN_ROUTE}
-use Rattle.rs_engine.specs.Kept.{KeptReferents}
+use Rattle.rs_engine.specs.Held.{HeldReferents}
 
 -- the referents of one route, as the machine knows them
-abbrev pub referents_by_name : KeptReferents → Names ℕ
+abbrev pub referents_by_name : HeldReferents → Names ℕ
 referents_by_name referents = names.from_entries (referents_of OWN_ROUTE referents)
 
 -- the route of a referent that may be moved or dropped: the referent is there and is not START

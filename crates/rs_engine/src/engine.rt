@@ -3,16 +3,16 @@
 //! It promises that a step makes the checks of its command in their order, that an accepted command changes what the
 //! reference machine changes, and that a refused one changes nothing.
 
-ghost use Rattle.std.specs.Prelude.{◌≡◌, ◌≤◌, ◌⊎◌, [], ◌∷◌, true, length, map, Ok, Err, IfOk, IfErr, OnErr};
+ghost use Rattle.std.specs.Prelude.{◌≡◌, ◌<◌, ◌≤◌, ◌⊎◌, [], ◌∷◌, true, length, map, Ok, Err, IfOk, IfErr, OnOk, OnErr};
 ghost use Rattle.std.specs.List.{list_any};
 ghost use Rattle.rs_methods.specs.Position.{expression_of};
 ghost use Rattle.rs_value.specs.View.{literal_row};
 ghost use Rattle.rs_facts.specs.Insert.{same_name};
 ghost use Rattle.rs_facts.specs.Spans.{seen};
 ghost use Rattle.rs_syntax.specs.Tree.{named};
-ghost use Rattle.rs_syntax.specs.View.{column_tree, place_tree, query_tree};
+ghost use Rattle.rs_syntax.specs.View.{column_tree, location_tree, query_tree};
 ghost use Rattle.rs_machine.specs.Checks.{column_names, some_name_twice, span_on};
-ghost use Rattle.rs_machine.specs.Step.{effect, counted, route_defined, table_defined, row_inserted, position_text, position_translated, selected};
+ghost use Rattle.rs_machine.specs.Step.{effect, counted, may_change, route_defined, table_defined, row_inserted, position_text, position_translated, selected};
 ghost use Rattle.rs_serve.specs.ReplyView.{rows_of, reply_of, StandsAlone};
 ghost use Rattle.rs_engine.specs.Replied.{count_reply_of, rows_reply_of};
 
@@ -28,7 +28,7 @@ use rs_machine::limits::{CHANGES, ROUTES, TABLES};
 use rs_measure::{Measure, Refusal};
 use rs_methods::{Method, Name, Position};
 use rs_serve::{Finish, Reply, Serve, Session};
-use rs_syntax::{ColumnDefinition, Command, Place, Query};
+use rs_syntax::{ColumnDefinition, Command, EventLocation, Query};
 use rs_value::{COLUMNS, Kind, Literal};
 use std::alloc::{AllocError, Global};
 use std::marker::Model;
@@ -44,13 +44,13 @@ pub struct Engine {
 }
 
 impl Model for Engine {
-    ghost use Rattle.rs_engine.specs.Codes.{kept_code};
-    ghost use Rattle.rs_engine.specs.Kept.{Kept};
+    ghost use Rattle.rs_engine.specs.Codes.{held_code};
+    ghost use Rattle.rs_engine.specs.Held.{Held};
     ghost use Rattle.rs_engine.specs.Placed.{AreMeasured, AreOnRoutes};
 
-    ghost Value = { Kept };
+    ghost Value = { Held };
 
-    ghost coded = { kept_code };
+    ghost coded = { held_code };
 
     ghost view = { λ e. record { routes = e.routes; referents = e.referents; tables = e.tables; changes = e.changes } };
 
@@ -61,8 +61,8 @@ impl Engine {
     ghost use Rattle.rs_machine.specs.Served.{Served};
     ghost use Rattle.rs_machine.specs.Fresh.{fresh_machine};
     ghost use Rattle.rs_syntax.specs.View.{tree_of};
-    ghost use Rattle.rs_engine.specs.Insertion.{MayBePut, span_of_place};
-    ghost use Rattle.rs_engine.specs.Kept.{state_of};
+    ghost use Rattle.rs_engine.specs.Insertion.{MayBePut, span_of_location};
+    ghost use Rattle.rs_engine.specs.Held.{state_of};
     ghost use Rattle.rs_engine.specs.View.{machine_of};
 
     /// An engine with no routes and no tables. It takes no memory.
@@ -140,16 +140,10 @@ impl Engine {
         if self.routes.len() >= ROUTES {
             return Err(Refusal::Limit);
         }
-        if self.changes >= CHANGES {
-            return Err(Refusal::Limit);
-        }
-        match self.routes.insert(name, Ends::new(start, finish)) {
-            Ok(()) => {
-                self.changes += 1;
-                Ok(0)
-            }
-            Err(_) => Err(Refusal::OutOfMemory),
-        }
+        self.may_change()?;
+        self.routes.define(name, Ends::new(start, finish))?;
+        self.changes += 1;
+        Ok(0)
     }
 
     /// Defines a table. Checks, in order: its name is taken (24), two columns have one name (41), limits (27).
@@ -175,19 +169,22 @@ impl Engine {
         if self.tables.len() >= TABLES {
             return Err(Refusal::Limit);
         }
+        self.may_change()?;
+        let table = Table::new(self.alloc, kind, columns);
+        self.tables.define(name, table)?;
+        self.changes += 1;
+        Ok(0)
+    }
+
+    /// Whether one more change may be accepted (27).
+    fn may_change(&self) -> Result<(), Refusal>
+        ensures answer { result ≡ may_change (state_of self.now) }
+        ensures room { OnOk result (self.now.changes < CHANGES) }
+    {
         if self.changes >= CHANGES {
             return Err(Refusal::Limit);
         }
-        match self
-            .tables
-            .insert(name, Table::new(self.alloc, kind, columns))
-        {
-            Ok(()) => {
-                self.changes += 1;
-                Ok(0)
-            }
-            Err(_) => Err(Refusal::OutOfMemory),
-        }
+        Ok(())
     }
 
     /// Puts a row along a span. Checks, in order: 20; 21; 25, 30; 31; 32; 33; 34; 27. Its answer is how many facts are
@@ -196,24 +193,18 @@ impl Engine {
         &mut self,
         table: &Name,
         route: Name,
-        place: Place,
+        place: EventLocation,
         values: &[Literal],
     ) -> Result<u128, Refusal>
-        ensures done { IfOk result (λ count. row_inserted (state_of self.old) table.now.bytes route.bytes (place_tree place) (literal_row values.now) ≡ Ok (counted count (state_of self.new))) }
-        ensures refused { IfErr result (λ refusal. (refusal ≡ Refusal.OutOfMemory) ⊎ (row_inserted (state_of self.old) table.now.bytes route.bytes (place_tree place) (literal_row values.now) ≡ Err refusal)) }
+        ensures done { IfOk result (λ count. row_inserted (state_of self.old) table.now.bytes route.bytes (location_tree place) (literal_row values.now) ≡ Ok (counted count (state_of self.new))) }
+        ensures refused { IfErr result (λ refusal. (refusal ≡ Refusal.OutOfMemory) ⊎ (row_inserted (state_of self.old) table.now.bytes route.bytes (location_tree place) (literal_row values.now) ≡ Err refusal)) }
         ensures err { OnErr result (self.new ≡ self.old) }
     {
         let span = self.checked_span(table, &route, place, values)?;
-        if self.changes >= CHANGES {
-            return Err(Refusal::Limit);
-        }
-        match self.tables.insert_row(table, route, span) {
-            Ok(new_facts) => {
-                self.changes += 1;
-                Ok(u128::from(new_facts))
-            }
-            Err(_) => Err(Refusal::OutOfMemory),
-        }
+        self.may_change()?;
+        let new_facts = self.tables.insert_row(table, route, span)?;
+        self.changes += 1;
+        Ok(u128::from(new_facts))
     }
 
     /// The row along its span, where both fit the route and the table, and there is memory for the row.
@@ -221,35 +212,37 @@ impl Engine {
         &self,
         table: &Name,
         route: &Name,
-        place: Place,
+        place: EventLocation,
         values: &[Literal],
     ) -> Result<Span, Refusal>
-        ensures done { IfOk result (λ span. MayBePut self.now table.now.bytes route.now.bytes (place_tree place) (literal_row values.now) (seen span)) }
-        ensures refused { IfErr result (λ refusal. (refusal ≡ Refusal.OutOfMemory) ⊎ (row_inserted (state_of self.now) table.now.bytes route.now.bytes (place_tree place) (literal_row values.now) ≡ Err refusal)) }
+        ensures done { IfOk result (λ span. MayBePut self.now table.now.bytes route.now.bytes (location_tree place) (literal_row values.now) (seen span)) }
+        ensures refused { IfErr result (λ refusal. (refusal ≡ Refusal.OutOfMemory) ⊎ (row_inserted (state_of self.now) table.now.bytes route.now.bytes (location_tree place) (literal_row values.now) ≡ Err refusal)) }
     {
         let ends = self.routes.named(route)?;
         let Some(table) = self.tables.get(table) else {
             return Err(Refusal::NoSuchName);
         };
-        let (lo, hi) = self.located_place(route, ends, &place)?;
+        let (lo, hi) = self.located_event(route, ends, &place)?;
         match table.kind() {
             Kind::Point => Err(Refusal::PointOrLineWanted),
             Kind::Line => {
-                let tuple = table.fitted(values)?;
-                match Box::new(self.alloc, tuple) {
-                    Ok(tuple) => Ok(Span { lo, hi, tuple }),
-                    Err(_) => Err(Refusal::OutOfMemory),
-                }
+                let tuple = Box::new(self.alloc, table.fitted(values)?)?;
+                Ok(Span { lo, hi, tuple })
             }
         }
     }
 
     /// A place on a route in thousandths, or the refusal of its positions.
-    fn located_place(&self, route: &Name, ends: Ends, place: &Place) -> Result<(u32, u32), Refusal>
-        ensures { result ≡ span_of_place (state_of self.now) route.now.bytes ends (place_tree place.now) }
+    fn located_event(
+        &self,
+        route: &Name,
+        ends: Ends,
+        place: &EventLocation,
+    ) -> Result<(u32, u32), Refusal>
+        ensures { result ≡ span_of_location (state_of self.now) route.now.bytes ends (location_tree place.now) }
     {
         match place {
-            Place::Along { from, to } => self.located_span(route, ends, from, to),
+            EventLocation::Along { from, to } => self.located_span(route, ends, from, to),
         }
     }
 
@@ -285,10 +278,7 @@ impl Engine {
     {
         let ends = self.routes.named(route)?;
         let measure = self.referents.located(route, ends, position)?;
-        match self.translated(route, ends, method, measure) {
-            Ok(rows) => Ok(rows),
-            Err(_) => Err(Refusal::OutOfMemory),
-        }
+        Ok(self.translated(route, ends, method, measure)?)
     }
 
     /// One line, the text of a measure of a route by a method.
@@ -334,9 +324,7 @@ impl Engine {
                 ends: *ends,
                 method,
             };
-            if table.push_rows(&printer, &mut rows).is_err() {
-                return Err(Refusal::OutOfMemory);
-            }
+            table.push_rows(&printer, &mut rows)?;
         }
         Ok(rows)
     }

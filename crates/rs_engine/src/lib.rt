@@ -3,11 +3,12 @@
 //! It promises that each answer is the reference machine's, or that it names want of memory and changes nothing.
 #![tactic(auto)]
 
+mod by_name;
 pub mod engine;
-mod lines;
 mod printer;
 mod referents;
 mod routes;
+mod row_text;
 mod table;
 mod tables;
 

@@ -7,7 +7,7 @@ ghost use Rattle.std.specs.FinMap as names;
 ghost use Rattle.rs_methods.specs.Position.{start_name, expression_of, located, expression_at, expression_text};
 ghost use Rattle.rs_machine.specs.State.{has};
 ghost use Rattle.rs_machine.specs.Step.{referents_at};
-ghost use Rattle.rs_engine.specs.Kept.{referents_kept};
+ghost use Rattle.rs_engine.specs.Held.{referents_held};
 ghost use Rattle.rs_engine.specs.Referents.{referents_by_name};
 
 use crate::routes::Ends;
@@ -29,13 +29,13 @@ pub struct RouteReferents {
 
 impl Model for RouteReferents {
     ghost use Rattle.rs_facts.specs.Fact.{Names};
-    ghost use Rattle.rs_engine.specs.Codes.{kept_referents_code, names_code};
-    ghost use Rattle.rs_engine.specs.Kept.{KeptReferents};
+    ghost use Rattle.rs_engine.specs.Codes.{held_referents_code, names_code};
+    ghost use Rattle.rs_engine.specs.Held.{HeldReferents};
     ghost use Rattle.rs_engine.specs.Names.{names_of};
 
-    ghost Value = { Names KeptReferents };
+    ghost Value = { Names HeldReferents };
 
-    ghost coded = { names_code kept_referents_code };
+    ghost coded = { names_code held_referents_code };
 
     ghost view = { λ r. names_of (λ referents. referents) r.by_route.entries };
 }
@@ -53,7 +53,7 @@ impl RouteReferents {
 
     /// The measure at which a position lies on a route; 25 where its referent is missing, 30 where it lies outside.
     pub fn located(&self, route: &Name, ends: Ends, position: &Position) -> Result<Measure, Refusal>
-        ensures { result ≡ located ends.start ends.finish (names.entries (referents_kept self.now route.now.bytes)) (expression_of position.now) }
+        ensures { result ≡ located ends.start ends.finish (names.entries (referents_held self.now route.now.bytes)) (expression_of position.now) }
     {
         match self.by_route.get(route) {
             Some(referents) => located_by(referents, ends, position),
@@ -71,7 +71,7 @@ impl RouteReferents {
     ) -> Result<String, AllocError>
         requires after_start { ends.start ≤ k }
         requires before_finish { k ≤ ends.finish }
-        ensures { IfOk result (λ text. string_bytes text ≡ expression_text (expression_at ends.start ends.finish (names.entries (referents_kept self.now route.now.bytes)) method k)) }
+        ensures { IfOk result (λ text. string_bytes text ≡ expression_text (expression_at ends.start ends.finish (names.entries (referents_held self.now route.now.bytes)) method k)) }
     {
         match self.by_route.get(route) {
             Some(referents) => expressed_by(self.alloc, referents, ends, method, k),
@@ -81,7 +81,7 @@ impl RouteReferents {
 
     /// Whether the route has a referent of this name, START not among them.
     pub fn has(&self, route: &Name, name: &Name) -> bool
-        ensures { result ≡ has (referents_kept self.now route.now.bytes) name.now.bytes }
+        ensures { result ≡ has (referents_held self.now route.now.bytes) name.now.bytes }
     {
         match self.by_route.get(route) {
             Some(referents) => referents.get(OWN_ROUTE, name.as_str()).is_some(),
@@ -91,7 +91,7 @@ impl RouteReferents {
 
     /// How many referents the route has beside START.
     pub fn count(&self, route: &Name) -> usize
-        ensures { result ≡ names.len (referents_kept self.now route.now.bytes) }
+        ensures { result ≡ names.len (referents_held self.now route.now.bytes) }
     {
         match self.by_route.get(route) {
             Some(referents) => {
@@ -106,9 +106,9 @@ impl RouteReferents {
     /// taking memory. Where memory is wanting for a new one, nothing changes.
     pub fn put(&mut self, route: Name, name: Name, measure: Measure) -> Result<(), AllocError>
         requires not_start { name.bytes ≢ start_name }
-        ensures ok { OnOk result (referents_kept self.new ≡ referents_at route.bytes (names.insert (referents_kept self.old route.bytes) name.bytes measure) (referents_kept self.old)) }
+        ensures ok { OnOk result (referents_held self.new ≡ referents_at route.bytes (names.insert (referents_held self.old route.bytes) name.bytes measure) (referents_held self.old)) }
         ensures err { OnErr result (self.new ≡ self.old) }
-        ensures moved { has (referents_kept self.old route.bytes) name.bytes ≡ true → IsOk result }
+        ensures moved { has (referents_held self.old route.bytes) name.bytes ≡ true → IsOk result }
     {
         match self.by_route.get_mut(&route) {
             Some(referents) => referents.insert(OWN_ROUTE, name, measure),
@@ -123,7 +123,7 @@ impl RouteReferents {
 
     /// Takes a referent of a route out, if it is there.
     pub fn remove(&mut self, route: &Name, name: &Name)
-        ensures { referents_kept self.new ≡ referents_at route.now.bytes (names.remove (referents_kept self.old route.now.bytes) name.now.bytes) (referents_kept self.old) }
+        ensures { referents_held self.new ≡ referents_at route.now.bytes (names.remove (referents_held self.old route.now.bytes) name.now.bytes) (referents_held self.old) }
     {
         let Some(referents) = self.by_route.get_mut(route) else {
             return;

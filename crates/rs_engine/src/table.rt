@@ -10,17 +10,17 @@ ghost use Rattle.rs_facts.specs.Spans.{seen, IsPlaced};
 ghost use Rattle.rs_syntax.specs.View.{column_tree};
 ghost use Rattle.rs_machine.specs.Checks.{column_types, row_fits};
 ghost use Rattle.rs_machine.specs.Step.{with_facts_along};
-ghost use Rattle.rs_engine.specs.Kept.{facts_kept, table_of};
+ghost use Rattle.rs_engine.specs.Held.{facts_held, table_of};
 ghost use Rattle.rs_engine.specs.Placed.{LieOn};
 ghost use Rattle.rs_engine.specs.Printed.{PrintsRuns, printed_by};
 ghost use Rattle.rs_serve.specs.ReplyView.{rows_of};
 
-use crate::lines::push_lines;
 use crate::printer::PositionPrinter;
-use rs_coalesce::runs;
+use crate::row_text::push_lines;
+use rs_coalesce::kept_runs;
 use rs_facts::Span;
 use rs_measure::{GREATEST_MEASURE, Refusal};
-use rs_spans::{copy_spans, insert};
+use rs_spans::insert;
 use rs_syntax::{ColumnDefinition, Name};
 use rs_value::{COLUMNS, Kind, Literal, Schema, Tuple, fits};
 use std::alloc::{AllocError, Global};
@@ -42,14 +42,14 @@ impl Model for Table {
     ghost use Rattle.rs_facts.specs.Spans.{seen};
     ghost use Rattle.rs_syntax.specs.View.{column_tree};
     ghost use Rattle.rs_machine.specs.Checks.{column_types};
-    ghost use Rattle.rs_engine.specs.Codes.{kept_table_code};
-    ghost use Rattle.rs_engine.specs.Kept.{KeptTable};
+    ghost use Rattle.rs_engine.specs.Codes.{held_table_code};
+    ghost use Rattle.rs_engine.specs.Held.{HeldTable};
     ghost use Rattle.rs_engine.specs.Placed.{AreAllKept};
     ghost use Rattle.rs_engine.specs.Names.{names_of};
 
-    ghost Value = { KeptTable };
+    ghost Value = { HeldTable };
 
-    ghost coded = { kept_table_code };
+    ghost coded = { held_table_code };
 
     ghost view = { λ t. record { kind = t.kind; columns = map column_tree t.columns.items; spans = names_of (λ spans. map seen spans.items) t.spans.entries } };
 
@@ -92,7 +92,7 @@ impl Table {
     pub fn insert(&mut self, route: Name, span: Span) -> Result<u32, AllocError>
         requires placed { IsPlaced self.old.kind (seen span) }
         ensures facts { OnOk result (table_of self.new ≡ with_facts_along (table_of self.old) route.bytes span.lo span.hi (row_of span.tuple.value)) }
-        ensures new_facts { IfOk result (λ n. n ≡ new_facts (facts_kept self.old) route.bytes span.lo span.hi (row_of span.tuple.value)) }
+        ensures new_facts { IfOk result (λ n. n ≡ new_facts (facts_held self.old) route.bytes span.lo span.hi (row_of span.tuple.value)) }
         ensures err { OnErr result (self.new ≡ self.old) }
     {
         let kind = self.kind;
@@ -114,12 +114,12 @@ impl Table {
         rows: &mut Vec<String>,
     ) -> Result<(), AllocError>
         requires measured { printer.now.ends.finish ≤ GREATEST_MEASURE }
-        requires on_route { LieOn self.now.kind (Some printer.now.ends) (facts_kept self.now printer.now.route.now.bytes) }
-        ensures { OnOk result (PrintsRuns (printed_by printer.now) self.now.kind printer.now.route.now.bytes (facts_kept self.now printer.now.route.now.bytes) (rows_of rows.old.items) (rows_of rows.new.items)) }
+        requires on_route { LieOn self.now.kind (Some printer.now.ends) (facts_held self.now printer.now.route.now.bytes) }
+        ensures { OnOk result (PrintsRuns (printed_by printer.now) self.now.kind printer.now.route.now.bytes (facts_held self.now printer.now.route.now.bytes) (rows_of rows.old.items) (rows_of rows.new.items)) }
     {
         match self.spans.get(printer.route) {
             Some(spans) => {
-                let runs = runs(self.kind, copy_spans(self.alloc, spans)?);
+                let runs = kept_runs(self.alloc, spans)?;
                 push_lines(self.alloc, self.kind, printer, &runs, rows)
             }
             None => Ok(()),

@@ -136,7 +136,7 @@ Absorbs-le kind span spans length wide left h =
     let counted = h.count in
     omega (arith, all, counted)
 
--- when the next one stands behind, so do all
+-- when the next one stands after, so do all
 pub Absorbs-behind : (kind : Kind) (span : Stretch) (spans : List Stretch) (length : ℕ) (wide next : Stretch) (left : List Stretch) → Absorbs kind span spans length wide (next ∷ left) → before kind wide next ≡ true → AllByRecursion (Precedes kind wide) (next ∷ left)
 Absorbs-behind kind span spans length wide next left h is = precedes-all kind wide next left (Precedes-from_before kind wide next is) h.kept
 

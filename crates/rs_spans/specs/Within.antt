@@ -3,7 +3,7 @@ use Rattle.std.specs.Prelude.{ℕ, ◌≤◌, List}
 use Rattle.std.specs.List.{AllByRecursion}
 use Rattle.rs_facts.specs.Runs.{Stretch}
 
--- not before the one and not behind the other
+-- not before the one and not after the other
 pub record LiesWithin (start finish : ℕ) (span : Stretch) : Type 0 where
   pub from : start ≤ span.lo
   pub upto : span.hi ≤ finish

@@ -13,12 +13,12 @@ ghost use Rattle.rs_engine.specs.Referents.{route_of_referent, with_referent};
 
 use crate::engine::Engine;
 use crate::routes::Ends;
-use rs_machine::limits::{CHANGES, REFERENTS};
+use rs_machine::limits::REFERENTS;
 use rs_measure::{Measure, Refusal};
 use rs_methods::{Name, Position, START};
 
 impl Engine {
-    ghost use Rattle.rs_engine.specs.Kept.{referents_kept, state_of};
+    ghost use Rattle.rs_engine.specs.Held.{referents_held, state_of};
 
     /// Defines a referent at a position of its route. Checks, in order: 20; 25, 30; 24; 27.
     pub(crate) fn define_referent(
@@ -57,9 +57,7 @@ impl Engine {
         ensures err { OnErr result (self.new ≡ self.old) }
     {
         self.route_of_referent(route, name)?;
-        if self.changes >= CHANGES {
-            return Err(Refusal::Limit);
-        }
+        self.may_change()?;
         self.referents.remove(route, name);
         self.changes += 1;
         Ok(0)
@@ -85,9 +83,7 @@ impl Engine {
         if self.referents.count(route) >= REFERENTS {
             return Err(Refusal::Limit);
         }
-        if self.changes >= CHANGES {
-            return Err(Refusal::Limit);
-        }
+        self.may_change()?;
         Ok(measure)
     }
 
@@ -101,14 +97,12 @@ impl Engine {
         ensures accepted { IfOk result (λ measure. referent_moved (state_of self.now) route.now.bytes name.now.bytes (expression_of position.now) ≡ Ok (counted 0 (with_referent (state_of self.now) route.now.bytes name.now.bytes measure))) }
         ensures refused { IfErr result (λ refusal. referent_moved (state_of self.now) route.now.bytes name.now.bytes (expression_of position.now) ≡ Err refusal) }
         ensures not_start { OnOk result (name.now.bytes ≢ start_name) }
-        ensures there { OnOk result (has (referents_kept self.now.referents route.now.bytes) name.now.bytes ≡ true) }
+        ensures there { OnOk result (has (referents_held self.now.referents route.now.bytes) name.now.bytes ≡ true) }
         ensures may_change { OnOk result (self.now.changes < CHANGES) }
     {
         let ends = self.route_of_referent(route, name)?;
         let measure = self.referents.located(route, ends, position)?;
-        if self.changes >= CHANGES {
-            return Err(Refusal::Limit);
-        }
+        self.may_change()?;
         Ok(measure)
     }
 
@@ -142,15 +136,11 @@ impl Engine {
         ensures count { IfOk result (λ count. count ≡ 0) }
         ensures refused { IfErr result (λ refusal. refusal ≡ Refusal.OutOfMemory) }
         ensures err { OnErr result (self.new ≡ self.old) }
-        ensures moved { has (referents_kept self.old.referents route.bytes) name.bytes ≡ true → IsOk result }
+        ensures moved { has (referents_held self.old.referents route.bytes) name.bytes ≡ true → IsOk result }
     {
-        match self.referents.put(route, name, measure) {
-            Ok(()) => {
-                self.changes += 1;
-                Ok(0)
-            }
-            Err(_) => Err(Refusal::OutOfMemory),
-        }
+        self.referents.put(route, name, measure)?;
+        self.changes += 1;
+        Ok(0)
     }
 }
 

@@ -1,4 +1,4 @@
--- Each copy is pushed behind the others, and its tuple has the same row.
+-- Each copy is pushed after the others, and its tuple has the same row.
 use Rattle.std.proofs.Common.{◌≡◌, map, take, [], ◌∷◌, ◌++◌, ap, sym, ◌∙◌}
 use Rattle.std.proofs.lemmas.List.{map_push, map_more}
 use Rattle.std.proofs.lemmas.List.Elements.{same_from_all_zip}

@@ -5,11 +5,11 @@ use Rattle.rs_facts.specs.Query.{RouteEnds, Table}
 use Rattle.rs_machine.specs.State.{fresh}
 use Rattle.rs_machine.specs.Fresh.{fresh_machine}
 use Rattle.rs_machine.specs.Served.{Machine}
-use Rattle.rs_engine.specs.Kept.{KeptReferents, KeptTable, referents_kept}
+use Rattle.rs_engine.specs.Held.{HeldReferents, HeldTable, referents_held}
 use Rattle.rs_engine.specs.Placed.{AreMeasured, AreOnRoutes}
 use Rattle.rs_engine.specs.View.{machine_of}
 use Rattle.rs_engine.proofs.StateLaws.{tables_of-empty, measured-empty, on_routes-empty}
-use Rattle.rs_engine.proofs.ReferentLaws.{referents_kept-empty}
+use Rattle.rs_engine.proofs.ReferentLaws.{referents_held-empty}
 use Rattle.rs_engine.proofs.engine.Engine.fresh.Goals as goal
 
 pub invariant_of-result : goal.invariant_of-result
@@ -25,8 +25,8 @@ unfolding fresh_machine fresh
 returns c =
     sym (
     ap (λ (routes : Names RouteEnds). machine_of (record { routes = routes; referents = c.new-2.result; tables = c.new-3.result; changes = 0 })) c.new.ensures
-    ∙ ap (λ (referents : Names KeptReferents). machine_of (record { routes = names.empty; referents = referents; tables = c.new-3.result; changes = 0 })) c.new-2.ensures
-    ∙ ap (λ (tables : Names KeptTable). machine_of (record { routes = names.empty; referents = names.empty; tables = tables; changes = 0 })) c.new-3.ensures
-    ∙ ap (machine names.empty (referents_kept names.empty)) tables_of-empty
-    ∙ ap (λ (referents : Name → Names ℕ). machine names.empty referents names.empty) referents_kept-empty
+    ∙ ap (λ (referents : Names HeldReferents). machine_of (record { routes = names.empty; referents = referents; tables = c.new-3.result; changes = 0 })) c.new-2.ensures
+    ∙ ap (λ (tables : Names HeldTable). machine_of (record { routes = names.empty; referents = names.empty; tables = tables; changes = 0 })) c.new-3.ensures
+    ∙ ap (machine names.empty (referents_held names.empty)) tables_of-empty
+    ∙ ap (λ (referents : Name → Names ℕ). machine names.empty referents names.empty) referents_held-empty
     )

@@ -2,7 +2,7 @@ use Rattle.std.proofs.Common.{◌≡◌, List, ◌++◌, flat_map, map, inr, Som
 use Rattle.std.specs.List.{AllByRecursion}
 use Rattle.std.specs.FinMap as names
 use Rattle.rs_facts.specs.Fact.{Names}
-use Rattle.rs_engine.specs.Kept.{KeptReferents, Kept, facts_kept}
+use Rattle.rs_engine.specs.Held.{HeldReferents, Held, facts_held}
 use Rattle.rs_engine.specs.Names.{entries_by_bytes}
 use Rattle.rs_serve.specs.ReplyView.{rows_of}
 use Rattle.rs_facts.specs.Runs.{Stretch}
@@ -13,17 +13,17 @@ use Rattle.rs_engine.proofs.Names.{each_entry}
 use Rattle.rs_engine.proofs.Printing.{same_runs}
 use Rattle.rs_engine.proofs.StateLaws.{on_route_at, measured_at}
 use Rattle.rs_engine.proofs.Outcomes.{lent_found, lent_none}
-use Rattle.rs_engine.proofs.Selection.{if_not_err, printed, no_selection, selection, one_more_route}
+use Rattle.rs_engine.proofs.Selection.{printed, no_selection, selection, one_more_route}
 use Rattle.rs_engine.proofs.engine.Engine.select_table.Goals as goal
 use Rattle.rs_engine.proofs.engine.Engine.select_table.Goals.{In-Some-2}
 
 pub returns-in_default-clause-refused : goal.returns-in_default-clause-refused
 returns-in_default-clause-refused c = inr (no_selection c.args.self.now c.args.name.now.bytes c.args.method
-    (ap (λ (kept : Kept). names.get kept.tables c.args.name.now.bytes) (sym c.self.view_is) ∙ lent_none c.get.result _ c.get.ensures c.in_default.is))
+    (ap (λ (held : Held). names.get held.tables c.args.name.now.bytes) (sym c.self.view_is) ∙ lent_none c.get.result _ c.get.ensures c.in_default.is))
 
 pub loop-route-init : goal.loop-route-init
 loop-route-init c =
-    let all = ap (entries_by_bytes (λ ends. ends)) c.into_iter-route-iterator.ensures.into_iter_gives ∙ c.iter-route-items.ensures ∙ ap (λ (kept : Kept). names.entries kept.routes) c.self.view_is in
+    let all = ap (entries_by_bytes (λ ends. ends)) c.into_iter-route-iterator.ensures.into_iter_gives ∙ c.iter-route-items.ensures ∙ ap (λ (held : Held). names.entries held.routes) c.self.view_is in
     record {
       printed = ap (λ items. rows_of items ++ flat_map (printed c.args.self.now.referents c.args.method c.in-Some.table.now) (entries_by_bytes (λ ends. ends) c.into_iter-route-iterator.result)) c.new-rows.ensures.items
           ∙ ap (flat_map (printed c.args.self.now.referents c.args.method c.in-Some.table.now)) all;
@@ -32,10 +32,10 @@ loop-route-init c =
 
 -- the route of this turn is there
 route_there : (c : In-Some-2) → names.get c.self.inside.routes c.in-Some-2.route.now.bytes ≡ Some c.in-Some-2.ends.now
-route_there c = ap (λ (kept : Kept). names.get kept.routes c.in-Some-2.route.now.bytes) c.self.view_is
+route_there c = ap (λ (held : Held). names.get held.routes c.in-Some-2.route.now.bytes) c.self.view_is
     ∙ (subst (AllByRecursion (λ e. names.get c.args.self.now.routes e.0 ≡ Some e.1)) (ap (entries_by_bytes (λ ends. ends)) c.in-Some-2.ensures.steps) c.loop-route.invariant.there).0
 
-on_route : (c : In-Some-2) → LieOn c.in-Some.table.now.kind (Some c.in-Some-2.ends.now) (facts_kept c.in-Some.table.now c.in-Some-2.route.now.bytes)
+on_route : (c : In-Some-2) → LieOn c.in-Some.table.now.kind (Some c.in-Some-2.ends.now) (facts_held c.in-Some.table.now c.in-Some-2.route.now.bytes)
 on_route c = on_route_at c.self.inside.routes c.self.inside.tables c.args.name.now.bytes c.in-Some-2.route.now.bytes c.in-Some.table.now c.in-Some-2.ends.now c.self.invariant.1
     (lent_found c.get.result _ _ c.get.ensures c.in-Some.is) (route_there c)
 
@@ -51,10 +51,10 @@ pub loop-route-preserved : goal.loop-route-preserved
 loop-route-preserved c =
     let d = (goal.at.loop-route-preserved c).In-Some-2 in
     let left = ap (entries_by_bytes (λ ends. ends)) c.in-Some-2.ensures.steps in
-    let prints = if_not_err c.push_rows.result _ (sym c.is_err.ensures.value ∙ c.if-is_err.false) c.push_rows.ensures in
+    let prints = c.in_ok-push_rows.ensures in
     let pushed = prints.lines
-    ∙ ap (λ (referents : Names KeptReferents). rows_of c.loop-route.rows.items ++ map (line_of (printed_position referents c.in-Some-2.route.now.bytes c.in-Some-2.ends.now c.args.method) c.in-Some.table.now.kind c.in-Some-2.route.now.bytes) prints.runs)
-    (ap (λ (kept : Kept). kept.referents) c.self.view_is)
+    ∙ ap (λ (referents : Names HeldReferents). rows_of c.loop-route.rows.items ++ map (line_of (printed_position referents c.in-Some-2.route.now.bytes c.in-Some-2.ends.now c.args.method) c.in-Some.table.now.kind c.in-Some-2.route.now.bytes) prints.runs)
+    (ap (λ (held : Held). held.referents) c.self.view_is)
     ∙ ap (λ (runs : List Stretch). rows_of c.loop-route.rows.items ++ map (line_of (printed_position c.args.self.now.referents c.in-Some-2.route.now.bytes c.in-Some-2.ends.now c.args.method) c.in-Some.table.now.kind c.in-Some-2.route.now.bytes) runs)
     (same_runs c.in-Some.table.now.kind c.in-Some-2.ends.now _ prints.runs (on_route d) prints.are_runs) in
     record {
@@ -65,5 +65,5 @@ loop-route-preserved c =
 
 pub returns-clause-done : goal.returns-clause-done
 returns-clause-done c = selection c.args.self.now c.args.name.now.bytes c.args.method c.in-Some.table.now (rows_of c.loop-route.rows.items)
-    (ap (λ (kept : Kept). names.get kept.tables c.args.name.now.bytes) (sym c.self.view_is) ∙ lent_found c.get.result _ _ c.get.ensures c.in-Some.is)
+    (ap (λ (held : Held). names.get held.tables c.args.name.now.bytes) (sym c.self.view_is) ∙ lent_found c.get.result _ _ c.get.ensures c.in-Some.is)
     (sym (append-nil _) ∙ ap (λ rest. rows_of c.loop-route.rows.items ++ flat_map (printed c.args.self.now.referents c.args.method c.in-Some.table.now) (entries_by_bytes (λ ends. ends) rest)) (sym c.in-None.ensures.steps.0) ∙ c.loop-route.invariant.printed)

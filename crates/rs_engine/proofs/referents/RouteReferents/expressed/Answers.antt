@@ -3,22 +3,22 @@ use Rattle.std.proofs.lemmas.Result.{IfOk-weaker}
 use Rattle.std.specs.FinMap as names
 use Rattle.rs_facts.specs.Fact.{Names}
 use Rattle.rs_methods.specs.Position.{expression_at, expression_text}
-use Rattle.rs_engine.specs.Kept.{KeptReferents}
+use Rattle.rs_engine.specs.Held.{HeldReferents}
 use Rattle.rs_engine.specs.Referents.{referents_by_name}
-use Rattle.rs_engine.proofs.ReferentLaws.{kept_at, kept_none, found_list, found_no_list}
+use Rattle.rs_engine.proofs.ReferentLaws.{held_at, held_none, found_list, found_no_list}
 use Rattle.rs_engine.proofs.referents.RouteReferents.expressed.Goals as goal
 
 pub returns-in-Some : goal.returns-in-Some
 returns-in-Some c =
     let there = found_list c.self.inside.by_route.entries c.args.self.now c.args.route.now _ c.self.view_is (sym c.in-Some.ensures.value) in
     IfOk-weaker c.expressed_by.result _ _ (λ text is. is
-    ∙ ap (λ (kept : Names ℕ). expression_text (expression_at c.args.ends.start c.args.ends.finish (names.entries kept) c.args.method c.args.k)) (sym (kept_at c.args.self.now c.args.route.now.bytes _ there)))
+    ∙ ap (λ (held : Names ℕ). expression_text (expression_at c.args.ends.start c.args.ends.finish (names.entries held) c.args.method c.args.k)) (sym (held_at c.args.self.now c.args.route.now.bytes _ there)))
     c.expressed_by.ensures
 
 pub returns-in-None : goal.returns-in-None
 returns-in-None c =
     let there = found_no_list c.self.inside.by_route.entries c.args.self.now c.args.route.now c.self.view_is (sym c.in-None.ensures.value) in
     IfOk-weaker c.expressed_by-in-None-2.result _ _ (λ text is. is
-    ∙ ap (λ (list : KeptReferents). expression_text (expression_at c.args.ends.start c.args.ends.finish (names.entries (referents_by_name list)) c.args.method c.args.k)) c.new.ensures
-    ∙ ap (λ (kept : Names ℕ). expression_text (expression_at c.args.ends.start c.args.ends.finish (names.entries kept) c.args.method c.args.k)) (sym (kept_none c.args.self.now c.args.route.now.bytes there)))
+    ∙ ap (λ (list : HeldReferents). expression_text (expression_at c.args.ends.start c.args.ends.finish (names.entries (referents_by_name list)) c.args.method c.args.k)) c.new.ensures
+    ∙ ap (λ (held : Names ℕ). expression_text (expression_at c.args.ends.start c.args.ends.finish (names.entries held) c.args.method c.args.k)) (sym (held_none c.args.self.now c.args.route.now.bytes there)))
     c.expressed_by-in-None-2.ensures

@@ -2,19 +2,19 @@ use Rattle.std.proofs.Common.{ℕ, sym, ap, ◌∙◌}
 use Rattle.std.specs.FinMap as names
 use Rattle.rs_facts.specs.Fact.{Names}
 use Rattle.rs_methods.specs.Position.{expression_of, located}
-use Rattle.rs_engine.specs.Kept.{KeptReferents}
+use Rattle.rs_engine.specs.Held.{HeldReferents}
 use Rattle.rs_engine.specs.Referents.{referents_by_name}
-use Rattle.rs_engine.proofs.ReferentLaws.{kept_at, kept_none, found_list, found_no_list}
+use Rattle.rs_engine.proofs.ReferentLaws.{held_at, held_none, found_list, found_no_list}
 use Rattle.rs_engine.proofs.referents.RouteReferents.located.Goals as goal
 
 pub returns-in-Some : goal.returns-in-Some
 returns-in-Some c =
     let there = found_list c.self.inside.by_route.entries c.args.self.now c.args.route.now _ c.self.view_is (sym c.in-Some.ensures.value) in
-    c.located_by.ensures ∙ ap (λ (kept : Names ℕ). located c.args.ends.start c.args.ends.finish (names.entries kept) (expression_of c.args.position.now)) (sym (kept_at c.args.self.now c.args.route.now.bytes _ there))
+    c.located_by.ensures ∙ ap (λ (held : Names ℕ). located c.args.ends.start c.args.ends.finish (names.entries held) (expression_of c.args.position.now)) (sym (held_at c.args.self.now c.args.route.now.bytes _ there))
 
 pub returns-in-None : goal.returns-in-None
 returns-in-None c =
     let there = found_no_list c.self.inside.by_route.entries c.args.self.now c.args.route.now c.self.view_is (sym c.in-None.ensures.value) in
     c.located_by-in-None-2.ensures
-    ∙ ap (λ (list : KeptReferents). located c.args.ends.start c.args.ends.finish (names.entries (referents_by_name list)) (expression_of c.args.position.now)) c.new.ensures
-    ∙ ap (λ (kept : Names ℕ). located c.args.ends.start c.args.ends.finish (names.entries kept) (expression_of c.args.position.now)) (sym (kept_none c.args.self.now c.args.route.now.bytes there))
+    ∙ ap (λ (list : HeldReferents). located c.args.ends.start c.args.ends.finish (names.entries (referents_by_name list)) (expression_of c.args.position.now)) c.new.ensures
+    ∙ ap (λ (held : Names ℕ). located c.args.ends.start c.args.ends.finish (names.entries held) (expression_of c.args.position.now)) (sym (held_none c.args.self.now c.args.route.now.bytes there))

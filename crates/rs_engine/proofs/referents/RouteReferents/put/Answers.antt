@@ -3,11 +3,11 @@ use Rattle.std.proofs.lemmas.Result.{on_ok_weaker, on_err_weaker}
 use Rattle.std.specs.FinMap as names
 use Rattle.rs_facts.specs.Fact.{Names}
 use Rattle.rs_machine.specs.State.{has}
-use Rattle.rs_engine.specs.Kept.{KeptReferents}
+use Rattle.rs_engine.specs.Held.{HeldReferents}
 use Rattle.rs_engine.specs.Names.{names_of}
 use Rattle.rs_engine.proofs.Names.{names_of-put}
 use Rattle.rs_engine.proofs.TableLaws.{some_there, insert-same}
-use Rattle.rs_engine.proofs.ReferentLaws.{ByRoute, put_own, kept_at, kept_none, no_referents_in_order, found_list, found_no_list, referent_put, has_measure, no_list_has_none}
+use Rattle.rs_engine.proofs.ReferentLaws.{ByRoute, put_own, held_at, held_none, no_referents_in_order, found_list, found_no_list, referent_put, has_measure, no_list_has_none}
 use Rattle.rs_engine.proofs.referents.RouteReferents.put.Goals as goal
 
 pub returns-in-Some-clause-ok : goal.returns-in-Some-clause-ok
@@ -16,8 +16,8 @@ returns-in-Some-clause-ok c =
     let puts = ((c.get_mut.follows.holds c.insert.new.self).3 (some_there _ _ (sym c.in-Some.ensures.value))).0 in
     let put = names_of-put (λ list. list) c.self.inside.by_route.entries _ c.args.route c.insert.new.self puts in
     on_ok_weaker c.insert.result (λ is.
-    referent_put c.args.self.now _ c.args.route.bytes c.args.name.bytes c.in-Some.referents.now (kept_at c.args.self.now c.args.route.bytes _ there) c.args.measure c.insert.ensures.were_in_order
-    (put ∙ ap (λ (old : Names KeptReferents). names.insert old c.args.route.bytes c.insert.new.self) c.self.view_is ∙ ap (names.insert c.args.self.now c.args.route.bytes) is)) c.insert.ensures.ok
+    referent_put c.args.self.now _ c.args.route.bytes c.args.name.bytes c.in-Some.referents.now (held_at c.args.self.now c.args.route.bytes _ there) c.args.measure c.insert.ensures.were_in_order
+    (put ∙ ap (λ (old : Names HeldReferents). names.insert old c.args.route.bytes c.insert.new.self) c.self.view_is ∙ ap (names.insert c.args.self.now c.args.route.bytes) is)) c.insert.ensures.ok
 
 pub returns-in-Some-clause-err : goal.returns-in-Some-clause-err
 returns-in-Some-clause-err c =
@@ -25,7 +25,7 @@ returns-in-Some-clause-err c =
     let puts = ((c.get_mut.follows.holds c.insert.new.self).3 (some_there _ _ (sym c.in-Some.ensures.value))).0 in
     let put = names_of-put (λ list. list) c.self.inside.by_route.entries _ c.args.route c.insert.new.self puts in
     on_err_weaker c.insert.result (λ unchanged.
-    put ∙ ap (λ (old : Names KeptReferents). names.insert old c.args.route.bytes c.insert.new.self) c.self.view_is ∙ ap (names.insert c.args.self.now c.args.route.bytes) unchanged
+    put ∙ ap (λ (old : Names HeldReferents). names.insert old c.args.route.bytes c.insert.new.self) c.self.view_is ∙ ap (names.insert c.args.self.now c.args.route.bytes) unchanged
     ∙ insert-same c.args.self.now c.args.route.bytes _ there) c.insert.ensures.err
 
 pub returns-in_ok-insert-in-None-2-clause-ok : goal.returns-in_ok-insert-in-None-2-clause-ok
@@ -34,13 +34,13 @@ returns-in_ok-insert-in-None-2-clause-ok c =
     let put = names_of-put (λ list. list) _ _ c.args.route c.insert-in-None.new.self c.in_ok-insert-in-None-2.ensures.updates.0 in
     let from_old = put ∙ ap (λ (old : ByRoute). names.insert (names_of (λ list. list) old.entries) c.args.route.bytes c.insert-in-None.new.self) c.get_mut.follows.holds-at-none in
     let list = c.in_ok-insert-in-None.ensures.ok ∙ ap (put_own c.args.name.bytes c.args.measure) c.new-referents.ensures in
-    referent_put c.args.self.now _ c.args.route.bytes c.args.name.bytes [] (kept_none c.args.self.now c.args.route.bytes there) c.args.measure no_referents_in_order
-    (from_old ∙ ap (λ (old : Names KeptReferents). names.insert old c.args.route.bytes c.insert-in-None.new.self) c.self.view_is ∙ ap (names.insert c.args.self.now c.args.route.bytes) list)
+    referent_put c.args.self.now _ c.args.route.bytes c.args.name.bytes [] (held_none c.args.self.now c.args.route.bytes there) c.args.measure no_referents_in_order
+    (from_old ∙ ap (λ (old : Names HeldReferents). names.insert old c.args.route.bytes c.insert-in-None.new.self) c.self.view_is ∙ ap (names.insert c.args.self.now c.args.route.bytes) list)
 
 pub returns-in-Some-clause-moved : goal.returns-in-Some-clause-moved
 returns-in-Some-clause-moved c had =
     let there = found_list c.self.inside.by_route.entries c.args.self.now c.args.route _ c.self.view_is (sym c.in-Some.ensures.value) in
-    c.insert.ensures.moved (has_measure c.in-Some.referents.now c.args.name.bytes (sym (ap (λ (kept : Names ℕ). has kept c.args.name.bytes) (kept_at c.args.self.now c.args.route.bytes _ there)) ∙ had))
+    c.insert.ensures.moved (has_measure c.in-Some.referents.now c.args.name.bytes (sym (ap (λ (held : Names ℕ). has held c.args.name.bytes) (held_at c.args.self.now c.args.route.bytes _ there)) ∙ had))
 
 pub returns-in_err-insert-in-None-clause-moved : goal.returns-in_err-insert-in-None-clause-moved
 returns-in_err-insert-in-None-clause-moved c had =

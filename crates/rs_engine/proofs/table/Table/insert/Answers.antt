@@ -6,11 +6,11 @@ use Rattle.rs_facts.specs.Spans.{seen, places_of}
 use Rattle.rs_engine.specs.Placed.{AreAllKept}
 use Rattle.rs_engine.specs.Names.{names_of}
 use Rattle.rs_engine.proofs.Names.{names_of-put}
-use Rattle.rs_engine.proofs.TableLaws.{spans_seen, SpansByName, some_there, kept_at, seen_at, seen_none, all_kept-insert, facts-at, facts-none, inserted_facts, inserted_count, inserted_nothing}
+use Rattle.rs_engine.proofs.TableLaws.{spans_seen, SpansByName, some_there, held_at, seen_at, seen_none, all_kept-insert, facts-at, facts-none, inserted_facts, inserted_count, inserted_nothing}
 use Rattle.rs_engine.proofs.table.Table.insert.Goals as goal
 
 pub insert-requires-clause-kept : goal.insert-requires-clause-kept
-insert-requires-clause-kept c = kept_at c.self.inside.kind _ c.args.route.bytes _ c.self.invariant.1 (seen_at c.self.inside.spans.entries c.args.route c.in-Some.spans.now (sym c.in-Some.ensures.value))
+insert-requires-clause-kept c = held_at c.self.inside.kind _ c.args.route.bytes _ c.self.invariant.1 (seen_at c.self.inside.spans.entries c.args.route c.in-Some.spans.now (sym c.in-Some.ensures.value))
 
 pub invariant_of-self : goal.invariant_of-self
 invariant_of-self c =

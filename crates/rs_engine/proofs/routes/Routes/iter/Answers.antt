@@ -1,8 +1,0 @@
-use Rattle.std.proofs.Common.{sym, ap, ◌∙◌}
-use Rattle.std.specs.FinMap as names
-use Rattle.rs_engine.specs.Names.{entries_by_bytes}
-use Rattle.rs_engine.proofs.Names.{entries-names_of}
-use Rattle.rs_engine.proofs.routes.Routes.iter.Goals as goal
-
-pub returns : goal.returns
-returns c = ap (entries_by_bytes (λ ends. ends)) c.iter.ensures.rest ∙ sym (entries-names_of (λ ends. ends) _ c.iter.ensures.ordered) ∙ ap names.entries c.self.view_is

@@ -1,7 +1,0 @@
-use Rattle.std.proofs.Common.{ap}
-use Rattle.rs_engine.specs.Names.{names_of}
-use Rattle.rs_engine.proofs.tables.Tables.new.Goals as goal
-
-pub returns : goal.returns
-unfolding names_of
-returns c = ap (names_of (λ table. table)) c.new.ensures.empty
