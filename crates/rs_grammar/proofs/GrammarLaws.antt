@@ -399,7 +399,7 @@ part_sample_derived (suc depth) p e = sample_derived (part_completes depth) (par
 abbrev deep : ℕ
 deep = 8
 
--- a form can be completed behind each of its tokens
+-- a form can be completed after each of its tokens
 abbrev is_productive : Form → Bool
 is_productive done = true
 is_productive fail = true

@@ -97,7 +97,7 @@ measure_form = pick kinds.Whole done (need kinds.Decimal done)
 abbrev pub query_form : Form
 query_form = need kinds.Name done
 
--- behind a referent's name: a measure beyond it or before it, or nothing
+-- after a referent's name: a measure beyond it or before it, or nothing
 abbrev pub offset_form : Form
 offset_form = pick kinds.PlusSign (sub measure done) (pick kinds.MinusSign (sub measure done) done)
 
@@ -144,7 +144,7 @@ IsCommand tokens = Derives (rules command) tokens []
 abbrev pub IsViable : List TokenKind → Type 0
 IsViable front = (more : List TokenKind) × IsCommand (front ++ more)
 
--- how many brackets are open behind a token
+-- how many brackets are open after a token
 abbrev pub open_after : ℕ → TokenKind → ℕ
 open_after open_before kinds.LeftParen = open_before + 1
 open_after open_before kinds.RightParen = open_before - 1

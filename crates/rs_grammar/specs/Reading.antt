@@ -8,7 +8,7 @@ abbrev pub Lacks : TokenKind → List TokenKind → Type 0
 Lacks kind [] = Unit {0}
 Lacks kind (first ∷ others) = first ≡ kind → ⊥
 
--- Reading by a form: what is left behind it; or the tokens from the first on that it can't go on with,
+-- Reading by a form: what is left after it; or the tokens from the first on that it can't go on with,
 -- and none where memory ran out.
 pub data Runs : Form → List TokenKind → Result (List TokenKind) (Option (List TokenKind)) → Type 0 where
   is_done : {tokens : List TokenKind} → Runs done tokens (Ok tokens)

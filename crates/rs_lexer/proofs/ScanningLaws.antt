@@ -11,12 +11,12 @@ use Rattle.rs_grammar.specs.declared.kind.TokenKind.TheVariants as kinds
 use Rattle.rs_lexer.specs.declared.scan.State.{State}
 use Rattle.rs_lexer.specs.declared.scan.State.TheVariants as states
 use Rattle.rs_grammar.specs.Words.{is_word_byte}
-use Rattle.rs_lexer.specs.Lexis.{reserved, kind_in, IsLongestToken, word_kind, is_whole, is_fraction, is_quoted_rest, single_kind, less_kind, greater_kind, alone, kind_of}
+use Rattle.rs_lexer.specs.Lexis.{reserved, kind_in, IsLongestToken, word_kind, is_whole, is_fraction, is_quoted_rest, single_kind, less_kind, greater_kind, alone, token_kind}
 use Rattle.rs_lexer.specs.Scanning.{symbol_state, after_start, after, run, accepts, is_dead, kind_at, some_if, kind_from}
 
-pub kind_of-nil : kind_of [] ≡ None
-unfolding kind_of
-kind_of-nil = refl
+pub token_kind-nil : token_kind [] ≡ None
+unfolding token_kind
+token_kind-nil = refl
 
 pub alone-None : (bytes : List ℕ) → alone None bytes ≡ None
 alone-None [] = refl
@@ -27,9 +27,9 @@ kind_from-symbol None text bytes = alone-None bytes
 kind_from-symbol (Some kind) text bytes = refl
 
 -- the first byte
-pub kind_of-cons : (byte : ℕ) (bytes : List ℕ) → kind_of (byte ∷ bytes) ≡ kind_from (after_start byte) (byte ∷ bytes) bytes
-unfolding kind_of
-kind_of-cons byte bytes =
+pub token_kind-cons : (byte : ℕ) (bytes : List ℕ) → token_kind (byte ∷ bytes) ≡ kind_from (after_start byte) (byte ∷ bytes) bytes
+unfolding token_kind
+token_kind-cons byte bytes =
     elim (is_ascii_alphabetic byte) as (λ v.
     (if v then (if list_all is_word_byte bytes then Some (word_kind (byte ∷ bytes)) else None) else (if is_ascii_digit byte then (if list_all is_ascii_digit bytes then Some kinds.Whole else if is_fraction bytes then Some kinds.Decimal else None) else (if byte == 39 then (if is_quoted_rest false bytes then Some kinds.Quoted else None) else (if byte == 60 then less_kind bytes else (if byte == 62 then greater_kind bytes else alone (single_kind byte) bytes)))))
     ≡ kind_from (if v then states.Word else (if is_ascii_digit byte then states.Whole else (if byte == 39 then states.Inside else (if byte == 60 then states.Less else (if byte == 62 then states.Greater else symbol_state (single_kind byte)))))) (byte ∷ bytes) bytes) [
@@ -136,10 +136,10 @@ kind_from-run state started text [] = kind_from-nil state started text
 kind_from-run state started text (byte ∷ bytes) = kind_from-cons state started text byte bytes ∙ kind_from-run (after state byte) (IsStarted-after state byte) text bytes
 
 -- the machine says what kind a text is
-pub kind_of-run : (text : List ℕ) → kind_of text ≡ kind_at (run states.Start text) text
-unfolding kind_of
-kind_of-run [] = refl
-kind_of-run (byte ∷ bytes) = kind_of-cons byte bytes ∙ kind_from-run (after_start byte) (IsStarted-after states.Start byte) (byte ∷ bytes) bytes
+pub token_kind-run : (text : List ℕ) → token_kind text ≡ kind_at (run states.Start text) text
+unfolding token_kind
+token_kind-run [] = refl
+token_kind-run (byte ∷ bytes) = token_kind-cons byte bytes ∙ kind_from-run (after_start byte) (IsStarted-after states.Start byte) (byte ∷ bytes) bytes
 
 -- a state that accepts says a kind, and no other does
 pub is_some-kind_at : (state : State) (text : List ℕ) → is_some (kind_at state text) ≡ accepts state
@@ -159,11 +159,11 @@ None-from-is_some : (kind : Option TokenKind) → is_some kind ≡ false → kin
 None-from-is_some None e = refl
 None-from-is_some (Some kind) e = cc
 
-pub no_kind : (text : List ℕ) → accepts (run states.Start text) ≡ false → kind_of text ≡ None
-no_kind text e = kind_of-run text ∙ None-from-is_some (kind_at (run states.Start text) text) (is_some-kind_at (run states.Start text) text ∙ e)
+pub no_kind : (text : List ℕ) → accepts (run states.Start text) ≡ false → token_kind text ≡ None
+no_kind text e = token_kind-run text ∙ None-from-is_some (kind_at (run states.Start text) text) (is_some-kind_at (run states.Start text) text ∙ e)
 
-pub some_kind : (text : List ℕ) → accepts (run states.Start text) ≡ true → is_some (kind_of text) ≡ true
-some_kind text e = ap is_some (kind_of-run text) ∙ is_some-kind_at (run states.Start text) text ∙ e
+pub some_kind : (text : List ℕ) → accepts (run states.Start text) ≡ true → is_some (token_kind text) ≡ true
+some_kind text e = ap is_some (token_kind-run text) ∙ is_some-kind_at (run states.Start text) text ∙ e
 
 pub run-append : (state : State) (xs ys : List ℕ) → run state (xs ++ ys) ≡ run (run state xs) ys
 run-append state [] ys = refl
@@ -203,7 +203,7 @@ Dead-from_is_dead states.Greater e = cc
 Dead-from_is_dead (states.Symbol kind) e = cc
 Dead-from_is_dead states.Dead e = refl
 
--- behind a byte at which the machine is dead no text is accepted
+-- after a byte at which the machine is dead no text is accepted
 pub none_beyond : (bytes : List ℕ) (place count : ℕ) (state : State) → state ≡ run states.Start (take place bytes) → place < length bytes
     → is_dead (after state (get_or bytes place 0)) ≡ true
     → ((longer : ℕ) → count < longer → longer ≤ place → accepts (run states.Start (take longer bytes)) ≡ false)
@@ -249,7 +249,7 @@ pub IsLongestToken-from_run : (bytes : List ℕ) (state : State) (kind : TokenKi
     → IsLongestToken bytes kind count
 IsLongestToken-from_run bytes state kind count inside is says beyond = record {
   inside = inside;
-  token = kind_of-run (take count bytes) ∙ ap (λ v. kind_at v (take count bytes)) (sym is) ∙ sym says;
+  token = token_kind-run (take count bytes) ∙ ap (λ v. kind_at v (take count bytes)) (sym is) ∙ sym says;
   longest = λ longer above h. no_kind (take longer bytes) (beyond longer above h);
 }
 
@@ -258,12 +258,12 @@ pub no_front : (bytes : List ℕ) (state : State) (count : ℕ) → count ≤ le
     → state ≡ run states.Start (take count bytes) → None ≡ kind_at state (take count bytes)
     → (0 < count → accepts state ≡ true)
     → ((longer : ℕ) → count < longer → longer ≤ length bytes → accepts (run states.Start (take longer bytes)) ≡ false)
-    → (size : ℕ) → size ≤ length bytes → kind_of (take size bytes) ≡ None
+    → (size : ℕ) → size ≤ length bytes → token_kind (take size bytes) ≡ None
 no_front bytes state count inside is says accepted beyond size h =
     ⊎_elim
     (λ lt. no_kind (take size bytes) (beyond size lt h))
     (λ le. ⊎_elim
     (λ some. absurd (false≢true (ap is_some says ∙ is_some-kind_at state (take count bytes) ∙ accepted some)))
-    (λ none. let e : size ≡ 0 = omega arith in ap (λ n. kind_of (take n bytes)) e ∙ kind_of-nil)
+    (λ none. let e : size ≡ 0 = omega arith in ap (λ n. token_kind (take n bytes)) e ∙ token_kind-nil)
     (cases_lt 0 count))
     (cases_lt count size)

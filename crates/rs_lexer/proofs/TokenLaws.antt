@@ -15,7 +15,7 @@ use Rattle.rs_lexer.specs.declared.scan.State.{State}
 use Rattle.rs_lexer.specs.declared.scan.State.TheVariants as states
 use Rattle.rs_lexer.specs.declared.token.Token.{Token}
 use Rattle.rs_grammar.specs.Words.{is_word_byte}
-use Rattle.rs_lexer.specs.Lexis.{reserved, kind_in, word_kind, is_fraction, is_quoted_rest, single_kind, less_kind, greater_kind, alone, kind_of, text_of, IsTokenOf}
+use Rattle.rs_lexer.specs.Lexis.{reserved, kind_in, word_kind, is_fraction, is_quoted_rest, single_kind, less_kind, greater_kind, alone, token_kind, token_text, IsTokenOf}
 use Rattle.rs_lexer.specs.Scanning.{after_start, after, accepts, run, symbol_state}
 use Rattle.rs_lexer.proofs.ScanningLaws.{no_kind, run-next, run-dead}
 
@@ -98,10 +98,10 @@ greater_kind-tells (byte ∷ []) text = TellsSome-if (byte == 61) (Some kinds.Gr
 greater_kind-tells (byte ∷ other ∷ bytes) text = tt
 
 -- the kind of a text tells so much of it
-pub kind_of-tells : (text : List ℕ) → TellsSome (kind_of text) text
-unfolding kind_of
-kind_of-tells [] = tt
-kind_of-tells (byte ∷ bytes) =
+pub token_kind-tells : (text : List ℕ) → TellsSome (token_kind text) text
+unfolding token_kind
+token_kind-tells [] = tt
+token_kind-tells (byte ∷ bytes) =
     let symbol = alone-tells (single_kind byte) bytes (byte ∷ bytes) (single_kind-tells byte (byte ∷ bytes)) in
     let greater = TellsSome-if (byte == 62) (greater_kind bytes) (alone (single_kind byte) bytes) (byte ∷ bytes) (greater_kind-tells bytes (byte ∷ bytes)) symbol in
     let less = TellsSome-if (byte == 60) (less_kind bytes) (if byte == 62 then greater_kind bytes else alone (single_kind byte) bytes) (byte ∷ bytes) (less_kind-tells bytes (byte ∷ bytes)) greater in
@@ -114,8 +114,8 @@ kind_of-tells (byte ∷ bytes) =
     (λ letter. TellsSome-test (list_all is_word_byte bytes) (Some (word_kind (byte ∷ bytes))) None (byte ∷ bytes)
     (λ others. word_kind-tells (byte ∷ bytes) (and_from (is_ascii_alphabetic byte) (list_all is_word_byte bytes) letter others)) tt) digits
 
-pub tells : (text : List ℕ) (kind : TokenKind) → kind_of text ≡ Some kind → Tells kind text
-tells text kind e = subst (λ k. TellsSome k text) e (kind_of-tells text)
+pub tells : (text : List ℕ) (kind : TokenKind) → token_kind text ≡ Some kind → Tells kind text
+tells text kind e = subst (λ k. TellsSome k text) e (token_kind-tells text)
 
 -- a byte past ASCII ends no token
 alphabetic-high : (byte : ℕ) → 128 ≤ byte → is_ascii_alphabetic byte ≡ false
@@ -149,11 +149,11 @@ after-high states.Greater byte h = rw (other-high byte 61 h (omega arith)) refl
 after-high (states.Symbol kind) byte h = refl
 after-high states.Dead byte h = refl
 
-no_token : {P : Type 0} (text : List ℕ) (kind : TokenKind) → kind_of text ≡ Some kind → accepts (run states.Start text) ≡ false → P
+no_token : {P : Type 0} (text : List ℕ) (kind : TokenKind) → token_kind text ≡ Some kind → accepts (run states.Start text) ≡ false → P
 no_token text kind e none = let c : None ≡ Some kind = sym (no_kind text none) ∙ e in absurd cc
 
 -- a token begins with an ASCII byte
-pub first_is_ascii : (text : List ℕ) (kind : TokenKind) → kind_of text ≡ Some kind → (0 < length text) × (get_or text 0 0 < 128)
+pub first_is_ascii : (text : List ℕ) (kind : TokenKind) → token_kind text ≡ Some kind → (0 < length text) × (get_or text 0 0 < 128)
 first_is_ascii [] kind e = no_token [] kind e refl
 first_is_ascii (byte ∷ bytes) kind e = (
   omega arith,
@@ -161,7 +161,7 @@ first_is_ascii (byte ∷ bytes) kind e = (
 )
 
 -- and ends with one
-pub last_is_ascii : (text : List ℕ) (kind : TokenKind) → kind_of text ≡ Some kind → get_or text (length text - 1) 0 < 128
+pub last_is_ascii : (text : List ℕ) (kind : TokenKind) → token_kind text ≡ Some kind → get_or text (length text - 1) 0 < 128
 last_is_ascii text kind e =
     let some = (first_is_ascii text kind e).0 in
     let last : length text - 1 + 1 ≡ length text = omega arith in
@@ -172,35 +172,35 @@ last_is_ascii text kind e =
     (cases_lt (get_or text (length text - 1) 0) 128)
 
 module _ (line : List ℕ) (token : Token) (is_token : IsTokenOf line token) where
-  text_length : length (text_of line token) ≡ token.length
+  text_length : length (token_text line token) ≡ token.length
   text_length = length-take-le token.length (drop token.first line) (omega (arith, length-drop token.first line, is_token.inside))
 
   has_bytes : 0 < token.length
-  has_bytes = omega (arith, text_length, (first_is_ascii (text_of line token) token.kind is_token.kind).0)
+  has_bytes = omega (arith, text_length, (first_is_ascii (token_text line token) token.kind is_token.kind).0)
 
   -- the line may be cut where the token begins
   pub start_boundary : IsCharBoundary line token.first
   start_boundary =
       let some = has_bytes in
-      let ascii = (first_is_ascii (text_of line token) token.kind is_token.kind).1 in
-      let same : get_or (text_of line token) 0 0 ≡ get_or line token.first 0 = get_or-take token.length (drop token.first line) 0 0 some ∙ get_or-drop token.first line 0 0 ∙ ap (λ n. get_or line n 0) (add-zero token.first) in
+      let ascii = (first_is_ascii (token_text line token) token.kind is_token.kind).1 in
+      let same : get_or (token_text line token) 0 0 ≡ get_or line token.first 0 = get_or-take token.length (drop token.first line) 0 0 some ∙ get_or-drop token.first line 0 0 ∙ ap (λ n. get_or line n 0) (add-zero token.first) in
       IsCharBoundary-before_ascii line token.first (omega (arith, is_token.inside)) (subst (λ b. b < 128) same ascii)
 
   -- and where it ends
   pub end_boundary : IsUtf8 line → IsCharBoundary line (token.first + token.length)
   end_boundary utf8 =
       let some = has_bytes in
-      let ascii = last_is_ascii (text_of line token) token.kind is_token.kind in
-      let at : length (text_of line token) - 1 ≡ token.length - 1 = ap (λ n. n - 1) text_length in
-      let same : get_or (text_of line token) (length (text_of line token) - 1) 0 ≡ get_or line (token.first + (token.length - 1)) 0 =
-      ap (λ n. get_or (text_of line token) n 0) at ∙ get_or-take token.length (drop token.first line) (token.length - 1) 0 (omega arith) ∙ get_or-drop token.first line (token.length - 1) 0 in
+      let ascii = last_is_ascii (token_text line token) token.kind is_token.kind in
+      let at : length (token_text line token) - 1 ≡ token.length - 1 = ap (λ n. n - 1) text_length in
+      let same : get_or (token_text line token) (length (token_text line token) - 1) 0 ≡ get_or line (token.first + (token.length - 1)) 0 =
+      ap (λ n. get_or (token_text line token) n 0) at ∙ get_or-take token.length (drop token.first line) (token.length - 1) 0 (omega arith) ∙ get_or-drop token.first line (token.length - 1) 0 in
       let next : token.first + (token.length - 1) + 1 ≡ token.first + token.length = omega arith in
       subst (IsCharBoundary line) next
       (IsCharBoundary-after_ascii line (token.first + (token.length - 1)) utf8 (omega (arith, is_token.inside)) (subst (λ b. b < 128) same ascii))
 
   -- a name is a word, not too long and not reserved
-  pub name_tells : token.kind ≡ kinds.Name → IsNameText (text_of line token)
-  name_tells e = subst (λ k. Tells k (text_of line token)) e (tells (text_of line token) token.kind is_token.kind)
+  pub name_tells : token.kind ≡ kinds.Name → IsNameText (token_text line token)
+  name_tells e = subst (λ k. Tells k (token_text line token)) e (tells (token_text line token) token.kind is_token.kind)
 
-  pub name_fits : token.kind ≡ kinds.Name → length (text_of line token) ≤ NAME_BYTES
+  pub name_fits : token.kind ≡ kinds.Name → length (token_text line token) ≤ NAME_BYTES
   name_fits e = (name_tells e).short

@@ -86,7 +86,7 @@ is_fraction [] = false
 is_fraction (byte ∷ bytes) = if is_ascii_digit byte then is_fraction bytes else if byte == 46 then is_whole bytes else false
 
 -- What follows the opening quote: any bytes, each quote among them doubled, and the closing quote.
--- Directly behind a quote the text may end there, or that quote is doubled by the next.
+-- Directly after a quote the text may end there, or that quote is doubled by the next.
 abbrev pub is_quoted_rest : (behind_quote : Bool) → List ℕ → Bool
 is_quoted_rest behind_quote [] = behind_quote
 is_quoted_rest true (byte ∷ bytes) = if byte == 39 then is_quoted_rest false bytes else false
@@ -123,9 +123,9 @@ alone kind [] = kind
 alone kind (byte ∷ bytes) = None
 
 -- What kind of token a text is, by its first byte; none where it is no token.
-unfoldable pub kind_of : List ℕ → Option TokenKind
-kind_of [] = None
-kind_of (byte ∷ bytes) =
+unfoldable pub token_kind : List ℕ → Option TokenKind
+token_kind [] = None
+token_kind (byte ∷ bytes) =
     if is_ascii_alphabetic byte then (if list_all is_word_byte bytes then Some (word_kind (byte ∷ bytes)) else None)
     else if is_ascii_digit byte then (if list_all is_ascii_digit bytes then Some kinds.Whole else if is_fraction bytes then Some kinds.Decimal else None)
     else if byte == 39 then (if is_quoted_rest false bytes then Some kinds.Quoted else None)
@@ -138,24 +138,24 @@ abbrev pub kinds_of : List Token → List TokenKind
 kinds_of tokens = map (λ token. token.kind) tokens
 
 -- the bytes of a token of the line
-abbrev pub text_of : List ℕ → Token → List ℕ
-text_of line token = take token.length (drop token.first line)
+abbrev pub token_text : List ℕ → Token → List ℕ
+token_text line token = take token.length (drop token.first line)
 
 -- the token is in the line, and is what its bytes are
 pub record IsTokenOf (line : List ℕ) (token : Token) : Type 0 where
   pub inside : token.first + token.length ≤ length line
-  pub kind : kind_of (text_of line token) ≡ Some token.kind
+  pub kind : token_kind (token_text line token) ≡ Some token.kind
 
 -- a token at the front of the bytes, and no longer front is one
 pub record IsLongestToken (bytes : List ℕ) (kind : TokenKind) (count : ℕ) : Type 0 where
   pub inside : count ≤ length bytes
-  pub token : kind_of (take count bytes) ≡ Some kind
-  pub longest : (longer : ℕ) → count < longer → longer ≤ length bytes → kind_of (take longer bytes) ≡ None
+  pub token : token_kind (take count bytes) ≡ Some kind
+  pub longest : (longer : ℕ) → count < longer → longer ≤ length bytes → token_kind (take longer bytes) ≡ None
 
 -- The line from a place on, cut into tokens: at each place the end, a blank, or the longest token.
-pub data IsCut (line : List ℕ) : ℕ → List Token → Type 0 where
-  at_end : {place : ℕ} → length line ≤ place → IsCut line place []
+pub data AreTokensFrom (line : List ℕ) : ℕ → List Token → Type 0 where
+  at_end : {place : ℕ} → length line ≤ place → AreTokensFrom line place []
   at_blank : {place : ℕ} {tokens : List Token} → place < length line → slice_index line place ≡ 32
-      → IsCut line (place + 1) tokens → IsCut line place tokens
+      → AreTokensFrom line (place + 1) tokens → AreTokensFrom line place tokens
   at_token : {place : ℕ} {tokens : List Token} (kind : TokenKind) (count : ℕ) → IsLongestToken (drop place line) kind count
-      → IsCut line (place + count) tokens → IsCut line place (record { kind = kind; first = place; length = count } ∷ tokens)
+      → AreTokensFrom line (place + count) tokens → AreTokensFrom line place (record { kind = kind; first = place; length = count } ∷ tokens)

@@ -1,4 +1,4 @@
--- The lexer's machine: what its states are behind some bytes, and what tokens they lead to.
+-- The lexer's machine: what its states are after some bytes, and what tokens they lead to.
 use Rattle.std.specs.Prelude.{ℕ, Bool, true, false, ◌==◌, List, [], ◌∷◌, map, Option, Some, None, if◌then◌else◌}
 use Rattle.std.specs.Char.{is_ascii_alphabetic, is_ascii_digit}
 use Rattle.std.specs.List.{list_all}
@@ -8,7 +8,7 @@ use Rattle.rs_grammar.specs.declared.kind.Reserved.{Reserved}
 use Rattle.rs_lexer.specs.declared.scan.State.{State}
 use Rattle.rs_lexer.specs.declared.scan.State.TheVariants as states
 use Rattle.rs_grammar.specs.Words.{is_word_byte}
-use Rattle.rs_lexer.specs.Lexis.{word_kind, is_whole, is_fraction, is_quoted_rest, single_kind, less_kind, greater_kind, alone, kind_of}
+use Rattle.rs_lexer.specs.Lexis.{word_kind, is_whole, is_fraction, is_quoted_rest, single_kind, less_kind, greater_kind, alone, token_kind}
 
 -- the rows of a table of reserved words
 abbrev pub rows_of : List Reserved → List (List ℕ × TokenKind)
@@ -40,7 +40,7 @@ after states.Greater byte = if byte == 61 then states.Symbol kinds.GreaterOrEqua
 after (states.Symbol kind) byte = states.Dead
 after states.Dead byte = states.Dead
 
--- the state behind some bytes
+-- the state after some bytes
 abbrev pub run : State → List ℕ → State
 run state [] = state
 run state (byte ∷ bytes) = run (after state byte) bytes
@@ -90,7 +90,7 @@ some_if test kind = if test then Some kind else None
 
 -- The kind of a text of which some bytes led to the state and these are left.
 abbrev pub kind_from : State → List ℕ → List ℕ → Option TokenKind
-kind_from states.Start text left = kind_of left
+kind_from states.Start text left = token_kind left
 kind_from states.Word text left = some_if (list_all is_word_byte left) (word_kind text)
 kind_from states.Whole text left = if list_all is_ascii_digit left then Some kinds.Whole else some_if (is_fraction left) kinds.Decimal
 kind_from states.Point text left = some_if (is_whole left) kinds.Decimal

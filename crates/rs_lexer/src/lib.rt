@@ -6,7 +6,7 @@
 
 ghost use Rattle.std.specs.Prelude.{◌≡◌, ℕ, List};
 ghost use Rattle.rs_lexer.specs.declared.token.Token.{Token};
-ghost use Rattle.rs_lexer.specs.Lexis.{IsCut};
+ghost use Rattle.rs_lexer.specs.Lexis.{AreTokensFrom};
 
 mod scan;
 pub mod token;
@@ -16,5 +16,5 @@ pub use token::{Token, tokens};
 
 /// A line has one cut into tokens at the most.
 pub fn line_has_one_cut()
-    ensures { (line : List ℕ) (from : ℕ) (a b : List Token) → IsCut line from a → IsCut line from b → a ≡ b }
+    ensures { (line : List ℕ) (from : ℕ) (a b : List Token) → AreTokensFrom line from a → AreTokensFrom line from b → a ≡ b }
 {}

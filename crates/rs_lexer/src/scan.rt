@@ -4,7 +4,7 @@
 
 ghost use Rattle.std.specs.Prelude.{◌≡◌, ℕ, ◌+◌, ◌<◌, ◌≤◌, true, false, if◌then◌else◌, length, take, MatchOption, None};
 ghost use Rattle.rs_grammar.specs.Words.{is_word_byte};
-ghost use Rattle.rs_lexer.specs.Lexis.{kind_in, word_kind, single_kind, kind_of, IsLongestToken};
+ghost use Rattle.rs_lexer.specs.Lexis.{kind_in, word_kind, single_kind, token_kind, IsLongestToken};
 ghost use Rattle.rs_lexer.specs.Scanning.{rows_of, after, accepts, is_dead, kind_at, run};
 
 use rs_grammar::kind::{NAME_BYTES, RESERVED, Reserved, TokenKind};
@@ -137,7 +137,7 @@ fn state_if(holds: bool, state: State) -> State
 }
 
 impl State {
-    // The state behind one more byte.
+    // The state after one more byte.
     fn after(self, byte: u8) -> State
         ensures { result ≡ after self byte }
     {
@@ -197,7 +197,7 @@ impl State {
     }
 }
 
-// The state behind the longest token at the front, and its bytes; `Start` and 0 where there is none.
+// The state after the longest token at the front, and its bytes; `Start` and 0 where there is none.
 fn longest(bytes: &[u8]) -> (State, usize)
     ensures inside { result.1 ≤ length bytes.now }
     ensures state { result.0 ≡ run State.Start (take result.1 bytes.now) }
@@ -224,7 +224,7 @@ fn longest(bytes: &[u8]) -> (State, usize)
 /// The longest token at the front of the bytes: its kind and the number of its bytes. `None` where
 /// no front is a token.
 pub fn front_token(bytes: &[u8]) -> Option<(TokenKind, usize)>
-    ensures { MatchOption result ((count : ℕ) → count ≤ length bytes.now → kind_of (take count bytes.now) ≡ None)
+    ensures { MatchOption result ((count : ℕ) → count ≤ length bytes.now → token_kind (take count bytes.now) ≡ None)
         (λ token. IsLongestToken bytes.now token.0 token.1) }
 {
     let (state, count) = longest(bytes);

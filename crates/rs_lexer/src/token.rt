@@ -4,7 +4,7 @@
 
 ghost use Rattle.std.specs.Prelude.{◌≡◌, ◌==◌, ◌⊎◌, List, IfOk, IfErr, All};
 ghost use Rattle.rs_lexer.specs.declared.token.Token.{Token};
-ghost use Rattle.rs_lexer.specs.Lexis.{IsTokenOf, IsCut};
+ghost use Rattle.rs_lexer.specs.Lexis.{IsTokenOf, AreTokensFrom};
 
 use crate::scan::front_token;
 use rs_grammar::kind::TokenKind;
@@ -34,11 +34,11 @@ fn is_blank(byte: u8) -> bool
 /// Refused `UnknownCharacter` where the line can't be cut into tokens from there on, and
 /// `OutOfMemory` where a growth was refused.
 pub fn tokens(alloc: Global, line: &str, from: usize) -> Result<Vec<Token>, Refusal>
-    ensures cut { IfOk result (λ tokens. IsCut line.now from tokens.items) }
+    ensures cut { IfOk result (λ tokens. AreTokensFrom line.now from tokens.items) }
     ensures inside { IfOk result (λ tokens. All (IsTokenOf line.now) tokens.items) }
     // 10 exactly where there is no cut.
     ensures refused { IfErr result (λ refusal. (refusal ≡ Refusal.OutOfMemory)
-        ⊎ ((refusal ≡ Refusal.UnknownCharacter) × ((tokens : List Token) → IsCut line.now from tokens → ⊥))) }
+        ⊎ ((refusal ≡ Refusal.UnknownCharacter) × ((tokens : List Token) → AreTokensFrom line.now from tokens → ⊥))) }
 {
     let bytes = line.as_bytes();
     let mut tokens = Vec::new(alloc);
@@ -55,7 +55,7 @@ pub fn tokens(alloc: Global, line: &str, from: usize) -> Result<Vec<Token>, Refu
                 first: place,
                 length,
             };
-            tokens.push(token).map_err(|_| Refusal::OutOfMemory)?;
+            tokens.push(token)?;
             place += length;
         }
     }

@@ -15,7 +15,7 @@ use Rattle.rs_facts.specs.Fact.{Name, Names, name_cmp}
 use Rattle.rs_facts.specs.Insert.{same_name}
 use Rattle.rs_methods.specs.Position.{PositionExpression, start_name}
 use Rattle.rs_methods.specs.PositionText.{AreWords}
-use Rattle.rs_syntax.specs.Tree.{CommandTree, define_route, define_table, define_referent, move_referent, drop_referent, insert, translate, PlaceTree, along, select}
+use Rattle.rs_syntax.specs.Tree.{CommandTree, define_route, define_table, define_referent, move_referent, drop_referent, insert, translate, EventLocationTree, along, select}
 use Rattle.rs_syntax.specs.Verdict.{Reads}
 use Rattle.rs_syntax.specs.Sound.{IsName, IsSound}
 use Rattle.rs_machine.specs.State.{State, fresh, has}
@@ -107,7 +107,7 @@ dropped_named state route name named =
     }))))
 
 -- every other command leaves the referents
-inserted_named : (state : State) (table route : Name) (place : PlaceTree) (row : Row) → AreNamed state → Keeps (row_inserted state table route place row)
+inserted_named : (state : State) (table route : Name) (place : EventLocationTree) (row : Row) → AreNamed state → Keeps (row_inserted state table route place row)
 inserted_named state name route (along from to) row named =
     through (route_named state route) _ (λ ends.
     through (table_named state name) _ (λ table.

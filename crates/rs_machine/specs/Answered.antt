@@ -41,5 +41,5 @@ Answered old [] (given ∷ more) new = ⊥
 Answered old (line ∷ lines) [] new = ⊥
 
 -- the replies' lines, one after another
-abbrev pub text_of : List Answer → List ℕ
-text_of answers = flat_map (λ given. reply_text given.session given.reply) answers
+abbrev pub answers_text : List Answer → List ℕ
+answers_text answers = flat_map (λ given. reply_text given.session given.reply) answers

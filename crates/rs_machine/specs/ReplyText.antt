@@ -5,7 +5,7 @@ use Rattle.rs_measure.specs.Refusal.{number_of, words_of}
 use Rattle.rs_machine.specs.State.{RowText}
 use Rattle.rs_machine.specs.Served.{Reply, done, refused}
 
--- the session and the word, each with the space behind it
+-- the session and the word, each with the space after it
 abbrev pub head_of : ℕ → List ℕ → List ℕ
 head_of session word = decimal session ++ codes " " ++ word ++ codes " "
 

@@ -60,7 +60,7 @@ pub record BeginsWith (line : List ℕ) (session digits : ℕ) : Type 0 where
   pub begins : session_digits (without_return line) ≡ Some digits
   pub session_is : session ≡ number_of_digits (take digits (without_return line))
 
--- the session that a line begins with, and what its text says behind it
+-- the session that a line begins with, and what its text says after it
 pub record SessionReads (line : List ℕ) (session : ℕ) (answer : Result CommandTree Refusal) : Type 0 where
   pub digits : ℕ
   pub begins : BeginsWith line session digits

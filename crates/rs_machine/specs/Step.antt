@@ -13,7 +13,7 @@ use Rattle.rs_facts.specs.Insert.{same_name, after_insert, new_facts}
 use Rattle.rs_facts.specs.Query.{RouteEnds, Column, Table, Query, table_rows, rows_at, kind_of}
 use Rattle.rs_facts.specs.Runs.{Stretch, runs_of}
 use Rattle.rs_facts.specs.LineText.{line_of}
-use Rattle.rs_syntax.specs.Tree.{CommandTree, define_route, define_table, define_referent, move_referent, drop_referent, insert, translate, select, PlaceTree, along, QueryTree, named}
+use Rattle.rs_syntax.specs.Tree.{CommandTree, define_route, define_table, define_referent, move_referent, drop_referent, insert, translate, select, EventLocationTree, along, QueryTree, named}
 use Rattle.rs_machine.specs.declared.limits.TheConstants.{ROUTES, REFERENTS, TABLES, CHANGES}
 use Rattle.rs_machine.specs.State.{State, RowText, world_of, has}
 use Rattle.rs_machine.specs.Checks.{◌>>=◌, unless, route_named, table_named, has_referent, position_on, span_on, holds_lines, some_name_twice, column_names, row_fits}
@@ -111,7 +111,7 @@ referent_dropped state route name = do
 abbrev pub with_facts_along : Table → Name → ℕ → ℕ → Row → Table
 with_facts_along table route from to row = record table { facts = after_insert table.facts route from to row }
 
-abbrev pub row_inserted : State → Name → Name → PlaceTree → Row → Result Effect Refusal
+abbrev pub row_inserted : State → Name → Name → EventLocationTree → Row → Result Effect Refusal
 row_inserted state name route (along from to) row = do
   ends ← route_named state route
   table ← table_named state name

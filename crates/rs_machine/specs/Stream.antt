@@ -3,7 +3,7 @@ use Rattle.std.specs.Prelude.{◌≡◌, ◌≢◌, ℕ, List, [], ◌∷◌, �
 use Rattle.std.specs.List.{AllByRecursion}
 use Rattle.rs_machine.specs.Served.{Machine}
 use Rattle.rs_machine.specs.ReplyText.{reply_text}
-use Rattle.rs_machine.specs.Answered.{Answer, AnswersLine, Answered, text_of}
+use Rattle.rs_machine.specs.Answered.{Answer, AnswersLine, Answered, answers_text}
 
 abbrev pub LINE_FEED : ℕ
 LINE_FEED = 10
@@ -16,7 +16,7 @@ abbrev pub with_feed : List ℕ → List ℕ
 with_feed line = line ++ LINE_FEED ∷ []
 
 -- The bytes are these lines, each with its LF, and then the rest, which is no line yet.
-pub record IsCut (bytes : List ℕ) (lines : List (List ℕ)) (rest : List ℕ) : Type 0 where
+pub record IsCutIntoLines (bytes : List ℕ) (lines : List (List ℕ)) (rest : List ℕ) : Type 0 where
   pub whole : bytes ≡ flat_map with_feed lines ++ rest
   pub each : AllByRecursion IsOneLine lines
   pub partial : IsOneLine rest
@@ -24,18 +24,18 @@ pub record IsCut (bytes : List ℕ) (lines : List (List ℕ)) (rest : List ℕ) 
 -- Every line of the bytes is answered, and the text of the replies is what was written.
 pub record AllAnswered (old : Machine) (bytes rest written : List ℕ) (new : Machine) : Type 0 where
   pub lines : List (List ℕ)
-  pub cut : IsCut bytes lines rest
+  pub cut : IsCutIntoLines bytes lines rest
   pub answers : List Answer
   pub answered : Answered old lines answers new
-  pub text : written ≡ text_of answers
+  pub text : written ≡ answers_text answers
 
--- The first lines of the bytes are answered, with one more behind them, of whose reply only a front was written.
+-- The first lines of the bytes are answered, with one more after them, of whose reply only a front was written.
 pub record StoppedWriting (old : Machine) (bytes written : List ℕ) (new : Machine) : Type 0 where
   pub lines : List (List ℕ)
   pub line : List ℕ
   pub later : List (List ℕ)
   pub rest : List ℕ
-  pub cut : IsCut bytes (lines ++ line ∷ later) rest
+  pub cut : IsCutIntoLines bytes (lines ++ line ∷ later) rest
   pub answers : List Answer
   pub between : Machine
   pub answered : Answered old lines answers between
@@ -44,5 +44,5 @@ pub record StoppedWriting (old : Machine) (bytes written : List ℕ) (new : Mach
   pub front : List ℕ
   pub lost : List ℕ
   pub some_lost : lost ≢ []
-  pub text : written ≡ text_of answers ++ front
+  pub text : written ≡ answers_text answers ++ front
   pub stopped_in : reply_text last.session last.reply ≡ front ++ lost

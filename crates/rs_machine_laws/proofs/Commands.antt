@@ -13,7 +13,7 @@ use Rattle.rs_facts.specs.Fact.{Name, Names}
 use Rattle.rs_facts.specs.Insert.{same_name}
 use Rattle.rs_facts.specs.Query.{RouteEnds, Column, Table}
 use Rattle.rs_methods.specs.Position.{PositionExpression, start_name}
-use Rattle.rs_syntax.specs.Tree.{CommandTree, define_route, define_table, define_referent, move_referent, drop_referent, insert, translate, PlaceTree, along, select}
+use Rattle.rs_syntax.specs.Tree.{CommandTree, define_route, define_table, define_referent, move_referent, drop_referent, insert, translate, EventLocationTree, along, select}
 use Rattle.rs_syntax.specs.Sound.{IsName, IsSound}
 use Rattle.rs_machine.specs.State.{State, has}
 use Rattle.rs_machine.specs.Checks.{◌>>=◌, unless, route_named, table_named, has_referent, position_on, span_on, holds_lines, some_name_twice, column_names, row_fits}
@@ -99,7 +99,7 @@ table_defined-lawful state kind name columns sound lawful =
           (one_change state y change);
     })))))
 
-inserted-lawful : (state : State) (table route : Name) (place : PlaceTree) (row : Row) → IsSound (insert table route place row) → IsLawful state → Keeps (row_inserted state table route place row)
+inserted-lawful : (state : State) (table route : Name) (place : EventLocationTree) (row : Row) → IsSound (insert table route place row) → IsLawful state → Keeps (row_inserted state table route place row)
 inserted-lawful state name route (along from to) row sound lawful =
     through (route_named state route) _ (λ ends on.
     through (table_named state name) _ (λ table there.

@@ -9,12 +9,12 @@ use Rattle.rs_grammar.specs.declared.kind.TokenKind.{TokenKind}
 use Rattle.rs_grammar.specs.declared.kind.TokenKind.TheVariants as kinds
 use Rattle.rs_grammar.specs.Words.{is_word_byte}
 use Rattle.rs_lexer.specs.declared.token.Token.{Token}
-use Rattle.rs_lexer.specs.Lexis.{text_of, IsCut}
+use Rattle.rs_lexer.specs.Lexis.{token_text, AreTokensFrom}
 use Rattle.rs_methods.specs.Position.{PositionExpression, absolute, beyond, before, interpolative}
-use Rattle.rs_methods.specs.PositionText.{SaysReferent, SaysSigned, SaysPercentage, SaysPosition as TextSays}
+use Rattle.rs_methods.specs.PositionText.{SaysReferent, SaysSigned, SaysPercentage, TextSaysPosition}
 use Rattle.rs_syntax.specs.declared.written.WrittenPosition.{WrittenPosition}
 use Rattle.rs_syntax.specs.declared.written.WrittenPosition.TheVariants as written_positions
-use Rattle.rs_syntax.specs.Written.{Piece, mark, told, has_text, piece_of, position_pieces, SaysPosition}
+use Rattle.rs_syntax.specs.Written.{Lexeme, mark, told, has_text, lexeme_of, position_lexemes, SaysPosition}
 use Rattle.rs_syntax.specs.Sound.{IsName}
 use Rattle.rs_machine_laws.specs.TokensSay.{IsEndOrBlank, StandsAt, TokensSay, HasName}
 use Rattle.rs_machine_laws.proofs.Tokens.{IsLongest, next_is, token_here, text_here, after_here, cut_here, IsNumber, whole_number, parts_number, number_ends, word_ends, name_kind, at_kind, plus_kind, minus_kind, percent_kind, at_ends, plus_ends, minus_ends, percent_ends}
@@ -28,7 +28,7 @@ fixed_number most places bytes number (inr said) =
     (kinds.Decimal, parts_number bytes said.0 said.1 says.cut says.whole_part.digits_only says.whole_part.some says.decimal_part.digits_only says.decimal_part.some)
 
 -- how a number is spelled
-number_piece : (token : Token) → has_text token.kind ≡ true → piece_of token ≡ told token.kind token
+number_piece : (token : Token) → has_text token.kind ≡ true → lexeme_of token ≡ told token.kind token
 number_piece token is = ap (λ b. cond b (told token.kind token) (mark token.kind)) is
 
 -- ---- what ends a number or a word
@@ -60,7 +60,7 @@ absolute_said line place bytes measure says stands =
       tokens = token_here place bytes number.0 ∷ [];
       cut = λ rest cut. cut_here line place bytes stands.after number.0 stands.is number.1.is (number_before_blank bytes stands.after number.0 number.1 stands.ends) rest cut;
       written = written_positions.Measure (token_here place bytes number.0);
-      spelled = ap (λ piece. piece ∷ []) (number_piece (token_here place bytes number.0) number.1.told);
+      spelled = ap (λ lexeme. lexeme ∷ []) (number_piece (token_here place bytes number.0) number.1.told);
       says = (measure, subst (λ t. SaysMeasure t measure) (sym (text_here line place bytes stands.after number.0 stands.is)) says, refl);
     }
 
@@ -74,9 +74,9 @@ percentage_said line place bytes part digits says stands =
       tokens = token_here place digits number.0 ∷ token_here (place + length digits) (codes "%") kinds.PercentSign ∷ [];
       cut = λ rest cut.
           cut_here line place digits (37 ∷ stands.after) number.0 first number.1.is (number_before_percent digits stands.after number.0 number.1) _
-          (cut_here line (place + length digits) (codes "%") stands.after kinds.PercentSign second percent_kind (percent_ends stands.after) rest (subst (λ n. IsCut line n rest) (sym end) cut));
+          (cut_here line (place + length digits) (codes "%") stands.after kinds.PercentSign second percent_kind (percent_ends stands.after) rest (subst (λ n. AreTokensFrom line n rest) (sym end) cut));
       written = written_positions.Percentage (token_here place digits number.0);
-      spelled = ap (λ piece. piece ∷ mark kinds.PercentSign ∷ []) (number_piece (token_here place digits number.0) number.1.told);
+      spelled = ap (λ lexeme. lexeme ∷ mark kinds.PercentSign ∷ []) (number_piece (token_here place digits number.0) number.1.told);
       says = (part, subst (λ t. SaysPart t part) (sym (text_here line place digits (37 ∷ stands.after) number.0 first)) says.part_said, refl);
     }
 
@@ -84,9 +84,9 @@ percentage_said line place bytes part digits says stands =
 
 -- `@` and a name, and what follows
 record FrontSays (line : List ℕ) (place : ℕ) (name tail : List ℕ) : Type 0 where
-  cut : (rest : List Token) → IsCut line (place + 1 + length name) rest
-      → IsCut line place (record { kind = kinds.AtSign; first = place; length = 1 } ∷ record { kind = kinds.Name; first = place + 1; length = length name } ∷ rest)
-  named : text_of line (record { kind = kinds.Name; first = place + 1; length = length name }) ≡ name
+  cut : (rest : List Token) → AreTokensFrom line (place + 1 + length name) rest
+      → AreTokensFrom line place (record { kind = kinds.AtSign; first = place; length = 1 } ∷ record { kind = kinds.Name; first = place + 1; length = length name } ∷ rest)
+  named : token_text line (record { kind = kinds.Name; first = place + 1; length = length name }) ≡ name
   next : drop (place + 1 + length name) line ≡ tail
 
 front : (line : List ℕ) (place : ℕ) (name tail : List ℕ) → drop place line ≡ codes "@" ++ name ++ tail → IsName name → IsLongest name tail → FrontSays line place name tail
@@ -107,7 +107,7 @@ referent_said line place bytes name measure says is stands =
     let end : place + 1 + length name ≡ place + length bytes = omega (arith, ap length says.cut) in
     record {
       tokens = record { kind = kinds.AtSign; first = place; length = 1 } ∷ record { kind = kinds.Name; first = place + 1; length = length name } ∷ [];
-      cut = λ rest cut. begins.cut rest (subst (λ n. IsCut line n rest) (sym end) cut);
+      cut = λ rest cut. begins.cut rest (subst (λ n. AreTokensFrom line n rest) (sym end) cut);
       written = written_positions.Referent (record { kind = kinds.Name; first = place + 1; length = length name });
       spelled = refl;
       says = ap (beyond name) says.nothing_beyond ∙ ap (λ n. beyond n 0) (sym begins.named);
@@ -116,15 +116,15 @@ referent_said line place bytes name measure says is stands =
 -- a sign and a measure after the name
 record SignSays (line : List ℕ) (place : ℕ) (bytes name number : List ℕ) (sign_kind : TokenKind) : Type 0 where
   kind : TokenKind
-  cut : (rest : List Token) → IsCut line (place + length bytes) rest
-      → IsCut line place (record { kind = kinds.AtSign; first = place; length = 1 } ∷ record { kind = kinds.Name; first = place + 1; length = length name }
+  cut : (rest : List Token) → AreTokensFrom line (place + length bytes) rest
+      → AreTokensFrom line place (record { kind = kinds.AtSign; first = place; length = 1 } ∷ record { kind = kinds.Name; first = place + 1; length = length name }
       ∷ record { kind = sign_kind; first = place + 1 + length name; length = 1 } ∷ record { kind = kind; first = place + 1 + length name + 1; length = length number } ∷ rest)
   has_text_is : has_text kind ≡ true
-  named : text_of line (record { kind = kinds.Name; first = place + 1; length = length name }) ≡ name
-  measured : text_of line (record { kind = kind; first = place + 1 + length name + 1; length = length number }) ≡ number
+  named : token_text line (record { kind = kinds.Name; first = place + 1; length = length name }) ≡ name
+  measured : token_text line (record { kind = kind; first = place + 1 + length name + 1; length = length number }) ≡ number
 
 signed : (line : List ℕ) (place : ℕ) (bytes name number : List ℕ) (measure sign : ℕ) (sign_kind : TokenKind)
-    → ((after : List ℕ) → drop (place + 1 + length name) line ≡ sign ∷ after → (rest : List Token) → IsCut line (place + 1 + length name + 1) rest → IsCut line (place + 1 + length name) (record { kind = sign_kind; first = place + 1 + length name; length = 1 } ∷ rest))
+    → ((after : List ℕ) → drop (place + 1 + length name) line ≡ sign ∷ after → (rest : List Token) → AreTokensFrom line (place + 1 + length name + 1) rest → AreTokensFrom line (place + 1 + length name) (record { kind = sign_kind; first = place + 1 + length name; length = 1 } ∷ rest))
     → is_word_byte sign ≡ false → SaysSigned (sign ∷ []) bytes name measure number → IsName name → StandsAt line place bytes → SignSays line place bytes name number sign_kind
 signed line place bytes name number measure sign sign_kind sign_cut other says is stands =
     let cut : bytes ≡ 64 ∷ (name ++ sign ∷ number) = says.cut ∙ ap (λ bs. 64 ∷ bs) (append_assoc name (sign ∷ []) number) in
@@ -138,7 +138,7 @@ signed line place bytes name number measure sign sign_kind sign_cut other says i
       kind = kind.0;
       cut = λ rest rest_cut.
           begins.cut _ (sign_cut (number ++ stands.after) begins.next _
-          (cut_here line (place + 1 + length name + 1) number stands.after kind.0 third kind.1.is (number_before_blank number stands.after kind.0 kind.1 stands.ends) rest (subst (λ n. IsCut line n rest) (sym end) rest_cut)));
+          (cut_here line (place + 1 + length name + 1) number stands.after kind.0 third kind.1.is (number_before_blank number stands.after kind.0 kind.1 stands.ends) rest (subst (λ n. AreTokensFrom line n rest) (sym end) rest_cut)));
       has_text_is = kind.1.told;
       named = begins.named;
       measured = text_here line (place + 1 + length name + 1) number stands.after kind.0 third;
@@ -154,7 +154,7 @@ beyond_said line place bytes name number measure says is stands =
           ∷ record { kind = kinds.PlusSign; first = place + 1 + length name; length = 1 } ∷ record { kind = parts.kind; first = place + 1 + length name + 1; length = length number } ∷ [];
       cut = parts.cut;
       written = written_positions.Beyond (record { kind = kinds.Name; first = place + 1; length = length name }) (record { kind = parts.kind; first = place + 1 + length name + 1; length = length number });
-      spelled = ap (λ piece. mark kinds.AtSign ∷ told kinds.Name (record { kind = kinds.Name; first = place + 1; length = length name }) ∷ mark kinds.PlusSign ∷ piece ∷ [])
+      spelled = ap (λ lexeme. mark kinds.AtSign ∷ told kinds.Name (record { kind = kinds.Name; first = place + 1; length = length name }) ∷ mark kinds.PlusSign ∷ lexeme ∷ [])
           (number_piece (record { kind = parts.kind; first = place + 1 + length name + 1; length = length number }) parts.has_text_is);
       says = (measure, subst (λ t. SaysMeasure t measure) (sym parts.measured) says.measure_said, ap (λ n. beyond n measure) (sym parts.named));
     }
@@ -169,13 +169,13 @@ before_said line place bytes name number measure says is stands =
           ∷ record { kind = kinds.MinusSign; first = place + 1 + length name; length = 1 } ∷ record { kind = parts.kind; first = place + 1 + length name + 1; length = length number } ∷ [];
       cut = parts.cut;
       written = written_positions.Before (record { kind = kinds.Name; first = place + 1; length = length name }) (record { kind = parts.kind; first = place + 1 + length name + 1; length = length number });
-      spelled = ap (λ piece. mark kinds.AtSign ∷ told kinds.Name (record { kind = kinds.Name; first = place + 1; length = length name }) ∷ mark kinds.MinusSign ∷ piece ∷ [])
+      spelled = ap (λ lexeme. mark kinds.AtSign ∷ told kinds.Name (record { kind = kinds.Name; first = place + 1; length = length name }) ∷ mark kinds.MinusSign ∷ lexeme ∷ [])
           (number_piece (record { kind = parts.kind; first = place + 1 + length name + 1; length = length number }) parts.has_text_is);
       says = (measure, subst (λ t. SaysMeasure t measure) (sym parts.measured) says.measure_said, ap (λ n. before n measure) (sym parts.named));
     }
 
 -- what a text says, the tokens of a line say, wherever it stands
-pub said : (line : List ℕ) (place : ℕ) (bytes : List ℕ) (position : PositionExpression) → TextSays bytes position → HasName position → StandsAt line place bytes → TokensSay line place (place + length bytes) position
+pub said : (line : List ℕ) (place : ℕ) (bytes : List ℕ) (position : PositionExpression) → TextSaysPosition bytes position → HasName position → StandsAt line place bytes → TokensSay line place (place + length bytes) position
 said line place bytes (absolute measure) says is stands = absolute_said line place bytes measure says stands
 said line place bytes (beyond name measure) (inl says) is stands = referent_said line place bytes name measure says is stands
 said line place bytes (beyond name measure) (inr says) is stands = beyond_said line place bytes name says.0 measure says.1 is stands

@@ -14,7 +14,7 @@ use Rattle.std.proofs.lemmas.Slice.Eq.{bytes_eq-Decides}
 use Rattle.rs_grammar.specs.declared.kind.TheConstants.{NAME_BYTES}
 use Rattle.rs_lexer.specs.Lexis.{reserved, kind_in}
 use Rattle.rs_methods.specs.Position.{PositionExpression, start_name, measure_of, referent_measure, on_route, located, nearest, ceiling, expression_at, expression_text}
-use Rattle.rs_methods.specs.PositionText.{IsPrintable, AreWords, SaysPosition}
+use Rattle.rs_methods.specs.PositionText.{IsPrintable, AreWords, TextSaysPosition}
 use Rattle.rs_methods.specs.declared.position.Method.{Method}
 use Rattle.rs_methods.specs.declared.position.Method.TheVariants as methods
 use Rattle.rs_methods.proofs.Nearest.{nearest_from_among, nearest_from_not_above, on_route_itself, located_relative}
@@ -121,7 +121,7 @@ module _ (state : State) (route : Name) (lawful : IsLawful state) where
   expression_has_name ends methods.Interpolative k = tt
 
   -- what is printed says its position, so the tokens of a line do where it stands
-  pub printed-said : ((position : PositionExpression) → IsPrintable position → SaysPosition (expression_text position) position) → AreWords (names.entries (state.referents route))
+  pub printed-said : ((position : PositionExpression) → IsPrintable position → TextSaysPosition (expression_text position) position) → AreWords (names.entries (state.referents route))
       → (ends : RouteEnds) (method : Method) (k : ℕ) (line : List ℕ) (place : ℕ) → IsRoute route ends → IsPlaceOf k ends
       → StandsAt line place (position_text state route ends method k) → TokensSay line place (place + length (position_text state route ends method k)) (printed_expression state route ends method k)
   printed-said read_back words ends method k line place is lies stands =

@@ -12,14 +12,14 @@ use Rattle.rs_grammar.specs.declared.kind.TokenKind.{TokenKind}
 use Rattle.rs_grammar.specs.declared.kind.TokenKind.TheVariants as kinds
 use Rattle.rs_grammar.specs.Words.{is_word_byte}
 use Rattle.rs_lexer.specs.declared.token.Token.{Token}
-use Rattle.rs_lexer.specs.Lexis.{kind_in, reserved, word_kind, is_whole, is_fraction, kind_of, text_of, IsLongestToken, IsCut, at_token}
+use Rattle.rs_lexer.specs.Lexis.{kind_in, reserved, word_kind, is_whole, is_fraction, token_kind, token_text, IsLongestToken, AreTokensFrom, at_token}
 use Rattle.rs_methods.specs.PositionText.{IsWord}
 use Rattle.rs_syntax.specs.Written.{has_text}
 use Rattle.rs_syntax.specs.Sound.{IsName}
 
 -- no longer token begins with the text, as the line goes on
 abbrev pub IsLongest : List ℕ → List ℕ → Type 0
-IsLongest text after = (byte : ℕ) (bytes more : List ℕ) → after ≡ byte ∷ bytes → kind_of (text ++ byte ∷ more) ≡ None
+IsLongest text after = (byte : ℕ) (bytes more : List ℕ) → after ≡ byte ∷ bytes → token_kind (text ++ byte ∷ more) ≡ None
 
 first_is : (x y : ℕ) (xs ys : List ℕ) → x ∷ xs ≡ y ∷ ys → x ≡ y
 first_is x y xs ys e = ap head e
@@ -33,18 +33,18 @@ next_is x byte xs bytes e = sym (first_is x byte xs bytes e)
 
 -- ---- tokens at a place
 
-longer_none : (text after : List ℕ) (n : ℕ) → IsLongest text after → n < length after → kind_of (text ++ take (suc n) after) ≡ None
+longer_none : (text after : List ℕ) (n : ℕ) → IsLongest text after → n < length after → token_kind (text ++ take (suc n) after) ≡ None
 longer_none text [] n ends within = absurd (omega arith)
 longer_none text (byte ∷ bytes) n ends within = ends byte bytes (take n bytes) refl
 
-longest : (text after : List ℕ) (kind : TokenKind) → kind_of text ≡ Some kind → IsLongest text after → IsLongestToken (text ++ after) kind (length text)
+longest : (text after : List ℕ) (kind : TokenKind) → token_kind text ≡ Some kind → IsLongest text after → IsLongestToken (text ++ after) kind (length text)
 longest text after kind is ends = record {
   inside = omega (arith, length-append text after);
-  token = ap kind_of (take-append_seam text after) ∙ is;
+  token = ap token_kind (take-append_seam text after) ∙ is;
   longest = λ longer more within.
       let n : longer ≡ length text + suc (longer - length text - 1) = omega arith in
-      ap (λ m. kind_of (take m (text ++ after))) n
-      ∙ ap kind_of (take-append-add text after (suc (longer - length text - 1)))
+      ap (λ m. token_kind (take m (text ++ after))) n
+      ∙ ap token_kind (take-append-add text after (suc (longer - length text - 1)))
       ∙ longer_none text after (longer - length text - 1) ends (omega (arith, length-append text after));
 }
 
@@ -53,7 +53,7 @@ abbrev pub token_here : ℕ → List ℕ → TokenKind → Token
 token_here place text kind = record { kind = kind; first = place; length = length text }
 
 -- its bytes
-pub text_here : (line : List ℕ) (place : ℕ) (text after : List ℕ) (kind : TokenKind) → drop place line ≡ text ++ after → text_of line (token_here place text kind) ≡ text
+pub text_here : (line : List ℕ) (place : ℕ) (text after : List ℕ) (kind : TokenKind) → drop place line ≡ text ++ after → token_text line (token_here place text kind) ≡ text
 text_here line place text after kind at = ap (take (length text)) at ∙ take-append_seam text after
 
 -- what follows
@@ -61,8 +61,8 @@ pub after_here : (line : List ℕ) (place : ℕ) (text after : List ℕ) → dro
 after_here line place text after at = sym (drop-drop (length text) place line) ∙ ap (drop (length text)) at ∙ drop-append_seam text after
 
 -- the cut of the line from here on begins with it
-pub cut_here : (line : List ℕ) (place : ℕ) (text after : List ℕ) (kind : TokenKind) → drop place line ≡ text ++ after → kind_of text ≡ Some kind → IsLongest text after
-    → (rest : List Token) → IsCut line (place + length text) rest → IsCut line place (token_here place text kind ∷ rest)
+pub cut_here : (line : List ℕ) (place : ℕ) (text after : List ℕ) (kind : TokenKind) → drop place line ≡ text ++ after → token_kind text ≡ Some kind → IsLongest text after
+    → (rest : List Token) → AreTokensFrom line (place + length text) rest → AreTokensFrom line place (token_here place text kind ∷ rest)
 cut_here line place text after kind at is ends rest cut = at_token kind (length text) (subst (λ bytes. IsLongestToken bytes kind (length text)) (sym at) (longest text after kind is ends)) cut
 
 -- ---- numbers
@@ -103,12 +103,12 @@ fraction-is (d ∷ ds) rest b are is = rw (digit-digit d are.0 are.1) (fraction-
 
 -- a number: its kind, and that only digits and a point make it longer
 pub record IsNumber (text : List ℕ) (kind : TokenKind) : Type 0 where
-  pub is : kind_of text ≡ Some kind
+  pub is : token_kind text ≡ Some kind
   pub told : has_text kind ≡ true
-  pub ends : (byte : ℕ) (more : List ℕ) → is_ascii_digit byte ≡ false → (byte == 46) ≡ false → kind_of (text ++ byte ∷ more) ≡ None
+  pub ends : (byte : ℕ) (more : List ℕ) → is_ascii_digit byte ≡ false → (byte == 46) ≡ false → token_kind (text ++ byte ∷ more) ≡ None
 
 pub whole_number : (digits : List ℕ) → AreDigits digits → 1 ≤ length digits → IsNumber digits kinds.Whole
-unfolding kind_of
+unfolding token_kind
 whole_number [] are some = absurd (omega arith)
 whole_number (d ∷ ds) are some = record {
   is = rw (digit-alphabetic d are.0 are.1, digit-digit d are.0 are.1, all_digits ds are.2) refl;
@@ -117,7 +117,7 @@ whole_number (d ∷ ds) are some = record {
 }
 
 decimal_number : (whole decimals : List ℕ) → AreDigits whole → 1 ≤ length whole → AreDigits decimals → 1 ≤ length decimals → IsNumber (whole ++ 46 ∷ decimals) kinds.Decimal
-unfolding kind_of
+unfolding token_kind
 decimal_number [] decimals are some parts more = absurd (omega arith)
 decimal_number (d ∷ ds) decimals are some parts some_parts = record {
   is = rw (digit-alphabetic d are.0 are.1, digit-digit d are.0 are.1, not_all_digits ds 46 decimals refl, fraction-is ds decimals true are.2 (whole-all decimals parts some_parts)) refl;
@@ -141,7 +141,7 @@ not_all_word [] byte more other = rw other refl
 not_all_word (l ∷ ls) byte more other = and_right (is_word_byte l) _ (not_all_word ls byte more other)
 
 pub word_ends : (text after : List ℕ) → IsWord text → ((byte : ℕ) (bytes : List ℕ) → after ≡ byte ∷ bytes → is_word_byte byte ≡ false) → IsLongest text after
-unfolding kind_of
+unfolding token_kind
 word_ends [] after word next byte bytes more e = absurd word
 word_ends (letter ∷ letters) after word next byte bytes more e = rw (word.0, not_all_word letters byte more (next byte bytes e)) refl
 
@@ -149,44 +149,44 @@ named : (name : List ℕ) → kind_in reserved name ≡ None → length name ≤
 unfolding word_kind
 named name free short = rw (free, le-leb (length name) NAME_BYTES short) refl
 
-word_is_name : (bytes : List ℕ) → IsWord bytes → word_kind bytes ≡ kinds.Name → kind_of bytes ≡ Some kinds.Name
-unfolding kind_of
+word_is_name : (bytes : List ℕ) → IsWord bytes → word_kind bytes ≡ kinds.Name → token_kind bytes ≡ Some kinds.Name
+unfolding token_kind
 word_is_name [] word named = absurd word
 word_is_name (letter ∷ letters) word named = rw (word.0, word.1, named) refl
 
-pub name_kind : (name : List ℕ) → IsName name → kind_of name ≡ Some kinds.Name
+pub name_kind : (name : List ℕ) → IsName name → token_kind name ≡ Some kinds.Name
 name_kind name is = word_is_name name is.word (named name is.not_reserved is.short)
 
 -- ---- signs
 
-pub at_kind : kind_of (codes "@") ≡ Some kinds.AtSign
-unfolding kind_of
+pub at_kind : token_kind (codes "@") ≡ Some kinds.AtSign
+unfolding token_kind
 at_kind = refl
 
-pub plus_kind : kind_of (codes "+") ≡ Some kinds.PlusSign
-unfolding kind_of
+pub plus_kind : token_kind (codes "+") ≡ Some kinds.PlusSign
+unfolding token_kind
 plus_kind = refl
 
-pub minus_kind : kind_of (codes "-") ≡ Some kinds.MinusSign
-unfolding kind_of
+pub minus_kind : token_kind (codes "-") ≡ Some kinds.MinusSign
+unfolding token_kind
 minus_kind = refl
 
-pub percent_kind : kind_of (codes "%") ≡ Some kinds.PercentSign
-unfolding kind_of
+pub percent_kind : token_kind (codes "%") ≡ Some kinds.PercentSign
+unfolding token_kind
 percent_kind = refl
 
 pub at_ends : (after : List ℕ) → IsLongest (codes "@") after
-unfolding kind_of
+unfolding token_kind
 at_ends after byte bytes more e = refl
 
 pub plus_ends : (after : List ℕ) → IsLongest (codes "+") after
-unfolding kind_of
+unfolding token_kind
 plus_ends after byte bytes more e = refl
 
 pub minus_ends : (after : List ℕ) → IsLongest (codes "-") after
-unfolding kind_of
+unfolding token_kind
 minus_ends after byte bytes more e = refl
 
 pub percent_ends : (after : List ℕ) → IsLongest (codes "%") after
-unfolding kind_of
+unfolding token_kind
 percent_ends after byte bytes more e = refl

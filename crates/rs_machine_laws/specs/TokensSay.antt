@@ -1,10 +1,10 @@
 -- What the tokens of a part of a line say.
 use Rattle.std.specs.Prelude.{◌≡◌, ℕ, List, [], ◌∷◌, ◌++◌, drop, map}
 use Rattle.rs_lexer.specs.declared.token.Token.{Token}
-use Rattle.rs_lexer.specs.Lexis.{IsCut}
+use Rattle.rs_lexer.specs.Lexis.{AreTokensFrom}
 use Rattle.rs_methods.specs.Position.{PositionExpression, absolute, beyond, before, interpolative}
 use Rattle.rs_syntax.specs.declared.written.WrittenPosition.{WrittenPosition}
-use Rattle.rs_syntax.specs.Written.{piece_of, position_pieces, SaysPosition}
+use Rattle.rs_syntax.specs.Written.{lexeme_of, position_lexemes, SaysPosition}
 use Rattle.rs_syntax.specs.Sound.{IsName}
 
 -- the line's end, or a blank
@@ -22,9 +22,9 @@ pub record StandsAt (line : List ℕ) (place : ℕ) (text : List ℕ) : Type 0 w
 -- cut has these tokens before, they spell a written position, and that says this one.
 pub record TokensSay (line : List ℕ) (first last : ℕ) (position : PositionExpression) : Type 0 where
   pub tokens : List Token
-  pub cut : (rest : List Token) → IsCut line last rest → IsCut line first (tokens ++ rest)
+  pub cut : (rest : List Token) → AreTokensFrom line last rest → AreTokensFrom line first (tokens ++ rest)
   pub written : WrittenPosition
-  pub spelled : map piece_of tokens ≡ position_pieces written
+  pub spelled : map lexeme_of tokens ≡ position_lexemes written
   pub says : SaysPosition line written position
 
 -- the referent's name is one that a line can say

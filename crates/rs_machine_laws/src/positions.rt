@@ -6,7 +6,7 @@
 ghost use Rattle.std.specs.Prelude.{◌≡◌, ℕ, ◌+◌, ◌≤◌, List, length, Some, Ok};
 ghost use Rattle.std.specs.FinMap as names;
 ghost use Rattle.rs_methods.specs.Position.{PositionExpression};
-ghost use Rattle.rs_methods.specs.PositionText.{SaysPosition};
+ghost use Rattle.rs_methods.specs.PositionText.{TextSaysPosition};
 ghost use Rattle.rs_methods.specs.declared.position.Method.{Method};
 ghost use Rattle.rs_facts.specs.Fact.{Name};
 ghost use Rattle.rs_facts.specs.Query.{RouteEnds};
@@ -23,7 +23,7 @@ use rs_methods::{ceiling_rounds_up, printed_position_is_read_back};
 /// What a text says, the tokens of a line say wherever the text stands in it before a blank or the line's end.
 pub fn tokens_say_what_the_text_says()
     ensures { (line : List ℕ) (place : ℕ) (text : List ℕ) (position : PositionExpression)
-        → SaysPosition text position → HasName position → StandsAt line place text
+        → TextSaysPosition text position → HasName position → StandsAt line place text
         → TokensSay line place (place + length text) position }
 {}
 

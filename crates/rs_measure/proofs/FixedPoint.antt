@@ -1,5 +1,5 @@
 -- Laws of texts of numbers with a fixed point: what one says, that it says one number, and how large that is.
-use Rattle.std.proofs.Common.{◌≡◌, ℕ, ◌+◌, ◌-◌, ◌*◌, ◌/◌, ◌%◌, ◌^◌, ◌<◌, ◌≤◌, List, [], ◌∷◌, ◌++◌, Bool, true, false, eqb, length, get_or, codes, Option, Some, None, IfSome, IfNone, refl, sym, ap, ◌∙◌, subst, inl, inr, arith, rules, append_assoc, length-append, take, drop}
+use Rattle.std.proofs.Common.{◌≡◌, ℕ, ◌+◌, ◌-◌, ◌*◌, ◌^◌, ◌<◌, ◌≤◌, List, [], ◌∷◌, ◌++◌, Bool, true, false, eqb, length, get_or, codes, Option, Some, None, IfSome, IfNone, refl, sym, ap, ◌∙◌, subst, inl, inr, arith, rules, append_assoc, length-append, take, drop}
 use Rattle.std.specs.Char.{is_ascii_digit}
 use Rattle.std.specs.List.{position_or_len, before_first, after_first}
 use Rattle.std.proofs.Math.Nat.{one-le-pow, mul-le-mul_left}
@@ -42,12 +42,12 @@ point_after_digits [] decimals h = refl
 point_after_digits (d ∷ ds) decimals h = let rest : position_or_len is_point (ds ++ 46 ∷ decimals) ≡ length ds = point_after_digits ds decimals h.2 in grind (arith, nat_tests, rest)
 
 -- A text with a point is its whole part, the point and its decimals, cut at the first point.
-pub record IsCut (text whole decimals : List ℕ) : Type 0 where
+pub record IsParted (text whole decimals : List ℕ) : Type 0 where
   pub point : position_or_len is_point text < length text
   pub whole_part : before_first is_point text ≡ whole
   pub decimal_part : after_first is_point text ≡ decimals
 
-pub cut_of_parts : (text whole decimals : List ℕ) → AreDigits whole → text ≡ whole ++ codes "." ++ decimals → IsCut text whole decimals
+pub cut_of_parts : (text whole decimals : List ℕ) → AreDigits whole → text ≡ whole ++ codes "." ++ decimals → IsParted text whole decimals
 cut_of_parts text whole decimals digits_only cut =
     let joined : text ≡ whole ++ 46 ∷ decimals = cut ∙ append_assoc whole (46 ∷ []) decimals in
     let place : position_or_len is_point text ≡ length whole = ap (position_or_len is_point) joined ∙ point_after_digits whole decimals digits_only in
@@ -62,36 +62,36 @@ cut_of_parts text whole decimals digits_only cut =
 pub whole_has_no_point : (most places : ℕ) → (text : List ℕ) (n : ℕ) → SaysWhole most places text n → position_or_len is_point text ≡ length text
 whole_has_no_point most places text n said = no_point_in_digits text said.whole.digits_only
 
-pub parts_are_cut : (most places : ℕ) → (text : List ℕ) (n : ℕ) (whole decimals : List ℕ) → SaysParts most places text n whole decimals → IsCut text whole decimals
+pub parts_are_cut : (most places : ℕ) → (text : List ℕ) (n : ℕ) (whole decimals : List ℕ) → SaysParts most places text n whole decimals → IsParted text whole decimals
 parts_are_cut most places text n whole decimals said = cut_of_parts text whole decimals said.whole_part.digits_only said.cut
 
 -- A text without a point that is no whole digits says nothing.
 pub unsaid_without_point : (most places : ℕ) → (text : List ℕ) → position_or_len is_point text ≡ length text → (AreDigitsUpTo most text → ⊥) → (n : ℕ) → SaysFixedPoint most places text n → ⊥
 unsaid_without_point most places text no_point no_digits n (inl said) = no_digits said.whole
-unsaid_without_point most places text no_point no_digits n (inr (whole, decimals, said)) = let cut : IsCut text whole decimals = parts_are_cut most places text n whole decimals said in omega (arith, cut.point)
+unsaid_without_point most places text no_point no_digits n (inr (whole, decimals, said)) = let cut : IsParted text whole decimals = parts_are_cut most places text n whole decimals said in omega (arith, cut.point)
 
 pub unsaid_whole : (most places : ℕ) → (text whole : List ℕ) → whole ≡ before_first is_point text → position_or_len is_point text < length text → (AreDigitsUpTo most whole → ⊥) → (n : ℕ) → SaysFixedPoint most places text n → ⊥
 unsaid_whole most places text whole before point no_digits n (inl said) = omega (arith, whole_has_no_point most places text n said)
 unsaid_whole most places text whole before point no_digits n (inr (digits, decimals, said)) =
-    let cut : IsCut text digits decimals = parts_are_cut most places text n digits decimals said in
+    let cut : IsParted text digits decimals = parts_are_cut most places text n digits decimals said in
     no_digits (subst (AreDigitsUpTo most) (sym (before ∙ cut.whole_part)) said.whole_part)
 
 pub unsaid_decimals : (most places : ℕ) → (text decimals : List ℕ) → decimals ≡ after_first is_point text → position_or_len is_point text < length text → (AreDigitsUpTo places decimals → ⊥) → (n : ℕ) → SaysFixedPoint most places text n → ⊥
 unsaid_decimals most places text decimals after point no_digits n (inl said) = omega (arith, whole_has_no_point most places text n said)
 unsaid_decimals most places text decimals after point no_digits n (inr (whole, digits, said)) =
-    let cut : IsCut text whole digits = parts_are_cut most places text n whole digits said in
+    let cut : IsParted text whole digits = parts_are_cut most places text n whole digits said in
     no_digits (subst (AreDigitsUpTo places) (sym (after ∙ cut.decimal_part)) said.decimal_part)
 
 -- A text says one number at the most.
 pub says_one_number : (most places : ℕ) → (text : List ℕ) (a b : ℕ) → SaysFixedPoint most places text a → SaysFixedPoint most places text b → a ≡ b
 says_one_number most places text a b (inl said) (inl again) = said.value ∙ sym again.value
 says_one_number most places text a b (inl said) (inr (whole, decimals, again)) =
-    let cut : IsCut text whole decimals = parts_are_cut most places text b whole decimals again in absurd (omega (arith, cut.point, whole_has_no_point most places text a said))
+    let cut : IsParted text whole decimals = parts_are_cut most places text b whole decimals again in absurd (omega (arith, cut.point, whole_has_no_point most places text a said))
 says_one_number most places text a b (inr (whole, decimals, said)) (inl again) =
-    let cut : IsCut text whole decimals = parts_are_cut most places text a whole decimals said in absurd (omega (arith, cut.point, whole_has_no_point most places text b again))
+    let cut : IsParted text whole decimals = parts_are_cut most places text a whole decimals said in absurd (omega (arith, cut.point, whole_has_no_point most places text b again))
 says_one_number most places text a b (inr (whole, decimals, said)) (inr (digits, more, again)) =
-    let cut : IsCut text whole decimals = parts_are_cut most places text a whole decimals said in
-    let other : IsCut text digits more = parts_are_cut most places text b digits more again in
+    let cut : IsParted text whole decimals = parts_are_cut most places text a whole decimals said in
+    let other : IsParted text digits more = parts_are_cut most places text b digits more again in
     let same_whole : whole ≡ digits = sym cut.whole_part ∙ other.whole_part in
     let same_decimals : decimals ≡ more = sym cut.decimal_part ∙ other.decimal_part in
     said.value ∙ (ap (λ w. 10 ^ places * number_of_digits w + 10 ^ (places - length decimals) * number_of_digits decimals) same_whole

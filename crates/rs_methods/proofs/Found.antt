@@ -16,7 +16,7 @@ itself name = (bytes_eq-Decides name name).1 refl
 tied_name : (name other : List ℕ) → slice_cmp nat_cmp name other ≡ Equal → other ≡ name
 tied_name name other tied = sym (slice_cmp-IsAntisymmetric nat_cmp-IsAntisymmetric name other tied)
 
--- a name behind which the put goes on is another
+-- a name after which the put goes on is another
 passed_name : (name other : List ℕ) → slice_cmp nat_cmp name other ≡ Greater → bytes_eq other name ≡ false
 passed_name name other above =
     elim (bytes_eq other name) as (λ b. bytes_eq other name ≡ b → b ≡ false) [

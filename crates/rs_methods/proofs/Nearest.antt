@@ -195,7 +195,7 @@ unfound_start route (e ∷ es) never =
 bytes_eq_itself : (xs : List ℕ) → bytes_eq xs xs ≡ true
 bytes_eq_itself xs = (bytes_eq-Decides xs xs).1 refl
 
--- a name found behind another that is not among the rest
+-- a name found after another that is not among the rest
 found_behind : (mark near : Mark) (marks : List Mark) → measure_of mark.0 marks ≡ None → measure_of near.0 marks ≡ Some near.1 → measure_of near.0 (mark ∷ marks) ≡ Some near.1
 found_behind mark near marks unfound found =
     elim (bytes_eq mark.0 near.0) as (λ b. bytes_eq mark.0 near.0 ≡ b → cond b (Some mark.1) (measure_of near.0 marks) ≡ Some near.1) [

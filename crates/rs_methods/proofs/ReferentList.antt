@@ -45,7 +45,7 @@ from_T false p = absurd p
 abbrev pub found_in : ℕ → List ℕ → List Referent → Option ℕ
 found_in route name items = measure_of name (referents_of route (map entry_of items))
 
--- The keys before a place are below the key: it is put behind them.
+-- The keys before a place are below the key: it is put after them.
 pub record Passed (key : ℕ × List ℕ) (items : List Referent) (place : ℕ) : Type 0 where
   pub puts : (measure : ℕ) → put key_cmp key measure (map entry_of items) ≡ map entry_of (take place items) ++ put key_cmp key measure (map entry_of (drop place items))
 

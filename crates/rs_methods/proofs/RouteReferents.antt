@@ -99,7 +99,7 @@ unlisted_above route key (e ∷ es) low below =
     ap (λ s. cond s ((e.0.1, e.1) ∷ referents_of route es) (referents_of route es)) (not_same_number e.0.0 route (omega arith))
     ∙ unlisted_above route key es low (second _ _ below)
 
--- the name is put among the names of a route that the entry is of, or that stands before or behind it
+-- the name is put among the names of a route that the entry is of, or that stands before or after it
 put_among : (route : ℕ) (name : List ℕ) (measure : ℕ) (e : Entry) (es : List Entry) (order : Ordering) → nat_eq e.0.0 route ≡ true → nat_eq route route ≡ true
     → referents_of route (put key_cmp (route, name) measure es) ≡ put (slice_cmp nat_cmp) name measure (referents_of route es)
     → referents_of route (by_order order (((route, name), measure) ∷ e ∷ es) ((e.0, measure) ∷ es) (e ∷ put key_cmp (route, name) measure es))

@@ -7,7 +7,7 @@ use Rattle.rs_measure.proofs.PartText.{says_part_text}
 use Rattle.rs_methods.specs.declared.position.Method.{Method}
 use Rattle.rs_methods.specs.declared.position.Method.TheVariants as methods
 use Rattle.rs_methods.specs.Position.{PositionExpression, start_name, nearest, ceiling, expression_at, expression_text}
-use Rattle.rs_methods.specs.PositionText.{IsWord, SaysPosition, IsPrintable, AreWords}
+use Rattle.rs_methods.specs.PositionText.{IsWord, TextSaysPosition, IsPrintable, AreWords}
 use Rattle.rs_methods.proofs.Nearest.{Mark, only, nearest_from_among}
 use Rattle.rs_methods.proofs.SaidPosition.{says_printed}
 
@@ -43,13 +43,13 @@ printable start finish k referents methods.Relative low high ordered fits words 
 printable start finish k referents methods.Interpolative low high ordered fits words = ceiling_in_range (k - start) (finish - start) (omega arith) (omega arith)
 
 says_text : {A E : Type 0} (r : Result (String A) E) (position : PositionExpression) → IsPrintable position → IfOk r (λ text. string_bytes text ≡ expression_text position)
-    → IfOk r (λ text. SaysPosition (string_bytes text) position)
-says_text (Ok text) position fits printed = subst (λ bytes. SaysPosition bytes position) (sym printed) (says_printed says_measure_text says_part_text position fits)
+    → IfOk r (λ text. TextSaysPosition (string_bytes text) position)
+says_text (Ok text) position fits printed = subst (λ bytes. TextSaysPosition bytes position) (sym printed) (says_printed says_measure_text says_part_text position fits)
 says_text (Err e) position fits printed = tt
 
 -- So the text says the position.
 pub says_expressed : {A E : Type 0} (start finish k : ℕ) (referents : List Mark) (method : Method) (r : Result (String A) E) → start ≤ k → k ≤ finish → start < finish → k ≤ 999999999
     → IfOk r (λ text. string_bytes text ≡ expression_text (expression_at start finish referents method k)) → (method ≡ methods.Relative → AreWords referents)
-    → IfOk r (λ text. SaysPosition (string_bytes text) (expression_at start finish referents method k))
+    → IfOk r (λ text. TextSaysPosition (string_bytes text) (expression_at start finish referents method k))
 says_expressed start finish k referents method r low high ordered fits printed words =
     says_text r (expression_at start finish referents method k) (printable start finish k referents method low high ordered fits words) printed

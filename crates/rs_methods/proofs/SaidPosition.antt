@@ -10,11 +10,11 @@ use Rattle.rs_measure.specs.FixedPoint.{AreDigits, SaysFixedPoint}
 use Rattle.rs_measure.specs.Measure.{SaysMeasure, measure_text}
 use Rattle.rs_measure.specs.Part.{SaysPart, SaysPercent, part_text}
 use Rattle.rs_methods.specs.Position.{PositionExpression, absolute, beyond, before, interpolative, expression_text}
-use Rattle.rs_methods.specs.PositionText.{IsWord, SaysReferent, SaysSigned, SaysPercentage, SaysPosition, IsPrintable}
+use Rattle.rs_methods.specs.PositionText.{IsWord, SaysReferent, SaysSigned, SaysPercentage, TextSaysPosition, IsPrintable}
 use Rattle.rs_methods.proofs.ReferentList.{both, first, second}
 
 -- What is printed says the position.
-pub says_printed : ((n : ℕ) → n ≤ 999999999 → SaysMeasure (measure_text n) n) → ((n : ℕ) → n ≤ 1000000000 → SaysPart (part_text n) n) → (position : PositionExpression) → IsPrintable position → SaysPosition (expression_text position) position
+pub says_printed : ((n : ℕ) → n ≤ 999999999 → SaysMeasure (measure_text n) n) → ((n : ℕ) → n ≤ 1000000000 → SaysPart (part_text n) n) → (position : PositionExpression) → IsPrintable position → TextSaysPosition (expression_text position) position
 says_printed measures parts (absolute measure) fits = measures measure fits
 says_printed measures parts (beyond name measure) fits = inr (measure_text measure, record { name_is_word = fits.0; cut = refl; measure_said = measures measure fits.1 })
 says_printed measures parts (before name measure) fits = (measure_text measure, record { name_is_word = fits.0; cut = refl; measure_said = measures measure fits.1 })
@@ -90,7 +90,7 @@ word_bytes : (name : List ℕ) → IsWord name → list_all is_word_byte name �
 word_bytes [] word = absurd word
 word_bytes (byte ∷ bytes) word = both _ _ (letter_is_word_byte byte word.0) word.1
 
--- `@`, a name and what stands behind it
+-- `@`, a name and what stands after it
 pub record IsRelative (text name rest : List ℕ) : Type 0 where
   pub word : IsWord name
   pub cut : text ≡ 64 ∷ (name ++ rest)
@@ -132,11 +132,11 @@ plus_not_minus text a b m n x y said again =
 abbrev pub IsRelativeText : List ℕ → Type 0
 IsRelativeText text = starts_at text ≡ true
 
-beyond_is_relative : (text name : List ℕ) (measure : ℕ) → SaysPosition text (beyond name measure) → IsRelativeText text
+beyond_is_relative : (text name : List ℕ) (measure : ℕ) → TextSaysPosition text (beyond name measure) → IsRelativeText text
 beyond_is_relative text name measure (inl said) = relative_starts text name [] (alone text name measure said)
 beyond_is_relative text name measure (inr (number, said)) = relative_starts text name (43 ∷ number) (signed 43 text name measure number said)
 
-before_is_relative : (text name : List ℕ) (measure : ℕ) → SaysPosition text (before name measure) → IsRelativeText text
+before_is_relative : (text name : List ℕ) (measure : ℕ) → TextSaysPosition text (before name measure) → IsRelativeText text
 before_is_relative text name measure (number, said) = relative_starts text name (45 ∷ number) (signed 45 text name measure number said)
 
 absolute_not_relative : (text : List ℕ) (n : ℕ) → SaysMeasure text n → IsRelativeText text → ⊥
@@ -157,7 +157,7 @@ part_one parts text a b x y said again =
 beyond_same : (a b : List ℕ) (m n : ℕ) → a ≡ b → m ≡ n → beyond a m ≡ beyond b n
 beyond_same a b m n names measures = λ i. beyond (names i) (measures i)
 
-beyond_one : ((text : List ℕ) (a b : ℕ) → SaysMeasure text a → SaysMeasure text b → a ≡ b) → (text a b : List ℕ) (m n : ℕ) → SaysPosition text (beyond a m) → SaysPosition text (beyond b n) → beyond a m ≡ beyond b n
+beyond_one : ((text : List ℕ) (a b : ℕ) → SaysMeasure text a → SaysMeasure text b → a ≡ b) → (text a b : List ℕ) (m n : ℕ) → TextSaysPosition text (beyond a m) → TextSaysPosition text (beyond b n) → beyond a m ≡ beyond b n
 beyond_one measures text a b m n (inl said) (inl again) =
     beyond_same a b m n (one_cut text a b [] [] (alone text a m said) (alone text b n again) refl refl).0 (said.nothing_beyond ∙ sym again.nothing_beyond)
 beyond_one measures text a b m n (inl said) (inr (y, again)) = absurd (alone_not_signed 43 refl text a b m n y said again)
@@ -165,17 +165,17 @@ beyond_one measures text a b m n (inr (x, said)) (inl again) = absurd (alone_not
 beyond_one measures text a b m n (inr (x, said)) (inr (y, again)) =
     let same : (a ≡ b) × (m ≡ n) = signed_one measures 43 refl text a b m n x y said again in beyond_same a b m n same.0 same.1
 
-beyond_not_before : (text a b : List ℕ) (m n : ℕ) → SaysPosition text (beyond a m) → SaysPosition text (before b n) → ⊥
+beyond_not_before : (text a b : List ℕ) (m n : ℕ) → TextSaysPosition text (beyond a m) → TextSaysPosition text (before b n) → ⊥
 beyond_not_before text a b m n (inl said) (y, again) = alone_not_signed 45 refl text a b m n y said again
 beyond_not_before text a b m n (inr (x, said)) (y, again) = plus_not_minus text a b m n x y said again
 
-before_one : ((text : List ℕ) (a b : ℕ) → SaysMeasure text a → SaysMeasure text b → a ≡ b) → (text a b : List ℕ) (m n : ℕ) → SaysPosition text (before a m) → SaysPosition text (before b n) → before a m ≡ before b n
+before_one : ((text : List ℕ) (a b : ℕ) → SaysMeasure text a → SaysMeasure text b → a ≡ b) → (text a b : List ℕ) (m n : ℕ) → TextSaysPosition text (before a m) → TextSaysPosition text (before b n) → before a m ≡ before b n
 before_one measures text a b m n (x, said) (y, again) =
     let same : (a ≡ b) × (m ≡ n) = signed_one measures 45 refl text a b m n x y said again in λ i. before (same.0 i) (same.1 i)
 
 -- A text says one position at the most.
 pub says_one_position : ((text : List ℕ) (a b : ℕ) → SaysMeasure text a → SaysMeasure text b → a ≡ b) → ((text : List ℕ) (a b : ℕ) → SaysPart text a → SaysPart text b → a ≡ b)
-    → (text : List ℕ) (a b : PositionExpression) → SaysPosition text a → SaysPosition text b → a ≡ b
+    → (text : List ℕ) (a b : PositionExpression) → TextSaysPosition text a → TextSaysPosition text b → a ≡ b
 says_one_position measures parts text (absolute m) (absolute n) said again = ap absolute (measures text m n said again)
 says_one_position measures parts text (absolute m) (beyond b n) said again = absurd (absolute_not_relative text m said (beyond_is_relative text b n again))
 says_one_position measures parts text (absolute m) (before b n) said again = absurd (absolute_not_relative text m said (before_is_relative text b n again))

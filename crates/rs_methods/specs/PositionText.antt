@@ -32,11 +32,11 @@ pub record SaysPercentage (text : List ℕ) (part : ℕ) (number : List ℕ) : T
   pub part_said : SaysPart number part
 
 -- The text says the position.
-abbrev pub SaysPosition : List ℕ → PositionExpression → Type 0
-SaysPosition text (absolute measure) = SaysMeasure text measure
-SaysPosition text (beyond name measure) = SaysReferent text name measure ⊎ ((number : List ℕ) × SaysSigned (codes "+") text name measure number)
-SaysPosition text (before name measure) = (number : List ℕ) × SaysSigned (codes "-") text name measure number
-SaysPosition text (interpolative part) = (number : List ℕ) × SaysPercentage text part number
+abbrev pub TextSaysPosition : List ℕ → PositionExpression → Type 0
+TextSaysPosition text (absolute measure) = SaysMeasure text measure
+TextSaysPosition text (beyond name measure) = SaysReferent text name measure ⊎ ((number : List ℕ) × SaysSigned (codes "+") text name measure number)
+TextSaysPosition text (before name measure) = (number : List ℕ) × SaysSigned (codes "-") text name measure number
+TextSaysPosition text (interpolative part) = (number : List ℕ) × SaysPercentage text part number
 
 -- A position that can be printed: its name a word, its measure at most the greatest, its part at most all.
 abbrev pub IsPrintable : PositionExpression → Type 0

@@ -8,7 +8,7 @@ ghost use Rattle.std.specs.Prelude.{◌≡◌, ◌≢◌, ℕ, ◌+◌, ◌-◌,
 ghost use Rattle.rs_measure.specs.declared.part.TheConstants.{GREATEST_PART};
 ghost use Rattle.rs_methods.specs.Position.{beyond, ceiling, expression_text, interpolative, nearest, IsNearest};
 ghost use Rattle.rs_methods.specs.OnRoute.{located_on, expressed_on};
-ghost use Rattle.rs_methods.specs.PositionText.{SaysPosition, AreWords};
+ghost use Rattle.rs_methods.specs.PositionText.{TextSaysPosition, AreWords};
 ghost use Rattle.rs_methods.specs.Referents.{referents_of};
 
 use crate::position::{Method, Name};
@@ -37,10 +37,10 @@ pub fn express(
     ensures by_the_nearest { (near : List ℕ × ℕ) → method ≡ Method.Relative → IsNearest route.now.start (referents_of route.now.number referents.now) k near → IfOk result (λ text. string_bytes text ≡ expression_text (beyond near.0 (k - near.1))) }
 
     // By the relative method the text says this position where the names of the route's referents are words ..
-    ensures says { method ≡ Method.Relative → AreWords (referents_of route.now.number referents.now) → IfOk result (λ text. SaysPosition (string_bytes text) (expressed_on route.now referents.now method k)) }
+    ensures says { method ≡ Method.Relative → AreWords (referents_of route.now.number referents.now) → IfOk result (λ text. TextSaysPosition (string_bytes text) (expressed_on route.now referents.now method k)) }
 
     // .. and by the others it says it whatever the names are.
-    ensures says_without_names { method ≢ Method.Relative → IfOk result (λ text. SaysPosition (string_bytes text) (expressed_on route.now referents.now method k)) }
+    ensures says_without_names { method ≢ Method.Relative → IfOk result (λ text. TextSaysPosition (string_bytes text) (expressed_on route.now referents.now method k)) }
 
     // The position lies at k.
     ensures read_back { located_on route.now referents.now (expressed_on route.now referents.now method k) ≡ Ok k }

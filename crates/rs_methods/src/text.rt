@@ -6,7 +6,7 @@
 
 ghost use Rattle.std.specs.Prelude.{◌≡◌, List, ℕ};
 ghost use Rattle.rs_methods.specs.Position.{PositionExpression, expression_text};
-ghost use Rattle.rs_methods.specs.PositionText.{SaysPosition, IsPrintable};
+ghost use Rattle.rs_methods.specs.PositionText.{TextSaysPosition, IsPrintable};
 
 use rs_measure::{
     printed_part_is_read_back, printed_text_is_read_back, text_says_one_measure, text_says_one_part,
@@ -15,7 +15,7 @@ use rs_measure::{
 /// What is printed is read back: the text of a position says that position, where its name is a word,
 /// its measure at most the greatest and its part at most all.
 pub fn printed_position_is_read_back()
-    ensures { (position : PositionExpression) → IsPrintable position → SaysPosition (expression_text position) position }
+    ensures { (position : PositionExpression) → IsPrintable position → TextSaysPosition (expression_text position) position }
 {
     printed_text_is_read_back();
     printed_part_is_read_back();
@@ -23,7 +23,7 @@ pub fn printed_position_is_read_back()
 
 /// A text says one position at the most.
 pub fn text_says_one_position()
-    ensures { (text : List ℕ) (a b : PositionExpression) → SaysPosition text a → SaysPosition text b → a ≡ b }
+    ensures { (text : List ℕ) (a b : PositionExpression) → TextSaysPosition text a → TextSaysPosition text b → a ≡ b }
 {
     text_says_one_measure();
     text_says_one_part();

@@ -6,25 +6,25 @@ use Rattle.rs_value.specs.declared.column.ColumnType.{ColumnType}
 use Rattle.rs_value.specs.Row.{Datum, Row}
 use Rattle.rs_syntax.specs.declared.written.WrittenColumn.{WrittenColumn}
 use Rattle.rs_syntax.specs.declared.written.WrittenValue.{WrittenValue}
-use Rattle.rs_lexer.specs.Lexis.{text_of}
+use Rattle.rs_lexer.specs.Lexis.{token_text}
 use Rattle.rs_syntax.proofs.ToldLaws.{AreToldOf-append}
-use Rattle.rs_syntax.specs.Written.{Piece, list_pieces, further_pieces, SaysType, SaysColumns, SaysDatum, SaysRow, unquoted_rest, AreToldOf}
+use Rattle.rs_syntax.specs.Written.{Lexeme, list_lexemes, further_lexemes, SaysType, SaysColumns, SaysDatum, SaysRow, unquoted_rest, AreToldOf}
 
-further_told : {A : Type 0} (line : List ℕ) (pieces : A → List Piece) (items : List A) → AreToldOf line (further_pieces pieces items)
-    → (i : ℕ) (d : A) → i < length items → AreToldOf line (pieces (get_or items i d))
-further_told line pieces [] told i d h = absurd (omega arith)
-further_told line pieces (item ∷ items) told zero d h = (AreToldOf-append line (pieces item) (further_pieces pieces items) told.1).0
-further_told line pieces (item ∷ items) told (suc i) d h = further_told line pieces items (AreToldOf-append line (pieces item) (further_pieces pieces items) told.1).1 i d (omega arith)
+further_told : {A : Type 0} (line : List ℕ) (lexemes : A → List Lexeme) (items : List A) → AreToldOf line (further_lexemes lexemes items)
+    → (i : ℕ) (d : A) → i < length items → AreToldOf line (lexemes (get_or items i d))
+further_told line lexemes [] told i d h = absurd (omega arith)
+further_told line lexemes (item ∷ items) told zero d h = (AreToldOf-append line (lexemes item) (further_lexemes lexemes items) told.1).0
+further_told line lexemes (item ∷ items) told (suc i) d h = further_told line lexemes items (AreToldOf-append line (lexemes item) (further_lexemes lexemes items) told.1).1 i d (omega arith)
 
 -- the tokens of each item of a list
-pub list_told : {A : Type 0} (line : List ℕ) (pieces : A → List Piece) (items : List A) → AreToldOf line (list_pieces pieces items)
-    → (i : ℕ) (d : A) → i < length items → AreToldOf line (pieces (get_or items i d))
-list_told line pieces [] told i d h = absurd (omega arith)
-list_told line pieces (item ∷ items) told zero d h = (AreToldOf-append line (pieces item) (further_pieces pieces items) told).0
-list_told line pieces (item ∷ items) told (suc i) d h = further_told line pieces items (AreToldOf-append line (pieces item) (further_pieces pieces items) told).1 i d (omega arith)
+pub list_told : {A : Type 0} (line : List ℕ) (lexemes : A → List Lexeme) (items : List A) → AreToldOf line (list_lexemes lexemes items)
+    → (i : ℕ) (d : A) → i < length items → AreToldOf line (lexemes (get_or items i d))
+list_told line lexemes [] told i d h = absurd (omega arith)
+list_told line lexemes (item ∷ items) told zero d h = (AreToldOf-append line (lexemes item) (further_lexemes lexemes items) told).0
+list_told line lexemes (item ∷ items) told (suc i) d h = further_told line lexemes items (AreToldOf-append line (lexemes item) (further_lexemes lexemes items) told).1 i d (omega arith)
 
 SaysColumns-push : (line : List ℕ) (written : List WrittenColumn) (columns : List (List ℕ × ColumnType)) (w : WrittenColumn) (c : List ℕ × ColumnType)
-    → SaysColumns line written columns → c.0 ≡ text_of line w.name → SaysType line w.column_type c.1 → SaysColumns line (written ++ w ∷ []) (columns ++ c ∷ [])
+    → SaysColumns line written columns → c.0 ≡ token_text line w.name → SaysType line w.column_type c.1 → SaysColumns line (written ++ w ∷ []) (columns ++ c ∷ [])
 SaysColumns-push line [] [] w c says name type = (name, type, tt)
 SaysColumns-push line [] (column ∷ columns) w c says name type = absurd says
 SaysColumns-push line (first ∷ written) [] w c says name type = absurd says
@@ -32,7 +32,7 @@ SaysColumns-push line (first ∷ written) (column ∷ columns) w c says name typ
 
 -- one column more
 pub columns_more : (line : List ℕ) (written : List WrittenColumn) (i : ℕ) (d : WrittenColumn) (columns : List (List ℕ × ColumnType)) (c : List ℕ × ColumnType)
-    → i < length written → SaysColumns line (take i written) columns → c.0 ≡ text_of line (get_or written i d).name → SaysType line (get_or written i d).column_type c.1
+    → i < length written → SaysColumns line (take i written) columns → c.0 ≡ token_text line (get_or written i d).name → SaysType line (get_or written i d).column_type c.1
     → SaysColumns line (take (i + 1) written) (columns ++ c ∷ [])
 columns_more line written i d columns c h says name type =
     subst (λ ws. SaysColumns line ws (columns ++ c ∷ [])) (sym (take_more written i d h)) (SaysColumns-push line (take i written) columns (get_or written i d) c says name type)

@@ -7,9 +7,9 @@ use Rattle.rs_grammar.specs.declared.kind.TokenKind.TheVariants as kinds
 use Rattle.rs_lexer.specs.declared.token.Token.{Token}
 use Rattle.rs_parser.specs.declared.front.Stop.{Stop}
 use Rattle.rs_lexer.specs.Lexis.{kinds_of}
-use Rattle.rs_syntax.specs.Written.{Piece, mark, list_pieces, further_pieces, pieces_of}
+use Rattle.rs_syntax.specs.Written.{Lexeme, mark, list_lexemes, further_lexemes, lexemes_of}
 use Rattle.rs_grammar.specs.Grammar.{Part, Form, done, pick, sub, need, rules}
-use Rattle.rs_parser.specs.Reading.{Lacks, halt_of, RunsTo, leading_pieces, Runs, is_done, is_fail, takes, skips, through, stops_in}
+use Rattle.rs_parser.specs.Reading.{Lacks, halt_of, RunsTo, leading_lexemes, Runs, is_done, is_fail, takes, skips, through, stops_in}
 
 -- the token wanted stands at the front
 pub takes_as : {kind : TokenKind} {form other : Form} {tokens rest : List TokenKind} {outcome : Result (List TokenKind) (Option (List TokenKind))}
@@ -21,7 +21,7 @@ pub misses : {kind : TokenKind} {form : Form} {tokens : List TokenKind} {halt : 
     → Lacks kind tokens × (halt ≡ Some tokens) → Runs (need kind form) tokens (Err halt)
 misses {kind} {form} {tokens} {halt} m = subst (λ h. Runs (need kind form) tokens (Err h)) (sym m.1) (skips m.0 is_fail)
 
--- a part read whole, behind which its form asks for nothing
+-- a part read whole, after which its form asks for nothing
 pub alone_through : {p : Part} {tokens : List TokenKind} {outcome : Result (List TokenKind) (Option (List TokenKind))}
     → Runs (rules p) tokens outcome → Runs (sub p done) tokens outcome
 alone_through {outcome = Ok rest} run = through run is_done
@@ -45,52 +45,52 @@ RunsTo-need kind tokens (Ok found) e = takes_as e is_done
 RunsTo-need kind tokens (Err stop) m = misses m
 
 -- what the loop over a list keeps
-pub record IsListSoFar {A : Type 0} (form : Form) (pieces : A → List Piece) (tokens : List Token) (items : List A) (rest : List Token) : Type 0 where
+pub record IsListSoFar {A : Type 0} (form : Form) (lexemes : A → List Lexeme) (tokens : List Token) (items : List A) (rest : List Token) : Type 0 where
   pub runs : (outcome : Result (List TokenKind) (Option (List TokenKind))) → Runs form (kinds_of rest) outcome → Runs form (kinds_of tokens) outcome
-  pub spelled : pieces_of tokens ≡ leading_pieces pieces items (pieces_of rest)
+  pub spelled : lexemes_of tokens ≡ leading_lexemes lexemes items (lexemes_of rest)
 
 -- the items so far, and one more with its comma
-leading_pieces-push : {A : Type 0} (pieces : A → List Piece) (items : List A) (item : A) (more : List Piece)
-    → leading_pieces pieces (items ++ item ∷ []) more ≡ leading_pieces pieces items (pieces item ++ mark kinds.Comma ∷ more)
-leading_pieces-push pieces [] item more = refl
-leading_pieces-push pieces (first ∷ items) item more = ap (λ ps. pieces first ++ mark kinds.Comma ∷ ps) (leading_pieces-push pieces items item more)
+leading_lexemes-push : {A : Type 0} (lexemes : A → List Lexeme) (items : List A) (item : A) (more : List Lexeme)
+    → leading_lexemes lexemes (items ++ item ∷ []) more ≡ leading_lexemes lexemes items (lexemes item ++ mark kinds.Comma ∷ more)
+leading_lexemes-push lexemes [] item more = refl
+leading_lexemes-push lexemes (first ∷ items) item more = ap (λ ps. lexemes first ++ mark kinds.Comma ∷ ps) (leading_lexemes-push lexemes items item more)
 
-further_pieces-push : {A : Type 0} (pieces : A → List Piece) (items : List A) (item : A) (more : List Piece)
-    → further_pieces pieces (items ++ item ∷ []) ++ more ≡ mark kinds.Comma ∷ leading_pieces pieces items (pieces item ++ more)
-further_pieces-push pieces [] item more = ap (λ ps. mark kinds.Comma ∷ (ps ++ more)) (append-nil (pieces item))
-further_pieces-push pieces (first ∷ items) item more =
-    ap (λ ps. mark kinds.Comma ∷ ps) (append_assoc (pieces first) (further_pieces pieces (items ++ item ∷ [])) more ∙ ap (λ ps. pieces first ++ ps) (further_pieces-push pieces items item more))
+further_lexemes-push : {A : Type 0} (lexemes : A → List Lexeme) (items : List A) (item : A) (more : List Lexeme)
+    → further_lexemes lexemes (items ++ item ∷ []) ++ more ≡ mark kinds.Comma ∷ leading_lexemes lexemes items (lexemes item ++ more)
+further_lexemes-push lexemes [] item more = ap (λ ps. mark kinds.Comma ∷ (ps ++ more)) (append-nil (lexemes item))
+further_lexemes-push lexemes (first ∷ items) item more =
+    ap (λ ps. mark kinds.Comma ∷ ps) (append_assoc (lexemes first) (further_lexemes lexemes (items ++ item ∷ [])) more ∙ ap (λ ps. lexemes first ++ ps) (further_lexemes-push lexemes items item more))
 
 -- the items so far and the last one are the list
-list_pieces-push : {A : Type 0} (pieces : A → List Piece) (items : List A) (item : A) (more : List Piece)
-    → list_pieces pieces (items ++ item ∷ []) ++ more ≡ leading_pieces pieces items (pieces item ++ more)
-list_pieces-push pieces [] item more = ap (λ ps. ps ++ more) (append-nil (pieces item))
-list_pieces-push pieces (first ∷ items) item more = append_assoc (pieces first) (further_pieces pieces (items ++ item ∷ [])) more ∙ ap (λ ps. pieces first ++ ps) (further_pieces-push pieces items item more)
+list_lexemes-push : {A : Type 0} (lexemes : A → List Lexeme) (items : List A) (item : A) (more : List Lexeme)
+    → list_lexemes lexemes (items ++ item ∷ []) ++ more ≡ leading_lexemes lexemes items (lexemes item ++ more)
+list_lexemes-push lexemes [] item more = ap (λ ps. ps ++ more) (append-nil (lexemes item))
+list_lexemes-push lexemes (first ∷ items) item more = append_assoc (lexemes first) (further_lexemes lexemes (items ++ item ∷ [])) more ∙ ap (λ ps. lexemes first ++ ps) (further_lexemes-push lexemes items item more)
 
--- reading goes on with the form of a list behind a comma
-module _ {A : Type 0} (p q : Part) (pieces : A → List Piece) (is_list : rules q ≡ sub p (pick kinds.Comma (sub q done) done)) where
+-- reading goes on with the form of a list after a comma
+module _ {A : Type 0} (p q : Part) (lexemes : A → List Lexeme) (is_list : rules q ≡ sub p (pick kinds.Comma (sub q done) done)) where
   pub list-item : (tokens rest behind : List Token) (items : List A) (outcome : Result (List TokenKind) (Option (List TokenKind)))
-      → IsListSoFar (rules q) pieces tokens items rest → Runs (sub p (pick kinds.Comma (sub q done) done)) (kinds_of rest) outcome → Runs (rules q) (kinds_of tokens) outcome
+      → IsListSoFar (rules q) lexemes tokens items rest → Runs (sub p (pick kinds.Comma (sub q done) done)) (kinds_of rest) outcome → Runs (rules q) (kinds_of tokens) outcome
   list-item tokens rest behind items outcome before run = before.runs outcome (subst (λ form. Runs form (kinds_of rest) outcome) (sym is_list) run)
 
-  pub list-next : (tokens rest behind next : List Token) (items : List A) (item : A) → IsListSoFar (rules q) pieces tokens items rest
+  pub list-next : (tokens rest behind next : List Token) (items : List A) (item : A) → IsListSoFar (rules q) lexemes tokens items rest
       → Runs (rules p) (kinds_of rest) (Ok (kinds_of behind)) → kinds_of behind ≡ kinds.Comma ∷ kinds_of next
-      → pieces_of rest ≡ pieces item ++ pieces_of behind → pieces_of behind ≡ mark kinds.Comma ∷ pieces_of next
-      → IsListSoFar (rules q) pieces tokens (items ++ item ∷ []) next
+      → lexemes_of rest ≡ lexemes item ++ lexemes_of behind → lexemes_of behind ≡ mark kinds.Comma ∷ lexemes_of next
+      → IsListSoFar (rules q) lexemes tokens (items ++ item ∷ []) next
   list-next tokens rest behind next items item before run comma here there = record {
     runs = λ outcome further. list-item tokens rest behind items outcome before (through run (takes_as comma (alone_through further)));
-    spelled = before.spelled ∙ ap (leading_pieces pieces items) (here ∙ ap (λ ps. pieces item ++ ps) there) ∙ sym (leading_pieces-push pieces items item (pieces_of next));
+    spelled = before.spelled ∙ ap (leading_lexemes lexemes items) (here ∙ ap (λ ps. lexemes item ++ ps) there) ∙ sym (leading_lexemes-push lexemes items item (lexemes_of next));
   }
 
-  pub list-end : (tokens rest behind : List Token) (items : List A) (item : A) → IsListSoFar (rules q) pieces tokens items rest
+  pub list-end : (tokens rest behind : List Token) (items : List A) (item : A) → IsListSoFar (rules q) lexemes tokens items rest
       → Runs (rules p) (kinds_of rest) (Ok (kinds_of behind)) → Lacks kinds.Comma (kinds_of behind) → Runs (rules q) (kinds_of tokens) (Ok (kinds_of behind))
   list-end tokens rest behind items item before run lacks = list-item tokens rest behind items (Ok (kinds_of behind)) before (through run (skips lacks is_done))
 
-  pub list-spelled : (tokens rest behind : List Token) (items : List A) (item : A) → IsListSoFar (rules q) pieces tokens items rest
-      → pieces_of rest ≡ pieces item ++ pieces_of behind → pieces_of tokens ≡ list_pieces pieces (items ++ item ∷ []) ++ pieces_of behind
+  pub list-spelled : (tokens rest behind : List Token) (items : List A) (item : A) → IsListSoFar (rules q) lexemes tokens items rest
+      → lexemes_of rest ≡ lexemes item ++ lexemes_of behind → lexemes_of tokens ≡ list_lexemes lexemes (items ++ item ∷ []) ++ lexemes_of behind
   list-spelled tokens rest behind items item before here =
-      before.spelled ∙ ap (leading_pieces pieces items) here ∙ sym (list_pieces-push pieces items item (pieces_of behind))
+      before.spelled ∙ ap (leading_lexemes lexemes items) here ∙ sym (list_lexemes-push lexemes items item (lexemes_of behind))
 
-  pub list-stops : (tokens rest : List Token) (items : List A) (halt : Option (List TokenKind)) → IsListSoFar (rules q) pieces tokens items rest
+  pub list-stops : (tokens rest : List Token) (items : List A) (halt : Option (List TokenKind)) → IsListSoFar (rules q) lexemes tokens items rest
       → Runs (rules p) (kinds_of rest) (Err halt) → Runs (rules q) (kinds_of tokens) (Err halt)
   list-stops tokens rest items halt before run = list-item tokens rest rest items (Err halt) before (stops_in run)

@@ -11,7 +11,7 @@ use Rattle.rs_parser.specs.declared.front.Stop.{Stop}
 use Rattle.rs_parser.specs.declared.front.Stop.TheVariants as stops
 use Rattle.rs_lexer.specs.Lexis.{kinds_of}
 use Rattle.rs_grammar.specs.Grammar.{Form}
-use Rattle.rs_syntax.specs.Written.{Piece, mark, Written, Says}
+use Rattle.rs_syntax.specs.Written.{Lexeme, mark, Written, Says}
 -- how the descent reads by the table
 pub use Rattle.rs_grammar.specs.Reading.{Lacks, Runs, is_done, is_fail, takes, skips, through, stops_in, gives_up, StopsAt}
 
@@ -25,10 +25,10 @@ abbrev pub RunsTo : {X : Type 0} → Form → List Token → Result (X × Bor (L
 RunsTo form tokens (Ok found) = Runs form (kinds_of tokens) (Ok (kinds_of found.1.now))
 RunsTo form tokens (Err stop) = Runs form (kinds_of tokens) (Err (halt_of stop))
 
--- the items, with a comma behind each, and what follows them
-abbrev pub leading_pieces : {A : Type 0} → (A → List Piece) → List A → List Piece → List Piece
-leading_pieces pieces [] more = more
-leading_pieces pieces (item ∷ items) more = pieces item ++ (mark kinds.Comma ∷ leading_pieces pieces items more)
+-- the items, with a comma after each, and what follows them
+abbrev pub leading_lexemes : {A : Type 0} → (A → List Lexeme) → List A → List Lexeme → List Lexeme
+leading_lexemes lexemes [] more = more
+leading_lexemes lexemes (item ∷ items) more = lexemes item ++ (mark kinds.Comma ∷ leading_lexemes lexemes items more)
 
 -- what is written says no command, or memory ran out
 abbrev pub IsRefusal : List ℕ → Written → Refusal → Type 0

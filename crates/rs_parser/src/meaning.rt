@@ -11,19 +11,19 @@ ghost use Rattle.rs_value.specs.declared.column.ColumnType.{ColumnType};
 ghost use Rattle.rs_value.specs.Row.{Datum, Row};
 ghost use Rattle.rs_value.specs.View.{literal_datum, literal_row};
 ghost use Rattle.rs_grammar.specs.declared.kind.TokenKind.TheVariants as kinds;
-ghost use Rattle.rs_lexer.specs.Lexis.{kind_of, text_of, IsTokenOf};
-ghost use Rattle.rs_syntax.specs.Tree.{PlaceTree};
-ghost use Rattle.rs_syntax.specs.View.{column_tree, place_tree, tree_of, written_of};
-ghost use Rattle.rs_syntax.specs.Written.{written_route, written_table, written_referent, written_move, written_insert, written_translate, position_pieces, place_pieces, type_pieces, column_pieces, value_pieces, list_pieces, spelling, SaysType, SaysColumns, unquoted, SaysDatum, SaysRow, SaysPosition, SaysPlace, Says, AreToldOf};
+ghost use Rattle.rs_lexer.specs.Lexis.{token_kind, token_text, IsTokenOf};
+ghost use Rattle.rs_syntax.specs.Tree.{EventLocationTree};
+ghost use Rattle.rs_syntax.specs.View.{column_tree, location_tree, tree_of, written_of};
+ghost use Rattle.rs_syntax.specs.Written.{written_route, written_table, written_referent, written_move, written_insert, written_translate, position_lexemes, location_lexemes, type_lexemes, column_lexemes, value_lexemes, list_lexemes, spelling, SaysType, SaysColumns, unquoted, SaysDatum, SaysRow, SaysPosition, SaysLocation, Says, AreToldOf};
 ghost use Rattle.rs_parser.specs.Reading.{IsRefusal};
 
 use rs_lexer::Token;
 use rs_measure::{Measure, Part, Refusal, read_measure, read_part};
 use rs_methods::{Method, Name, Position, Sign};
 use rs_syntax::written::{
-    WrittenColumn, WrittenCommand, WrittenPlace, WrittenPosition, WrittenType, WrittenValue,
+    WrittenColumn, WrittenCommand, WrittenLocation, WrittenPosition, WrittenType, WrittenValue,
 };
-use rs_syntax::{ColumnDefinition, Command, Place, Query};
+use rs_syntax::{ColumnDefinition, Command, EventLocation, Query};
 use rs_value::column::TEXT_BYTES;
 use rs_value::{ColumnType, Kind, Literal};
 use std::alloc::Global;
@@ -34,7 +34,7 @@ pub const GREATEST_NUMBER: u64 = 1_000_000_000_000;
 // The bytes of a token.
 fn text(line: &str, token: Token) -> &str
     requires { IsTokenOf line.now token }
-    ensures { result.now ≡ text_of line.now token }
+    ensures { result.now ≡ token_text line.now token }
 {
     &line[token.first..token.first + token.length]
 }
@@ -43,7 +43,7 @@ fn text(line: &str, token: Token) -> &str
 fn name(line: &str, token: Token) -> Name
     requires inside { IsTokenOf line.now token }
     requires kind { token.kind ≡ kinds.Name }
-    ensures { result.bytes ≡ text_of line.now token }
+    ensures { result.bytes ≡ token_text line.now token }
 {
     let mut name = Name::new();
     name.push_str(text(line, token));
@@ -53,9 +53,9 @@ fn name(line: &str, token: Token) -> Name
 // A token that is a measure.
 fn measure(line: &str, token: Token) -> Result<Measure, Refusal>
     requires { IsTokenOf line.now token }
-    ensures ok { IfOk result (λ measure. SaysMeasure (text_of line.now token) measure) }
+    ensures ok { IfOk result (λ measure. SaysMeasure (token_text line.now token) measure) }
     ensures err { IfErr result (λ refusal. refusal ≡ Refusal.NumberOutOfRange) }
-    ensures refused { OnErr result ((n : ℕ) → SaysMeasure (text_of line.now token) n → ⊥) }
+    ensures refused { OnErr result ((n : ℕ) → SaysMeasure (token_text line.now token) n → ⊥) }
 {
     read_measure(text(line, token))
 }
@@ -63,16 +63,16 @@ fn measure(line: &str, token: Token) -> Result<Measure, Refusal>
 // A token that is the number of a percentage.
 fn part(line: &str, token: Token) -> Result<Part, Refusal>
     requires { IsTokenOf line.now token }
-    ensures ok { IfOk result (λ part. SaysPart (text_of line.now token) part) }
+    ensures ok { IfOk result (λ part. SaysPart (token_text line.now token) part) }
     ensures err { IfErr result (λ refusal. refusal ≡ Refusal.NumberOutOfRange) }
-    ensures refused { OnErr result ((n : ℕ) → SaysPart (text_of line.now token) n → ⊥) }
+    ensures refused { OnErr result ((n : ℕ) → SaysPart (token_text line.now token) n → ⊥) }
 {
     read_part(text(line, token))
 }
 
 // A position.
 fn position(line: &str, written: WrittenPosition) -> Result<Position, Refusal>
-    requires { AreToldOf line.now (position_pieces written) }
+    requires { AreToldOf line.now (position_lexemes written) }
     ensures ok { IfOk result (λ position. SaysPosition line.now written (expression_of position)) }
     ensures err { IfErr result (λ refusal. refusal ≡ Refusal.NumberOutOfRange) }
     ensures refused { OnErr result ((p : PositionExpression) → SaysPosition line.now written p → ⊥) }
@@ -96,14 +96,14 @@ fn position(line: &str, written: WrittenPosition) -> Result<Position, Refusal>
 }
 
 // Where an event is put.
-fn place(line: &str, written: WrittenPlace) -> Result<Place, Refusal>
-    requires { AreToldOf line.now (place_pieces written) }
-    ensures ok { IfOk result (λ place. SaysPlace line.now written (place_tree place)) }
+fn place(line: &str, written: WrittenLocation) -> Result<EventLocation, Refusal>
+    requires { AreToldOf line.now (location_lexemes written) }
+    ensures ok { IfOk result (λ place. SaysLocation line.now written (location_tree place)) }
     ensures err { IfErr result (λ refusal. refusal ≡ Refusal.NumberOutOfRange) }
-    ensures refused { OnErr result ((p : PlaceTree) → SaysPlace line.now written p → ⊥) }
+    ensures refused { OnErr result ((p : EventLocationTree) → SaysLocation line.now written p → ⊥) }
 {
     match written {
-        WrittenPlace::Along { from, to } => Ok(Place::Along {
+        WrittenLocation::Along { from, to } => Ok(EventLocation::Along {
             from: position(line, from)?,
             to: position(line, to)?,
         }),
@@ -127,7 +127,7 @@ fn number(text: &str, most: u64) -> Option<u64>
 
 // The type of a column, if its number is in range.
 fn column_type(line: &str, written: WrittenType) -> Option<ColumnType>
-    requires { AreToldOf line.now (type_pieces written) }
+    requires { AreToldOf line.now (type_lexemes written) }
     ensures { MatchOption result ((t : ColumnType) → SaysType line.now written t → ⊥) (SaysType line.now written) }
 {
     match written {
@@ -149,7 +149,7 @@ fn columns(
     line: &str,
     written: &[WrittenColumn],
 ) -> Result<Vec<ColumnDefinition>, Refusal>
-    requires { AreToldOf line.now (list_pieces column_pieces written.now) }
+    requires { AreToldOf line.now (list_lexemes column_lexemes written.now) }
     ensures ok { IfOk result (λ columns. SaysColumns line.now written.now (map column_tree columns.items)) }
     ensures err { IfErr result (λ refusal. (refusal ≡ Refusal.OutOfMemory)
         ⊎ ((refusal ≡ Refusal.NumberOutOfRange) × ((columns : List (List ℕ × ColumnType)) → SaysColumns line.now written.now columns → ⊥))) }
@@ -163,14 +163,14 @@ fn columns(
             name: name(line, column.name),
             column_type,
         };
-        columns.push(definition).map_err(|_| Refusal::OutOfMemory)?;
+        columns.push(definition)?;
     }
     Ok(columns)
 }
 
 // A quoted text without its quotes, each doubled quote once.
 fn unquoted(alloc: Global, quoted: &str) -> Result<String, Refusal>
-    requires { kind_of quoted.now ≡ Some kinds.Quoted }
+    requires { token_kind quoted.now ≡ Some kinds.Quoted }
     ensures ok { IfOk result (λ text. string_bytes text ≡ unquoted quoted.now) }
     ensures err { IfErr result (λ refusal. refusal ≡ Refusal.OutOfMemory) }
 {
@@ -181,7 +181,7 @@ fn unquoted(alloc: Global, quoted: &str) -> Result<String, Refusal>
         if character == '\'' && !is_behind_quote {
             is_behind_quote = true;
         } else {
-            text.push(character).map_err(|_| Refusal::OutOfMemory)?;
+            text.push(character)?;
             is_behind_quote = false;
         }
     }
@@ -190,7 +190,7 @@ fn unquoted(alloc: Global, quoted: &str) -> Result<String, Refusal>
 
 // A value of a row.
 fn literal(alloc: Global, line: &str, written: WrittenValue) -> Result<Literal, Refusal>
-    requires { AreToldOf line.now (value_pieces written) }
+    requires { AreToldOf line.now (value_lexemes written) }
     ensures ok { IfOk result (λ literal. SaysDatum line.now written (literal_datum literal)) }
     ensures err { IfErr result (λ refusal. (refusal ≡ Refusal.OutOfMemory)
         ⊎ ((refusal ≡ Refusal.NumberOutOfRange) × ((datum : Datum) → SaysDatum line.now written datum → ⊥))) }
@@ -210,7 +210,7 @@ fn literal(alloc: Global, line: &str, written: WrittenValue) -> Result<Literal, 
 
 // The values of a row.
 fn values(alloc: Global, line: &str, written: &[WrittenValue]) -> Result<Vec<Literal>, Refusal>
-    requires { AreToldOf line.now (list_pieces value_pieces written.now) }
+    requires { AreToldOf line.now (list_lexemes value_lexemes written.now) }
     ensures ok { IfOk result (λ values. SaysRow line.now written.now (literal_row values.items)) }
     ensures err { IfErr result (λ refusal. (refusal ≡ Refusal.OutOfMemory)
         ⊎ ((refusal ≡ Refusal.NumberOutOfRange) × ((row : Row) → SaysRow line.now written.now row → ⊥))) }
@@ -218,7 +218,7 @@ fn values(alloc: Global, line: &str, written: &[WrittenValue]) -> Result<Vec<Lit
     let mut values = Vec::new(alloc);
     for value in written {
         let literal = literal(alloc, line, *value)?;
-        values.push(literal).map_err(|_| Refusal::OutOfMemory)?;
+        values.push(literal)?;
     }
     Ok(values)
 }
@@ -296,7 +296,7 @@ fn event(
     line: &str,
     table: Token,
     route: Token,
-    along: WrittenPlace,
+    along: WrittenLocation,
     row: &[WrittenValue],
 ) -> Result<Command, Refusal>
     requires { AreToldOf line.now (spelling (written_insert table route along row.now)) }

@@ -5,7 +5,7 @@
 ghost use Rattle.std.specs.Prelude.{◌≡◌, ◌+◌, ◌<◌, ◌≤◌, ◌⊎◌, [], Ok, Err, length, take, IfOk, IfErr, OnOk, All, IsTrue};
 ghost use Rattle.rs_lexer.specs.Lexis.{kinds_of, IsTokenOf};
 ghost use Rattle.rs_grammar.specs.Grammar.{IsShallow, command_form};
-ghost use Rattle.rs_syntax.specs.Written.{spelling, pieces_of, IsFull};
+ghost use Rattle.rs_syntax.specs.Written.{spelling, lexemes_of, IsFull};
 ghost use Rattle.rs_syntax.specs.View.{tree_of, written_of};
 ghost use Rattle.rs_parser.specs.Reading.{Runs, halt_of, StopsAt};
 ghost use Rattle.rs_value.specs.Values.{is_text};
@@ -44,7 +44,7 @@ fn shallow_count(tokens: &[Token]) -> usize
     tokens.len()
 }
 
-// The refusal at the first of these tokens, or behind the line's last byte where there is none.
+// The refusal at the first of these tokens, or after the line's last byte where there is none.
 fn syntax_fault(line: &str, tokens: &[Token]) -> Refusal
     requires { All (IsTokenOf line.now) tokens.now }
     ensures { result ≡ Refusal.Syntax (fault_column line.now tokens.now) }
@@ -58,7 +58,7 @@ fn syntax_fault(line: &str, tokens: &[Token]) -> Refusal
 // The command that all of the tokens are, as it is written.
 fn whole_command(alloc: Global, tokens: &[Token]) -> Result<WrittenCommand, Stop<'_>>
     ensures read { OnOk result (Runs command_form (kinds_of tokens.now) (Ok [])) }
-    ensures spelled { IfOk result (λ written. pieces_of tokens.now ≡ spelling (written_of written)) }
+    ensures spelled { IfOk result (λ written. lexemes_of tokens.now ≡ spelling (written_of written)) }
     ensures full { IfOk result (λ written. IsFull (written_of written)) }
     ensures stops { IfErr result (λ stop. StopsAt (kinds_of tokens.now) (halt_of stop)) }
 {

@@ -5,19 +5,19 @@
 ghost use Rattle.std.specs.Prelude.{◌≡◌, ◌∷◌, ◌++◌, IfOk};
 ghost use Rattle.rs_grammar.specs.declared.kind.TokenKind.TheVariants as kinds;
 ghost use Rattle.rs_grammar.specs.Grammar.{place_form, measure_form, position_form, offset_form, method_form, wanted_form};
-ghost use Rattle.rs_syntax.specs.Written.{mark, told, measure_pieces, position_pieces, place_pieces, method_pieces, wanted_pieces, pieces_of};
+ghost use Rattle.rs_syntax.specs.Written.{mark, told, measure_lexemes, position_lexemes, location_lexemes, method_lexemes, wanted_lexemes, lexemes_of};
 ghost use Rattle.rs_parser.specs.Reading.{RunsTo};
 
 use crate::front::{Stop, mark, need_mark, need_text, text};
 use rs_grammar::kind::TokenKind;
 use rs_lexer::Token;
 use rs_methods::Method;
-use rs_syntax::written::{WrittenPlace, WrittenPosition};
+use rs_syntax::written::{WrittenLocation, WrittenPosition};
 
 /// Whole | Decimal
 pub fn measure(tokens: &[Token]) -> Result<(Token, &[Token]), Stop<'_>>
     ensures runs { RunsTo measure_form tokens.now result }
-    ensures spelled { IfOk result (λ found. pieces_of tokens.now ≡ measure_pieces found.0 ++ pieces_of found.1.now) }
+    ensures spelled { IfOk result (λ found. lexemes_of tokens.now ≡ measure_lexemes found.0 ++ lexemes_of found.1.now) }
 {
     match text(tokens, TokenKind::Whole) {
         Some(found) => Ok(found),
@@ -25,11 +25,11 @@ pub fn measure(tokens: &[Token]) -> Result<(Token, &[Token]), Stop<'_>>
     }
 }
 
-// behind a referent's name: [ ( "+" | "-" ) measure ]
+// after a referent's name: [ ( "+" | "-" ) measure ]
 fn offset(referent: Token, tokens: &[Token]) -> Result<(WrittenPosition, &[Token]), Stop<'_>>
     ensures runs { RunsTo offset_form tokens.now result }
-    ensures spelled { IfOk result (λ found. mark kinds.AtSign ∷ told kinds.Name referent ∷ pieces_of tokens.now
-        ≡ position_pieces found.0 ++ pieces_of found.1.now) }
+    ensures spelled { IfOk result (λ found. mark kinds.AtSign ∷ told kinds.Name referent ∷ lexemes_of tokens.now
+        ≡ position_lexemes found.0 ++ lexemes_of found.1.now) }
 {
     if let Some(rest) = mark(tokens, TokenKind::PlusSign) {
         let (measure, rest) = measure(rest)?;
@@ -45,7 +45,7 @@ fn offset(referent: Token, tokens: &[Token]) -> Result<(WrittenPosition, &[Token
 /// measure [ "%" ] | "@" name [ ( "+" | "-" ) measure ]
 pub fn position(tokens: &[Token]) -> Result<(WrittenPosition, &[Token]), Stop<'_>>
     ensures runs { RunsTo position_form tokens.now result }
-    ensures spelled { IfOk result (λ found. pieces_of tokens.now ≡ position_pieces found.0 ++ pieces_of found.1.now) }
+    ensures spelled { IfOk result (λ found. lexemes_of tokens.now ≡ position_lexemes found.0 ++ lexemes_of found.1.now) }
 {
     if let Some(rest) = mark(tokens, TokenKind::AtSign) {
         let (referent, rest) = need_text(rest, TokenKind::Name)?;
@@ -59,21 +59,21 @@ pub fn position(tokens: &[Token]) -> Result<(WrittenPosition, &[Token]), Stop<'_
 }
 
 /// FROM pos TO pos
-pub fn place(tokens: &[Token]) -> Result<(WrittenPlace, &[Token]), Stop<'_>>
+pub fn place(tokens: &[Token]) -> Result<(WrittenLocation, &[Token]), Stop<'_>>
     ensures runs { RunsTo place_form tokens.now result }
-    ensures spelled { IfOk result (λ found. pieces_of tokens.now ≡ place_pieces found.0 ++ pieces_of found.1.now) }
+    ensures spelled { IfOk result (λ found. lexemes_of tokens.now ≡ location_lexemes found.0 ++ lexemes_of found.1.now) }
 {
     let rest = need_mark(tokens, TokenKind::From)?;
     let (from, rest) = position(rest)?;
     let rest = need_mark(rest, TokenKind::To)?;
     let (to, rest) = position(rest)?;
-    Ok((WrittenPlace::Along { from, to }, rest))
+    Ok((WrittenLocation::Along { from, to }, rest))
 }
 
 /// ABSOLUTE | RELATIVE | INTERPOLATIVE
 pub fn method(tokens: &[Token]) -> Result<(Method, &[Token]), Stop<'_>>
     ensures runs { RunsTo method_form tokens.now result }
-    ensures spelled { IfOk result (λ found. pieces_of tokens.now ≡ method_pieces found.0 ++ pieces_of found.1.now) }
+    ensures spelled { IfOk result (λ found. lexemes_of tokens.now ≡ method_lexemes found.0 ++ lexemes_of found.1.now) }
 {
     if let Some(rest) = mark(tokens, TokenKind::Absolute) {
         return Ok((Method::Absolute, rest));
@@ -88,7 +88,7 @@ pub fn method(tokens: &[Token]) -> Result<(Method, &[Token]), Stop<'_>>
 /// [ AS method ]
 pub fn wanted_method(tokens: &[Token]) -> Result<(Option<Method>, &[Token]), Stop<'_>>
     ensures runs { RunsTo wanted_form tokens.now result }
-    ensures spelled { IfOk result (λ found. pieces_of tokens.now ≡ wanted_pieces found.0 ++ pieces_of found.1.now) }
+    ensures spelled { IfOk result (λ found. lexemes_of tokens.now ≡ wanted_lexemes found.0 ++ lexemes_of found.1.now) }
 {
     match mark(tokens, TokenKind::As) {
         Some(rest) => {

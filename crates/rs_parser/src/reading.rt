@@ -6,7 +6,7 @@
 ghost use Rattle.std.specs.Prelude.{◌≡◌, ◌<◌, ◌∷◌, ◌++◌, length, IfOk};
 ghost use Rattle.rs_grammar.specs.declared.kind.TokenKind.TheVariants as kinds;
 ghost use Rattle.rs_grammar.specs.Grammar.{command_form, define_form, define_route_form, define_referent_form, define_table_form, drop_form, move_form, insert_form, translate_form, select_form, columns_form, column_form, type_form, values_form, value_form};
-ghost use Rattle.rs_syntax.specs.Written.{mark, type_pieces, column_pieces, value_pieces, list_pieces, spelling, pieces_of, IsFull};
+ghost use Rattle.rs_syntax.specs.Written.{mark, type_lexemes, column_lexemes, value_lexemes, list_lexemes, spelling, lexemes_of, IsFull};
 ghost use Rattle.rs_parser.specs.Reading.{RunsTo};
 ghost use Rattle.rs_syntax.specs.View.{written_of};
 
@@ -20,7 +20,7 @@ use std::alloc::Global;
 // INT | TEXT "(" Whole ")"
 fn column_type(tokens: &[Token]) -> Result<(WrittenType, &[Token]), Stop<'_>>
     ensures runs { RunsTo type_form tokens.now result }
-    ensures spelled { IfOk result (λ found. pieces_of tokens.now ≡ type_pieces found.0 ++ pieces_of found.1.now) }
+    ensures spelled { IfOk result (λ found. lexemes_of tokens.now ≡ type_lexemes found.0 ++ lexemes_of found.1.now) }
 {
     if let Some(rest) = mark(tokens, TokenKind::Int) {
         return Ok((WrittenType::Int, rest));
@@ -35,7 +35,7 @@ fn column_type(tokens: &[Token]) -> Result<(WrittenType, &[Token]), Stop<'_>>
 // name type
 fn column(tokens: &[Token]) -> Result<(WrittenColumn, &[Token]), Stop<'_>>
     ensures runs { RunsTo column_form tokens.now result }
-    ensures spelled { IfOk result (λ found. pieces_of tokens.now ≡ column_pieces found.0 ++ pieces_of found.1.now) }
+    ensures spelled { IfOk result (λ found. lexemes_of tokens.now ≡ column_lexemes found.0 ++ lexemes_of found.1.now) }
     ensures shorter { IfOk result (λ found. length found.1.now < length tokens.now) }
 {
     let (name, rest) = need_text(tokens, TokenKind::Name)?;
@@ -46,7 +46,7 @@ fn column(tokens: &[Token]) -> Result<(WrittenColumn, &[Token]), Stop<'_>>
 // NULL | [ "-" ] Whole | Quoted
 fn value(tokens: &[Token]) -> Result<(WrittenValue, &[Token]), Stop<'_>>
     ensures runs { RunsTo value_form tokens.now result }
-    ensures spelled { IfOk result (λ found. pieces_of tokens.now ≡ value_pieces found.0 ++ pieces_of found.1.now) }
+    ensures spelled { IfOk result (λ found. lexemes_of tokens.now ≡ value_lexemes found.0 ++ lexemes_of found.1.now) }
     ensures shorter { IfOk result (λ found. length found.1.now < length tokens.now) }
 {
     if let Some(rest) = mark(tokens, TokenKind::Null) {
@@ -67,14 +67,14 @@ fn value(tokens: &[Token]) -> Result<(WrittenValue, &[Token]), Stop<'_>>
 fn columns(alloc: Global, tokens: &[Token]) -> Result<(Vec<WrittenColumn>, &[Token]), Stop<'_>>
     ensures runs { RunsTo columns_form tokens.now result }
     ensures spelled { IfOk result (λ found.
-        pieces_of tokens.now ≡ list_pieces column_pieces found.0.items ++ pieces_of found.1.now) }
+        lexemes_of tokens.now ≡ list_lexemes column_lexemes found.0.items ++ lexemes_of found.1.now) }
     ensures some { IfOk result (λ found. 0 < length found.0.items) }
 {
     let mut columns = Vec::new(alloc);
     let mut rest = tokens;
     loop {
         let (column, behind) = column(rest)?;
-        columns.push(column).map_err(|_| Stop::OutOfMemory)?;
+        columns.push(column)?;
         match mark(behind, TokenKind::Comma) {
             Some(next) => rest = next,
             None => return Ok((columns, behind)),
@@ -86,14 +86,14 @@ fn columns(alloc: Global, tokens: &[Token]) -> Result<(Vec<WrittenColumn>, &[Tok
 fn values(alloc: Global, tokens: &[Token]) -> Result<(Vec<WrittenValue>, &[Token]), Stop<'_>>
     ensures runs { RunsTo values_form tokens.now result }
     ensures spelled { IfOk result (λ found.
-        pieces_of tokens.now ≡ list_pieces value_pieces found.0.items ++ pieces_of found.1.now) }
+        lexemes_of tokens.now ≡ list_lexemes value_lexemes found.0.items ++ lexemes_of found.1.now) }
     ensures some { IfOk result (λ found. 0 < length found.0.items) }
 {
     let mut values = Vec::new(alloc);
     let mut rest = tokens;
     loop {
         let (value, behind) = value(rest)?;
-        values.push(value).map_err(|_| Stop::OutOfMemory)?;
+        values.push(value)?;
         match mark(behind, TokenKind::Comma) {
             Some(next) => rest = next,
             None => return Ok((values, behind)),
@@ -101,11 +101,11 @@ fn values(alloc: Global, tokens: &[Token]) -> Result<(Vec<WrittenValue>, &[Token
     }
 }
 
-// behind DEFINE ROUTE: name FROM measure TO measure
+// after DEFINE ROUTE: name FROM measure TO measure
 fn define_route(tokens: &[Token]) -> Result<(WrittenCommand, &[Token]), Stop<'_>>
     ensures runs { RunsTo define_route_form tokens.now result }
-    ensures spelled { IfOk result (λ found. mark kinds.Define ∷ mark kinds.Route ∷ pieces_of tokens.now
-        ≡ spelling (written_of found.0) ++ pieces_of found.1.now) }
+    ensures spelled { IfOk result (λ found. mark kinds.Define ∷ mark kinds.Route ∷ lexemes_of tokens.now
+        ≡ spelling (written_of found.0) ++ lexemes_of found.1.now) }
     ensures full { IfOk result (λ found. IsFull (written_of found.0)) }
 {
     let (name, rest) = need_text(tokens, TokenKind::Name)?;
@@ -121,11 +121,11 @@ fn define_route(tokens: &[Token]) -> Result<(WrittenCommand, &[Token]), Stop<'_>
     Ok((command, rest))
 }
 
-// behind DEFINE REFERENT: route name AT pos
+// after DEFINE REFERENT: route name AT pos
 fn define_referent(tokens: &[Token]) -> Result<(WrittenCommand, &[Token]), Stop<'_>>
     ensures runs { RunsTo define_referent_form tokens.now result }
-    ensures spelled { IfOk result (λ found. mark kinds.Define ∷ mark kinds.Referent ∷ pieces_of tokens.now
-        ≡ spelling (written_of found.0) ++ pieces_of found.1.now) }
+    ensures spelled { IfOk result (λ found. mark kinds.Define ∷ mark kinds.Referent ∷ lexemes_of tokens.now
+        ≡ spelling (written_of found.0) ++ lexemes_of found.1.now) }
     ensures full { IfOk result (λ found. IsFull (written_of found.0)) }
 {
     let (route, rest) = need_text(tokens, TokenKind::Name)?;
@@ -140,11 +140,11 @@ fn define_referent(tokens: &[Token]) -> Result<(WrittenCommand, &[Token]), Stop<
     Ok((command, rest))
 }
 
-// behind DEFINE LINE: TABLE name "(" columns ")"
+// after DEFINE LINE: TABLE name "(" columns ")"
 fn define_table(alloc: Global, tokens: &[Token]) -> Result<(WrittenCommand, &[Token]), Stop<'_>>
     ensures runs { RunsTo define_table_form tokens.now result }
-    ensures spelled { IfOk result (λ found. mark kinds.Define ∷ mark kinds.Line ∷ pieces_of tokens.now
-        ≡ spelling (written_of found.0) ++ pieces_of found.1.now) }
+    ensures spelled { IfOk result (λ found. mark kinds.Define ∷ mark kinds.Line ∷ lexemes_of tokens.now
+        ≡ spelling (written_of found.0) ++ lexemes_of found.1.now) }
     ensures full { IfOk result (λ found. IsFull (written_of found.0)) }
 {
     let rest = need_mark(tokens, TokenKind::Table)?;
@@ -155,11 +155,11 @@ fn define_table(alloc: Global, tokens: &[Token]) -> Result<(WrittenCommand, &[To
     Ok((WrittenCommand::DefineTable { name, columns }, rest))
 }
 
-// behind DEFINE
+// after DEFINE
 fn define(alloc: Global, tokens: &[Token]) -> Result<(WrittenCommand, &[Token]), Stop<'_>>
     ensures runs { RunsTo define_form tokens.now result }
-    ensures spelled { IfOk result (λ found. mark kinds.Define ∷ pieces_of tokens.now
-        ≡ spelling (written_of found.0) ++ pieces_of found.1.now) }
+    ensures spelled { IfOk result (λ found. mark kinds.Define ∷ lexemes_of tokens.now
+        ≡ spelling (written_of found.0) ++ lexemes_of found.1.now) }
     ensures full { IfOk result (λ found. IsFull (written_of found.0)) }
 {
     if let Some(rest) = mark(tokens, TokenKind::Route) {
@@ -172,11 +172,11 @@ fn define(alloc: Global, tokens: &[Token]) -> Result<(WrittenCommand, &[Token]),
     define_table(alloc, rest)
 }
 
-// behind DROP: REFERENT route name
+// after DROP: REFERENT route name
 fn drop_referent(tokens: &[Token]) -> Result<(WrittenCommand, &[Token]), Stop<'_>>
     ensures runs { RunsTo drop_form tokens.now result }
-    ensures spelled { IfOk result (λ found. mark kinds.Drop ∷ pieces_of tokens.now
-        ≡ spelling (written_of found.0) ++ pieces_of found.1.now) }
+    ensures spelled { IfOk result (λ found. mark kinds.Drop ∷ lexemes_of tokens.now
+        ≡ spelling (written_of found.0) ++ lexemes_of found.1.now) }
     ensures full { IfOk result (λ found. IsFull (written_of found.0)) }
 {
     let rest = need_mark(tokens, TokenKind::Referent)?;
@@ -185,11 +185,11 @@ fn drop_referent(tokens: &[Token]) -> Result<(WrittenCommand, &[Token]), Stop<'_
     Ok((WrittenCommand::DropReferent { route, name }, rest))
 }
 
-// behind MOVE: REFERENT route name TO pos
+// after MOVE: REFERENT route name TO pos
 fn move_referent(tokens: &[Token]) -> Result<(WrittenCommand, &[Token]), Stop<'_>>
     ensures runs { RunsTo move_form tokens.now result }
-    ensures spelled { IfOk result (λ found. mark kinds.Move ∷ pieces_of tokens.now
-        ≡ spelling (written_of found.0) ++ pieces_of found.1.now) }
+    ensures spelled { IfOk result (λ found. mark kinds.Move ∷ lexemes_of tokens.now
+        ≡ spelling (written_of found.0) ++ lexemes_of found.1.now) }
     ensures full { IfOk result (λ found. IsFull (written_of found.0)) }
 {
     let rest = need_mark(tokens, TokenKind::Referent)?;
@@ -205,11 +205,11 @@ fn move_referent(tokens: &[Token]) -> Result<(WrittenCommand, &[Token]), Stop<'_
     Ok((command, rest))
 }
 
-// behind INSERT: INTO table ON route place VALUES "(" values ")"
+// after INSERT: INTO table ON route place VALUES "(" values ")"
 fn insert(alloc: Global, tokens: &[Token]) -> Result<(WrittenCommand, &[Token]), Stop<'_>>
     ensures runs { RunsTo insert_form tokens.now result }
-    ensures spelled { IfOk result (λ found. mark kinds.Insert ∷ pieces_of tokens.now
-        ≡ spelling (written_of found.0) ++ pieces_of found.1.now) }
+    ensures spelled { IfOk result (λ found. mark kinds.Insert ∷ lexemes_of tokens.now
+        ≡ spelling (written_of found.0) ++ lexemes_of found.1.now) }
     ensures full { IfOk result (λ found. IsFull (written_of found.0)) }
 {
     let rest = need_mark(tokens, TokenKind::Into)?;
@@ -230,11 +230,11 @@ fn insert(alloc: Global, tokens: &[Token]) -> Result<(WrittenCommand, &[Token]),
     Ok((command, rest))
 }
 
-// behind TRANSLATE: route pos AS method
+// after TRANSLATE: route pos AS method
 fn translate(tokens: &[Token]) -> Result<(WrittenCommand, &[Token]), Stop<'_>>
     ensures runs { RunsTo translate_form tokens.now result }
-    ensures spelled { IfOk result (λ found. mark kinds.Translate ∷ pieces_of tokens.now
-        ≡ spelling (written_of found.0) ++ pieces_of found.1.now) }
+    ensures spelled { IfOk result (λ found. mark kinds.Translate ∷ lexemes_of tokens.now
+        ≡ spelling (written_of found.0) ++ lexemes_of found.1.now) }
     ensures full { IfOk result (λ found. IsFull (written_of found.0)) }
 {
     let (route, rest) = need_text(tokens, TokenKind::Name)?;
@@ -249,11 +249,11 @@ fn translate(tokens: &[Token]) -> Result<(WrittenCommand, &[Token]), Stop<'_>>
     Ok((command, rest))
 }
 
-// behind SELECT: query [ AS method ]
+// after SELECT: query [ AS method ]
 fn select(tokens: &[Token]) -> Result<(WrittenCommand, &[Token]), Stop<'_>>
     ensures runs { RunsTo select_form tokens.now result }
-    ensures spelled { IfOk result (λ found. mark kinds.Select ∷ pieces_of tokens.now
-        ≡ spelling (written_of found.0) ++ pieces_of found.1.now) }
+    ensures spelled { IfOk result (λ found. mark kinds.Select ∷ lexemes_of tokens.now
+        ≡ spelling (written_of found.0) ++ lexemes_of found.1.now) }
     ensures full { IfOk result (λ found. IsFull (written_of found.0)) }
 {
     let (table, rest) = need_text(tokens, TokenKind::Name)?;
@@ -264,7 +264,7 @@ fn select(tokens: &[Token]) -> Result<(WrittenCommand, &[Token]), Stop<'_>>
 /// Reads the syntax of a command from the front, and returns the tokens after it.
 pub fn command(alloc: Global, tokens: &[Token]) -> Result<(WrittenCommand, &[Token]), Stop<'_>>
     ensures runs { RunsTo command_form tokens.now result }
-    ensures spelled { IfOk result (λ found. pieces_of tokens.now ≡ spelling (written_of found.0) ++ pieces_of found.1.now) }
+    ensures spelled { IfOk result (λ found. lexemes_of tokens.now ≡ spelling (written_of found.0) ++ lexemes_of found.1.now) }
     ensures full { IfOk result (λ found. IsFull (written_of found.0)) }
 {
     if let Some(rest) = mark(tokens, TokenKind::Define) {

@@ -4,7 +4,7 @@ use Rattle.std.proofs.lemmas.Bool.{eqb-true, eqb-false}
 use Rattle.std.specs.Prelude.{flat_map}
 use Rattle.std.specs.List.{AllByRecursion}
 use Rattle.std.proofs.lemmas.Grind.{flat_map-append}
-use Rattle.rs_machine.specs.Stream.{IsCut, IsOneLine, with_feed, LINE_FEED}
+use Rattle.rs_machine.specs.Stream.{IsCutIntoLines, IsOneLine, with_feed, LINE_FEED}
 
 -- what holds of each of the elements and of one more
 pub all-more : (X : Type 0) (P : X → Type 0) (xs : List X) (x : X) → AllByRecursion P xs → P x → AllByRecursion P (xs ++ x ∷ [])
@@ -12,21 +12,21 @@ all-more X P [] x each here = (here, tt)
 all-more X P (y ∷ ys) x each here = (each.0, all-more X P ys x each.1 here)
 
 -- nothing is told yet
-pub IsCut-nothing : IsCut [] [] []
-IsCut-nothing = record { whole = refl; each = tt; partial = tt }
+pub IsCutIntoLines-nothing : IsCutIntoLines [] [] []
+IsCutIntoLines-nothing = record { whole = refl; each = tt; partial = tt }
 
 -- a byte of the line begun
-pub IsCut-byte : (bytes : List ℕ) (lines : List (List ℕ)) (rest : List ℕ) (byte : ℕ) → IsCut bytes lines rest → byte ≢ LINE_FEED
-    → IsCut (bytes ++ byte ∷ []) lines (rest ++ byte ∷ [])
-IsCut-byte bytes lines rest byte cut other = record {
+pub IsCutIntoLines-byte : (bytes : List ℕ) (lines : List (List ℕ)) (rest : List ℕ) (byte : ℕ) → IsCutIntoLines bytes lines rest → byte ≢ LINE_FEED
+    → IsCutIntoLines (bytes ++ byte ∷ []) lines (rest ++ byte ∷ [])
+IsCutIntoLines-byte bytes lines rest byte cut other = record {
   whole = ap (λ l. l ++ byte ∷ []) cut.whole ∙ append_assoc (flat_map with_feed lines) rest (byte ∷ []);
   each = cut.each;
   partial = all-more ℕ (λ b. b ≢ LINE_FEED) rest byte cut.partial other;
 }
 
 -- the LF of the line begun
-pub IsCut-feed : (bytes : List ℕ) (lines : List (List ℕ)) (rest : List ℕ) → IsCut bytes lines rest → IsCut (bytes ++ LINE_FEED ∷ []) (lines ++ rest ∷ []) []
-IsCut-feed bytes lines rest cut = record {
+pub IsCutIntoLines-feed : (bytes : List ℕ) (lines : List (List ℕ)) (rest : List ℕ) → IsCutIntoLines bytes lines rest → IsCutIntoLines (bytes ++ LINE_FEED ∷ []) (lines ++ rest ∷ []) []
+IsCutIntoLines-feed bytes lines rest cut = record {
   whole = ap (λ l. l ++ LINE_FEED ∷ []) cut.whole ∙ append_assoc (flat_map with_feed lines) rest (LINE_FEED ∷ [])
       ∙ sym (append-nil (flat_map with_feed lines ++ with_feed rest))
       ∙ ap (λ l. l ++ []) (sym (flat_map-append with_feed lines (rest ∷ []) ∙ ap (λ l. flat_map with_feed lines ++ l) (append-nil (with_feed rest))));
@@ -34,32 +34,32 @@ IsCut-feed bytes lines rest cut = record {
   partial = tt;
 }
 
--- the cut goes on behind bytes that are cut
+-- the cut goes on after bytes that are cut
 pub record CutsOn (bytes : List ℕ) (lines : List (List ℕ)) : Type 0 where
   pub later : List (List ℕ)
   pub rest : List ℕ
-  pub cut : IsCut bytes (lines ++ later) rest
+  pub cut : IsCutIntoLines bytes (lines ++ later) rest
 
-pub IsCut-more : (bytes : List ℕ) (lines : List (List ℕ)) (rest more : List ℕ) → IsCut bytes lines rest → CutsOn (bytes ++ more) lines
-IsCut-more bytes lines rest [] cut = record {
+pub IsCutIntoLines-more : (bytes : List ℕ) (lines : List (List ℕ)) (rest more : List ℕ) → IsCutIntoLines bytes lines rest → CutsOn (bytes ++ more) lines
+IsCutIntoLines-more bytes lines rest [] cut = record {
   later = [];
   rest = rest;
-  cut = subst (λ b. IsCut b (lines ++ []) rest) (sym (append-nil bytes)) (subst (λ l. IsCut bytes l rest) (sym (append-nil lines)) cut);
+  cut = subst (λ b. IsCutIntoLines b (lines ++ []) rest) (sym (append-nil bytes)) (subst (λ l. IsCutIntoLines bytes l rest) (sym (append-nil lines)) cut);
 }
-IsCut-more bytes lines rest (byte ∷ more) cut =
+IsCutIntoLines-more bytes lines rest (byte ∷ more) cut =
     let P : List ℕ → Type 0 = λ b. CutsOn b lines in
     subst P (append_assoc bytes (byte ∷ []) more)
     (elim (byte == LINE_FEED) as (λ b. (byte == LINE_FEED) ≡ b → CutsOn ((bytes ++ byte ∷ []) ++ more) lines) [
       | true ↦ λ is_feed.
           let at_feed : byte ≡ LINE_FEED = eqb-true byte LINE_FEED is_feed in
-          let ended : IsCut (bytes ++ byte ∷ []) (lines ++ rest ∷ []) [] = subst (λ b. IsCut (bytes ++ b ∷ []) (lines ++ rest ∷ []) []) (sym at_feed) (IsCut-feed bytes lines rest cut) in
-          let on : CutsOn ((bytes ++ byte ∷ []) ++ more) (lines ++ rest ∷ []) = IsCut-more (bytes ++ byte ∷ []) (lines ++ rest ∷ []) [] more ended in
-          record { later = rest ∷ on.later; rest = on.rest; cut = subst (λ l. IsCut ((bytes ++ byte ∷ []) ++ more) l on.rest) (append_assoc lines (rest ∷ []) on.later) on.cut }
+          let ended : IsCutIntoLines (bytes ++ byte ∷ []) (lines ++ rest ∷ []) [] = subst (λ b. IsCutIntoLines (bytes ++ b ∷ []) (lines ++ rest ∷ []) []) (sym at_feed) (IsCutIntoLines-feed bytes lines rest cut) in
+          let on : CutsOn ((bytes ++ byte ∷ []) ++ more) (lines ++ rest ∷ []) = IsCutIntoLines-more (bytes ++ byte ∷ []) (lines ++ rest ∷ []) [] more ended in
+          record { later = rest ∷ on.later; rest = on.rest; cut = subst (λ l. IsCutIntoLines ((bytes ++ byte ∷ []) ++ more) l on.rest) (append_assoc lines (rest ∷ []) on.later) on.cut }
       | false ↦ λ no_feed.
-          IsCut-more (bytes ++ byte ∷ []) lines (rest ++ byte ∷ []) more (IsCut-byte bytes lines rest byte cut (λ e. absurd (eqb-false byte LINE_FEED no_feed e)))
+          IsCutIntoLines-more (bytes ++ byte ∷ []) lines (rest ++ byte ∷ []) more (IsCutIntoLines-byte bytes lines rest byte cut (λ e. absurd (eqb-false byte LINE_FEED no_feed e)))
     ] refl)
 
--- two lines that begin one stream, and what stands behind them
+-- two lines that begin one stream, and what stands after them
 one_first_line : (line other more later : List ℕ) → IsOneLine line → IsOneLine other → line ++ LINE_FEED ∷ more ≡ other ++ LINE_FEED ∷ later → (line ≡ other) × (more ≡ later)
 one_first_line [] [] more later plain plain' same = (refl, cc)
 one_first_line [] (byte ∷ other) more later plain plain' same = let first : LINE_FEED ≡ byte = cc in absurd (plain'.0 (sym first))
@@ -98,5 +98,5 @@ one_cut (line ∷ lines) (line' ∷ others) rest other each each' plain plain' s
     let tails : lines ≡ others = laters.0 in
     (cc, laters.1)
 
-pub IsCut-one : (bytes : List ℕ) (lines others : List (List ℕ)) (rest other : List ℕ) → IsCut bytes lines rest → IsCut bytes others other → (lines ≡ others) × (rest ≡ other)
-IsCut-one bytes lines others rest other cut cut' = one_cut lines others rest other cut.each cut'.each cut.partial cut'.partial (sym cut.whole ∙ cut'.whole)
+pub IsCutIntoLines-one : (bytes : List ℕ) (lines others : List (List ℕ)) (rest other : List ℕ) → IsCutIntoLines bytes lines rest → IsCutIntoLines bytes others other → (lines ≡ others) × (rest ≡ other)
+IsCutIntoLines-one bytes lines others rest other cut cut' = one_cut lines others rest other cut.each cut'.each cut.partial cut'.partial (sym cut.whole ∙ cut'.whole)

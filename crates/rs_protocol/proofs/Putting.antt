@@ -58,7 +58,7 @@ Puts-then T (Err fault) xs ys a b c first then =
       ),
     )
 
--- a part is not put whole, and nothing behind it
+-- a part is not put whole, and nothing after it
 pub Puts-stops : (T U : Type 0) (fault : Fault) (xs ys : List ℕ) (a b : Option (List ℕ)) → Puts {T = T} (Err fault) xs a b → Puts {T = U} (Err fault) (xs ++ ys) a b
 Puts-stops T U fault xs ys a b stop =
     let puts : PutsBut xs stop.1.0 a b = stop.1.2 in (
@@ -74,7 +74,7 @@ Puts-stops T U fault xs ys a b stop =
       ),
     )
 
--- the bytes behind a place
+-- the bytes after a place
 pub taken_to_end : (n : ℕ) (xs : List ℕ) → take (length xs - n) (drop n xs) ≡ drop n xs
 taken_to_end n xs = subst (λ m. take m (drop n xs) ≡ drop n xs) (length-drop n xs) (take-length (drop n xs))
 

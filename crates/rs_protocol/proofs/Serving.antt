@@ -12,13 +12,13 @@ use Rattle.rs_measure.specs.declared.refusal.Refusal.TheVariants.{LineTooLong}
 use Rattle.rs_machine.specs.Served.{Machine}
 use Rattle.rs_machine.specs.ReplyText.{reply_text}
 use Rattle.rs_machine.specs.Request.{Request, unreadable, no_command, command, Asks, line_refusal}
-use Rattle.rs_machine.specs.Answered.{Answer, AnswersLine, Answered, text_of}
-use Rattle.rs_machine.specs.Stream.{IsCut, StoppedWriting, LINE_FEED}
+use Rattle.rs_machine.specs.Answered.{Answer, AnswersLine, Answered, answers_text}
+use Rattle.rs_machine.specs.Stream.{IsCutIntoLines, StoppedWriting, LINE_FEED}
 use Rattle.rs_protocol.specs.declared.lines.TheConstants.{KEPT_BYTES}
 use Rattle.rs_protocol.specs.declared.stream.Fault.{Fault}
 use Rattle.rs_protocol.specs.Ends.{WroteAll, WroteFront}
 use Rattle.rs_protocol.specs.Inner.{PutsBut, PutsAnswer, IsServed, GoesOn}
-use Rattle.rs_protocol.proofs.Cuts.{IsCut-nothing, IsCut-byte, IsCut-feed, IsCut-more, CutsOn}
+use Rattle.rs_protocol.proofs.Cuts.{IsCutIntoLines-nothing, IsCutIntoLines-byte, IsCutIntoLines-feed, IsCutIntoLines-more, CutsOn}
 
 none_is_some : {A : Type 0} {x : A} → None ≡ Some x → ⊥
 none_is_some e = cc
@@ -65,8 +65,8 @@ Answered-more old mid new (first ∷ lines) (one ∷ answers) line given all nex
 Answered-more old mid new [] (one ∷ answers) line given all next = absurd all
 Answered-more old mid new (first ∷ lines) [] line given all next = absurd all
 
-text_of-more : (answers : List Answer) (given : Answer) → text_of (answers ++ given ∷ []) ≡ text_of answers ++ reply_text given.session given.reply
-text_of-more answers given =
+answers_text-more : (answers : List Answer) (given : Answer) → answers_text (answers ++ given ∷ []) ≡ answers_text answers ++ reply_text given.session given.reply
+answers_text-more answers given =
     let text : Answer → List ℕ = λ one. reply_text one.session one.reply in
     flat_map-append text answers (given ∷ []) ∙ ap (λ l. flat_map text answers ++ l) (append-nil (text given))
 
@@ -91,7 +91,7 @@ pub IsServed-nothing : (kept : List ℕ) (machine : Machine) (a : Option (List �
 IsServed-nothing kept machine a none = record {
   lines = [];
   rest = [];
-  cut = IsCut-nothing;
+  cut = IsCutIntoLines-nothing;
   answers = [];
   answered = refl;
   put = Appends-nil a;
@@ -104,7 +104,7 @@ pub IsServed-kept : (kept kept' told : List ℕ) (byte : ℕ) (old new : Machine
 IsServed-kept kept kept' told byte old new a b other room kept_now served = record {
   lines = served.lines;
   rest = served.rest ++ byte ∷ [];
-  cut = IsCut-byte told served.lines served.rest byte served.cut other;
+  cut = IsCutIntoLines-byte told served.lines served.rest byte served.cut other;
   answers = served.answers;
   answered = served.answered;
   put = served.put;
@@ -117,7 +117,7 @@ pub IsServed-dropped : (kept kept' told : List ℕ) (byte : ℕ) (old new : Mach
 IsServed-dropped kept kept' told byte old new a b other full kept_now served = record {
   lines = served.lines;
   rest = served.rest ++ byte ∷ [];
-  cut = IsCut-byte told served.lines served.rest byte served.cut other;
+  cut = IsCutIntoLines-byte told served.lines served.rest byte served.cut other;
   answers = served.answers;
   answered = served.answered;
   put = served.put;
@@ -130,24 +130,24 @@ pub GoesOn-feed : (T : Type 0) (result : Result T Fault) (kept kept' told : List
 GoesOn-feed T (Ok done) kept kept' told old mid new a b c emptied served answer = record {
   lines = served.lines ++ served.rest ∷ [];
   rest = [];
-  cut = IsCut-feed told served.lines served.rest served.cut;
+  cut = IsCutIntoLines-feed told served.lines served.rest served.cut;
   answers = served.answers ++ answer.given ∷ [];
   answered = Answered-more old mid new served.lines served.answers served.rest answer.given served.answered (line_answered kept served.rest answer.given mid new served.kept_is answer.answered);
-  put = subst (Appends a c) (sym (text_of-more served.answers answer.given)) (Appends-trans a b c (text_of served.answers) (reply_text answer.given.session answer.given.reply) served.put answer.put);
+  put = subst (Appends a c) (sym (answers_text-more served.answers answer.given)) (Appends-trans a b c (answers_text served.answers) (reply_text answer.given.session answer.given.reply) served.put answer.put);
   kept_is = emptied;
 }
 GoesOn-feed T (Err fault) kept kept' told old mid new a b c emptied served answer =
     let puts : PutsBut (reply_text answer.given.session answer.given.reply) answer.put.1.0 b c = answer.put.1.2 in (
       answer.put.0,
       record {
-        written = text_of served.answers ++ puts.front;
-        put = Appends-trans a b c (text_of served.answers) puts.front served.put puts.put;
+        written = answers_text served.answers ++ puts.front;
+        put = Appends-trans a b c (answers_text served.answers) puts.front served.put puts.put;
         stopped = record {
           lines = served.lines;
           line = served.rest;
           later = [];
           rest = [];
-          cut = IsCut-feed told served.lines served.rest served.cut;
+          cut = IsCutIntoLines-feed told served.lines served.rest served.cut;
           answers = served.answers;
           between = mid;
           answered = served.answered;
@@ -162,11 +162,11 @@ GoesOn-feed T (Err fault) kept kept' told old mid new a b c emptied served answe
       },
     )
 
--- bytes that come behind those that were served
+-- bytes that come after those that were served
 pub WroteFront-more : (told more : List ℕ) (old new : Machine) (a b : Option (List ℕ)) → WroteFront told old new a b → WroteFront (told ++ more) old new a b
 WroteFront-more told more old new a b wrote =
     let stop : StoppedWriting old told wrote.written new = wrote.stopped in
-    let on : CutsOn (told ++ more) (stop.lines ++ stop.line ∷ stop.later) = IsCut-more told (stop.lines ++ stop.line ∷ stop.later) stop.rest more stop.cut in
+    let on : CutsOn (told ++ more) (stop.lines ++ stop.line ∷ stop.later) = IsCutIntoLines-more told (stop.lines ++ stop.line ∷ stop.later) stop.rest more stop.cut in
     record {
       written = wrote.written;
       put = wrote.put;
@@ -175,7 +175,7 @@ WroteFront-more told more old new a b wrote =
         line = stop.line;
         later = stop.later ++ on.later;
         rest = on.rest;
-        cut = subst (λ l. IsCut (told ++ more) l on.rest) (append_assoc stop.lines (stop.line ∷ stop.later) on.later) on.cut;
+        cut = subst (λ l. IsCutIntoLines (told ++ more) l on.rest) (append_assoc stop.lines (stop.line ∷ stop.later) on.later) on.cut;
         answers = stop.answers;
         between = stop.between;
         answered = stop.answered;
@@ -195,7 +195,7 @@ WroteAll-served kept told old new a b served = (
   served.rest,
   served.kept_is,
   record {
-    written = text_of served.answers;
+    written = answers_text served.answers;
     put = served.put;
     answered = record { lines = served.lines; cut = served.cut; answers = served.answers; answered = served.answered; text = refl };
   },
@@ -212,7 +212,7 @@ at_feed T result kept kept' line told byte old mid new a b c is_feed line_is emp
 pub told_more : (told piece : List ℕ) (i : ℕ) → i < length piece → (told ++ take i piece) ++ get_or piece i 0 ∷ [] ≡ told ++ take (i + 1) piece
 told_more told piece i within = append_assoc told (take i piece) (get_or piece i 0 ∷ []) ∙ ap (λ l. told ++ l) (sym (take_more piece i 0 within))
 
--- a byte of a piece ends the service, and the rest of the piece comes behind it
+-- a byte of a piece ends the service, and the rest of the piece comes after it
 pub stops_in_piece : (told piece : List ℕ) (i : ℕ) (old new : Machine) (a b : Option (List ℕ)) → i < length piece
     → WroteFront ((told ++ take i piece) ++ get_or piece i 0 ∷ []) old new a b → WroteFront (told ++ piece) old new a b
 stops_in_piece told piece i old new a b within stop =

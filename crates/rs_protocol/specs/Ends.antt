@@ -8,7 +8,7 @@ use Rattle.rs_protocol.specs.declared.stream.End.TheVariants.{Whole, CutLine}
 use Rattle.rs_protocol.specs.declared.stream.Fault.{Fault}
 use Rattle.rs_protocol.specs.declared.stream.Fault.TheVariants.{Read, Write}
 
--- Every line told is answered, and the writer has grown by the text of the answers. Behind the last LF the rest was told.
+-- Every line told is answered, and the writer has grown by the text of the answers. After the last LF the rest was told.
 pub record WroteAll (told rest : List ℕ) (old new : Machine) (before after : Option (List ℕ)) : Type 0 where
   pub written : List ℕ
   pub put : Appends before after written

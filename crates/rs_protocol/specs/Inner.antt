@@ -1,12 +1,12 @@
 -- What the functions of this crate hand to one another.
-use Rattle.std.specs.Prelude.{◌≡◌, ◌≢◌, ℕ, ◌<◌, List, [], ◌++◌, take, Option, None, Some, Result, MatchResult}
+use Rattle.std.specs.Prelude.{◌≡◌, ℕ, ◌<◌, List, take, Option, None, Some, Result, MatchResult}
 use Rattle.std.specs.Io.KnownBytes.{Appends, Consumes}
 use Rattle.rs_measure.specs.FixedPoint.{number_of_digits}
 use Rattle.rs_machine.specs.Served.{Machine}
 use Rattle.rs_machine.specs.ReplyText.{reply_text}
 use Rattle.rs_machine.specs.Request.{without_return, line_refusal, session_digits}
-use Rattle.rs_machine.specs.Answered.{Answer, Answered, AnswersLine, text_of}
-use Rattle.rs_machine.specs.Stream.{IsCut}
+use Rattle.rs_machine.specs.Answered.{Answer, Answered, AnswersLine, answers_text}
+use Rattle.rs_machine.specs.Stream.{IsCutIntoLines}
 use Rattle.rs_machine.specs.declared.limits.TheConstants.{SESSIONS}
 use Rattle.rs_protocol.specs.declared.lines.TheConstants.{KEPT_BYTES}
 use Rattle.rs_protocol.specs.declared.stream.Fault.{Fault}
@@ -36,10 +36,10 @@ pub record PutsAnswer {T : Type 0} (result : Result T Fault) (line : List ℕ) (
 pub record IsServed (kept told : List ℕ) (old new : Machine) (before after : Option (List ℕ)) : Type 0 where
   pub lines : List (List ℕ)
   pub rest : List ℕ
-  pub cut : IsCut told lines rest
+  pub cut : IsCutIntoLines told lines rest
   pub answers : List Answer
   pub answered : Answered old lines answers new
-  pub put : Appends before after (text_of answers)
+  pub put : Appends before after (answers_text answers)
   pub kept_is : kept ≡ take KEPT_BYTES rest
 
 -- service goes on, or a write fault ends it

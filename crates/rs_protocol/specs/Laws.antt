@@ -4,11 +4,11 @@ use Rattle.rs_measure.specs.declared.refusal.Refusal.{Refusal}
 use Rattle.rs_syntax.specs.Tree.{CommandTree}
 use Rattle.rs_syntax.specs.Verdict.{Reads}
 use Rattle.rs_machine.specs.Request.{Request, Asks}
-use Rattle.rs_machine.specs.Stream.{IsCut}
+use Rattle.rs_machine.specs.Stream.{IsCutIntoLines}
 
 -- bytes are cut into lines and a rest in one way
 abbrev pub HasOneCut : List ℕ → Type 0
-HasOneCut bytes = (lines others : List (List ℕ)) (rest other : List ℕ) → IsCut bytes lines rest → IsCut bytes others other → (lines ≡ others) × (rest ≡ other)
+HasOneCut bytes = (lines others : List (List ℕ)) (rest other : List ℕ) → IsCutIntoLines bytes lines rest → IsCutIntoLines bytes others other → (lines ≡ others) × (rest ≡ other)
 
 -- what a text says from a place on is one thing
 abbrev pub ReadsOneThing : Type 0

@@ -49,7 +49,7 @@ fn has_control(bytes: &[u8]) -> bool
 }
 
 /// The bytes as text, where they are UTF-8 without a control character.
-fn text_of(bytes: &[u8]) -> Option<&str>
+fn as_text(bytes: &[u8]) -> Option<&str>
     ensures { MatchOption result (is_text bytes.now ≡ false)
         (λ text. (text.now ≡ bytes.now) × (is_text bytes.now ≡ true)) }
 {
@@ -106,7 +106,7 @@ pub(crate) fn request_of(line: &[u8]) -> Result<Request<'_>, Refusal>
     if line.len() > LINE_BYTES {
         return Err(Refusal::LineTooLong);
     }
-    let Some(text) = text_of(without_return(line)) else {
+    let Some(text) = as_text(without_return(line)) else {
         return Err(Refusal::LineIsNotText);
     };
     let Some((number, digits)) = session_of(text.as_bytes()) else {

@@ -1,4 +1,4 @@
--- How many brackets are open behind some tokens.
+-- How many brackets are open after some tokens.
 use Rattle.std.proofs.Common.{◌≡◌, ℕ, zero, suc, ◌+◌, ◌<◌, ◌≤◌, Bool, true, false, List, [], ◌∷◌, ◌++◌, length, take, get_or, refl, sym, ap, ◌∙◌, subst, arith, le-leb, leb-true}
 use Rattle.std.specs.Prelude.{◌&&◌, nat_le}
 use Rattle.std.proofs.lemmas.Bool.{false≢true, and_parts}
@@ -10,7 +10,7 @@ use Rattle.rs_lexer.specs.declared.token.Token.{Token}
 use Rattle.rs_lexer.specs.Lexis.{kinds_of}
 use Rattle.rs_grammar.specs.Grammar.{open_after, is_shallow, IsShallow}
 
--- how many are open behind the tokens
+-- how many are open after the tokens
 abbrev pub open_behind : ℕ → List TokenKind → ℕ
 open_behind open_before [] = open_before
 open_behind open_before (kind ∷ others) = open_behind (open_after open_before kind) others

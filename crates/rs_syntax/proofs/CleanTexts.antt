@@ -11,7 +11,7 @@ use Rattle.std.proofs.lemmas.Str.{IsUtf8-nil, IsUtf8-append, IsUtf8-encode, IsUt
 use Rattle.rs_value.specs.Values.{is_control, is_text}
 use Rattle.rs_grammar.specs.declared.kind.TokenKind.TheVariants as kinds
 use Rattle.rs_lexer.specs.declared.token.Token.{Token}
-use Rattle.rs_lexer.specs.Lexis.{text_of, IsTokenOf}
+use Rattle.rs_lexer.specs.Lexis.{token_text, IsTokenOf}
 use Rattle.rs_lexer.proofs.TokenLaws.{first_is_ascii, start_boundary, end_boundary}
 use Rattle.rs_syntax.specs.Written.{unquoted, unquoted_rest}
 use Rattle.rs_syntax.proofs.UnquotedLaws.{unquoted-behind, unquoted-other, unquoted-quote, unquoted-first_byte}
@@ -86,19 +86,19 @@ text-parts bytes is =
 text-from : (bytes : List ℕ) → IsUtf8 bytes → list_any is_control bytes ≡ false → is_text bytes ≡ true
 text-from bytes u plain = and_from (is_utf8 bytes) (not (list_any is_control bytes)) (is_utf8-from_IsUtf8 bytes u) (not_from (list_any is_control bytes) plain)
 
-token_utf8 : (line : List ℕ) (token : Token) → IsTokenOf line token → IsUtf8 line → IsUtf8 (text_of line token)
+token_utf8 : (line : List ℕ) (token : Token) → IsTokenOf line token → IsUtf8 line → IsUtf8 (token_text line token)
 token_utf8 line token is u =
     let far : token.first + token.length - token.first ≡ token.length = omega arith in
     subst (λ n. IsUtf8 (take n (drop token.first line))) far
     (IsUtf8-between line token.first (token.first + token.length) u (omega arith) (start_boundary line token is) (end_boundary line token is u))
 
 -- the text between the quotes of a token
-pub quoted_is_text : (line : List ℕ) (token : Token) → IsTokenOf line token → IsTrue (is_text line) → IsTrue (is_text (unquoted (text_of line token)))
+pub quoted_is_text : (line : List ℕ) (token : Token) → IsTokenOf line token → IsTrue (is_text line) → IsTrue (is_text (unquoted (token_text line token)))
 quoted_is_text line token is clean =
     let parts = text-parts line clean in
-    let first = first_is_ascii (text_of line token) token.kind is.kind in
+    let first = first_is_ascii (token_text line token) token.kind is.kind in
     let whole = token_utf8 line token is parts.0 in
-    let behind : IsUtf8 (drop 1 (text_of line token)) = IsUtf8-drop (text_of line token) 1 whole (omega (arith, first.0), λ lt. lead_after_ascii (text_of line token) 0 whole first.1 lt) in
-    let plain : list_any is_control (drop 1 (text_of line token)) ≡ false = drop_plain 1 (text_of line token) (take_plain token.length (drop token.first line) (drop_plain token.first line parts.1)) in
-    ap is_text (unquoted-first_byte (text_of line token) first.0)
-    ∙ text-from (unquoted_rest false (drop 1 (text_of line token))) (unquoted_rest-utf8 (drop 1 (text_of line token)) behind) (rest_plain (drop 1 (text_of line token)) false plain)
+    let behind : IsUtf8 (drop 1 (token_text line token)) = IsUtf8-drop (token_text line token) 1 whole (omega (arith, first.0), λ lt. lead_after_ascii (token_text line token) 0 whole first.1 lt) in
+    let plain : list_any is_control (drop 1 (token_text line token)) ≡ false = drop_plain 1 (token_text line token) (take_plain token.length (drop token.first line) (drop_plain token.first line parts.1)) in
+    ap is_text (unquoted-first_byte (token_text line token) first.0)
+    ∙ text-from (unquoted_rest false (drop 1 (token_text line token))) (unquoted_rest-utf8 (drop 1 (token_text line token)) behind) (rest_plain (drop 1 (token_text line token)) false plain)

@@ -4,29 +4,29 @@ use Rattle.std.specs.Prelude.{◌⊎◌, slice_index}
 use Rattle.std.proofs.lemmas.Bool.{cases_lt, cases_eq}
 use Rattle.rs_grammar.specs.declared.kind.TokenKind.{TokenKind}
 use Rattle.rs_lexer.specs.declared.token.Token.{Token}
-use Rattle.rs_lexer.specs.Lexis.{kind_of, IsLongestToken, IsCut, at_end, at_blank, at_token}
+use Rattle.rs_lexer.specs.Lexis.{token_kind, IsLongestToken, AreTokensFrom, at_end, at_blank, at_token}
 use Rattle.rs_lexer.proofs.CutLaws.{token_at, has_a_byte, cut_past_blank, cut_past_token, no_cut}
 
 -- some front is the longest token, or no front is one
 abbrev FrontCases : List ℕ → Type 0
-FrontCases bytes = ((kind : TokenKind) × (count : ℕ) × IsLongestToken bytes kind count) ⊎ ((count : ℕ) → count ≤ length bytes → kind_of (take count bytes) ≡ None)
+FrontCases bytes = ((kind : TokenKind) × (count : ℕ) × IsLongestToken bytes kind count) ⊎ ((count : ℕ) → count ≤ length bytes → token_kind (take count bytes) ≡ None)
 
 -- no longer front is a token
 abbrev NoneLonger : List ℕ → ℕ → Type 0
-NoneLonger bytes n = (longer : ℕ) → n < longer → longer ≤ length bytes → kind_of (take longer bytes) ≡ None
+NoneLonger bytes n = (longer : ℕ) → n < longer → longer ≤ length bytes → token_kind (take longer bytes) ≡ None
 
-none_from : (bytes : List ℕ) (n : ℕ) → NoneLonger bytes n → kind_of (take n bytes) ≡ None → (count : ℕ) → n ≤ count → count ≤ length bytes → kind_of (take count bytes) ≡ None
+none_from : (bytes : List ℕ) (n : ℕ) → NoneLonger bytes n → token_kind (take n bytes) ≡ None → (count : ℕ) → n ≤ count → count ≤ length bytes → token_kind (take count bytes) ≡ None
 none_from bytes n longer here count from inside =
-    ⊎_elim (λ lt. longer count lt inside) (λ le. let same : n ≡ count = omega arith in subst (λ m. kind_of (take m bytes) ≡ None) same here) (cases_lt n count)
+    ⊎_elim (λ lt. longer count lt inside) (λ le. let same : n ≡ count = omega arith in subst (λ m. token_kind (take m bytes) ≡ None) same here) (cases_lt n count)
 
 front_from : (bytes : List ℕ) (n : ℕ) → n ≤ length bytes → NoneLonger bytes n → FrontCases bytes
 front_from bytes zero inside longer =
-    elim (kind_of (take 0 bytes)) as (λ k. kind_of (take 0 bytes) ≡ k → FrontCases bytes) [
+    elim (token_kind (take 0 bytes)) as (λ k. token_kind (take 0 bytes) ≡ k → FrontCases bytes) [
       | None ↦ λ is. inr (λ count within. none_from bytes 0 longer is count (omega arith) within)
       | Some kind ↦ λ is. inl (kind, 0, record { inside = inside; token = is; longest = longer })
     ] refl
 front_from bytes (suc n) inside longer =
-    elim (kind_of (take (suc n) bytes)) as (λ k. kind_of (take (suc n) bytes) ≡ k → FrontCases bytes) [
+    elim (token_kind (take (suc n) bytes)) as (λ k. token_kind (take (suc n) bytes) ≡ k → FrontCases bytes) [
       | None ↦ λ is. front_from bytes n (omega arith) (λ count lt within. none_from bytes (suc n) longer is count (omega arith) within)
       | Some kind ↦ λ is. inl (kind, suc n, record { inside = inside; token = is; longest = longer })
     ] refl
@@ -35,7 +35,7 @@ front_cases : (bytes : List ℕ) → FrontCases bytes
 front_cases bytes = front_from bytes (length bytes) (omega arith) (λ longer lt within. absurd (omega arith))
 
 abbrev pub CutCases : List ℕ → ℕ → Type 0
-CutCases line place = ((tokens : List Token) × IsCut line place tokens) ⊎ ((tokens : List Token) → IsCut line place tokens → ⊥)
+CutCases line place = ((tokens : List Token) × AreTokensFrom line place tokens) ⊎ ((tokens : List Token) → AreTokensFrom line place tokens → ⊥)
 
 past_blank : (line : List ℕ) (place : ℕ) → place < length line → slice_index line place ≡ 32 → CutCases line (place + 1) → CutCases line place
 past_blank line place lt blank (inl found) = inl (found.0, at_blank lt blank found.1)

@@ -11,7 +11,7 @@ use Rattle.rs_lexer.specs.Lexis.{kinds_of}
 use Rattle.rs_value.specs.Values.{is_text}
 use Rattle.rs_syntax.specs.Tree.{CommandTree}
 use Rattle.rs_syntax.specs.Sound.{IsSound}
-use Rattle.rs_syntax.specs.Written.{Written, spelling, Says, pieces_of, AreToldOf, IsFull}
+use Rattle.rs_syntax.specs.Written.{Written, spelling, Says, lexemes_of, AreToldOf, IsFull}
 use Rattle.rs_grammar.specs.Reading.{Runs, StopsAt}
 use Rattle.rs_syntax.specs.Verdict.{fault_column, FitsNoRule, IsWritten, Parses, is_fault, is_command, is_out_of_range, Reads, has_no_tokens, has_tokens}
 use Rattle.rs_syntax.proofs.BracketLaws.{length-kinds_of, take-kinds_of}
@@ -50,17 +50,17 @@ at_fault : (line : List ℕ) (tokens : List Token) (place : ℕ) → FitsNoRule 
 at_fault line tokens place fault = (Err (Syntax (fault_column line (drop place tokens))), is_fault place fault, λ clean. tt)
 
 -- a command as it is written, whose numbers are in their ranges, or not
-in_range : (line : List ℕ) (tokens : List Token) (written : Written) → AreToldOf line (pieces_of tokens) → IsFull written → IsWritten tokens written → Cases (Says line written) → Answered line tokens
+in_range : (line : List ℕ) (tokens : List Token) (written : Written) → AreToldOf line (lexemes_of tokens) → IsFull written → IsWritten tokens written → Cases (Says line written) → Answered line tokens
 in_range line tokens written told full is (inl said) = (Ok said.0, is_command written said.0 is said.1, λ clean. sound line written said.0 clean full (subst (AreToldOf line) is.spelled told) said.1)
 in_range line tokens written told full is (inr none) = (Err NumberOutOfRange, is_out_of_range written is none, λ clean. tt)
 
 -- Reading the tokens before a bracket too many.
-module _ (line : List ℕ) (tokens : List Token) (told : AreToldOf line (pieces_of tokens)) (n : ℕ) (brackets : Shallow (kinds_of tokens) n) where
+module _ (line : List ℕ) (tokens : List Token) (told : AreToldOf line (lexemes_of tokens)) (n : ℕ) (brackets : Shallow (kinds_of tokens) n) where
   stopped : (left : List TokenKind) → StopsAt (kinds_of (take n tokens)) (Some left) → Answered line tokens
   stopped left stop =
       at_fault line tokens (n - length left) (fits_no_rule (kinds_of tokens) n left brackets.inside brackets.shallow brackets.too_deep (subst (λ ts. StopsAt ts (Some left)) (sym (take-kinds_of n tokens)) stop))
 
-  read_all : (written : Written) → IsFull written → Runs command_form (kinds_of (take n tokens)) (Ok []) → pieces_of (take n tokens) ≡ spelling written → Answered line tokens
+  read_all : (written : Written) → IsFull written → Runs command_form (kinds_of (take n tokens)) (Ok []) → lexemes_of (take n tokens) ≡ spelling written → Answered line tokens
   read_all written full run spelled =
       ⊎_elim
       (λ whole. in_range line tokens written told full (is_written tokens n written whole brackets.shallow run spelled) (says_cases line written))
@@ -69,7 +69,7 @@ module _ (line : List ℕ) (tokens : List Token) (told : AreToldOf line (pieces_
       at_fault line tokens n (too_many_brackets (kinds_of tokens) n lt brackets.shallow (brackets.too_deep lt) (subst (λ ts. Runs command_form ts (Ok [])) (sym (take-kinds_of n tokens)) run)))
       (cases_eq n (length tokens))
 
-  read_some : (rest : List Token) (written : Written) → IsFull written → Runs command_form (kinds_of (take n tokens)) (Ok (kinds_of rest)) → pieces_of (take n tokens) ≡ spelling written ++ pieces_of rest → Answered line tokens
+  read_some : (rest : List Token) (written : Written) → IsFull written → Runs command_form (kinds_of (take n tokens)) (Ok (kinds_of rest)) → lexemes_of (take n tokens) ≡ spelling written ++ lexemes_of rest → Answered line tokens
   read_some [] written full run spelled = read_all written full run (spelled ∙ append-nil (spelling written))
   read_some (token ∷ rest) written full run spelled = stopped (kinds_of (token ∷ rest)) (inl (omega arith, run))
 
@@ -77,7 +77,7 @@ module _ (line : List ℕ) (tokens : List Token) (told : AreToldOf line (pieces_
   answered (inl found) = read_some found.0 found.2.0 found.2.2 found.1 found.2.1.spelled
   answered (inr stop) = stopped stop.0 (inr stop.1)
 
-parsed : (line : List ℕ) (tokens : List Token) → AreToldOf line (pieces_of tokens) → Answered line tokens
+parsed : (line : List ℕ) (tokens : List Token) → AreToldOf line (lexemes_of tokens) → Answered line tokens
 parsed line tokens told = let count = shallow_count (kinds_of tokens) in answered line tokens told count.0 count.1 (read_whole (take count.0 tokens))
 
 -- a line's answer, whose command keeps to what a command keeps to

@@ -14,7 +14,7 @@ use Rattle.rs_value.specs.Row.{Datum, null, number, text, Row}
 use Rattle.rs_grammar.specs.declared.kind.TokenKind.{TokenKind}
 use Rattle.rs_grammar.specs.Grammar.{IsCommand, IsViable, IsShallow}
 use Rattle.rs_lexer.specs.declared.token.Token.{Token}
-use Rattle.rs_lexer.specs.Lexis.{text_of, kinds_of}
+use Rattle.rs_lexer.specs.Lexis.{token_text, kinds_of}
 use Rattle.rs_lexer.proofs.CutLaws.{cut_same}
 use Rattle.rs_syntax.specs.declared.written.WrittenType.{WrittenType}
 use Rattle.rs_syntax.specs.declared.written.WrittenType.TheVariants as written_types
@@ -23,10 +23,10 @@ use Rattle.rs_syntax.specs.declared.written.WrittenValue.{WrittenValue}
 use Rattle.rs_syntax.specs.declared.written.WrittenValue.TheVariants as written_values
 use Rattle.rs_syntax.specs.declared.written.WrittenPosition.{WrittenPosition}
 use Rattle.rs_syntax.specs.declared.written.WrittenPosition.TheVariants as written_positions
-use Rattle.rs_syntax.specs.declared.written.WrittenPlace.{WrittenPlace}
-use Rattle.rs_syntax.specs.declared.written.WrittenPlace.TheVariants as written_places
-use Rattle.rs_syntax.specs.Tree.{PlaceTree, along, CommandTree, define_route, define_table, define_referent, move_referent, insert, translate}
-use Rattle.rs_syntax.specs.Written.{Written, written_route, written_table, written_referent, written_move, written_drop, written_insert, written_translate, written_select, SaysType, SaysColumns, SaysDatum, SaysRow, SaysPosition, SaysPlace, Says}
+use Rattle.rs_syntax.specs.declared.written.WrittenLocation.{WrittenLocation}
+use Rattle.rs_syntax.specs.declared.written.WrittenLocation.TheVariants as written_locations
+use Rattle.rs_syntax.specs.Tree.{EventLocationTree, along, CommandTree, define_route, define_table, define_referent, move_referent, insert, translate}
+use Rattle.rs_syntax.specs.Written.{Written, written_route, written_table, written_referent, written_move, written_drop, written_insert, written_translate, written_select, SaysType, SaysColumns, SaysDatum, SaysRow, SaysPosition, SaysLocation, Says}
 use Rattle.rs_syntax.specs.Verdict.{fault_column, FitsNoRule, Parses, is_fault, is_command, is_out_of_range, Reads, has_no_tokens, has_tokens}
 use Rattle.rs_syntax.proofs.BracketLaws.{is_shallow-front}
 use Rattle.rs_syntax.proofs.SpellingLaws.{written_same}
@@ -122,35 +122,35 @@ says_row_same line (w ∷ ws) (x ∷ xs) (y ∷ ys) p q =
     ap (λ d. d ∷ xs) (says_datum_same line w x y p.0 q.0) ∙ ap (λ zs. y ∷ zs) (says_row_same line ws xs ys p.1 q.1)
 
 says_position_same : Readings → (line : List ℕ) (w : WrittenPosition) (a b : PositionExpression) → SaysPosition line w a → SaysPosition line w b → a ≡ b
-says_position_same one line (written_positions.Measure token) a b p q = p.2 ∙ ap absolute (one.measures (text_of line token) p.0 q.0 p.1 q.1) ∙ sym q.2
-says_position_same one line (written_positions.Percentage token) a b p q = p.2 ∙ ap interpolative (one.parts (text_of line token) p.0 q.0 p.1 q.1) ∙ sym q.2
+says_position_same one line (written_positions.Measure token) a b p q = p.2 ∙ ap absolute (one.measures (token_text line token) p.0 q.0 p.1 q.1) ∙ sym q.2
+says_position_same one line (written_positions.Percentage token) a b p q = p.2 ∙ ap interpolative (one.parts (token_text line token) p.0 q.0 p.1 q.1) ∙ sym q.2
 says_position_same one line (written_positions.Referent name) a b p q = p ∙ sym q
-says_position_same one line (written_positions.Beyond name token) a b p q = p.2 ∙ ap (beyond (text_of line name)) (one.measures (text_of line token) p.0 q.0 p.1 q.1) ∙ sym q.2
-says_position_same one line (written_positions.Before name token) a b p q = p.2 ∙ ap (before (text_of line name)) (one.measures (text_of line token) p.0 q.0 p.1 q.1) ∙ sym q.2
+says_position_same one line (written_positions.Beyond name token) a b p q = p.2 ∙ ap (beyond (token_text line name)) (one.measures (token_text line token) p.0 q.0 p.1 q.1) ∙ sym q.2
+says_position_same one line (written_positions.Before name token) a b p q = p.2 ∙ ap (before (token_text line name)) (one.measures (token_text line token) p.0 q.0 p.1 q.1) ∙ sym q.2
 
-says_place_same : Readings → (line : List ℕ) (w : WrittenPlace) (a b : PlaceTree) → SaysPlace line w a → SaysPlace line w b → a ≡ b
-says_place_same one line (written_places.Along from to) (along a b) (along c d) p q =
+says_location_same : Readings → (line : List ℕ) (w : WrittenLocation) (a b : EventLocationTree) → SaysLocation line w a → SaysLocation line w b → a ≡ b
+says_location_same one line (written_locations.Along from to) (along a b) (along c d) p q =
     ap (λ x. along x b) (says_position_same one line from a c p.0 q.0) ∙ ap (along c) (says_position_same one line to b d p.1 q.1)
 
 says_same : Readings → (line : List ℕ) (w : Written) (a b : CommandTree) → Says line w a → Says line w b → a ≡ b
 says_same one line (written_route n s f) a b p q =
     p.4
-    ∙ ap (λ from. define_route (text_of line n) from p.1) (one.measures (text_of line s) p.0 q.0 p.2 q.2)
-    ∙ ap (define_route (text_of line n) q.0) (one.measures (text_of line f) p.1 q.1 p.3 q.3)
+    ∙ ap (λ from. define_route (token_text line n) from p.1) (one.measures (token_text line s) p.0 q.0 p.2 q.2)
+    ∙ ap (define_route (token_text line n) q.0) (one.measures (token_text line f) p.1 q.1 p.3 q.3)
     ∙ sym q.4
-says_same one line (written_table n cs) a b p q = p.2 ∙ ap (define_table Line (text_of line n)) (says_columns_same line cs p.0 q.0 p.1 q.1) ∙ sym q.2
+says_same one line (written_table n cs) a b p q = p.2 ∙ ap (define_table Line (token_text line n)) (says_columns_same line cs p.0 q.0 p.1 q.1) ∙ sym q.2
 says_same one line (written_referent r n w) a b p q =
-    p.2 ∙ ap (define_referent (text_of line r) (text_of line n)) (says_position_same one line w p.0 q.0 p.1 q.1) ∙ sym q.2
+    p.2 ∙ ap (define_referent (token_text line r) (token_text line n)) (says_position_same one line w p.0 q.0 p.1 q.1) ∙ sym q.2
 says_same one line (written_move r n w) a b p q =
-    p.2 ∙ ap (move_referent (text_of line r) (text_of line n)) (says_position_same one line w p.0 q.0 p.1 q.1) ∙ sym q.2
+    p.2 ∙ ap (move_referent (token_text line r) (token_text line n)) (says_position_same one line w p.0 q.0 p.1 q.1) ∙ sym q.2
 says_same one line (written_drop r n) a b p q = p ∙ sym q
 says_same one line (written_insert t r w vs) a b p q =
     p.4
-    ∙ ap (λ place. insert (text_of line t) (text_of line r) place p.1) (says_place_same one line w p.0 q.0 p.2 q.2)
-    ∙ ap (insert (text_of line t) (text_of line r) q.0) (says_row_same line vs p.1 q.1 p.3 q.3)
+    ∙ ap (λ place. insert (token_text line t) (token_text line r) place p.1) (says_location_same one line w p.0 q.0 p.2 q.2)
+    ∙ ap (insert (token_text line t) (token_text line r) q.0) (says_row_same line vs p.1 q.1 p.3 q.3)
     ∙ sym q.4
 says_same one line (written_translate r w m) a b p q =
-    p.2 ∙ ap (λ position. translate (text_of line r) position m) (says_position_same one line w p.0 q.0 p.1 q.1) ∙ sym q.2
+    p.2 ∙ ap (λ position. translate (token_text line r) position m) (says_position_same one line w p.0 q.0 p.1 q.1) ∙ sym q.2
 says_same one line (written_select n m) a b p q = p ∙ sym q
 
 parses_same : Readings → (line : List ℕ) (tokens : List Token) {a b : Result CommandTree Refusal} → Parses line tokens a → Parses line tokens b → a ≡ b

@@ -17,7 +17,7 @@ use Rattle.rs_value.specs.declared.column.ColumnType.{ColumnType}
 use Rattle.rs_value.specs.declared.column.ColumnType.TheVariants as types
 use Rattle.rs_value.specs.Row.{Datum, null, number, text, Row}
 use Rattle.rs_lexer.specs.declared.token.Token.{Token}
-use Rattle.rs_lexer.specs.Lexis.{text_of}
+use Rattle.rs_lexer.specs.Lexis.{token_text}
 use Rattle.rs_syntax.specs.declared.written.WrittenType.{WrittenType}
 use Rattle.rs_syntax.specs.declared.written.WrittenType.TheVariants as written_types
 use Rattle.rs_syntax.specs.declared.written.WrittenColumn.{WrittenColumn}
@@ -25,60 +25,60 @@ use Rattle.rs_syntax.specs.declared.written.WrittenValue.{WrittenValue}
 use Rattle.rs_syntax.specs.declared.written.WrittenValue.TheVariants as written_values
 use Rattle.rs_syntax.specs.declared.written.WrittenPosition.{WrittenPosition}
 use Rattle.rs_syntax.specs.declared.written.WrittenPosition.TheVariants as written_positions
-use Rattle.rs_syntax.specs.declared.written.WrittenPlace.{WrittenPlace}
-use Rattle.rs_syntax.specs.declared.written.WrittenPlace.TheVariants as written_places
-use Rattle.rs_syntax.specs.Tree.{PlaceTree, along, named, define_route, define_table, define_referent, move_referent, drop_referent, insert, translate, select}
-use Rattle.rs_syntax.specs.Written.{Written, written_route, written_table, written_referent, written_move, written_drop, written_insert, written_translate, written_select, unquoted, signed, SaysType, SaysColumns, SaysDatum, SaysRow, SaysPosition, SaysPlace, Says}
+use Rattle.rs_syntax.specs.declared.written.WrittenLocation.{WrittenLocation}
+use Rattle.rs_syntax.specs.declared.written.WrittenLocation.TheVariants as written_locations
+use Rattle.rs_syntax.specs.Tree.{EventLocationTree, along, named, define_route, define_table, define_referent, move_referent, drop_referent, insert, translate, select}
+use Rattle.rs_syntax.specs.Written.{Written, written_route, written_table, written_referent, written_move, written_drop, written_insert, written_translate, written_select, unquoted, signed, SaysType, SaysColumns, SaysDatum, SaysRow, SaysPosition, SaysLocation, Says}
 
 -- A position.
-measure_position : (line : List ℕ) (token : Token) → Cases (SaysMeasure (text_of line token)) → Cases (SaysPosition line (written_positions.Measure token))
+measure_position : (line : List ℕ) (token : Token) → Cases (SaysMeasure (token_text line token)) → Cases (SaysPosition line (written_positions.Measure token))
 measure_position line token (inl said) = inl (absolute said.0, (said.0, said.1, refl))
 measure_position line token (inr none) = inr (λ p says. none says.0 says.1)
 
-part_position : (line : List ℕ) (token : Token) → Cases (SaysPart (text_of line token)) → Cases (SaysPosition line (written_positions.Percentage token))
+part_position : (line : List ℕ) (token : Token) → Cases (SaysPart (token_text line token)) → Cases (SaysPosition line (written_positions.Percentage token))
 part_position line token (inl said) = inl (interpolative said.0, (said.0, said.1, refl))
 part_position line token (inr none) = inr (λ p says. none says.0 says.1)
 
-beyond_position : (line : List ℕ) (name token : Token) → Cases (SaysMeasure (text_of line token)) → Cases (SaysPosition line (written_positions.Beyond name token))
-beyond_position line name token (inl said) = inl (beyond (text_of line name) said.0, (said.0, said.1, refl))
+beyond_position : (line : List ℕ) (name token : Token) → Cases (SaysMeasure (token_text line token)) → Cases (SaysPosition line (written_positions.Beyond name token))
+beyond_position line name token (inl said) = inl (beyond (token_text line name) said.0, (said.0, said.1, refl))
 beyond_position line name token (inr none) = inr (λ p says. none says.0 says.1)
 
-before_position : (line : List ℕ) (name token : Token) → Cases (SaysMeasure (text_of line token)) → Cases (SaysPosition line (written_positions.Before name token))
-before_position line name token (inl said) = inl (before (text_of line name) said.0, (said.0, said.1, refl))
+before_position : (line : List ℕ) (name token : Token) → Cases (SaysMeasure (token_text line token)) → Cases (SaysPosition line (written_positions.Before name token))
+before_position line name token (inl said) = inl (before (token_text line name) said.0, (said.0, said.1, refl))
 before_position line name token (inr none) = inr (λ p says. none says.0 says.1)
 
 position_cases : (line : List ℕ) (w : WrittenPosition) → Cases (SaysPosition line w)
-position_cases line (written_positions.Measure token) = measure_position line token (measure_cases (text_of line token))
-position_cases line (written_positions.Percentage token) = part_position line token (part_cases (text_of line token))
-position_cases line (written_positions.Referent name) = inl (beyond (text_of line name) 0, refl)
-position_cases line (written_positions.Beyond name token) = beyond_position line name token (measure_cases (text_of line token))
-position_cases line (written_positions.Before name token) = before_position line name token (measure_cases (text_of line token))
+position_cases line (written_positions.Measure token) = measure_position line token (measure_cases (token_text line token))
+position_cases line (written_positions.Percentage token) = part_position line token (part_cases (token_text line token))
+position_cases line (written_positions.Referent name) = inl (beyond (token_text line name) 0, refl)
+position_cases line (written_positions.Beyond name token) = beyond_position line name token (measure_cases (token_text line token))
+position_cases line (written_positions.Before name token) = before_position line name token (measure_cases (token_text line token))
 
-no_place : (line : List ℕ) (from to : WrittenPosition) → ((a b : PositionExpression) → SaysPosition line from a → SaysPosition line to b → ⊥) → (place : PlaceTree) → SaysPlace line (written_places.Along from to) place → ⊥
+no_place : (line : List ℕ) (from to : WrittenPosition) → ((a b : PositionExpression) → SaysPosition line from a → SaysPosition line to b → ⊥) → (place : EventLocationTree) → SaysLocation line (written_locations.Along from to) place → ⊥
 no_place line from to none (along a b) says = none a b says.0 says.1
 
-place_of : (line : List ℕ) (from to : WrittenPosition) → Cases (SaysPosition line from) → Cases (SaysPosition line to) → Cases (SaysPlace line (written_places.Along from to))
+place_of : (line : List ℕ) (from to : WrittenPosition) → Cases (SaysPosition line from) → Cases (SaysPosition line to) → Cases (SaysLocation line (written_locations.Along from to))
 place_of line from to (inl a) (inl b) = inl (along a.0 b.0, (a.1, b.1))
 place_of line from to (inl a) (inr none) = inr (no_place line from to (λ x y p q. none y q))
 place_of line from to (inr none) b = inr (no_place line from to (λ x y p q. none x p))
 
-place_cases : (line : List ℕ) (w : WrittenPlace) → Cases (SaysPlace line w)
-place_cases line (written_places.Along from to) = place_of line from to (position_cases line from) (position_cases line to)
+location_cases : (line : List ℕ) (w : WrittenLocation) → Cases (SaysLocation line w)
+location_cases line (written_locations.Along from to) = place_of line from to (position_cases line from) (position_cases line to)
 
 -- The columns of a table.
-no_type : (line : List ℕ) (token : Token) → (1 ≤ number_of_digits (text_of line token) → number_of_digits (text_of line token) ≤ TEXT_BYTES → ⊥) → (t : ColumnType) → SaysType line (written_types.Text token) t → ⊥
+no_type : (line : List ℕ) (token : Token) → (1 ≤ number_of_digits (token_text line token) → number_of_digits (token_text line token) ≤ TEXT_BYTES → ⊥) → (t : ColumnType) → SaysType line (written_types.Text token) t → ⊥
 no_type line token none types.Int says = says
 no_type line token none (types.Text most) says = none (subst (λ m. 1 ≤ m) says.0 says.1) (subst (λ m. m ≤ TEXT_BYTES) says.0 says.2)
 
-text_type : (line : List ℕ) (token : Token) → (number_of_digits (text_of line token) < 1) ⊎ (1 ≤ number_of_digits (text_of line token)) → (TEXT_BYTES < number_of_digits (text_of line token)) ⊎ (number_of_digits (text_of line token) ≤ TEXT_BYTES)
+text_type : (line : List ℕ) (token : Token) → (number_of_digits (token_text line token) < 1) ⊎ (1 ≤ number_of_digits (token_text line token)) → (TEXT_BYTES < number_of_digits (token_text line token)) ⊎ (number_of_digits (token_text line token) ≤ TEXT_BYTES)
     → Cases (SaysType line (written_types.Text token))
 text_type line token (inl none) many = inr (no_type line token (λ low high. omega arith))
 text_type line token (inr some) (inl many) = inr (no_type line token (λ low high. omega arith))
-text_type line token (inr some) (inr few) = inl (types.Text (number_of_digits (text_of line token)), (refl, some, few))
+text_type line token (inr some) (inr few) = inl (types.Text (number_of_digits (token_text line token)), (refl, some, few))
 
 type_cases : (line : List ℕ) (w : WrittenType) → Cases (SaysType line w)
 type_cases line written_types.Int = inl (types.Int, tt)
-type_cases line (written_types.Text token) = text_type line token (cases_lt (number_of_digits (text_of line token)) 1) (cases_lt TEXT_BYTES (number_of_digits (text_of line token)))
+type_cases line (written_types.Text token) = text_type line token (cases_lt (number_of_digits (token_text line token)) 1) (cases_lt TEXT_BYTES (number_of_digits (token_text line token)))
 
 abbrev Columns : Type 0
 Columns = List (List ℕ × ColumnType)
@@ -88,7 +88,7 @@ no_columns line w ws none [] says = says
 no_columns line w ws none (column ∷ columns) says = none column.1 columns says.1 says.2
 
 more_columns : (line : List ℕ) (w : WrittenColumn) (ws : List WrittenColumn) → Cases (SaysType line w.column_type) → Cases (SaysColumns line ws) → Cases (SaysColumns line (w ∷ ws))
-more_columns line w ws (inl t) (inl others) = inl ((text_of line w.name, t.0) ∷ others.0, (refl, t.1, others.1))
+more_columns line w ws (inl t) (inl others) = inl ((token_text line w.name, t.0) ∷ others.0, (refl, t.1, others.1))
 more_columns line w ws (inl t) (inr none) = inr (no_columns line w ws (λ s others p q. none others q))
 more_columns line w ws (inr none) others = inr (no_columns line w ws (λ s others p q. none s p))
 
@@ -97,19 +97,19 @@ columns_cases line [] = inl ([], tt)
 columns_cases line (w ∷ ws) = more_columns line w ws (type_cases line w.column_type) (columns_cases line ws)
 
 -- The values of a row.
-no_number : (line : List ℕ) (is_negative : Bool) (digits : Token) → 10 ^ 12 < number_of_digits (text_of line digits) → (datum : Datum) → SaysDatum line (written_values.Whole is_negative digits) datum → ⊥
+no_number : (line : List ℕ) (is_negative : Bool) (digits : Token) → 10 ^ 12 < number_of_digits (token_text line digits) → (datum : Datum) → SaysDatum line (written_values.Whole is_negative digits) datum → ⊥
 no_number line is_negative digits above null says = says
 no_number line is_negative digits above (number n) says = omega (arith, says.0)
 no_number line is_negative digits above (text bytes) says = says
 
-whole_datum : (line : List ℕ) (is_negative : Bool) (digits : Token) → (10 ^ 12 < number_of_digits (text_of line digits)) ⊎ (number_of_digits (text_of line digits) ≤ 10 ^ 12) → Cases (SaysDatum line (written_values.Whole is_negative digits))
+whole_datum : (line : List ℕ) (is_negative : Bool) (digits : Token) → (10 ^ 12 < number_of_digits (token_text line digits)) ⊎ (number_of_digits (token_text line digits) ≤ 10 ^ 12) → Cases (SaysDatum line (written_values.Whole is_negative digits))
 whole_datum line is_negative digits (inl above) = inr (no_number line is_negative digits above)
-whole_datum line is_negative digits (inr within) = inl (number (signed is_negative (number_of_digits (text_of line digits))), (within, refl))
+whole_datum line is_negative digits (inr within) = inl (number (signed is_negative (number_of_digits (token_text line digits))), (within, refl))
 
 datum_cases : (line : List ℕ) (w : WrittenValue) → Cases (SaysDatum line w)
 datum_cases line written_values.Null = inl (null, tt)
-datum_cases line (written_values.Whole is_negative digits) = whole_datum line is_negative digits (cases_lt (10 ^ 12) (number_of_digits (text_of line digits)))
-datum_cases line (written_values.Quoted quoted) = inl (text (unquoted (text_of line quoted)), refl)
+datum_cases line (written_values.Whole is_negative digits) = whole_datum line is_negative digits (cases_lt (10 ^ 12) (number_of_digits (token_text line digits)))
+datum_cases line (written_values.Quoted quoted) = inl (text (unquoted (token_text line quoted)), refl)
 
 no_row : (line : List ℕ) (w : WrittenValue) (ws : List WrittenValue) → ((datum : Datum) (others : Row) → SaysDatum line w datum → SaysRow line ws others → ⊥) → (row : Row) → SaysRow line (w ∷ ws) row → ⊥
 no_row line w ws none [] says = says
@@ -125,38 +125,38 @@ row_cases line [] = inl ([], tt)
 row_cases line (w ∷ ws) = more_row line w ws (datum_cases line w) (row_cases line ws)
 
 -- The command.
-route_of : (line : List ℕ) (n s f : Token) → Cases (SaysMeasure (text_of line s)) → Cases (SaysMeasure (text_of line f)) → Cases (Says line (written_route n s f))
-route_of line n s f (inl a) (inl b) = inl (define_route (text_of line n) a.0 b.0, (a.0, b.0, a.1, b.1, refl))
+route_of : (line : List ℕ) (n s f : Token) → Cases (SaysMeasure (token_text line s)) → Cases (SaysMeasure (token_text line f)) → Cases (Says line (written_route n s f))
+route_of line n s f (inl a) (inl b) = inl (define_route (token_text line n) a.0 b.0, (a.0, b.0, a.1, b.1, refl))
 route_of line n s f (inl a) (inr none) = inr (λ tree says. none says.1 says.3)
 route_of line n s f (inr none) b = inr (λ tree says. none says.0 says.2)
 
 table_of : (line : List ℕ) (n : Token) (ws : List WrittenColumn) → Cases (SaysColumns line ws) → Cases (Says line (written_table n ws))
-table_of line n ws (inl columns) = inl (define_table Line (text_of line n) columns.0, (columns.0, columns.1, refl))
+table_of line n ws (inl columns) = inl (define_table Line (token_text line n) columns.0, (columns.0, columns.1, refl))
 table_of line n ws (inr none) = inr (λ tree says. none says.0 says.1)
 
 referent_of : (line : List ℕ) (r n : Token) (w : WrittenPosition) → Cases (SaysPosition line w) → Cases (Says line (written_referent r n w))
-referent_of line r n w (inl position) = inl (define_referent (text_of line r) (text_of line n) position.0, (position.0, position.1, refl))
+referent_of line r n w (inl position) = inl (define_referent (token_text line r) (token_text line n) position.0, (position.0, position.1, refl))
 referent_of line r n w (inr none) = inr (λ tree says. none says.0 says.1)
 
 move_of : (line : List ℕ) (r n : Token) (w : WrittenPosition) → Cases (SaysPosition line w) → Cases (Says line (written_move r n w))
-move_of line r n w (inl position) = inl (move_referent (text_of line r) (text_of line n) position.0, (position.0, position.1, refl))
+move_of line r n w (inl position) = inl (move_referent (token_text line r) (token_text line n) position.0, (position.0, position.1, refl))
 move_of line r n w (inr none) = inr (λ tree says. none says.0 says.1)
 
-insert_of : (line : List ℕ) (t r : Token) (w : WrittenPlace) (ws : List WrittenValue) → Cases (SaysPlace line w) → Cases (SaysRow line ws) → Cases (Says line (written_insert t r w ws))
-insert_of line t r w ws (inl place) (inl row) = inl (insert (text_of line t) (text_of line r) place.0 row.0, (place.0, row.0, place.1, row.1, refl))
+insert_of : (line : List ℕ) (t r : Token) (w : WrittenLocation) (ws : List WrittenValue) → Cases (SaysLocation line w) → Cases (SaysRow line ws) → Cases (Says line (written_insert t r w ws))
+insert_of line t r w ws (inl place) (inl row) = inl (insert (token_text line t) (token_text line r) place.0 row.0, (place.0, row.0, place.1, row.1, refl))
 insert_of line t r w ws (inl place) (inr none) = inr (λ tree says. none says.1 says.3)
 insert_of line t r w ws (inr none) row = inr (λ tree says. none says.0 says.2)
 
 translate_of : (line : List ℕ) (r : Token) (w : WrittenPosition) (m : Method) → Cases (SaysPosition line w) → Cases (Says line (written_translate r w m))
-translate_of line r w m (inl position) = inl (translate (text_of line r) position.0 m, (position.0, position.1, refl))
+translate_of line r w m (inl position) = inl (translate (token_text line r) position.0 m, (position.0, position.1, refl))
 translate_of line r w m (inr none) = inr (λ tree says. none says.0 says.1)
 
 pub says_cases : (line : List ℕ) (w : Written) → Cases (Says line w)
-says_cases line (written_route n s f) = route_of line n s f (measure_cases (text_of line s)) (measure_cases (text_of line f))
+says_cases line (written_route n s f) = route_of line n s f (measure_cases (token_text line s)) (measure_cases (token_text line f))
 says_cases line (written_table n ws) = table_of line n ws (columns_cases line ws)
 says_cases line (written_referent r n w) = referent_of line r n w (position_cases line w)
 says_cases line (written_move r n w) = move_of line r n w (position_cases line w)
-says_cases line (written_drop r n) = inl (drop_referent (text_of line r) (text_of line n), refl)
-says_cases line (written_insert t r w ws) = insert_of line t r w ws (place_cases line w) (row_cases line ws)
+says_cases line (written_drop r n) = inl (drop_referent (token_text line r) (token_text line n), refl)
+says_cases line (written_insert t r w ws) = insert_of line t r w ws (location_cases line w) (row_cases line ws)
 says_cases line (written_translate r w m) = translate_of line r w m (position_cases line w)
-says_cases line (written_select n m) = inl (select (named (text_of line n)) (unwrap_or m methods.Absolute), refl)
+says_cases line (written_select n m) = inl (select (named (token_text line n)) (unwrap_or m methods.Absolute), refl)

@@ -19,16 +19,16 @@ use Rattle.rs_syntax.specs.declared.written.WrittenColumn.{WrittenColumn}
 use Rattle.rs_syntax.specs.declared.written.WrittenValue.{WrittenValue}
 use Rattle.rs_syntax.specs.declared.written.WrittenValue.TheVariants as written_values
 use Rattle.rs_grammar.specs.Words.{is_word_byte}
-use Rattle.rs_lexer.specs.Lexis.{text_of, IsTokenOf}
+use Rattle.rs_lexer.specs.Lexis.{token_text, IsTokenOf}
 use Rattle.rs_methods.specs.Position.{PositionExpression}
 use Rattle.rs_syntax.specs.declared.written.WrittenPosition.{WrittenPosition}
 use Rattle.rs_syntax.specs.declared.written.WrittenPosition.TheVariants as written_positions
-use Rattle.rs_syntax.specs.declared.written.WrittenPlace.{WrittenPlace}
-use Rattle.rs_syntax.specs.declared.written.WrittenPlace.TheVariants as written_places
-use Rattle.rs_syntax.specs.Tree.{PlaceTree, along, CommandTree}
-use Rattle.rs_syntax.specs.Written.{Written, written_route, written_table, written_referent, written_move, written_drop, written_insert, written_translate, written_select, mark, column_pieces, position_pieces, place_pieces, value_pieces, further_pieces, list_pieces, spelling, signed, SaysType, SaysColumns, SaysDatum, SaysRow, SaysPosition, SaysPlace, Says, AreToldOf, IsFull}
+use Rattle.rs_syntax.specs.declared.written.WrittenLocation.{WrittenLocation}
+use Rattle.rs_syntax.specs.declared.written.WrittenLocation.TheVariants as written_locations
+use Rattle.rs_syntax.specs.Tree.{EventLocationTree, along, CommandTree}
+use Rattle.rs_syntax.specs.Written.{Written, written_route, written_table, written_referent, written_move, written_drop, written_insert, written_translate, written_select, mark, column_lexemes, position_lexemes, location_lexemes, value_lexemes, further_lexemes, list_lexemes, spelling, signed, SaysType, SaysColumns, SaysDatum, SaysRow, SaysPosition, SaysLocation, Says, AreToldOf, IsFull}
 use Rattle.rs_value.specs.Values.{is_text, IsValue, AreValues}
-use Rattle.rs_syntax.specs.Sound.{IsName, IsColumnType, AreColumns, IsMeasure, IsPosition, IsPlace, IsSound}
+use Rattle.rs_syntax.specs.Sound.{IsName, IsColumnType, AreColumns, IsMeasure, IsPosition, IsEventLocation, IsSound}
 use Rattle.rs_lexer.proofs.TokenLaws.{is_word, IsNameText, name_tells}
 use Rattle.rs_syntax.proofs.ToldLaws.{AreToldOf-append}
 use Rattle.rs_syntax.proofs.CleanTexts.{quoted_is_text}
@@ -40,8 +40,8 @@ word_of (byte ∷ bytes) is = and_parts (is_ascii_alphabetic byte) (list_all is_
 name_of : (bytes : List ℕ) → IsNameText bytes → IsName bytes
 name_of bytes is = record { word = word_of bytes is.word; short = is.short; not_reserved = is.free }
 
-name_sound : (line : List ℕ) (token : Token) (name : List ℕ) → IsTokenOf line token × (token.kind ≡ kinds.Name) → name ≡ text_of line token → IsName name
-name_sound line token name is same = subst IsName (sym same) (name_of (text_of line token) (name_tells line token is.0 is.1))
+name_sound : (line : List ℕ) (token : Token) (name : List ℕ) → IsTokenOf line token × (token.kind ≡ kinds.Name) → name ≡ token_text line token → IsName name
+name_sound line token name is same = subst IsName (sym same) (name_of (token_text line token) (name_tells line token is.0 is.1))
 
 type_sound : (line : List ℕ) (w : WrittenType) (t : ColumnType) → SaysType line w t → IsColumnType t
 type_sound line written_types.Int types.Int says = tt
@@ -52,15 +52,15 @@ type_sound line (written_types.Text token) (types.Text n) says = (says.1, says.2
 -- the tokens of each column
 abbrev EachTold : List ℕ → List WrittenColumn → Type 0
 EachTold line [] = Unit {0}
-EachTold line (w ∷ ws) = AreToldOf line (column_pieces w) × EachTold line ws
+EachTold line (w ∷ ws) = AreToldOf line (column_lexemes w) × EachTold line ws
 
-each_further : (line : List ℕ) (ws : List WrittenColumn) → AreToldOf line (further_pieces column_pieces ws) → EachTold line ws
+each_further : (line : List ℕ) (ws : List WrittenColumn) → AreToldOf line (further_lexemes column_lexemes ws) → EachTold line ws
 each_further line [] all = tt
-each_further line (w ∷ ws) all = let p = AreToldOf-append line (column_pieces w) (further_pieces column_pieces ws) all.1 in (p.0, each_further line ws p.1)
+each_further line (w ∷ ws) all = let p = AreToldOf-append line (column_lexemes w) (further_lexemes column_lexemes ws) all.1 in (p.0, each_further line ws p.1)
 
-each_told : (line : List ℕ) (ws : List WrittenColumn) → AreToldOf line (list_pieces column_pieces ws) → EachTold line ws
+each_told : (line : List ℕ) (ws : List WrittenColumn) → AreToldOf line (list_lexemes column_lexemes ws) → EachTold line ws
 each_told line [] all = tt
-each_told line (w ∷ ws) all = let p = AreToldOf-append line (column_pieces w) (further_pieces column_pieces ws) all in (p.0, each_further line ws p.1)
+each_told line (w ∷ ws) all = let p = AreToldOf-append line (column_lexemes w) (further_lexemes column_lexemes ws) all in (p.0, each_further line ws p.1)
 
 columns_sound : (line : List ℕ) (ws : List WrittenColumn) (columns : List (List ℕ × ColumnType)) → EachTold line ws → SaysColumns line ws columns → AreColumns columns
 columns_sound line [] [] each says = tt
@@ -83,7 +83,7 @@ nat_abs-signed : (is_negative : Bool) (n : ℕ) → nat_abs (signed is_negative 
 nat_abs-signed true n = nat_abs-neg n
 nat_abs-signed false n = refl
 
-datum_sound : (line : List ℕ) (w : WrittenValue) (datum : Datum) → IsTrue (is_text line) → AreToldOf line (value_pieces w) → SaysDatum line w datum → IsValue datum
+datum_sound : (line : List ℕ) (w : WrittenValue) (datum : Datum) → IsTrue (is_text line) → AreToldOf line (value_lexemes w) → SaysDatum line w datum → IsValue datum
 datum_sound line w null clean told says = tt
 datum_sound line written_values.Null (text bytes) clean told says = absurd says
 datum_sound line (written_values.Quoted quoted) (text bytes) clean told says = subst (λ bs. IsTrue (is_text bs)) (sym says) (quoted_is_text line quoted told.0.0 clean)
@@ -91,20 +91,20 @@ datum_sound line (written_values.Whole is_negative digits) (text bytes) clean to
 datum_sound line written_values.Null (number n) clean told says = absurd says
 datum_sound line (written_values.Quoted quoted) (number n) clean told says = absurd says
 datum_sound line (written_values.Whole is_negative digits) (number n) clean told says =
-    subst (λ m. m ≤ 10 ^ 12) (sym (ap nat_abs says.1 ∙ nat_abs-signed is_negative (number_of_digits (text_of line digits)))) says.0
+    subst (λ m. m ≤ 10 ^ 12) (sym (ap nat_abs says.1 ∙ nat_abs-signed is_negative (number_of_digits (token_text line digits)))) says.0
 
 -- the tokens of each value
 abbrev ValuesTold : List ℕ → List WrittenValue → Type 0
 ValuesTold line [] = Unit {0}
-ValuesTold line (w ∷ ws) = AreToldOf line (value_pieces w) × ValuesTold line ws
+ValuesTold line (w ∷ ws) = AreToldOf line (value_lexemes w) × ValuesTold line ws
 
-further_values : (line : List ℕ) (ws : List WrittenValue) → AreToldOf line (further_pieces value_pieces ws) → ValuesTold line ws
+further_values : (line : List ℕ) (ws : List WrittenValue) → AreToldOf line (further_lexemes value_lexemes ws) → ValuesTold line ws
 further_values line [] all = tt
-further_values line (w ∷ ws) all = let p = AreToldOf-append line (value_pieces w) (further_pieces value_pieces ws) all.1 in (p.0, further_values line ws p.1)
+further_values line (w ∷ ws) all = let p = AreToldOf-append line (value_lexemes w) (further_lexemes value_lexemes ws) all.1 in (p.0, further_values line ws p.1)
 
-values_told : (line : List ℕ) (ws : List WrittenValue) → AreToldOf line (list_pieces value_pieces ws) → ValuesTold line ws
+values_told : (line : List ℕ) (ws : List WrittenValue) → AreToldOf line (list_lexemes value_lexemes ws) → ValuesTold line ws
 values_told line [] all = tt
-values_told line (w ∷ ws) all = let p = AreToldOf-append line (value_pieces w) (further_pieces value_pieces ws) all in (p.0, further_values line ws p.1)
+values_told line (w ∷ ws) all = let p = AreToldOf-append line (value_lexemes w) (further_lexemes value_lexemes ws) all in (p.0, further_values line ws p.1)
 
 row_sound : (line : List ℕ) (ws : List WrittenValue) (row : Row) → IsTrue (is_text line) → ValuesTold line ws → SaysRow line ws row → AreValues row
 row_sound line ws [] clean each says = tt
@@ -120,62 +120,62 @@ row_length line (w ∷ ws) (datum ∷ row) says = ap suc (row_length line ws row
 measure_sound : (bytes : List ℕ) (measure : ℕ) → SaysMeasure bytes measure → IsMeasure measure
 measure_sound bytes measure says = let below = said_in_range 6 3 bytes measure says in omega (arith, below)
 
-position_sound : (line : List ℕ) (w : WrittenPosition) (p : PositionExpression) → AreToldOf line (position_pieces w) → SaysPosition line w p → IsPosition p
-position_sound line (written_positions.Measure token) p all says = subst IsPosition (sym says.2) (measure_sound (text_of line token) says.0 says.1)
+position_sound : (line : List ℕ) (w : WrittenPosition) (p : PositionExpression) → AreToldOf line (position_lexemes w) → SaysPosition line w p → IsPosition p
+position_sound line (written_positions.Measure token) p all says = subst IsPosition (sym says.2) (measure_sound (token_text line token) says.0 says.1)
 position_sound line (written_positions.Percentage token) p all says = subst IsPosition (sym says.2) says.1.at_most_all
-position_sound line (written_positions.Referent name) p all says = subst IsPosition (sym says) (name_sound line name (text_of line name) all.1.0 refl, omega arith)
+position_sound line (written_positions.Referent name) p all says = subst IsPosition (sym says) (name_sound line name (token_text line name) all.1.0 refl, omega arith)
 position_sound line (written_positions.Beyond name token) p all says =
-    subst IsPosition (sym says.2) (name_sound line name (text_of line name) all.1.0 refl, measure_sound (text_of line token) says.0 says.1)
+    subst IsPosition (sym says.2) (name_sound line name (token_text line name) all.1.0 refl, measure_sound (token_text line token) says.0 says.1)
 position_sound line (written_positions.Before name token) p all says =
-    subst IsPosition (sym says.2) (name_sound line name (text_of line name) all.1.0 refl, measure_sound (text_of line token) says.0 says.1)
+    subst IsPosition (sym says.2) (name_sound line name (token_text line name) all.1.0 refl, measure_sound (token_text line token) says.0 says.1)
 
-place_sound : (line : List ℕ) (w : WrittenPlace) (p : PlaceTree) → AreToldOf line (place_pieces w) → SaysPlace line w p → IsPlace p
-place_sound line (written_places.Along from to) (along first second) all says =
-    let told = AreToldOf-append line (position_pieces from) (mark kinds.To ∷ position_pieces to) all.1 in
+location_sound : (line : List ℕ) (w : WrittenLocation) (p : EventLocationTree) → AreToldOf line (location_lexemes w) → SaysLocation line w p → IsEventLocation p
+location_sound line (written_locations.Along from to) (along first second) all says =
+    let told = AreToldOf-append line (position_lexemes from) (mark kinds.To ∷ position_lexemes to) all.1 in
     (position_sound line from first told.0 says.0, position_sound line to second told.1.1 says.1)
 
 -- what is written in full says a sound command
 pub sound : (line : List ℕ) (w : Written) (tree : CommandTree) → IsTrue (is_text line) → IsFull w → AreToldOf line (spelling w) → Says line w tree → IsSound tree
 sound line (written_route n s f) tree clean full all says =
     subst IsSound (sym says.4) (
-      name_sound line n (text_of line n) all.1.1.0 refl,
-      measure_sound (text_of line s) says.0 says.2,
-      measure_sound (text_of line f) says.1 says.3,
+      name_sound line n (token_text line n) all.1.1.0 refl,
+      measure_sound (token_text line s) says.0 says.2,
+      measure_sound (token_text line f) says.1 says.3,
     )
 sound line (written_table n cs) tree clean full all says =
     let same = columns_length line cs says.0 says.1 in
     subst IsSound (sym says.2) (
-      name_sound line n (text_of line n) all.1.1.1.0 refl,
+      name_sound line n (token_text line n) all.1.1.1.0 refl,
       omega arith,
-      columns_sound line cs says.0 (each_told line cs (AreToldOf-append line (list_pieces column_pieces cs) _ all.1.1.1.1.1).0) says.1,
+      columns_sound line cs says.0 (each_told line cs (AreToldOf-append line (list_lexemes column_lexemes cs) _ all.1.1.1.1.1).0) says.1,
     )
 sound line (written_referent r n p) tree clean full all says =
     subst IsSound (sym says.2) (
-      name_sound line r (text_of line r) all.1.1.0 refl,
-      name_sound line n (text_of line n) all.1.1.1.0 refl,
+      name_sound line r (token_text line r) all.1.1.0 refl,
+      name_sound line n (token_text line n) all.1.1.1.0 refl,
       position_sound line p says.0 all.1.1.1.1.1 says.1,
     )
 sound line (written_move r n p) tree clean full all says =
     subst IsSound (sym says.2) (
-      name_sound line r (text_of line r) all.1.1.0 refl,
-      name_sound line n (text_of line n) all.1.1.1.0 refl,
+      name_sound line r (token_text line r) all.1.1.0 refl,
+      name_sound line n (token_text line n) all.1.1.1.0 refl,
       position_sound line p says.0 all.1.1.1.1.1 says.1,
     )
 sound line (written_drop r n) tree clean full all says =
-    subst IsSound (sym says) (name_sound line r (text_of line r) all.1.1.0 refl, name_sound line n (text_of line n) all.1.1.1.0 refl)
+    subst IsSound (sym says) (name_sound line r (token_text line r) all.1.1.0 refl, name_sound line n (token_text line n) all.1.1.1.0 refl)
 sound line (written_insert t r w vs) tree clean full all says =
     let same = row_length line vs says.1 says.3 in
-    let told = AreToldOf-append line (place_pieces w) _ all.1.1.1.1.1 in
+    let told = AreToldOf-append line (location_lexemes w) _ all.1.1.1.1.1 in
     subst IsSound (sym says.4) (
-      name_sound line t (text_of line t) all.1.1.0 refl,
-      name_sound line r (text_of line r) all.1.1.1.1.0 refl,
-      place_sound line w says.0 told.0 says.2,
+      name_sound line t (token_text line t) all.1.1.0 refl,
+      name_sound line r (token_text line r) all.1.1.1.1.0 refl,
+      location_sound line w says.0 told.0 says.2,
       omega arith,
-      row_sound line vs says.1 clean (values_told line vs (AreToldOf-append line (list_pieces value_pieces vs) _ told.1.1.1).0) says.3,
+      row_sound line vs says.1 clean (values_told line vs (AreToldOf-append line (list_lexemes value_lexemes vs) _ told.1.1.1).0) says.3,
     )
 sound line (written_translate r p m) tree clean full all says =
     subst IsSound (sym says.2) (
-      name_sound line r (text_of line r) all.1.0 refl,
-      position_sound line p says.0 (AreToldOf-append line (position_pieces p) _ all.1.1).0 says.1,
+      name_sound line r (token_text line r) all.1.0 refl,
+      position_sound line p says.0 (AreToldOf-append line (position_lexemes p) _ all.1.1).0 says.1,
     )
-sound line (written_select n m) tree clean full all says = subst IsSound (sym says) (name_sound line n (text_of line n) all.1.0 refl)
+sound line (written_select n m) tree clean full all says = subst IsSound (sym says) (name_sound line n (token_text line n) all.1.0 refl)

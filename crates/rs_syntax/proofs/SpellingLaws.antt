@@ -13,28 +13,28 @@ use Rattle.rs_syntax.specs.declared.written.WrittenValue.{WrittenValue}
 use Rattle.rs_syntax.specs.declared.written.WrittenValue.TheVariants as written_values
 use Rattle.rs_syntax.specs.declared.written.WrittenPosition.{WrittenPosition}
 use Rattle.rs_syntax.specs.declared.written.WrittenPosition.TheVariants as written_positions
-use Rattle.rs_syntax.specs.declared.written.WrittenPlace.{WrittenPlace}
-use Rattle.rs_syntax.specs.declared.written.WrittenPlace.TheVariants as written_places
-use Rattle.rs_syntax.specs.Written.{Written, written_route, written_table, written_referent, written_move, written_drop, written_insert, written_translate, written_select, Piece, mark, told, measure_pieces, position_pieces, place_pieces, method_kind, method_pieces, wanted_pieces, type_pieces, column_pieces, value_pieces, further_pieces, list_pieces, spelling}
+use Rattle.rs_syntax.specs.declared.written.WrittenLocation.{WrittenLocation}
+use Rattle.rs_syntax.specs.declared.written.WrittenLocation.TheVariants as written_locations
+use Rattle.rs_syntax.specs.Written.{Written, written_route, written_table, written_referent, written_move, written_drop, written_insert, written_translate, written_select, Lexeme, mark, told, measure_lexemes, position_lexemes, location_lexemes, method_kind, method_lexemes, wanted_lexemes, type_lexemes, column_lexemes, value_lexemes, further_lexemes, list_lexemes, spelling}
 
 -- The items are the same, and what follows them.
-abbrev Same : {A : Type 0} → (A → List Piece) → A → A → List Piece → List Piece → Type 0
-Same pieces x y m n = pieces x ++ m ≡ pieces y ++ n → (x ≡ y) × (m ≡ n)
+abbrev Same : {A : Type 0} → (A → List Lexeme) → A → A → List Lexeme → List Lexeme → Type 0
+Same lexemes x y m n = lexemes x ++ m ≡ lexemes y ++ n → (x ≡ y) × (m ≡ n)
 
-type_same : (x y : WrittenType) (m n : List Piece) → Same type_pieces x y m n
+type_same : (x y : WrittenType) (m n : List Lexeme) → Same type_lexemes x y m n
 type_same written_types.Int written_types.Int m n e = (refl, cc)
 type_same written_types.Int (written_types.Text b) m n e = absurd cc
 type_same (written_types.Text a) written_types.Int m n e = absurd cc
 type_same (written_types.Text a) (written_types.Text b) m n e = (cc, cc)
 
-column_same : (x y : WrittenColumn) (m n : List Piece) → Same column_pieces x y m n
+column_same : (x y : WrittenColumn) (m n : List Lexeme) → Same column_lexemes x y m n
 column_same x y m n e =
     let name : x.name ≡ y.name = cc in
-    let rest : type_pieces x.column_type ++ m ≡ type_pieces y.column_type ++ n = cc in
+    let rest : type_lexemes x.column_type ++ m ≡ type_lexemes y.column_type ++ n = cc in
     let types = type_same x.column_type y.column_type m n rest in
     (ap (λ t. record { name = t; column_type = x.column_type }) name ∙ ap (λ t. record { name = y.name; column_type = t }) types.0, types.1)
 
-value_same : (x y : WrittenValue) (m n : List Piece) → Same value_pieces x y m n
+value_same : (x y : WrittenValue) (m n : List Lexeme) → Same value_lexemes x y m n
 value_same written_values.Null written_values.Null m n e = (refl, cc)
 value_same written_values.Null (written_values.Whole true b) m n e = absurd cc
 value_same written_values.Null (written_values.Whole false b) m n e = absurd cc
@@ -52,43 +52,43 @@ value_same (written_values.Quoted a) (written_values.Whole true b) m n e = absur
 value_same (written_values.Quoted a) (written_values.Whole false b) m n e = absurd cc
 value_same (written_values.Quoted a) (written_values.Quoted b) m n e = (cc, cc)
 
-column_is_no_end : (x : WrittenColumn) (m n : List Piece) → mark kinds.RightParen ∷ m ≡ column_pieces x ++ n → ⊥
+column_is_no_end : (x : WrittenColumn) (m n : List Lexeme) → mark kinds.RightParen ∷ m ≡ column_lexemes x ++ n → ⊥
 column_is_no_end x m n e = cc
 
-value_is_no_end : (x : WrittenValue) (m n : List Piece) → mark kinds.RightParen ∷ m ≡ value_pieces x ++ n → ⊥
+value_is_no_end : (x : WrittenValue) (m n : List Lexeme) → mark kinds.RightParen ∷ m ≡ value_lexemes x ++ n → ⊥
 value_is_no_end written_values.Null m n e = cc
 value_is_no_end (written_values.Whole true a) m n e = cc
 value_is_no_end (written_values.Whole false a) m n e = cc
 value_is_no_end (written_values.Quoted a) m n e = cc
 
-abbrev end : List Piece
+abbrev end : List Lexeme
 end = mark kinds.RightParen ∷ []
 
-module _ {A : Type 0} (pieces : A → List Piece) (same : (x y : A) (m n : List Piece) → Same pieces x y m n)
-    (is_no_end : (x : A) (m n : List Piece) → mark kinds.RightParen ∷ m ≡ pieces x ++ n → ⊥) where
-  further_same : (xs ys : List A) → further_pieces pieces xs ++ end ≡ further_pieces pieces ys ++ end → xs ≡ ys
+module _ {A : Type 0} (lexemes : A → List Lexeme) (same : (x y : A) (m n : List Lexeme) → Same lexemes x y m n)
+    (is_no_end : (x : A) (m n : List Lexeme) → mark kinds.RightParen ∷ m ≡ lexemes x ++ n → ⊥) where
+  further_same : (xs ys : List A) → further_lexemes lexemes xs ++ end ≡ further_lexemes lexemes ys ++ end → xs ≡ ys
   further_same [] [] e = refl
   further_same [] (y ∷ ys) e = absurd cc
   further_same (x ∷ xs) [] e = absurd cc
   further_same (x ∷ xs) (y ∷ ys) e =
-      let rest : (pieces x ++ further_pieces pieces xs) ++ end ≡ (pieces y ++ further_pieces pieces ys) ++ end = cc in
-      let p = same x y (further_pieces pieces xs ++ end) (further_pieces pieces ys ++ end) (sym (append_assoc (pieces x) (further_pieces pieces xs) end) ∙ rest ∙ append_assoc (pieces y) (further_pieces pieces ys) end) in
+      let rest : (lexemes x ++ further_lexemes lexemes xs) ++ end ≡ (lexemes y ++ further_lexemes lexemes ys) ++ end = cc in
+      let p = same x y (further_lexemes lexemes xs ++ end) (further_lexemes lexemes ys ++ end) (sym (append_assoc (lexemes x) (further_lexemes lexemes xs) end) ∙ rest ∙ append_assoc (lexemes y) (further_lexemes lexemes ys) end) in
       let others = further_same xs ys p.1 in
       ap (λ z. z ∷ xs) p.0 ∙ ap (λ zs. y ∷ zs) others
 
-  list_same : (xs ys : List A) → list_pieces pieces xs ++ end ≡ list_pieces pieces ys ++ end → xs ≡ ys
+  list_same : (xs ys : List A) → list_lexemes lexemes xs ++ end ≡ list_lexemes lexemes ys ++ end → xs ≡ ys
   list_same [] [] e = refl
-  list_same [] (y ∷ ys) e = absurd (is_no_end y [] (further_pieces pieces ys ++ end) (e ∙ append_assoc (pieces y) (further_pieces pieces ys) end))
-  list_same (x ∷ xs) [] e = absurd (is_no_end x [] (further_pieces pieces xs ++ end) (sym e ∙ append_assoc (pieces x) (further_pieces pieces xs) end))
+  list_same [] (y ∷ ys) e = absurd (is_no_end y [] (further_lexemes lexemes ys ++ end) (e ∙ append_assoc (lexemes y) (further_lexemes lexemes ys) end))
+  list_same (x ∷ xs) [] e = absurd (is_no_end x [] (further_lexemes lexemes xs ++ end) (sym e ∙ append_assoc (lexemes x) (further_lexemes lexemes xs) end))
   list_same (x ∷ xs) (y ∷ ys) e =
-      let p = same x y (further_pieces pieces xs ++ end) (further_pieces pieces ys ++ end) (sym (append_assoc (pieces x) (further_pieces pieces xs) end) ∙ e ∙ append_assoc (pieces y) (further_pieces pieces ys) end) in
+      let p = same x y (further_lexemes lexemes xs ++ end) (further_lexemes lexemes ys ++ end) (sym (append_assoc (lexemes x) (further_lexemes lexemes xs) end) ∙ e ∙ append_assoc (lexemes y) (further_lexemes lexemes ys) end) in
       ap (λ z. z ∷ xs) p.0 ∙ ap (λ zs. y ∷ zs) (further_same xs ys p.1)
 
 table_same : (name other : Token) (xs ys : List WrittenColumn) → spelling (written_table name xs) ≡ spelling (written_table other ys) → written_table name xs ≡ written_table other ys
 table_same name other xs ys e =
     let names : name ≡ other = cc in
-    let rest : list_pieces column_pieces xs ++ end ≡ list_pieces column_pieces ys ++ end = cc in
-    ap (λ n. written_table n xs) names ∙ ap (written_table other) (list_same column_pieces column_same column_is_no_end xs ys rest)
+    let rest : list_lexemes column_lexemes xs ++ end ≡ list_lexemes column_lexemes ys ++ end = cc in
+    ap (λ n. written_table n xs) names ∙ ap (written_table other) (list_same column_lexemes column_same column_is_no_end xs ys rest)
 
 -- What follows a position goes on with none of its signs.
 abbrev is_sign : TokenKind → Bool
@@ -97,18 +97,18 @@ is_sign kinds.PlusSign = true
 is_sign kinds.MinusSign = true
 is_sign _ = false
 
-abbrev begins_with_sign : List Piece → Bool
+abbrev begins_with_sign : List Lexeme → Bool
 begins_with_sign [] = false
 begins_with_sign (mark kind ∷ more) = is_sign kind
 begins_with_sign (told kind token ∷ more) = false
 
-no_sign : {P : Type 0} (more other : List Piece) → more ≡ other → begins_with_sign more ≡ false → begins_with_sign other ≡ true → P
+no_sign : {P : Type 0} (more other : List Lexeme) → more ≡ other → begins_with_sign more ≡ false → begins_with_sign other ≡ true → P
 no_sign more other e none some = absurd (false≢true (sym none ∙ ap begins_with_sign e ∙ some))
 
-abbrev SamePosition : WrittenPosition → WrittenPosition → List Piece → List Piece → Type 0
-SamePosition x y m n = begins_with_sign m ≡ false → begins_with_sign n ≡ false → Same position_pieces x y m n
+abbrev SamePosition : WrittenPosition → WrittenPosition → List Lexeme → List Lexeme → Type 0
+SamePosition x y m n = begins_with_sign m ≡ false → begins_with_sign n ≡ false → Same position_lexemes x y m n
 
-measure_position : (a : Token) (y : WrittenPosition) (m n : List Piece) → SamePosition (written_positions.Measure a) y m n
+measure_position : (a : Token) (y : WrittenPosition) (m n : List Lexeme) → SamePosition (written_positions.Measure a) y m n
 measure_position a (written_positions.Measure b) m n p q e = (cc, cc)
 measure_position a (written_positions.Percentage b) m n p q e =
     let rest : m ≡ mark kinds.PercentSign ∷ n = cc in
@@ -117,7 +117,7 @@ measure_position a (written_positions.Referent b) m n p q e = absurd cc
 measure_position a (written_positions.Beyond b t) m n p q e = absurd cc
 measure_position a (written_positions.Before b t) m n p q e = absurd cc
 
-percentage_position : (a : Token) (y : WrittenPosition) (m n : List Piece) → SamePosition (written_positions.Percentage a) y m n
+percentage_position : (a : Token) (y : WrittenPosition) (m n : List Lexeme) → SamePosition (written_positions.Percentage a) y m n
 percentage_position a (written_positions.Measure b) m n p q e =
     let rest : n ≡ mark kinds.PercentSign ∷ m = cc in
     no_sign n (mark kinds.PercentSign ∷ m) rest q refl
@@ -126,36 +126,36 @@ percentage_position a (written_positions.Referent b) m n p q e = absurd cc
 percentage_position a (written_positions.Beyond b t) m n p q e = absurd cc
 percentage_position a (written_positions.Before b t) m n p q e = absurd cc
 
-referent_position : (a : Token) (y : WrittenPosition) (m n : List Piece) → SamePosition (written_positions.Referent a) y m n
+referent_position : (a : Token) (y : WrittenPosition) (m n : List Lexeme) → SamePosition (written_positions.Referent a) y m n
 referent_position a (written_positions.Measure b) m n p q e = absurd cc
 referent_position a (written_positions.Percentage b) m n p q e = absurd cc
 referent_position a (written_positions.Referent b) m n p q e = (cc, cc)
 referent_position a (written_positions.Beyond b t) m n p q e =
-    let rest : m ≡ mark kinds.PlusSign ∷ measure_pieces t ++ n = cc in
-    no_sign m (mark kinds.PlusSign ∷ measure_pieces t ++ n) rest p refl
+    let rest : m ≡ mark kinds.PlusSign ∷ measure_lexemes t ++ n = cc in
+    no_sign m (mark kinds.PlusSign ∷ measure_lexemes t ++ n) rest p refl
 referent_position a (written_positions.Before b t) m n p q e =
-    let rest : m ≡ mark kinds.MinusSign ∷ measure_pieces t ++ n = cc in
-    no_sign m (mark kinds.MinusSign ∷ measure_pieces t ++ n) rest p refl
+    let rest : m ≡ mark kinds.MinusSign ∷ measure_lexemes t ++ n = cc in
+    no_sign m (mark kinds.MinusSign ∷ measure_lexemes t ++ n) rest p refl
 
-beyond_position : (a t : Token) (y : WrittenPosition) (m n : List Piece) → SamePosition (written_positions.Beyond a t) y m n
+beyond_position : (a t : Token) (y : WrittenPosition) (m n : List Lexeme) → SamePosition (written_positions.Beyond a t) y m n
 beyond_position a t (written_positions.Measure b) m n p q e = absurd cc
 beyond_position a t (written_positions.Percentage b) m n p q e = absurd cc
 beyond_position a t (written_positions.Referent b) m n p q e =
-    let rest : n ≡ mark kinds.PlusSign ∷ measure_pieces t ++ m = cc in
-    no_sign n (mark kinds.PlusSign ∷ measure_pieces t ++ m) rest q refl
+    let rest : n ≡ mark kinds.PlusSign ∷ measure_lexemes t ++ m = cc in
+    no_sign n (mark kinds.PlusSign ∷ measure_lexemes t ++ m) rest q refl
 beyond_position a t (written_positions.Beyond b u) m n p q e = (cc, cc)
 beyond_position a t (written_positions.Before b u) m n p q e = absurd cc
 
-before_position : (a t : Token) (y : WrittenPosition) (m n : List Piece) → SamePosition (written_positions.Before a t) y m n
+before_position : (a t : Token) (y : WrittenPosition) (m n : List Lexeme) → SamePosition (written_positions.Before a t) y m n
 before_position a t (written_positions.Measure b) m n p q e = absurd cc
 before_position a t (written_positions.Percentage b) m n p q e = absurd cc
 before_position a t (written_positions.Referent b) m n p q e =
-    let rest : n ≡ mark kinds.MinusSign ∷ measure_pieces t ++ m = cc in
-    no_sign n (mark kinds.MinusSign ∷ measure_pieces t ++ m) rest q refl
+    let rest : n ≡ mark kinds.MinusSign ∷ measure_lexemes t ++ m = cc in
+    no_sign n (mark kinds.MinusSign ∷ measure_lexemes t ++ m) rest q refl
 before_position a t (written_positions.Beyond b u) m n p q e = absurd cc
 before_position a t (written_positions.Before b u) m n p q e = (cc, cc)
 
-position_same : (x y : WrittenPosition) (m n : List Piece) → SamePosition x y m n
+position_same : (x y : WrittenPosition) (m n : List Lexeme) → SamePosition x y m n
 position_same (written_positions.Measure a) y m n = measure_position a y m n
 position_same (written_positions.Percentage a) y m n = percentage_position a y m n
 position_same (written_positions.Referent a) y m n = referent_position a y m n
@@ -163,15 +163,15 @@ position_same (written_positions.Beyond a t) y m n = beyond_position a t y m n
 position_same (written_positions.Before a t) y m n = before_position a t y m n
 
 -- a position at the end
-last_position : (x y : WrittenPosition) → position_pieces x ≡ position_pieces y → x ≡ y
-last_position x y e = (position_same x y [] [] refl refl (append-nil (position_pieces x) ∙ e ∙ sym (append-nil (position_pieces y)))).0
+last_position : (x y : WrittenPosition) → position_lexemes x ≡ position_lexemes y → x ≡ y
+last_position x y e = (position_same x y [] [] refl refl (append-nil (position_lexemes x) ∙ e ∙ sym (append-nil (position_lexemes y)))).0
 
-place_same : (x y : WrittenPlace) (m n : List Piece) → begins_with_sign m ≡ false → begins_with_sign n ≡ false → Same place_pieces x y m n
-place_same (written_places.Along a b) (written_places.Along c d) m n p q e =
-    let tails : (position_pieces a ++ mark kinds.To ∷ position_pieces b) ++ m ≡ (position_pieces c ++ mark kinds.To ∷ position_pieces d) ++ n = cc in
-    let first = position_same a c (mark kinds.To ∷ (position_pieces b ++ m)) (mark kinds.To ∷ (position_pieces d ++ n)) refl refl
-    (sym (append_assoc (position_pieces a) (mark kinds.To ∷ position_pieces b) m) ∙ tails ∙ append_assoc (position_pieces c) (mark kinds.To ∷ position_pieces d) n) in
-    let behind : mark kinds.To ∷ (position_pieces b ++ m) ≡ mark kinds.To ∷ (position_pieces d ++ n) = first.1 in
+location_same : (x y : WrittenLocation) (m n : List Lexeme) → begins_with_sign m ≡ false → begins_with_sign n ≡ false → Same location_lexemes x y m n
+location_same (written_locations.Along a b) (written_locations.Along c d) m n p q e =
+    let tails : (position_lexemes a ++ mark kinds.To ∷ position_lexemes b) ++ m ≡ (position_lexemes c ++ mark kinds.To ∷ position_lexemes d) ++ n = cc in
+    let first = position_same a c (mark kinds.To ∷ (position_lexemes b ++ m)) (mark kinds.To ∷ (position_lexemes d ++ n)) refl refl
+    (sym (append_assoc (position_lexemes a) (mark kinds.To ∷ position_lexemes b) m) ∙ tails ∙ append_assoc (position_lexemes c) (mark kinds.To ∷ position_lexemes d) n) in
+    let behind : mark kinds.To ∷ (position_lexemes b ++ m) ≡ mark kinds.To ∷ (position_lexemes d ++ n) = first.1 in
     let second = position_same b d m n p q cc in
     let from : a ≡ c = first.0 in
     let to : b ≡ d = second.0 in
@@ -188,7 +188,7 @@ method_same methods.Interpolative methods.Absolute e = absurd cc
 method_same methods.Interpolative methods.Relative e = absurd cc
 method_same methods.Interpolative methods.Interpolative e = refl
 
-wanted_same : (x y : Option Method) → wanted_pieces x ≡ wanted_pieces y → x ≡ y
+wanted_same : (x y : Option Method) → wanted_lexemes x ≡ wanted_lexemes y → x ≡ y
 wanted_same None None e = refl
 wanted_same None (Some y) e = absurd cc
 wanted_same (Some x) None e = absurd cc
@@ -198,7 +198,7 @@ referent_same : (a b c d : Token) (x y : WrittenPosition) → spelling (written_
 referent_same a b c d x y e =
     let first : a ≡ c = cc in
     let second : b ≡ d = cc in
-    let rest : position_pieces x ≡ position_pieces y = cc in
+    let rest : position_lexemes x ≡ position_lexemes y = cc in
     let third = last_position x y rest in
     cc
 
@@ -206,17 +206,17 @@ move_same : (a b c d : Token) (x y : WrittenPosition) → spelling (written_move
 move_same a b c d x y e =
     let first : a ≡ c = cc in
     let second : b ≡ d = cc in
-    let rest : position_pieces x ≡ position_pieces y = cc in
+    let rest : position_lexemes x ≡ position_lexemes y = cc in
     let third = last_position x y rest in
     cc
 
 translate_same : (a b : Token) (x y : WrittenPosition) (k m : Method) → spelling (written_translate a x k) ≡ spelling (written_translate b y m) → written_translate a x k ≡ written_translate b y m
 translate_same a b x y k m e =
     let first : a ≡ b = cc in
-    let rest : position_pieces x ++ mark kinds.As ∷ method_pieces k ≡ position_pieces y ++ mark kinds.As ∷ method_pieces m = cc in
-    let second = position_same x y (mark kinds.As ∷ method_pieces k) (mark kinds.As ∷ method_pieces m) refl refl rest in
+    let rest : position_lexemes x ++ mark kinds.As ∷ method_lexemes k ≡ position_lexemes y ++ mark kinds.As ∷ method_lexemes m = cc in
+    let second = position_same x y (mark kinds.As ∷ method_lexemes k) (mark kinds.As ∷ method_lexemes m) refl refl rest in
     let positions : x ≡ y = second.0 in
-    let behind : mark kinds.As ∷ method_pieces k ≡ mark kinds.As ∷ method_pieces m = second.1 in
+    let behind : mark kinds.As ∷ method_lexemes k ≡ mark kinds.As ∷ method_lexemes m = second.1 in
     let kinds_same : method_kind k ≡ method_kind m = cc in
     let third = method_same k m kinds_same in
     cc
@@ -224,22 +224,22 @@ translate_same a b x y k m e =
 select_same : (a b : Token) (x y : Option Method) → spelling (written_select a x) ≡ spelling (written_select b y) → written_select a x ≡ written_select b y
 select_same a b x y e =
     let first : a ≡ b = cc in
-    let rest : wanted_pieces x ≡ wanted_pieces y = cc in
+    let rest : wanted_lexemes x ≡ wanted_lexemes y = cc in
     let second = wanted_same x y rest in
     cc
 
-insert_same : (a b c d : Token) (x y : WrittenPlace) (xs ys : List WrittenValue) → spelling (written_insert a b x xs) ≡ spelling (written_insert c d y ys) → written_insert a b x xs ≡ written_insert c d y ys
+insert_same : (a b c d : Token) (x y : WrittenLocation) (xs ys : List WrittenValue) → spelling (written_insert a b x xs) ≡ spelling (written_insert c d y ys) → written_insert a b x xs ≡ written_insert c d y ys
 insert_same a b c d x y xs ys e =
     let first : a ≡ c = cc in
     let second : b ≡ d = cc in
-    let m = mark kinds.Values ∷ mark kinds.LeftParen ∷ (list_pieces value_pieces xs ++ end) in
-    let n = mark kinds.Values ∷ mark kinds.LeftParen ∷ (list_pieces value_pieces ys ++ end) in
-    let rest : place_pieces x ++ m ≡ place_pieces y ++ n = cc in
-    let third = place_same x y m n refl refl rest in
+    let m = mark kinds.Values ∷ mark kinds.LeftParen ∷ (list_lexemes value_lexemes xs ++ end) in
+    let n = mark kinds.Values ∷ mark kinds.LeftParen ∷ (list_lexemes value_lexemes ys ++ end) in
+    let rest : location_lexemes x ++ m ≡ location_lexemes y ++ n = cc in
+    let third = location_same x y m n refl refl rest in
     let places : x ≡ y = third.0 in
-    let behind : mark kinds.Values ∷ mark kinds.LeftParen ∷ (list_pieces value_pieces xs ++ end) ≡ mark kinds.Values ∷ mark kinds.LeftParen ∷ (list_pieces value_pieces ys ++ end) = third.1 in
-    let lists : list_pieces value_pieces xs ++ end ≡ list_pieces value_pieces ys ++ end = cc in
-    let values = list_same value_pieces value_same value_is_no_end xs ys lists in
+    let behind : mark kinds.Values ∷ mark kinds.LeftParen ∷ (list_lexemes value_lexemes xs ++ end) ≡ mark kinds.Values ∷ mark kinds.LeftParen ∷ (list_lexemes value_lexemes ys ++ end) = third.1 in
+    let lists : list_lexemes value_lexemes xs ++ end ≡ list_lexemes value_lexemes ys ++ end = cc in
+    let values = list_same value_lexemes value_same value_is_no_end xs ys lists in
     cc
 
 route_told : (a b c : Token) (w : Written) → spelling (written_route a b c) ≡ spelling w → written_route a b c ≡ w
@@ -262,7 +262,7 @@ drop_told : (a b : Token) (w : Written) → spelling (written_drop a b) ≡ spel
 drop_told a b (written_drop c d) same = cc
 drop_told a b _ same = absurd cc
 
-insert_told : (a b : Token) (x : WrittenPlace) (xs : List WrittenValue) (w : Written) → spelling (written_insert a b x xs) ≡ spelling w → written_insert a b x xs ≡ w
+insert_told : (a b : Token) (x : WrittenLocation) (xs : List WrittenValue) (w : Written) → spelling (written_insert a b x xs) ≡ spelling w → written_insert a b x xs ≡ w
 insert_told a b x xs (written_insert c d y ys) same = insert_same a b c d x y xs ys same
 insert_told a b x xs _ same = absurd cc
 

@@ -24,7 +24,7 @@ unquoted-first : (bytes rest : List ℕ) → 0 < length bytes → ((k : ℕ) →
 unquoted-first [] rest some none = absurd (omega arith)
 unquoted-first (byte ∷ bytes) rest some none = ap (λ bs. byte ∷ bs) (unquoted-plain bytes rest (λ k h. none k (omega arith)))
 
--- a character behind a quote stands for itself
+-- a character after a quote stands for itself
 pub unquoted-behind : (character : ℕ) (rest : List ℕ) → unquoted_rest true (encode_utf8 character ++ rest) ≡ encode_utf8 character ++ unquoted_rest false rest
 unquoted-behind character rest =
     unquoted-first (encode_utf8 character) rest
@@ -39,7 +39,7 @@ pub unquoted-other : (behind_quote : Bool) (character : ℕ) (rest : List ℕ) �
 unquoted-other true character rest other = unquoted-behind character rest
 unquoted-other false character rest other = unquoted-plain (encode_utf8 character) rest (λ k h e. other (quote_inside character k h e))
 
--- a quote that stands behind none may be the closing one
+-- a quote that stands after none may be the closing one
 pub unquoted-quote : (character : ℕ) (rest : List ℕ) → character ≡ 39 → unquoted_rest false (encode_utf8 character ++ rest) ≡ unquoted_rest true rest
 unquoted-quote character rest e = ap (λ c. unquoted_rest false (encode_utf8 c ++ rest)) e ∙ ap (λ bs. unquoted_rest false (bs ++ rest)) quote_is_one_byte
 

@@ -8,7 +8,7 @@ use Rattle.rs_grammar.specs.declared.kind.TokenKind.{TokenKind}
 use Rattle.rs_lexer.specs.declared.token.Token.{Token}
 use Rattle.rs_lexer.specs.Lexis.{kinds_of, IsTokenOf}
 use Rattle.rs_grammar.specs.Grammar.{rules, command_form, IsCommand, IsViable, IsShallow}
-use Rattle.rs_syntax.specs.Written.{Written, mark, told, has_text, spelling, pieces_of, IsToldOf, AreToldOf}
+use Rattle.rs_syntax.specs.Written.{Written, mark, told, has_text, spelling, lexemes_of, IsToldOf, AreToldOf}
 use Rattle.rs_grammar.specs.Reading.{Runs, StopsAt}
 use Rattle.rs_syntax.specs.Verdict.{FitsNoRule, IsWritten, Parses, is_fault, fault_column}
 use Rattle.rs_syntax.proofs.BracketLaws.{is_shallow-front, take-kinds_of}
@@ -99,22 +99,22 @@ too_many_brackets tokens n inside shallow deep run = record {
 
 -- where no bracket is one too many, a command read whole is how the tokens are written
 pub is_written : (tokens : List Token) (n : ℕ) (written : Written) → n ≡ length tokens → IsShallow (take n (kinds_of tokens))
-    → Runs command_form (kinds_of (take n tokens)) (Ok []) → pieces_of (take n tokens) ≡ spelling written → IsWritten tokens written
+    → Runs command_form (kinds_of (take n tokens)) (Ok []) → lexemes_of (take n tokens) ≡ spelling written → IsWritten tokens written
 is_written tokens n written e shallow run spelled =
     let whole : take n tokens ≡ tokens = take_all n tokens (omega arith) in
     let all : take n (kinds_of tokens) ≡ kinds_of tokens = take-kinds_of n tokens ∙ ap kinds_of whole in
     record {
       command = subst (λ ts. IsCommand (kinds_of ts)) whole (is_command (kinds_of (take n tokens)) (read_of run));
       shallow = subst IsShallow all shallow;
-      spelled = ap pieces_of (sym whole) ∙ spelled;
+      spelled = ap lexemes_of (sym whole) ∙ spelled;
     }
 
 -- the column of the fault
 pub parses_fault : (line : List ℕ) (tokens : List Token) (place : ℕ) (refusal : Refusal) → FitsNoRule (kinds_of tokens) place → refusal ≡ Syntax (fault_column line (drop place tokens)) → Parses line tokens (Err refusal)
 parses_fault line tokens place refusal fault e = subst (λ r. Parses line tokens (Err r)) (sym e) (is_fault place fault)
 
--- the tokens of a line are what their pieces tell
-pub told_of : (line : List ℕ) (tokens : List Token) → All (IsTokenOf line) tokens → AreToldOf line (pieces_of tokens)
+-- the tokens of a line are what their lexemes tell
+pub told_of : (line : List ℕ) (tokens : List Token) → All (IsTokenOf line) tokens → AreToldOf line (lexemes_of tokens)
 told_of line [] all = tt
 told_of line (token ∷ tokens) all = (
   elim (has_text token.kind) as (λ b. IsToldOf line (if b then told token.kind token else mark token.kind)) [ true ↦ (all 0 token (omega arith), refl) | false ↦ tt ],

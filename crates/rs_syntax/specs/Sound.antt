@@ -10,7 +10,7 @@ use Rattle.rs_grammar.specs.declared.kind.TheConstants.{NAME_BYTES}
 use Rattle.rs_lexer.specs.Lexis.{reserved, kind_in}
 use Rattle.rs_methods.specs.Position.{PositionExpression, absolute, beyond, before, interpolative}
 use Rattle.rs_methods.specs.PositionText.{IsWord}
-use Rattle.rs_syntax.specs.Tree.{PlaceTree, along, named, CommandTree, define_route, define_table, define_referent, move_referent, drop_referent, insert, translate, select}
+use Rattle.rs_syntax.specs.Tree.{EventLocationTree, along, named, CommandTree, define_route, define_table, define_referent, move_referent, drop_referent, insert, translate, select}
 
 -- A name: a word of at most NAME_BYTES bytes that is not reserved.
 pub record IsName (name : List ℕ) : Type 0 where
@@ -37,8 +37,8 @@ IsPosition (beyond name measure) = IsName name × IsMeasure measure
 IsPosition (before name measure) = IsName name × IsMeasure measure
 IsPosition (interpolative part) = part ≤ GREATEST_PART
 
-abbrev pub IsPlace : PlaceTree → Type 0
-IsPlace (along from to) = IsPosition from × IsPosition to
+abbrev pub IsEventLocation : EventLocationTree → Type 0
+IsEventLocation (along from to) = IsPosition from × IsPosition to
 
 -- names are names, each list has an item, numbers are in their ranges, and texts are UTF-8 without control bytes
 abbrev pub IsSound : CommandTree → Type 0
@@ -47,6 +47,6 @@ IsSound (define_table kind name columns) = IsName name × (1 ≤ length columns)
 IsSound (define_referent route name position) = IsName route × IsName name × IsPosition position
 IsSound (move_referent route name position) = IsName route × IsName name × IsPosition position
 IsSound (drop_referent route name) = IsName route × IsName name
-IsSound (insert table route place row) = IsName table × IsName route × IsPlace place × (1 ≤ length row) × AreValues row
+IsSound (insert table route place row) = IsName table × IsName route × IsEventLocation place × (1 ≤ length row) × AreValues row
 IsSound (translate route position method) = IsName route × IsPosition position
 IsSound (select (named name) method) = IsName name

@@ -7,8 +7,8 @@ use Rattle.rs_value.specs.declared.column.ColumnType.{ColumnType}
 use Rattle.rs_value.specs.Row.{Row}
 
 -- where an event is put: for now along a span between two positions
-pub data PlaceTree : Type 0 where
-  along : PositionExpression → PositionExpression → PlaceTree
+pub data EventLocationTree : Type 0 where
+  along : PositionExpression → PositionExpression → EventLocationTree
 
 -- the rows of a table by its name, for now
 pub data QueryTree : Type 0 where
@@ -21,6 +21,6 @@ pub data CommandTree : Type 0 where
   define_referent : List ℕ → List ℕ → PositionExpression → CommandTree  -- route, name, position
   move_referent : List ℕ → List ℕ → PositionExpression → CommandTree  -- route, name, position
   drop_referent : List ℕ → List ℕ → CommandTree  -- route, name
-  insert : List ℕ → List ℕ → PlaceTree → Row → CommandTree  -- table, route, place, values
+  insert : List ℕ → List ℕ → EventLocationTree → Row → CommandTree  -- table, route, place, values
   translate : List ℕ → PositionExpression → Method → CommandTree  -- route, position, the method wanted
   select : QueryTree → Method → CommandTree  -- query, the method of its positions

@@ -21,10 +21,10 @@ use Rattle.rs_syntax.specs.declared.written.WrittenValue.{WrittenValue}
 use Rattle.rs_syntax.specs.declared.written.WrittenValue.TheVariants as written_values
 use Rattle.rs_syntax.specs.declared.written.WrittenPosition.{WrittenPosition}
 use Rattle.rs_syntax.specs.declared.written.WrittenPosition.TheVariants as written_positions
-use Rattle.rs_syntax.specs.declared.written.WrittenPlace.{WrittenPlace}
-use Rattle.rs_syntax.specs.declared.written.WrittenPlace.TheVariants as written_places
-use Rattle.rs_lexer.specs.Lexis.{text_of, IsTokenOf}
-use Rattle.rs_syntax.specs.Tree.{PlaceTree, along, named, CommandTree, define_route, define_table, define_referent, move_referent, drop_referent, insert, translate, select}
+use Rattle.rs_syntax.specs.declared.written.WrittenLocation.{WrittenLocation}
+use Rattle.rs_syntax.specs.declared.written.WrittenLocation.TheVariants as written_locations
+use Rattle.rs_lexer.specs.Lexis.{token_text, IsTokenOf}
+use Rattle.rs_syntax.specs.Tree.{EventLocationTree, along, named, CommandTree, define_route, define_table, define_referent, move_referent, drop_referent, insert, translate, select}
 
 -- a command whose names, numbers and texts are still tokens of the line
 pub data Written : Type 0 where
@@ -33,14 +33,14 @@ pub data Written : Type 0 where
   written_referent : Token → Token → WrittenPosition → Written  -- route, name, position
   written_move : Token → Token → WrittenPosition → Written  -- route, name, position
   written_drop : Token → Token → Written  -- route, name
-  written_insert : Token → Token → WrittenPlace → List WrittenValue → Written  -- table, route, place, values
+  written_insert : Token → Token → WrittenLocation → List WrittenValue → Written  -- table, route, place, values
   written_translate : Token → WrittenPosition → Method → Written  -- route, position, the method wanted
-  written_select : Token → Option Method → Written  -- name, the method behind AS
+  written_select : Token → Option Method → Written  -- name, the method after AS
 
 -- A token as a spelling shows it: a mark, or a token whose text counts.
-pub data Piece : Type 0 where
-  mark : TokenKind → Piece
-  told : TokenKind → Token → Piece
+pub data Lexeme : Type 0 where
+  mark : TokenKind → Lexeme
+  told : TokenKind → Token → Lexeme
 
 -- the tokens whose text counts
 abbrev pub has_text : TokenKind → Bool
@@ -51,25 +51,25 @@ has_text kinds.Quoted = true
 has_text _ = false
 
 -- a token as a spelling shows it
-abbrev pub piece_of : Token → Piece
-piece_of token = if has_text token.kind then told token.kind token else mark token.kind
+abbrev pub lexeme_of : Token → Lexeme
+lexeme_of token = if has_text token.kind then told token.kind token else mark token.kind
 
 -- tokens as a spelling shows them
-abbrev pub pieces_of : List Token → List Piece
-pieces_of tokens = map piece_of tokens
+abbrev pub lexemes_of : List Token → List Lexeme
+lexemes_of tokens = map lexeme_of tokens
 
-abbrev pub measure_pieces : Token → List Piece
-measure_pieces token = told token.kind token ∷ []
+abbrev pub measure_lexemes : Token → List Lexeme
+measure_lexemes token = told token.kind token ∷ []
 
-abbrev pub position_pieces : WrittenPosition → List Piece
-position_pieces (written_positions.Measure measure) = measure_pieces measure
-position_pieces (written_positions.Percentage digits) = measure_pieces digits ++ mark kinds.PercentSign ∷ []
-position_pieces (written_positions.Referent name) = mark kinds.AtSign ∷ told kinds.Name name ∷ []
-position_pieces (written_positions.Beyond name measure) = mark kinds.AtSign ∷ told kinds.Name name ∷ mark kinds.PlusSign ∷ measure_pieces measure
-position_pieces (written_positions.Before name measure) = mark kinds.AtSign ∷ told kinds.Name name ∷ mark kinds.MinusSign ∷ measure_pieces measure
+abbrev pub position_lexemes : WrittenPosition → List Lexeme
+position_lexemes (written_positions.Measure measure) = measure_lexemes measure
+position_lexemes (written_positions.Percentage digits) = measure_lexemes digits ++ mark kinds.PercentSign ∷ []
+position_lexemes (written_positions.Referent name) = mark kinds.AtSign ∷ told kinds.Name name ∷ []
+position_lexemes (written_positions.Beyond name measure) = mark kinds.AtSign ∷ told kinds.Name name ∷ mark kinds.PlusSign ∷ measure_lexemes measure
+position_lexemes (written_positions.Before name measure) = mark kinds.AtSign ∷ told kinds.Name name ∷ mark kinds.MinusSign ∷ measure_lexemes measure
 
-abbrev pub place_pieces : WrittenPlace → List Piece
-place_pieces (written_places.Along from to) = mark kinds.From ∷ (position_pieces from ++ mark kinds.To ∷ position_pieces to)
+abbrev pub location_lexemes : WrittenLocation → List Lexeme
+location_lexemes (written_locations.Along from to) = mark kinds.From ∷ (position_lexemes from ++ mark kinds.To ∷ position_lexemes to)
 
 -- the word of a method
 abbrev pub method_kind : Method → TokenKind
@@ -77,64 +77,64 @@ method_kind methods.Absolute = kinds.Absolute
 method_kind methods.Relative = kinds.Relative
 method_kind methods.Interpolative = kinds.Interpolative
 
-abbrev pub method_pieces : Method → List Piece
-method_pieces method = mark (method_kind method) ∷ []
+abbrev pub method_lexemes : Method → List Lexeme
+method_lexemes method = mark (method_kind method) ∷ []
 
 -- the method of a query's positions, if one is named
-abbrev pub wanted_pieces : Option Method → List Piece
-wanted_pieces None = []
-wanted_pieces (Some method) = mark kinds.As ∷ method_pieces method
+abbrev pub wanted_lexemes : Option Method → List Lexeme
+wanted_lexemes None = []
+wanted_lexemes (Some method) = mark kinds.As ∷ method_lexemes method
 
-abbrev pub type_pieces : WrittenType → List Piece
-type_pieces written_types.Int = mark kinds.Int ∷ []
-type_pieces (written_types.Text most) = mark kinds.Text ∷ mark kinds.LeftParen ∷ told kinds.Whole most ∷ mark kinds.RightParen ∷ []
+abbrev pub type_lexemes : WrittenType → List Lexeme
+type_lexemes written_types.Int = mark kinds.Int ∷ []
+type_lexemes (written_types.Text most) = mark kinds.Text ∷ mark kinds.LeftParen ∷ told kinds.Whole most ∷ mark kinds.RightParen ∷ []
 
-abbrev pub column_pieces : WrittenColumn → List Piece
-column_pieces column = told kinds.Name column.name ∷ type_pieces column.column_type
+abbrev pub column_lexemes : WrittenColumn → List Lexeme
+column_lexemes column = told kinds.Name column.name ∷ type_lexemes column.column_type
 
-abbrev pub value_pieces : WrittenValue → List Piece
-value_pieces written_values.Null = mark kinds.Null ∷ []
-value_pieces (written_values.Whole true digits) = mark kinds.MinusSign ∷ told kinds.Whole digits ∷ []
-value_pieces (written_values.Whole false digits) = told kinds.Whole digits ∷ []
-value_pieces (written_values.Quoted quoted) = told kinds.Quoted quoted ∷ []
+abbrev pub value_lexemes : WrittenValue → List Lexeme
+value_lexemes written_values.Null = mark kinds.Null ∷ []
+value_lexemes (written_values.Whole true digits) = mark kinds.MinusSign ∷ told kinds.Whole digits ∷ []
+value_lexemes (written_values.Whole false digits) = told kinds.Whole digits ∷ []
+value_lexemes (written_values.Quoted quoted) = told kinds.Quoted quoted ∷ []
 
 -- the items, with a comma before each but the first
-abbrev pub further_pieces : {A : Type 0} → (A → List Piece) → List A → List Piece
-further_pieces pieces [] = []
-further_pieces pieces (item ∷ items) = mark kinds.Comma ∷ (pieces item ++ further_pieces pieces items)
+abbrev pub further_lexemes : {A : Type 0} → (A → List Lexeme) → List A → List Lexeme
+further_lexemes lexemes [] = []
+further_lexemes lexemes (item ∷ items) = mark kinds.Comma ∷ (lexemes item ++ further_lexemes lexemes items)
 
-abbrev pub list_pieces : {A : Type 0} → (A → List Piece) → List A → List Piece
-list_pieces pieces [] = []
-list_pieces pieces (item ∷ items) = pieces item ++ further_pieces pieces items
+abbrev pub list_lexemes : {A : Type 0} → (A → List Lexeme) → List A → List Lexeme
+list_lexemes lexemes [] = []
+list_lexemes lexemes (item ∷ items) = lexemes item ++ further_lexemes lexemes items
 
 -- how a command is spelled
-abbrev pub spelling : Written → List Piece
+abbrev pub spelling : Written → List Lexeme
 spelling (written_route name start finish) =
     mark kinds.Define ∷ mark kinds.Route ∷ told kinds.Name name
-    ∷ mark kinds.From ∷ (measure_pieces start ++ mark kinds.To ∷ measure_pieces finish)
+    ∷ mark kinds.From ∷ (measure_lexemes start ++ mark kinds.To ∷ measure_lexemes finish)
 spelling (written_table name columns) =
     mark kinds.Define ∷ mark kinds.Line ∷ mark kinds.Table ∷ told kinds.Name name
-    ∷ mark kinds.LeftParen ∷ (list_pieces column_pieces columns ++ mark kinds.RightParen ∷ [])
+    ∷ mark kinds.LeftParen ∷ (list_lexemes column_lexemes columns ++ mark kinds.RightParen ∷ [])
 spelling (written_referent route name position) =
-    mark kinds.Define ∷ mark kinds.Referent ∷ told kinds.Name route ∷ told kinds.Name name ∷ mark kinds.At ∷ position_pieces position
+    mark kinds.Define ∷ mark kinds.Referent ∷ told kinds.Name route ∷ told kinds.Name name ∷ mark kinds.At ∷ position_lexemes position
 spelling (written_move route name position) =
-    mark kinds.Move ∷ mark kinds.Referent ∷ told kinds.Name route ∷ told kinds.Name name ∷ mark kinds.To ∷ position_pieces position
+    mark kinds.Move ∷ mark kinds.Referent ∷ told kinds.Name route ∷ told kinds.Name name ∷ mark kinds.To ∷ position_lexemes position
 spelling (written_drop route name) = mark kinds.Drop ∷ mark kinds.Referent ∷ told kinds.Name route ∷ told kinds.Name name ∷ []
 spelling (written_insert table route place values) =
     mark kinds.Insert ∷ mark kinds.Into ∷ told kinds.Name table ∷ mark kinds.On ∷ told kinds.Name route
-    ∷ (place_pieces place ++ mark kinds.Values ∷ mark kinds.LeftParen ∷ (list_pieces value_pieces values ++ mark kinds.RightParen ∷ []))
+    ∷ (location_lexemes place ++ mark kinds.Values ∷ mark kinds.LeftParen ∷ (list_lexemes value_lexemes values ++ mark kinds.RightParen ∷ []))
 spelling (written_translate route position method) =
-    mark kinds.Translate ∷ told kinds.Name route ∷ (position_pieces position ++ mark kinds.As ∷ method_pieces method)
-spelling (written_select name method) = mark kinds.Select ∷ told kinds.Name name ∷ wanted_pieces method
+    mark kinds.Translate ∷ told kinds.Name route ∷ (position_lexemes position ++ mark kinds.As ∷ method_lexemes method)
+spelling (written_select name method) = mark kinds.Select ∷ told kinds.Name name ∷ wanted_lexemes method
 
 -- The tokens that a spelling tells are tokens of the line, each of its kind.
-abbrev pub IsToldOf : List ℕ → Piece → Type 0
+abbrev pub IsToldOf : List ℕ → Lexeme → Type 0
 IsToldOf line (mark kind) = Unit {0}
 IsToldOf line (told kind token) = IsTokenOf line token × (token.kind ≡ kind)
 
-abbrev pub AreToldOf : List ℕ → List Piece → Type 0
+abbrev pub AreToldOf : List ℕ → List Lexeme → Type 0
 AreToldOf line [] = Unit {0}
-AreToldOf line (piece ∷ pieces) = IsToldOf line piece × AreToldOf line pieces
+AreToldOf line (lexeme ∷ lexemes) = IsToldOf line lexeme × AreToldOf line lexemes
 
 -- a list of the command has an item at least
 abbrev pub IsFull : Written → Type 0
@@ -145,16 +145,16 @@ IsFull _ = Unit {0}
 -- INT, or TEXT of 1 to TEXT_BYTES bytes
 abbrev pub SaysType : List ℕ → WrittenType → ColumnType → Type 0
 SaysType line written_types.Int types.Int = Unit {0}
-SaysType line (written_types.Text most) (types.Text bytes) = (bytes ≡ number_of_digits (text_of line most)) × (1 ≤ bytes) × (bytes ≤ TEXT_BYTES)
+SaysType line (written_types.Text most) (types.Text bytes) = (bytes ≡ number_of_digits (token_text line most)) × (1 ≤ bytes) × (bytes ≤ TEXT_BYTES)
 SaysType line _ _ = ⊥
 
 abbrev pub SaysColumns : List ℕ → List WrittenColumn → List (List ℕ × ColumnType) → Type 0
 SaysColumns line [] [] = Unit {0}
 SaysColumns line (written ∷ more) (column ∷ columns) =
-    (column.0 ≡ text_of line written.name) × SaysType line written.column_type column.1 × SaysColumns line more columns
+    (column.0 ≡ token_text line written.name) × SaysType line written.column_type column.1 × SaysColumns line more columns
 SaysColumns line _ _ = ⊥
 
--- the text behind an opening quote, up to the closing one, each doubled quote once
+-- the text after an opening quote, up to the closing one, each doubled quote once
 abbrev pub unquoted_rest : (behind_quote : Bool) → List ℕ → List ℕ
 unquoted_rest behind_quote [] = []
 unquoted_rest true (byte ∷ bytes) = byte ∷ unquoted_rest false bytes
@@ -165,15 +165,15 @@ abbrev pub unquoted : List ℕ → List ℕ
 unquoted [] = []
 unquoted (quote ∷ bytes) = unquoted_rest false bytes
 
--- the number that the digits say behind their sign
+-- the number that the digits say after their sign
 abbrev pub signed : Bool → ℕ → ℤ
 signed is_negative size = if is_negative then neg_ℤ (pos size) else pos size
 
 abbrev pub SaysDatum : List ℕ → WrittenValue → Datum → Type 0
 SaysDatum line written_values.Null null = Unit {0}
 SaysDatum line (written_values.Whole is_negative digits) (number n) =
-    let size = number_of_digits (text_of line digits) in (size ≤ 10 ^ 12) × (n ≡ signed is_negative size)
-SaysDatum line (written_values.Quoted quoted) (text bytes) = bytes ≡ unquoted (text_of line quoted)
+    let size = number_of_digits (token_text line digits) in (size ≤ 10 ^ 12) × (n ≡ signed is_negative size)
+SaysDatum line (written_values.Quoted quoted) (text bytes) = bytes ≡ unquoted (token_text line quoted)
 SaysDatum line _ _ = ⊥
 
 abbrev pub SaysRow : List ℕ → List WrittenValue → Row → Type 0
@@ -184,34 +184,34 @@ SaysRow line _ _ = ⊥
 -- What a written position says: a referent alone is the place where it stands.
 abbrev pub SaysPosition : List ℕ → WrittenPosition → PositionExpression → Type 0
 SaysPosition line (written_positions.Measure token) position =
-    (measure : ℕ) × SaysMeasure (text_of line token) measure × (position ≡ absolute measure)
+    (measure : ℕ) × SaysMeasure (token_text line token) measure × (position ≡ absolute measure)
 SaysPosition line (written_positions.Percentage token) position =
-    (part : ℕ) × SaysPart (text_of line token) part × (position ≡ interpolative part)
-SaysPosition line (written_positions.Referent name) position = position ≡ beyond (text_of line name) 0
+    (part : ℕ) × SaysPart (token_text line token) part × (position ≡ interpolative part)
+SaysPosition line (written_positions.Referent name) position = position ≡ beyond (token_text line name) 0
 SaysPosition line (written_positions.Beyond name token) position =
-    (measure : ℕ) × SaysMeasure (text_of line token) measure × (position ≡ beyond (text_of line name) measure)
+    (measure : ℕ) × SaysMeasure (token_text line token) measure × (position ≡ beyond (token_text line name) measure)
 SaysPosition line (written_positions.Before name token) position =
-    (measure : ℕ) × SaysMeasure (text_of line token) measure × (position ≡ before (text_of line name) measure)
+    (measure : ℕ) × SaysMeasure (token_text line token) measure × (position ≡ before (token_text line name) measure)
 
-abbrev pub SaysPlace : List ℕ → WrittenPlace → PlaceTree → Type 0
-SaysPlace line (written_places.Along from to) (along first second) = SaysPosition line from first × SaysPosition line to second
+abbrev pub SaysLocation : List ℕ → WrittenLocation → EventLocationTree → Type 0
+SaysLocation line (written_locations.Along from to) (along first second) = SaysPosition line from first × SaysPosition line to second
 
 -- What a written command says; nothing where a number of it is out of its range. Where no method is named,
 -- positions are absolute.
 abbrev pub Says : List ℕ → Written → CommandTree → Type 0
 Says line (written_route name start finish) tree =
-    (from : ℕ) × (to : ℕ) × SaysMeasure (text_of line start) from × SaysMeasure (text_of line finish) to
-    × (tree ≡ define_route (text_of line name) from to)
+    (from : ℕ) × (to : ℕ) × SaysMeasure (token_text line start) from × SaysMeasure (token_text line finish) to
+    × (tree ≡ define_route (token_text line name) from to)
 Says line (written_table name columns) tree =
-    (definitions : List (List ℕ × ColumnType)) × SaysColumns line columns definitions × (tree ≡ define_table Line (text_of line name) definitions)
+    (definitions : List (List ℕ × ColumnType)) × SaysColumns line columns definitions × (tree ≡ define_table Line (token_text line name) definitions)
 Says line (written_referent route name written) tree =
-    (position : PositionExpression) × SaysPosition line written position × (tree ≡ define_referent (text_of line route) (text_of line name) position)
+    (position : PositionExpression) × SaysPosition line written position × (tree ≡ define_referent (token_text line route) (token_text line name) position)
 Says line (written_move route name written) tree =
-    (position : PositionExpression) × SaysPosition line written position × (tree ≡ move_referent (text_of line route) (text_of line name) position)
-Says line (written_drop route name) tree = tree ≡ drop_referent (text_of line route) (text_of line name)
+    (position : PositionExpression) × SaysPosition line written position × (tree ≡ move_referent (token_text line route) (token_text line name) position)
+Says line (written_drop route name) tree = tree ≡ drop_referent (token_text line route) (token_text line name)
 Says line (written_insert table route written values) tree =
-    (place : PlaceTree) × (row : Row) × SaysPlace line written place × SaysRow line values row
-    × (tree ≡ insert (text_of line table) (text_of line route) place row)
+    (place : EventLocationTree) × (row : Row) × SaysLocation line written place × SaysRow line values row
+    × (tree ≡ insert (token_text line table) (token_text line route) place row)
 Says line (written_translate route written method) tree =
-    (position : PositionExpression) × SaysPosition line written position × (tree ≡ translate (text_of line route) position method)
-Says line (written_select name method) tree = tree ≡ select (named (text_of line name)) (unwrap_or method methods.Absolute)
+    (position : PositionExpression) × SaysPosition line written position × (tree ≡ translate (token_text line route) position method)
+Says line (written_select name method) tree = tree ≡ select (named (token_text line name)) (unwrap_or method methods.Absolute)

@@ -17,7 +17,7 @@ pub struct ColumnDefinition {
 
 /// Where an event is put on its route.
 #[derive(Clone, Copy)]
-pub enum Place {
+pub enum EventLocation {
     /// Along the span between two positions.
     Along {
         /// Where the span begins; it holds there.
@@ -87,7 +87,7 @@ pub enum Command {
         /// The route's name.
         route: Name,
         /// Where the row is put on the route.
-        place: Place,
+        place: EventLocation,
         /// The row as it is written, from the left; a text may be longer than its column.
         values: Vec<Literal>,
     },

@@ -7,6 +7,6 @@ pub mod commands;
 pub mod laws;
 pub mod written;
 
-pub use commands::{ColumnDefinition, Command, Place, Query};
+pub use commands::{ColumnDefinition, Command, EventLocation, Query};
 pub use laws::{command_of_a_line_is_sound, line_has_an_answer, line_has_one_answer};
 pub use rs_methods::{Method, Name, Position, Sign};

@@ -51,7 +51,7 @@ pub enum WrittenPosition {
 
 /// Where an event is put, as written.
 #[derive(Clone, Copy)]
-pub enum WrittenPlace {
+pub enum WrittenLocation {
     /// `FROM` a position `TO` another.
     Along {
         /// Where it begins.
@@ -112,7 +112,7 @@ pub enum WrittenCommand {
         /// The route's name.
         route: Token,
         /// Where the event is put.
-        place: WrittenPlace,
+        place: WrittenLocation,
         /// Its row, from the left.
         values: Vec<WrittenValue>,
     },

@@ -36,7 +36,7 @@ doubled_at_quote (b ∷ bs) within = elim (cases_Bool (is_quote b)) [
       rw other (ap (λ r. b ∷ r) (doubled_at_quote bs rest) ∙ cut_behind b bs (position_or_len is_quote bs) (1 + position_or_len is_quote bs) (1 + position_or_len is_quote bs + 1) (omega arith) (omega arith))
 ]
 
--- A text that gained the part before a quote and two quotes has what is behind the quote still to come.
+-- A text that gained the part before a quote and two quotes has what is after the quote still to come.
 pub goes_on : (text first both before rest after whole : List ℕ) → first ≡ text ++ before → both ≡ first ++ (39 ∷ 39 ∷ []) → before ≡ before_first is_quote rest → after ≡ after_first is_quote rest → position_or_len is_quote rest < length rest
     → text ++ quotes_doubled rest ≡ whole → both ++ quotes_doubled after ≡ whole
 goes_on text first both before rest after whole first_is both_is before_is after_is within so_far =
@@ -47,7 +47,7 @@ goes_on text first both before rest after whole first_is both_is before_is after
     ∙ (append_assoc text before (39 ∷ 39 ∷ quotes_doubled after)
     ∙ (ap (λ l. text ++ l) (sym cut) ∙ so_far)))
 
--- What stands behind the first quote is shorter.
+-- What stands after the first quote is shorter.
 pub after_quote_shorter : (after rest : List ℕ) → after ≡ after_first is_quote rest → position_or_len is_quote rest < length rest → length after < length rest
 after_quote_shorter after rest after_is within = omega (arith, ap length after_is, length-drop (position_or_len is_quote rest + 1) rest)
 

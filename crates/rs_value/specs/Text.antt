@@ -14,7 +14,7 @@ datum_text null = codes "NULL"
 datum_text (number n) = signed_decimal n
 datum_text (text bytes) = codes "'" ++ quotes_doubled bytes ++ codes "'"
 
--- the text of each datum behind a space
+-- the text of each datum after a space
 abbrev pub values_text : Row → List ℕ
 values_text [] = []
 values_text (datum ∷ row) = codes " " ++ datum_text datum ++ values_text row

@@ -1,7 +1,6 @@
-use Rattle.std.proofs.Common.{◌≡◌, ℕ, ◌+◌, ◌-◌, ◌≤◌, List, length, take, drop, get_or, is_ok, None, sym, ap, ◌∙◌, subst, inr, refl, eqb-true, false-eqb, arith}
-use Rattle.std.proofs.ResultArms.{chosen}
+use Rattle.std.proofs.Common.{rules, ◌≡◌, ℕ, ◌+◌, ◌-◌, ◌≤◌, List, length, take, drop, get_or, None, sym, ap, ◌∙◌, subst, inr, refl, eqb-true, false-eqb, arith}
 use Rattle.std.proofs.lemmas.List.{take_rest}
-use Rattle.rs_lexer.specs.Lexis.{kind_of, IsLongestToken}
+use Rattle.rs_lexer.specs.Lexis.{token_kind, IsLongestToken}
 use Rattle.rs_lexer.proofs.CutLaws.{IsCutSoFar, has_a_byte, so_far-blank, so_far-token, so_far-end, so_far-none}
 use Rattle.rs_lexer.proofs.token.tokens.Goals as goal
 
@@ -18,7 +17,7 @@ loop-place-preserved-then-is_blank c =
 pub returns-in_default-clause-refused : goal.returns-in_default-clause-refused
 returns-in_default-clause-refused c =
     let same = c.as_bytes-bytes.ensures.value in
-    let none = subst (λ rest. (count : ℕ) → count ≤ length rest → kind_of (take count rest) ≡ None) (rest_is c.as_bytes-bytes.result.now c.args.line.now c.loop-place.place same) c.in_default.ensures in
+    let none = subst (λ rest. (count : ℕ) → count ≤ length rest → token_kind (take count rest) ≡ None) (rest_is c.as_bytes-bytes.result.now c.args.line.now c.loop-place.place same) c.in_default.ensures in
     inr (
       refl,
       so_far-none c.args.line.now c.args.from c.loop-place.place c.loop-place.tokens.items c.loop-place.invariant none (omega (arith, ap length same))
@@ -34,9 +33,11 @@ pub loop-place-preserved : goal.loop-place-preserved
 loop-place-preserved c =
     let same = c.as_bytes-bytes.ensures.value in
     let longest = subst (λ rest. IsLongestToken rest c.in-Some.kind c.in-Some.length) (rest_is c.as_bytes-bytes.result.now c.args.line.now c.loop-place.place same) c.in-Some.ensures in
-    let pushed = chosen _ _ _ _ c.push.ensures.items (sym c.map_err.ensures.variant ∙ ap is_ok c.in_ok-map_err.was) in
-    subst (λ tokens. IsCutSoFar c.args.line.now c.args.from tokens (c.loop-place.place + c.in-Some.length)) (sym pushed)
+    subst (λ tokens. IsCutSoFar c.args.line.now c.args.from tokens (c.loop-place.place + c.in-Some.length)) (sym c.in_ok-push.ensures.items)
     (so_far-token c.args.line.now c.args.from c.loop-place.place c.loop-place.tokens.items c.in-Some.kind c.in-Some.length c.loop-place.invariant (omega (arith, ap length same)) longest)
 
 pub returns-clause-cut : goal.returns-clause-cut
 returns-clause-cut c = so_far-end c.args.line.now c.args.from c.loop-place.place c.loop-place.tokens.items c.loop-place.invariant (omega (arith, ap length c.as_bytes-bytes.ensures.value))
+
+pub loop-place-init : goal.loop-place-init
+loop-place-init c = search rules

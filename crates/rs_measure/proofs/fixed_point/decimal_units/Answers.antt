@@ -1,4 +1,3 @@
-use Rattle.std.proofs.Common.{◌∙◌}
 use Rattle.rs_measure.proofs.FixedPoint.{decimals_in_range}
 use Rattle.rs_measure.proofs.fixed_point.decimal_units.Goals as goal
 

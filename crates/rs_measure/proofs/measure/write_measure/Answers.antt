@@ -1,4 +1,4 @@
-use Rattle.std.proofs.Common.{◌≡◌, ◌≤◌, [], ◌∷◌, ◌++◌, length, encode_utf8, ap, subst, sym, lit<, arith, length-append}
+use Rattle.std.proofs.Common.{rules, ◌≡◌, ◌≤◌, [], ◌∷◌, ◌++◌, length, encode_utf8, ap, subst, sym, lit<, arith, length-append}
 use Rattle.std.proofs.lemmas.Str.{encode_ascii}
 use Rattle.rs_measure.proofs.MeasureText.{whole_digits_short}
 use Rattle.rs_measure.proofs.measure.write_measure.Goals as goal
@@ -16,3 +16,6 @@ push_three_digits-requires c =
     let empty : length c.new-text.result.bytes ≡ 0 = ap length c.new-text.ensures in
     let pushed : length c.push.new.self.bytes ≡ length (c.push_str.new.self.bytes ++ 46 ∷ []) = ap length (c.push.ensures.ascii (lit< tt)) in
     (omega arith, omega (arith, length-append c.push_str.new.self.bytes (46 ∷ [])))
+
+pub returns : goal.returns
+returns c = search rules

@@ -1,4 +1,4 @@
-use Rattle.std.proofs.Common.{◌≡◌, ◌≤◌, [], ◌∷◌, ◌++◌, length, ap, subst, sym, lit<, arith, length-append}
+use Rattle.std.proofs.Common.{rules, ◌≡◌, ◌≤◌, [], ◌∷◌, ◌++◌, length, ap, subst, sym, lit<, arith, length-append}
 use Rattle.rs_measure.proofs.PartText.{whole_digits_short}
 use Rattle.rs_measure.proofs.part.write_part.Goals as goal
 
@@ -8,3 +8,6 @@ push_seven_digits-requires-clause-room c =
     let empty : length c.new-text.result.bytes ≡ 0 = ap length c.new-text.ensures in
     let pushed : length c.push.new.self.bytes ≡ length (c.push_str.new.self.bytes ++ 46 ∷ []) = ap length (c.push.ensures.ascii (lit< tt)) in
     omega (arith, length-append c.push_str.new.self.bytes (46 ∷ []))
+
+pub returns : goal.returns
+returns c = search rules

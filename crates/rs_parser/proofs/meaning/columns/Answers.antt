@@ -1,12 +1,11 @@
-use Rattle.std.proofs.Common.{◌+◌, take, is_ok, refl, sym, ap, ◌∙◌, subst, inr}
-use Rattle.std.proofs.ResultArms.{chosen}
+use Rattle.std.proofs.Common.{◌+◌, take, refl, sym, ap, ◌∙◌, subst, inr}
 use Rattle.std.specs.Prelude.{map}
 use Rattle.std.proofs.lemmas.List.{map-append}
 use Rattle.rs_grammar.specs.declared.kind.TokenKind.TheVariants as kinds
 use Rattle.rs_syntax.specs.declared.written.WrittenColumn.{WrittenColumn}
 use Rattle.rs_syntax.specs.declared.written.WrittenType.TheVariants as types
 use Rattle.rs_syntax.specs.View.{column_tree}
-use Rattle.rs_syntax.specs.Written.{column_pieces, SaysColumns}
+use Rattle.rs_syntax.specs.Written.{column_lexemes, SaysColumns}
 use Rattle.rs_parser.proofs.MeaningLaws.{list_told, columns_more, no_columns}
 use Rattle.rs_parser.proofs.meaning.columns.Goals as goal
 
@@ -15,20 +14,20 @@ abbrev blank : WrittenColumn
 blank = record { name = record { kind = kinds.Absolute; first = 0; length = 0 }; column_type = types.Int }
 
 pub column_type-requires : goal.column_type-requires
-column_type-requires c = (list_told c.args.line.now column_pieces c.args.written.now c.requires c.loop-column.column-index blank c.loop-column-test.true).1
+column_type-requires c = (list_told c.args.line.now column_lexemes c.args.written.now c.requires c.loop-column.column-index blank c.loop-column-test.true).1
 
 pub name-requires-clause-inside : goal.name-requires-clause-inside
-name-requires-clause-inside c = (list_told c.args.line.now column_pieces c.args.written.now c.requires c.loop-column.column-index blank c.loop-column-test.true).0.0
+name-requires-clause-inside c = (list_told c.args.line.now column_lexemes c.args.written.now c.requires c.loop-column.column-index blank c.loop-column-test.true).0.0
 
 pub name-requires-clause-kind : goal.name-requires-clause-kind
-name-requires-clause-kind c = (list_told c.args.line.now column_pieces c.args.written.now c.requires c.loop-column.column-index blank c.loop-column-test.true).0.1
+name-requires-clause-kind c = (list_told c.args.line.now column_lexemes c.args.written.now c.requires c.loop-column.column-index blank c.loop-column-test.true).0.1
 
 pub returns-in_default-clause-err : goal.returns-in_default-clause-err
 returns-in_default-clause-err c = inr (refl, no_columns c.args.line.now c.args.written.now c.loop-column.column-index blank c.loop-column-test.true c.in_default.ensures)
 
 pub loop-column-preserved : goal.loop-column-preserved
 loop-column-preserved c =
-    let pushed = chosen _ _ _ _ c.push.ensures.items (sym c.map_err.ensures.variant ∙ ap is_ok c.in_ok-map_err.was) in
+    let pushed = c.in_ok-push.ensures.items in
     let more = ap (map column_tree) pushed ∙ map-append column_tree c.loop-column.columns.items _ in
     subst (λ columns. SaysColumns c.args.line.now (take (c.loop-column.column-index + 1) c.args.written.now) columns) (sym more)
     (columns_more c.args.line.now c.args.written.now c.loop-column.column-index blank (map column_tree c.loop-column.columns.items) (c.name.result.bytes, c.in-Some.column_type) c.loop-column-test.true c.loop-column.invariant c.name.ensures c.in-Some.ensures)

@@ -1,4 +1,4 @@
-use Rattle.std.proofs.Common.{sym, subst}
+use Rattle.std.proofs.Common.{rules, sym, subst}
 use Rattle.std.proofs.lemmas.Result.{err_from_is_err_and}
 use Rattle.rs_methods.specs.Position.{PositionExpression}
 use Rattle.rs_syntax.specs.Written.{SaysPosition}
@@ -23,3 +23,6 @@ pub returns-in_err-before-in-Before-clause-refused : goal.returns-in_err-before-
 returns-in_err-before-in-Before-clause-refused c =
     let p = err_from_is_err_and c.from_residual-in_err-before-in-Before.result c.from_residual-in_err-before-in-Before.ensures.1 in
     rw (p.1) (subst (λ w. (q : PositionExpression) → SaysPosition c.args.line.now w q → ⊥) (sym c.in-Before.is) (λ q says. c.in_err-before-in-Before.ensures.refused says.0 says.1))
+
+pub returns-in_ok-before-in-Before-clause-ok : goal.returns-in_ok-before-in-Before-clause-ok
+returns-in_ok-before-in-Before-clause-ok c = search rules

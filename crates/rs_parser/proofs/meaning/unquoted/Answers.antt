@@ -1,5 +1,4 @@
-use Rattle.std.proofs.Common.{◌≡◌, ◌++◌, string_bytes, is_ok, false, sym, ap, ◌∙◌, subst, arith}
-use Rattle.std.proofs.ResultArms.{chosen}
+use Rattle.std.proofs.Common.{◌≡◌, ◌++◌, string_bytes, false, sym, ap, ◌∙◌, subst, arith}
 use Rattle.std.proofs.lemmas.Str.{lead_after_ascii}
 use Rattle.std.specs.Char.{encode_utf8}
 use Rattle.std.specs.Str.Iter.{chars_rest}
@@ -18,7 +17,7 @@ range_from-rest-requires c = λ _.
 
 pub loop-character-preserved : goal.loop-character-preserved
 loop-character-preserved c =
-    let pushed = chosen _ _ _ _ c.push.ensures.bytes (sym c.map_err.ensures.variant ∙ ap is_ok c.in_ok-map_err.was) in
+    let pushed = c.in_ok-push.ensures.bytes in
     let before = c.loop-character.invariant in
     let next = c.in-Some.ensures.steps.0 in
     let stands : unquoted_rest c.loop-character.is_behind_quote (encode_utf8 c.in-Some.character ++ chars_rest c.next.new.self) ≡ encode_utf8 c.in-Some.character ++ unquoted_rest false (chars_rest c.next.new.self) =

@@ -1,16 +1,15 @@
-use Rattle.std.proofs.Common.{◌+◌, take, is_ok, sym, ap, ◌∙◌, subst, inl, inr, ⊎_elim}
-use Rattle.std.proofs.ResultArms.{chosen}
+use Rattle.std.proofs.Common.{◌+◌, take, sym, ap, ◌∙◌, subst, inl, inr, ⊎_elim}
 use Rattle.std.specs.Prelude.{map}
 use Rattle.std.proofs.lemmas.List.{map-append}
 use Rattle.std.proofs.lemmas.Result.{err_from_is_err_and}
 use Rattle.rs_value.specs.View.{literal_datum, literal_row}
 use Rattle.rs_syntax.specs.declared.written.WrittenValue.TheVariants.{Null}
-use Rattle.rs_syntax.specs.Written.{value_pieces, SaysRow}
+use Rattle.rs_syntax.specs.Written.{value_lexemes, SaysRow}
 use Rattle.rs_parser.proofs.MeaningLaws.{list_told, values_more, no_row}
 use Rattle.rs_parser.proofs.meaning.values.Goals as goal
 
 pub literal-requires : goal.literal-requires
-literal-requires c = list_told c.args.line.now value_pieces c.args.written.now c.requires c.loop-value.value-index Null c.loop-value-test.true
+literal-requires c = list_told c.args.line.now value_lexemes c.args.written.now c.requires c.loop-value.value-index Null c.loop-value-test.true
 
 pub returns-in_err-literal-clause-err : goal.returns-in_err-literal-clause-err
 returns-in_err-literal-clause-err c =
@@ -22,7 +21,7 @@ returns-in_err-literal-clause-err c =
 
 pub loop-value-preserved : goal.loop-value-preserved
 loop-value-preserved c =
-    let pushed = chosen _ _ _ _ c.push.ensures.items (sym c.map_err.ensures.variant ∙ ap is_ok c.in_ok-map_err.was) in
+    let pushed = c.in_ok-push.ensures.items in
     let more = ap (map literal_datum) pushed ∙ map-append literal_datum c.loop-value.values.items _ in
     subst (λ row. SaysRow c.args.line.now (take (c.loop-value.value-index + 1) c.args.written.now) row) (sym more)
     (values_more c.args.line.now c.args.written.now c.loop-value.value-index Null (literal_row c.loop-value.values.items) (literal_datum c.in_ok-literal.literal) c.loop-value-test.true c.loop-value.invariant c.in_ok-literal.ensures.ok)

@@ -1,11 +1,11 @@
 use Rattle.std.proofs.Common.{length}
 use Rattle.rs_grammar.specs.Grammar.{rules, columns}
-use Rattle.rs_syntax.specs.Written.{column_pieces}
+use Rattle.rs_syntax.specs.Written.{column_lexemes}
 use Rattle.rs_parser.proofs.Steps.{IsListSoFar}
 use Rattle.rs_parser.proofs.reading.columns.Given as goal
 
 abbrev pub invariant-loop-columns : goal.invariant-loop-columns
-invariant-loop-columns l = IsListSoFar (rules columns) column_pieces l.tokens l.columns.items l.rest
+invariant-loop-columns l = IsListSoFar (rules columns) column_lexemes l.tokens l.columns.items l.rest
 
 abbrev pub decreases-loop-columns : goal.decreases-loop-columns
 decreases-loop-columns l = length l.rest

@@ -1,3 +1,4 @@
+use Rattle.std.proofs.Common.{rules}
 use Rattle.std.proofs.lemmas.Result.{err_from_is_err_and}
 use Rattle.rs_parser.specs.Reading.{is_done, skips}
 use Rattle.rs_parser.proofs.Steps.{takes_as, misses}
@@ -24,3 +25,6 @@ returns-in_err-quoted-clause-runs c =
 
 pub returns-clause-runs : goal.returns-clause-runs
 returns-clause-runs c = skips c.in_default.ensures.found (skips c.in_default-mark.ensures.found (skips c.in_default-text.ensures.found (takes_as c.in_ok-quoted.ensures.found is_done)))
+
+pub returns-in-Some-mark-clause-spelled : goal.returns-in-Some-mark-clause-spelled
+returns-in-Some-mark-clause-spelled c = search rules

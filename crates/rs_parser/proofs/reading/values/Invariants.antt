@@ -1,11 +1,11 @@
 use Rattle.std.proofs.Common.{length}
 use Rattle.rs_grammar.specs.Grammar.{rules, values}
-use Rattle.rs_syntax.specs.Written.{value_pieces}
+use Rattle.rs_syntax.specs.Written.{value_lexemes}
 use Rattle.rs_parser.proofs.Steps.{IsListSoFar}
 use Rattle.rs_parser.proofs.reading.values.Given as goal
 
 abbrev pub invariant-loop-values : goal.invariant-loop-values
-invariant-loop-values l = IsListSoFar (rules values) value_pieces l.tokens l.values.items l.rest
+invariant-loop-values l = IsListSoFar (rules values) value_lexemes l.tokens l.values.items l.rest
 
 abbrev pub decreases-loop-values : goal.decreases-loop-values
 decreases-loop-values l = length l.rest

@@ -1,5 +1,5 @@
-use Rattle.rs_protocol.proofs.Cuts.{IsCut-one}
+use Rattle.rs_protocol.proofs.Cuts.{IsCutIntoLines-one}
 use Rattle.rs_protocol.proofs.laws.stream_has_one_cut.Goals as goal
 
 pub returns : goal.returns
-returns c bytes lines others rest other cut cut' = IsCut-one bytes lines others rest other cut cut'
+returns c bytes lines others rest other cut cut' = IsCutIntoLines-one bytes lines others rest other cut cut'

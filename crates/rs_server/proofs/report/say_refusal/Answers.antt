@@ -1,4 +1,4 @@
-use Rattle.std.proofs.Common.{◌≡◌, List, ℕ}
+use Rattle.std.proofs.Common.{◌≡◌}
 use Rattle.std.specs.Prelude.{decimal}
 use Rattle.rs_measure.specs.Refusal.{number_of, words_of}
 use Rattle.rs_server.proofs.Saying.{line_from_parts}
