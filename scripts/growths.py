@@ -42,6 +42,9 @@ TOO_LONG = {
 # More growths than any program asks for.
 NONE_REFUSED = 1_000_000
 
+# More steps of the interpreter than any counted run takes, some twenty seconds of it.
+MOST_STEPS = 100_000_000
+
 # A worker gets so many cases at the least, since it builds the program for them.
 CASES_OF_A_BUILD = 100
 
@@ -77,7 +80,7 @@ def run(refused, cases):
     """For each case, all of one group, whether the run went as wanted, and how many growths it asked for."""
     program, is_counted = cases[0].program, cases[0].is_counted
     # the interpreter counts the growths; where they don't matter it ends at once
-    steps = [] if is_counted else ["--steps", "1"]
+    steps = ["--steps", str(MOST_STEPS if is_counted else 1)]
     with tempfile.TemporaryDirectory() as folder:
         for case in cases:
             path = os.path.join(folder, case.key())

@@ -3,7 +3,8 @@
 # conversations, answers pseudo-random lines beside the slow machine, and has its growths refused in turn.
 set -eu
 cd "$(dirname "$0")/.."
-rt ci
+# each check by one process: several for one check take a fifth more of the processors
+RT_JOBS="${RT_JOBS:-$(nproc)}" rt ci
 if [ ! -x crates/roadseg/out/roadseg ]; then
     (cd crates/roadseg && rt run -- --help > /dev/null)
 fi
