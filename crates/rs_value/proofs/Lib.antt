@@ -1,3 +1,4 @@
 pub mod RowOrder
+pub mod EncodingOrder
 mod FittingLemmas
 mod QuotesDoubled

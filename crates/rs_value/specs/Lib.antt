@@ -3,3 +3,4 @@ pub mod Values
 pub mod View
 pub mod Fitting
 pub mod Text
+pub mod Encoding
