@@ -1,11 +1,16 @@
 //! Rows and their bytes, written by hand.
 
+ghost use Rattle.std.specs.Prelude.{◌≡◌};
+ghost use Rattle.arrayvec.specs.ArrayVec.{array_vec_len};
+
 use arrayvec::ArrayString;
 use rs_value::{ColumnType, Schema, TEXT_BYTES, Value, decode, encode, row_width};
 use std::test::Fail;
 
 /// A schema of one column.
-fn one_column(column: ColumnType) -> Schema {
+fn one_column(column: ColumnType) -> Schema
+    ensures { array_vec_len result ≡ 1 }
+{
     let mut schema = Schema::new();
     schema.push(column);
     schema
