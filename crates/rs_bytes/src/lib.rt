@@ -1,0 +1,14 @@
+//! Items as bytes: numbers, texts, pairs and lists, read from the front of bytes and appended to them.
+//!
+//! It promises that reading finds what the bytes say, or that they say nothing.
+#![tactic(auto)]
+
+pub mod item;
+pub mod lists;
+pub mod numbers;
+pub mod pairs;
+pub mod reader;
+pub mod texts;
+
+pub use item::{Item, read_whole};
+pub use reader::Reader;
