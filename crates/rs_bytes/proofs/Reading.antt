@@ -1,12 +1,10 @@
 -- What reading one item after another says of all of them.
 use Rattle.std.proofs.Common.{ℕ, zero, suc, ◌+◌, ◌<◌, ◌≡◌, List, [], ◌∷◌, ◌++◌, length, map, take, drop, get_or, IsUtf8, refl, sym, ap, subst, ◌∙◌, arith, append_assoc, append-nil, length-append, length-take, All}
-use Rattle.std.specs.Int.{bytes_high_first}
-use Rattle.std.proofs.Math.Nat.{mod-eq_of_lt}
 use Rattle.std.proofs.lemmas.List.Elements.{All-get_or}
 use Rattle.std.proofs.lemmas.Grind.{take_at_read}
 use Rattle.std.proofs.lemmas.Str.{IsUtf8-from_is_utf8, is_utf8-from_IsUtf8}
 use Rattle.std.proofs.lemmas.List.{map-append, length-map, get_or-map}
-use Rattle.rs_bytes.specs.Codes.{Code, Reads, ReadsNone, Writes, IsOne, SaysNumber, SaysText, SaysBoth, SaysEach, SaysCounted}
+use Rattle.rs_bytes.specs.Codes.{Code, Reads, ReadsNone, Writes, IsOne, SaysNumber, SaysBoth, SaysUtf8, SaysEach, SaysMany, SaysCounted}
 use Rattle.rs_bytes.specs.Laws.{parts, each_one, number_one}
 
 -- A part that is not there is no whole.
@@ -59,26 +57,47 @@ each_next says bytes (x ∷ xs) zero within (first, rest, is, a, b) = (x, first,
 each_next says bytes (x ∷ xs) (suc i) within each = each_next says bytes xs i (omega arith) each
 
 -- Where the next value is missing, the list is.
-pub none_next : {A : Type 0} (says : Code A) → IsOne says → (old mid now : List ℕ) (count i : ℕ) (xs : List A) → Reads (SaysNumber 4) old count mid → Reads (SaysEach says) mid xs now
-    → length xs ≡ i → i < count → ReadsNone says now → ReadsNone (SaysCounted says) old
-none_next says one old mid now count i xs counted each many within lacks = record {
+pub none_next : {A : Type 0} (says : Code A) → IsOne says → (old now : List ℕ) (count i : ℕ) (xs : List A) → Reads (SaysEach says) old xs now
+    → length xs ≡ i → i < count → ReadsNone says now → ReadsNone (SaysMany count (SaysEach says)) old
+none_next says one old now count i xs each many within lacks = record {
+  none = λ ys new reads.
+      let cut = each_split says reads.front ys i reads.said.1 in
+      let taken : length (take i ys) ≡ length xs = length-take i ys ∙ omega (arith, reads.said.0) in
+      let there : cut.0 ++ (cut.1 ++ new) ≡ each.front ++ now = sym (ap (λ l. l ++ new) cut.2 ∙ append_assoc cut.0 cut.1 new) ∙ sym reads.is ∙ each.is in
+      let same = each_one says one cut.0 (cut.1 ++ new) each.front now (take i ys) xs taken cut.3 each.said there in
+      let next = each_next says cut.1 ys i (omega (arith, reads.said.0)) cut.4 in
+      lacks.none next.0 (next.2 ++ new) (record { front = next.1; is = sym same.1 ∙ ap (λ l. l ++ new) next.3 ∙ append_assoc next.1 next.2 new; said = next.4 });
+}
+
+-- A list after the number of what is in it.
+pub none_counted : {A : Type 0} (n : ℕ) (says : Code (List A)) (old : List ℕ) → ReadsNone (SaysNumber n) old → ReadsNone (SaysCounted n says) old
+none_counted n says old lacks = record {
+  none = λ ys new reads.
+      lacks.none (length ys) (reads.said.1 ++ new) (record { front = reads.said.0; is = reads.is ∙ ap (λ l. l ++ new) reads.said.2 ∙ append_assoc reads.said.0 reads.said.1 new; said = reads.said.3 });
+}
+
+pub none_behind : {A : Type 0} (n : ℕ) (says : Code (List A)) (old mid : List ℕ) (count many : ℕ) → many ≡ count → Reads (SaysNumber n) old count mid → ReadsNone (SaysMany many says) mid → ReadsNone (SaysCounted n says) old
+none_behind n says old mid count many same counted lacks = record {
   none = λ ys new reads.
       let c = reads.said.0 in
       let r = reads.said.1 in
       let whole : c ++ (r ++ new) ≡ counted.front ++ mid = sym (reads.is ∙ ap (λ l. l ++ new) reads.said.2 ∙ append_assoc c r new) ∙ counted.is in
-      let number = number_one 4 c (r ++ new) counted.front mid (length ys) count reads.said.3 counted.said whole in
-      let cut = each_split says r ys i reads.said.4 in
-      let taken : length (take i ys) ≡ length xs = length-take i ys ∙ omega arith in
-      let there : cut.0 ++ (cut.1 ++ new) ≡ each.front ++ now = sym (ap (λ l. l ++ new) cut.2 ∙ append_assoc cut.0 cut.1 new) ∙ number.1 ∙ each.is in
-      let same = each_one says one cut.0 (cut.1 ++ new) each.front now (take i ys) xs taken cut.3 each.said there in
-      let next = each_next says cut.1 ys i (omega arith) cut.4 in
-      lacks.none next.0 (next.2 ++ new) (record { front = next.1; is = sym same.1 ∙ ap (λ l. l ++ new) next.3 ∙ append_assoc next.1 next.2 new; said = next.4 });
+      let number = number_one n c (r ++ new) counted.front mid (length ys) count reads.said.3 counted.said whole in
+      lacks.none ys new (record { front = r; is = sym number.1; said = (number.0 ∙ sym same, reads.said.4) });
 }
 
-pub none_counted : {A : Type 0} (says : Code A) (old : List ℕ) → ReadsNone (SaysNumber 4) old → ReadsNone (SaysCounted says) old
-none_counted says old lacks = record {
-  none = λ ys new reads.
-      lacks.none (length ys) (reads.said.1 ++ new) (record { front = reads.said.0; is = reads.is ∙ ap (λ l. l ++ new) reads.said.2 ∙ append_assoc reads.said.0 reads.said.1 new; said = reads.said.3 });
+pub counted_read : {A : Type 0} (n : ℕ) (says : Code (List A)) (old mid new : List ℕ) (count many : ℕ) (xs : List A) → many ≡ count → Reads (SaysNumber n) old count mid → Reads (SaysMany many says) mid xs new → Reads (SaysCounted n says) old xs new
+counted_read n says old mid new count many xs same counted list = record {
+  front = counted.front ++ list.front;
+  is = counted.is ∙ ap (λ l. counted.front ++ l) list.is ∙ sym (append_assoc counted.front list.front new);
+  said = (counted.front, list.front, refl, subst (λ k. SaysNumber n counted.front k) (sym (list.said.0 ∙ same)) counted.said, list.said.1);
+}
+
+pub counted_written : {A : Type 0} (n : ℕ) (says : Code (List A)) (old mid new : List ℕ) (count : ℕ) (xs : List A) → count ≡ length xs → Writes (SaysNumber n) old count mid → Writes says mid xs new → Writes (SaysCounted n says) old xs new
+counted_written n says old mid new count xs many counted list = record {
+  back = counted.back ++ list.back;
+  is = list.is ∙ ap (λ l. l ++ list.back) counted.is ∙ append_assoc old counted.back list.back;
+  said = (counted.back, list.back, refl, subst (λ k. SaysNumber n counted.back k) many counted.said, list.said);
 }
 
 pub each_read : {A B : Type 0} (says : Code A) (said : B → A) (mid now new : List ℕ) (items : List B) (item : B) → Reads (SaysEach says) mid (map said items) now → Reads says now (said item) new
@@ -92,13 +111,6 @@ each_read says said mid now new items item each one = record {
 pub none_read : {A : Type 0} (says : Code A) (bytes : List ℕ) → Reads (SaysEach says) bytes [] bytes
 none_read says bytes = record { front = []; is = refl; said = refl }
 
-pub counted_read : {A : Type 0} (says : Code A) (old mid new : List ℕ) (count : ℕ) (xs : List A) → count ≡ length xs → Reads (SaysNumber 4) old count mid → Reads (SaysEach says) mid xs new → Reads (SaysCounted says) old xs new
-counted_read says old mid new count xs many counted each = record {
-  front = counted.front ++ each.front;
-  is = counted.is ∙ ap (λ l. counted.front ++ l) each.is ∙ sym (append_assoc counted.front each.front new);
-  said = (counted.front, each.front, refl, subst (λ n. SaysNumber 4 counted.front n) many counted.said, each.said);
-}
-
 -- What is written one after another.
 pub none_written : {A : Type 0} (says : Code A) (bytes : List ℕ) → Writes (SaysEach says) bytes [] bytes
 none_written says bytes = record { back = []; is = sym (append-nil bytes); said = refl }
@@ -110,13 +122,6 @@ each_written says old now new xs x each one = record {
   said = each_push says each.back one.back xs x each.said one.said;
 }
 
-pub counted_written : {A : Type 0} (says : Code A) (old mid new : List ℕ) (count : ℕ) (xs : List A) → count ≡ length xs → Writes (SaysNumber 4) old count mid → Writes (SaysEach says) mid xs new → Writes (SaysCounted says) old xs new
-counted_written says old mid new count xs many counted each = record {
-  back = counted.back ++ each.back;
-  is = each.is ∙ ap (λ l. l ++ each.back) counted.is ∙ append_assoc old counted.back each.back;
-  said = (counted.back, each.back, refl, subst (λ n. SaysNumber 4 counted.back n) many counted.said, each.said);
-}
-
 -- the value at a place of a list
 pub value_at : {A B : Type 0} (P : A → Type 0) (said : B → A) (items : List B) (i : ℕ) (item : B) → i < length items → item ≡ get_or items i item → All P (map said items) → P (said item)
 value_at P said items i item within is all =
@@ -126,47 +131,25 @@ pub take_next : {A B : Type 0} (said : B → A) (items : List B) (i : ℕ) (item
 take_next said items i item within is =
     sym (ap (map said) (take_at_read items i item within).1 ∙ map-append said (take i items) (get_or items i item ∷ []) ∙ ap (λ v. map said (take i items) ++ said v ∷ []) (sym is))
 
--- A text after the byte of its length.
-one_byte : (x : ℕ) → x < 256 → bytes_high_first 1 x ≡ x ∷ []
-one_byte x few = ap (λ n. n ∷ []) (mod-eq_of_lt few)
+pub many_read : {A : Type 0} (says : Code (List A)) (old new : List ℕ) (count : ℕ) (xs : List A) → length xs ≡ count → Reads says old xs new → Reads (SaysMany count says) old xs new
+many_read says old new count xs many reads = record { front = reads.front; is = reads.is; said = (many, reads.said) }
 
-pub text_read : (old mid text new : List ℕ) (count : ℕ) → Reads (SaysNumber 1) old count mid → mid ≡ text ++ new → length text ≡ count → IsUtf8 text → Reads SaysText old text new
-text_read old mid text new count counted is many utf8 = record {
-  front = counted.front ++ text;
-  is = counted.is ∙ ap (λ l. counted.front ++ l) is ∙ sym (append_assoc counted.front text new);
-  said = (omega (arith, counted.said.0), is_utf8-from_IsUtf8 text utf8, ap (λ l. l ++ text) (counted.said.1 ∙ one_byte count counted.said.0 ∙ ap (λ n. n ∷ []) (sym many)));
-}
+-- A text of so many bytes.
+pub utf8_read : (old text new : List ℕ) (count : ℕ) → old ≡ text ++ new → length text ≡ count → IsUtf8 text → Reads (SaysMany count SaysUtf8) old text new
+utf8_read old text new count is many utf8 = record { front = text; is = is; said = (many, (refl, is_utf8-from_IsUtf8 text utf8)) }
 
-pub none_length : (old : List ℕ) → ReadsNone (SaysNumber 1) old → ReadsNone SaysText old
-none_length old lacks = record {
+pub none_few : (old : List ℕ) (count : ℕ) → length old < count → ReadsNone (SaysMany count SaysUtf8) old
+none_few old count few = record {
   none = λ value rest reads.
-      lacks.none (length value) (value ++ rest) (record { front = length value ∷ []; is = reads.is ∙ ap (λ l. l ++ rest) reads.said.2; said = (reads.said.0, sym (one_byte (length value) reads.said.0)) });
+      absurd (omega (arith, reads.said.0, ap length reads.said.1.0, ap length reads.is ∙ length-append reads.front rest));
 }
 
--- What is after the byte is the text of a reading and what it leaves.
-text_after : (old mid value rest : List ℕ) (count : ℕ) → Reads (SaysNumber 1) old count mid → (reads : Reads SaysText old value rest) → (count ≡ length value) × (mid ≡ value ++ rest)
-text_after old mid value rest count counted reads =
-    let there : length value ∷ (value ++ rest) ≡ count ∷ mid = sym (reads.is ∙ ap (λ l. l ++ rest) reads.said.2) ∙ counted.is ∙ ap (λ l. l ++ mid) (counted.said.1 ∙ one_byte count counted.said.0) in
-    (sym (ap (λ l. get_or l 0 0) there), sym (ap (drop 1) there))
-
-pub none_few : (old mid : List ℕ) (count : ℕ) → Reads (SaysNumber 1) old count mid → length mid < count → ReadsNone SaysText old
-none_few old mid count counted few = record {
+pub none_text : (old text new : List ℕ) (count : ℕ) → old ≡ text ++ new → length text ≡ count → (IsUtf8 text → ⊥) → ReadsNone (SaysMany count SaysUtf8) old
+none_text old text new count is many lacks = record {
   none = λ value rest reads.
-      let after = text_after old mid value rest count counted reads in
-      absurd (omega (arith, after.0, ap length after.1 ∙ length-append value rest));
+      let same = parts text new value rest (many ∙ sym reads.said.0) (sym is ∙ reads.is ∙ ap (λ l. l ++ rest) reads.said.1.0) in
+      lacks (subst IsUtf8 (sym same.0) (IsUtf8-from_is_utf8 value reads.said.1.1));
 }
 
-pub none_text : (old mid text new : List ℕ) (count : ℕ) → Reads (SaysNumber 1) old count mid → mid ≡ text ++ new → length text ≡ count → (IsUtf8 text → ⊥) → ReadsNone SaysText old
-none_text old mid text new count counted is many lacks = record {
-  none = λ value rest reads.
-      let after = text_after old mid value rest count counted reads in
-      let same = parts text new value rest (many ∙ after.0) (sym is ∙ after.1) in
-      lacks (subst IsUtf8 (sym same.0) (IsUtf8-from_is_utf8 value reads.said.1));
-}
-
-pub text_written : (old mid text new : List ℕ) → Writes (SaysNumber 1) old (length text) mid → new ≡ mid ++ text → IsUtf8 text → Writes SaysText old text new
-text_written old mid text new counted is utf8 = record {
-  back = counted.back ++ text;
-  is = is ∙ ap (λ l. l ++ text) counted.is ∙ append_assoc old counted.back text;
-  said = (counted.said.0, is_utf8-from_IsUtf8 text utf8, ap (λ l. l ++ text) (counted.said.1 ∙ one_byte (length text) counted.said.0));
-}
+pub utf8_written : (old text new : List ℕ) → new ≡ old ++ text → IsUtf8 text → Writes SaysUtf8 old text new
+utf8_written old text new is utf8 = record { back = text; is = is; said = (refl, is_utf8-from_IsUtf8 text utf8) }

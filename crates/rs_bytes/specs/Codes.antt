@@ -27,23 +27,31 @@ pub record Writes {A : Type 0} (says : Code A) (old : List ℕ) (value : A) (new
 abbrev pub IsOne : {A : Type 0} → Code A → Type 0
 IsOne {A = A} says = (f r g s : List ℕ) (x y : A) → says f x → says g y → f ++ r ≡ g ++ s → (x ≡ y) × (r ≡ s)
 
+-- the same where it is known how many there are
+abbrev pub IsOneOfLength : {A : Type 0} → Code (List A) → Type 0
+IsOneOfLength {A = A} says = (f r g s : List ℕ) (xs ys : List A) → length xs ≡ length ys → says f xs → says g ys → f ++ r ≡ g ++ s → (xs ≡ ys) × (r ≡ s)
+
 -- a number in n bytes, the highest first
 abbrev pub SaysNumber : ℕ → Code ℕ
 SaysNumber n bytes x = (x < 256 ^ n) × (bytes ≡ bytes_high_first n x)
 
--- a text of UTF-8 after the byte of its length
-abbrev pub SaysText : Code (List ℕ)
-SaysText bytes text = (length text < 256) × (IsTrue (is_utf8 text)) × (bytes ≡ length text ∷ text)
-
 -- a value, then another
 abbrev pub SaysBoth : {A B : Type 0} → Code A → Code B → Code (A × B)
 SaysBoth says tells bytes pair = (first rest : List ℕ) × (bytes ≡ first ++ rest) × says first pair.0 × tells rest pair.1
+
+-- the bytes of a text of UTF-8
+abbrev pub SaysUtf8 : Code (List ℕ)
+SaysUtf8 bytes text = (bytes ≡ text) × IsTrue (is_utf8 text)
 
 -- values one after another
 abbrev pub SaysEach : {A : Type 0} → Code A → Code (List A)
 SaysEach says bytes [] = bytes ≡ []
 SaysEach says bytes (value ∷ values) = (first rest : List ℕ) × (bytes ≡ first ++ rest) × says first value × SaysEach says rest values
 
--- how many values there are, in four bytes, then the values
-abbrev pub SaysCounted : {A : Type 0} → Code A → Code (List A)
-SaysCounted says bytes values = (count rest : List ℕ) × (bytes ≡ count ++ rest) × SaysNumber 4 count (length values) × SaysEach says rest values
+-- a list of so many
+abbrev pub SaysMany : {A : Type 0} → ℕ → Code (List A) → Code (List A)
+SaysMany count says bytes values = (length values ≡ count) × says bytes values
+
+-- how many there are in a list, in n bytes, then the list
+abbrev pub SaysCounted : {A : Type 0} → ℕ → Code (List A) → Code (List A)
+SaysCounted n says bytes values = (count rest : List ℕ) × (bytes ≡ count ++ rest) × SaysNumber n count (length values) × says rest values

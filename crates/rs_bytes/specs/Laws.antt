@@ -4,7 +4,7 @@ use Rattle.std.specs.Int.{byte_at, bytes_high_first}
 use Rattle.std.proofs.Math.Nat.{pow-le-pow_right, mod-eq_of_lt}
 use Rattle.std.proofs.Math.Arith.{mod-mul}
 use Rattle.std.proofs.lemmas.List.{take_at, drop_at}
-use Rattle.rs_bytes.specs.Codes.{Code, IsOne, SaysNumber, SaysText, SaysBoth, SaysEach, SaysCounted}
+use Rattle.rs_bytes.specs.Codes.{Code, IsOne, IsOneOfLength, SaysNumber, SaysBoth, SaysUtf8, SaysEach, SaysCounted}
 
 above_zero : (k : ℕ) → 0 < 256 ^ k
 above_zero k = pow-le-pow_right {n = 256} (omega arith) {i = 0} {j = k} (omega arith)
@@ -46,12 +46,6 @@ number_one n f r g s x y (small, is) (few, at) same =
     let cut = parts f r g s (ap length is ∙ length_high n x ∙ sym (ap length at ∙ length_high n y)) same in
     (sym (mod-eq_of_lt small) ∙ same_low n x y (sym is ∙ cut.0 ∙ at) ∙ mod-eq_of_lt few, cut.1)
 
-pub text_one : IsOne SaysText
-unfolding head_or
-text_one f r g s x y h k same =
-    let whole : length x ∷ x ++ r ≡ length y ∷ y ++ s = ap (λ l. l ++ r) (sym h.2) ∙ same ∙ ap (λ l. l ++ s) k.2 in
-    parts x r y s (ap (head_or 0) whole) (ap (drop 1) whole)
-
 pub both_one : {A B : Type 0} (says : Code A) (tells : Code B) → IsOne says → IsOne tells → IsOne (SaysBoth says tells)
 both_one says tells one other f r g s x y (first, rest, is, a, b) (front, back, at, c, d) same =
     let whole : first ++ (rest ++ r) ≡ front ++ (back ++ s) = sym (append_assoc first rest r) ∙ ap (λ l. l ++ r) (sym is) ∙ same ∙ ap (λ l. l ++ s) at ∙ append_assoc front back s in
@@ -59,8 +53,11 @@ both_one says tells one other f r g s x y (first, rest, is, a, b) (front, back, 
     let right = other rest r back s x.1 y.1 b d left.1 in
     (ap₂ (λ p q. (p, q)) left.0 right.0, right.1)
 
--- As many values one after another are the same values.
-pub each_one : {A : Type 0} (says : Code A) → IsOne says → (f r g s : List ℕ) (xs ys : List A) → length xs ≡ length ys → SaysEach says f xs → SaysEach says g ys → f ++ r ≡ g ++ s → (xs ≡ ys) × (r ≡ s)
+pub utf8_one : IsOneOfLength SaysUtf8
+utf8_one f r g s x y many (is, a) (at, b) same =
+    parts x r y s many (ap (λ l. l ++ r) (sym is) ∙ same ∙ ap (λ l. l ++ s) at)
+
+pub each_one : {A : Type 0} (says : Code A) → IsOne says → IsOneOfLength (SaysEach says)
 each_one says one f r g s [] [] many h k same = (refl, sym (ap (λ l. l ++ r) h) ∙ same ∙ ap (λ l. l ++ s) k)
 each_one says one f r g s [] (y ∷ ys) many h k same = absurd (omega arith)
 each_one says one f r g s (x ∷ xs) [] many h k same = absurd (omega arith)
@@ -70,8 +67,8 @@ each_one says one f r g s (x ∷ xs) (y ∷ ys) many (first, rest, is, a, b) (fr
     let right = each_one says one rest r back s xs ys (omega arith) b d left.1 in
     (ap₂ ◌∷◌ left.0 right.0, right.1)
 
-pub counted_one : {A : Type 0} (says : Code A) → IsOne says → IsOne (SaysCounted says)
-counted_one says one f r g s xs ys (count, rest, is, a, b) (many, back, at, c, d) same =
+pub counted_one : {A : Type 0} (n : ℕ) (says : Code (List A)) → IsOneOfLength says → IsOne (SaysCounted n says)
+counted_one n says one f r g s xs ys (count, rest, is, a, b) (many, back, at, c, d) same =
     let whole : count ++ (rest ++ r) ≡ many ++ (back ++ s) = sym (append_assoc count rest r) ∙ ap (λ l. l ++ r) (sym is) ∙ same ∙ ap (λ l. l ++ s) at ∙ append_assoc many back s in
-    let left = number_one 4 count (rest ++ r) many (back ++ s) (length xs) (length ys) a c whole in
-    each_one says one rest r back s xs ys left.0 b d left.1
+    let left = number_one n count (rest ++ r) many (back ++ s) (length xs) (length ys) a c whole in
+    one rest r back s xs ys left.0 b d left.1

@@ -1,35 +1,27 @@
-use Rattle.std.proofs.Common.{[], ◌∷◌, map, length, sym, subst, ap, ◌∙◌, arith, length-append}
-use Rattle.std.proofs.lemmas.List.{length-map}
-use Rattle.std.proofs.lemmas.Result.{err_from_is_err_and}
-use Rattle.rs_bytes.specs.Codes.{Reads, SaysEach}
-use Rattle.rs_bytes.proofs.Reading.{none_counted, none_next, none_read, each_read, counted_read}
+use Rattle.std.proofs.Common.{◌≡◌, map, refl}
+use Rattle.std.proofs.lemmas.Result.{IfOk-weaker, IfErr-weaker, err_from_is_err_and}
+use Rattle.rs_measure.specs.declared.refusal.Refusal.TheVariants as refusals
+use Rattle.rs_bytes.specs.Codes.{Reads, ReadsNone, SaysEach, SaysMany, SaysCounted}
+use Rattle.rs_bytes.proofs.Reading.{none_counted, none_behind, counted_read}
 use Rattle.rs_bytes.proofs.lists.VecItem.read.Goals as goal
 
 pub returns-in_err-count-clause-damaged : goal.returns-in_err-count-clause-damaged
 returns-in_err-count-clause-damaged g c =
     let p = err_from_is_err_and c.from_residual.result c.from_residual.ensures.1 in
-    rw (p.1, p.2) (λ is. none_counted g.T.Item.says _ (c.in_err-count.ensures.damaged is))
-
-pub loop-i-init : goal.loop-i-init
-loop-i-init g c = record {
-  many = ap length c.new-items.ensures.items;
-  within = omega arith;
-  read = subst (λ items. Reads (SaysEach g.T.Item.says) c.read.new.reader (map g.T.Item.said items) c.read.new.reader) (sym c.new-items.ensures.items) (none_read g.T.Item.says c.read.new.reader);
-}
-
-pub returns-in_err-read-clause-damaged : goal.returns-in_err-read-clause-damaged
-returns-in_err-read-clause-damaged g c =
-    let p = err_from_is_err_and c.from_residual-in_err-read.result c.from_residual-in_err-read.ensures.1 in
-    rw (p.1, p.2) (λ is. none_next g.T.Item.says g.met.T.Item.one _ _ _ _ c.loop-i._i _ c.in_ok-count.ensures.read c.loop-i.invariant.read (length-map c.loop-i.items.items g.T.Item.said ∙ c.loop-i.invariant.many) c.loop-i-test.true (c.in_err-read.ensures.damaged is))
-
-pub loop-i-preserved : goal.loop-i-preserved
-loop-i-preserved g c = record {
-  many = ap length c.in_ok-push.ensures.items ∙ length-append c.loop-i.items.items (c.in_ok-read.field-0 ∷ []) ∙ omega (arith, c.loop-i.invariant.many);
-  within = omega (arith, c.loop-i-test.true);
-  read = subst (λ items. Reads (SaysEach g.T.Item.says) c.read.new.reader (map g.T.Item.said items) c.read-in-loop-i.new.reader) (sym c.in_ok-push.ensures.items)
-      (each_read g.T.Item.says g.T.Item.said _ _ _ c.loop-i.items.items c.in_ok-read.field-0 c.loop-i.invariant.read c.in_ok-read.ensures.read);
-}
+    rw (p.1, p.2) (λ is. none_counted 4 (SaysEach g.T.Item.says) c.args.reader.now (c.in_err-count.ensures.damaged is))
 
 pub returns-clause-read : goal.returns-clause-read
 returns-clause-read g c =
-    counted_read g.T.Item.says _ _ _ c.in_ok-count.count _ (omega (arith, length-map c.loop-i.items.items g.T.Item.said, c.loop-i.invariant.many, c.loop-i.invariant.within, c.loop-i-test.false)) c.in_ok-count.ensures.read c.loop-i.invariant.read
+    IfOk-weaker c.read_each.result
+    (λ item. Reads (SaysMany c.in_ok-count.count (SaysEach g.T.Item.says)) c.read.new.reader (map g.T.Item.said item.items) c.read_each.new.reader)
+    (λ item. Reads (SaysCounted 4 (SaysEach g.T.Item.says)) c.args.reader.now (map g.T.Item.said item.items) c.read_each.new.reader)
+    (λ item many. counted_read 4 (SaysEach g.T.Item.says) c.args.reader.now c.read.new.reader c.read_each.new.reader c.in_ok-count.count c.in_ok-count.count (map g.T.Item.said item.items) refl c.in_ok-count.ensures.read many)
+    c.read_each.ensures.read
+
+pub returns-clause-damaged : goal.returns-clause-damaged
+returns-clause-damaged g c =
+    IfErr-weaker c.read_each.result
+    (λ refusal. refusal ≡ refusals.DamagedFile → ReadsNone (SaysMany c.in_ok-count.count (SaysEach g.T.Item.says)) c.read.new.reader)
+    (λ refusal. refusal ≡ refusals.DamagedFile → ReadsNone (SaysCounted 4 (SaysEach g.T.Item.says)) c.args.reader.now)
+    (λ refusal lacks is. none_behind 4 (SaysEach g.T.Item.says) c.args.reader.now c.read.new.reader c.in_ok-count.count c.in_ok-count.count refl c.in_ok-count.ensures.read (lacks is))
+    c.read_each.ensures.damaged
