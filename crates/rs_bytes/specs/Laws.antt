@@ -1,9 +1,10 @@
 -- Bytes say one value at their front at the most.
-use Rattle.std.proofs.Common.{ℕ, zero, suc, ◌+◌, ◌*◌, ◌%◌, ◌^◌, ◌<◌, ◌≡◌, List, [], ◌∷◌, ◌++◌, length, take, drop, refl, sym, ap, ap₂, ◌∙◌, arith, append_assoc, pow-suc, mul_comm}
+use Rattle.std.proofs.Common.{ℕ, zero, suc, ◌+◌, ◌*◌, ◌%◌, ◌^◌, ◌<◌, ◌≡◌, List, [], ◌∷◌, ◌++◌, length, take, drop, refl, sym, ap, ap₂, ◌∙◌, arith, All, append_assoc, pow-suc, mul_comm}
 use Rattle.std.specs.Int.{byte_at, bytes_high_first}
 use Rattle.std.proofs.Math.Nat.{pow-le-pow_right, mod-eq_of_lt}
 use Rattle.std.proofs.Math.Arith.{mod-mul}
 use Rattle.std.proofs.lemmas.List.{take_at, drop_at}
+use Rattle.std.proofs.lemmas.List.Elements.{All-nil, All-cons}
 use Rattle.rs_bytes.specs.Codes.{Code, IsOne, IsOneOfLength, SaysNumber, SaysBoth, SaysUtf8, SaysEach, SaysCounted}
 
 above_zero : (k : ℕ) → 0 < 256 ^ k
@@ -72,3 +73,8 @@ counted_one n says one f r g s xs ys (count, rest, is, a, b) (many, back, at, c,
     let whole : count ++ (rest ++ r) ≡ many ++ (back ++ s) = sym (append_assoc count rest r) ∙ ap (λ l. l ++ r) (sym is) ∙ same ∙ ap (λ l. l ++ s) at ∙ append_assoc many back s in
     let left = number_one n count (rest ++ r) many (back ++ s) (length xs) (length ys) a c whole in
     one rest r back s xs ys left.0 b d left.1
+
+-- What bytes say is in its range.
+pub each_fits : {A : Type 0} (says : Code A) (P : A → Type 0) → ((bytes : List ℕ) (x : A) → says bytes x → P x) → (bytes : List ℕ) (xs : List A) → SaysEach says bytes xs → All P xs
+each_fits says P fitting bytes [] h = All-nil P
+each_fits says P fitting bytes (x ∷ xs) (first, rest, is, a, b) = All-cons P x xs (fitting first x a) (each_fits says P fitting rest xs b)

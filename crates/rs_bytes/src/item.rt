@@ -36,6 +36,9 @@ pub trait Item: Drop {
 
     /// Bytes say one item at their front at the most.
     ghost one: { (f r g s : List ℕ) (x y : Said) → says f x → says g y → f ++ r ≡ g ++ s → (x ≡ y) × (r ≡ s) };
+
+    /// What bytes say can be written again.
+    ghost fitting: { (bytes : List ℕ) (x : Said) → says bytes x → fits x };
 }
 
 /// Reads an item from bytes that say it and nothing more, with the same refusals.

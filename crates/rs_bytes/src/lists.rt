@@ -3,7 +3,7 @@
 ghost use Rattle.std.specs.Prelude.{◌≡◌, ◌⊎◌, ◌<◌, ◌^◌, List, length, map, All, IfOk, IfErr, OnOk};
 ghost use Rattle.rs_measure.specs.declared.refusal.Refusal.TheVariants as refusals;
 ghost use Rattle.rs_bytes.specs.Codes.{Reads, ReadsNone, Writes, SaysEach, SaysMany, SaysCounted};
-ghost use Rattle.rs_bytes.specs.Laws.{each_one, counted_one};
+ghost use Rattle.rs_bytes.specs.Laws.{each_one, each_fits, counted_one};
 
 use crate::item::Item;
 use crate::reader::Reader;
@@ -21,6 +21,8 @@ impl<T: Item> Item for Vec<T> {
     ghost fits = { λ values. (length values < 2 ^ 32) × All T.fits values };
 
     ghost one = { counted_one 4 (SaysEach T.says) (each_one T.says T.one) };
+
+    ghost fitting = { λ bytes values is. (is.3.0, each_fits T.says T.fits T.fitting is.1 values is.4) };
 
     fn read(alloc: Global, reader: &mut Reader<'_>) -> Result<Vec<T>, Refusal> {
         let count = u32::read(alloc, reader)?;
@@ -50,6 +52,8 @@ impl<T: Item> Item for ShortList<T> {
     ghost fits = { λ values. (length values < 2 ^ 8) × All T.fits values };
 
     ghost one = { counted_one 1 (SaysEach T.says) (each_one T.says T.one) };
+
+    ghost fitting = { λ bytes values is. (is.3.0, each_fits T.says T.fits T.fitting is.1 values is.4) };
 
     fn read(alloc: Global, reader: &mut Reader<'_>) -> Result<ShortList<T>, Refusal> {
         let count = u8::read(alloc, reader)?;

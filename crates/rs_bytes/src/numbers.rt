@@ -22,6 +22,8 @@ impl Item for u8 {
 
     ghost one = { number_one 1 };
 
+    ghost fitting = { λ bytes x is. is.0 };
+
     fn read(_alloc: Global, reader: &mut Reader<'_>) -> Result<u8, Refusal> {
         let bytes = reader.take(1)?;
         Ok(bytes[0])
@@ -44,6 +46,8 @@ impl Item for u16 {
 
     ghost one = { number_one 2 };
 
+    ghost fitting = { λ bytes x is. is.0 };
+
     fn read(_alloc: Global, reader: &mut Reader<'_>) -> Result<u16, Refusal> {
         let bytes = reader.take(2)?;
         Ok(u16::from_be_bytes(bytes.try_into().unwrap()))
@@ -65,6 +69,8 @@ impl Item for u32 {
 
     ghost one = { number_one 4 };
 
+    ghost fitting = { λ bytes x is. is.0 };
+
     fn read(_alloc: Global, reader: &mut Reader<'_>) -> Result<u32, Refusal> {
         let bytes = reader.take(4)?;
         Ok(u32::from_be_bytes(bytes.try_into().unwrap()))
@@ -85,6 +91,8 @@ impl Item for u64 {
     ghost fits = { λ x. x < 2 ^ 64 };
 
     ghost one = { number_one 8 };
+
+    ghost fitting = { λ bytes x is. is.0 };
 
     fn read(_alloc: Global, reader: &mut Reader<'_>) -> Result<u64, Refusal> {
         Ok(number_of_eight(reader.take(8)?))

@@ -21,6 +21,8 @@ impl<A: Item, B: Item> Item for (A, B) {
 
     ghost one = { both_one A.says B.says A.one B.one };
 
+    ghost fitting = { λ bytes pair is. (A.fitting is.0 pair.0 is.3, B.fitting is.1 pair.1 is.4) };
+
     fn read(alloc: Global, reader: &mut Reader<'_>) -> Result<(A, B), Refusal> {
         let first = A::read(alloc, reader)?;
         let second = B::read(alloc, reader)?;

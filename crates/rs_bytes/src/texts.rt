@@ -23,6 +23,8 @@ impl Item for String {
 
     ghost one = { counted_one 1 SaysUtf8 utf8_one };
 
+    ghost fitting = { λ bytes text is. is.3.0 };
+
     fn read(alloc: Global, reader: &mut Reader<'_>) -> Result<String, Refusal> {
         let count = u8::read(alloc, reader)?;
         read_text(alloc, usize::from(count), reader)
@@ -51,6 +53,8 @@ impl Item for LongText {
     ghost fits = { λ text. length text < 2 ^ 16 };
 
     ghost one = { counted_one 2 SaysUtf8 utf8_one };
+
+    ghost fitting = { λ bytes text is. is.3.0 };
 
     fn read(alloc: Global, reader: &mut Reader<'_>) -> Result<LongText, Refusal> {
         let count = u16::read(alloc, reader)?;
