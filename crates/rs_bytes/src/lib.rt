@@ -11,6 +11,6 @@ pub mod reader;
 pub mod texts;
 
 pub use item::{Item, read_whole};
-pub use lists::ShortList;
+pub use lists::{ShortList, read_each, write_each};
 pub use reader::Reader;
 pub use texts::LongText;

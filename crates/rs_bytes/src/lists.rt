@@ -67,8 +67,12 @@ impl<T: Item> Item for ShortList<T> {
     }
 }
 
-// Reads so many items, one after another.
-fn read_each<T: Item>(alloc: Global, count: u32, reader: &mut Reader<'_>) -> Result<Vec<T>, Refusal>
+/// Reads so many items, one after another. It is refused as `Item::read` is, where one of them is missing.
+pub fn read_each<T: Item>(
+    alloc: Global,
+    count: u32,
+    reader: &mut Reader<'_>,
+) -> Result<Vec<T>, Refusal>
     ensures read { IfOk result (λ v. Reads (SaysMany count (SaysEach T.says)) reader.old (map T.said v.items) reader.new) }
     ensures damaged { IfErr result (λ refusal. refusal ≡ refusals.DamagedFile → ReadsNone (SaysMany count (SaysEach T.says)) reader.old) }
     ensures refused { IfErr result (λ refusal. (refusal ≡ refusals.OutOfMemory) ⊎ (refusal ≡ refusals.DamagedFile)) }
@@ -80,10 +84,10 @@ fn read_each<T: Item>(alloc: Global, count: u32, reader: &mut Reader<'_>) -> Res
     Ok(items)
 }
 
-// Appends the bytes of each item.
-fn write_each<T: Item>(items: &[T], bytes: &mut Vec<u8>) -> Result<(), AllocError>
-    requires { All T.fits (map T.said items.now) }
-    ensures { OnOk result (Writes (SaysEach T.says) bytes.old.items (map T.said items.now) bytes.new.items) }
+/// Appends the bytes of each item. Where memory runs out, some may have been appended.
+pub fn write_each<T: Item>(items: &[T], bytes: &mut Vec<u8>) -> Result<(), AllocError>
+    requires fit { All T.fits (map T.said items.now) }
+    ensures written { OnOk result (Writes (SaysEach T.says) bytes.old.items (map T.said items.now) bytes.new.items) }
 {
     for item in items {
         item.write(bytes)?;

@@ -8,7 +8,7 @@ pub loop-item-init : goal.loop-item-init
 loop-item-init g c = none_written g.T.Item.says c.args.bytes.now.items
 
 pub write-requires : goal.write-requires
-write-requires g c = record { fits = value_at g.T.Item.fits g.T.Item.said c.args.items.now c.loop-item.item-index c.item-item.result c.loop-item-test.true c.item-item.is c.requires }
+write-requires g c = record { fits = value_at g.T.Item.fits g.T.Item.said c.args.items.now c.loop-item.item-index c.item-item.result c.loop-item-test.true c.item-item.is c.requires.fit }
 
 pub loop-item-preserved : goal.loop-item-preserved
 loop-item-preserved g c =
@@ -18,6 +18,7 @@ loop-item-preserved g c =
     (map g.T.Item.said (take c.loop-item.item-index c.args.items.now)) (g.T.Item.said c.item-item.result) c.loop-item.invariant c.in_ok-write.ensures.written)
 
 pub returns : goal.returns
-returns g c =
-    subst (λ items. Writes (SaysEach g.T.Item.says) c.args.bytes.now.items (map g.T.Item.said items) c.loop-item.bytes.items)
-    (take_all c.loop-item.item-index c.args.items.now c.loop-item-test.false) c.loop-item.invariant
+returns g c = record {
+  written = subst (λ items. Writes (SaysEach g.T.Item.says) c.args.bytes.now.items (map g.T.Item.said items) c.loop-item.bytes.items)
+      (take_all c.loop-item.item-index c.args.items.now c.loop-item-test.false) c.loop-item.invariant;
+}
