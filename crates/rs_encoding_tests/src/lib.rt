@@ -1,5 +1,7 @@
-//! Encoded rows at examples: each value beside its bytes, and bytes that say no row.
+//! Rows and items as bytes, at examples: each beside its bytes, and bytes that say nothing.
 #![tactic(auto)]
 
 #[cfg(test)]
 mod encoding_tests;
+#[cfg(test)]
+mod items_tests;
