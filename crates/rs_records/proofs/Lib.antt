@@ -1,0 +1,2 @@
+pub mod RecordLists
+pub mod Orders

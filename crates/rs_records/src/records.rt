@@ -1,0 +1,70 @@
+//! Records of one width in bytes, one after another from the first byte on.
+//!
+//! Each call is told how many there are. One is read as a slice; a place is found by binary search; a splice inserts,
+//! replaces, removes and truncates.
+
+ghost use Rattle.std.specs.Prelude.{◌≡◌, ℕ, ◌+◌, ◌-◌, ◌*◌, ◌<◌, ◌≤◌, ◌++◌, Some, length, take, drop, slice_get};
+ghost use Rattle.rs_records.specs.Records.{records, keys, IsPlace};
+
+use crate::order::is_below;
+
+/// The record with this index.
+pub fn record_at(bytes: &[u8], width: usize, index: usize) -> &[u8]
+    requires { (index + 1) * width ≤ length bytes.now }
+    ensures one { (count : ℕ) → index < count → slice_get (records count width bytes.now) index ≡ Some result.now }
+    ensures width { length result.now ≡ width }
+{
+    let start = index * width;
+    &bytes[start..start + width]
+}
+
+/// Where a key belongs among the records, by what each has from byte `from` on: what is before is below the key,
+/// and what is there is not.
+pub fn place(bytes: &[u8], width: usize, count: usize, from: usize, key: &[u8]) -> usize
+    requires fit { count * width ≤ length bytes.now }
+    requires inside { from ≤ width }
+    ensures { IsPlace (keys from (records count width bytes.now)) key.now result }
+{
+    let mut low = 0;
+    let mut high = count;
+    while low < high {
+        let middle = low + (high - low) / 2;
+        let found = record_at(bytes, width, middle);
+        if is_below(&found[from..], key) {
+            low = middle + 1;
+        } else {
+            high = middle;
+        }
+    }
+    low
+}
+
+/// Puts whole records in the place of some: of `count` records those from `at` on, as many as `removed` says, give
+/// way to the added ones. The records before stay, and those after follow.
+pub fn splice(bytes: &mut [u8], width: usize, count: usize, at: usize, removed: usize, added: &[u8])
+    requires fit { count * width ≤ length bytes.old }
+    requires part { at + removed ≤ count }
+    requires room { (count - removed) * width + length added.now ≤ length bytes.old }
+    ensures { (more : ℕ) → length added.now ≡ more * width
+        → records (count - removed + more) width bytes.new
+        ≡ take at (records count width bytes.old) ++ (records more width added.now
+        ++ drop (at + removed) (records count width bytes.old)) }
+{
+    let start = at * width;
+    let tail = (at + removed) * width;
+    let end = count * width;
+    bytes.copy_within(tail..end, start + added.len());
+    bytes[start..start + added.len()].copy_from_slice(added);
+}
+
+/// Copies the records from `at` on to the beginning of other bytes.
+pub fn copy_tail(bytes: &[u8], width: usize, count: usize, at: usize, other: &mut [u8])
+    requires fit { count * width ≤ length bytes.now }
+    requires part { at ≤ count }
+    requires room { (count - at) * width ≤ length other.old }
+    ensures { records (count - at) width other.new ≡ drop at (records count width bytes.now) }
+{
+    let start = at * width;
+    let end = count * width;
+    other[..end - start].copy_from_slice(&bytes[start..end]);
+}
