@@ -1,0 +1,36 @@
+-- What the calls of a tree answer.
+use Rattle.std.specs.Prelude.{◌≡◌, ◌⊎◌, ◌≤◌, ◌*◌, ◌+◌, ℕ, Bool, ◌||◌, List, length, filter}
+use Rattle.rs_measure.specs.declared.refusal.Refusal.{Refusal}
+use Rattle.rs_measure.specs.declared.refusal.Refusal.TheVariants as refusal
+use Rattle.rs_pages.specs.PageMap.{PageMap}
+use Rattle.rs_pages.specs.Store.{Store, CountsFailure}
+use Rattle.rs_owners.specs.Counts.{◌&◌}
+use Rattle.rs_owners.specs.Owners.{Shares, Moves}
+use Rattle.rs_tree.specs.Form.{Form}
+use Rattle.rs_tree.specs.Tree.{IsTree, IsNoTree}
+use Rattle.rs_tree.specs.Cells.{cells_within}
+
+-- why a call that reads a tree is refused: want of memory, a call of the disk that failed, or no tree stands there
+pub record RefusesToRead (tied : Type 0) (form : Form) (root : ℕ) (why : Refusal) (old new : Store) : Type 0 where
+  pub cause : (why ≡ refusal.OutOfMemory) ⊎ (why ≡ refusal.Disk) ⊎ ((why ≡ refusal.DamagedFile) × (tied → IsNoTree form old.map root))
+  pub count : CountsFailure why old new
+
+-- what was found: where a tree stands, just its cells within the bounds that pass the test, by no more reads of pages than
+-- two for each level and as many more for each cell
+pub record Finds (form : Form) (pages : PageMap) (root : ℕ) (low high : List ℕ) (passes : List ℕ → Bool) (found : List (List ℕ)) (reads : ℕ) : Type 0 where
+  pub exact : (cells : List (List ℕ)) (used : ℕ → ℕ) → IsTree form pages root cells used → found ≡ filter passes (cells_within low high cells)
+  pub bounded : (cells : List (List ℕ)) (used : ℕ → ℕ) (tree : IsTree form pages root cells used) → reads ≤ tree.height * (length found + 2)
+
+-- a test of summaries accepts a join exactly where it accepts a part
+pub record AcceptsParts {S : Type 0} (join : S → S → S) (test : S → Bool) : Type 0 where
+  pub each : (one other : S) → test (join one other) ≡ (test one || test other)
+
+-- a tree with other cells has taken the tree's place, and its pages have moved beside those of any other owners
+pub record Becomes (form : Form) (old new : PageMap) (root : ℕ) (before : ℕ → ℕ) (cells : List (List ℕ)) : Type 0 where
+  pub after : ℕ → ℕ
+  pub tree : IsTree form new root cells after
+  pub moves : Moves old new before after
+
+-- no tree stands there with pages that are shared with other owners and a free list, so that each has one owner
+pub record IsNotShared (form : Form) (pages : PageMap) (root : ℕ) : Type 0 where
+  pub none : (cells : List (List ℕ)) (used others : ℕ → ℕ) → IsTree form pages root cells used → Shares pages (used & others) → ⊥

@@ -1,0 +1,6 @@
+pub mod Calls
+pub mod Cells
+pub mod Content
+pub mod Form
+pub mod Shape
+pub mod Tree
