@@ -6,6 +6,7 @@ use Rattle.std.specs.List.{AllByRecursion}
 use Rattle.rs_records.specs.Order.{is_below, Ascends}
 use Rattle.rs_records.proofs.Orders.{is_below-self, is_below-trans, is_below-cases}
 use Rattle.rs_tree.specs.Cells.{is_within, cells_within}
+use Rattle.rs_tree.specs.Searches.{wanted}
 
 false_or_true : (b : Bool) → (b ≡ true) ⊎ (b ≡ false)
 false_or_true true = inl refl
@@ -52,10 +53,6 @@ none_below_after bound one (c ∷ cs) h all = (
   ],
   none_below_after bound one cs h all.1,
 )
-
--- what the cells within some bounds that pass a test are
-abbrev pub wanted : List ℕ → List ℕ → (List ℕ → Bool) → List (List ℕ) → List (List ℕ)
-wanted low high passes cells = filter passes (cells_within low high cells)
 
 pub wanted-append : (low high : List ℕ) (passes : List ℕ → Bool) (xs ys : List (List ℕ)) → wanted low high passes (xs ++ ys) ≡ wanted low high passes xs ++ wanted low high passes ys
 wanted-append low high passes xs ys =

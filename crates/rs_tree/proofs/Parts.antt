@@ -4,7 +4,8 @@ use Rattle.std.specs.List.{AllByRecursion, AllZip, flat_map}
 use Rattle.rs_records.specs.Order.{is_below, Ascends}
 use Rattle.rs_records.specs.Records.{IsPlace}
 use Rattle.rs_records.proofs.Orders.{is_below-trans}
-use Rattle.rs_tree.proofs.Below.{AllBelow, NoneBelow, all_last, none_below_after, wanted, wanted-append, wanted_none_below, wanted_none_above, ascends_first, ascends_last, ascends_across, all_below_trans}
+use Rattle.rs_tree.specs.Searches.{wanted}
+use Rattle.rs_tree.proofs.Below.{AllBelow, NoneBelow, all_last, none_below_after, wanted-append, wanted_none_below, wanted_none_above, ascends_first, ascends_last, ascends_across, all_below_trans}
 
 -- where a key belongs in the rest
 place_rest : (l : List ℕ) (ls : List (List ℕ)) (key : List ℕ) (p : ℕ) → IsPlace (l ∷ ls) key (suc p) → (0 < p → IsPlace ls key p)

@@ -6,22 +6,9 @@ use Rattle.std.proofs.lemmas.List.Sums.{sum_by-cons}
 use Rattle.std.specs.List.{flat_map, sum_by, list_any}
 use Rattle.rs_records.specs.Order.{is_below, Ascends}
 use Rattle.rs_tree.specs.Cells.{is_within, cells_within}
-use Rattle.rs_tree.proofs.Below.{AllBelow, NoneBelow, all_below_trans, none_below_after, wanted, wanted-append, within_all, ascends_last}
+use Rattle.rs_tree.specs.Searches.{wanted, weight, cut_low, cut_high}
+use Rattle.rs_tree.proofs.Below.{AllBelow, NoneBelow, all_below_trans, none_below_after, wanted-append, within_all, ascends_last}
 use Rattle.rs_tree.proofs.Parts.{Leasts, part_below}
-
--- 1 where the cells begin below the first bound
-abbrev pub cut_low : List ℕ → List (List ℕ) → ℕ
-cut_low low [] = 0
-cut_low low (c ∷ cs) = cond (is_below c low) 1 0
-
--- 1 where some cell is not below the second bound
-abbrev pub cut_high : List ℕ → List (List ℕ) → ℕ
-cut_high high [] = 0
-cut_high high (c ∷ cs) = cond (is_below c high) (cut_high high cs) 1
-
--- how many cells are found, and one more for each bound that cuts them
-unfoldable pub weight : List ℕ → List ℕ → (List ℕ → Bool) → List (List ℕ) → ℕ
-weight low high passes cells = length (wanted low high passes cells) + (cut_low low cells + cut_high high cells)
 
 cond-le : (b : Bool) (n : ℕ) → n ≤ 1 → cond b n 1 ≤ 1
 cond-le true n h = h

@@ -2,5 +2,6 @@ pub mod Calls
 pub mod Cells
 pub mod Content
 pub mod Form
+pub mod Searches
 pub mod Shape
 pub mod Tree

@@ -1,0 +1,16 @@
+-- Where there is no header, or another, there is no page of a tree.
+use Rattle.std.proofs.Common.{◌≡◌, ◌≤◌, Option, Some, None, IfNone, subst, sym, ◌∙◌}
+use Rattle.rs_page.specs.Header.{IsHeader}
+use Rattle.rs_page.specs.declared.header.PageHeader.{PageHeader}
+use Rattle.rs_tree_page.specs.Node.{IsNode}
+use Rattle.rs_tree_page.specs.declared.node.Node.{Node}
+use Rattle.rs_tree_page.proofs.Nodes.{has_header}
+use Rattle.rs_tree_page.proofs.node.read_node.Goals as goal
+
+-- what holds anyhow holds where there is none
+on_none : {T P : Type 0} (found : Option T) → P → IfNone found P
+on_none (Some value) holds = tt
+on_none None holds = holds
+
+pub returns-in_err-header-clause-none : goal.returns-in_err-header-clause-none
+returns-in_err-header-clause-none c = on_none c.from_residual.result (λ node is. let there = has_header c.args.page.now.bytes c.args.number c.args.layout node is in c.in_err-header.ensures.none there.0 there.1)

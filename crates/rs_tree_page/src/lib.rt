@@ -1,0 +1,11 @@
+//! Pages of trees from their bytes: what a page holds, and the parts of an entry.
+//!
+//! Nothing is asked of the bytes: a page that is none of a tree's is told.
+#![tactic(auto)]
+
+pub mod entry;
+pub mod layout;
+pub mod node;
+
+pub use layout::Layout;
+pub use node::{Node, content, read_node};
