@@ -163,3 +163,8 @@ rejected_wanted low high passes (c ∷ cs) none = at (is_within low high c) (pas
   at true false e h ih = rw e (ih h)
   at false true e h ih = absurd (false≢true (sym h))
   at false false e h ih = ih h
+
+-- what is no more than the found cells and the cut at the end is no more than the weight
+pub under_weight : (low high : List ℕ) (passes : List ℕ → Bool) (cells : List (List ℕ)) (n : ℕ) → n ≤ length (wanted low high passes cells) + cut_high high cells → n ≤ weight low high passes cells
+unfolding weight
+under_weight low high passes cells n h = omega arith

@@ -1,2 +1,5 @@
 pub mod Collecting
+pub mod Entering
+pub mod Entries
 pub mod Loading
+pub mod Resting

@@ -10,6 +10,7 @@ use rs_pages::Pages;
 use rs_tree_page::{Layout, Node, read_node};
 
 /// A copy of a page of a tree, and what it holds.
+#[derive(Clone, Copy)]
 pub struct Loaded {
     pub page: Page,
     pub node: Node,
