@@ -1,6 +1,8 @@
 -- Walks into a page, and into the part that an entry says.
 use Rattle.std.proofs.Common.{◌≡◌, ◌<◌, ◌≤◌, ◌+◌, ◌-◌, ◌*◌, ℕ, zero, suc, Bool, true, false, Some, List, [], ◌∷◌, ◌++◌, length, drop, take, map, slice_get, refl, sym, ap, ◌∙◌, subst, arith}
-use Rattle.std.proofs.lemmas.List.{append-nil}
+use Rattle.std.proofs.lemmas.List.{append-nil, length-drop}
+use Rattle.rs_disk.specs.declared.disk.TheConstants.{PAGE_SIZE}
+use Rattle.rs_page.specs.declared.header.TheConstants.{HEADER_SIZE}
 use Rattle.std.specs.List.{AllByRecursion, AllZip, flat_map, sum_by, list_any}
 use Rattle.rs_page.specs.Header.{IsHeader}
 use Rattle.rs_page.specs.Number.{number_at}
@@ -182,3 +184,18 @@ pub answer_told : {S : Type 0} (unit : S) (join : S → S → S) (of : List ℕ 
 answer_told unit join of says summary width answers test read answer entry last accepts computes answered reads height part told =
     let same : read ≡ joined unit join of (cells_of height part) = reads (joined unit join of (cells_of height part)) told.summary in
     sym (accepts_joined unit join of test last accepts _ (cells_of height part) told.least) ∙ ap test (sym same) ∙ sym (computes.each read answer answered)
+
+-- how much follows the header of a page
+pub content-size : (page : List ℕ) → length page ≡ PAGE_SIZE → length (content page) ≡ 4080
+unfolding content
+content-size page size = length-drop HEADER_SIZE page ∙ (omega (arith, size))
+
+-- what fits a page's records fits its bytes
+pub records_fit : (page : List ℕ) (k : PageKind) (number count width : ℕ) → HasRecords page k number count width → count * width ≤ 4080
+records_fit page k number count width has = omega (arith, has.fit, content-size page has.size)
+
+-- the entry as a record of the page's content
+pub entry_there : (count width same_width : ℕ) (bytes same_bytes : List ℕ) (index : ℕ) (entry : List ℕ) → width ≡ same_width → bytes ≡ same_bytes
+    → slice_get (records count width bytes) index ≡ Some entry → slice_get (records count same_width same_bytes) index ≡ Some entry
+entry_there count width same_width bytes same_bytes index entry one other there =
+    subst (λ b. slice_get (records count same_width b) index ≡ Some entry) other (subst (λ w. slice_get (records count w bytes) index ≡ Some entry) one there)

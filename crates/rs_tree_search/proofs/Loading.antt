@@ -1,5 +1,5 @@
 -- Where no page in use fits a number, no page of a tree has it.
-use Rattle.std.proofs.Common.{◌≡◌, ◌<◌, ◌≤◌, ℕ, true, false, Some, None, List, Result, Ok, Err, IfErr, refl, sym, ap, ◌∙◌, subst}
+use Rattle.std.proofs.Common.{◌≡◌, ◌<◌, ◌≤◌, ℕ, true, false, Some, None, List, Result, Ok, Err, IfErr, OnOk, refl, sym, ap, ◌∙◌, subst}
 use Rattle.std.proofs.lemmas.Bool.{false≢true}
 use Rattle.rs_measure.specs.declared.refusal.Refusal.{Refusal}
 use Rattle.rs_measure.specs.declared.refusal.Refusal.TheVariants as refusal
@@ -35,3 +35,8 @@ no_fit-no_node map number layout none = record {
 pub on_err : {T E : Type 0} (result : Result T E) (why : E) (P : E → Type 0) → result ≡ Err why → P why → IfErr result P
 on_err (Ok x) why P e p = tt
 on_err (Err y) why P e p = let same : why ≡ y = cc in subst P same p
+
+-- what follows where a call was not refused
+pub on_ok : {T E P Q : Type 0} (result : Result T E) → OnOk result P → (P → Q) → OnOk result Q
+on_ok (Ok x) p f = f p
+on_ok (Err e) p f = tt
