@@ -1,9 +1,9 @@
 -- What a page is has one header, and so one count.
-use Rattle.std.proofs.Common.{◌≡◌, ◌≤◌, ◌<◌, ◌+◌, ◌*◌, ℕ, List, length}
+use Rattle.std.proofs.Common.{ℕ, List}
 use Rattle.rs_page.specs.Header.{IsHeader}
 use Rattle.rs_page.specs.declared.header.PageHeader.{PageHeader}
 use Rattle.rs_page.specs.declared.header.PageKind.TheVariants as kind
-use Rattle.rs_tree.specs.Content.{HasRecords, tree_header}
+use Rattle.rs_tree.specs.Content.{tree_header}
 use Rattle.rs_tree_page.specs.Node.{IsNode}
 use Rattle.rs_tree_page.specs.declared.layout.Layout.{Layout}
 use Rattle.rs_tree_page.specs.declared.node.Node.{Node}

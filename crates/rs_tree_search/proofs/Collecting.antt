@@ -1,14 +1,13 @@
 -- The cells between two places are those within the bounds.
-use Rattle.std.proofs.Common.{◌≡◌, ◌<◌, ◌≤◌, ◌+◌, ◌-◌, ◌*◌, ℕ, zero, suc, Bool, true, false, Some, List, [], ◌∷◌, ◌++◌, length, take, drop, filter, map, slice_get, refl, sym, ap, ◌∙◌, subst, arith}
+use Rattle.std.proofs.Common.{◌≡◌, ◌≤◌, ◌+◌, ◌-◌, ℕ, zero, suc, Bool, true, false, Some, List, [], ◌∷◌, ◌++◌, take, drop, filter, slice_get, refl, sym, ap, ◌∙◌, subst, arith}
 use Rattle.std.proofs.lemmas.List.{append_assoc, append-nil, take-append-drop, drop-drop, map-id}
 use Rattle.std.proofs.lemmas.List.Elements.{filter-append}
 use Rattle.std.specs.List.{AllByRecursion}
 use Rattle.rs_records.specs.Order.{is_below, Ascends}
 use Rattle.rs_records.specs.Records.{records, keys, IsPlace}
-use Rattle.rs_records.proofs.RecordLists.{length-records, times_upto}
 use Rattle.rs_tree.specs.Searches.{wanted}
 use Rattle.rs_tree.proofs.Below.{AllBelow, NoneBelow, wanted-append, wanted_none_below, wanted_none_above, within_all}
-use Rattle.rs_tree.proofs.Lists.{drop_at_place, take_next, all_middle, all_drop_more, all_take_less}
+use Rattle.rs_tree.proofs.Lists.{drop_at_place, take_next, all_middle, all_drop_more}
 use Rattle.rs_tree.proofs.Parts.{place_splits}
 
 -- one more of those between

@@ -3,7 +3,7 @@ use Rattle.std.proofs.Common.{◌≡◌, ◌<◌, ◌≤◌, ◌+◌, ◌-◌, �
 use Rattle.std.proofs.lemmas.List.{append-nil, length-drop}
 use Rattle.rs_disk.specs.declared.disk.TheConstants.{PAGE_SIZE}
 use Rattle.rs_page.specs.declared.header.TheConstants.{HEADER_SIZE}
-use Rattle.std.specs.List.{AllByRecursion, AllZip, flat_map, sum_by, list_any}
+use Rattle.std.specs.List.{AllByRecursion, AllZip, list_any}
 use Rattle.rs_page.specs.Header.{IsHeader}
 use Rattle.rs_page.specs.Number.{number_at}
 use Rattle.rs_page.specs.declared.header.PageHeader.{PageHeader}
@@ -16,15 +16,14 @@ use Rattle.rs_records.specs.Order.{Ascends}
 use Rattle.rs_records.specs.Records.{records}
 use Rattle.rs_tree.specs.Form.{Form, child_bytes, joined, form_of}
 use Rattle.rs_tree.specs.Calls.{AcceptsParts}
-use Rattle.rs_tree.specs.Content.{SaysChild, content, tree_header, HasRecords, IsLeaf}
+use Rattle.rs_tree.specs.Content.{SaysChild, content, tree_header, HasRecords}
 use Rattle.rs_tree.specs.Searches.{wanted, weight}
-use Rattle.rs_tree.specs.Shape.{Shape, Lies, page_of, cells_of, size_of, child_of}
+use Rattle.rs_tree.specs.Shape.{Shape, Lies, cells_of, size_of, child_of}
 use Rattle.rs_tree.proofs.Shapes.{lies_same, accepts_joined}
 use Rattle.rs_tree.proofs.Weights.{accepted_weight, rejected_wanted}
 use Rattle.rs_tree_page.specs.Layouts.{form_with, entry_bytes}
 use Rattle.rs_tree_page.specs.Node.{IsNode}
 use Rattle.rs_tree_page.specs.declared.layout.Layout.{Layout}
-use Rattle.rs_tree_page.specs.declared.node.Node.{Node}
 use Rattle.rs_tree_page.specs.declared.node.Node.TheVariants.{Leaf, Inner}
 use Rattle.rs_tree_search.specs.Asking.{Computes}
 use Rattle.rs_tree_search.specs.Reading.{HasNoNode}
@@ -137,10 +136,10 @@ no_node-no_part says layout pages number levels left none = record { none = at }
   at : (height : ℕ) (shape : Shape height) → IsPart (form_with says layout) pages number height shape → height ≤ levels → size_of height shape ≤ left → ⊥
   at zero shape part high small =
       (none (omega arith)).none part.lies.page (Leaf (length shape.cells)) (subst (λ n. pages.page n ≡ Some part.lies.page) part.top part.lies.there) (subst (λ n. 1 < n) part.top part.lies.after)
-          (subst (λ n. IsNode part.lies.page n layout (Leaf (length shape.cells))) part.top (part.lies.leaf.has, part.lies.leaf.some))
+      (subst (λ n. IsNode part.lies.page n layout (Leaf (length shape.cells))) part.top (part.lies.leaf.has, part.lies.leaf.some))
   at (suc height) shape part high small =
       (none (omega arith)).none part.lies.0.page (Inner (length (map (child_of height) shape.parts))) (subst (λ n. pages.page n ≡ Some part.lies.0.page) part.top part.lies.0.there) (subst (λ n. 1 < n) part.top part.lies.0.after)
-          (subst (λ n. IsNode part.lies.0.page n layout (Inner (length (map (child_of height) shape.parts)))) part.top (part.lies.0.inner.has, part.lies.0.inner.some))
+      (subst (λ n. IsNode part.lies.0.page n layout (Inner (length (map (child_of height) shape.parts)))) part.top (part.lies.0.inner.has, part.lies.0.inner.some))
 
 module _ (form : Form) (pages : PageMap) (entry : List ℕ) where
   part_of : (height : ℕ) (part : Shape height) → IsEntryOf form pages entry height part → IsPart form pages (number_at 0 4 entry) height part

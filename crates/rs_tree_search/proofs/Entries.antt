@@ -1,23 +1,22 @@
 -- Walks through the entries of a page, one after another.
-use Rattle.std.proofs.Common.{◌≡◌, ◌<◌, ◌≤◌, ◌+◌, ◌-◌, ◌*◌, ℕ, zero, suc, Bool, true, false, Some, List, [], ◌∷◌, ◌++◌, length, take, drop, map, slice_get, refl, sym, ap, ◌∙◌, subst, arith}
+use Rattle.std.proofs.Common.{◌≡◌, ◌<◌, ◌≤◌, ◌+◌, ◌-◌, ◌*◌, ℕ, zero, suc, Bool, true, Some, List, [], ◌∷◌, ◌++◌, length, take, drop, map, slice_get, refl, sym, ap, ◌∙◌, subst, arith}
 use Rattle.std.proofs.Math.Nat.{mul-le-mul_left}
 use Rattle.std.proofs.lemmas.List.{append_assoc, append-nil, drop-drop, length-map}
 use Rattle.std.proofs.lemmas.List.Sums.{sum_by_push, sum_by-cons, sum_by-take-le}
-use Rattle.std.specs.List.{AllByRecursion, AllZip, flat_map, sum_by, list_any}
+use Rattle.std.specs.List.{AllByRecursion, flat_map, sum_by}
 use Rattle.rs_pages.specs.PageMap.{PageMap, SamePages}
 use Rattle.rs_records.specs.Order.{is_below, Ascends}
 use Rattle.rs_records.specs.Records.{records, keys, IsPlace}
-use Rattle.rs_records.proofs.RecordLists.{length-records}
 use Rattle.rs_tree.specs.Form.{Form, entry_width, least_from}
 use Rattle.rs_tree.specs.Content.{SaysChild, content}
 use Rattle.rs_tree.specs.Searches.{wanted, weight}
-use Rattle.rs_tree.specs.Shape.{Shape, Lies, page_of, cells_of, size_of, child_of}
+use Rattle.rs_tree.specs.Shape.{Shape, Lies, cells_of, size_of, child_of}
 use Rattle.rs_tree.proofs.Below.{AllBelow, NoneBelow}
 use Rattle.rs_tree.proofs.Lists.{all_at, inside_has, has_inside, zip_at, zip_lengths, map_at, drop_at_place, take_next, flat_push, flat_middle, all_middle, all_drop_more, sum_upto_middle}
 use Rattle.rs_tree.proofs.Parts.{Leasts, place_splits, leasts_ascend, wanted_parts, none_before, none_after}
 use Rattle.rs_tree.proofs.Shapes.{lies_same, entries_leasts, part_ascends}
 use Rattle.rs_tree.proofs.Weights.{suffix_weight, lead_weight, under_weight}
-use Rattle.rs_tree_search.specs.Walking.{IsEntryOf, AreEntriesOf, Walked, WalksEntry, WalksEntries, ReadsEntryOnce, ReadsEntriesOnce, HasNoPartOfEntry, HasNoPartsOfEntries, IsRange}
+use Rattle.rs_tree_search.specs.Walking.{IsEntryOf, AreEntriesOf, WalksEntry, WalksEntries, ReadsEntryOnce, ReadsEntriesOnce, HasNoPartOfEntry, HasNoPartsOfEntries, IsRange}
 
 module _ (form : Form) (pages : PageMap) (page : List ℕ) (count : ℕ) where
   -- the part that an entry says
@@ -26,11 +25,14 @@ module _ (form : Form) (pages : PageMap) (page : List ℕ) (count : ℕ) where
   part_at height parts index entry are there =
       let rs : List (List ℕ) = records count (entry_width form) (content page) in
       let inside : index < length parts = omega (arith, has_inside rs index entry there, zip_lengths (SaysChild form) rs (map (child_of height) parts) are.says, length-map parts (child_of height)) in
-      let found = inside_has parts index inside in
-      (found.0, found.1, record {
-        says = zip_at (SaysChild form) rs (map (child_of height) parts) index entry (child_of height found.0) are.says there (map_at (child_of height) parts index found.0 found.1);
-        lies = all_at (Lies form pages height) parts index found.0 are.lie found.1;
-      })
+      let found = inside_has parts index inside in (
+        found.0,
+        found.1,
+        record {
+          says = zip_at (SaysChild form) rs (map (child_of height) parts) index entry (child_of height found.0) are.says there (map_at (child_of height) parts index found.0 found.1);
+          lies = all_at (Lies form pages height) parts index found.0 are.lie found.1;
+        },
+      )
 
   module _ (low high : List ℕ) (passes : List ℕ → Bool) where
     abbrev has_of : (height : ℕ) → Shape height → List (List ℕ)
@@ -72,8 +74,7 @@ module _ (form : Form) (pages : PageMap) (page : List ℕ) (count : ℕ) where
           let cost : suc height * sum_by (weight_at height) (take (suc k) (drop from parts)) ≡ suc height * (sum_by (weight_at height) (take k (drop from parts)) + weight_at height part.0) = ap (λ s. suc height * s) total in
           let found : after ≡ before ++ flat_map (has_of height) (take (suc k) (drop from parts)) =
           now.found ∙ ap (λ xs. xs ++ has_of height part.0) was.0 ∙ append_assoc before (flat_map (has_of height) (take k (drop from parts))) (has_of height part.0) ∙ ap (λ xs. before ++ xs) (sym flat) in
-          let reads : left ≤ left_after + suc height * sum_by (weight_at height) (take (suc k) (drop from parts)) = omega (arith, was.1, now.reads, cost) in
-          (
+          let reads : left ≤ left_after + suc height * sum_by (weight_at height) (take (suc k) (drop from parts)) = omega (arith, was.1, now.reads, cost) in (
             found ∙ ap (λ i. before ++ flat_map (has_of height) (take i (drop from parts))) more,
             subst (λ i. left ≤ left_after + suc height * sum_by (weight_at height) (take i (drop from parts))) more reads,
           );
@@ -87,7 +88,7 @@ module _ (form : Form) (pages : PageMap) (page : List ℕ) (count : ℕ) where
         → AllByRecursion (λ part. has_of height part ≡ []) (drop (to - from) (drop from parts))
     rest_after height parts ls from to leasts up none =
         subst (AllByRecursion (λ part. has_of height part ≡ [])) (sym (drop-drop (to - from) from parts))
-            (all_drop_more (λ part. has_of height part ≡ []) parts to (from + (to - from)) (omega arith) (none_after (cells_of height) low high passes ls parts to leasts up none))
+        (all_drop_more (λ part. has_of height part ≡ []) parts to (from + (to - from)) (omega arith) (none_after (cells_of height) low high passes ls parts to leasts up none))
 
     -- the parts between the two places have all that is wanted
     pub middle_has : (height : ℕ) (parts : List (Shape height)) (ls : List (List ℕ)) (p from to : ℕ) → Leasts (cells_of height) ls parts → Ascends (flat_map (cells_of height) parts)
@@ -105,8 +106,8 @@ module _ (form : Form) (pages : PageMap) (page : List ℕ) (count : ℕ) where
         let start : p ≡ from = omega arith in
         wanted_parts (cells_of height) low high passes parts
         ∙ flat_middle (has_of height) parts from (to - from)
-            (subst (λ i. AllByRecursion (λ part. has_of height part ≡ []) (take i parts)) start (none_before (cells_of height) low high passes ls parts p leasts up first.within lows.0))
-            (rest_after height parts ls from to leasts up highs.1)
+        (subst (λ i. AllByRecursion (λ part. has_of height part ≡ []) (take i parts)) start (none_before (cells_of height) low high passes ls parts p leasts up first.within lows.0))
+        (rest_after height parts ls from to leasts up highs.1)
 
     -- and weigh no more than all
     pub middle_weight : (height : ℕ) (parts : List (Shape height)) (ls : List (List ℕ)) (p from to : ℕ) → Leasts (cells_of height) ls parts → Ascends (flat_map (cells_of height) parts)
@@ -120,7 +121,7 @@ module _ (form : Form) (pages : PageMap) (page : List ℕ) (count : ℕ) where
         let all : to ≡ to - from = omega arith in
         let bound = suffix_weight (cells_of height) low high passes ls parts to leasts up lows.1 highs.0 in
         subst (λ i. sum_by (weight_at height) (take (to - from) (drop i parts)) ≤ weight low high passes (flat_map (cells_of height) parts)) start
-            (subst (λ n. sum_by (weight_at height) (take n parts) ≤ weight low high passes (flat_map (cells_of height) parts)) all (under_weight low high passes (flat_map (cells_of height) parts) _ bound))
+        (subst (λ n. sum_by (weight_at height) (take n parts) ≤ weight low high passes (flat_map (cells_of height) parts)) all (under_weight low high passes (flat_map (cells_of height) parts) _ bound))
     middle_weight height parts ls (suc p) from to leasts up first is last =
         let lows_up = leasts_ascend (cells_of height) ls parts leasts up in
         let highs = place_splits ls high to lows_up last in
@@ -128,7 +129,7 @@ module _ (form : Form) (pages : PageMap) (page : List ℕ) (count : ℕ) where
         let start : p ≡ from = omega arith in
         let here : AllBelow high (take (to - from) (drop p ls)) = subst (λ i. AllBelow high (take (to - from) (drop i ls))) (sym start) (middle_below high ls from to highs.0 (to - from) refl) in
         subst (λ i. sum_by (weight_at height) (take (to - from) (drop i parts)) ≤ weight low high passes (flat_map (cells_of height) parts)) start
-            (lead_weight (cells_of height) low high passes ls parts p (to - from) leasts up first.within lows.0 lows.1 here)
+        (lead_weight (cells_of height) low high passes ls parts p (to - from) leasts up first.within lows.0 lows.1 here)
 
     -- all have been walked through
     pub walks_all : (from to index : ℕ) (before after : List (List ℕ)) (left left_after : ℕ) (bytes : List ℕ) → bytes ≡ content page
@@ -198,5 +199,5 @@ module _ (form : Form) (pages : PageMap) (page : List ℕ) (count : ℕ) where
         let at : slice_get (drop from parts) k ≡ Some part.0 = drop_at_place parts from k ∙ ap (slice_get parts) place ∙ part.1 in
         let was = some.each height parts are in
         next.none height part.0 (record { says = part.2.says; lies = lies_same form pages later same height part.0 part.2.lies }) high
-            (omega (arith, was, small, sum_upto_middle (size_of height) parts from k part.0 at));
+        (omega (arith, was, small, sum_upto_middle (size_of height) parts from k part.0 at));
   }

@@ -3,3 +3,4 @@ pub mod Entering
 pub mod Entries
 pub mod Loading
 pub mod Resting
+pub mod Searching

@@ -1,10 +1,6 @@
 -- Where no page in use fits a number, no page of a tree has it.
-use Rattle.std.proofs.Common.{◌≡◌, ◌<◌, ◌≤◌, ℕ, true, false, Some, None, List, Result, Ok, Err, IfErr, OnOk, refl, sym, ap, ◌∙◌, subst}
-use Rattle.std.proofs.lemmas.Bool.{false≢true}
-use Rattle.rs_measure.specs.declared.refusal.Refusal.{Refusal}
-use Rattle.rs_measure.specs.declared.refusal.Refusal.TheVariants as refusal
+use Rattle.std.proofs.Common.{◌≡◌, ◌<◌, ℕ, false, Some, List, Result, Ok, Err, IfErr, OnOk, refl, subst}
 use Rattle.rs_page.specs.PageBytes.{is_free, IsFit}
-use Rattle.rs_page.specs.Header.{IsHeader, kind_number}
 use Rattle.rs_page.specs.declared.header.PageKind.TheVariants as kind
 use Rattle.rs_pages.specs.PageMap.{PageMap, in_use, HasNoFit}
 use Rattle.rs_tree.specs.Content.{tree_header}

@@ -7,4 +7,7 @@
 pub mod asking;
 pub mod collect;
 pub mod load;
+pub mod search;
 pub mod walk;
+
+pub use search::{LEVELS, descend, range};

@@ -47,14 +47,14 @@ pub fn walk<P: Pages, S: Summary, F: Fn(&S) -> bool>(
     ensures walks { OnOk result (P.is_tied pages.old → (test : S → Bool) → Computes (FnReturnsAt F.Fn keep.now) test
         → AcceptsParts S.join test
         → Walks (form_of S.says S.unit S.join S.of layout.summary layout.width) (P.store pages.old).map number
-            low.now high.now (λ cell. test (S.of cell)) (listed cells.old) (listed cells.new) left.old left.new) }
+        low.now high.now (λ cell. test (S.of cell)) (listed cells.old) (listed cells.new) left.old left.new) }
     ensures once { OnOk result (P.is_tied pages.old
         → ReadsOnce (form_of S.says S.unit S.join S.of layout.summary layout.width) (P.store pages.old).map number
-            left.old left.new) }
+        left.old left.new) }
     ensures refused { IfErr result IsWalkRefusal }
     ensures damaged { result ≡ Err Refusal.DamagedFile → P.is_tied pages.old
         → HasNoPart (form_of S.says S.unit S.join S.of layout.summary layout.width) (P.store pages.old).map number
-            levels left.old }
+        levels left.old }
 {
     let loaded = load(pages, number, layout, left)?;
     match loaded.node {
@@ -104,18 +104,18 @@ fn walk_entries<P: Pages, S: Summary, F: Fn(&S) -> bool>(
     ensures walks { OnOk result (P.is_tied pages.old → (test : S → Bool) → Computes (FnReturnsAt F.Fn keep.now) test
         → AcceptsParts S.join test
         → WalksEntries (form_of S.says S.unit S.join S.of layout.summary layout.width) (P.store pages.old).map
-            page.now.bytes count low.now high.now (λ cell. test (S.of cell)) (listed cells.old) (listed cells.new)
-            left.old left.new) }
+        page.now.bytes count low.now high.now (λ cell. test (S.of cell)) (listed cells.old) (listed cells.new)
+        left.old left.new) }
     ensures once { OnOk result (P.is_tied pages.old
         → ReadsEntriesOnce (form_of S.says S.unit S.join S.of layout.summary layout.width) (P.store pages.old).map
-            page.now.bytes count left.old left.new) }
+        page.now.bytes count left.old left.new) }
     ensures refused { IfErr result IsWalkRefusal }
     ensures damaged { result ≡ Err Refusal.DamagedFile → P.is_tied pages.old
         → HasNoPartsOfEntries (form_of S.says S.unit S.join S.of layout.summary layout.width) (P.store pages.old).map
-            page.now.bytes count levels left.old }
+        page.now.bytes count levels left.old }
 {
     let bytes = content(page);
-    let (from, to) = range(bytes, layout, count, low, high);
+    let (from, to) = entries_within(bytes, layout, count, low, high);
     for index in from..to {
         let entry = record_at(bytes, layout.entry_width(), index);
         walk_entry(pages, layout, entry, levels, low, high, keep, left, cells)?;
@@ -147,24 +147,40 @@ fn walk_entry<P: Pages, S: Summary, F: Fn(&S) -> bool>(
     ensures walks { OnOk result (P.is_tied pages.old → (test : S → Bool) → Computes (FnReturnsAt F.Fn keep.now) test
         → AcceptsParts S.join test
         → WalksEntry (form_of S.says S.unit S.join S.of layout.summary layout.width) (P.store pages.old).map entry.now
-            low.now high.now (λ cell. test (S.of cell)) (listed cells.old) (listed cells.new) left.old left.new) }
+        low.now high.now (λ cell. test (S.of cell)) (listed cells.old) (listed cells.new) left.old left.new) }
     ensures once { OnOk result (P.is_tied pages.old
         → ReadsEntryOnce (form_of S.says S.unit S.join S.of layout.summary layout.width) (P.store pages.old).map
-            entry.now left.old left.new) }
+        entry.now left.old left.new) }
     ensures refused { IfErr result IsWalkRefusal }
     ensures damaged { result ≡ Err Refusal.DamagedFile → P.is_tied pages.old
         → HasNoPartOfEntry (form_of S.says S.unit S.join S.of layout.summary layout.width) (P.store pages.old).map
-            entry.now levels left.old }
+        entry.now levels left.old }
 {
     if !accepts(keep, &S::read(summary(entry, layout))) {
         return Ok(());
     }
     let number = child(entry, layout);
-    walk(pages, layout, number, levels - 1, low, high, keep, left, cells)
+    walk(
+        pages,
+        layout,
+        number,
+        levels - 1,
+        low,
+        high,
+        keep,
+        left,
+        cells,
+    )
 }
 
 /// The first entry that may say a cell within the bounds, and the one after the last.
-fn range(bytes: &[u8], layout: Layout, count: usize, low: &[u8], high: &[u8]) -> (usize, usize)
+fn entries_within(
+    bytes: &[u8],
+    layout: Layout,
+    count: usize,
+    low: &[u8],
+    high: &[u8],
+) -> (usize, usize)
     requires { count * entry_bytes layout ≤ length bytes.now }
     ensures { IsRange (keys (least_from layout.summary) (records count (entry_bytes layout) bytes.now)) low.now high.now
         result.0 result.1 }

@@ -1,9 +1,5 @@
 -- Where there is no header, or another, there is no page of a tree.
-use Rattle.std.proofs.Common.{◌≡◌, ◌≤◌, Option, Some, None, IfNone, subst, sym, ◌∙◌}
-use Rattle.rs_page.specs.Header.{IsHeader}
-use Rattle.rs_page.specs.declared.header.PageHeader.{PageHeader}
-use Rattle.rs_tree_page.specs.Node.{IsNode}
-use Rattle.rs_tree_page.specs.declared.node.Node.{Node}
+use Rattle.std.proofs.Common.{Option, Some, None, IfNone}
 use Rattle.rs_tree_page.proofs.Nodes.{has_header}
 use Rattle.rs_tree_page.proofs.node.read_node.Goals as goal
 

@@ -1,9 +1,7 @@
 -- One cell after the other of those between the places.
-use Rattle.std.proofs.Common.{◌≡◌, ◌≤◌, ◌<◌, ◌+◌, ◌-◌, ◌*◌, ℕ, List, length, take, drop, filter, refl, sym, ap, ◌∙◌, subst, arith, rules, ◌++◌}
-use Rattle.std.proofs.lemmas.List.{append-nil}
-use Rattle.rs_records.specs.Order.{Ascends}
-use Rattle.rs_records.specs.Records.{records, keys, IsPlace}
-use Rattle.rs_records.specs.Listed.{listed, record_width}
+use Rattle.std.proofs.Common.{◌≤◌, ◌+◌, ◌∙◌, arith}
+use Rattle.rs_records.specs.Records.{records}
+use Rattle.rs_records.specs.Listed.{listed}
 use Rattle.rs_records.proofs.RecordLists.{length-keys, times_upto}
 use Rattle.rs_tree.specs.Content.{content}
 use Rattle.rs_tree_search.proofs.Collecting.{filter_next, filter_none, collected}

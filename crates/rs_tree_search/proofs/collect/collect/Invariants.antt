@@ -1,5 +1,5 @@
 -- The cells so far of those between the two places.
-use Rattle.std.proofs.Common.{◌≡◌, ◌-◌, ◌≤◌, ◌++◌, Bool, List, take, drop, filter}
+use Rattle.std.proofs.Common.{◌≡◌, ◌-◌, ◌≤◌, ◌++◌, Bool, take, drop, filter}
 use Rattle.std.specs.Fn.{FnReturnsAt}
 use Rattle.rs_records.specs.Records.{records}
 use Rattle.rs_records.specs.Listed.{listed, record_width}

@@ -1,7 +1,6 @@
 -- Where no page is lent, none of a tree's has the number.
-use Rattle.std.proofs.Common.{◌≡◌, Err, sym, ◌∙◌, ap}
 use Rattle.std.proofs.lemmas.Result.{err_from_is_err_and}
-use Rattle.rs_tree_search.proofs.Loading.{no_fit-no_node, on_err}
+use Rattle.rs_tree_search.proofs.Loading.{no_fit-no_node}
 use Rattle.rs_tree_search.proofs.load.load.Goals as goal
 
 pub returns-in_err-page-clause-refused : goal.returns-in_err-page-clause-refused

@@ -1,7 +1,6 @@
 -- Each level is three steps. So many entries have been walked through.
-use Rattle.std.proofs.Common.{◌≡◌, ◌≤◌, ◌*◌, ◌+◌, ◌-◌, Bool, Result, Ok}
+use Rattle.std.proofs.Common.{◌≡◌, ◌≤◌, ◌*◌, ◌+◌, ◌-◌, Bool, Ok}
 use Rattle.std.specs.Fn.{FnReturnsAt}
-use Rattle.rs_measure.specs.declared.refusal.Refusal.{Refusal}
 use Rattle.rs_pages.specs.Lending.{RestsAfter}
 use Rattle.rs_records.specs.Listed.{listed, record_width}
 use Rattle.rs_tree.specs.Calls.{AcceptsParts}
@@ -27,8 +26,8 @@ invariant-walk_entries-loop-index g l = record {
   fewer : l.left ≤ l.fn.left;
   walks : g.P.Pages.is_tied l.fn.pages → (test : g.row.S.Denot → Bool) → Computes (FnReturnsAt g.F.Fn l.keep) test → AcceptsParts g.S.Summary.join test
       → WalksSome (form_of g.S.Summary.says g.S.Summary.unit g.S.Summary.join g.S.Summary.of l.layout.summary l.layout.width) (g.P.Pages.store l.fn.pages).map l.page.bytes l.count
-          l.low l.high (λ cell. test (g.S.Summary.of cell)) l.from (l.index - l.from) (listed l.fn.cells) (listed l.cells) l.fn.left l.left;
+      l.low l.high (λ cell. test (g.S.Summary.of cell)) l.from (l.index - l.from) (listed l.fn.cells) (listed l.cells) l.fn.left l.left;
   once : g.P.Pages.is_tied l.fn.pages
       → ReadsSome (form_of g.S.Summary.says g.S.Summary.unit g.S.Summary.join g.S.Summary.of l.layout.summary l.layout.width) (g.P.Pages.store l.fn.pages).map l.page.bytes l.count
-          l.from (l.index - l.from) l.fn.left l.left;
+      l.from (l.index - l.from) l.fn.left l.left;
 }
