@@ -11,7 +11,7 @@ pub struct Layout {
     pub width: usize,
     pub summary: usize,
     ghost some: { 0 < width },
-    ghost fits: { 3 * (least_from summary + width) ≤ 4080 },
+    ghost fits: { 3 * (4 + summary + width) ≤ 4080 },
 }
 
 impl Layout {
@@ -20,7 +20,7 @@ impl Layout {
     /// Cells of this width, and summaries of that one.
     pub fn new(width: usize, summary: usize) -> Layout
         requires some { 0 < width }
-        requires fits { 3 * (least_from summary + width) ≤ 4080 }
+        requires fits { 3 * (4 + summary + width) ≤ 4080 }
         ensures width { result.width ≡ width }
         ensures summary { result.summary ≡ summary }
     {

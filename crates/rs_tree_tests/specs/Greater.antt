@@ -1,6 +1,6 @@
 -- The greatest byte of two.
-use Rattle.std.specs.Prelude.{◌≡◌, ℕ, max, List, length, [], ◌∷◌, slice_index, ◌-◌, refl}
-use Rattle.std.proofs.Common.{ap, sym, ◌∙◌, arith}
+use Rattle.std.specs.Prelude.{◌≡◌, ℕ, max, List, length, slice_index, ◌-◌}
+use Rattle.std.proofs.Common.{ap, arith}
 use Rattle.rs_tree_tests.specs.declared.greatest.Greatest.{Greatest}
 
 abbrev pub greatest_of : ℕ → Greatest

@@ -12,7 +12,12 @@ use rs_tree_search::{descend, range};
 use std::test::Fail;
 
 /// Puts a page of so many records after the last one.
-fn put_page(pages: &mut PlainPages, kind: ContentKind, count: u16, records: &[u8]) -> Result<PageNumber, Refusal>
+fn put_page(
+    pages: &mut PlainPages,
+    kind: ContentKind,
+    count: u16,
+    records: &[u8],
+) -> Result<PageNumber, Refusal>
     requires { length records.now ≤ 100 }
 {
     let number = pages.allocate(kind)?;
@@ -32,7 +37,12 @@ fn put_page(pages: &mut PlainPages, kind: ContentKind, count: u16, records: &[u8
 fn small_tree(pages: &mut PlainPages) -> Result<PageNumber, Refusal> {
     put_page(pages, ContentKind::Leaf, 3, &[1, 9, 2, 0, 4, 1])?;
     put_page(pages, ContentKind::Leaf, 2, &[5, 3, 7, 2])?;
-    put_page(pages, ContentKind::Inner, 2, &[0, 0, 0, 2, 9, 1, 9, 0, 0, 0, 3, 3, 5, 3])
+    put_page(
+        pages,
+        ContentKind::Inner,
+        2,
+        &[0, 0, 0, 2, 9, 1, 9, 0, 0, 0, 3, 3, 5, 3],
+    )
 }
 
 /// Whether these are the cells that were found, one after the other.
