@@ -4,6 +4,7 @@
 //! the least of them. The calls are in the crates above.
 #![tactic(auto)]
 
+pub mod laws;
 pub mod limits;
 pub mod summary;
 
