@@ -1,10 +1,11 @@
 -- The bytes of an entry that is written part by part.
-use Rattle.std.proofs.Common.{◌≡◌, ◌≤◌, ◌+◌, ℕ, List, ◌++◌, length, take, drop, get_or, sym, ap, ◌∙◌, arith}
-use Rattle.std.proofs.lemmas.List.{get_or-take, drop-take, drop_at, length-append, length-take, length-drop, length-take-le}
+use Rattle.std.proofs.Common.{◌≡◌, ◌≤◌, ◌+◌, ◌-◌, ℕ, List, ◌++◌, length, take, drop, get_or, sym, ap, ◌∙◌, arith}
+use Rattle.std.proofs.lemmas.List.{get_or-take, get_or-drop, drop-take, drop-drop, drop_all, drop_at, append-nil, length-append, length-take, length-drop, length-take-le}
 use Rattle.std.proofs.lemmas.Slice.{take-put_mid_below, take-put_mid}
 use borrow.Rule.Slice.PartMut.{put_mid}
 use Rattle.rs_page.specs.Number.{number_at}
-use Rattle.rs_page.proofs.Numbers.{number_at-same}
+use Rattle.std.proofs.lemmas.Grind.{same_number_lists}
+use Rattle.rs_page.proofs.Numbers.{number_at-same, byte_at}
 
 -- a number at the front stays where the front does
 front_number : (n : ℕ) (old new : List ℕ) → take n new ≡ take n old → number_at 0 n new ≡ number_at 0 n old
@@ -34,3 +35,20 @@ put_length a k old first below size =
 -- a part that was lent is as long as it should be
 pub lent_length : (a k : ℕ) (old first : List ℕ) → length first ≡ length (take k (drop a old)) → a + k ≤ length old → length first ≡ k
 lent_length a k old first same inside = omega (arith, same, length-take k (drop a old), length-drop a old)
+
+-- a number in a part of the front that stays
+pub front_numbers : (a k n : ℕ) (old new : List ℕ) → take a new ≡ take a old → k + n ≤ a → number_at k n new ≡ number_at k n old
+front_numbers a k n old new same inside =
+    number_at-same k n old new (λ i lo hi. sym (get_or-take a new i 0 (omega arith)) ∙ ap (λ xs. get_or xs i 0) same ∙ get_or-take a old i 0 (omega arith))
+
+-- what comes from a place on is the same where each byte is
+pub same_rest : (a : ℕ) (old new : List ℕ) → length new ≡ length old → ((k n : ℕ) → a ≤ k → number_at k n new ≡ number_at k n old) → drop a new ≡ drop a old
+same_rest a old new size same =
+    same_number_lists (drop a new) (drop a old) (length-drop a new ∙ ap (λ n. n - a) size ∙ sym (length-drop a old))
+    (λ i lt. get_or-drop a new i 0 ∙ sym (byte_at (a + i) new) ∙ same (a + i) 1 (omega arith) ∙ byte_at (a + i) old ∙ sym (get_or-drop a old i 0))
+
+-- what was written from a place on
+pub rest_put : (a k : ℕ) (old part : List ℕ) → a ≤ length old → length old ≤ a + k → drop a (put_mid a k old part) ≡ part
+rest_put a k old part below whole =
+    drop_at (take a old) (part ++ drop k (drop a old)) a (length-take-le a old below)
+    ∙ ap (λ xs. part ++ xs) (drop-drop k a old ∙ drop_all (a + k) old whole) ∙ append-nil part

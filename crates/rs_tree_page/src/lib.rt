@@ -6,9 +6,11 @@
 pub mod entry;
 pub mod layout;
 pub mod node;
+pub mod splicing;
 pub mod summing;
 
 pub use entry::write_entry;
 pub use layout::Layout;
 pub use node::{Node, content, read_node};
+pub use splicing::splice_page;
 pub use summing::{inner_summary, leaf_summary};
