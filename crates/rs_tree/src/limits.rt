@@ -1,12 +1,13 @@
 //! The greatest width of a cell.
 
-ghost use Rattle.std.specs.Prelude.{◌≡◌};
+ghost use Rattle.std.specs.Prelude.{◌≡◌, ◌≤◌, ◌+◌, ◌-◌, ◌*◌};
 ghost use Rattle.rs_tree.specs.declared.limits.TheConstants.{GREATEST_WIDTH};
 
 /// The greatest number of bytes of a cell. An inner page holds three entries of such cells at least.
 pub const GREATEST_WIDTH: usize = 1_109;
 
-/// The limit is this number.
+/// The limit is this number, and three entries of such cells with a summary of four bytes fit a page after its header.
 pub fn limits_are_those()
-    ensures { GREATEST_WIDTH ≡ 1109 }
+    ensures greatest_width { GREATEST_WIDTH ≡ 1109 }
+    ensures three_entries { 3 * (4 + 4 + GREATEST_WIDTH) ≤ 4096 - 16 }
 {}

@@ -3,8 +3,6 @@
 ghost use Rattle.std.specs.Prelude.{◌≡◌, ◌<◌, ◌≤◌, ◌*◌, ◌+◌};
 ghost use Rattle.rs_tree.specs.Form.{least_from};
 
-use rs_tree::GREATEST_WIDTH;
-
 /// The bytes of a cell and of a summary. Three entries fit an inner page at least.
 #[derive(Clone, Copy)]
 pub struct Layout {

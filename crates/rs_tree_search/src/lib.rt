@@ -6,6 +6,7 @@
 
 pub mod asking;
 pub mod collect;
+pub mod limits;
 pub mod load;
 pub mod search;
 pub mod walk;
