@@ -7,7 +7,7 @@ use Rattle.rs_value.specs.View.{row_of}
 use Rattle.rs_facts.specs.declared.fact.Span.{Span}
 use Rattle.rs_facts.specs.Runs.{Stretch, stretch}
 use Rattle.rs_facts.specs.Spans.{seen}
-use Rattle.rs_coalesce.specs.Inner.{joins, join, joined_onto, joined}
+use Rattle.rs_coalesce.specs.Joined.{joins, join, joined_onto, joined}
 
 -- the spans before the last one, and the rest joined onto it, are all of them
 abbrev pub SoFar : Kind → List Span → ℕ → ℕ → List Stretch → Type 0

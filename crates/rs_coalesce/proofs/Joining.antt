@@ -16,7 +16,7 @@ use Rattle.rs_facts.proofs.Rows.{same_row, same_row-true, same_row-equal, row_cm
 use Rattle.rs_facts.proofs.Placing.{with_row-join}
 use Rattle.rs_facts.proofs.StretchOrder.{nat_cmp-below}
 use Rattle.rs_facts.proofs.KeptLaws.{placed-some, precedes-on}
-use Rattle.rs_coalesce.specs.Inner.{row_place_cmp, joins, join, joined_onto, joined}
+use Rattle.rs_coalesce.specs.Joined.{row_place_cmp, joins, join, joined_onto, joined}
 
 -- ---- by row and place, not necessarily apart
 

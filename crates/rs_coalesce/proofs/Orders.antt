@@ -7,7 +7,7 @@ use Rattle.rs_value.specs.declared.column.Kind.{Kind}
 use Rattle.rs_facts.specs.Runs.{Stretch}
 use Rattle.rs_facts.specs.Spans.{gap_of}
 use Rattle.rs_facts.proofs.Rows.{row_cmp-total, same_row, same_row-true, same_row-equal}
-use Rattle.rs_coalesce.specs.Inner.{row_place_cmp, joins}
+use Rattle.rs_coalesce.specs.Joined.{row_place_cmp, joins}
 
 pub row_place_cmp-total : IsTotalOrder row_place_cmp
 unfolding row_place_cmp

@@ -13,7 +13,7 @@ use Rattle.rs_facts.proofs.StretchOrder.{stretch_cmp-total, stretch_cmp-tie, str
 use Rattle.rs_facts.proofs.KeptLaws.{placed-some, kept-placed, every-weaker}
 use Rattle.rs_facts.proofs.RunLaws.{IsApart, LieApart, runs-from_apart}
 use Rattle.rs_facts.proofs.Apart.{apart-permutation, kept-apart}
-use Rattle.rs_coalesce.specs.Inner.{joined}
+use Rattle.rs_coalesce.specs.Joined.{joined}
 use Rattle.rs_coalesce.specs.Lent.{seen_lent}
 use Rattle.rs_coalesce.proofs.Joining.{BySorted, kept-from_sorted, means-from_sorted}
 

@@ -1,3 +1,3 @@
 pub mod Again
-pub mod Inner
+pub mod Joined
 pub mod Lent

@@ -2,7 +2,7 @@
 
 ghost use Rattle.std.specs.Prelude.{◌≡◌, ◌+◌, ◌≤◌, nat_lt, length, map, take};
 ghost use Rattle.rs_facts.specs.Spans.{seen, gap_of};
-ghost use Rattle.rs_coalesce.specs.Inner.{joins, joined};
+ghost use Rattle.rs_coalesce.specs.Joined.{joins, joined};
 
 use rs_facts::Span;
 use rs_value::{Kind, same_row};

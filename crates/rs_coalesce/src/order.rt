@@ -5,7 +5,7 @@ ghost use Rattle.std.specs.Ordering.{is_lt};
 ghost use Rattle.std.specs.List.Sorted.{IsSortedBy};
 ghost use Rattle.rs_facts.specs.Runs.{stretch_cmp};
 ghost use Rattle.rs_facts.specs.Spans.{seen};
-ghost use Rattle.rs_coalesce.specs.Inner.{row_place_cmp};
+ghost use Rattle.rs_coalesce.specs.Joined.{row_place_cmp};
 ghost use Rattle.rs_coalesce.specs.Lent.{seen_lent};
 
 use rs_facts::Span;

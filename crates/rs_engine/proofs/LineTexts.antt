@@ -11,25 +11,25 @@ use Rattle.rs_value.specs.declared.column.Kind.TheVariants.{Point, Line}
 use Rattle.rs_value.specs.Text.{values_text}
 use Rattle.std.specs.FinMap as names
 use Rattle.rs_facts.specs.declared.fact.Span.{Span}
-use Rattle.rs_facts.specs.Fact.{Name, Names}
-use Rattle.rs_facts.specs.Query.{RouteEnds}
+use Rattle.rs_catalog.specs.Definitions.{Numbered, RouteItem}
+use Rattle.rs_catalog.specs.Referents.{HeldReferents, referents_on}
 use Rattle.rs_facts.specs.Runs.{Stretch}
+use Rattle.rs_facts.specs.Spans.{seen}
 use Rattle.rs_coalesce.specs.Lent.{seen_lent}
 use Rattle.rs_facts.specs.LineText.{line_of}
-use Rattle.rs_engine.specs.Held.{HeldReferents, referents_held}
 use Rattle.rs_engine.specs.Printed.{printed_position}
 
 -- ---- a position
 
-module _ (referents : Names HeldReferents) (route : Name) (ends : RouteEnds) (method : Method) (place : ℕ) where
-  pub printed_absolute : method ≡ Absolute → printed_position referents route ends method place ≡ measure_text place
+module _ (referents : Numbered HeldReferents) (on : RouteItem) (method : Method) (place : ℕ) where
+  pub printed_absolute : method ≡ Absolute → printed_position referents on method place ≡ measure_text place
   unfolding printed_position
-  printed_absolute e = ap (λ (m : Method). expression_text (expression_at ends.start ends.finish (names.entries (referents_held referents route)) m place)) e
+  printed_absolute e = ap (λ (m : Method). expression_text (expression_at on.ends.start on.ends.finish (names.entries (referents_on referents on.number)) m place)) e
 
-  pub printed_expressed : (k : ℕ) (text : List ℕ) → k ≡ place → text ≡ expression_text (expression_at ends.start ends.finish (names.entries (referents_held referents route)) method k)
-      → text ≡ printed_position referents route ends method place
+  pub printed_expressed : (k : ℕ) (text : List ℕ) → k ≡ place → text ≡ expression_text (expression_at on.ends.start on.ends.finish (names.entries (referents_on referents on.number)) method k)
+      → text ≡ printed_position referents on method place
   unfolding printed_position
-  printed_expressed k text e said = said ∙ ap (λ (k : ℕ). expression_text (expression_at ends.start ends.finish (names.entries (referents_held referents route)) method k)) e
+  printed_expressed k text e said = said ∙ ap (λ (k : ℕ). expression_text (expression_at on.ends.start on.ends.finish (names.entries (referents_on referents on.number)) method k)) e
 
 -- ---- a line
 
@@ -57,3 +57,8 @@ pub each_lent : (P : Stretch → Type 0) (spans : List (Bor Span)) (i : ℕ) (ot
 each_lent P [] i other h all = absurd (omega arith)
 each_lent P (span ∷ spans) zero other h all = all.0
 each_lent P (span ∷ spans) (suc i) other h all = each_lent P spans i other (omega arith) all.1
+
+pub each_span : (P : Stretch → Type 0) (spans : List Span) (i : ℕ) (other : Span) → i < length spans → AllByRecursion P (map seen spans) → P (seen (get_or spans i other))
+each_span P [] i other h all = absurd (omega arith)
+each_span P (span ∷ spans) zero other h all = all.0
+each_span P (span ∷ spans) (suc i) other h all = each_span P spans i other (omega arith) all.1

@@ -6,11 +6,7 @@ use Rattle.rs_measure.specs.declared.refusal.Refusal.{Refusal}
 use Rattle.rs_measure.specs.declared.refusal.Refusal.TheVariants.{OutsideTheRoute, EmptySpan}
 use Rattle.rs_methods.specs.Position.{PositionExpression, absolute, beyond, before, interpolative, on_route, located_beyond, located_before, located, referent_measure}
 use Rattle.rs_facts.specs.Fact.{Name}
-use Rattle.rs_facts.specs.Query.{RouteEnds}
-use Rattle.rs_machine.specs.Checks.{◌>>=◌, unless, position_on, span_on}
-use Rattle.rs_machine.specs.State.{State}
-use Rattle.rs_syntax.specs.Tree.{EventLocationTree, along}
-use Rattle.rs_engine.specs.Insertion.{span_of_location}
+use Rattle.rs_machine.specs.Checks.{◌>>=◌, unless}
 
 both_true : (a b : Bool) → (a && b) ≡ true → (a ≡ true) × (b ≡ true)
 both_true true b e = (refl, e)
@@ -19,7 +15,7 @@ both_true false b e = cc
 at_most : (a b : ℕ) → nat_le a b ≡ true → a ≤ b
 at_most a b e = grind (arith, nat_tests)
 
-less_than : (a b : ℕ) → nat_lt a b ≡ true → a < b
+pub less_than : (a b : ℕ) → nat_lt a b ≡ true → a < b
 less_than a b e = grind (arith, nat_tests)
 
 if_ok : (test : Bool) (refusal : Refusal) (x m : ℕ) → (if test then Ok x else Err refusal) ≡ Ok m → (test ≡ true) × (x ≡ m)
@@ -56,24 +52,10 @@ located-between start finish referents (interpolative part) m e = on_route-betwe
 
 -- ---- what the checks of a span say
 
-then_ok : {A B : Type 0} (first : Result A Refusal) (next : A → Result B Refusal) (y : B) → (first >>= next) ≡ Ok y → (x : A) × (first ≡ Ok x) × (next x ≡ Ok y)
+pub then_ok : {A B : Type 0} (first : Result A Refusal) (next : A → Result B Refusal) (y : B) → (first >>= next) ≡ Ok y → (x : A) × (first ≡ Ok x) × (next x ≡ Ok y)
 then_ok (Ok x) next y e = (x, refl, e)
 then_ok (Err refusal) next y e = cc
 
-in_order : (from to : ℕ) (test : Bool) (span : ℕ × ℕ) → (unless test EmptySpan >>= λ _. Ok (from, to)) ≡ Ok span → (test ≡ true) × ((from, to) ≡ span)
+pub in_order : (from to : ℕ) (test : Bool) (span : ℕ × ℕ) → (unless test EmptySpan >>= λ _. Ok (from, to)) ≡ Ok span → (test ≡ true) × ((from, to) ≡ span)
 in_order from to true span e = (refl, cc)
 in_order from to false span e = cc
-
--- both ends of a span lie on its route, the first below the second
-span_on-bounds : (state : State) (route : Name) (ends : RouteEnds) (from to : PositionExpression) (span : ℕ × ℕ) → span_on state route ends from to ≡ Ok span
-    → (ends.start ≤ span.0) × (span.0 < span.1) × (span.1 ≤ ends.finish)
-span_on-bounds state route ends from to span e =
-    let first = then_ok (position_on state route ends from) _ span e in
-    let second = then_ok (position_on state route ends to) _ span first.2 in
-    let third = in_order first.0 second.0 (nat_lt first.0 second.0) span second.2 in
-    subst (λ (s : ℕ × ℕ). (ends.start ≤ s.0) × (s.0 < s.1) × (s.1 ≤ ends.finish)) third.1
-    ((located-between _ _ _ from first.0 first.1).0, less_than _ _ third.0, (located-between _ _ _ to second.0 second.1).1)
-
-pub span_bounds : (state : State) (route : Name) (ends : RouteEnds) (place : EventLocationTree) (span : ℕ × ℕ) → span_of_location state route ends place ≡ Ok span
-    → (ends.start ≤ span.0) × (span.0 < span.1) × (span.1 ≤ ends.finish)
-span_bounds state route ends (along from to) span e = span_on-bounds state route ends from to span e

@@ -1,138 +1,134 @@
--- Laws of the routes and the tables that are kept, and of the state that they stand for.
-use Rattle.std.proofs.Common.{◌≡◌, ℕ, ◌<◌, ◌≤◌, true, false, cond, ◌⊎◌, ⊎_elim, List, Option, Some, None, refl, sym, ap, subst, ◌∙◌, arith}
-use Rattle.std.specs.Prelude.{is_some}
+-- Laws of the state that is made of definitions, referents and spans by their numbers.
+use Rattle.std.proofs.Common.{◌≡◌, ℕ, true, false, cond, nat_eq, ◌⊎◌, ⊎_elim, inl, inr, List, [], Some, None, refl, sym, ap, ◌∙◌}
+use Rattle.std.proofs.Math.Path.{fun_ext}
+use Rattle.std.proofs.lemmas.Bool.Decides.{Decides-eqb}
 use Rattle.std.specs.Option.{option_map}
 use Rattle.std.specs.Ordering.{eq_by_cmp}
+use Rattle.std.specs.Cmp.{eq_by_cmp_equiv}
 use Rattle.std.specs.FinMap as names
-use Rattle.std.specs.FinMap.{get-insert, get-empty}
-use Rattle.rs_measure.specs.declared.measure.TheConstants.{GREATEST_MEASURE}
-use Rattle.rs_value.specs.declared.column.Kind.{Kind}
-use Rattle.rs_value.specs.declared.column.Kind.TheVariants.{Point, Line}
-use Rattle.rs_value.specs.Row.{Row}
-use Rattle.rs_facts.specs.Fact.{Name, Names, name_cmp, Places, Facts, contains}
-use Rattle.rs_facts.specs.Insert.{within, with_row, on_route, after_insert}
-use Rattle.rs_facts.specs.Query.{RouteEnds, Column, Table}
+use Rattle.std.specs.FinMap.{get-insert, get-remove, same_map}
+use Rattle.rs_facts.specs.Fact.{Name, Names, name_cmp, Facts}
+use Rattle.rs_facts.specs.Query.{Table}
 use Rattle.rs_facts.specs.Runs.{Stretch}
-use Rattle.rs_facts.proofs.Sets.{contains-none}
-use Rattle.rs_facts.proofs.Placing.{within-true, cases_within, with_row-outside}
-use Rattle.rs_engine.specs.Insertion.{TakesRow}
-use Rattle.rs_engine.specs.Held.{HeldTable, facts_held, table_of, tables_of}
-use Rattle.rs_engine.specs.Placed.{behind, may_hold, LieOn, AreMeasured, AreOnRoutes}
-use Rattle.rs_engine.proofs.Names.{name_cmp-total, get-map_values, map_values-empty, map_values-insert, len-map_values}
-use Rattle.rs_engine.proofs.TableLaws.{cases_insert, same_name-true, none_some, facts-none}
+use Rattle.rs_facts.specs.Spans.{places_of}
+use Rattle.rs_machine.specs.State.{State}
+use Rattle.rs_catalog.specs.Definitions.{RouteItem, TableItem, Definitions, IsFree, on_numbered, no_places, facts_from, table_from, tables_from}
+use Rattle.rs_catalog.proofs.NameOrder.{name_cmp-total, name_cmp-antisymmetric}
+use Rattle.rs_catalog.proofs.Names.{get-map_values}
+use Rattle.rs_catalog.proofs.MapLaws.{same_name-true, none_some, some_same, get-insert_here}
 
-pub none_there : {X : Type 0} (o : Option X) → is_some o ≡ false → o ≡ None
-none_there None e = refl
-none_there (Some x) e = cc
+pub same_state : (a b : State) → a.routes ≡ b.routes → a.referents ≡ b.referents → a.tables ≡ b.tables → a.views ≡ b.views → a.changes ≡ b.changes → a.cursors ≡ b.cursors → a ≡ b
+same_state a b routes referents tables views changes cursors i =
+    record { routes = routes i; referents = referents i; tables = tables i; views = views i; changes = changes i; cursors = cursors i }
 
--- ---- tables as the machine sees them
+-- ---- numbers
 
-pub tables_of-empty : tables_of names.empty ≡ names.empty
-unfolding tables_of
-tables_of-empty = map_values-empty table_of
+pub same_number : (a b : ℕ) → nat_eq a b ≡ true → a ≡ b
+same_number a b e = (Decides-eqb a b).0 e
 
-pub tables_of-insert : (tables : Names HeldTable) (name : Name) (table : HeldTable) → tables_of (names.insert tables name table) ≡ names.insert (tables_of tables) name (table_of table)
-unfolding tables_of
-tables_of-insert tables name table = map_values-insert table_of tables name table
+pub number_itself : (n : ℕ) → nat_eq n n ≡ true
+number_itself n = (Decides-eqb n n).1 refl
 
-pub get-tables_of : (tables : Names HeldTable) (name : Name) → names.get (tables_of tables) name ≡ option_map table_of (names.get tables name)
-unfolding tables_of
-get-tables_of tables name = get-map_values table_of tables name
+-- two numbers are one or not
+pub cases_number : (a b : ℕ) → (a ≡ b) ⊎ (nat_eq a b ≡ false)
+cases_number a b = elim (nat_eq a b) as (λ t. nat_eq a b ≡ t → (a ≡ b) ⊎ (nat_eq a b ≡ false)) [
+  | true ↦ λ e. inl (same_number a b e)
+  | false ↦ λ e. inr e
+] refl
 
-pub len-tables_of : (tables : Names HeldTable) → names.len (tables_of tables) ≡ names.len tables
-unfolding tables_of
-len-tables_of tables = len-map_values table_of tables
+pub other_number : (a b : ℕ) → (a ≡ b → ⊥) → nat_eq a b ≡ false
+other_number a b apart = ⊎_elim (λ same. absurd (apart same)) (λ off. off) (cases_number a b)
 
--- ---- routes end at measures
+module _ {X : Type 0} (number_of : X → ℕ) where
+  -- what stands under a name has not a number that is free
+  pub apart_from_free : (items : Names X) (n : ℕ) (name : Name) (item : X) → IsFree number_of items n → names.get items name ≡ Some item → nat_eq (number_of item) n ≡ false
+  apart_from_free items n name item free there = other_number (number_of item) n (free name item there)
 
-pub measured-empty : AreMeasured names.empty
-unfolding AreMeasured
-measured-empty name ends there = none_some ends (sym (get-empty name_cmp name) ∙ there)
+  -- another name is seen as before
+  pub get-other_insert : (items : Names X) (key name : Name) (value : X) → (name ≡ key → ⊥) → names.get (names.insert items key value) name ≡ names.get items name
+  get-other_insert items key name value apart = get-insert name_cmp-total items key value name ∙
+      elim (eq_by_cmp name_cmp name key) as (λ b. eq_by_cmp name_cmp name key ≡ b → cond b (Some value) (names.get items name) ≡ names.get items name) [
+        | true ↦ λ e. absurd (apart (same_name-true name key e))
+        | false ↦ λ e. refl
+      ] refl
 
-pub measured-insert : (routes : Names RouteEnds) (name : Name) (ends : RouteEnds) → AreMeasured routes → ends.finish ≤ GREATEST_MEASURE → AreMeasured (names.insert routes name ends)
-unfolding AreMeasured
-measured-insert routes name ends all one q found there =
-    ⊎_elim (λ (same : (q ≡ name) × (ends ≡ found)). subst (λ (e : RouteEnds). e.finish ≤ GREATEST_MEASURE) same.1 one) (λ before. all q found before) (cases_insert routes name ends q found there)
+  pub get-other_remove : (items : Names X) (key name : Name) → (name ≡ key → ⊥) → names.get (names.remove items key) name ≡ names.get items name
+  get-other_remove items key name apart = get-remove name_cmp-total items key name ∙
+      elim (eq_by_cmp name_cmp name key) as (λ b. eq_by_cmp name_cmp name key ≡ b → cond b None (names.get items name) ≡ names.get items name) [
+        | true ↦ λ e. absurd (apart (same_name-true name key e))
+        | false ↦ λ e. refl
+      ] refl
 
-pub measured_at : (routes : Names RouteEnds) (name : Name) (ends : RouteEnds) → AreMeasured routes → names.get routes name ≡ Some ends → ends.finish ≤ GREATEST_MEASURE
-unfolding AreMeasured
-measured_at routes name ends all there = all name ends there
+  -- a number that is free where a new name took a value was free before
+  pub free_before_insert : (items : Names X) (key : Name) (value : X) (n : ℕ) → names.get items key ≡ None → IsFree number_of (names.insert items key value) n → IsFree number_of items n
+  free_before_insert items key value n new free name item there same =
+      free name item (get-other_insert items key name value (λ one. none_some item (sym new ∙ sym (ap (names.get items) one) ∙ there)) ∙ there) same
 
--- ---- facts lie on their routes
+  -- the value's own number is not free then
+  pub apart_from_own : (items : Names X) (key : Name) (value : X) (n : ℕ) → IsFree number_of (names.insert items key value) n → n ≡ number_of value → ⊥
+  apart_from_own items key value n free same = free key value (get-insert_here items key value) (sym same)
 
-pub on_routes-empty : (routes : Names RouteEnds) → AreOnRoutes routes names.empty
-unfolding AreOnRoutes
-on_routes-empty routes name table there route = none_some table (sym (get-empty name_cmp name) ∙ there)
+  -- a number that is free where a name was taken out was free before, or is its value's
+  pub free_before_remove : (items : Names X) (key : Name) (value : X) (n : ℕ) → names.get items key ≡ Some value → nat_eq n (number_of value) ≡ false → IsFree number_of (names.remove items key) n → IsFree number_of items n
+  free_before_remove items key value n there off free name item at same =
+      free name item (get-other_remove items key name (λ one.
+      let own : item ≡ value = some_same item value (sym at ∙ ap (names.get items) one ∙ there) in
+      false_true (sym off ∙ ap (λ m. nat_eq m (number_of value)) (sym same ∙ ap number_of own) ∙ number_itself (number_of value))) ∙ at) same
+    where
+      false_true : {P : Type 0} → false ≡ true → P
+      false_true e = cc
 
-pub on_route_at : (routes : Names RouteEnds) (tables : Names HeldTable) (name route : Name) (table : HeldTable) (ends : RouteEnds) → AreOnRoutes routes tables
-    → names.get tables name ≡ Some table → names.get routes route ≡ Some ends → LieOn table.kind (Some ends) (facts_held table route)
-unfolding AreOnRoutes
-on_route_at routes tables name route table ends all there on = subst (λ (o : Option RouteEnds). LieOn table.kind o (facts_held table route)) on (all name table there route)
+-- ---- names
 
-false_true : {P : Type 0} → false ≡ true → P
-false_true e = cc
+pub name_itself : (a b : Name) → a ≡ b → eq_by_cmp name_cmp a b ≡ true
+name_itself a b same = ap (λ n. eq_by_cmp name_cmp n b) same ∙ (eq_by_cmp_equiv name_cmp-total).refl b
 
--- a place on a route stays on it where another route is added
-still_on : (kind : Kind) (routes : Names RouteEnds) (name : Name) (ends : RouteEnds) (route : Name) (k : ℕ) → names.get routes name ≡ None
-    → may_hold kind (names.get routes route) k ≡ true → may_hold kind (names.get (names.insert routes name ends) route) k ≡ true
-still_on kind routes name ends route k new holding =
-    ap (λ (o : Option RouteEnds). may_hold kind o k) (get-insert name_cmp-total routes name ends route)
-    ∙ elim (eq_by_cmp name_cmp route name) as (λ b. eq_by_cmp name_cmp route name ≡ b → may_hold kind (cond b (Some ends) (names.get routes route)) k ≡ true) [
-      | true ↦ λ e. false_true (sym (ap (λ (o : Option RouteEnds). may_hold kind o k) (ap (names.get routes) (same_name-true route name e) ∙ new)) ∙ holding)
-      | false ↦ λ e. holding
+-- ---- facts
+
+-- what a table has on a route, by its spans
+pub facts_at : (routes : Names RouteItem) (spans : ℕ → List Stretch) (route : Name) (item : RouteItem) → names.get routes route ≡ Some item → facts_from routes spans route ≡ places_of (spans item.number)
+unfolding facts_from
+facts_at routes spans route item there = ap (on_numbered no_places (λ number. places_of (spans number))) there
+
+pub facts_nowhere : (routes : Names RouteItem) (spans : ℕ → List Stretch) (route : Name) → names.get routes route ≡ None → facts_from routes spans route ≡ no_places
+unfolding facts_from
+facts_nowhere routes spans route none = ap (on_numbered no_places (λ number. places_of (spans number))) none
+
+pub same_facts : (routes : Names RouteItem) (old new : ℕ → List Stretch) → ((route : ℕ) → new route ≡ old route) → facts_from routes new ≡ facts_from routes old
+same_facts routes old new alike = ap (facts_from routes) (fun_ext alike)
+
+pub no_facts_of : (routes : Names RouteItem) (spans : ℕ → List Stretch) → ((route : ℕ) → spans route ≡ []) → facts_from routes spans ≡ (λ route. no_places)
+unfolding facts_from
+no_facts_of routes spans none = fun_ext (λ route. elim (names.get routes route) as (λ o. on_numbered no_places (λ number. places_of (spans number)) o ≡ no_places) [
+  | None ↦ refl
+  | Some item ↦ ap places_of (none item.number)
+])
+
+-- ---- tables
+
+pub get_table : (definitions : Definitions) (spans : ℕ → ℕ → List Stretch) (name : Name) → names.get (tables_from definitions spans) name ≡ option_map (table_from definitions.routes spans) (names.get definitions.tables name)
+unfolding tables_from
+get_table definitions spans name = get-map_values (table_from definitions.routes spans) definitions.tables name
+
+pub table_at : (definitions : Definitions) (spans : ℕ → ℕ → List Stretch) (name : Name) (item : TableItem) → names.get definitions.tables name ≡ Some item
+    → names.get (tables_from definitions spans) name ≡ Some (table_from definitions.routes spans item)
+table_at definitions spans name item there = get_table definitions spans name ∙ ap (option_map (table_from definitions.routes spans)) there
+
+-- a table of an item with facts
+abbrev pub with_facts : TableItem → Facts → Table
+with_facts item facts = record { kind = item.kind; columns = item.columns; facts = facts }
+
+pub same_table : (item : TableItem) (a b : Facts) → a ≡ b → Some (with_facts item a) ≡ Some (with_facts item b)
+same_table item a b same = ap (λ (facts : Facts). Some (with_facts item facts)) same
+
+-- the same tables, each with the same facts
+pub same_tables : (old new : Definitions) (spans after : ℕ → ℕ → List Stretch) → new.tables ≡ old.tables
+    → ((name : Name) (item : TableItem) → names.get old.tables name ≡ Some item → facts_from new.routes (after item.number) ≡ facts_from old.routes (spans item.number))
+    → tables_from new after ≡ tables_from old spans
+same_tables old new spans after tables facts = same_map name_cmp-total name_cmp-antisymmetric _ _ (λ q.
+    get_table new after q ∙ ap (λ (m : Names TableItem). option_map (table_from new.routes after) (names.get m q)) tables
+    ∙ elim (names.get old.tables q) as (λ o. names.get old.tables q ≡ o → option_map (table_from new.routes after) o ≡ option_map (table_from old.routes spans) o) [
+      | None ↦ λ f. refl
+      | Some item ↦ λ f. same_table item _ _ (facts q item f)
     ] refl
-
-pub on_routes-route : (routes : Names RouteEnds) (tables : Names HeldTable) (name : Name) (ends : RouteEnds) → names.get routes name ≡ None → AreOnRoutes routes tables → AreOnRoutes (names.insert routes name ends) tables
-unfolding AreOnRoutes LieOn
-on_routes-route routes tables name ends new all q table there route k row holding = still_on table.kind routes name ends route k new (all q table there route k row holding)
-
-pub on_routes-table : (routes : Names RouteEnds) (tables : Names HeldTable) (name : Name) (kind : Kind) (columns : List Column) → AreOnRoutes routes tables
-    → AreOnRoutes routes (names.insert tables name (record { kind = kind; columns = columns; spans = names.empty }))
-unfolding AreOnRoutes LieOn
-on_routes-table routes tables name kind columns all q table there route k row holding =
-    ⊎_elim
-    (λ (same : (q ≡ name) × (record { kind = kind; columns = columns; spans = names.empty } ≡ table)).
-    false_true (sym (contains-none row) ∙ ap (λ (places : Places). contains (places k) row) (sym (facts-none (record { kind = kind; columns = columns; spans = names.empty }) route (get-empty name_cmp route)))
-    ∙ ap (λ (t : HeldTable). contains (facts_held t route k) row) same.1 ∙ holding))
-    (λ before. all q table before route k row holding)
-    (cases_insert tables name _ q table there)
-
-reaches : (kind : Kind) (ends : RouteEnds) → ends.finish ≤ behind kind ends
-reaches Line ends = omega arith
-reaches Point ends = omega arith
-
--- a place within the route's ends is one at which a row may hold
-may_hold_between : (kind : Kind) (ends : RouteEnds) (lo hi k : ℕ) → ends.start ≤ lo → hi ≤ ends.finish → lo ≤ k → k < hi → may_hold kind (Some ends) k ≡ true
-may_hold_between kind ends lo hi k a b c d = let far = reaches kind ends in within-true ends.start (behind kind ends) k (omega arith) (omega arith)
-
--- what a table holds after a row was put along a span that lies on its route
-held_after : (kind : Kind) (facts : Facts) (routes : Names RouteEnds) (route : Name) (span : Stretch) (ends : RouteEnds)
-    → ((r : Name) (k : ℕ) (row : Row) → contains (facts r k) row ≡ true → may_hold kind (names.get routes r) k ≡ true)
-    → names.get routes route ≡ Some ends → ends.start ≤ span.lo → span.hi ≤ ends.finish
-    → (r : Name) (k : ℕ) (row : Row) → contains (after_insert facts route span.lo span.hi span.row r k) row ≡ true → may_hold kind (names.get routes r) k ≡ true
-unfolding on_route
-held_after kind facts routes route span ends all there from upto r k row holding =
-    elim (eq_by_cmp name_cmp r route) as (λ b. eq_by_cmp name_cmp r route ≡ b → contains ((cond b (with_row span.lo span.hi span.row (facts route)) (facts r)) k) row ≡ true → may_hold kind (names.get routes r) k ≡ true) [
-      | true ↦ λ e holding.
-          let at : names.get routes r ≡ Some ends = ap (names.get routes) (same_name-true r route e) ∙ there in
-          ⊎_elim
-          (λ (inside : (within span.lo span.hi k ≡ true) × (span.lo ≤ k) × (k < span.hi)). ap (λ (o : Option RouteEnds). may_hold kind o k) at ∙ may_hold_between kind ends span.lo span.hi k from upto inside.1 inside.2)
-          (λ (outside : (within span.lo span.hi k ≡ false) × ((k < span.lo) ⊎ (span.hi ≤ k))).
-          ap (λ (o : Option RouteEnds). may_hold kind o k) (at ∙ sym there) ∙ all route k row (sym (with_row-outside span.lo span.hi span.row (facts route) k row outside.1) ∙ holding))
-          (cases_within span.lo span.hi k)
-      | false ↦ λ e holding. all r k row holding
-    ] refl holding
-
-pub on_routes-row : (routes : Names RouteEnds) (tables new : Names HeldTable) (name route : Name) (span : Stretch) (count : ℕ) (ends : RouteEnds)
-    → AreOnRoutes routes tables → TakesRow tables name route span new count → names.get routes route ≡ Some ends → ends.start ≤ span.lo → span.hi ≤ ends.finish → AreOnRoutes routes new
-unfolding AreOnRoutes LieOn table_of
-on_routes-row routes tables new name route span count ends all takes there from upto q table at r k row holding =
-    ⊎_elim
-    (λ (same : (q ≡ name) × (takes.after ≡ table)).
-    let facts : facts_held table ≡ after_insert (facts_held takes.table) route span.lo span.hi span.row = ap (λ (t : HeldTable). facts_held t) (sym same.1) ∙ ap (λ (t : Table). t.facts) takes.facts in
-    let kind : takes.table.kind ≡ table.kind = sym (ap (λ (t : Table). t.kind) takes.facts) ∙ ap (λ (t : HeldTable). t.kind) same.1 in
-    ap (λ (kind : Kind). may_hold kind (names.get routes r) k) (sym kind)
-    ∙ held_after takes.table.kind (facts_held takes.table) routes route span ends (all name takes.table takes.there) there from upto r k row
-    (ap (λ (f : Facts). contains (f r k) row) (sym facts) ∙ holding))
-    (λ before. all q table before r k row holding)
-    (cases_insert tables name takes.after q table (ap (λ (m : Names HeldTable). names.get m q) (sym takes.put) ∙ at))
+    ∙ sym (get_table old spans q))

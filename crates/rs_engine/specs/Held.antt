@@ -1,50 +1,29 @@
 -- What the engine keeps, and the state of the reference machine that it stands for.
-use Rattle.std.specs.Prelude.{ℕ, List, [], unwrap_or}
+use Rattle.std.specs.Prelude.{◌≡◌, ℕ, Some}
 use Rattle.std.specs.FinMap as names
-use Rattle.rs_methods.specs.Referents.{referents_of}
-use Rattle.rs_value.specs.declared.column.Kind.{Kind}
-use Rattle.rs_facts.specs.Fact.{Name, Names, Facts}
-use Rattle.rs_facts.specs.Query.{RouteEnds, Column, Table}
-use Rattle.rs_facts.specs.Runs.{Stretch}
-use Rattle.rs_facts.specs.Spans.{places_of}
+use Rattle.rs_facts.specs.Fact.{Name}
 use Rattle.rs_machine.specs.State.{State}
-use Rattle.rs_engine.specs.Names.{map_values}
-use Rattle.rs_engine.specs.declared.referents.TheConstants.{OWN_ROUTE}
-
--- a table: for each route that holds something, the spans that are kept
-pub record HeldTable : Type 0 where
-  pub kind : Kind
-  pub columns : List Column
-  pub spans : Names (List Stretch)
-
--- referents of one route, each by the route's number there and its name
-abbrev pub HeldReferents : Type 0
-HeldReferents = List ((ℕ × Name) × ℕ)
+use Rattle.rs_event_lists.specs.Held.{HeldLists, kind_at, spans_on}
+use Rattle.rs_catalog.specs.Definitions.{Numbered, TableItem, Definitions, IsFree, AreDefinitions, state_from}
+use Rattle.rs_catalog.specs.Events.{AreEventsOf}
+use Rattle.rs_catalog.specs.Referents.{HeldReferents, referents_on}
 
 pub record Held : Type 0 where
-  pub routes : Names RouteEnds
-  -- for each route that has or had some, its referents
-  pub referents : Names HeldReferents
-  pub tables : Names HeldTable
+  pub definitions : Definitions
+  -- by the routes' numbers
+  pub referents : Numbered HeldReferents
+  -- by the tables' and the routes' numbers
+  pub events : HeldLists
   -- how many changes were accepted
   pub changes : ℕ
 
--- the table's rows at each thousandth of each route
-unfoldable pub facts_held : HeldTable → Facts
-facts_held table route = places_of (unwrap_or (names.get table.spans route) [])
-
--- the referents of a route, each a name and a measure
-unfoldable pub referents_on : Names HeldReferents → Name → List (Name × ℕ)
-referents_on referents route = referents_of OWN_ROUTE (unwrap_or (names.get referents route) [])
-
-unfoldable pub referents_held : Names HeldReferents → Name → Names ℕ
-referents_held referents route = names.from_entries (referents_on referents route)
-
-unfoldable pub table_of : HeldTable → Table
-table_of table = record { kind = table.kind; columns = table.columns; facts = facts_held table }
-
-unfoldable pub tables_of : Names HeldTable → Names Table
-tables_of tables = map_values table_of tables
-
 abbrev pub state_of : Held → State
-state_of held = record { routes = held.routes; referents = referents_held held.referents; tables = tables_of held.tables; changes = held.changes; cursors = λ session. names.empty }
+state_of held = state_from held.definitions (referents_on held.referents) (spans_on held.events) held.changes
+
+-- What is so of all that an engine keeps: the spans are those of tables and routes that are there, and of their kinds,
+-- and so are the referents.
+pub record IsHeld (held : Held) : Type 0 where
+  pub definitions : AreDefinitions held.definitions
+  pub events : AreEventsOf held.definitions (spans_on held.events)
+  pub kinds : (name : Name) (table : TableItem) → names.get held.definitions.tables name ≡ Some table → kind_at held.events table.number ≡ Some table.kind
+  pub referents : (route : ℕ) → IsFree (λ item. item.number) held.definitions.routes route → referents_on held.referents route ≡ names.empty

@@ -1,10 +1,10 @@
-pub mod Names
-pub mod Lends
 pub mod Held
-pub mod Referents
 pub mod Codes
-pub mod Placed
-pub mod Printed
+pub mod Tables
+pub mod Referents
+pub mod Located
 pub mod Insertion
+pub mod Removal
+pub mod Printed
 pub mod View
 pub mod Replied

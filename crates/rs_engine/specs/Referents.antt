@@ -4,19 +4,12 @@ use Rattle.std.specs.FinMap as names
 use Rattle.rs_measure.specs.declared.refusal.Refusal.{Refusal}
 use Rattle.rs_measure.specs.declared.refusal.Refusal.TheVariants.{InUse, NoSuchReferent}
 use Rattle.rs_methods.specs.Position.{start_name}
-use Rattle.rs_methods.specs.Referents.{referents_of}
-use Rattle.rs_facts.specs.Fact.{Name, Names}
+use Rattle.rs_facts.specs.Fact.{Name}
 use Rattle.rs_facts.specs.Insert.{same_name}
 use Rattle.rs_facts.specs.Query.{RouteEnds}
 use Rattle.rs_machine.specs.State.{State}
 use Rattle.rs_machine.specs.Checks.{◌>>=◌, unless, route_named, has_referent}
 use Rattle.rs_machine.specs.Step.{with_referents}
-use Rattle.rs_engine.specs.declared.referents.TheConstants.{OWN_ROUTE}
-use Rattle.rs_engine.specs.Held.{HeldReferents}
-
--- the referents of one route, as the machine knows them
-abbrev pub referents_by_name : HeldReferents → Names ℕ
-referents_by_name referents = names.from_entries (referents_of OWN_ROUTE referents)
 
 -- the route of a referent that may be moved or dropped: the referent is there and is not START
 abbrev pub route_of_referent : State → Name → Name → Result RouteEnds Refusal

@@ -4,8 +4,7 @@
 
 ghost use Rattle.std.specs.Prelude.{◌≡◌, ◌++◌, codes, OnOk, string_bytes};
 
-use crate::referents::RouteReferents;
-use crate::routes::Ends;
+use rs_catalog::{RouteEntry, RouteReferents};
 use rs_measure::{Measure, write_measure};
 use rs_methods::{Method, Name};
 use std::alloc::AllocError;
@@ -16,9 +15,9 @@ pub struct PositionPrinter<'a> {
     /// The referents of all routes.
     pub referents: &'a RouteReferents,
     /// The route's name.
-    pub route: &'a Name,
-    /// Where the route starts and where it ends.
-    pub ends: Ends,
+    pub name: &'a Name,
+    /// The route's number, and where it starts and ends.
+    pub route: RouteEntry,
     /// How its positions are printed.
     pub method: Method,
 }
@@ -29,7 +28,7 @@ impl PositionPrinter<'_> {
     /// Appends a space and the position of a place of the route, in thousandths. For want of memory the text may end
     /// with a part of it.
     pub fn push(&self, text: &mut String, place: u32) -> Result<(), AllocError>
-        requires { IsPlaceOn self.now.ends place }
+        requires { IsPlaceOn self.now.route.ends place }
         ensures { OnOk result (string_bytes text.new ≡ string_bytes text.old ++ codes " " ++ printed_by self.now place) }
     {
         text.push(' ')?;
@@ -37,9 +36,7 @@ impl PositionPrinter<'_> {
         match self.method {
             Method::Absolute => text.push_str(write_measure(k).as_str()),
             Method::Relative | Method::Interpolative => {
-                let position = self
-                    .referents
-                    .expressed(self.route, self.ends, self.method, k)?;
+                let position = self.referents.expressed(self.route, self.method, k)?;
                 text.push_str(position.as_str())
             }
         }

@@ -20,11 +20,28 @@ pub fn push_lines(
     alloc: Global,
     kind: Kind,
     printer: &PositionPrinter<'_>,
+    runs: &[Span],
+    rows: &mut Vec<String>,
+) -> Result<(), AllocError>
+    requires { AllByRecursion (IsWithinEnds printer.now.route.ends kind) (map seen runs.now) }
+    ensures { OnOk result (rows_of rows.new.items ≡ rows_of rows.old.items ++ map (line_of (printed_by printer.now) kind printer.now.name.now.bytes) (map seen runs.now)) }
+{
+    for run in runs {
+        rows.push(line_text(alloc, kind, printer, run)?)?;
+    }
+    Ok(())
+}
+
+/// Appends the line of each run of one route; the runs are lent.
+pub fn push_lent_lines(
+    alloc: Global,
+    kind: Kind,
+    printer: &PositionPrinter<'_>,
     runs: &[&Span],
     rows: &mut Vec<String>,
 ) -> Result<(), AllocError>
-    requires { AllByRecursion (IsWithinEnds printer.now.ends kind) (map seen_lent runs.now) }
-    ensures { OnOk result (rows_of rows.new.items ≡ rows_of rows.old.items ++ map (line_of (printed_by printer.now) kind printer.now.route.now.bytes) (map seen_lent runs.now)) }
+    requires { AllByRecursion (IsWithinEnds printer.now.route.ends kind) (map seen_lent runs.now) }
+    ensures { OnOk result (rows_of rows.new.items ≡ rows_of rows.old.items ++ map (line_of (printed_by printer.now) kind printer.now.name.now.bytes) (map seen_lent runs.now)) }
 {
     for run in runs {
         rows.push(line_text(alloc, kind, printer, run)?)?;
@@ -39,10 +56,10 @@ fn line_text(
     printer: &PositionPrinter<'_>,
     run: &Span,
 ) -> Result<String, AllocError>
-    requires { IsWithinEnds printer.now.ends kind (seen run.now) }
-    ensures { IfOk result (λ text. string_bytes text ≡ line_of (printed_by printer.now) kind printer.now.route.now.bytes (seen run.now)) }
+    requires { IsWithinEnds printer.now.route.ends kind (seen run.now) }
+    ensures { IfOk result (λ text. string_bytes text ≡ line_of (printed_by printer.now) kind printer.now.name.now.bytes (seen run.now)) }
 {
-    let mut text = String::from_str(alloc, printer.route.as_str())?;
+    let mut text = String::from_str(alloc, printer.name.as_str())?;
     printer.push(&mut text, run.lo)?;
     match kind {
         Kind::Point => (),

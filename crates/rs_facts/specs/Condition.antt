@@ -2,26 +2,19 @@
 use Rattle.std.specs.Prelude.{ℕ, Bool, true, false, not, ◌&&◌, ◌||◌}
 use Rattle.std.specs.declared.cmp.Ordering.{Ordering}
 use Rattle.std.specs.Ordering.{is_lt, is_le, is_eq, is_ne, is_gt, is_ge}
+use Rattle.rs_value.specs.declared.comparison.Comparison.{Comparison}
+use Rattle.rs_value.specs.declared.comparison.Comparison.TheVariants as comparisons
 use Rattle.rs_value.specs.Row.{Datum, null, number, text, datum_cmp, Row}
 use Rattle.rs_facts.specs.Operators.{datum_at}
 
--- `=`, `<>`, `<`, `<=`, `>`, `>=`
-pub data Comparison : Type 0 where
-  equal : Comparison
-  unequal : Comparison
-  less : Comparison
-  less_or_equal : Comparison
-  greater : Comparison
-  greater_or_equal : Comparison
-
--- whether two values that stand so compare so
+-- whether the comparison is true of values in this order
 abbrev pub suits : Comparison → Ordering → Bool
-suits equal order = is_eq order
-suits unequal order = is_ne order
-suits less order = is_lt order
-suits less_or_equal order = is_le order
-suits greater order = is_gt order
-suits greater_or_equal order = is_ge order
+suits comparisons.Equal order = is_eq order
+suits comparisons.Unequal order = is_ne order
+suits comparisons.Less order = is_lt order
+suits comparisons.LessOrEqual order = is_le order
+suits comparisons.Greater order = is_gt order
+suits comparisons.GreaterOrEqual order = is_ge order
 
 -- what is compared: the value in a column by its place, or a value written out
 pub data Term : Type 0 where

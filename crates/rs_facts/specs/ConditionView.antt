@@ -2,19 +2,9 @@
 use Rattle.rs_value.specs.Row.{null}
 use Rattle.rs_value.specs.View.{literal_datum}
 use Rattle.rs_facts.specs.Condition as said
-use Rattle.rs_facts.specs.declared.condition.Comparison.{Comparison}
-use Rattle.rs_facts.specs.declared.condition.Comparison.TheVariants as comparisons
 use Rattle.rs_facts.specs.declared.condition.Term.{Term}
 use Rattle.rs_facts.specs.declared.condition.Term.TheVariants as terms
 use Rattle.rs_facts.specs.declared.condition.Condition.{Condition, Compare, TestsNull, Negated', Bracketed', Both', Either', Row_of-Condition, end_of-Condition, more_of-Condition}
-
-abbrev pub comparison_of : Comparison → said.Comparison
-comparison_of comparisons.Equal = said.equal
-comparison_of comparisons.Unequal = said.unequal
-comparison_of comparisons.Less = said.less
-comparison_of comparisons.LessOrEqual = said.less_or_equal
-comparison_of comparisons.Greater = said.greater
-comparison_of comparisons.GreaterOrEqual = said.greater_or_equal
 
 abbrev pub term_of : Term → said.Term
 term_of (terms.Column place) = said.column place
@@ -24,10 +14,10 @@ term_of (terms.Written literal) = said.written (literal_datum literal)
 abbrev pub holds_always : said.Condition
 holds_always = said.tests_null (said.written null)
 
--- each of a chain beside the rest of it
+-- a chain: its first part, and (or) the rest
 abbrev mutual
   pub condition_of : Condition → said.Condition
-  condition_of (Compare column comparison term) = said.compare (said.column column) (comparison_of comparison) (term_of term)
+  condition_of (Compare column comparison term) = said.compare (said.column column) comparison (term_of term)
   condition_of (TestsNull column) = said.tests_null (said.column column)
   condition_of (Negated' place condition) = said.negated (condition_of condition)
   condition_of (Bracketed' place condition) = said.bracketed (condition_of condition)
@@ -36,8 +26,10 @@ abbrev mutual
 
   pub all_of : {m : _} → Row_of-Condition m → said.Condition
   all_of end_of-Condition = holds_always
-  all_of (more_of-Condition part rest) = said.both (condition_of part) (all_of rest)
+  all_of (more_of-Condition part end_of-Condition) = condition_of part
+  all_of (more_of-Condition part (more_of-Condition next rest)) = said.both (condition_of part) (all_of (more_of-Condition next rest))
 
   pub any_of : {m : _} → Row_of-Condition m → said.Condition
   any_of end_of-Condition = said.negated holds_always
-  any_of (more_of-Condition part rest) = said.either (condition_of part) (any_of rest)
+  any_of (more_of-Condition part end_of-Condition) = condition_of part
+  any_of (more_of-Condition part (more_of-Condition next rest)) = said.either (condition_of part) (any_of (more_of-Condition next rest))

@@ -1,6 +1,8 @@
 pub mod Fact
 pub mod Insert
+pub mod Remove
 pub mod Query
+pub mod WellFormed
 pub mod Runs
 pub mod LineText
 pub mod Spans

@@ -25,7 +25,7 @@ datum_at row column = get_or row column null
 unfoldable pub chosen : List ℕ → Row → Row
 chosen columns row = map (λ column. datum_at row column) columns
 
--- DISSOLVE: of each row the named columns
+-- DISSOLVE: the named columns of each row
 unfoldable pub dissolved : List ℕ → RowSet → RowSet
 dissolved columns rows = mapped (chosen columns) rows
 

@@ -1,23 +1,6 @@
 //! Conditions over a row, their columns by place.
 
-use rs_value::Literal;
-
-/// How two values are compared.
-#[derive(Clone, Copy)]
-pub enum Comparison {
-    /// `=`.
-    Equal,
-    /// `<>`.
-    Unequal,
-    /// `<`.
-    Less,
-    /// `<=`.
-    LessOrEqual,
-    /// `>`.
-    Greater,
-    /// `>=`.
-    GreaterOrEqual,
-}
+use rs_value::{Comparison, Literal};
 
 /// What a column is compared with.
 #[derive(Drop)]

@@ -9,5 +9,5 @@ pub mod fact;
 pub mod laws;
 pub mod operator_laws;
 
-pub use condition::{Comparison, Condition, Term};
+pub use condition::{Condition, Term};
 pub use fact::{Fact, Run, Span};

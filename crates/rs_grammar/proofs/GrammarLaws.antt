@@ -1,305 +1,16 @@
 -- The law of the grammar's table: reading with one token ahead finds the commands, and the first token
--- that fits no rule. It holds of every table that passes the checks below.
-use Rattle.std.proofs.Common.{◌≡◌, ℕ, zero, suc, Bool, true, false, List, [], ◌∷◌, ◌++◌, Option, Some, None, Result, Ok, Err, refl, sym, ap, ◌∙◌, subst, inl, inr, ⊎_elim, append_assoc, append-nil}
-use Rattle.std.specs.Prelude.{◌⊎◌, ◌&&◌, ◌||◌, not, if◌then◌else◌}
+-- that fits no rule.
+use Rattle.std.proofs.Common.{◌≡◌, Bool, true, false, List, [], ◌∷◌, ◌++◌, Option, Some, None, Ok, Err, refl, sym, ap, ◌∙◌, subst, inl, inr, ⊎_elim, append_assoc, append-nil}
+use Rattle.std.specs.Prelude.{◌⊎◌, ◌&&◌, ◌||◌, if◌then◌else◌}
 use Rattle.std.proofs.lemmas.Bool.{false≢true, and_parts}
-use denote.Enum.Bare.{sameb, same_true, true_same}
 use Rattle.std.proofs.lemmas.List.{append_cancel_right}
-use Rattle.rs_grammar.specs.contracts.kind.TokenKind.{the_type}
 use Rattle.rs_grammar.specs.declared.kind.TokenKind.{TokenKind}
 use Rattle.rs_grammar.specs.declared.kind.TokenKind.TheVariants as kinds
 use Rattle.rs_grammar.specs.Grammar as g
 use Rattle.rs_grammar.specs.Grammar.{Part, Form, done, fail, pick, sub, rules, Derives, nothing, this, that, part, IsCommand, IsViable}
 use Rattle.rs_grammar.specs.Reading.{Lacks, Runs, is_done, is_fail, takes, skips, through, stops_in, gives_up}
-
-abbrev pub Outcome : Type 0
-Outcome = Result (List TokenKind) (Option (List TokenKind))
-
--- what a derivation is made of
-abbrev MadeOf : Form → List TokenKind → List TokenKind → Type 0
-MadeOf done tokens left = tokens ≡ left
-MadeOf fail tokens left = ⊥
-MadeOf (pick kind form other) tokens left = ((rest : List TokenKind) × (tokens ≡ kind ∷ rest) × Derives form rest left) ⊎ Derives other tokens left
-MadeOf (sub p form) tokens left = (middle : List TokenKind) × Derives (rules p) tokens middle × Derives form middle left
-
-made_of : {form : Form} {tokens left : List TokenKind} → Derives form tokens left → MadeOf form tokens left
-made_of nothing = refl
-made_of (this {tokens = rest} d) = inl (rest, refl, d)
-made_of (that d) = inr d
-made_of (part {middle = middle} d e) = (middle, d, e)
-
--- a derivation doesn't look at what is left
-abbrev Frame : Form → List TokenKind → List TokenKind → Type 0
-Frame form tokens left = (front : List TokenKind) × (tokens ≡ front ++ left) × ((others : List TokenKind) → Derives form (front ++ others) others)
-
-frame : {form : Form} {tokens left : List TokenKind} → Derives form tokens left → Frame form tokens left
-frame nothing = ([], refl, λ others. nothing)
-frame (this {kind = kind} d) = let f = frame d in (kind ∷ f.0, ap (λ ts. kind ∷ ts) f.1, λ others. this (f.2 others))
-frame (that d) = let f = frame d in (f.0, f.1, λ others. that (f.2 others))
-frame (part {p = p} {form = form} {left = left} d e) =
-    let f = frame d in
-    let h = frame e in (
-      f.0 ++ h.0,
-      f.1 ∙ ap (λ ts. f.0 ++ ts) h.1 ∙ sym (append_assoc f.0 h.0 left),
-      λ others. subst (λ ts. Derives (sub p form) ts others) (sym (append_assoc f.0 h.0 others)) (part (f.2 (h.0 ++ others)) (h.2 others)),
-    )
-
--- what is read is derived
-sound : {form : Form} {tokens : List TokenKind} {outcome : Outcome} → Runs form tokens outcome → (left : List TokenKind) → outcome ≡ Ok left → Derives form tokens left
-sound {outcome = outcome} (is_done {tokens}) left e = let same : tokens ≡ left = cc in subst (Derives done tokens) same nothing
-sound is_fail left e = absurd cc
-sound (takes run) left e = this (sound run left e)
-sound (skips lacks run) left e = that (sound run left e)
-sound (through {middle = middle} run more) left e = part (sound run middle refl) (sound more left e)
-sound (stops_in run) left e = absurd cc
-sound gives_up left e = absurd cc
-
--- the kind is in the list
-abbrev has : List TokenKind → TokenKind → Bool
-has [] kind = false
-has (first ∷ others) kind = sameb the_type first kind || has others kind
-
-same-refl : (kind : TokenKind) → sameb the_type kind kind ≡ true
-same-refl kind = true_same the_type kind kind refl
-
-or-right : (a b : Bool) → b ≡ true → (a || b) ≡ true
-or-right true b e = refl
-or-right false b e = e
-
-or-left : (a b : Bool) → a ≡ true → (a || b) ≡ true
-or-left true b e = refl
-or-left false b e = absurd (false≢true e)
-
-or-false : (a b : Bool) → (a || b) ≡ false → (a ≡ false) × (b ≡ false)
-or-false true b e = absurd (false≢true (sym e))
-or-false false b e = (refl, e)
-
-or-cases : (a b : Bool) → (a || b) ≡ true → (a ≡ true) ⊎ (b ≡ true)
-or-cases true b e = inl refl
-or-cases false b e = inr e
-
-not-true : (a : Bool) → not a ≡ true → a ≡ false
-not-true true e = absurd (false≢true e)
-not-true false e = refl
-
-has-here : (kind : TokenKind) (others : List TokenKind) → has (kind ∷ others) kind ≡ true
-has-here kind others = or-left (sameb the_type kind kind) (has others kind) (same-refl kind)
-
-has-append : (xs ys : List TokenKind) (kind : TokenKind) → has (xs ++ ys) kind ≡ false → (has xs kind ≡ false) × (has ys kind ≡ false)
-has-append [] ys kind e = (refl, e)
-has-append (x ∷ xs) ys kind e =
-    let p = or-false (sameb the_type x kind) (has (xs ++ ys) kind) e in
-    let q = has-append xs ys kind p.1 in
-    (elim (sameb the_type x kind) as (λ b. b ≡ false → (b || has xs kind) ≡ false) [ true ↦ λ h. h | false ↦ λ h. q.0 ] p.0, q.1)
-
-abbrev all_in : List TokenKind → List TokenKind → Bool
-all_in [] kinds = true
-all_in (kind ∷ others) kinds = has kinds kind && all_in others kinds
-
-abbrev none_in : List TokenKind → List TokenKind → Bool
-none_in [] kinds = true
-none_in (kind ∷ others) kinds = not (has kinds kind) && none_in others kinds
-
-all_in-has : (xs ys : List TokenKind) (kind : TokenKind) → all_in xs ys ≡ true → has xs kind ≡ true → has ys kind ≡ true
-all_in-has [] ys kind all e = absurd (false≢true e)
-all_in-has (x ∷ xs) ys kind all e =
-    let p = and_parts (has ys x) (all_in xs ys) all in
-    ⊎_elim
-    (λ same. subst (λ k. has ys k ≡ true) (same_true the_type tt x kind same) p.0)
-    (λ later. all_in-has xs ys kind p.1 later)
-    (or-cases (sameb the_type x kind) (has xs kind) e)
-
-none_in-has : (xs ys : List TokenKind) (kind : TokenKind) → none_in xs ys ≡ true → has xs kind ≡ true → has ys kind ≡ false
-none_in-has [] ys kind none e = absurd (false≢true e)
-none_in-has (x ∷ xs) ys kind none e =
-    let p = and_parts (not (has ys x)) (none_in xs ys) none in
-    ⊎_elim
-    (λ same. subst (λ k. has ys k ≡ false) (same_true the_type tt x kind same) (not-true (has ys x) p.0))
-    (λ later. none_in-has xs ys kind p.1 later)
-    (or-cases (sameb the_type x kind) (has xs kind) e)
-
-bool-cases : (b : Bool) → (b ≡ true) ⊎ (b ≡ false)
-bool-cases true = inl refl
-bool-cases false = inr refl
-
-all_in-lacks : (xs ys : List TokenKind) (kind : TokenKind) → all_in xs ys ≡ true → has ys kind ≡ false → has xs kind ≡ false
-all_in-lacks xs ys kind all e =
-    ⊎_elim (λ there. absurd (false≢true (sym e ∙ all_in-has xs ys kind all there))) (λ not_there. not_there) (bool-cases (has xs kind))
-
--- The first tokens of a part, and the tokens that reading it would take where something else follows.
-abbrev first_kinds : Part → List TokenKind
-first_kinds g.command = kinds.Define ∷ kinds.Drop ∷ kinds.Move ∷ kinds.Insert ∷ kinds.Translate ∷ kinds.Select ∷ []
-first_kinds g.place = kinds.From ∷ []
-first_kinds g.columns = kinds.Name ∷ []
-first_kinds g.column = kinds.Name ∷ []
-first_kinds g.values = kinds.Null ∷ kinds.MinusSign ∷ kinds.Whole ∷ kinds.Quoted ∷ []
-first_kinds g.value = kinds.Null ∷ kinds.MinusSign ∷ kinds.Whole ∷ kinds.Quoted ∷ []
-first_kinds g.measure = kinds.Whole ∷ kinds.Decimal ∷ []
-first_kinds g.query = kinds.Name ∷ []
-first_kinds g.position = kinds.AtSign ∷ kinds.Whole ∷ kinds.Decimal ∷ []
-first_kinds g.method = kinds.Absolute ∷ kinds.Relative ∷ kinds.Interpolative ∷ []
-first_kinds _ = []
-
-abbrev part_bars : Part → List TokenKind
-part_bars g.command = kinds.PlusSign ∷ kinds.MinusSign ∷ kinds.PercentSign ∷ kinds.As ∷ []
-part_bars g.place = kinds.PlusSign ∷ kinds.MinusSign ∷ kinds.PercentSign ∷ []
-part_bars g.position = kinds.PlusSign ∷ kinds.MinusSign ∷ kinds.PercentSign ∷ []
-part_bars g.columns = kinds.Comma ∷ []
-part_bars g.values = kinds.Comma ∷ []
-part_bars _ = []
-
--- the form may ask for nothing
-abbrev can_end : Form → Bool
-can_end done = true
-can_end fail = false
-can_end (pick kind form other) = can_end other
-can_end (sub p form) = false
-
-abbrev firsts : Form → List TokenKind
-firsts done = []
-firsts fail = []
-firsts (pick kind form other) = kind ∷ firsts other
-firsts (sub p form) = first_kinds p
-
-abbrev list_if : Bool → List TokenKind → List TokenKind
-list_if true kinds = kinds
-list_if false kinds = []
-
-abbrev bars : Form → List TokenKind
-bars done = []
-bars fail = []
-bars (pick kind form other) = bars form ++ (bars other ++ list_if (can_end other) (kind ∷ []))
-bars (sub p form) = bars form ++ list_if (can_end form) (part_bars p)
-
--- one token decides
-abbrev is_clear : Form → Bool
-is_clear done = true
-is_clear fail = true
-is_clear (pick kind form other) = not (has (firsts other) kind) && (is_clear form && is_clear other)
-is_clear (sub p form) = none_in (firsts form) (part_bars p) && is_clear form
-
--- what the checks say of each part
-record IsChecked (p : Part) : Type 0 where
-  clear : is_clear (rules p) ≡ true
-  asks : can_end (rules p) ≡ false
-  firsts_known : all_in (firsts (rules p)) (first_kinds p) ≡ true
-  bars_known : all_in (bars (rules p)) (part_bars p) ≡ true
-
-checked : (p : Part) → IsChecked p
-unfolding rules
-checked g.command = record { clear = refl; asks = refl; firsts_known = refl; bars_known = refl }
-checked g.place = record { clear = refl; asks = refl; firsts_known = refl; bars_known = refl }
-checked g.columns = record { clear = refl; asks = refl; firsts_known = refl; bars_known = refl }
-checked g.column = record { clear = refl; asks = refl; firsts_known = refl; bars_known = refl }
-checked g.values = record { clear = refl; asks = refl; firsts_known = refl; bars_known = refl }
-checked g.value = record { clear = refl; asks = refl; firsts_known = refl; bars_known = refl }
-checked g.measure = record { clear = refl; asks = refl; firsts_known = refl; bars_known = refl }
-checked g.query = record { clear = refl; asks = refl; firsts_known = refl; bars_known = refl }
-checked g.position = record { clear = refl; asks = refl; firsts_known = refl; bars_known = refl }
-checked g.method = record { clear = refl; asks = refl; firsts_known = refl; bars_known = refl }
-checked g.names = record { clear = refl; asks = refl; firsts_known = refl; bars_known = refl }
-checked g.pieces = record { clear = refl; asks = refl; firsts_known = refl; bars_known = refl }
-checked g.piece = record { clear = refl; asks = refl; firsts_known = refl; bars_known = refl }
-checked g.condition = record { clear = refl; asks = refl; firsts_known = refl; bars_known = refl }
-checked g.conjunction = record { clear = refl; asks = refl; firsts_known = refl; bars_known = refl }
-checked g.atom = record { clear = refl; asks = refl; firsts_known = refl; bars_known = refl }
-
--- a derivation begins with one of the form's first tokens, or has none
-abbrev Begins : Form → List TokenKind → List TokenKind → Type 0
-Begins form tokens left = ((can_end form ≡ true) × (tokens ≡ left)) ⊎ ((kind : TokenKind) × (rest : List TokenKind) × (tokens ≡ kind ∷ rest) × (has (firsts form) kind ≡ true))
-
-begins : {form : Form} {tokens left : List TokenKind} → Derives form tokens left → Begins form tokens left
-begins nothing = inl (refl, refl)
-begins (this {kind = kind} {other = other} {tokens = rest} d) = inr (kind, rest, refl, has-here kind (firsts other))
-begins (that {kind = kind} {other = other} d) =
-    ⊎_elim (λ ends. inl ends) (λ b. inr (b.0, b.1, b.2, or-right (sameb the_type kind b.0) (has (firsts other) b.0) b.3)) (begins d)
-begins (part {p = p} d e) =
-    let c = checked p in
-    ⊎_elim
-    (λ ends. absurd (false≢true (sym c.asks ∙ ends.0)))
-    (λ b. inr (b.0, b.1, b.2, all_in-has (firsts (rules p)) (first_kinds p) b.0 c.firsts_known b.3))
-    (begins d)
-
--- what follows doesn't begin with one of the kinds
-abbrev NotBegun : List TokenKind → List TokenKind → Type 0
-NotBegun kinds [] = Unit {0}
-NotBegun kinds (first ∷ others) = has kinds first ≡ false
-
-NotBegun-left : (xs ys left : List TokenKind) → NotBegun (xs ++ ys) left → NotBegun xs left
-NotBegun-left xs ys [] n = tt
-NotBegun-left xs ys (first ∷ others) n = (has-append xs ys first n).0
-
-NotBegun-right : (xs ys left : List TokenKind) → NotBegun (xs ++ ys) left → NotBegun ys left
-NotBegun-right xs ys [] n = tt
-NotBegun-right xs ys (first ∷ others) n = (has-append xs ys first n).1
-
-NotBegun-fewer : (xs ys left : List TokenKind) → all_in xs ys ≡ true → NotBegun ys left → NotBegun xs left
-NotBegun-fewer xs ys [] all n = tt
-NotBegun-fewer xs ys (first ∷ others) all n = all_in-lacks xs ys first all n
-
-NotBegun-list_if : (b : Bool) (xs left : List TokenKind) → b ≡ true → NotBegun (list_if b xs) left → NotBegun xs left
-NotBegun-list_if true xs left e n = n
-NotBegun-list_if false xs left e n = absurd (false≢true e)
-
--- the outcome of reading fits a derivation
-abbrev Fits : Outcome → List TokenKind → Type 0
-Fits (Ok rest) left = rest ≡ left
-Fits (Err None) left = Unit {0}
-Fits (Err (Some rest)) left = ⊥
-
-Fits-halt : (halt : Option (List TokenKind)) (left other : List TokenKind) → Fits (Err halt) left → Fits (Err halt) other
-Fits-halt None left other f = tt
-Fits-halt (Some rest) left other f = f
-
-head-same : (a b : TokenKind) (xs ys : List TokenKind) → a ∷ xs ≡ b ∷ ys → a ≡ b
-head-same a b xs ys e = cc
-
--- reading is complete: what is derived is read
-exact : {form : Form} {tokens : List TokenKind} {outcome : Outcome} → Runs form tokens outcome → is_clear form ≡ true
-    → (left : List TokenKind) → Derives form tokens left → NotBegun (bars form) left → Fits outcome left
-exact is_done clear left d n = made_of d
-exact is_fail clear left d n = absurd (made_of d)
-exact {outcome = outcome} (takes {kind = kind} {form = form} {other = other} {tokens = rest} run) clear left d n =
-    let p = and_parts (not (has (firsts other) kind)) (is_clear form && is_clear other) clear in
-    let q = and_parts (is_clear form) (is_clear other) p.1 in
-    ⊎_elim
-    (λ t. let same : t.0 ≡ rest = cc in exact run q.0 left (subst (λ ts. Derives form ts left) same t.2) (NotBegun-left (bars form) _ left n))
-    (λ e. ⊎_elim
-    (λ ends.
-    let here = NotBegun-list_if (can_end other) (kind ∷ []) left ends.0 (NotBegun-right (bars other) _ left (NotBegun-right (bars form) _ left n)) in
-    absurd (false≢true (sym (subst (NotBegun (kind ∷ [])) (sym ends.1) here) ∙ has-here kind [])))
-    (λ b. absurd (false≢true (sym (not-true (has (firsts other) kind) p.0) ∙ subst (λ k. has (firsts other) k ≡ true) (sym (head-same kind b.0 rest b.1 b.2)) b.3)))
-    (begins e))
-    (made_of d)
-exact (skips {kind = kind} {form = form} {other = other} {tokens = tokens} lacks run) clear left d n =
-    let p = and_parts (not (has (firsts other) kind)) (is_clear form && is_clear other) clear in
-    let q = and_parts (is_clear form) (is_clear other) p.1 in
-    ⊎_elim
-    (λ t. let no : Lacks kind (kind ∷ t.0) = subst (Lacks kind) t.1 lacks in absurd (no refl))
-    (λ e. exact run q.1 left e (NotBegun-left (bars other) _ left (NotBegun-right (bars form) _ left n)))
-    (made_of d)
-exact (through {p = p} {form = form} {middle = middle} run more) clear left d n =
-    let c = and_parts (none_in (firsts form) (part_bars p)) (is_clear form) clear in
-    let k = checked p in
-    let m = made_of d in
-    let follows : NotBegun (part_bars p) m.0 =
-    ⊎_elim
-    (λ ends. subst (NotBegun (part_bars p)) (sym ends.1) (NotBegun-list_if (can_end form) (part_bars p) left ends.0 (NotBegun-right (bars form) _ left n)))
-    (λ b. subst (NotBegun (part_bars p)) (sym b.2) (none_in-has (firsts form) (part_bars p) b.0 c.0 b.3))
-    (begins m.2) in
-    let same : middle ≡ m.0 = exact run k.clear m.0 m.1 (NotBegun-fewer (bars (rules p)) (part_bars p) m.0 k.bars_known follows) in
-    exact more c.1 left (subst (λ ts. Derives form ts left) (sym same) m.2) (NotBegun-left (bars form) _ left n)
-exact (stops_in {p = p} {form = form} {halt = halt} run) clear left d n =
-    let c = and_parts (none_in (firsts form) (part_bars p)) (is_clear form) clear in
-    let k = checked p in
-    let m = made_of d in
-    let follows : NotBegun (part_bars p) m.0 =
-    ⊎_elim
-    (λ ends. subst (NotBegun (part_bars p)) (sym ends.1) (NotBegun-list_if (can_end form) (part_bars p) left ends.0 (NotBegun-right (bars form) _ left n)))
-    (λ b. subst (NotBegun (part_bars p)) (sym b.2) (none_in-has (firsts form) (part_bars p) b.0 c.0 b.3))
-    (begins m.2) in
-    Fits-halt halt m.0 left (exact run k.clear m.0 m.1 (NotBegun-fewer (bars (rules p)) (part_bars p) m.0 k.bars_known follows))
-exact gives_up clear left d n = tt
+use Rattle.rs_grammar.proofs.ExactReading.{Frame, frame, sound, or-cases, checked, exact}
+pub use Rattle.rs_grammar.proofs.ExactReading.{Outcome}
 
 -- Reading looks at one token of what it leaves.
 abbrev SameNext : List TokenKind → List TokenKind → Type 0
@@ -366,13 +77,33 @@ sample parts samples fail = []
 sample parts samples (pick kind form other) = if completes parts other then sample parts samples other else kind ∷ sample parts samples form
 sample parts samples (sub p form) = samples p ++ sample parts samples form
 
-abbrev part_completes : ℕ → Part → Bool
-part_completes zero p = false
-part_completes (suc depth) p = completes (part_completes depth) (rules p)
+-- a part that derives something, and a sample of it
+abbrev yields : Part → Bool
+yields g.pieces = false
+yields g.piece = false
+yields _ = true
 
-abbrev part_sample : ℕ → Part → List TokenKind
-part_sample zero p = []
-part_sample (suc depth) p = sample (part_completes depth) (part_sample depth) (rules p)
+abbrev word : Part → List TokenKind
+word g.command = kinds.Drop ∷ kinds.View ∷ kinds.Name ∷ []
+word g.place = kinds.At ∷ kinds.Whole ∷ []
+word g.columns = kinds.Name ∷ kinds.Int ∷ []
+word g.column = kinds.Name ∷ kinds.Int ∷ []
+word g.values = kinds.Null ∷ []
+word g.value = kinds.Null ∷ []
+word g.measure = kinds.Whole ∷ []
+word g.query = kinds.Name ∷ []
+word g.position = kinds.Whole ∷ []
+word g.method = kinds.Absolute ∷ []
+word g.column_name = kinds.Name ∷ []
+word g.names = kinds.Name ∷ []
+word g.bracketed_names = kinds.LeftParen ∷ kinds.RightParen ∷ []
+word g.window = kinds.Name ∷ []
+word g.condition = kinds.Name ∷ kinds.Is ∷ kinds.Null ∷ []
+word g.conjunction = kinds.Name ∷ kinds.Is ∷ kinds.Null ∷ []
+word g.atom = kinds.Name ∷ kinds.Is ∷ kinds.Null ∷ []
+word g.comparison = kinds.Equal ∷ []
+word g.operand = kinds.Name ∷ []
+word _ = []
 
 abbrev IsSample : Form → List TokenKind → Type 0
 IsSample form tokens = (others : List TokenKind) → Derives form (tokens ++ others) others
@@ -391,27 +122,43 @@ sample_derived parts samples known (sub p form) e others =
     subst (λ ts. Derives (sub p form) ts others) (sym (append_assoc (samples p) (sample parts samples form) others))
     (part (known p c.0 (sample parts samples form ++ others)) (sample_derived parts samples known form c.1 others))
 
-part_sample_derived : (depth : ℕ) (p : Part) → part_completes depth p ≡ true → IsSample (rules p) (part_sample depth p)
-part_sample_derived zero p e = absurd (false≢true e)
-part_sample_derived (suc depth) p e = sample_derived (part_completes depth) (part_sample depth) (part_sample_derived depth) (rules p) e
-
--- parts begin with one another at most so deep
-abbrev deep : ℕ
-deep = 8
+word_derived : (p : Part) → yields p ≡ true → IsSample (rules p) (word p)
+unfolding rules
+word_derived g.command e others = that (this (that (that (this (this nothing)))))
+word_derived g.place e others = that (this (part (that (part (this nothing) (that nothing))) nothing))
+word_derived g.columns e others = part (this (this nothing)) (that nothing)
+word_derived g.column e others = this (this nothing)
+word_derived g.values e others = part (this nothing) (that nothing)
+word_derived g.value e others = this nothing
+word_derived g.measure e others = this nothing
+word_derived g.query e others = that (that (that (that (that (that (that (that (this nothing))))))))
+word_derived g.position e others = that (part (this nothing) (that nothing))
+word_derived g.method e others = this nothing
+word_derived g.column_name e others = this nothing
+word_derived g.names e others = part (this nothing) (that nothing)
+word_derived g.bracketed_names e others = this (this nothing)
+word_derived g.window e others = this (that nothing)
+word_derived g.condition e others = part (part (that (that (this (this (that (this nothing)))))) (that nothing)) (that nothing)
+word_derived g.conjunction e others = part (that (that (this (this (that (this nothing)))))) (that nothing)
+word_derived g.atom e others = that (that (this (this (that (this nothing)))))
+word_derived g.comparison e others = this nothing
+word_derived g.operand e others = this nothing
+word_derived g.pieces e others = absurd (false≢true e)
+word_derived g.piece e others = absurd (false≢true e)
 
 -- a form can be completed after each of its tokens
 abbrev is_productive : Form → Bool
 is_productive done = true
 is_productive fail = true
-is_productive (pick kind form other) = completes (part_completes deep) form && (is_productive form && is_productive other)
-is_productive (sub p form) = completes (part_completes deep) form && is_productive form
+is_productive (pick kind form other) = completes yields form && (is_productive form && is_productive other)
+is_productive (sub p form) = completes yields form && is_productive form
 
 sample_of : Form → List TokenKind
-sample_of form = sample (part_completes deep) (part_sample deep) form
+sample_of form = sample yields word form
 
-sample_of_derived : (form : Form) → completes (part_completes deep) form ≡ true → IsSample form (sample_of form)
+sample_of_derived : (form : Form) → completes yields form ≡ true → IsSample form (sample_of form)
 unfolding sample_of
-sample_of_derived form e = sample_derived (part_completes deep) (part_sample deep) (part_sample_derived deep) form e
+sample_of_derived form e = sample_derived yields word word_derived form e
 
 productive : (p : Part) → is_productive (rules p) ≡ true
 unfolding rules
@@ -425,12 +172,17 @@ productive g.measure = refl
 productive g.query = refl
 productive g.position = refl
 productive g.method = refl
+productive g.column_name = refl
 productive g.names = refl
-productive g.pieces = refl
-productive g.piece = refl
+productive g.bracketed_names = refl
+productive g.window = refl
 productive g.condition = refl
 productive g.conjunction = refl
 productive g.atom = refl
+productive g.comparison = refl
+productive g.operand = refl
+productive g.pieces = refl
+productive g.piece = refl
 
 -- What was read before a fault can be completed, unless nothing was read.
 abbrev GoesOn : Form → List TokenKind → List TokenKind → Type 0
@@ -441,7 +193,7 @@ Completes form tokens (Ok left) = Unit {0}
 Completes form tokens (Err None) = Unit {0}
 Completes form tokens (Err (Some left)) = GoesOn form tokens left
 
-Completes-takes : (kind : TokenKind) (form other : Form) (tokens : List TokenKind) (outcome : Outcome) → completes (part_completes deep) form ≡ true
+Completes-takes : (kind : TokenKind) (form other : Form) (tokens : List TokenKind) (outcome : Outcome) → completes yields form ≡ true
     → Completes form tokens outcome → Completes (pick kind form other) (kind ∷ tokens) outcome
 Completes-takes kind form other tokens (Ok left) c e = tt
 Completes-takes kind form other tokens (Err None) c e = tt
@@ -457,7 +209,7 @@ Completes-skips kind form other tokens (Ok left) e = tt
 Completes-skips kind form other tokens (Err None) e = tt
 Completes-skips kind form other tokens (Err (Some left)) e = ⊎_elim (λ none. inl none) (λ s. inr (s.0, s.1, s.2, λ others. that (s.3 others))) e
 
-Completes-through : (p : Part) (form : Form) (tokens middle : List TokenKind) (outcome : Outcome) → completes (part_completes deep) form ≡ true
+Completes-through : (p : Part) (form : Form) (tokens middle : List TokenKind) (outcome : Outcome) → completes yields form ≡ true
     → Frame (rules p) tokens middle → Completes form middle outcome → Completes (sub p form) tokens outcome
 Completes-through p form tokens middle (Ok left) c f e = tt
 Completes-through p form tokens middle (Err None) c f e = tt
@@ -472,7 +224,7 @@ Completes-through p form tokens middle (Err (Some left)) c f e =
     ))
     e
 
-Completes-stops : (p : Part) (form : Form) (tokens : List TokenKind) (halt : Option (List TokenKind)) → completes (part_completes deep) form ≡ true
+Completes-stops : (p : Part) (form : Form) (tokens : List TokenKind) (halt : Option (List TokenKind)) → completes yields form ≡ true
     → Completes (rules p) tokens (Err halt) → Completes (sub p form) tokens (Err halt)
 Completes-stops p form tokens None c e = tt
 Completes-stops p form tokens (Some left) c e =
@@ -490,20 +242,20 @@ completed : {form : Form} {tokens : List TokenKind} {outcome : Outcome} → Runs
 completed is_done e = tt
 completed is_fail e = inl refl
 completed {outcome = outcome} (takes {kind = kind} {form = form} {other = other} {tokens = tokens} run) e =
-    let p = and_parts (completes (part_completes deep) form) (is_productive form && is_productive other) e in
+    let p = and_parts (completes yields form) (is_productive form && is_productive other) e in
     Completes-takes kind form other tokens outcome p.0 (completed run (and_parts (is_productive form) (is_productive other) p.1).0)
 completed {tokens = tokens} {outcome = outcome} (skips {kind = kind} {form = form} {other = other} lacks run) e =
-    let p = and_parts (completes (part_completes deep) form) (is_productive form && is_productive other) e in
+    let p = and_parts (completes yields form) (is_productive form && is_productive other) e in
     Completes-skips kind form other tokens outcome (completed run (and_parts (is_productive form) (is_productive other) p.1).1)
 completed {tokens = tokens} {outcome = outcome} (through {p = p} {form = form} {middle = middle} run more) e =
-    let q = and_parts (completes (part_completes deep) form) (is_productive form) e in
+    let q = and_parts (completes yields form) (is_productive form) e in
     Completes-through p form tokens middle outcome q.0 (frame (sound run middle refl)) (completed more q.1)
 completed {tokens = tokens} (stops_in {p = p} {form = form} {halt = halt} run) e =
-    let q = and_parts (completes (part_completes deep) form) (is_productive form) e in
+    let q = and_parts (completes yields form) (is_productive form) e in
     Completes-stops p form tokens halt q.0 (completed run (productive p))
 completed gives_up e = tt
 
-command_completes : completes (part_completes deep) (rules g.command) ≡ true
+command_completes : completes yields (rules g.command) ≡ true
 unfolding rules
 command_completes = refl
 

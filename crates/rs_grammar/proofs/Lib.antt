@@ -1,1 +1,2 @@
+mod ExactReading
 pub mod GrammarLaws

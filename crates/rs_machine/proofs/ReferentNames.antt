@@ -1,6 +1,6 @@
 -- The names of referents stay names that a line can say.
 use Rattle.std.proofs.Common.{◌≡◌, ◌∙◌, ℕ, Bool, true, false, cond, List, [], ◌∷◌, Some, None, length, not, Result, Ok, Err, IfOk, refl, sym, ap, subst, inl, inr}
-use Rattle.std.specs.Prelude.{if◌then◌else◌, IsTrue, nat_le, nat_lt}
+use Rattle.std.specs.Prelude.{if◌then◌else◌, IsTrue, nat_le, nat_lt, ◌||◌, Option}
 use Rattle.std.specs.declared.cmp.Ordering.{Ordering}
 use Rattle.std.specs.declared.cmp.Ordering.TheVariants.{Less, Equal, Greater}
 use Rattle.std.specs.Ordering.{is_eq, eq_by_cmp}
@@ -15,13 +15,15 @@ use Rattle.rs_facts.specs.Fact.{Name, Names, name_cmp}
 use Rattle.rs_facts.specs.Insert.{same_name}
 use Rattle.rs_methods.specs.Position.{PositionExpression, start_name}
 use Rattle.rs_methods.specs.PositionText.{AreWords}
-use Rattle.rs_syntax.specs.Tree.{CommandTree, define_route, define_table, define_referent, move_referent, drop_referent, insert, translate, EventLocationTree, along, select}
+use Rattle.rs_syntax.specs.Tree.{EventLocationTree, WindowTree, ConditionTree, QueryTree, CommandTree, define_route, define_table, define_referent, define_view, move_referent, drop_route, drop_table, drop_view, drop_referent, insert, remove, translate, select}
 use Rattle.rs_syntax.specs.Verdict.{Reads}
 use Rattle.rs_syntax.specs.Sound.{IsName, IsSound}
 use Rattle.rs_machine.specs.State.{State, fresh, has}
-use Rattle.rs_machine.specs.Checks.{◌>>=◌, unless, route_named, table_named, has_referent, position_on, span_on, holds_lines, some_name_twice, column_names, row_fits}
-use Rattle.rs_machine.specs.declared.limits.TheConstants.{ROUTES, REFERENTS, TABLES}
-use Rattle.rs_machine.specs.Step.{Effect, may_change, referents_at, with_referents, referent_defined, referent_moved, referent_dropped, row_inserted, checked, outcome}
+use Rattle.rs_machine.specs.Checks.{◌>>=◌, unless, route_named, table_named, view_named, has_table_or_view, has_referent, position_on, event_span, location_kind, window_span, window_route, same_kind, some_name_twice, column_names, row_fits}
+use Rattle.rs_machine.specs.Opening.{some_view, names_query, names_route, names_referent}
+use Rattle.rs_machine.specs.Checking.{checked, removal_checked}
+use Rattle.rs_machine.specs.declared.limits.TheConstants.{ROUTES, REFERENTS, TABLES, VIEWS}
+use Rattle.rs_machine.specs.Step.{Effect, may_change, has_fact_on, some_table, referents_at, with_referents, referent_defined, referent_moved, referent_dropped, view_defined, route_dropped, row_inserted, rows_removed, outcome}
 use Rattle.rs_machine.specs.Served.{Machine, Reply, Answers, Served}
 use Rattle.rs_machine.specs.Request.{Request, unreadable, no_command, command, Asks, is_text}
 use Rattle.rs_machine.specs.Answered.{Answer, Replies, AnswersLine, Answered}
@@ -101,20 +103,47 @@ dropped_named : (state : State) (route name : Name) → AreNamed state → Keeps
 dropped_named state route name named =
     through (route_named state route) _ (λ ends.
     through (unless (has_referent state route name) NoSuchReferent) _ (λ there.
-    through (unless (not (same_name start_name name)) InUse) _ (λ other.
+    through (unless (not (same_name start_name name || some_view state (names_referent route name))) InUse) _ (λ other.
     through (may_change state) _ (λ change. record {
       named = with_named state route (names.remove (state.referents route) name) (gone_named (state.referents route) name (named.each route)) named;
     }))))
 
+-- a route that is dropped has no referents
+route_dropped_named : (state : State) (name : Name) → AreNamed state → Keeps (route_dropped state name)
+unfolding referents_at
+route_dropped_named state name named =
+    through (route_named state name) _ (λ ends.
+    through (unless (not (some_table state (has_fact_on name ends) || some_view state (names_route name))) InUse) _ (λ unused.
+    through (may_change state) _ (λ change. record { named = record { each = λ route. at route (same_name route name) } })))
+  where
+    at : (route : Name) (same : Bool) → Named (if same then names.empty else state.referents route)
+    at route true = λ other measure got. absurd (none_there measure (sym (get-empty name_cmp other) ∙ got))
+    at route false = named.each route
+
 -- every other command leaves the referents
 inserted_named : (state : State) (table route : Name) (place : EventLocationTree) (row : Row) → AreNamed state → Keeps (row_inserted state table route place row)
-inserted_named state name route (along from to) row named =
+inserted_named state name route place row named =
     through (route_named state route) _ (λ ends.
     through (table_named state name) _ (λ table.
-    through (span_on state route ends from to) _ (λ span.
-    through (unless (holds_lines table.kind) PointOrLineWanted) _ (λ lines.
+    through (event_span state route ends place) _ (λ span.
+    through (unless (same_kind table.kind (location_kind place)) PointOrLineWanted) _ (λ kind.
     through (row_fits table.columns row) _ (λ fits.
     through (may_change state) _ (λ change. record { named = record { each = named.each } }))))))
+
+removed_named : (state : State) (table : Name) (window : WindowTree) (condition : Option ConditionTree) → AreNamed state → Keeps (rows_removed state table window condition)
+removed_named state name window condition named =
+    through (route_named state (window_route window)) _ (λ ends.
+    through (table_named state name) _ (λ table.
+    through (window_span state ends window) _ (λ span.
+    through (removal_checked table.columns condition) _ (λ goes.
+    through (may_change state) _ (λ change. record { named = record { each = named.each } })))))
+
+view_defined_named : (state : State) (name : Name) (query : QueryTree) → AreNamed state → Keeps (view_defined state name query)
+view_defined_named state name query named =
+    through (checked state query) _ (λ made.
+    through (unless (not (has_table_or_view state name)) NameTaken) _ (λ new.
+    through (unless (nat_lt (names.len state.views) VIEWS) Limit) _ (λ room.
+    through (may_change state) _ (λ change. record { named = record { each = named.each } }))))
 
 outcome_named : (state : State) (session : ℕ) (tree : CommandTree) → IsSound tree → AreNamed state → Keeps (outcome state session tree)
 outcome_named state session (define_route name start finish) sound named =
@@ -123,15 +152,26 @@ outcome_named state session (define_route name start finish) sound named =
     through (unless (nat_lt (names.len state.routes) ROUTES) Limit) _ (λ room.
     through (may_change state) _ (λ change. record { named = record { each = named.each } }))))
 outcome_named state session (define_table kind name columns) sound named =
-    through (unless (not (has state.tables name)) NameTaken) _ (λ new.
+    through (unless (not (has_table_or_view state name)) NameTaken) _ (λ new.
     through (unless (not (some_name_twice (column_names columns))) ColumnTwice) _ (λ once.
     through (unless (nat_le (length columns) COLUMNS) Limit) _ (λ few.
     through (unless (nat_lt (names.len state.tables) TABLES) Limit) _ (λ room.
     through (may_change state) _ (λ change. record { named = record { each = named.each } })))))
 outcome_named state session (define_referent route name position) sound named = defined_named state route name position sound.1 named
+outcome_named state session (define_view name query text) sound named = view_defined_named state name query named
 outcome_named state session (move_referent route name position) sound named = moved_named state route name position sound.1 named
+outcome_named state session (drop_route name) sound named = route_dropped_named state name named
+outcome_named state session (drop_table name) sound named =
+    through (table_named state name) _ (λ table.
+    through (unless (not (some_view state (names_query name))) InUse) _ (λ unused.
+    through (may_change state) _ (λ change. record { named = record { each = named.each } })))
+outcome_named state session (drop_view name) sound named =
+    through (view_named state name) _ (λ view.
+    through (unless (not (some_view state (names_query name))) InUse) _ (λ unused.
+    through (may_change state) _ (λ change. record { named = record { each = named.each } })))
 outcome_named state session (drop_referent route name) sound named = dropped_named state route name named
 outcome_named state session (insert table route place row) sound named = inserted_named state table route place row named
+outcome_named state session (remove table window condition) sound named = removed_named state table window condition named
 outcome_named state session (translate route position method) sound named =
     through (route_named state route) _ (λ ends. through (position_on state route ends position) _ (λ measure. record { named = named }))
 outcome_named state session (select query method) sound named = through (checked state query) _ (λ query. record { named = named })

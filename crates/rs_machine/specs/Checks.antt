@@ -1,5 +1,5 @@
 -- What is looked at before a command takes effect. The first check that fails is the refusal.
-use Rattle.std.specs.Prelude.{ℕ, Bool, true, false, ◌||◌, nat_lt, List, [], ◌∷◌, Option, Some, None, Result, Ok, Err, map, if◌then◌else◌}
+use Rattle.std.specs.Prelude.{ℕ, ◌+◌, Bool, true, false, ◌||◌, nat_lt, List, [], ◌∷◌, Option, Some, None, Result, Ok, Err, map, if◌then◌else◌}
 use Rattle.std.specs.List.{list_any}
 use Rattle.std.specs.FinMap as names
 use Rattle.rs_measure.specs.declared.refusal.Refusal.{Refusal}
@@ -13,6 +13,7 @@ use Rattle.rs_value.specs.Fitting.{misfit}
 use Rattle.rs_facts.specs.Fact.{Name}
 use Rattle.rs_facts.specs.Insert.{same_name}
 use Rattle.rs_facts.specs.Query.{RouteEnds, Column, Table}
+use Rattle.rs_syntax.specs.Tree.{EventLocationTree, along, at_point, WindowTree, whole_route, part_of_route, QueryTree}
 use Rattle.rs_machine.specs.State.{State, has}
 
 -- one check after another, up to the first that fails
@@ -40,6 +41,13 @@ route_named state name = found (names.get state.routes name) NoSuchRoute
 abbrev pub table_named : State → Name → Result Table Refusal
 table_named state name = found (names.get state.tables name) NoSuchName
 
+abbrev pub view_named : State → Name → Result QueryTree Refusal
+view_named state name = found (names.get state.views name) NoSuchName
+
+-- tables and views share their names
+abbrev pub has_table_or_view : State → Name → Bool
+has_table_or_view state name = has state.tables name || has state.views name
+
 -- whether the route has a referent of this name; each has START
 abbrev pub has_referent : State → Name → Name → Bool
 has_referent state route name = same_name start_name name || has (state.referents route) name
@@ -56,9 +64,33 @@ span_on state route ends first second = do
   _ ← unless (nat_lt from to) EmptySpan
   Ok (from, to)
 
-abbrev pub holds_lines : Kind → Bool
-holds_lines Line = true
-holds_lines Point = false
+-- both points or both lines
+abbrev pub same_kind : Kind → Kind → Bool
+same_kind Line Line = true
+same_kind Point Point = true
+same_kind Line Point = false
+same_kind Point Line = false
+
+-- an event at one position is a point, and one along a span a line
+abbrev pub location_kind : EventLocationTree → Kind
+location_kind (along from to) = Line
+location_kind (at_point position) = Point
+
+-- where an event is put, from one thousandth on and below another
+abbrev pub event_span : State → Name → RouteEnds → EventLocationTree → Result (ℕ × ℕ) Refusal
+event_span state route ends (along from to) = span_on state route ends from to
+event_span state route ends (at_point position) = do
+  measure ← position_on state route ends position
+  Ok (measure, measure + 1)
+
+-- a window on the route that it names: a whole route has its end, at which a point may stand
+abbrev pub window_span : State → RouteEnds → WindowTree → Result (ℕ × ℕ) Refusal
+window_span state ends (whole_route route) = Ok (ends.start, ends.finish + 1)
+window_span state ends (part_of_route route from to) = span_on state route ends from to
+
+abbrev pub window_route : WindowTree → Name
+window_route (whole_route route) = route
+window_route (part_of_route route from to) = route
 
 abbrev pub some_name_twice : List Name → Bool
 some_name_twice [] = false

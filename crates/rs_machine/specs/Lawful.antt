@@ -1,11 +1,11 @@
 -- What is so of every state that the machine comes to.
 --
 -- A law says so: the state at the beginning is lawful, and whatever lines are answered leave it lawful.
-use Rattle.std.specs.Prelude.{◌≡◌, ◌≢◌, ℕ, ◌<◌, ◌≤◌, true, List, [], ◌∷◌, length, Some}
+use Rattle.std.specs.Prelude.{◌≡◌, ◌≢◌, ℕ, ◌<◌, ◌≤◌, true, false, IsTrue, List, [], ◌∷◌, length, Some}
 use Rattle.std.specs.List.{AllByRecursion}
 use Rattle.std.specs.FinMap as names
 use Rattle.rs_measure.specs.declared.measure.TheConstants.{GREATEST_MEASURE}
-use Rattle.rs_methods.specs.Position.{start_name}
+use Rattle.rs_methods.specs.Position.{PositionExpression, absolute, beyond, before, interpolative, start_name}
 use Rattle.rs_value.specs.declared.column.Kind.{Kind}
 use Rattle.rs_value.specs.declared.column.Kind.TheVariants.{Point, Line}
 use Rattle.rs_value.specs.declared.column.TheConstants.{COLUMNS}
@@ -13,10 +13,12 @@ use Rattle.rs_value.specs.Row.{Row}
 use Rattle.rs_value.specs.Values.{IsRowOf}
 use Rattle.rs_facts.specs.Fact.{Name, Names, contains}
 use Rattle.rs_facts.specs.Query.{RouteEnds, Column, Table}
-use Rattle.rs_syntax.specs.Sound.{IsName, AreColumns}
-use Rattle.rs_machine.specs.declared.limits.TheConstants.{ROUTES, REFERENTS, TABLES, CHANGES}
-use Rattle.rs_machine.specs.State.{State}
-use Rattle.rs_machine.specs.Checks.{column_names, column_types}
+use Rattle.rs_syntax.specs.Sound.{IsName, AreColumns, IsQuery}
+use Rattle.rs_syntax.specs.Tree.{WindowTree, whole_route, part_of_route, QueryTree}
+use Rattle.rs_machine.specs.declared.limits.TheConstants.{ROUTES, REFERENTS, TABLES, VIEWS, NODES, DEPTH, CHANGES}
+use Rattle.rs_machine.specs.State.{State, has}
+use Rattle.rs_machine.specs.Checks.{has_table_or_view, has_referent, column_names, column_types}
+use Rattle.rs_machine.specs.Opening.{names_in, windows_in, opened, nodes, depth, AreInOrder}
 use Rattle.rs_machine.specs.ReferentNames.{AreNamed}
 
 -- what stands under each name is so
@@ -78,6 +80,34 @@ pub record IsTable (routes : Names RouteEnds) (name : Name) (table : Table) : Ty
   pub columns : AreColumnsOfTable table.columns
   pub facts : (route : Name) (k : ℕ) (row : Row) → contains (table.facts route k) row ≡ true → IsFactOf routes table route k row
 
+-- ---- views
+
+-- each of these is a table or a view
+abbrev pub AreKnown : State → List Name → Type 0
+AreKnown state names = AllByRecursion (λ name. IsTrue (has_table_or_view state name)) names
+
+-- the referent that the position names, if any, is there
+abbrev pub HasItsReferent : State → Name → PositionExpression → Type 0
+HasItsReferent state route (absolute measure) = Unit {0}
+HasItsReferent state route (beyond name measure) = IsTrue (has_referent state route name)
+HasItsReferent state route (before name measure) = IsTrue (has_referent state route name)
+HasItsReferent state route (interpolative part) = Unit {0}
+
+-- the window's route is there, and so are the referents that it names
+abbrev pub IsWindowOf : State → WindowTree → Type 0
+IsWindowOf state (whole_route route) = IsTrue (has state.routes route)
+IsWindowOf state (part_of_route route from to) = IsTrue (has state.routes route) × HasItsReferent state route from × HasItsReferent state route to
+
+-- A view: its name is no table's, what it names is there, and with its views opened it is not too large.
+pub record IsView (state : State) (name : Name) (query : QueryTree) : Type 0 where
+  pub named : IsName name
+  pub sound : IsQuery query
+  pub no_table : has state.tables name ≡ false
+  pub known : AreKnown state (names_in query)
+  pub windows : AllByRecursion (IsWindowOf state) (windows_in query)
+  pub few_nodes : nodes (opened state.views query) ≤ NODES
+  pub not_deep : depth (opened state.views query) ≤ DEPTH
+
 -- ---- the state
 
 -- how many there may be
@@ -85,6 +115,7 @@ pub record IsWithinLimits (state : State) : Type 0 where
   pub routes : names.len state.routes ≤ ROUTES
   pub referents : (route : Name) → names.len (state.referents route) ≤ REFERENTS
   pub tables : names.len state.tables ≤ TABLES
+  pub views : names.len state.views ≤ VIEWS
   pub changes : state.changes ≤ CHANGES
 
 -- What is so of every state.
@@ -93,4 +124,6 @@ pub record IsLawful (state : State) : Type 0 where
   pub referents_named : AreNamed state
   pub referents : (route : Name) → Each (state.referents route) (IsReferent state.routes route)
   pub tables : Each state.tables (IsTable state.routes)
+  pub views : Each state.views (IsView state)
+  pub view_order : AreInOrder state.views
   pub limits : IsWithinLimits state

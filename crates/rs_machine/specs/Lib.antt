@@ -1,5 +1,7 @@
 pub mod State
 pub mod Checks
+pub mod Opening
+pub mod Checking
 pub mod Step
 pub mod Served
 pub mod Fresh

@@ -1,5 +1,6 @@
 -- The step of the reference machine: one command of one session.
-use Rattle.std.specs.Prelude.{ℕ, ◌+◌, not, nat_le, nat_lt, List, [], ◌∷◌, length, Result, Ok, map, flat_map, if◌then◌else◌}
+use Rattle.std.specs.Prelude.{ℕ, ◌+◌, Bool, not, ◌||◌, nat_le, nat_lt, List, [], ◌∷◌, length, Option, Result, Ok, map, flat_map, if◌then◌else◌}
+use Rattle.std.specs.List.{list_any}
 use Rattle.std.specs.FinMap as names
 use Rattle.rs_measure.specs.declared.refusal.Refusal.{Refusal}
 use Rattle.rs_measure.specs.declared.refusal.Refusal.TheVariants.{InUse, NameTaken, NoSuchReferent, Limit, EmptySpan, PointOrLineWanted, ColumnTwice}
@@ -8,15 +9,19 @@ use Rattle.rs_methods.specs.declared.position.Method.{Method}
 use Rattle.rs_value.specs.declared.column.Kind.{Kind}
 use Rattle.rs_value.specs.declared.column.TheConstants.{COLUMNS}
 use Rattle.rs_value.specs.Row.{Row}
-use Rattle.rs_facts.specs.Fact.{Name, Names, no_facts}
+use Rattle.rs_facts.specs.Fact.{Name, Names, no_facts, thousandths}
 use Rattle.rs_facts.specs.Insert.{same_name, after_insert, new_facts}
-use Rattle.rs_facts.specs.Query.{RouteEnds, Column, Table, Query, table_rows, rows_at, kind_of}
+use Rattle.rs_facts.specs.Remove.{after_remove, removed_facts}
+use Rattle.rs_facts.specs.Operators.{has_none}
+use Rattle.rs_facts.specs.Query.{RouteEnds, Column, Table, Query, rows_at, kind_of}
 use Rattle.rs_facts.specs.Runs.{Stretch, runs_of}
 use Rattle.rs_facts.specs.LineText.{line_of}
-use Rattle.rs_syntax.specs.Tree.{CommandTree, define_route, define_table, define_referent, move_referent, drop_referent, insert, translate, select, EventLocationTree, along, QueryTree, named}
-use Rattle.rs_machine.specs.declared.limits.TheConstants.{ROUTES, REFERENTS, TABLES, CHANGES}
+use Rattle.rs_syntax.specs.Tree.{EventLocationTree, WindowTree, ConditionTree, QueryTree, CommandTree, define_route, define_table, define_referent, define_view, move_referent, drop_route, drop_table, drop_view, drop_referent, insert, remove, translate, select}
+use Rattle.rs_machine.specs.declared.limits.TheConstants.{ROUTES, REFERENTS, TABLES, VIEWS, CHANGES}
 use Rattle.rs_machine.specs.State.{State, RowText, world_of, has}
-use Rattle.rs_machine.specs.Checks.{◌>>=◌, unless, route_named, table_named, has_referent, position_on, span_on, holds_lines, some_name_twice, column_names, row_fits}
+use Rattle.rs_machine.specs.Checks.{◌>>=◌, unless, route_named, table_named, view_named, has_table_or_view, has_referent, position_on, event_span, location_kind, window_span, window_route, same_kind, some_name_twice, column_names, row_fits}
+use Rattle.rs_machine.specs.Opening.{some_view, names_query, names_route, names_referent}
+use Rattle.rs_machine.specs.Checking.{checked, removal_checked}
 
 -- what an accepted command answers, and the state after it
 pub record Effect : Type 0 where
@@ -61,18 +66,76 @@ empty_table kind columns = record { kind = kind; columns = columns; facts = no_f
 
 abbrev pub table_defined : State → Kind → Name → List Column → Result Effect Refusal
 table_defined state kind name columns = do
-  _ ← unless (not (has state.tables name)) NameTaken
+  _ ← unless (not (has_table_or_view state name)) NameTaken
   _ ← unless (not (some_name_twice (column_names columns))) ColumnTwice
   _ ← unless (nat_le (length columns) COLUMNS) Limit
   _ ← unless (nat_lt (names.len state.tables) TABLES) Limit
   _ ← may_change state
   Ok (counted 0 (with_table state name (empty_table kind columns)))
 
--- ---- referents
+abbrev pub with_view : State → Name → QueryTree → State
+with_view state name query = record state {
+  views = names.insert state.views name query;
+  changes = state.changes + 1;
+}
+
+abbrev pub view_defined : State → Name → QueryTree → Result Effect Refusal
+view_defined state name query = do
+  _ ← checked state query
+  _ ← unless (not (has_table_or_view state name)) NameTaken
+  _ ← unless (nat_lt (names.len state.views) VIEWS) Limit
+  _ ← may_change state
+  Ok (counted 0 (with_view state name query))
+
+-- ---- what is dropped
+
+-- whether the table has a fact on the route
+abbrev pub has_fact_on : Name → RouteEnds → Table → Bool
+has_fact_on route ends table = list_any (λ k. not (has_none (table.facts route k))) (thousandths ends.start (ends.finish + 1))
+
+abbrev pub some_table : State → (Table → Bool) → Bool
+some_table state test = list_any (λ table. test table.1) (names.entries state.tables)
 
 -- one route has other referents
 unfoldable pub referents_at : Name → Names ℕ → (Name → Names ℕ) → Name → Names ℕ
 referents_at route referents old = λ name. if same_name name route then referents else old name
+
+-- the route and its referents go
+abbrev pub without_route : State → Name → State
+without_route state name = record state {
+  routes = names.remove state.routes name;
+  referents = referents_at name names.empty state.referents;
+  changes = state.changes + 1;
+}
+
+abbrev pub route_dropped : State → Name → Result Effect Refusal
+route_dropped state name = do
+  ends ← route_named state name
+  _ ← unless (not (some_table state (has_fact_on name ends) || some_view state (names_route name))) InUse
+  _ ← may_change state
+  Ok (counted 0 (without_route state name))
+
+abbrev pub without_table : State → Name → State
+without_table state name = record state { tables = names.remove state.tables name; changes = state.changes + 1 }
+
+abbrev pub table_dropped : State → Name → Result Effect Refusal
+table_dropped state name = do
+  _ ← table_named state name
+  _ ← unless (not (some_view state (names_query name))) InUse
+  _ ← may_change state
+  Ok (counted 0 (without_table state name))
+
+abbrev pub without_view : State → Name → State
+without_view state name = record state { views = names.remove state.views name; changes = state.changes + 1 }
+
+abbrev pub view_dropped : State → Name → Result Effect Refusal
+view_dropped state name = do
+  _ ← view_named state name
+  _ ← unless (not (some_view state (names_query name))) InUse
+  _ ← may_change state
+  Ok (counted 0 (without_view state name))
+
+-- ---- referents
 
 abbrev pub with_referents : State → Name → Names ℕ → State
 with_referents state route referents = record state {
@@ -102,24 +165,36 @@ abbrev pub referent_dropped : State → Name → Name → Result Effect Refusal
 referent_dropped state route name = do
   _ ← route_named state route
   _ ← unless (has_referent state route name) NoSuchReferent
-  _ ← unless (not (same_name start_name name)) InUse
+  _ ← unless (not (same_name start_name name || some_view state (names_referent route name))) InUse
   _ ← may_change state
   Ok (counted 0 (with_referents state route (names.remove (state.referents route) name)))
 
--- ---- insertion
+-- ---- insertion and removal
 
 abbrev pub with_facts_along : Table → Name → ℕ → ℕ → Row → Table
 with_facts_along table route from to row = record table { facts = after_insert table.facts route from to row }
 
 abbrev pub row_inserted : State → Name → Name → EventLocationTree → Row → Result Effect Refusal
-row_inserted state name route (along from to) row = do
+row_inserted state name route place row = do
   ends ← route_named state route
   table ← table_named state name
-  span ← span_on state route ends from to
-  _ ← unless (holds_lines table.kind) PointOrLineWanted
+  span ← event_span state route ends place
+  _ ← unless (same_kind table.kind (location_kind place)) PointOrLineWanted
   _ ← row_fits table.columns row
   _ ← may_change state
   Ok (counted (new_facts table.facts route span.0 span.1 row) (with_table state name (with_facts_along table route span.0 span.1 row)))
+
+abbrev pub without_facts : Table → Name → ℕ → ℕ → (Row → Bool) → Table
+without_facts table route from to goes = record table { facts = after_remove table.facts route from to goes }
+
+abbrev pub rows_removed : State → Name → WindowTree → Option ConditionTree → Result Effect Refusal
+rows_removed state name window condition = do
+  ends ← route_named state (window_route window)
+  table ← table_named state name
+  span ← window_span state ends window
+  goes ← removal_checked table.columns condition
+  _ ← may_change state
+  Ok (counted (removed_facts table.facts (window_route window) span.0 span.1 goes) (with_table state name (without_facts table (window_route window) span.0 span.1 goes)))
 
 -- ---- positions
 
@@ -134,12 +209,6 @@ position_translated state route position method = do
   Ok (effect (position_text state route ends method measure ∷ []) 1 state)
 
 -- ---- queries
-
--- the query with its names looked up
-abbrev pub checked : State → QueryTree → Result Query Refusal
-checked state (named name) = do
-  _ ← table_named state name
-  Ok (table_rows name)
 
 -- The query's runs on one route. A point may stand at the route's end, so the end itself is looked at; no line
 -- holds there.
@@ -164,8 +233,13 @@ abbrev pub outcome : State → ℕ → CommandTree → Result Effect Refusal
 outcome state session (define_route name start finish) = route_defined state name start finish
 outcome state session (define_table kind name columns) = table_defined state kind name columns
 outcome state session (define_referent route name position) = referent_defined state route name position
+outcome state session (define_view name query text) = view_defined state name query
 outcome state session (move_referent route name position) = referent_moved state route name position
+outcome state session (drop_route name) = route_dropped state name
+outcome state session (drop_table name) = table_dropped state name
+outcome state session (drop_view name) = view_dropped state name
 outcome state session (drop_referent route name) = referent_dropped state route name
 outcome state session (insert table route place row) = row_inserted state table route place row
+outcome state session (remove table window condition) = rows_removed state table window condition
 outcome state session (translate route position method) = position_translated state route position method
 outcome state session (select query method) = selected state query method

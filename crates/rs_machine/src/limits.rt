@@ -1,10 +1,11 @@
-//! The limits of the machine: how many routes, referents, tables, changes, sessions and bytes of a line there may be.
+//! The limits of the machine: how many routes, referents, tables, views, changes, sessions and bytes of a line there may
+//! be, and how large a query may be.
 //!
 //! Each is written here once; code and definitions use the same constant, so they cannot differ. A law says which numbers
 //! they are.
 
 ghost use Rattle.std.specs.Prelude.{◌≡◌, ◌-◌, ◌^◌};
-ghost use Rattle.rs_machine.specs.declared.limits.TheConstants.{ROUTES, REFERENTS, TABLES, CHANGES, SESSIONS, LINE_BYTES};
+ghost use Rattle.rs_machine.specs.declared.limits.TheConstants.{ROUTES, REFERENTS, TABLES, VIEWS, NODES, DEPTH, CHANGES, SESSIONS, LINE_BYTES};
 
 /// How many routes there may be.
 pub const ROUTES: usize = 4_096;
@@ -14,6 +15,15 @@ pub const REFERENTS: usize = 1_000;
 
 /// How many tables there may be.
 pub const TABLES: usize = 128;
+
+/// How many views there may be.
+pub const VIEWS: usize = 128;
+
+/// How many nodes a query may have once its views are opened: its operators and its tables.
+pub const NODES: usize = 256;
+
+/// How deep a query may be once its views are opened: a table has depth 1.
+pub const DEPTH: usize = 32;
 
 /// How many accepted changes a file's life has at the most: 2^63 - 1.
 pub const CHANGES: u64 = 9_223_372_036_854_775_807;
@@ -29,6 +39,9 @@ pub fn limits_are_those()
     ensures routes { ROUTES ≡ 4096 }
     ensures referents { REFERENTS ≡ 1000 }
     ensures tables { TABLES ≡ 128 }
+    ensures views { VIEWS ≡ 128 }
+    ensures nodes { NODES ≡ 256 }
+    ensures depth { DEPTH ≡ 32 }
     ensures changes { CHANGES ≡ 2 ^ 63 - 1 }
     ensures sessions { SESSIONS ≡ 64 }
     ensures line_bytes { LINE_BYTES ≡ 4096 }

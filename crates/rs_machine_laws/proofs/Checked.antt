@@ -1,5 +1,5 @@
 -- What a check that passed says.
-use Rattle.std.proofs.Common.{◌≡◌, ◌≢◌, ◌∙◌, ℕ, ◌+◌, ◌-◌, ◌<◌, ◌≤◌, Bool, true, false, ◌&&◌, ◌||◌, cond, not, List, [], ◌∷◌, Option, Some, None, is_some, Result, Ok, Err, refl, sym, ap, subst, arith}
+use Rattle.std.proofs.Common.{◌≡◌, ◌≢◌, ℕ, ◌+◌, ◌-◌, ◌<◌, ◌≤◌, Bool, true, false, ◌&&◌, ◌||◌, cond, not, List, [], ◌∷◌, Option, Some, None, Result, Ok, Err, refl, sym, ap, subst, arith}
 use Rattle.std.specs.Prelude.{nat_lt, nat_le}
 use Rattle.std.specs.List.{AllByRecursion, list_any}
 use Rattle.std.specs.FinMap as names
@@ -12,20 +12,26 @@ use Rattle.rs_value.specs.declared.column.Kind.TheVariants.{Point, Line}
 use Rattle.rs_facts.specs.Fact.{Name}
 use Rattle.rs_facts.specs.Insert.{same_name}
 use Rattle.rs_facts.specs.Query.{RouteEnds}
+use Rattle.rs_syntax.specs.Tree.{EventLocationTree, along, at_point}
 use Rattle.rs_machine.specs.State.{State}
-use Rattle.rs_machine.specs.Checks.{◌>>=◌, unless, found, position_on, span_on, holds_lines, some_name_twice}
-use Rattle.rs_machine.specs.Lawful.{IsPlaceOf, AreDistinct}
-use Rattle.rs_machine_laws.proofs.Names.{false_true, same_name-false}
+use Rattle.rs_machine.specs.Checks.{◌>>=◌, unless, found, position_on, span_on, event_span, location_kind, same_kind, some_name_twice}
+use Rattle.rs_machine.specs.Lawful.{IsPlaceOf, MayHoldAt, AreDistinct}
+use Rattle.rs_machine_laws.proofs.Names.{false_true, either_false, same_name-false}
 
-ok_same : {A : Type 0} (a b : A) → ◌≡◌ {A = Result A Refusal} (Ok a) (Ok b) → a ≡ b
+pub ok_same : {A : Type 0} (a b : A) → ◌≡◌ {A = Result A Refusal} (Ok a) (Ok b) → a ≡ b
 ok_same {A} a b e = ap (elim_ok a) e
   where
     elim_ok : A → Result A Refusal → A
     elim_ok other (Ok x) = x
     elim_ok other (Err r) = other
 
-err_ok : {A : Type 0} {P : Type 0} (r : Refusal) (a : A) → ◌≡◌ {A = Result A Refusal} (Err r) (Ok a) → P
+pub err_ok : {A : Type 0} {P : Type 0} (r : Refusal) (a : A) → ◌≡◌ {A = Result A Refusal} (Err r) (Ok a) → P
 err_ok r a e = cc
+
+-- what a check let through
+pub then_ok : {A B : Type 0} (check : Result A Refusal) (next : A → Result B Refusal) (made : B) → (check >>= next) ≡ Ok made → (a : A) × (check ≡ Ok a) × (next a ≡ Ok made)
+then_ok (Ok a) next made e = (a, refl, e)
+then_ok (Err refusal) next made e = err_ok refusal made e
 
 -- the test held
 pub passed : (test : Bool) (refusal : Refusal) (u : Unit {0}) → unless test refusal ≡ Ok u → test ≡ true
@@ -40,10 +46,6 @@ not_true false e = refl
 pub was_found : {X : Type 0} (o : Option X) (refusal : Refusal) (x : X) → found o refusal ≡ Ok x → o ≡ Some x
 was_found (Some y) refusal x e = ap Some (ok_same y x e)
 was_found None refusal x e = err_ok refusal x e
-
-pub either_false : (a b : Bool) → a || b ≡ false → (a ≡ false) × (b ≡ false)
-either_false true b e = false_true (sym e)
-either_false false b e = (refl, e)
 
 pub or_right : (a b : Bool) → a || b ≡ true → a ≡ false → b ≡ true
 or_right true b e other = false_true (sym other)
@@ -107,13 +109,27 @@ pub span-lies : (state : State) (route : Name) (ends : RouteEnds) (first second 
 span-lies state route ends first second span e =
     spanned ends (position_on state route ends first) (position_on state route ends second) span (position-lies state route ends first) (position-lies state route ends second) e
 
-pub holds_lines-line : (kind : Kind) → holds_lines kind ≡ true → kind ≡ Line
-holds_lines-line Line e = refl
-holds_lines-line Point e = false_true e
+pub same_kind-same : (a b : Kind) → same_kind a b ≡ true → a ≡ b
+same_kind-same Line Line e = refl
+same_kind-same Line Point e = false_true e
+same_kind-same Point Line e = false_true e
+same_kind-same Point Point e = refl
+
+-- each thousandth of an event is one where a row of its kind may hold
+pub event-lies : (state : State) (route : Name) (ends : RouteEnds) (place : EventLocationTree) (span : ℕ × ℕ) → event_span state route ends place ≡ Ok span
+    → (k : ℕ) → span.0 ≤ k → k < span.1 → MayHoldAt (location_kind place) k ends
+event-lies state route ends (along from to) span e k low high = let lies = span-lies state route ends from to span e in let a = lies.from in let b = lies.upto in (omega arith, omega arith)
+event-lies state route ends (at_point position) span e k low high =
+    let at = then_ok (position_on state route ends position) _ span e in
+    let same = ok_same (at.0, at.0 + 1) span at.2 in
+    let lies = position-lies state route ends position at.0 at.1 in
+    let one : at.0 ≡ span.0 = ap (λ (p : ℕ × ℕ). p.0) same in
+    let two : at.0 + 1 ≡ span.1 = ap (λ (p : ℕ × ℕ). p.1) same in
+    (omega (arith, lies.0, lies.1), omega (arith, lies.0, lies.1))
 
 -- ---- columns
 
-others : (name : Name) (more : List Name) → list_any (same_name name) more ≡ false → AllByRecursion (λ other. name ≢ other) more
+pub others : (name : Name) (more : List Name) → list_any (same_name name) more ≡ false → AllByRecursion (λ other. name ≢ other) more
 others name [] none = tt
 others name (other ∷ more) none =
     let parts = either_false (same_name name other) (list_any (same_name name) more) none in

@@ -1,5 +1,5 @@
 -- Each accepted command leaves a lawful state.
-use Rattle.std.proofs.Common.{◌≡◌, ◌∙◌, ℕ, ◌+◌, ◌<◌, ◌≤◌, Bool, true, false, cond, List, [], ◌∷◌, Some, is_some, length, not, Result, Ok, Err, IfOk, refl, sym, ap, subst, arith}
+use Rattle.std.proofs.Common.{◌≡◌, ◌∙◌, ℕ, ◌+◌, ◌≤◌, Bool, true, false, ◌||◌, List, Option, Some, is_some, length, not, Result, Ok, Err, IfOk, refl, sym, ap, subst, arith}
 use Rattle.std.specs.Prelude.{if◌then◌else◌, nat_le, nat_lt}
 use Rattle.std.specs.FinMap as names
 use Rattle.std.proofs.lemmas.Bool.{ltb-true, leb-true}
@@ -8,23 +8,25 @@ use Rattle.rs_measure.specs.declared.refusal.Refusal.TheVariants.{InUse, NameTak
 use Rattle.rs_value.specs.declared.column.Kind.{Kind}
 use Rattle.rs_value.specs.declared.column.TheConstants.{COLUMNS}
 use Rattle.rs_value.specs.Row.{Row}
-use Rattle.rs_value.specs.Values.{AreValues}
 use Rattle.rs_facts.specs.Fact.{Name, Names}
 use Rattle.rs_facts.specs.Insert.{same_name}
 use Rattle.rs_facts.specs.Query.{RouteEnds, Column, Table}
 use Rattle.rs_methods.specs.Position.{PositionExpression, start_name}
-use Rattle.rs_syntax.specs.Tree.{CommandTree, define_route, define_table, define_referent, move_referent, drop_referent, insert, translate, EventLocationTree, along, select}
-use Rattle.rs_syntax.specs.Sound.{IsName, IsSound}
+use Rattle.rs_syntax.specs.Tree.{EventLocationTree, WindowTree, ConditionTree, QueryTree, CommandTree, define_route, define_table, define_referent, define_view, move_referent, drop_route, drop_table, drop_view, drop_referent, insert, remove, translate, select}
+use Rattle.rs_syntax.specs.Sound.{IsName, IsQuery, IsSound}
 use Rattle.rs_machine.specs.State.{State, has}
-use Rattle.rs_machine.specs.Checks.{◌>>=◌, unless, route_named, table_named, has_referent, position_on, span_on, holds_lines, some_name_twice, column_names, row_fits}
-use Rattle.rs_machine.specs.declared.limits.TheConstants.{ROUTES, REFERENTS, TABLES, CHANGES}
-use Rattle.rs_machine.specs.Step.{Effect, may_change, with_route, with_table, with_facts_along, empty_table, referents_at, with_referents, route_defined, table_defined, referent_defined, referent_moved, referent_dropped, row_inserted, checked, outcome}
-use Rattle.rs_machine.specs.ReferentNames.{AreNamed}
-use Rattle.rs_machine.specs.Lawful.{Each, IsRoute, IsPlaceOf, IsReferent, AreColumnsOfTable, IsTable, IsWithinLimits, IsLawful}
-use Rattle.rs_machine_laws.proofs.Names.{each_weaker, each_inserted, each_removed, len_more, len_same, len_less, same_name-true, same_name-false, same_name-back}
-use Rattle.rs_machine_laws.proofs.Checked.{passed, not_true, was_found, either_false, or_right, position-lies, span-lies, holds_lines-line, distinct}
+use Rattle.rs_machine.specs.Checks.{◌>>=◌, unless, route_named, table_named, view_named, has_table_or_view, has_referent, position_on, event_span, location_kind, window_span, window_route, same_kind, some_name_twice, column_names, row_fits}
+use Rattle.rs_machine.specs.Opening.{some_view, names_query, names_route, names_referent}
+use Rattle.rs_machine.specs.Checking.{checked, removal_checked}
+use Rattle.rs_machine.specs.declared.limits.TheConstants.{ROUTES, REFERENTS, TABLES, VIEWS, CHANGES}
+use Rattle.rs_machine.specs.Step.{Effect, may_change, with_route, with_table, with_facts_along, without_facts, without_route, empty_table, has_fact_on, some_table, referents_at, with_referents, route_defined, route_dropped, table_defined, table_dropped, view_defined, view_dropped, referent_defined, referent_moved, referent_dropped, row_inserted, rows_removed, outcome}
+use Rattle.rs_machine.specs.Lawful.{Each, IsRoute, IsPlaceOf, MayHoldAt, IsReferent, IsTable, IsView, IsLawful}
+use Rattle.rs_machine_laws.proofs.Names.{either_false, each_empty, each_weaker, each_inserted, each_removed, len_none, len_more, len_same, len_less, same_name-true, same_name-false, same_name-back}
+use Rattle.rs_machine_laws.proofs.Checked.{passed, not_true, was_found, or_right, position-lies, event-lies, same_kind-same, distinct}
 use Rattle.rs_machine_laws.proofs.Rows.{row_fits-row}
-use Rattle.rs_machine_laws.proofs.Facts.{referent-more, table-more, table-empty, row-along}
+use Rattle.rs_machine_laws.proofs.Facts.{referent-more, table-more, table-empty, row-along, table-less, table-route_gone, referent-route_gone}
+use Rattle.rs_machine_laws.proofs.Windows.{checks-passed}
+use Rattle.rs_machine_laws.proofs.Views.{none_there, table_no_view, views-route_more, views-route_gone, views-table_put, views-table_gone, order-view_more, views-view_more, order-view_gone, views-view_gone, views-referent_put, views-referent_gone}
 
 -- an accepted command leaves a lawful state
 pub record Keeps (result : Result Effect Refusal) : Type 0 where
@@ -49,10 +51,13 @@ route_added state name start finish lawful new is room change =
       referents_named = record { each = lawful.referents_named.each };
       referents = λ route. each_weaker (state.referents route) (IsReferent state.routes route) (IsReferent (names.insert state.routes name ends) route) (referent-more state.routes name ends route new) (lawful.referents route);
       tables = each_weaker state.tables (IsTable state.routes) (IsTable (names.insert state.routes name ends)) (table-more state.routes name ends new) lawful.tables;
+      views = views-route_more state name start finish lawful;
+      view_order = lawful.view_order;
       limits = record {
         routes = len_more state.routes name ends ROUTES room;
         referents = lawful.limits.referents;
         tables = lawful.limits.tables;
+        views = lawful.limits.views;
         changes = change;
       };
     }
@@ -70,25 +75,68 @@ route_defined-lawful state name start finish sound lawful =
           (one_change state x change);
     }))))
 
+-- a route without facts on which no view's window is
+route_gone : (state : State) (name : Name) (ends : RouteEnds) → IsLawful state → names.get state.routes name ≡ Some ends → some_table state (has_fact_on name ends) ≡ false → some_view state (names_route name) ≡ false
+    → state.changes + 1 ≤ CHANGES → IsLawful (without_route state name)
+unfolding referents_at
+route_gone state name ends lawful there no_facts no_window change = record {
+  routes = each_removed state.routes IsRoute name lawful.routes;
+  referents_named = record { each = λ route. named_at route (same_name route name) };
+  referents = λ route. lie_at route (same_name route name) refl;
+  tables = λ q table at. table-route_gone state.routes name ends q table there (none_there (has_fact_on name ends) state.tables no_facts q table at) (lawful.tables q table at);
+  views = views-route_gone state name lawful no_window;
+  view_order = lawful.view_order;
+  limits = record {
+    routes = len_less state.routes name ROUTES lawful.limits.routes;
+    referents = λ route. few_at route (same_name route name);
+    tables = lawful.limits.tables;
+    views = lawful.limits.views;
+    changes = change;
+  };
+}
+  where
+    named_at : (route : Name) (same : Bool) → Each (if same then names.empty else state.referents route) (λ n measure. IsName n)
+    named_at route true = each_empty _
+    named_at route false = lawful.referents_named.each route
+
+    lie_at : (route : Name) (same : Bool) → same_name route name ≡ same → Each (if same then names.empty else state.referents route) (IsReferent (names.remove state.routes name) route)
+    lie_at route true same = each_empty _
+    lie_at route false other = each_weaker (state.referents route) (IsReferent state.routes route) (IsReferent (names.remove state.routes name) route) (referent-route_gone state.routes name route other) (lawful.referents route)
+
+    few_at : (route : Name) (same : Bool) → names.len (if same then names.empty else state.referents route) ≤ REFERENTS
+    few_at route true = len_none ℕ REFERENTS
+    few_at route false = lawful.limits.referents route
+
+route_dropped-lawful : (state : State) (name : Name) → IsLawful state → Keeps (route_dropped state name)
+route_dropped-lawful state name lawful =
+    through (route_named state name) _ (λ ends there.
+    through (unless (not (some_table state (has_fact_on name ends) || some_view state (names_route name))) InUse) _ (λ u unused.
+    through (may_change state) _ (λ v change.
+    let free = either_false (some_table state (has_fact_on name ends)) (some_view state (names_route name)) (not_true _ (passed _ InUse u unused)) in
+    record { lawful = route_gone state name ends lawful (was_found (names.get state.routes name) NoSuchRoute ends there) free.0 free.1 (one_change state v change) })))
+
 -- ---- tables
 
-table_put : (state : State) (name : Name) (table : Table) → IsLawful state → IsTable state.routes name table → names.len (names.insert state.tables name table) ≤ TABLES → state.changes + 1 ≤ CHANGES → IsLawful (with_table state name table)
-table_put state name table lawful is few change = record {
+table_put : (state : State) (name : Name) (table : Table) → IsLawful state → has state.views name ≡ false → IsTable state.routes name table → names.len (names.insert state.tables name table) ≤ TABLES → state.changes + 1 ≤ CHANGES → IsLawful (with_table state name table)
+table_put state name table lawful no_view is few change = record {
   routes = lawful.routes;
   referents_named = record { each = lawful.referents_named.each };
   referents = lawful.referents;
   tables = each_inserted state.tables (IsTable state.routes) name table is lawful.tables;
-  limits = record { routes = lawful.limits.routes; referents = lawful.limits.referents; tables = few; changes = change };
+  views = views-table_put state name table lawful no_view;
+  view_order = lawful.view_order;
+  limits = record { routes = lawful.limits.routes; referents = lawful.limits.referents; tables = few; views = lawful.limits.views; changes = change };
 }
 
 table_defined-lawful : (state : State) (kind : Kind) (name : Name) (columns : List Column) → IsSound (define_table kind name columns) → IsLawful state → Keeps (table_defined state kind name columns)
 table_defined-lawful state kind name columns sound lawful =
-    through (unless (not (has state.tables name)) NameTaken) _ (λ u new.
+    through (unless (not (has_table_or_view state name)) NameTaken) _ (λ u new.
     through (unless (not (some_name_twice (column_names columns))) ColumnTwice) _ (λ v once.
     through (unless (nat_le (length columns) COLUMNS) Limit) _ (λ w few.
     through (unless (nat_lt (names.len state.tables) TABLES) Limit) _ (λ x room.
     through (may_change state) _ (λ y change. record {
       lawful = table_put state name (empty_table kind columns) lawful
+          (either_false (has state.tables name) (has state.views name) (not_true (has_table_or_view state name) (passed _ NameTaken u new))).1
           (table-empty state.routes name kind columns sound.0 (record {
             some = sound.1;
             few = leb-true (length columns) COLUMNS (passed _ Limit w few);
@@ -99,42 +147,120 @@ table_defined-lawful state kind name columns sound lawful =
           (one_change state y change);
     })))))
 
+-- a table that is there has other facts
+table_changed : (state : State) (name : Name) (table changed : Table) → IsLawful state → names.get state.tables name ≡ Some table → IsTable state.routes name changed → state.changes + 1 ≤ CHANGES → IsLawful (with_table state name changed)
+table_changed state name table changed lawful there is change =
+    table_put state name changed lawful (table_no_view state name lawful (ap is_some there)) is (len_same state.tables name changed TABLES (ap is_some there) lawful.limits.tables) change
+
 inserted-lawful : (state : State) (table route : Name) (place : EventLocationTree) (row : Row) → IsSound (insert table route place row) → IsLawful state → Keeps (row_inserted state table route place row)
-inserted-lawful state name route (along from to) row sound lawful =
+inserted-lawful state name route place row sound lawful =
     through (route_named state route) _ (λ ends on.
     through (table_named state name) _ (λ table there.
-    through (span_on state route ends from to) _ (λ span lies.
-    through (unless (holds_lines table.kind) PointOrLineWanted) _ (λ u lines.
+    through (event_span state route ends place) _ (λ span lies.
+    through (unless (same_kind table.kind (location_kind place)) PointOrLineWanted) _ (λ u kinds.
     through (row_fits table.columns row) _ (λ v fits.
     through (may_change state) _ (λ w change.
     let is_there = was_found (names.get state.tables name) NoSuchName table there in
+    let kind = same_kind-same table.kind (location_kind place) (passed _ PointOrLineWanted u kinds) in
     record {
-      lawful = table_put state name (with_facts_along table route span.0 span.1 row) lawful
+      lawful = table_changed state name table (with_facts_along table route span.0 span.1 row) lawful is_there
           (row-along state.routes name table route ends span row
           (was_found (names.get state.routes route) NoSuchRoute ends on)
-          (span-lies state route ends from to span lies)
-          (holds_lines-line table.kind (passed _ PointOrLineWanted u lines))
+          (λ k low high. subst (λ q. MayHoldAt q k ends) (sym kind) (event-lies state route ends place span lies k low high))
           (row_fits-row table.columns row v sound.4 fits)
           (lawful.tables name table is_there))
-          (len_same state.tables name (with_facts_along table route span.0 span.1 row) TABLES (ap is_some is_there) lawful.limits.tables)
           (one_change state w change);
     }))))))
+
+removed-lawful : (state : State) (name : Name) (window : WindowTree) (condition : Option ConditionTree) → IsLawful state → Keeps (rows_removed state name window condition)
+removed-lawful state name window condition lawful =
+    through (route_named state (window_route window)) _ (λ ends on.
+    through (table_named state name) _ (λ table there.
+    through (window_span state ends window) _ (λ span lies.
+    through (removal_checked table.columns condition) _ (λ goes passes.
+    through (may_change state) _ (λ u change.
+    let is_there = was_found (names.get state.tables name) NoSuchName table there in
+    record {
+      lawful = table_changed state name table (without_facts table (window_route window) span.0 span.1 goes) lawful is_there
+          (table-less state.routes name table (window_route window) span.0 span.1 goes (lawful.tables name table is_there))
+          (one_change state u change);
+    })))))
+
+table_dropped-lawful : (state : State) (name : Name) → IsLawful state → Keeps (table_dropped state name)
+table_dropped-lawful state name lawful =
+    through (table_named state name) _ (λ table there.
+    through (unless (not (some_view state (names_query name))) InUse) _ (λ u unused.
+    through (may_change state) _ (λ v change. record {
+      lawful = record {
+        routes = lawful.routes;
+        referents_named = record { each = lawful.referents_named.each };
+        referents = lawful.referents;
+        tables = each_removed state.tables (IsTable state.routes) name lawful.tables;
+        views = views-table_gone state name lawful (not_true (some_view state (names_query name)) (passed _ InUse u unused));
+        view_order = lawful.view_order;
+        limits = record { routes = lawful.limits.routes; referents = lawful.limits.referents; tables = len_less state.tables name TABLES lawful.limits.tables; views = lawful.limits.views; changes = one_change state v change };
+      };
+    })))
+
+-- ---- views
+
+view_defined-lawful : (state : State) (name : Name) (query : QueryTree) → IsName name → IsQuery query → IsLawful state → Keeps (view_defined state name query)
+view_defined-lawful state name query named sound lawful =
+    through (checked state query) _ (λ made passes.
+    through (unless (not (has_table_or_view state name)) NameTaken) _ (λ u new.
+    through (unless (nat_lt (names.len state.views) VIEWS) Limit) _ (λ v room.
+    through (may_change state) _ (λ w change.
+    let is = checks-passed state query made passes in
+    let none = not_true (has_table_or_view state name) (passed _ NameTaken u new) in
+    record {
+      lawful = record {
+        routes = lawful.routes;
+        referents_named = record { each = lawful.referents_named.each };
+        referents = lawful.referents;
+        tables = lawful.tables;
+        views = views-view_more state name query lawful none is.known named sound is.windows is.few_nodes is.not_deep;
+        view_order = order-view_more state name query lawful none is.known;
+        limits = record { routes = lawful.limits.routes; referents = lawful.limits.referents; tables = lawful.limits.tables; views = len_more state.views name query VIEWS (passed _ Limit v room); changes = one_change state w change };
+      };
+    }))))
+
+view_dropped-lawful : (state : State) (name : Name) → IsLawful state → Keeps (view_dropped state name)
+view_dropped-lawful state name lawful =
+    through (view_named state name) _ (λ dropped there.
+    through (unless (not (some_view state (names_query name))) InUse) _ (λ u unused.
+    through (may_change state) _ (λ v change.
+    let is_there = was_found (names.get state.views name) NoSuchName dropped there in
+    let free = not_true (some_view state (names_query name)) (passed _ InUse u unused) in
+    record {
+      lawful = record {
+        routes = lawful.routes;
+        referents_named = record { each = lawful.referents_named.each };
+        referents = lawful.referents;
+        tables = lawful.tables;
+        views = views-view_gone state name dropped lawful is_there free;
+        view_order = order-view_gone state name dropped lawful is_there free;
+        limits = record { routes = lawful.limits.routes; referents = lawful.limits.referents; tables = lawful.limits.tables; views = len_less state.views name VIEWS lawful.limits.views; changes = one_change state v change };
+      };
+    })))
 
 -- ---- referents
 
 -- one route has other referents
 referents_put : (state : State) (route : Name) (referents : Names ℕ) → IsLawful state → Each referents (λ name measure. IsName name) → Each referents (IsReferent state.routes route)
-    → names.len referents ≤ REFERENTS → state.changes + 1 ≤ CHANGES → IsLawful (with_referents state route referents)
+    → Each state.views (IsView (with_referents state route referents)) → names.len referents ≤ REFERENTS → state.changes + 1 ≤ CHANGES → IsLawful (with_referents state route referents)
 unfolding referents_at
-referents_put state route referents lawful named are few change = record {
+referents_put state route referents lawful named are views few change = record {
   routes = lawful.routes;
   referents_named = record { each = λ r. named_at r (same_name r route) };
   referents = λ r. lie_at r (same_name r route) refl;
   tables = lawful.tables;
+  views = views;
+  view_order = lawful.view_order;
   limits = record {
     routes = lawful.limits.routes;
     referents = λ r. few_at r (same_name r route);
     tables = lawful.limits.tables;
+    views = lawful.limits.views;
     changes = change;
   };
 }
@@ -160,6 +286,7 @@ referent_put state route name ends measure lawful named other there lies few cha
     (each_inserted (state.referents route) (IsReferent state.routes route) name measure
     (record { not_start = same_name-false name start_name (same_name-back name start_name ∙ other); lies = record { ends = ends; there = there; is_so = lies } })
     (lawful.referents route))
+    (views-referent_put state route name measure lawful)
     few
     change
 
@@ -198,11 +325,14 @@ referent_dropped-lawful : (state : State) (route name : Name) → IsLawful state
 referent_dropped-lawful state route name lawful =
     through (route_named state route) _ (λ ends there.
     through (unless (has_referent state route name) NoSuchReferent) _ (λ u has_it.
-    through (unless (not (same_name start_name name)) InUse) _ (λ v other.
-    through (may_change state) _ (λ w change. record {
+    through (unless (not (same_name start_name name || some_view state (names_referent route name))) InUse) _ (λ v unused.
+    through (may_change state) _ (λ w change.
+    let free = either_false (same_name start_name name) (some_view state (names_referent route name)) (not_true _ (passed _ InUse v unused)) in
+    record {
       lawful = referents_put state route (names.remove (state.referents route) name) lawful
           (each_removed (state.referents route) (λ n m. IsName n) name (lawful.referents_named.each route))
           (each_removed (state.referents route) (IsReferent state.routes route) name (lawful.referents route))
+          (views-referent_gone state route name lawful free.1)
           (len_less (state.referents route) name REFERENTS (lawful.limits.referents route))
           (one_change state w change);
     }))))
@@ -214,8 +344,13 @@ outcome-lawful state session (define_route name start finish) sound lawful = rou
 outcome-lawful state session (define_table kind name columns) sound lawful = table_defined-lawful state kind name columns sound lawful
 outcome-lawful state session (define_referent route name position) sound lawful = referent_defined-lawful state route name position sound.1 lawful
 outcome-lawful state session (move_referent route name position) sound lawful = referent_moved-lawful state route name position sound.1 lawful
+outcome-lawful state session (define_view name query text) sound lawful = view_defined-lawful state name query sound.0 sound.1 lawful
+outcome-lawful state session (drop_route name) sound lawful = route_dropped-lawful state name lawful
+outcome-lawful state session (drop_table name) sound lawful = table_dropped-lawful state name lawful
+outcome-lawful state session (drop_view name) sound lawful = view_dropped-lawful state name lawful
 outcome-lawful state session (drop_referent route name) sound lawful = referent_dropped-lawful state route name lawful
 outcome-lawful state session (insert table route place row) sound lawful = inserted-lawful state table route place row sound lawful
+outcome-lawful state session (remove table window condition) sound lawful = removed-lawful state table window condition lawful
 outcome-lawful state session (translate route position method) sound lawful =
     through (route_named state route) _ (λ ends there. through (position_on state route ends position) _ (λ measure lies. record { lawful = lawful }))
 outcome-lawful state session (select query method) sound lawful = through (checked state query) _ (λ query is. record { lawful = lawful })

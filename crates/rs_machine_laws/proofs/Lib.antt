@@ -1,9 +1,16 @@
 mod Names
+mod Lists
+mod Opening
+mod ViewOrder
 mod Checked
+mod Windows
+mod Views
 mod Rows
 mod Facts
 mod Commands
 mod Lines
+mod Columns
+mod WellFormedQueries
 mod Runs
 mod Tokens
 mod PositionTokens

@@ -1,24 +1,25 @@
 -- Whatever lines are answered, a lawful state stays lawful.
-use Rattle.std.proofs.Common.{◌≡◌, ◌∙◌, ℕ, Bool, true, false, ◌≤◌, arith, List, [], ◌∷◌, length, Option, Some, None, Result, Ok, Err, refl, sym, ap, subst, inl, inr}
+use Rattle.std.proofs.Common.{◌∙◌, ℕ, arith, List, [], ◌∷◌, Result, Ok, Err, sym, subst, inl, inr}
 use Rattle.std.specs.Prelude.{IsTrue}
 use Rattle.std.specs.FinMap as names
-use Rattle.std.specs.FinMap.{len-empty}
+use Rattle.std.specs.FinMap.{get-empty}
 use Rattle.rs_measure.specs.declared.refusal.Refusal.{Refusal}
 use Rattle.rs_value.specs.Values.{is_text}
 use Rattle.rs_facts.specs.Fact.{name_cmp}
 use Rattle.rs_facts.specs.Query.{RouteEnds, Table}
-use Rattle.rs_syntax.specs.Tree.{CommandTree}
+use Rattle.rs_syntax.specs.Tree.{QueryTree, CommandTree}
 use Rattle.rs_syntax.specs.Verdict.{Reads}
 use Rattle.rs_syntax.specs.Sound.{IsSound}
-use Rattle.rs_machine.specs.declared.limits.TheConstants.{ROUTES, REFERENTS, TABLES}
-use Rattle.rs_machine.specs.State.{State, fresh}
+use Rattle.rs_machine.specs.declared.limits.TheConstants.{ROUTES, REFERENTS, TABLES, VIEWS}
+use Rattle.rs_machine.specs.State.{fresh}
 use Rattle.rs_machine.specs.Step.{Effect, outcome}
 use Rattle.rs_machine.specs.Served.{Machine, Reply, Answers, Served}
 use Rattle.rs_machine.specs.Request.{Request, unreadable, no_command, command, Asks}
 use Rattle.rs_machine.specs.Answered.{Answer, Replies, AnswersLine, Answered}
+use Rattle.rs_machine.specs.Opening.{AreInOrder}
 use Rattle.rs_machine.specs.Lawful.{IsLawful}
 use Rattle.rs_machine.proofs.ReadableLines.{readable_text}
-use Rattle.rs_machine_laws.proofs.Names.{each_empty}
+use Rattle.rs_machine_laws.proofs.Names.{none_some, len_none, each_empty}
 use Rattle.rs_machine_laws.proofs.Commands.{Keeps, outcome-lawful}
 
 answers-lawful : (old : Machine) (result : Result Effect Refusal) (reply : Reply) (new : Machine) → Keeps result → IsLawful old.state → Answers old result reply new → IsLawful new.state
@@ -50,8 +51,14 @@ module _ (read_sound : (line : List ℕ) (from : ℕ) (tree : CommandTree) → I
   answered-lawful old new (line ∷ lines) (given ∷ more) lawful answered =
       answered-lawful answered.0 new lines more (line-lawful old line given answered.0 lawful answered.1) answered.2
 
-few_empty : (X : Type 0) (most : ℕ) → names.len (names.empty {X = X} {R = name_cmp}) ≤ most
-few_empty X most = let none = len-empty name_cmp X in omega arith
+-- no views are in order
+none_in_order : AreInOrder names.empty
+none_in_order = record {
+  place = λ name. 0;
+  below = λ name query there. none_some query (sym (get-empty name_cmp name) ∙ there);
+  apart = λ a b x y at on same. none_some x (sym (get-empty name_cmp a) ∙ at);
+  before = λ name other query there among y on. none_some query (sym (get-empty name_cmp name) ∙ there);
+}
 
 -- nothing is there at the beginning
 pub fresh-lawful : IsLawful fresh
@@ -61,10 +68,13 @@ fresh-lawful = record {
   referents_named = record { each = λ route. each_empty _ };
   referents = λ route. each_empty _;
   tables = each_empty _;
+  views = each_empty _;
+  view_order = none_in_order;
   limits = record {
-    routes = few_empty RouteEnds ROUTES;
-    referents = λ route. few_empty ℕ REFERENTS;
-    tables = few_empty Table TABLES;
+    routes = len_none RouteEnds ROUTES;
+    referents = λ route. len_none ℕ REFERENTS;
+    tables = len_none Table TABLES;
+    views = len_none QueryTree VIEWS;
     changes = omega arith;
   };
 }

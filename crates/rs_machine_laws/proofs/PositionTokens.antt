@@ -1,5 +1,5 @@
 -- A text that says a position is said by the tokens of each line in which it stands.
-use Rattle.std.proofs.Common.{◌≡◌, ◌∙◌, ℕ, ◌+◌, Bool, true, false, cond, List, [], ◌∷◌, ◌++◌, length, drop, map, refl, sym, ap, subst, inl, inr, append_assoc, length-append, arith}
+use Rattle.std.proofs.Common.{◌≡◌, ◌∙◌, ℕ, ◌+◌, true, false, cond, List, [], ◌∷◌, ◌++◌, length, drop, refl, sym, ap, subst, inl, inr, append_assoc, length-append, arith}
 use Rattle.std.specs.Prelude.{◌==◌, codes}
 use Rattle.std.specs.Char.{is_ascii_digit}
 use Rattle.rs_measure.specs.FixedPoint.{SaysFixedPoint}
@@ -12,9 +12,8 @@ use Rattle.rs_lexer.specs.declared.token.Token.{Token}
 use Rattle.rs_lexer.specs.Lexis.{token_text, AreTokensFrom}
 use Rattle.rs_methods.specs.Position.{PositionExpression, absolute, beyond, before, interpolative}
 use Rattle.rs_methods.specs.PositionText.{SaysReferent, SaysSigned, SaysPercentage, TextSaysPosition}
-use Rattle.rs_syntax.specs.declared.written.WrittenPosition.{WrittenPosition}
 use Rattle.rs_syntax.specs.declared.written.WrittenPosition.TheVariants as written_positions
-use Rattle.rs_syntax.specs.Written.{Lexeme, mark, told, has_text, lexeme_of, position_lexemes, SaysPosition}
+use Rattle.rs_syntax.specs.Written.{mark, told, has_text, lexeme_of}
 use Rattle.rs_syntax.specs.Sound.{IsName}
 use Rattle.rs_machine_laws.specs.TokensSay.{IsEndOrBlank, StandsAt, TokensSay, HasName}
 use Rattle.rs_machine_laws.proofs.Tokens.{IsLongest, next_is, token_here, text_here, after_here, cut_here, IsNumber, whole_number, parts_number, number_ends, word_ends, name_kind, at_kind, plus_kind, minus_kind, percent_kind, at_ends, plus_ends, minus_ends, percent_ends}

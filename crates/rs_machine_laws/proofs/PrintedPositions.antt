@@ -1,19 +1,17 @@
 -- Printed positions of a lawful state: they can be printed, a line can say them, and they lie where they came from.
-use Rattle.std.proofs.Common.{◌≡◌, ◌≢◌, ◌∙◌, ℕ, zero, suc, ◌+◌, ◌-◌, ◌*◌, ◌/◌, ◌<◌, ◌≤◌, Bool, true, false, ◌&&◌, cond, T, List, [], ◌∷◌, length, get_or, Contains, Some, None, Result, Ok, Err, refl, sym, ap, subst, inl, inr, arith}
+use Rattle.std.proofs.Common.{◌≡◌, ◌≢◌, ◌∙◌, ℕ, zero, suc, ◌+◌, ◌-◌, ◌*◌, ◌/◌, ◌<◌, ◌≤◌, Bool, true, false, cond, T, List, [], ◌∷◌, length, get_or, Contains, Some, Ok, refl, sym, ap, subst, inl, inr, arith}
 use Rattle.std.specs.declared.cmp.Ordering.{Ordering}
 use Rattle.std.specs.declared.cmp.Ordering.TheVariants.{Less, Equal, Greater}
-use Rattle.std.specs.Ordering.{is_eq, is_lt, ordering_reverse, eq_by_cmp}
-use Rattle.std.specs.Cmp.{tied_itself, eq_by_cmp_equiv}
+use Rattle.std.specs.Ordering.{is_eq, is_lt, ordering_reverse}
+use Rattle.std.specs.Cmp.{tied_itself}
 use Rattle.std.specs.Str.{bytes_eq}
 use Rattle.std.specs.FinMap as names
 use Rattle.std.specs.FinMap.{find, is_sorted, get-entries, entries_sorted}
 use Rattle.std.specs.FinMap.Entries.{below_all}
-use Rattle.std.proofs.lemmas.Bool.{and_parts, false≢true}
-use Rattle.std.proofs.lemmas.Map.Text.{is_eq-slice_cmp}
+use Rattle.std.proofs.lemmas.Bool.{and_parts}
 use Rattle.std.proofs.lemmas.Slice.Eq.{bytes_eq-Decides}
-use Rattle.rs_grammar.specs.declared.kind.TheConstants.{NAME_BYTES}
-use Rattle.rs_lexer.specs.Lexis.{reserved, kind_in}
-use Rattle.rs_methods.specs.Position.{PositionExpression, start_name, measure_of, referent_measure, on_route, located, nearest, ceiling, expression_at, expression_text}
+use Rattle.rs_lexer.specs.Lexis.{reserved}
+use Rattle.rs_methods.specs.Position.{PositionExpression, start_name, measure_of, referent_measure, on_route, nearest, ceiling, expression_text}
 use Rattle.rs_methods.specs.PositionText.{IsPrintable, AreWords, TextSaysPosition}
 use Rattle.rs_methods.specs.declared.position.Method.{Method}
 use Rattle.rs_methods.specs.declared.position.Method.TheVariants as methods
@@ -25,12 +23,11 @@ use Rattle.rs_syntax.specs.Sound.{IsName}
 use Rattle.rs_machine.specs.State.{State}
 use Rattle.rs_machine.specs.Checks.{position_on}
 use Rattle.rs_machine.specs.Step.{position_text}
-use Rattle.rs_machine.specs.ReferentNames.{AreNamed}
 use Rattle.rs_machine.specs.Lawful.{IsRoute, IsPlaceOf, IsLawful}
 use Rattle.rs_machine.proofs.NameOrder.{name_cmp-total}
 use Rattle.rs_machine_laws.specs.TokensSay.{StandsAt, TokensSay, HasName}
 use Rattle.rs_machine_laws.specs.PrintedPositions.{printed_expression}
-use Rattle.rs_machine_laws.proofs.Names.{same_name-back}
+use Rattle.rs_machine_laws.proofs.Windows.{measure_found}
 use Rattle.rs_machine_laws.proofs.PositionTokens.{said}
 
 -- ---- entries are found by their names
@@ -57,14 +54,6 @@ entry_found (e ∷ es) near (suc i) sorted within is =
     ap (λ order. cond (is_eq order) (Some e.1) (find name_cmp near.0 es)) (name_cmp-total.antisymm near.0 e.0)
     ∙ ap (λ b. cond b (Some e.1) (find name_cmp near.0 es)) (not_tied (name_cmp e.0 near.0) later)
     ∙ entry_found es near i parts.1 (omega arith) is
-
--- the place of a referent by its name, as positions look it up
-measure_found : (es : List (Name × ℕ)) (name : Name) → measure_of name es ≡ find name_cmp name es
-unfolding name_cmp
-measure_found [] name = refl
-measure_found (e ∷ es) name =
-    ap (λ b. cond b (Some e.1) (measure_of name es)) (sym (same_name-back name e.0 ∙ is_eq-slice_cmp e.0 name))
-    ∙ ap (λ rest. cond (eq_by_cmp name_cmp name e.0) (Some e.1) rest) (measure_found es name)
 
 -- ---- the nearest referent
 

@@ -1,2 +1,2 @@
-mod Steps
 mod MeaningLaws
+mod ViewTexts

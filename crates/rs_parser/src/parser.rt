@@ -7,17 +7,17 @@ ghost use Rattle.rs_lexer.specs.Lexis.{kinds_of, IsTokenOf};
 ghost use Rattle.rs_grammar.specs.Grammar.{IsShallow, command_form};
 ghost use Rattle.rs_syntax.specs.Written.{spelling, lexemes_of, IsFull};
 ghost use Rattle.rs_syntax.specs.View.{tree_of, written_of};
-ghost use Rattle.rs_parser.specs.Reading.{Runs, halt_of, StopsAt};
+ghost use Rattle.rs_query_parser.specs.Reading.{Runs, halt_of, StopsAt};
 ghost use Rattle.rs_value.specs.Values.{is_text};
 ghost use Rattle.rs_syntax.specs.Sound.{IsSound};
 ghost use Rattle.rs_syntax.specs.Verdict.{fault_column, IsWritten, Parses, Reads};
 
-use crate::front::Stop;
 use crate::meaning::meaning;
 use crate::reading::command;
 use rs_grammar::kind::{BRACKETS, TokenKind};
 use rs_lexer::{Token, tokens};
 use rs_measure::Refusal;
+use rs_query_parser::front::Stop;
 use rs_syntax::Command;
 use rs_syntax::written::WrittenCommand;
 use std::alloc::Global;
@@ -102,7 +102,7 @@ pub fn parse(alloc: Global, line: &str, tokens: &[Token]) -> Result<Command, Ref
     ensures err { IfErr result (λ refusal. (refusal ≡ Refusal.OutOfMemory) ⊎ Parses line.now tokens.now (Err refusal)) }
 {
     let written = syntax(alloc, line, tokens)?;
-    meaning(alloc, line, &written)
+    meaning(alloc, line, tokens, &written)
 }
 
 /// The command that the text of a line is from a byte place on.

@@ -20,7 +20,8 @@ use Rattle.rs_facts.proofs.RowSets.{any-map, any-same, any-places, any_row, cont
 use Rattle.rs_facts.proofs.SpanLaws.{holds, contains-places_of, contains-append}
 use Rattle.rs_facts.proofs.Sets.{contains-none, same_rows}
 use Rattle.rs_sweep.specs.Inner.{joined_with, ArePieces}
-use Rattle.rs_sweep.specs.Lists.{AreWide, Fit, overlaid_kind}
+use Rattle.rs_facts.specs.Query.{overlaid_kind}
+use Rattle.rs_sweep.specs.Lists.{AreWide, Fit}
 use Rattle.rs_sweep.specs.Parts.{in_part, LiesIn, unchanged, changed_part, IsCut}
 use Rattle.rs_sweep.specs.Taken.{key, keyed}
 use Rattle.rs_sweep.specs.declared.laying.Side.TheVariants.{Left, Right}

@@ -20,7 +20,8 @@ use Rattle.rs_facts.proofs.Sets.{same_rows}
 use Rattle.rs_facts.proofs.SpanLaws.{holds, contains-places_of}
 use Rattle.rs_facts.proofs.RowSets.{any-same, any-places, contains-overlaid}
 use Rattle.rs_sweep.specs.Inner.{piece_of, laid, ArePieces}
-use Rattle.rs_sweep.specs.Lists.{AreSorted, AreWide, Fit, overlaid_kind, shares, pairs}
+use Rattle.rs_facts.specs.Query.{overlaid_kind}
+use Rattle.rs_sweep.specs.Lists.{AreSorted, AreWide, Fit, shares, pairs}
 use Rattle.rs_sweep.specs.declared.laying.Side.TheVariants.{Left, Right}
 use Rattle.rs_sweep.proofs.LaidSpans.{both, laid-holds, laid-few, laid-all}
 

@@ -11,7 +11,7 @@ use Rattle.rs_facts.specs.declared.fact.Span.{Span}
 use Rattle.rs_facts.specs.Runs.{Stretch}
 use Rattle.rs_facts.specs.Spans.{seen, places_of, ArePlaced, AreKept}
 use Rattle.rs_facts.proofs.SpanLaws.{places_of-permutation}
-use Rattle.rs_coalesce.specs.Inner.{row_place_cmp, joins, join, joined_onto, joined}
+use Rattle.rs_coalesce.specs.Joined.{row_place_cmp, joins, join, joined_onto, joined}
 use Rattle.rs_coalesce.proofs.Joining.{BySorted, Stand, stand-from_sorted, joined-kept, joined-means}
 use Rattle.rs_coalesce.proofs.Orders.{joins-reached, joins-apart}
 use Rattle.rs_sweep.specs.Lists.{AreSorted}

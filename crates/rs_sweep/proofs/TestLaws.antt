@@ -78,13 +78,23 @@ row_of_parts (Both' _ parts) = (_, parts)
 row_of_parts (Either' _ parts) = (_, parts)
 row_of_parts _ = (_, end_of-Condition)
 
+and_true : (test : Bool) → (test && true) ≡ test
+and_true true = refl
+and_true false = refl
+
+or_false : (test : Bool) → (test || false) ≡ test
+or_false true = refl
+or_false false = refl
+
 row_all : (row : Row) (n : _) (parts : Row_of-Condition n) → all_met (items-the_row-Condition n parts) row ≡ said.meets (all_of parts) row
 row_all row n end_of-Condition = refl
-row_all row n (more_of-Condition part rest) = ap (λ t. said.meets (condition_of part) row && t) (row_all row _ rest)
+row_all row n (more_of-Condition part end_of-Condition) = and_true (said.meets (condition_of part) row)
+row_all row n (more_of-Condition part (more_of-Condition next rest)) = ap (λ t. said.meets (condition_of part) row && t) (row_all row _ (more_of-Condition next rest))
 
 row_any : (row : Row) (n : _) (parts : Row_of-Condition n) → any_met (items-the_row-Condition n parts) row ≡ said.meets (any_of parts) row
 row_any row n end_of-Condition = refl
-row_any row n (more_of-Condition part rest) = ap (λ t. said.meets (condition_of part) row || t) (row_any row _ rest)
+row_any row n (more_of-Condition part end_of-Condition) = or_false (said.meets (condition_of part) row)
+row_any row n (more_of-Condition part (more_of-Condition next rest)) = ap (λ t. said.meets (condition_of part) row || t) (row_any row _ (more_of-Condition next rest))
 
 pub both-met : (parts : Vec Condition Global) (row : Row) → all_met parts.items row ≡ said.meets (condition_of (Both parts)) row
 both-met parts row =

@@ -7,7 +7,8 @@ use Rattle.rs_facts.specs.Runs.{Stretch, stretch}
 use Rattle.rs_facts.specs.Spans.{places_of, ArePlaced}
 use Rattle.rs_sweep.specs.declared.laying.Side.{Side}
 use Rattle.rs_sweep.specs.declared.laying.Side.TheVariants.{Left, Right}
-use Rattle.rs_sweep.specs.Lists.{AreWide, overlaid_kind}
+use Rattle.rs_facts.specs.Query.{overlaid_kind}
+use Rattle.rs_sweep.specs.Lists.{AreWide}
 
 -- the part from lo on and below hi, if there is one
 abbrev pub clipped : ℕ → ℕ → Stretch → Stretch

@@ -1,8 +1,6 @@
 -- What is said of lists of spans beside their meaning: order, width, kind, and how many pairs of them share a thousandth.
 use Rattle.std.specs.Prelude.{◌≡◌, ℕ, ◌+◌, ◌≤◌, min, max, Bool, nat_lt, List, [], ◌∷◌, length, sum_by, count_by}
 use Rattle.std.specs.List.{AllByRecursion}
-use Rattle.rs_value.specs.declared.column.Kind.{Kind}
-use Rattle.rs_value.specs.declared.column.Kind.TheVariants.{Point, Line}
 use Rattle.rs_value.specs.declared.column.TheConstants.{COLUMNS}
 use Rattle.rs_facts.specs.Runs.{Stretch}
 
@@ -18,13 +16,6 @@ AreWide width spans = AllByRecursion (λ span. length span.row ≡ width) spans
 -- a row of the one and a row of the other are together no wider than a row may be
 abbrev pub Fit : List Stretch → List Stretch → Type 0
 Fit left right = AllByRecursion (λ a. AllByRecursion (λ b. length a.row + length b.row ≤ COLUMNS) right) left
-
--- lines over lines are lines, all else is points
-abbrev pub overlaid_kind : Kind → Kind → Kind
-overlaid_kind Line Line = Line
-overlaid_kind Line Point = Point
-overlaid_kind Point Line = Point
-overlaid_kind Point Point = Point
 
 -- whether two spans share a thousandth
 abbrev pub shares : Stretch → Stretch → Bool

@@ -3,12 +3,12 @@
 ghost use Rattle.std.specs.Prelude.{◌≡◌};
 ghost use Rattle.rs_value.specs.View.{datum_of, row_of, literal_datum};
 ghost use Rattle.rs_facts.specs.Condition.{is_null, meets, suits};
-ghost use Rattle.rs_facts.specs.ConditionView.{comparison_of, condition_of};
+ghost use Rattle.rs_facts.specs.ConditionView.{condition_of};
 ghost use Rattle.rs_sweep.specs.Tests.{all_met, any_met, compared, is_suited};
 
 use crate::columns::value_at;
-use rs_facts::{Comparison, Condition, Term};
-use rs_value::{Literal, Tuple, Value};
+use rs_facts::{Condition, Term};
+use rs_value::{Comparison, Literal, Tuple, Value};
 use std::cmp::Ordering;
 
 /// Whether a row meets a condition.
@@ -99,7 +99,7 @@ fn order_with_literal(left: &Value, right: &Literal) -> Option<Ordering>
 
 /// Whether two values that stand so compare so; not where there is no order of them.
 fn is_suited(comparison: Comparison, order: Option<Ordering>) -> bool
-    ensures { result ≡ is_suited (comparison_of comparison) order }
+    ensures { result ≡ is_suited comparison order }
 {
     match order {
         None => false,
@@ -108,7 +108,7 @@ fn is_suited(comparison: Comparison, order: Option<Ordering>) -> bool
 }
 
 fn suits(comparison: Comparison, order: Ordering) -> bool
-    ensures { result ≡ suits (comparison_of comparison) order }
+    ensures { result ≡ suits comparison order }
 {
     match comparison {
         Comparison::Equal => order.is_eq(),

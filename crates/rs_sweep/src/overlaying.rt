@@ -5,7 +5,8 @@ ghost use Rattle.rs_value.specs.declared.column.Kind.{Kind};
 ghost use Rattle.rs_value.specs.declared.column.Kind.TheVariants as kinds;
 ghost use Rattle.rs_facts.specs.Operators.{overlaid};
 ghost use Rattle.rs_facts.specs.Spans.{seen, places_of, ArePlaced};
-ghost use Rattle.rs_sweep.specs.Lists.{AreSorted, AreWide, Fit, overlaid_kind, pairs};
+ghost use Rattle.rs_facts.specs.Query.{overlaid_kind};
+ghost use Rattle.rs_sweep.specs.Lists.{AreSorted, AreWide, Fit, pairs};
 ghost use Rattle.rs_sweep.specs.Inner.{ArePieces};
 
 use crate::comparisons::Comparisons;

@@ -4,7 +4,7 @@ ghost use Rattle.std.specs.Prelude.{◌≡◌, ◌+◌, map, nat_lt, IfOk, IsPer
 ghost use Rattle.std.specs.Ordering.{is_lt};
 ghost use Rattle.std.specs.List.Sorted.{IsSortedBy};
 ghost use Rattle.rs_value.specs.declared.column.Kind.TheVariants as kinds;
-ghost use Rattle.rs_coalesce.specs.Inner.{row_place_cmp, joined, joins};
+ghost use Rattle.rs_coalesce.specs.Joined.{row_place_cmp, joined, joins};
 ghost use Rattle.rs_facts.specs.Spans.{seen, places_of, AreKept, ArePlaced};
 ghost use Rattle.rs_sweep.specs.Lists.{AreSorted};
 ghost use Rattle.rs_sweep.specs.Taken.{keyed, taken_of, target};

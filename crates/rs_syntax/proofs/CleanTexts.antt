@@ -1,5 +1,5 @@
 -- A quoted text of a line of text is text: UTF-8 without control bytes.
-use Rattle.std.proofs.Common.{◌≡◌, ◌≢◌, ◌∙◌, ℕ, ◌+◌, ◌-◌, Bool, true, false, ◌||◌, not, List, [], ◌∷◌, ◌++◌, length, take, drop, refl, sym, ap, subst, eqb-true, arith}
+use Rattle.std.proofs.Common.{◌≡◌, ◌≢◌, ◌∙◌, ℕ, ◌+◌, ◌-◌, Bool, true, false, ◌||◌, not, List, [], ◌∷◌, ◌++◌, take, drop, refl, sym, ap, subst, eqb-true, arith}
 use Rattle.std.specs.Prelude.{◌==◌, IsTrue, if◌then◌else◌}
 use Rattle.std.specs.Char.{encode_utf8}
 use Rattle.std.specs.List.{list_any}
@@ -9,7 +9,6 @@ use Rattle.std.proofs.lemmas.List.{take-append-drop}
 use Rattle.std.proofs.lemmas.List.Folds.{list_any-append}
 use Rattle.std.proofs.lemmas.Str.{IsUtf8-nil, IsUtf8-append, IsUtf8-encode, IsUtf8-drop, IsUtf8-between, IsUtf8-from_is_utf8, is_utf8-from_IsUtf8, lead_after_ascii}
 use Rattle.rs_value.specs.Values.{is_control, is_text}
-use Rattle.rs_grammar.specs.declared.kind.TokenKind.TheVariants as kinds
 use Rattle.rs_lexer.specs.declared.token.Token.{Token}
 use Rattle.rs_lexer.specs.Lexis.{token_text, IsTokenOf}
 use Rattle.rs_lexer.proofs.TokenLaws.{first_is_ascii, start_boundary, end_boundary}

@@ -1,5 +1,6 @@
--- Any tokens are read as a command as far as the grammar goes on with them, and what is read is spelled.
-use Rattle.std.proofs.Common.{◌≡◌, ℕ, zero, suc, ◌<◌, ◌≤◌, true, false, List, [], ◌∷◌, ◌++◌, length, Some, None, Ok, Err, refl, sym, ap, ◌∙◌, subst, inl, inr, ⊎_elim, append_assoc, append-nil, arith}
+-- Any tokens are read as a part as far as the grammar goes on with them, and what is read is spelled: all parts but
+-- queries and commands.
+use Rattle.std.proofs.Common.{◌≡◌, ℕ, zero, suc, ◌<◌, ◌≤◌, true, false, List, [], ◌∷◌, ◌++◌, length, Some, Ok, Err, refl, sym, ap, ◌∙◌, subst, inl, inr, ⊎_elim, append_assoc, append-nil, arith}
 use Rattle.std.specs.Prelude.{◌⊎◌, if◌then◌else◌}
 use Rattle.std.proofs.lemmas.Bool.{false≢true}
 use denote.Enum.Bare.{sameb, same_true, true_same}
@@ -7,19 +8,22 @@ use Rattle.rs_grammar.specs.contracts.kind.TokenKind.{the_type}
 use Rattle.rs_grammar.specs.declared.kind.TokenKind.{TokenKind}
 use Rattle.rs_grammar.specs.declared.kind.TokenKind.TheVariants as kinds
 use Rattle.rs_grammar.specs.Grammar as g
-use Rattle.rs_grammar.specs.Grammar.{Part, Form, done, fail, pick, sub, need, rules, type_form, column_form, value_form, measure_form, offset_form, position_form, method_form, wanted_form, query_form, place_form, command_form, define_form, define_route_form, define_referent_form, define_table_form, drop_form, move_form, insert_form, translate_form, select_form}
+use Rattle.rs_grammar.specs.Grammar.{Part, Form, done, fail, pick, sub, need, rules, type_form, column_form, literal_form, value_form, measure_form, offset_form, position_form, span_form, place_form, method_form, column_name_form, bracketed_names_form, window_form}
 use Rattle.rs_methods.specs.declared.position.Method.TheVariants as methods
 use Rattle.rs_lexer.specs.declared.token.Token.{Token}
 use Rattle.rs_lexer.specs.Lexis.{kinds_of}
 use Rattle.rs_syntax.specs.declared.written.WrittenType.TheVariants as written_types
 use Rattle.rs_syntax.specs.declared.written.WrittenValue.TheVariants as written_values
+use Rattle.rs_syntax.specs.declared.written.WrittenPosition.{WrittenPosition}
 use Rattle.rs_syntax.specs.declared.written.WrittenPosition.TheVariants as written_positions
 use Rattle.rs_syntax.specs.declared.written.WrittenLocation.TheVariants as written_locations
-use Rattle.rs_syntax.specs.Written.{Written, written_route, written_table, written_referent, written_move, written_drop, written_insert, written_translate, written_select, Lexeme, mark, told, has_text, lexeme_of, measure_lexemes, position_lexemes, location_lexemes, method_lexemes, type_lexemes, column_lexemes, value_lexemes, list_lexemes, spelling, lexemes_of, IsFull}
+use Rattle.rs_syntax.specs.declared.written.WrittenWindow.TheVariants as written_windows
+use Rattle.rs_syntax.specs.WrittenParts.{Lexeme, mark, told, has_text, lexeme_of, measure_lexemes, position_lexemes, span_lexemes, location_lexemes, method_lexemes, type_lexemes, column_lexemes, value_lexemes, name_lexemes, list_lexemes, lexemes_of}
+use Rattle.rs_syntax.specs.WrittenQueries.{bracketed_names_lexemes, window_lexemes}
 use Rattle.rs_grammar.specs.Reading.{Lacks, Runs, is_done, is_fail, takes, skips, through, stops_in}
 
 -- two kinds are the same, or not
-kind_cases : (a b : TokenKind) → (a ≡ b) ⊎ (a ≡ b → ⊥)
+pub kind_cases : (a b : TokenKind) → (a ≡ b) ⊎ (a ≡ b → ⊥)
 kind_cases a b =
     elim (sameb the_type a b) as (λ same. sameb the_type a b ≡ same → (a ≡ b) ⊎ (a ≡ b → ⊥)) [
       | true ↦ λ e. inl (same_true the_type tt a b e)
@@ -30,7 +34,7 @@ kind_cases a b =
 abbrev pub Reading : Form → List Token → (List Token → Type 0) → Type 0
 Reading form tokens Known = ((rest : List Token) × Runs form (kinds_of tokens) (Ok (kinds_of rest)) × Known rest) ⊎ ((left : List TokenKind) × Runs form (kinds_of tokens) (Err (Some left)))
 
-read_done : (tokens : List Token) (Known : List Token → Type 0) → Known tokens → Reading done tokens Known
+pub read_done : (tokens : List Token) (Known : List Token → Type 0) → Known tokens → Reading done tokens Known
 read_done tokens Known known = inl (tokens, is_done, known)
 
 taken : (kind : TokenKind) (form other : Form) (token : Token) (rest : List Token) (Known : List Token → Type 0) → token.kind ≡ kind → Reading form rest Known → Reading (pick kind form other) (token ∷ rest) Known
@@ -48,7 +52,7 @@ mark_piece : (kind : TokenKind) (token : Token) → has_text kind ≡ false → 
 mark_piece kind token text is = ap (λ k. if has_text k then told k token else mark k) is ∙ ap (λ b. if b then told kind token else mark kind) text
 
 -- a mark at the front, or another form
-read_mark : (kind : TokenKind) (form other : Form) (tokens : List Token) (Known : List Token → Type 0) → has_text kind ≡ false
+pub read_mark : (kind : TokenKind) (form other : Form) (tokens : List Token) (Known : List Token → Type 0) → has_text kind ≡ false
     → ((rest : List Token) → length rest < length tokens → lexemes_of tokens ≡ mark kind ∷ lexemes_of rest → Reading form rest Known) → Reading other tokens Known → Reading (pick kind form other) tokens Known
 read_mark kind form other [] Known text next else_ = skipped kind form other [] Known tt else_
 read_mark kind form other (token ∷ rest) Known text next else_ =
@@ -58,7 +62,7 @@ read_mark kind form other (token ∷ rest) Known text next else_ =
     (kind_cases token.kind kind)
 
 -- a token whose text counts at the front, or another form
-read_text : (kind : TokenKind) (form other : Form) (tokens : List Token) (Known : List Token → Type 0) → has_text kind ≡ true
+pub read_text : (kind : TokenKind) (form other : Form) (tokens : List Token) (Known : List Token → Type 0) → has_text kind ≡ true
     → ((token : Token) (rest : List Token) → length rest < length tokens → token.kind ≡ kind → lexemes_of tokens ≡ told kind token ∷ lexemes_of rest → Reading form rest Known) → Reading other tokens Known → Reading (pick kind form other) tokens Known
 read_text kind form other [] Known text next else_ = skipped kind form other [] Known tt else_
 read_text kind form other (token ∷ rest) Known text next else_ =
@@ -70,11 +74,11 @@ read_text kind form other (token ∷ rest) Known text next else_ =
 stop_here : (tokens : List Token) (Known : List Token → Type 0) → Reading fail tokens Known
 stop_here tokens Known = inr (kinds_of tokens, is_fail)
 
-need_mark : (kind : TokenKind) (form : Form) (tokens : List Token) (Known : List Token → Type 0) → has_text kind ≡ false
+pub need_mark : (kind : TokenKind) (form : Form) (tokens : List Token) (Known : List Token → Type 0) → has_text kind ≡ false
     → ((rest : List Token) → length rest < length tokens → lexemes_of tokens ≡ mark kind ∷ lexemes_of rest → Reading form rest Known) → Reading (need kind form) tokens Known
 need_mark kind form tokens Known text next = read_mark kind form fail tokens Known text next (stop_here tokens Known)
 
-need_text : (kind : TokenKind) (form : Form) (tokens : List Token) (Known : List Token → Type 0) → has_text kind ≡ true
+pub need_text : (kind : TokenKind) (form : Form) (tokens : List Token) (Known : List Token → Type 0) → has_text kind ≡ true
     → ((token : Token) (rest : List Token) → length rest < length tokens → token.kind ≡ kind → lexemes_of tokens ≡ told kind token ∷ lexemes_of rest → Reading form rest Known) → Reading (need kind form) tokens Known
 need_text kind form tokens Known text next = read_text kind form fail tokens Known text next (stop_here tokens Known)
 
@@ -86,22 +90,41 @@ pub record Spelled {X : Type 0} (lexemes : X → List Lexeme) (tokens : List Tok
 abbrev pub Whole : {X : Type 0} → (X → List Lexeme) → List Token → List Token → Type 0
 Whole {X} lexemes tokens rest = (x : X) × Spelled lexemes tokens x rest
 
--- a command was read, and each list of it has an item
-abbrev pub Full : List Token → List Token → Type 0
-Full tokens rest = (written : Written) × Spelled spelling tokens written rest × IsFull written
-
 -- a part, and what follows it
 part_through : {X : Type 0} (lexemes : X → List Lexeme) (p : Part) (form : Form) (tokens rest : List Token) (Known : List Token → Type 0) → Runs (rules p) (kinds_of tokens) (Ok (kinds_of rest)) → Reading form rest Known → Reading (sub p form) tokens Known
 part_through lexemes p form tokens rest Known run (inl found) = inl (found.0, through run found.1, found.2)
 part_through lexemes p form tokens rest Known run (inr stop) = inr (stop.0, through run stop.1)
 
-read_part : {X : Type 0} (lexemes : X → List Lexeme) (p : Part) (form : Form) (tokens : List Token) (Known : List Token → Type 0) → Reading (rules p) tokens (Whole lexemes tokens)
+pub read_part : {X : Type 0} (lexemes : X → List Lexeme) (p : Part) (form : Form) (tokens : List Token) (Known : List Token → Type 0) → Reading (rules p) tokens (Whole lexemes tokens)
     → ((rest : List Token) (x : X) → length rest < length tokens → lexemes_of tokens ≡ lexemes x ++ lexemes_of rest → Reading form rest Known) → Reading (sub p form) tokens Known
 read_part lexemes p form tokens Known (inl found) next = part_through lexemes p form tokens found.0 Known found.1 (next found.0 found.2.0 found.2.1.shorter found.2.1.spelled)
 read_part lexemes p form tokens Known (inr stop) next = inr (stop.0, stops_in stop.1)
 
+-- a form read by itself, and what is known of it
+pub read_alone : {X : Type 0} (lexemes : X → List Lexeme) (form : Form) (tokens : List Token) (Known : List Token → Type 0) → Reading form tokens (Whole lexemes tokens)
+    → ((rest : List Token) (x : X) → length rest < length tokens → lexemes_of tokens ≡ lexemes x ++ lexemes_of rest → Known rest) → Reading form tokens Known
+read_alone lexemes form tokens Known (inl found) known = inl (found.0, found.1, known found.0 found.2.0 found.2.1.shorter found.2.1.spelled)
+read_alone lexemes form tokens Known (inr stop) known = inr stop
+
+abbrev pub Closed : {X : Type 0} → (X → List Lexeme) → X → List Lexeme
+Closed lexemes x = lexemes x ++ mark kinds.RightParen ∷ []
+
+-- a part, and a closing bracket
+pub read_closed : {X : Type 0} (lexemes : X → List Lexeme) (p : Part) (tokens : List Token) → Reading (rules p) tokens (Whole lexemes tokens)
+    → Reading (sub p (need kinds.RightParen done)) tokens (Whole (Closed lexemes) tokens)
+read_closed lexemes p tokens read =
+    read_part lexemes p (need kinds.RightParen done) tokens (Whole (Closed lexemes) tokens) read (λ a x la ha.
+    need_mark kinds.RightParen done a (Whole (Closed lexemes) tokens) refl (λ b lb hb.
+    read_done b (Whole (Closed lexemes) tokens) (
+      x,
+      record {
+        spelled = ha ∙ ap (λ ps. lexemes x ++ ps) hb ∙ sym (append_assoc (lexemes x) (mark kinds.RightParen ∷ []) (lexemes_of b));
+        shorter = omega arith;
+      },
+    )))
+
 -- The parts, from the least on.
-read_measure : (tokens : List Token) → Reading measure_form tokens (Whole measure_lexemes tokens)
+pub read_measure : (tokens : List Token) → Reading measure_form tokens (Whole measure_lexemes tokens)
 read_measure tokens =
     read_text kinds.Whole done (need kinds.Decimal done) tokens (Whole measure_lexemes tokens) refl
     (λ token rest less is here. read_done rest (Whole measure_lexemes tokens) (token, record { spelled = here ∙ ap (λ k. told k token ∷ lexemes_of rest) (sym is); shorter = less }))
@@ -120,12 +143,9 @@ read_type tokens =
 
 read_column : (tokens : List Token) → Reading column_form tokens (Whole column_lexemes tokens)
 read_column tokens =
-    need_text kinds.Name type_form tokens (Whole column_lexemes tokens) refl (λ name a la is ha. behind_name name a la ha (read_type a))
-  where
-    behind_name : (name : Token) (a : List Token) → length a < length tokens → lexemes_of tokens ≡ told kinds.Name name ∷ lexemes_of a → Reading type_form a (Whole type_lexemes a) → Reading type_form a (Whole column_lexemes tokens)
-    behind_name name a la ha (inr stop) = inr stop
-    behind_name name a la ha (inl found) =
-        inl (found.0, found.1, (record { name = name; column_type = found.2.0 }, record { spelled = ha ∙ ap (λ ps. told kinds.Name name ∷ ps) found.2.1.spelled; shorter = let less = found.2.1.shorter in omega arith }))
+    need_text kinds.Name type_form tokens (Whole column_lexemes tokens) refl (λ name a la ia ha.
+    read_alone type_lexemes type_form a (Whole column_lexemes tokens) (read_type a) (λ b type lb hb.
+    (record { name = name; column_type = type }, record { spelled = ha ∙ ap (λ ps. told kinds.Name name ∷ ps) hb; shorter = omega arith })))
 
 read_value : (tokens : List Token) → Reading value_form tokens (Whole value_lexemes tokens)
 read_value tokens =
@@ -139,7 +159,7 @@ read_value tokens =
     (need_text kinds.Quoted done tokens (Whole value_lexemes tokens) refl
     (λ quoted a la is ha. read_done a (Whole value_lexemes tokens) (written_values.Quoted quoted, record { spelled = ha; shorter = la })))))
 
-read_method : (tokens : List Token) → Reading method_form tokens (Whole method_lexemes tokens)
+pub read_method : (tokens : List Token) → Reading method_form tokens (Whole method_lexemes tokens)
 read_method tokens =
     read_mark kinds.Absolute done (pick kinds.Relative done (need kinds.Interpolative done)) tokens (Whole method_lexemes tokens) refl
     (λ a la ha. read_done a (Whole method_lexemes tokens) (methods.Absolute, record { spelled = ha; shorter = la }))
@@ -160,7 +180,7 @@ read_offset tokens middle name less here =
     read_done rest (Whole position_lexemes tokens) (written_positions.Before name m, record { spelled = cc; shorter = omega arith })))
     (read_done middle (Whole position_lexemes tokens) (written_positions.Referent name, record { spelled = here; shorter = less })))
 
-read_position : (tokens : List Token) → Reading position_form tokens (Whole position_lexemes tokens)
+pub read_position : (tokens : List Token) → Reading position_form tokens (Whole position_lexemes tokens)
 unfolding rules
 read_position tokens =
     read_mark kinds.AtSign (need kinds.Name offset_form) (sub g.measure (pick kinds.PercentSign done done)) tokens (Whole position_lexemes tokens) refl
@@ -170,47 +190,79 @@ read_position tokens =
     (λ a la ha. read_done a (Whole position_lexemes tokens) (written_positions.Percentage m, record { spelled = cc; shorter = omega arith }))
     (read_done rest (Whole position_lexemes tokens) (written_positions.Measure m, record { spelled = hm; shorter = lm }))))
 
-read_place : (tokens : List Token) → Reading place_form tokens (Whole location_lexemes tokens)
+abbrev pub Span : WrittenPosition × WrittenPosition → List Lexeme
+Span span = span_lexemes span.0 span.1
+
+-- after FROM
+pub read_span : (tokens : List Token) → Reading span_form tokens (Whole Span tokens)
 unfolding rules
-read_place tokens =
-    need_mark kinds.From (sub g.position (need kinds.To (sub g.position done))) tokens (Whole location_lexemes tokens) refl (λ a la ha.
-    read_part position_lexemes g.position (need kinds.To (sub g.position done)) a (Whole location_lexemes tokens) (read_position a) (λ b from lb hb.
-    need_mark kinds.To (sub g.position done) b (Whole location_lexemes tokens) refl (λ c lc hc.
-    read_part position_lexemes g.position done c (Whole location_lexemes tokens) (read_position c) (λ d to ld hd.
-    read_done d (Whole location_lexemes tokens) (
-      written_locations.Along from to,
+read_span tokens =
+    read_part position_lexemes g.position (need kinds.To (sub g.position done)) tokens (Whole Span tokens) (read_position tokens) (λ b from lb hb.
+    need_mark kinds.To (sub g.position done) b (Whole Span tokens) refl (λ c lc hc.
+    read_part position_lexemes g.position done c (Whole Span tokens) (read_position c) (λ d to ld hd.
+    read_done d (Whole Span tokens) (
+      (from, to),
       record {
-        spelled = ha ∙ ap (λ ps. mark kinds.From ∷ ps) (hb ∙ ap (λ ps. position_lexemes from ++ ps) (hc ∙ ap (λ ps. mark kinds.To ∷ ps) hd) ∙ sym (append_assoc (position_lexemes from) (mark kinds.To ∷ position_lexemes to) (lexemes_of d)));
+        spelled = hb ∙ ap (λ ps. position_lexemes from ++ ps) (hc ∙ ap (λ ps. mark kinds.To ∷ ps) hd) ∙ sym (append_assoc (position_lexemes from) (mark kinds.To ∷ position_lexemes to) (lexemes_of d));
         shorter = omega arith;
       },
-    )))))
+    ))))
 
--- A list: an item, and after a comma the others.
-abbrev Items : {A : Type 0} → (A → List Lexeme) → A × List A → List Lexeme
-Items lexemes items = list_lexemes lexemes (items.0 ∷ items.1)
+pub read_place : (tokens : List Token) → Reading place_form tokens (Whole location_lexemes tokens)
+unfolding rules
+read_place tokens =
+    read_mark kinds.From span_form (need kinds.At (sub g.position done)) tokens (Whole location_lexemes tokens) refl
+    (λ a la ha. read_alone Span span_form a (Whole location_lexemes tokens) (read_span a) (λ b span lb hb.
+    (written_locations.Along span.0 span.1, record { spelled = ha ∙ ap (λ ps. mark kinds.From ∷ ps) hb; shorter = omega arith })))
+    (need_mark kinds.At (sub g.position done) tokens (Whole location_lexemes tokens) refl
+    (λ a la ha. read_part position_lexemes g.position done a (Whole location_lexemes tokens) (read_position a) (λ b position lb hb.
+    read_done b (Whole location_lexemes tokens) (written_locations.At position, record { spelled = ha ∙ ap (λ ps. mark kinds.At ∷ ps) hb; shorter = omega arith }))))
 
-module _ {A : Type 0} (p q : Part) (lexemes : A → List Lexeme) (is_list : rules q ≡ sub p (pick kinds.Comma (sub q done) done))
-    (read_item : (tokens : List Token) → Reading (rules p) tokens (Whole lexemes tokens)) where
-  read_others : (tokens : List Token) → ((next : List Token) → length next < length tokens → Reading (rules q) next (Whole (Items lexemes) next)) → Reading (rules q) tokens (Whole (Items lexemes) tokens)
-  read_others tokens others = subst (λ form. Reading form tokens (Whole (Items lexemes) tokens)) (sym is_list)
-      (read_part lexemes p (pick kinds.Comma (sub q done) done) tokens (Whole (Items lexemes) tokens) (read_item tokens) (λ a item la ha.
-      read_mark kinds.Comma (sub q done) done a (Whole (Items lexemes) tokens) refl
-      (λ b lb hb. read_part (Items lexemes) q done b (Whole (Items lexemes) tokens) (others b (omega arith)) (λ c more lc hc.
-      read_done c (Whole (Items lexemes) tokens) (
-        (item, more.0 ∷ more.1),
+-- a route, or a part of it
+pub read_window : (tokens : List Token) → Reading window_form tokens (Whole window_lexemes tokens)
+read_window tokens =
+    need_text kinds.Name (pick kinds.From span_form done) tokens (Whole window_lexemes tokens) refl (λ route a la ia ha.
+    read_mark kinds.From span_form done a (Whole window_lexemes tokens) refl
+    (λ b lb hb. read_alone Span span_form b (Whole window_lexemes tokens) (read_span b) (λ c span lc hc.
+    (written_windows.Part route span.0 span.1, record { spelled = ha ∙ ap (λ ps. told kinds.Name route ∷ ps) (hb ∙ ap (λ ps. mark kinds.From ∷ ps) hc); shorter = omega arith })))
+    (read_done a (Whole window_lexemes tokens) (written_windows.Whole route, record { spelled = ha; shorter = la })))
+
+-- A chain: an item, and after its mark the others.
+module _ {A B : Type 0} (p q : Part) (kind : TokenKind) (one : A → List Lexeme) (many : B → List Lexeme) (last : A → B) (more : A → B → B)
+    (is_mark : has_text kind ≡ false) (is_last : (item : A) → many (last item) ≡ one item) (is_more : (item : A) (others : B) → many (more item others) ≡ one item ++ mark kind ∷ many others)
+    (is_chain : rules q ≡ sub p (pick kind (sub q done) done)) (most : ℕ) (read_item : (tokens : List Token) → length tokens ≤ most → Reading (rules p) tokens (Whole one tokens)) where
+  read_others : (tokens : List Token) → length tokens ≤ most → ((next : List Token) → length next < length tokens → Reading (rules q) next (Whole many next)) → Reading (rules q) tokens (Whole many tokens)
+  read_others tokens fits others = subst (λ form. Reading form tokens (Whole many tokens)) (sym is_chain)
+      (read_part one p (pick kind (sub q done) done) tokens (Whole many tokens) (read_item tokens fits) (λ a item la ha.
+      read_mark kind (sub q done) done a (Whole many tokens) is_mark
+      (λ b lb hb. read_part many q done b (Whole many tokens) (others b (omega arith)) (λ c rest lc hc.
+      read_done c (Whole many tokens) (
+        more item rest,
         record {
-          spelled = ha ∙ ap (λ ps. lexemes item ++ ps) (hb ∙ ap (λ ps. mark kinds.Comma ∷ ps) hc) ∙ sym (append_assoc (lexemes item) (mark kinds.Comma ∷ Items lexemes more) (lexemes_of c));
+          spelled = ha ∙ ap (λ ps. one item ++ ps) (hb ∙ ap (λ ps. mark kind ∷ ps) hc) ∙ sym (append_assoc (one item) (mark kind ∷ many rest) (lexemes_of c))
+              ∙ ap (λ ps. ps ++ lexemes_of c) (sym (is_more item rest));
           shorter = omega arith;
         },
       )))
-      (read_done a (Whole (Items lexemes) tokens) ((item, []), record { spelled = ha ∙ ap (λ ps. ps ++ lexemes_of a) (sym (append-nil (lexemes item))); shorter = la }))))
+      (read_done a (Whole many tokens) (last item, record { spelled = ha ∙ ap (λ ps. ps ++ lexemes_of a) (sym (is_last item)); shorter = la }))))
 
-  read_fuel : (fuel : ℕ) (tokens : List Token) → length tokens ≤ fuel → Reading (rules q) tokens (Whole (Items lexemes) tokens)
-  read_fuel zero tokens enough = read_others tokens (λ next less. absurd (omega arith))
-  read_fuel (suc fuel) tokens enough = read_others tokens (λ next less. read_fuel fuel next (omega arith))
+  read_fuel : (fuel : ℕ) (tokens : List Token) → length tokens ≤ fuel → length tokens ≤ most → Reading (rules q) tokens (Whole many tokens)
+  read_fuel zero tokens enough fits = read_others tokens fits (λ next less. absurd (omega arith))
+  read_fuel (suc fuel) tokens enough fits = read_others tokens fits (λ next less. read_fuel fuel next (omega arith) (omega arith))
 
+  pub read_chain : (tokens : List Token) → length tokens ≤ most → Reading (rules q) tokens (Whole many tokens)
+  read_chain tokens fits = read_fuel (length tokens) tokens (omega arith) fits
+
+-- A list: a chain with commas.
+abbrev pub Items : {A : Type 0} → (A → List Lexeme) → A × List A → List Lexeme
+Items lexemes items = list_lexemes kinds.Comma lexemes (items.0 ∷ items.1)
+
+module _ {A : Type 0} (p q : Part) (lexemes : A → List Lexeme) (is_list : rules q ≡ sub p (pick kinds.Comma (sub q done) done))
+    (read_item : (tokens : List Token) → Reading (rules p) tokens (Whole lexemes tokens)) where
   read_list : (tokens : List Token) → Reading (rules q) tokens (Whole (Items lexemes) tokens)
-  read_list tokens = read_fuel (length tokens) tokens (omega arith)
+  read_list tokens =
+      read_chain p q kinds.Comma lexemes (Items lexemes) (λ item. (item, [])) (λ item others. (item, others.0 ∷ others.1)) refl
+      (λ item. append-nil (lexemes item)) (λ item others. refl) is_list (length tokens) (λ next fits. read_item next) tokens (omega arith)
 
 columns_are : rules g.columns ≡ sub g.column (pick kinds.Comma (sub g.columns done) done)
 unfolding rules
@@ -220,7 +272,7 @@ column_ruled : (tokens : List Token) → Reading (rules g.column) tokens (Whole 
 unfolding rules
 column_ruled tokens = read_column tokens
 
-read_columns : (tokens : List Token) → Reading (rules g.columns) tokens (Whole (Items column_lexemes) tokens)
+pub read_columns : (tokens : List Token) → Reading (rules g.columns) tokens (Whole (Items column_lexemes) tokens)
 read_columns tokens = read_list g.column g.columns column_lexemes columns_are column_ruled tokens
 
 values_are : rules g.values ≡ sub g.value (pick kinds.Comma (sub g.values done) done)
@@ -231,148 +283,25 @@ value_ruled : (tokens : List Token) → Reading (rules g.value) tokens (Whole va
 unfolding rules
 value_ruled tokens = read_value tokens
 
-read_values : (tokens : List Token) → Reading (rules g.values) tokens (Whole (Items value_lexemes) tokens)
+pub read_values : (tokens : List Token) → Reading (rules g.values) tokens (Whole (Items value_lexemes) tokens)
 read_values tokens = read_list g.value g.values value_lexemes values_are value_ruled tokens
 
--- The commands, each after its first words, which the tokens of the whole line begin with.
-module _ (tokens : List Token) where
-  abbrev pub Known : List Token → Type 0
-  Known = Full tokens
+names_are : rules g.names ≡ sub g.column_name (pick kinds.Comma (sub g.names done) done)
+unfolding rules
+names_are = refl
 
-  read_route : (a : List Token) → length a < length tokens → lexemes_of tokens ≡ mark kinds.Define ∷ mark kinds.Route ∷ lexemes_of a → Reading define_route_form a Known
-  unfolding rules
-  read_route a la ha =
-      need_text kinds.Name (need kinds.From (sub g.measure (need kinds.To (sub g.measure done)))) a Known refl (λ name b lb ib hb.
-      need_mark kinds.From (sub g.measure (need kinds.To (sub g.measure done))) b Known refl (λ c lc hc.
-      read_part measure_lexemes g.measure (need kinds.To (sub g.measure done)) c Known (read_measure c) (λ d start ld hd.
-      need_mark kinds.To (sub g.measure done) d Known refl (λ e le he.
-      read_part measure_lexemes g.measure done e Known (read_measure e) (λ f finish lf hf.
-      read_done f Known (written_route name start finish, record { spelled = cc; shorter = omega arith }, tt))))))
+name_ruled : (tokens : List Token) → Reading (rules g.column_name) tokens (Whole name_lexemes tokens)
+unfolding rules
+name_ruled tokens = need_text kinds.Name done tokens (Whole name_lexemes tokens) refl (λ name a la is ha. read_done a (Whole name_lexemes tokens) (name, record { spelled = ha; shorter = la }))
 
-  read_referent : (a : List Token) → length a < length tokens → lexemes_of tokens ≡ mark kinds.Define ∷ mark kinds.Referent ∷ lexemes_of a → Reading define_referent_form a Known
-  unfolding rules
-  read_referent a la ha =
-      need_text kinds.Name (need kinds.Name (need kinds.At (sub g.position done))) a Known refl (λ route b lb ib hb.
-      need_text kinds.Name (need kinds.At (sub g.position done)) b Known refl (λ name c lc ic hc.
-      need_mark kinds.At (sub g.position done) c Known refl (λ d ld hd.
-      read_part position_lexemes g.position done d Known (read_position d) (λ e position le he.
-      read_done e Known (written_referent route name position, record { spelled = cc; shorter = omega arith }, tt)))))
+read_names : (tokens : List Token) → Reading (rules g.names) tokens (Whole (Items name_lexemes) tokens)
+read_names tokens = read_list g.column_name g.names name_lexemes names_are name_ruled tokens
 
-  read_table : (a : List Token) → length a < length tokens → lexemes_of tokens ≡ mark kinds.Define ∷ mark kinds.Line ∷ lexemes_of a → Reading define_table_form a Known
-  unfolding rules
-  read_table a la ha =
-      need_mark kinds.Table (need kinds.Name (need kinds.LeftParen (sub g.columns (need kinds.RightParen done)))) a Known refl (λ b lb hb.
-      need_text kinds.Name (need kinds.LeftParen (sub g.columns (need kinds.RightParen done))) b Known refl (λ name c lc ic hc.
-      need_mark kinds.LeftParen (sub g.columns (need kinds.RightParen done)) c Known refl (λ d ld hd.
-      read_part (Items column_lexemes) g.columns (need kinds.RightParen done) d Known (read_columns d) (λ e columns le he.
-      need_mark kinds.RightParen done e Known refl (λ f lf hf.
-      read_done f Known (
-        written_table name (columns.0 ∷ columns.1),
-        record {
-          spelled = ha ∙ ap (λ ps. mark kinds.Define ∷ mark kinds.Line ∷ ps) (hb ∙ ap (λ ps. mark kinds.Table ∷ ps) (hc ∙ ap (λ ps. told kinds.Name name ∷ ps) (hd ∙ ap (λ ps. mark kinds.LeftParen ∷ ps)
-              (he ∙ ap (λ ps. Items column_lexemes columns ++ ps) hf ∙ sym (append_assoc (Items column_lexemes columns) (mark kinds.RightParen ∷ []) (lexemes_of f))))));
-          shorter = omega arith;
-        },
-        omega arith,
-      ))))))
-
-  read_define : (a : List Token) → length a < length tokens → lexemes_of tokens ≡ mark kinds.Define ∷ lexemes_of a → Reading define_form a Known
-  read_define a la ha =
-      read_mark kinds.Route define_route_form (pick kinds.Referent define_referent_form (need kinds.Line define_table_form)) a Known refl
-      (λ b lb hb. read_route b (omega arith) (ha ∙ ap (λ ps. mark kinds.Define ∷ ps) hb))
-      (read_mark kinds.Referent define_referent_form (need kinds.Line define_table_form) a Known refl
-      (λ b lb hb. read_referent b (omega arith) (ha ∙ ap (λ ps. mark kinds.Define ∷ ps) hb))
-      (need_mark kinds.Line define_table_form a Known refl
-      (λ b lb hb. read_table b (omega arith) (ha ∙ ap (λ ps. mark kinds.Define ∷ ps) hb))))
-
-  read_drop : (a : List Token) → length a < length tokens → lexemes_of tokens ≡ mark kinds.Drop ∷ lexemes_of a → Reading drop_form a Known
-  read_drop a la ha =
-      need_mark kinds.Referent (need kinds.Name (need kinds.Name done)) a Known refl (λ b lb hb.
-      need_text kinds.Name (need kinds.Name done) b Known refl (λ route c lc ic hc.
-      need_text kinds.Name done c Known refl (λ name d ld id hd.
-      read_done d Known (written_drop route name, record { spelled = cc; shorter = omega arith }, tt))))
-
-  read_move : (a : List Token) → length a < length tokens → lexemes_of tokens ≡ mark kinds.Move ∷ lexemes_of a → Reading move_form a Known
-  unfolding rules
-  read_move a la ha =
-      need_mark kinds.Referent (need kinds.Name (need kinds.Name (need kinds.To (sub g.position done)))) a Known refl (λ b lb hb.
-      need_text kinds.Name (need kinds.Name (need kinds.To (sub g.position done))) b Known refl (λ route c lc ic hc.
-      need_text kinds.Name (need kinds.To (sub g.position done)) c Known refl (λ name d ld id hd.
-      need_mark kinds.To (sub g.position done) d Known refl (λ e le he.
-      read_part position_lexemes g.position done e Known (read_position e) (λ f position lf hf.
-      read_done f Known (written_move route name position, record { spelled = cc; shorter = omega arith }, tt))))))
-
-  read_insert : (a : List Token) → length a < length tokens → lexemes_of tokens ≡ mark kinds.Insert ∷ lexemes_of a → Reading insert_form a Known
-  unfolding rules
-  read_insert a la ha =
-      need_mark kinds.Into (need kinds.Name (need kinds.On (need kinds.Name (sub g.place (need kinds.Values (need kinds.LeftParen (sub g.values (need kinds.RightParen done)))))))) a Known refl (λ b lb hb.
-      need_text kinds.Name (need kinds.On (need kinds.Name (sub g.place (need kinds.Values (need kinds.LeftParen (sub g.values (need kinds.RightParen done))))))) b Known refl (λ table c lc ic hc.
-      need_mark kinds.On (need kinds.Name (sub g.place (need kinds.Values (need kinds.LeftParen (sub g.values (need kinds.RightParen done)))))) c Known refl (λ d ld hd.
-      need_text kinds.Name (sub g.place (need kinds.Values (need kinds.LeftParen (sub g.values (need kinds.RightParen done))))) d Known refl (λ route e le ie he.
-      read_part location_lexemes g.place (need kinds.Values (need kinds.LeftParen (sub g.values (need kinds.RightParen done)))) e Known (read_place e) (λ f place lf hf.
-      need_mark kinds.Values (need kinds.LeftParen (sub g.values (need kinds.RightParen done))) f Known refl (λ i li hi.
-      need_mark kinds.LeftParen (sub g.values (need kinds.RightParen done)) i Known refl (λ j lj hj.
-      read_part (Items value_lexemes) g.values (need kinds.RightParen done) j Known (read_values j) (λ k row lk hk.
-      need_mark kinds.RightParen done k Known refl (λ l ll hl.
-      read_done l Known (
-        written_insert table route place (row.0 ∷ row.1),
-        record {
-          spelled = ha ∙ ap (λ ps. mark kinds.Insert ∷ ps) (hb ∙ ap (λ ps. mark kinds.Into ∷ ps) (hc ∙ ap (λ ps. told kinds.Name table ∷ ps) (hd ∙ ap (λ ps. mark kinds.On ∷ ps) (he ∙ ap (λ ps. told kinds.Name route ∷ ps)
-              (hf ∙ ap (λ ps. location_lexemes place ++ ps) (hi ∙ ap (λ ps. mark kinds.Values ∷ ps) (hj ∙ ap (λ ps. mark kinds.LeftParen ∷ ps)
-              (hk ∙ ap (λ ps. Items value_lexemes row ++ ps) hl ∙ sym (append_assoc (Items value_lexemes row) (mark kinds.RightParen ∷ []) (lexemes_of l)))))
-              ∙ sym (append_assoc (location_lexemes place) (mark kinds.Values ∷ mark kinds.LeftParen ∷ (Items value_lexemes row ++ mark kinds.RightParen ∷ [])) (lexemes_of l)))))));
-          shorter = omega arith;
-        },
-        omega arith,
-      ))))))))))
-
-  read_translate : (a : List Token) → length a < length tokens → lexemes_of tokens ≡ mark kinds.Translate ∷ lexemes_of a → Reading translate_form a Known
-  unfolding rules
-  read_translate a la ha =
-      need_text kinds.Name (sub g.position (need kinds.As (sub g.method done))) a Known refl (λ route b lb ib hb.
-      read_part position_lexemes g.position (need kinds.As (sub g.method done)) b Known (read_position b) (λ c position lc hc.
-      need_mark kinds.As (sub g.method done) c Known refl (λ d ld hd.
-      read_part method_lexemes g.method done d Known (read_method d) (λ e method le he.
-      read_done e Known (
-        written_translate route position method,
-        record {
-          spelled = ha ∙ ap (λ ps. mark kinds.Translate ∷ ps) (hb ∙ ap (λ ps. told kinds.Name route ∷ ps)
-              (hc ∙ ap (λ ps. position_lexemes position ++ ps) (hd ∙ ap (λ ps. mark kinds.As ∷ ps) he) ∙ sym (append_assoc (position_lexemes position) (mark kinds.As ∷ method_lexemes method) (lexemes_of e))));
-          shorter = omega arith;
-        },
-        tt,
-      )))))
-
-  read_wanted : (name : Token) (b : List Token) → length b < length tokens → lexemes_of tokens ≡ mark kinds.Select ∷ told kinds.Name name ∷ lexemes_of b → Reading wanted_form b Known
-  unfolding rules
-  read_wanted name b lb hb =
-      read_mark kinds.As (sub g.method done) done b Known refl
-      (λ c lc hc. read_part method_lexemes g.method done c Known (read_method c) (λ d method ld hd.
-      read_done d Known (written_select name (Some method), record { spelled = cc; shorter = omega arith }, tt)))
-      (read_done b Known (written_select name None, record { spelled = hb; shorter = lb }, tt))
-
-  name_lexemes : Token → List Lexeme
-  name_lexemes token = told kinds.Name token ∷ []
-
-  read_query : (a : List Token) → Reading query_form a (Whole name_lexemes a)
-  unfolding name_lexemes
-  read_query a = need_text kinds.Name done a (Whole name_lexemes a) refl (λ name b lb ib hb. read_done b (Whole name_lexemes a) (name, record { spelled = hb; shorter = lb }))
-
-  read_select : (a : List Token) → length a < length tokens → lexemes_of tokens ≡ mark kinds.Select ∷ lexemes_of a → Reading select_form a Known
-  unfolding rules name_lexemes
-  read_select a la ha =
-      read_part name_lexemes g.query wanted_form a Known (read_query a) (λ b name lb hb. read_wanted name b (omega arith) (ha ∙ ap (λ ps. mark kinds.Select ∷ ps) hb))
-
-  -- the tokens as a command
-  pub read_command : Reading command_form tokens Known
-  read_command =
-      read_mark kinds.Define define_form (pick kinds.Drop drop_form (pick kinds.Move move_form (pick kinds.Insert insert_form (pick kinds.Translate translate_form (need kinds.Select select_form))))) tokens Known refl read_define
-      (read_mark kinds.Drop drop_form (pick kinds.Move move_form (pick kinds.Insert insert_form (pick kinds.Translate translate_form (need kinds.Select select_form)))) tokens Known refl read_drop
-      (read_mark kinds.Move move_form (pick kinds.Insert insert_form (pick kinds.Translate translate_form (need kinds.Select select_form))) tokens Known refl read_move
-      (read_mark kinds.Insert insert_form (pick kinds.Translate translate_form (need kinds.Select select_form)) tokens Known refl read_insert
-      (read_mark kinds.Translate translate_form (need kinds.Select select_form) tokens Known refl read_translate
-      (need_mark kinds.Select select_form tokens Known refl read_select)))))
-
--- Reading to the end, or to where it stops.
-pub read_whole : (tokens : List Token) → Reading command_form tokens (Full tokens)
-read_whole tokens = read_command tokens
+-- names in brackets, perhaps none
+pub read_bracketed_names : (tokens : List Token) → Reading bracketed_names_form tokens (Whole bracketed_names_lexemes tokens)
+read_bracketed_names tokens =
+    need_mark kinds.LeftParen (pick kinds.RightParen done (sub g.names (need kinds.RightParen done))) tokens (Whole bracketed_names_lexemes tokens) refl (λ a la ha.
+    read_mark kinds.RightParen done (sub g.names (need kinds.RightParen done)) a (Whole bracketed_names_lexemes tokens) refl
+    (λ b lb hb. read_done b (Whole bracketed_names_lexemes tokens) ([], record { spelled = ha ∙ ap (λ ps. mark kinds.LeftParen ∷ ps) hb; shorter = omega arith }))
+    (read_alone (Closed (Items name_lexemes)) (sub g.names (need kinds.RightParen done)) a (Whole bracketed_names_lexemes tokens) (read_closed (Items name_lexemes) g.names a (read_names a)) (λ b names lb hb.
+    (names.0 ∷ names.1, record { spelled = ha ∙ ap (λ ps. mark kinds.LeftParen ∷ ps) hb; shorter = omega arith }))))

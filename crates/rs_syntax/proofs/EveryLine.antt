@@ -18,8 +18,8 @@ use Rattle.rs_syntax.proofs.BracketLaws.{length-kinds_of, take-kinds_of}
 use Rattle.rs_syntax.proofs.VerdictLaws.{told_of, fits_no_rule, too_many_brackets, is_written}
 use Rattle.rs_syntax.proofs.EveryCut.{CutCases, cut_cases}
 use Rattle.rs_measure.proofs.SaidOrNot.{Cases}
-use Rattle.rs_syntax.proofs.Ranges.{says_cases}
-use Rattle.rs_syntax.proofs.Descent.{Reading, Full, read_whole}
+use Rattle.rs_syntax.proofs.CommandRanges.{says_cases}
+use Rattle.rs_syntax.proofs.CommandDescent.{Reading, Full, read_whole}
 use Rattle.rs_syntax.proofs.OneAnswer.{Readings, reads_same}
 use Rattle.rs_syntax.proofs.SoundLaws.{sound}
 use Rattle.rs_lexer.proofs.CutLaws.{cut_inside}
@@ -50,8 +50,8 @@ at_fault : (line : List ℕ) (tokens : List Token) (place : ℕ) → FitsNoRule 
 at_fault line tokens place fault = (Err (Syntax (fault_column line (drop place tokens))), is_fault place fault, λ clean. tt)
 
 -- a command as it is written, whose numbers are in their ranges, or not
-in_range : (line : List ℕ) (tokens : List Token) (written : Written) → AreToldOf line (lexemes_of tokens) → IsFull written → IsWritten tokens written → Cases (Says line written) → Answered line tokens
-in_range line tokens written told full is (inl said) = (Ok said.0, is_command written said.0 is said.1, λ clean. sound line written said.0 clean full (subst (AreToldOf line) is.spelled told) said.1)
+in_range : (line : List ℕ) (tokens : List Token) (written : Written) → AreToldOf line (lexemes_of tokens) → IsFull written → IsWritten tokens written → Cases (Says line tokens written) → Answered line tokens
+in_range line tokens written told full is (inl said) = (Ok said.0, is_command written said.0 is said.1, λ clean. sound line tokens written said.0 clean full (subst (AreToldOf line) is.spelled told) said.1)
 in_range line tokens written told full is (inr none) = (Err NumberOutOfRange, is_out_of_range written is none, λ clean. tt)
 
 -- Reading the tokens before a bracket too many.
@@ -63,7 +63,7 @@ module _ (line : List ℕ) (tokens : List Token) (told : AreToldOf line (lexemes
   read_all : (written : Written) → IsFull written → Runs command_form (kinds_of (take n tokens)) (Ok []) → lexemes_of (take n tokens) ≡ spelling written → Answered line tokens
   read_all written full run spelled =
       ⊎_elim
-      (λ whole. in_range line tokens written told full (is_written tokens n written whole brackets.shallow run spelled) (says_cases line written))
+      (λ whole. in_range line tokens written told full (is_written tokens n written whole brackets.shallow run spelled) (says_cases line tokens written))
       (λ other.
       let lt : n < length (kinds_of tokens) = omega (arith, brackets.inside, length-kinds_of tokens, other) in
       at_fault line tokens n (too_many_brackets (kinds_of tokens) n lt brackets.shallow (brackets.too_deep lt) (subst (λ ts. Runs command_form ts (Ok [])) (sym (take-kinds_of n tokens)) run)))

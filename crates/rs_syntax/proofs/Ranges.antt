@@ -1,18 +1,13 @@
--- A written command says something, or it says nothing.
-use Rattle.std.proofs.Common.{◌≡◌, ℕ, ◌+◌, ◌-◌, ◌*◌, ◌^◌, ◌<◌, ◌≤◌, Bool, List, [], ◌∷◌, ◌++◌, length, get_or, refl, sym, ap, ◌∙◌, subst, inl, inr, ⊎_elim, arith, append_assoc}
-use Rattle.std.specs.Prelude.{◌⊎◌, not, unwrap_or}
-use Rattle.std.specs.List.{position_or_len, before_first, after_first}
-use Rattle.std.proofs.lemmas.Bool.{cases_lt, eqb-true}
-use Rattle.std.proofs.lemmas.List.Sums.{prefix_len-le-length, split_at_first, passes_at_first}
+-- What is written says something, or it says nothing: the parts of a command but queries.
+use Rattle.std.proofs.Common.{ℕ, ◌^◌, ◌<◌, ◌≤◌, Bool, List, [], ◌∷◌, refl, subst, inl, inr, arith}
+use Rattle.std.specs.Prelude.{◌⊎◌}
+use Rattle.std.proofs.lemmas.Bool.{cases_lt}
 use Rattle.rs_measure.specs.FixedPoint.{number_of_digits}
 use Rattle.rs_measure.specs.Measure.{SaysMeasure}
 use Rattle.rs_measure.specs.Part.{SaysPart}
 use Rattle.rs_measure.proofs.SaidOrNot.{Cases, measure_cases, part_cases}
 use Rattle.rs_methods.specs.Position.{PositionExpression, absolute, beyond, before, interpolative}
-use Rattle.rs_methods.specs.declared.position.Method.{Method}
-use Rattle.rs_methods.specs.declared.position.Method.TheVariants as methods
 use Rattle.rs_value.specs.declared.column.TheConstants.{TEXT_BYTES}
-use Rattle.rs_value.specs.declared.column.Kind.TheVariants.{Line}
 use Rattle.rs_value.specs.declared.column.ColumnType.{ColumnType}
 use Rattle.rs_value.specs.declared.column.ColumnType.TheVariants as types
 use Rattle.rs_value.specs.Row.{Datum, null, number, text, Row}
@@ -27,8 +22,8 @@ use Rattle.rs_syntax.specs.declared.written.WrittenPosition.{WrittenPosition}
 use Rattle.rs_syntax.specs.declared.written.WrittenPosition.TheVariants as written_positions
 use Rattle.rs_syntax.specs.declared.written.WrittenLocation.{WrittenLocation}
 use Rattle.rs_syntax.specs.declared.written.WrittenLocation.TheVariants as written_locations
-use Rattle.rs_syntax.specs.Tree.{EventLocationTree, along, named, define_route, define_table, define_referent, move_referent, drop_referent, insert, translate, select}
-use Rattle.rs_syntax.specs.Written.{Written, written_route, written_table, written_referent, written_move, written_drop, written_insert, written_translate, written_select, unquoted, signed, SaysType, SaysColumns, SaysDatum, SaysRow, SaysPosition, SaysLocation, Says}
+use Rattle.rs_syntax.specs.Tree.{EventLocationTree, along, at_point}
+use Rattle.rs_syntax.specs.WrittenParts.{unquoted, signed, SaysType, SaysColumns, SaysDatum, SaysRow, SaysPosition, SaysLocation}
 
 -- A position.
 measure_position : (line : List ℕ) (token : Token) → Cases (SaysMeasure (token_text line token)) → Cases (SaysPosition line (written_positions.Measure token))
@@ -47,7 +42,7 @@ before_position : (line : List ℕ) (name token : Token) → Cases (SaysMeasure 
 before_position line name token (inl said) = inl (before (token_text line name) said.0, (said.0, said.1, refl))
 before_position line name token (inr none) = inr (λ p says. none says.0 says.1)
 
-position_cases : (line : List ℕ) (w : WrittenPosition) → Cases (SaysPosition line w)
+pub position_cases : (line : List ℕ) (w : WrittenPosition) → Cases (SaysPosition line w)
 position_cases line (written_positions.Measure token) = measure_position line token (measure_cases (token_text line token))
 position_cases line (written_positions.Percentage token) = part_position line token (part_cases (token_text line token))
 position_cases line (written_positions.Referent name) = inl (beyond (token_text line name) 0, refl)
@@ -56,14 +51,24 @@ position_cases line (written_positions.Before name token) = before_position line
 
 no_place : (line : List ℕ) (from to : WrittenPosition) → ((a b : PositionExpression) → SaysPosition line from a → SaysPosition line to b → ⊥) → (place : EventLocationTree) → SaysLocation line (written_locations.Along from to) place → ⊥
 no_place line from to none (along a b) says = none a b says.0 says.1
+no_place line from to none (at_point a) says = says
 
 place_of : (line : List ℕ) (from to : WrittenPosition) → Cases (SaysPosition line from) → Cases (SaysPosition line to) → Cases (SaysLocation line (written_locations.Along from to))
 place_of line from to (inl a) (inl b) = inl (along a.0 b.0, (a.1, b.1))
 place_of line from to (inl a) (inr none) = inr (no_place line from to (λ x y p q. none y q))
 place_of line from to (inr none) b = inr (no_place line from to (λ x y p q. none x p))
 
-location_cases : (line : List ℕ) (w : WrittenLocation) → Cases (SaysLocation line w)
+no_point : (line : List ℕ) (w : WrittenPosition) → ((a : PositionExpression) → SaysPosition line w a → ⊥) → (place : EventLocationTree) → SaysLocation line (written_locations.At w) place → ⊥
+no_point line w none (along a b) says = says
+no_point line w none (at_point a) says = none a says
+
+point_of : (line : List ℕ) (w : WrittenPosition) → Cases (SaysPosition line w) → Cases (SaysLocation line (written_locations.At w))
+point_of line w (inl a) = inl (at_point a.0, a.1)
+point_of line w (inr none) = inr (no_point line w none)
+
+pub location_cases : (line : List ℕ) (w : WrittenLocation) → Cases (SaysLocation line w)
 location_cases line (written_locations.Along from to) = place_of line from to (position_cases line from) (position_cases line to)
+location_cases line (written_locations.At w) = point_of line w (position_cases line w)
 
 -- The columns of a table.
 no_type : (line : List ℕ) (token : Token) → (1 ≤ number_of_digits (token_text line token) → number_of_digits (token_text line token) ≤ TEXT_BYTES → ⊥) → (t : ColumnType) → SaysType line (written_types.Text token) t → ⊥
@@ -92,7 +97,7 @@ more_columns line w ws (inl t) (inl others) = inl ((token_text line w.name, t.0)
 more_columns line w ws (inl t) (inr none) = inr (no_columns line w ws (λ s others p q. none others q))
 more_columns line w ws (inr none) others = inr (no_columns line w ws (λ s others p q. none s p))
 
-columns_cases : (line : List ℕ) (ws : List WrittenColumn) → Cases (SaysColumns line ws)
+pub columns_cases : (line : List ℕ) (ws : List WrittenColumn) → Cases (SaysColumns line ws)
 columns_cases line [] = inl ([], tt)
 columns_cases line (w ∷ ws) = more_columns line w ws (type_cases line w.column_type) (columns_cases line ws)
 
@@ -106,7 +111,7 @@ whole_datum : (line : List ℕ) (is_negative : Bool) (digits : Token) → (10 ^ 
 whole_datum line is_negative digits (inl above) = inr (no_number line is_negative digits above)
 whole_datum line is_negative digits (inr within) = inl (number (signed is_negative (number_of_digits (token_text line digits))), (within, refl))
 
-datum_cases : (line : List ℕ) (w : WrittenValue) → Cases (SaysDatum line w)
+pub datum_cases : (line : List ℕ) (w : WrittenValue) → Cases (SaysDatum line w)
 datum_cases line written_values.Null = inl (null, tt)
 datum_cases line (written_values.Whole is_negative digits) = whole_datum line is_negative digits (cases_lt (10 ^ 12) (number_of_digits (token_text line digits)))
 datum_cases line (written_values.Quoted quoted) = inl (text (unquoted (token_text line quoted)), refl)
@@ -120,43 +125,6 @@ more_row line w ws (inl datum) (inl others) = inl (datum.0 ∷ others.0, (datum.
 more_row line w ws (inl datum) (inr none) = inr (no_row line w ws (λ d others p q. none others q))
 more_row line w ws (inr none) others = inr (no_row line w ws (λ d others p q. none d p))
 
-row_cases : (line : List ℕ) (ws : List WrittenValue) → Cases (SaysRow line ws)
+pub row_cases : (line : List ℕ) (ws : List WrittenValue) → Cases (SaysRow line ws)
 row_cases line [] = inl ([], tt)
 row_cases line (w ∷ ws) = more_row line w ws (datum_cases line w) (row_cases line ws)
-
--- The command.
-route_of : (line : List ℕ) (n s f : Token) → Cases (SaysMeasure (token_text line s)) → Cases (SaysMeasure (token_text line f)) → Cases (Says line (written_route n s f))
-route_of line n s f (inl a) (inl b) = inl (define_route (token_text line n) a.0 b.0, (a.0, b.0, a.1, b.1, refl))
-route_of line n s f (inl a) (inr none) = inr (λ tree says. none says.1 says.3)
-route_of line n s f (inr none) b = inr (λ tree says. none says.0 says.2)
-
-table_of : (line : List ℕ) (n : Token) (ws : List WrittenColumn) → Cases (SaysColumns line ws) → Cases (Says line (written_table n ws))
-table_of line n ws (inl columns) = inl (define_table Line (token_text line n) columns.0, (columns.0, columns.1, refl))
-table_of line n ws (inr none) = inr (λ tree says. none says.0 says.1)
-
-referent_of : (line : List ℕ) (r n : Token) (w : WrittenPosition) → Cases (SaysPosition line w) → Cases (Says line (written_referent r n w))
-referent_of line r n w (inl position) = inl (define_referent (token_text line r) (token_text line n) position.0, (position.0, position.1, refl))
-referent_of line r n w (inr none) = inr (λ tree says. none says.0 says.1)
-
-move_of : (line : List ℕ) (r n : Token) (w : WrittenPosition) → Cases (SaysPosition line w) → Cases (Says line (written_move r n w))
-move_of line r n w (inl position) = inl (move_referent (token_text line r) (token_text line n) position.0, (position.0, position.1, refl))
-move_of line r n w (inr none) = inr (λ tree says. none says.0 says.1)
-
-insert_of : (line : List ℕ) (t r : Token) (w : WrittenLocation) (ws : List WrittenValue) → Cases (SaysLocation line w) → Cases (SaysRow line ws) → Cases (Says line (written_insert t r w ws))
-insert_of line t r w ws (inl place) (inl row) = inl (insert (token_text line t) (token_text line r) place.0 row.0, (place.0, row.0, place.1, row.1, refl))
-insert_of line t r w ws (inl place) (inr none) = inr (λ tree says. none says.1 says.3)
-insert_of line t r w ws (inr none) row = inr (λ tree says. none says.0 says.2)
-
-translate_of : (line : List ℕ) (r : Token) (w : WrittenPosition) (m : Method) → Cases (SaysPosition line w) → Cases (Says line (written_translate r w m))
-translate_of line r w m (inl position) = inl (translate (token_text line r) position.0 m, (position.0, position.1, refl))
-translate_of line r w m (inr none) = inr (λ tree says. none says.0 says.1)
-
-pub says_cases : (line : List ℕ) (w : Written) → Cases (Says line w)
-says_cases line (written_route n s f) = route_of line n s f (measure_cases (token_text line s)) (measure_cases (token_text line f))
-says_cases line (written_table n ws) = table_of line n ws (columns_cases line ws)
-says_cases line (written_referent r n w) = referent_of line r n w (position_cases line w)
-says_cases line (written_move r n w) = move_of line r n w (position_cases line w)
-says_cases line (written_drop r n) = inl (drop_referent (token_text line r) (token_text line n), refl)
-says_cases line (written_insert t r w ws) = insert_of line t r w ws (location_cases line w) (row_cases line ws)
-says_cases line (written_translate r w m) = translate_of line r w m (position_cases line w)
-says_cases line (written_select n m) = inl (select (named (token_text line n)) (unwrap_or m methods.Absolute), refl)

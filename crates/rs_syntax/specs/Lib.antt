@@ -1,5 +1,9 @@
 pub mod Tree
 pub mod View
+pub mod QueryView
+pub mod WrittenParts
+pub mod WrittenQueries
 pub mod Written
+pub mod WrittenView
 pub mod Verdict
 pub mod Sound

@@ -1,16 +1,18 @@
 -- What every command that a line says keeps to.
-use Rattle.std.specs.Prelude.{◌≡◌, ℕ, ◌≤◌, List, [], ◌∷◌, length, None}
+use Rattle.std.specs.Prelude.{◌≡◌, ◌≢◌, ℕ, ◌≤◌, List, [], ◌∷◌, length, Option, Some, None}
+use Rattle.std.specs.List.{AllByRecursion}
 use Rattle.rs_measure.specs.declared.measure.TheConstants.{GREATEST_MEASURE}
 use Rattle.rs_measure.specs.declared.part.TheConstants.{GREATEST_PART}
 use Rattle.rs_value.specs.declared.column.TheConstants.{TEXT_BYTES}
 use Rattle.rs_value.specs.declared.column.ColumnType.{ColumnType}
 use Rattle.rs_value.specs.declared.column.ColumnType.TheVariants as types
-use Rattle.rs_value.specs.Values.{AreValues}
+use Rattle.rs_value.specs.Row.{null}
+use Rattle.rs_value.specs.Values.{IsValue, AreValues}
 use Rattle.rs_grammar.specs.declared.kind.TheConstants.{NAME_BYTES}
 use Rattle.rs_lexer.specs.Lexis.{reserved, kind_in}
 use Rattle.rs_methods.specs.Position.{PositionExpression, absolute, beyond, before, interpolative}
 use Rattle.rs_methods.specs.PositionText.{IsWord}
-use Rattle.rs_syntax.specs.Tree.{EventLocationTree, along, named, CommandTree, define_route, define_table, define_referent, move_referent, drop_referent, insert, translate, select}
+use Rattle.rs_syntax.specs.Tree.{EventLocationTree, along, at_point, WindowTree, whole_route, part_of_route, OperandTree, column_named, written_value, ConditionTree, compare, is_null, is_not_null, negated, bracketed, both, either, QueryTree, named, filtered, dissolved, renamed, overlaid, covered, merged, subtracted, windowed, CommandTree, define_route, define_table, define_referent, define_view, move_referent, drop_route, drop_table, drop_view, drop_referent, insert, remove, translate, select}
 
 -- A name: a word of at most NAME_BYTES bytes that is not reserved.
 pub record IsName (name : List ℕ) : Type 0 where
@@ -39,14 +41,54 @@ IsPosition (interpolative part) = part ≤ GREATEST_PART
 
 abbrev pub IsEventLocation : EventLocationTree → Type 0
 IsEventLocation (along from to) = IsPosition from × IsPosition to
+IsEventLocation (at_point position) = IsPosition position
+
+abbrev pub IsWindow : WindowTree → Type 0
+IsWindow (whole_route route) = IsName route
+IsWindow (part_of_route route from to) = IsName route × IsPosition from × IsPosition to
+
+-- a column's name; or a number or a text, and not NULL
+abbrev pub IsOperand : OperandTree → Type 0
+IsOperand (column_named name) = IsName name
+IsOperand (written_value datum) = IsValue datum × (datum ≢ null)
+
+abbrev pub IsCondition : ConditionTree → Type 0
+IsCondition (compare name comparison operand) = IsName name × IsOperand operand
+IsCondition (is_null name) = IsName name
+IsCondition (is_not_null name) = IsName name
+IsCondition (negated condition) = IsCondition condition
+IsCondition (bracketed condition) = IsCondition condition
+IsCondition (both a b) = IsCondition a × IsCondition b
+IsCondition (either a b) = IsCondition a × IsCondition b
+
+-- all rows where no condition is written
+abbrev pub IsRemovalCondition : Option ConditionTree → Type 0
+IsRemovalCondition None = Unit {0}
+IsRemovalCondition (Some condition) = IsCondition condition
+
+abbrev pub IsQuery : QueryTree → Type 0
+IsQuery (named name) = IsName name
+IsQuery (filtered query condition) = IsQuery query × IsCondition condition
+IsQuery (dissolved query names) = IsQuery query × AllByRecursion IsName names
+IsQuery (renamed query from to) = IsQuery query × IsName from × IsName to
+IsQuery (overlaid a b) = IsQuery a × IsQuery b
+IsQuery (covered a b) = IsQuery a × IsQuery b
+IsQuery (merged a b) = IsQuery a × IsQuery b
+IsQuery (subtracted a b) = IsQuery a × IsQuery b
+IsQuery (windowed query window) = IsQuery query × IsWindow window
 
 -- names are names, each list has an item, numbers are in their ranges, and texts are UTF-8 without control bytes
 abbrev pub IsSound : CommandTree → Type 0
 IsSound (define_route name start finish) = IsName name × IsMeasure start × IsMeasure finish
 IsSound (define_table kind name columns) = IsName name × (1 ≤ length columns) × AreColumns columns
 IsSound (define_referent route name position) = IsName route × IsName name × IsPosition position
+IsSound (define_view name query text) = IsName name × IsQuery query
 IsSound (move_referent route name position) = IsName route × IsName name × IsPosition position
+IsSound (drop_route name) = IsName name
+IsSound (drop_table name) = IsName name
+IsSound (drop_view name) = IsName name
 IsSound (drop_referent route name) = IsName route × IsName name
 IsSound (insert table route place row) = IsName table × IsName route × IsEventLocation place × (1 ≤ length row) × AreValues row
+IsSound (remove table window condition) = IsName table × IsWindow window × IsRemovalCondition condition
 IsSound (translate route position method) = IsName route × IsPosition position
-IsSound (select (named name) method) = IsName name
+IsSound (select query method) = IsQuery query

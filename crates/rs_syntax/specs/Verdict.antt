@@ -32,8 +32,8 @@ pub record IsWritten (tokens : List Token) (written : Written) : Type 0 where
 -- What the tokens of a line are: 11 comes before 12.
 pub data Parses (line : List ℕ) (tokens : List Token) : Result CommandTree Refusal → Type 0 where
   is_fault : (place : ℕ) → FitsNoRule (kinds_of tokens) place → Parses line tokens (Err (Syntax (fault_column line (drop place tokens))))
-  is_command : (written : Written) (tree : CommandTree) → IsWritten tokens written → Says line written tree → Parses line tokens (Ok tree)
-  is_out_of_range : (written : Written) → IsWritten tokens written → ((tree : CommandTree) → Says line written tree → ⊥) → Parses line tokens (Err NumberOutOfRange)
+  is_command : (written : Written) (tree : CommandTree) → IsWritten tokens written → Says line tokens written tree → Parses line tokens (Ok tree)
+  is_out_of_range : (written : Written) → IsWritten tokens written → ((tree : CommandTree) → Says line tokens written tree → ⊥) → Parses line tokens (Err NumberOutOfRange)
 
 -- What the text of a line is from a byte place on: 10 comes before all else.
 pub data Reads (line : List ℕ) (from : ℕ) : Result CommandTree Refusal → Type 0 where

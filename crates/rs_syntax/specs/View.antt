@@ -1,19 +1,21 @@
 -- The value of a command of the code, and how a written one is written.
-use Rattle.std.specs.Prelude.{ℕ, List, map}
+use Rattle.std.specs.Prelude.{ℕ, List, map, Option, Some, None, Vec, string_bytes}
+use Rattle.std.specs.declared.alloc.Global.{Global}
 use Rattle.rs_methods.specs.Position.{expression_of}
 use Rattle.rs_value.specs.declared.column.ColumnType.{ColumnType}
 use Rattle.rs_value.specs.View.{literal_row}
 use Rattle.rs_syntax.specs.declared.commands.ColumnDefinition.{ColumnDefinition}
 use Rattle.rs_syntax.specs.declared.commands.EventLocation.{EventLocation}
 use Rattle.rs_syntax.specs.declared.commands.EventLocation.TheVariants as locations
-use Rattle.rs_syntax.specs.declared.commands.Query.{Query}
-use Rattle.rs_syntax.specs.declared.commands.Query.TheVariants as queries
 use Rattle.rs_syntax.specs.declared.commands.Command.{Command}
 use Rattle.rs_syntax.specs.declared.commands.Command.TheVariants as commands
 use Rattle.rs_syntax.specs.declared.written.WrittenCommand.{WrittenCommand}
 use Rattle.rs_syntax.specs.declared.written.WrittenCommand.TheVariants as forms
-use Rattle.rs_syntax.specs.Written.{Written, written_route, written_table, written_referent, written_move, written_drop, written_insert, written_translate, written_select}
-use Rattle.rs_syntax.specs.Tree.{EventLocationTree, along, QueryTree, named, CommandTree, define_route, define_table, define_referent, move_referent, drop_referent, insert, translate, select}
+use Rattle.rs_syntax.specs.Written.{Written, written_route, written_table, written_referent, written_view, written_move, written_drop_route, written_drop_table, written_drop_view, written_drop_referent, written_insert, written_remove, written_translate, written_select}
+use Rattle.rs_syntax.specs.WrittenView.{query_syntax, removal_syntax}
+use Rattle.rs_syntax.specs.declared.queries.Atom.{Atom}
+use Rattle.rs_syntax.specs.QueryView.{window_tree, condition_tree, query_tree}
+use Rattle.rs_syntax.specs.Tree.{EventLocationTree, along, at_point, ConditionTree, CommandTree, define_route, define_table, define_referent, define_view, move_referent, drop_route, drop_table, drop_view, drop_referent, insert, remove, translate, select}
 
 -- a column's name and type
 abbrev pub column_tree : ColumnDefinition → List ℕ × ColumnType
@@ -22,29 +24,41 @@ column_tree definition = (definition.name.bytes, definition.column_type)
 -- where an event is put
 abbrev pub location_tree : EventLocation → EventLocationTree
 location_tree (locations.Along from to) = along (expression_of from) (expression_of to)
+location_tree (locations.At position) = at_point (expression_of position)
 
--- a query as a value
-abbrev pub query_tree : Query → QueryTree
-query_tree (queries.Named name) = named name.bytes
+-- which rows REMOVE takes, where the line says it
+abbrev pub removal_tree : Option (Vec (Vec Atom Global) Global) → Option ConditionTree
+removal_tree None = None
+removal_tree (Some conjunctions) = Some (condition_tree conjunctions.items)
 
 -- a command as a value
 abbrev pub tree_of : Command → CommandTree
 tree_of (commands.DefineRoute name start finish) = define_route name.bytes start finish
 tree_of (commands.DefineTable kind name columns) = define_table kind name.bytes (map column_tree columns.items)
 tree_of (commands.DefineReferent route name position) = define_referent route.bytes name.bytes (expression_of position)
+tree_of (commands.DefineView name query text) = define_view name.bytes (query_tree query) (string_bytes text)
 tree_of (commands.MoveReferent route name position) = move_referent route.bytes name.bytes (expression_of position)
+tree_of (commands.DropRoute name) = drop_route name.bytes
+tree_of (commands.DropTable name) = drop_table name.bytes
+tree_of (commands.DropView name) = drop_view name.bytes
 tree_of (commands.DropReferent route name) = drop_referent route.bytes name.bytes
 tree_of (commands.Insert table route place values) = insert table.bytes route.bytes (location_tree place) (literal_row values.items)
+tree_of (commands.Remove table window condition) = remove table.bytes (window_tree window) (removal_tree condition)
 tree_of (commands.Translate route position method) = translate route.bytes (expression_of position) method
 tree_of (commands.Select query method) = select (query_tree query) method
 
 -- how a command of the code is written
 abbrev pub written_of : WrittenCommand → Written
 written_of (forms.DefineRoute name start finish) = written_route name start finish
-written_of (forms.DefineTable name columns) = written_table name columns.items
+written_of (forms.DefineTable kind name columns) = written_table kind name columns.items
 written_of (forms.DefineReferent route name position) = written_referent route name position
+written_of (forms.DefineView name query) = written_view name (query_syntax query)
 written_of (forms.MoveReferent route name position) = written_move route name position
-written_of (forms.DropReferent route name) = written_drop route name
+written_of (forms.DropRoute name) = written_drop_route name
+written_of (forms.DropTable name) = written_drop_table name
+written_of (forms.DropView name) = written_drop_view name
+written_of (forms.DropReferent route name) = written_drop_referent route name
 written_of (forms.Insert table route place values) = written_insert table route place values.items
+written_of (forms.Remove table window condition) = written_remove table window (removal_syntax condition)
 written_of (forms.Translate route position method) = written_translate route position method
-written_of (forms.Select table method) = written_select table method
+written_of (forms.Select query method) = written_select (query_syntax query) method

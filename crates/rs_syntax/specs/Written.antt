@@ -1,217 +1,113 @@
 -- A command as a line writes it, and what it says.
-use Rattle.std.specs.Prelude.{◌≡◌, ℕ, ◌^◌, ◌<◌, ◌≤◌, Bool, true, false, ◌==◌, if◌then◌else◌, ℤ, pos, neg_ℤ, List, [], ◌∷◌, ◌++◌, length, map, Option, Some, None, unwrap_or}
-use Rattle.rs_measure.specs.FixedPoint.{number_of_digits}
+use Rattle.std.specs.Prelude.{◌≡◌, ℕ, ◌+◌, ◌-◌, ◌<◌, List, [], ◌∷◌, ◌++◌, length, take, drop, Option, unwrap_or}
 use Rattle.rs_measure.specs.Measure.{SaysMeasure}
-use Rattle.rs_measure.specs.Part.{SaysPart}
-use Rattle.rs_methods.specs.Position.{PositionExpression, absolute, beyond, before, interpolative}
+use Rattle.rs_methods.specs.Position.{PositionExpression}
 use Rattle.rs_methods.specs.declared.position.Method.{Method}
 use Rattle.rs_methods.specs.declared.position.Method.TheVariants as methods
-use Rattle.rs_value.specs.declared.column.TheConstants.{TEXT_BYTES}
-use Rattle.rs_value.specs.declared.column.Kind.TheVariants.{Line}
+use Rattle.rs_value.specs.declared.column.Kind.{Kind}
 use Rattle.rs_value.specs.declared.column.ColumnType.{ColumnType}
-use Rattle.rs_value.specs.declared.column.ColumnType.TheVariants as types
-use Rattle.rs_value.specs.Row.{Datum, null, number, text, Row}
-use Rattle.rs_grammar.specs.declared.kind.TokenKind.{TokenKind}
+use Rattle.rs_value.specs.Row.{Row}
 use Rattle.rs_grammar.specs.declared.kind.TokenKind.TheVariants as kinds
 use Rattle.rs_lexer.specs.declared.token.Token.{Token}
-use Rattle.rs_syntax.specs.declared.written.WrittenType.{WrittenType}
-use Rattle.rs_syntax.specs.declared.written.WrittenType.TheVariants as written_types
+use Rattle.rs_lexer.specs.Lexis.{token_text}
 use Rattle.rs_syntax.specs.declared.written.WrittenColumn.{WrittenColumn}
 use Rattle.rs_syntax.specs.declared.written.WrittenValue.{WrittenValue}
-use Rattle.rs_syntax.specs.declared.written.WrittenValue.TheVariants as written_values
 use Rattle.rs_syntax.specs.declared.written.WrittenPosition.{WrittenPosition}
-use Rattle.rs_syntax.specs.declared.written.WrittenPosition.TheVariants as written_positions
 use Rattle.rs_syntax.specs.declared.written.WrittenLocation.{WrittenLocation}
-use Rattle.rs_syntax.specs.declared.written.WrittenLocation.TheVariants as written_locations
-use Rattle.rs_lexer.specs.Lexis.{token_text, IsTokenOf}
-use Rattle.rs_syntax.specs.Tree.{EventLocationTree, along, named, CommandTree, define_route, define_table, define_referent, move_referent, drop_referent, insert, translate, select}
+use Rattle.rs_syntax.specs.declared.written.WrittenWindow.{WrittenWindow}
+use Rattle.rs_syntax.specs.Tree.{EventLocationTree, WindowTree, ConditionTree, QueryTree, CommandTree, define_route, define_table, define_referent, define_view, move_referent, drop_route, drop_table, drop_view, drop_referent, insert, remove, translate, select}
+-- the parts that a command is made of
+pub use Rattle.rs_syntax.specs.WrittenParts.{Lexeme, mark, told, has_text, lexeme_of, lexemes_of, measure_lexemes, position_lexemes, span_lexemes, location_lexemes, method_kind, method_lexemes, wanted_lexemes, table_kind, type_lexemes, column_lexemes, value_lexemes, name_lexemes, further_lexemes, list_lexemes, IsToldOf, AreToldOf, SaysType, SaysColumns, unquoted_rest, unquoted, signed, SaysDatum, SaysRow, SaysPosition, SaysLocation}
+pub use Rattle.rs_syntax.specs.WrittenQueries.{AtomSyntax, written_comparison, written_null, written_not_null, written_negation, written_bracket, ConjunctionSyntax, last_atom, and_then, ConditionSyntax, last_conjunction, or_else, QuerySyntax, written_name, written_where, written_dissolve, written_rename, written_pair, written_window, window_lexemes, comparison_kind, comparison_lexemes, operand_lexemes, atom_lexemes, conjunction_lexemes, condition_lexemes, bracketed_names_lexemes, pair_kind, operator_lexemes, query_lexemes, removal_lexemes, SaysWindow, SaysOperand, SaysAtom, SaysConjunction, SaysCondition, paired, SaysQuery, SaysRemoval}
 
 -- a command whose names, numbers and texts are still tokens of the line
 pub data Written : Type 0 where
   written_route : Token → Token → Token → Written  -- name, start, finish
-  written_table : Token → List WrittenColumn → Written  -- name, columns
+  written_table : Kind → Token → List WrittenColumn → Written  -- kind, name, columns
   written_referent : Token → Token → WrittenPosition → Written  -- route, name, position
+  written_view : Token → QuerySyntax → Written  -- name, query
   written_move : Token → Token → WrittenPosition → Written  -- route, name, position
-  written_drop : Token → Token → Written  -- route, name
+  written_drop_route : Token → Written  -- name
+  written_drop_table : Token → Written  -- name
+  written_drop_view : Token → Written  -- name
+  written_drop_referent : Token → Token → Written  -- route, name
   written_insert : Token → Token → WrittenLocation → List WrittenValue → Written  -- table, route, place, values
+  written_remove : Token → WrittenWindow → Option ConditionSyntax → Written  -- table, where, which rows
   written_translate : Token → WrittenPosition → Method → Written  -- route, position, the method wanted
-  written_select : Token → Option Method → Written  -- name, the method after AS
-
--- A token as a spelling shows it: a mark, or a token whose text counts.
-pub data Lexeme : Type 0 where
-  mark : TokenKind → Lexeme
-  told : TokenKind → Token → Lexeme
-
--- the tokens whose text counts
-abbrev pub has_text : TokenKind → Bool
-has_text kinds.Name = true
-has_text kinds.Whole = true
-has_text kinds.Decimal = true
-has_text kinds.Quoted = true
-has_text _ = false
-
--- a token as a spelling shows it
-abbrev pub lexeme_of : Token → Lexeme
-lexeme_of token = if has_text token.kind then told token.kind token else mark token.kind
-
--- tokens as a spelling shows them
-abbrev pub lexemes_of : List Token → List Lexeme
-lexemes_of tokens = map lexeme_of tokens
-
-abbrev pub measure_lexemes : Token → List Lexeme
-measure_lexemes token = told token.kind token ∷ []
-
-abbrev pub position_lexemes : WrittenPosition → List Lexeme
-position_lexemes (written_positions.Measure measure) = measure_lexemes measure
-position_lexemes (written_positions.Percentage digits) = measure_lexemes digits ++ mark kinds.PercentSign ∷ []
-position_lexemes (written_positions.Referent name) = mark kinds.AtSign ∷ told kinds.Name name ∷ []
-position_lexemes (written_positions.Beyond name measure) = mark kinds.AtSign ∷ told kinds.Name name ∷ mark kinds.PlusSign ∷ measure_lexemes measure
-position_lexemes (written_positions.Before name measure) = mark kinds.AtSign ∷ told kinds.Name name ∷ mark kinds.MinusSign ∷ measure_lexemes measure
-
-abbrev pub location_lexemes : WrittenLocation → List Lexeme
-location_lexemes (written_locations.Along from to) = mark kinds.From ∷ (position_lexemes from ++ mark kinds.To ∷ position_lexemes to)
-
--- the word of a method
-abbrev pub method_kind : Method → TokenKind
-method_kind methods.Absolute = kinds.Absolute
-method_kind methods.Relative = kinds.Relative
-method_kind methods.Interpolative = kinds.Interpolative
-
-abbrev pub method_lexemes : Method → List Lexeme
-method_lexemes method = mark (method_kind method) ∷ []
-
--- the method of a query's positions, if one is named
-abbrev pub wanted_lexemes : Option Method → List Lexeme
-wanted_lexemes None = []
-wanted_lexemes (Some method) = mark kinds.As ∷ method_lexemes method
-
-abbrev pub type_lexemes : WrittenType → List Lexeme
-type_lexemes written_types.Int = mark kinds.Int ∷ []
-type_lexemes (written_types.Text most) = mark kinds.Text ∷ mark kinds.LeftParen ∷ told kinds.Whole most ∷ mark kinds.RightParen ∷ []
-
-abbrev pub column_lexemes : WrittenColumn → List Lexeme
-column_lexemes column = told kinds.Name column.name ∷ type_lexemes column.column_type
-
-abbrev pub value_lexemes : WrittenValue → List Lexeme
-value_lexemes written_values.Null = mark kinds.Null ∷ []
-value_lexemes (written_values.Whole true digits) = mark kinds.MinusSign ∷ told kinds.Whole digits ∷ []
-value_lexemes (written_values.Whole false digits) = told kinds.Whole digits ∷ []
-value_lexemes (written_values.Quoted quoted) = told kinds.Quoted quoted ∷ []
-
--- the items, with a comma before each but the first
-abbrev pub further_lexemes : {A : Type 0} → (A → List Lexeme) → List A → List Lexeme
-further_lexemes lexemes [] = []
-further_lexemes lexemes (item ∷ items) = mark kinds.Comma ∷ (lexemes item ++ further_lexemes lexemes items)
-
-abbrev pub list_lexemes : {A : Type 0} → (A → List Lexeme) → List A → List Lexeme
-list_lexemes lexemes [] = []
-list_lexemes lexemes (item ∷ items) = lexemes item ++ further_lexemes lexemes items
+  written_select : QuerySyntax → Option Method → Written  -- query, the method after AS
 
 -- how a command is spelled
 abbrev pub spelling : Written → List Lexeme
 spelling (written_route name start finish) =
     mark kinds.Define ∷ mark kinds.Route ∷ told kinds.Name name
     ∷ mark kinds.From ∷ (measure_lexemes start ++ mark kinds.To ∷ measure_lexemes finish)
-spelling (written_table name columns) =
-    mark kinds.Define ∷ mark kinds.Line ∷ mark kinds.Table ∷ told kinds.Name name
-    ∷ mark kinds.LeftParen ∷ (list_lexemes column_lexemes columns ++ mark kinds.RightParen ∷ [])
+spelling (written_table kind name columns) =
+    mark kinds.Define ∷ mark (table_kind kind) ∷ mark kinds.Table ∷ told kinds.Name name
+    ∷ mark kinds.LeftParen ∷ (list_lexemes kinds.Comma column_lexemes columns ++ mark kinds.RightParen ∷ [])
 spelling (written_referent route name position) =
     mark kinds.Define ∷ mark kinds.Referent ∷ told kinds.Name route ∷ told kinds.Name name ∷ mark kinds.At ∷ position_lexemes position
+spelling (written_view name query) = mark kinds.Define ∷ mark kinds.View ∷ told kinds.Name name ∷ mark kinds.As ∷ query_lexemes query
 spelling (written_move route name position) =
     mark kinds.Move ∷ mark kinds.Referent ∷ told kinds.Name route ∷ told kinds.Name name ∷ mark kinds.To ∷ position_lexemes position
-spelling (written_drop route name) = mark kinds.Drop ∷ mark kinds.Referent ∷ told kinds.Name route ∷ told kinds.Name name ∷ []
+spelling (written_drop_route name) = mark kinds.Drop ∷ mark kinds.Route ∷ told kinds.Name name ∷ []
+spelling (written_drop_table name) = mark kinds.Drop ∷ mark kinds.Table ∷ told kinds.Name name ∷ []
+spelling (written_drop_view name) = mark kinds.Drop ∷ mark kinds.View ∷ told kinds.Name name ∷ []
+spelling (written_drop_referent route name) = mark kinds.Drop ∷ mark kinds.Referent ∷ told kinds.Name route ∷ told kinds.Name name ∷ []
 spelling (written_insert table route place values) =
     mark kinds.Insert ∷ mark kinds.Into ∷ told kinds.Name table ∷ mark kinds.On ∷ told kinds.Name route
-    ∷ (location_lexemes place ++ mark kinds.Values ∷ mark kinds.LeftParen ∷ (list_lexemes value_lexemes values ++ mark kinds.RightParen ∷ []))
+    ∷ (location_lexemes place ++ mark kinds.Values ∷ mark kinds.LeftParen ∷ (list_lexemes kinds.Comma value_lexemes values ++ mark kinds.RightParen ∷ []))
+spelling (written_remove table window condition) =
+    mark kinds.Remove ∷ told kinds.Name table ∷ mark kinds.On ∷ (window_lexemes window ++ removal_lexemes condition)
 spelling (written_translate route position method) =
     mark kinds.Translate ∷ told kinds.Name route ∷ (position_lexemes position ++ mark kinds.As ∷ method_lexemes method)
-spelling (written_select name method) = mark kinds.Select ∷ told kinds.Name name ∷ wanted_lexemes method
-
--- The tokens that a spelling tells are tokens of the line, each of its kind.
-abbrev pub IsToldOf : List ℕ → Lexeme → Type 0
-IsToldOf line (mark kind) = Unit {0}
-IsToldOf line (told kind token) = IsTokenOf line token × (token.kind ≡ kind)
-
-abbrev pub AreToldOf : List ℕ → List Lexeme → Type 0
-AreToldOf line [] = Unit {0}
-AreToldOf line (lexeme ∷ lexemes) = IsToldOf line lexeme × AreToldOf line lexemes
+spelling (written_select query method) = mark kinds.Select ∷ (query_lexemes query ++ wanted_lexemes method)
 
 -- a list of the command has an item at least
 abbrev pub IsFull : Written → Type 0
-IsFull (written_table name columns) = 0 < length columns
+IsFull (written_table kind name columns) = 0 < length columns
 IsFull (written_insert table route place values) = 0 < length values
 IsFull _ = Unit {0}
 
--- INT, or TEXT of 1 to TEXT_BYTES bytes
-abbrev pub SaysType : List ℕ → WrittenType → ColumnType → Type 0
-SaysType line written_types.Int types.Int = Unit {0}
-SaysType line (written_types.Text most) (types.Text bytes) = (bytes ≡ number_of_digits (token_text line most)) × (1 ≤ bytes) × (bytes ≤ TEXT_BYTES)
-SaysType line _ _ = ⊥
+-- the byte place after the last of the tokens
+abbrev pub end_of : List Token → ℕ
+end_of [] = 0
+end_of (token ∷ []) = token.first + token.length
+end_of (token ∷ next ∷ tokens) = end_of (next ∷ tokens)
 
-abbrev pub SaysColumns : List ℕ → List WrittenColumn → List (List ℕ × ColumnType) → Type 0
-SaysColumns line [] [] = Unit {0}
-SaysColumns line (written ∷ more) (column ∷ columns) =
-    (column.0 ≡ token_text line written.name) × SaysType line written.column_type column.1 × SaysColumns line more columns
-SaysColumns line _ _ = ⊥
+-- the line from the first of the tokens to the end of the last
+abbrev pub text_of_tokens : List ℕ → List Token → List ℕ
+text_of_tokens line [] = []
+text_of_tokens line (token ∷ tokens) = take (end_of (token ∷ tokens) - token.first) (drop token.first line)
 
--- the text after an opening quote, up to the closing one, each doubled quote once
-abbrev pub unquoted_rest : (behind_quote : Bool) → List ℕ → List ℕ
-unquoted_rest behind_quote [] = []
-unquoted_rest true (byte ∷ bytes) = byte ∷ unquoted_rest false bytes
-unquoted_rest false (byte ∷ bytes) = if byte == 39 then unquoted_rest true bytes else byte ∷ unquoted_rest false bytes
+-- the text of a view's query, which is all that the line has after DEFINE, VIEW, the name and AS
+abbrev pub view_text : List ℕ → List Token → List ℕ
+view_text line tokens = text_of_tokens line (drop 4 tokens)
 
--- a quoted text without its quotes
-abbrev pub unquoted : List ℕ → List ℕ
-unquoted [] = []
-unquoted (quote ∷ bytes) = unquoted_rest false bytes
-
--- the number that the digits say after their sign
-abbrev pub signed : Bool → ℕ → ℤ
-signed is_negative size = if is_negative then neg_ℤ (pos size) else pos size
-
-abbrev pub SaysDatum : List ℕ → WrittenValue → Datum → Type 0
-SaysDatum line written_values.Null null = Unit {0}
-SaysDatum line (written_values.Whole is_negative digits) (number n) =
-    let size = number_of_digits (token_text line digits) in (size ≤ 10 ^ 12) × (n ≡ signed is_negative size)
-SaysDatum line (written_values.Quoted quoted) (text bytes) = bytes ≡ unquoted (token_text line quoted)
-SaysDatum line _ _ = ⊥
-
-abbrev pub SaysRow : List ℕ → List WrittenValue → Row → Type 0
-SaysRow line [] [] = Unit {0}
-SaysRow line (written ∷ more) (datum ∷ row) = SaysDatum line written datum × SaysRow line more row
-SaysRow line _ _ = ⊥
-
--- What a written position says: a referent alone is the place where it stands.
-abbrev pub SaysPosition : List ℕ → WrittenPosition → PositionExpression → Type 0
-SaysPosition line (written_positions.Measure token) position =
-    (measure : ℕ) × SaysMeasure (token_text line token) measure × (position ≡ absolute measure)
-SaysPosition line (written_positions.Percentage token) position =
-    (part : ℕ) × SaysPart (token_text line token) part × (position ≡ interpolative part)
-SaysPosition line (written_positions.Referent name) position = position ≡ beyond (token_text line name) 0
-SaysPosition line (written_positions.Beyond name token) position =
-    (measure : ℕ) × SaysMeasure (token_text line token) measure × (position ≡ beyond (token_text line name) measure)
-SaysPosition line (written_positions.Before name token) position =
-    (measure : ℕ) × SaysMeasure (token_text line token) measure × (position ≡ before (token_text line name) measure)
-
-abbrev pub SaysLocation : List ℕ → WrittenLocation → EventLocationTree → Type 0
-SaysLocation line (written_locations.Along from to) (along first second) = SaysPosition line from first × SaysPosition line to second
-
--- What a written command says; nothing where a number of it is out of its range. Where no method is named,
--- positions are absolute.
-abbrev pub Says : List ℕ → Written → CommandTree → Type 0
-Says line (written_route name start finish) tree =
+-- What a command says that these tokens of a line write; nothing where a number of it is out of its range. Where no
+-- method is named, positions are absolute.
+abbrev pub Says : List ℕ → List Token → Written → CommandTree → Type 0
+Says line tokens (written_route name start finish) tree =
     (from : ℕ) × (to : ℕ) × SaysMeasure (token_text line start) from × SaysMeasure (token_text line finish) to
     × (tree ≡ define_route (token_text line name) from to)
-Says line (written_table name columns) tree =
-    (definitions : List (List ℕ × ColumnType)) × SaysColumns line columns definitions × (tree ≡ define_table Line (token_text line name) definitions)
-Says line (written_referent route name written) tree =
+Says line tokens (written_table kind name columns) tree =
+    (definitions : List (List ℕ × ColumnType)) × SaysColumns line columns definitions × (tree ≡ define_table kind (token_text line name) definitions)
+Says line tokens (written_referent route name written) tree =
     (position : PositionExpression) × SaysPosition line written position × (tree ≡ define_referent (token_text line route) (token_text line name) position)
-Says line (written_move route name written) tree =
+Says line tokens (written_view name written) tree =
+    (query : QueryTree) × SaysQuery line written query × (tree ≡ define_view (token_text line name) query (view_text line tokens))
+Says line tokens (written_move route name written) tree =
     (position : PositionExpression) × SaysPosition line written position × (tree ≡ move_referent (token_text line route) (token_text line name) position)
-Says line (written_drop route name) tree = tree ≡ drop_referent (token_text line route) (token_text line name)
-Says line (written_insert table route written values) tree =
+Says line tokens (written_drop_route name) tree = tree ≡ drop_route (token_text line name)
+Says line tokens (written_drop_table name) tree = tree ≡ drop_table (token_text line name)
+Says line tokens (written_drop_view name) tree = tree ≡ drop_view (token_text line name)
+Says line tokens (written_drop_referent route name) tree = tree ≡ drop_referent (token_text line route) (token_text line name)
+Says line tokens (written_insert table route written values) tree =
     (place : EventLocationTree) × (row : Row) × SaysLocation line written place × SaysRow line values row
     × (tree ≡ insert (token_text line table) (token_text line route) place row)
-Says line (written_translate route written method) tree =
+Says line tokens (written_remove table written wanted) tree =
+    (window : WindowTree) × (condition : Option ConditionTree) × SaysWindow line written window × SaysRemoval line wanted condition
+    × (tree ≡ remove (token_text line table) window condition)
+Says line tokens (written_translate route written method) tree =
     (position : PositionExpression) × SaysPosition line written position × (tree ≡ translate (token_text line route) position method)
-Says line (written_select name method) tree = tree ≡ select (named (token_text line name)) (unwrap_or method methods.Absolute)
+Says line tokens (written_select written method) tree =
+    (query : QueryTree) × SaysQuery line written query × (tree ≡ select query (unwrap_or method methods.Absolute))

@@ -2,12 +2,13 @@
 //!
 //! Names have 1 to `NAME_BYTES` bytes, and each list has one item at least.
 
+use crate::queries::{Atom, Query, Window};
 use rs_measure::Measure;
 use rs_methods::{Method, Name, Position};
 use rs_value::{ColumnType, Kind, Literal};
 
 /// A column of a table: its name and what it holds.
-#[derive(Clone, Copy)]
+#[derive(Clone, Copy, Default)]
 pub struct ColumnDefinition {
     /// Its name, of 1 to 32 bytes.
     pub name: Name,
@@ -25,13 +26,11 @@ pub enum EventLocation {
         /// Where it ends; it does not hold there.
         to: Position,
     },
-}
-
-/// A query.
-#[derive(Clone, Copy)]
-pub enum Query {
-    /// The rows of a table by its name.
-    Named(Name),
+    /// At a position.
+    At {
+        /// Where it holds.
+        position: Position,
+    },
 }
 
 /// A command of a line.
@@ -64,6 +63,15 @@ pub enum Command {
         /// Where it is put on the route.
         position: Position,
     },
+    /// A query under a name.
+    DefineView {
+        /// The view's name.
+        name: Name,
+        /// What is asked for under the name.
+        query: Query,
+        /// The query's text as the line writes it, from its first token to its last.
+        text: String,
+    },
     /// Another position for a referent of a route.
     MoveReferent {
         /// The route's name.
@@ -72,6 +80,21 @@ pub enum Command {
         name: Name,
         /// Where it is moved on the route.
         position: Position,
+    },
+    /// A route, to be dropped with its referents.
+    DropRoute {
+        /// The route's name.
+        name: Name,
+    },
+    /// A table, to be dropped.
+    DropTable {
+        /// The table's name.
+        name: Name,
+    },
+    /// A view, to be dropped.
+    DropView {
+        /// The view's name.
+        name: Name,
     },
     /// A referent of a route, to be dropped.
     DropReferent {
@@ -90,6 +113,15 @@ pub enum Command {
         place: EventLocation,
         /// The row as it is written, from the left; a text may be longer than its column.
         values: Vec<Literal>,
+    },
+    /// Rows of a table, to be taken away.
+    Remove {
+        /// The table's name.
+        table: Name,
+        /// Where rows are taken away.
+        window: Window,
+        /// Which rows, an OR of ANDs; all where the line says nothing of it.
+        condition: Option<Vec<Vec<Atom>>>,
     },
     /// A position on a route, to be printed by a method.
     Translate {

@@ -4,6 +4,7 @@
 
 use rs_lexer::Token;
 use rs_methods::Method;
+use rs_value::{Comparison, Kind};
 
 /// The type of a column as written.
 #[derive(Clone, Copy)]
@@ -59,6 +60,86 @@ pub enum WrittenLocation {
         /// Where it ends.
         to: WrittenPosition,
     },
+    /// `AT` a position.
+    At {
+        /// Where it is.
+        position: WrittenPosition,
+    },
+}
+
+/// A whole route, or a part of it, as written.
+#[derive(Clone, Copy)]
+pub enum WrittenWindow {
+    /// A route's name alone.
+    Whole {
+        /// The route's name.
+        route: Token,
+    },
+    /// A route's name, `FROM` a position `TO` another.
+    Part {
+        /// The route's name.
+        route: Token,
+        /// Where the part begins.
+        from: WrittenPosition,
+        /// Where it ends.
+        to: WrittenPosition,
+    },
+}
+
+/// What a column is compared with, as written.
+#[derive(Clone, Copy)]
+pub enum WrittenOperand {
+    /// A column's name.
+    Column(Token),
+    /// A number: whether a minus sign comes before it, and its digits.
+    Whole(bool, Token),
+    /// A text in quotes.
+    Quoted(Token),
+}
+
+/// A part of a condition as written, with `AND` and `OR` only in brackets.
+#[derive(Drop)]
+pub enum WrittenAtom {
+    /// A column's name, a comparison, and what it is compared with.
+    Compare(Token, Comparison, WrittenOperand),
+    /// A column's name and `IS NULL`.
+    IsNull(Token),
+    /// A column's name and `IS NOT NULL`.
+    IsNotNull(Token),
+    /// `NOT` before a condition in brackets: an OR of ANDs.
+    Negated(Vec<Vec<WrittenAtom>>),
+    /// A condition in brackets: an OR of ANDs.
+    Bracketed(Vec<Vec<WrittenAtom>>),
+}
+
+/// The word before two queries in brackets.
+#[derive(Clone, Copy)]
+pub enum PairOperator {
+    /// `OVERLAY`.
+    Overlay,
+    /// `COVER`.
+    Cover,
+    /// `MERGE`.
+    Merge,
+    /// `MINUS`.
+    Minus,
+}
+
+/// A query as written.
+#[derive(Drop)]
+pub enum WrittenQuery {
+    /// The name of a table or a view.
+    Named(Token),
+    /// `WHERE`: a query and a condition, an OR of ANDs.
+    Where(Box<WrittenQuery>, Vec<Vec<WrittenAtom>>),
+    /// `DISSOLVE`: a query and names of columns, perhaps none.
+    Dissolve(Box<WrittenQuery>, Vec<Token>),
+    /// `RENAME`: a query, a column's name, and the name after `TO`.
+    Rename(Box<WrittenQuery>, Token, Token),
+    /// `OVERLAY`, `COVER`, `MERGE` or `MINUS`: two queries.
+    Pair(PairOperator, Box<WrittenQuery>, Box<WrittenQuery>),
+    /// `WINDOW`: a query and a window.
+    Window(Box<WrittenQuery>, WrittenWindow),
 }
 
 /// A command as written.
@@ -73,8 +154,10 @@ pub enum WrittenCommand {
         /// The measure at which it ends.
         finish: Token,
     },
-    /// `DEFINE LINE TABLE`.
+    /// `DEFINE POINT TABLE` or `DEFINE LINE TABLE`.
     DefineTable {
+        /// Whether it is for points or lines.
+        kind: Kind,
         /// The table's name.
         name: Token,
         /// Its columns, from the left.
@@ -89,6 +172,13 @@ pub enum WrittenCommand {
         /// Where it is put.
         position: WrittenPosition,
     },
+    /// `DEFINE VIEW`.
+    DefineView {
+        /// The view's name.
+        name: Token,
+        /// Its query.
+        query: WrittenQuery,
+    },
     /// `MOVE REFERENT`.
     MoveReferent {
         /// The route's name.
@@ -97,6 +187,21 @@ pub enum WrittenCommand {
         name: Token,
         /// Where it is moved.
         position: WrittenPosition,
+    },
+    /// `DROP ROUTE`.
+    DropRoute {
+        /// The route's name.
+        name: Token,
+    },
+    /// `DROP TABLE`.
+    DropTable {
+        /// The table's name.
+        name: Token,
+    },
+    /// `DROP VIEW`.
+    DropView {
+        /// The view's name.
+        name: Token,
     },
     /// `DROP REFERENT`.
     DropReferent {
@@ -116,6 +221,15 @@ pub enum WrittenCommand {
         /// Its row, from the left.
         values: Vec<WrittenValue>,
     },
+    /// `REMOVE`.
+    Remove {
+        /// The table's name.
+        table: Token,
+        /// Where rows are removed.
+        window: WrittenWindow,
+        /// The condition after `WHERE`, an OR of ANDs, where there is one.
+        condition: Option<Vec<Vec<WrittenAtom>>>,
+    },
     /// `TRANSLATE`.
     Translate {
         /// The route's name.
@@ -127,8 +241,8 @@ pub enum WrittenCommand {
     },
     /// `SELECT`, with the method after `AS` where there is one.
     Select {
-        /// The table's name.
-        table: Token,
+        /// What is asked for.
+        query: WrittenQuery,
         /// How positions are to be printed, where the line says it.
         method: Option<Method>,
     },

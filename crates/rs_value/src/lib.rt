@@ -4,6 +4,7 @@
 #![tactic(auto)]
 
 pub mod column;
+pub mod comparison;
 pub mod encoding;
 pub mod encoding_laws;
 pub mod fitting;
@@ -13,6 +14,7 @@ pub mod row_text;
 pub mod value;
 
 pub use column::{COLUMNS, ColumnType, Kind, Schema, TEXT_BYTES};
+pub use comparison::Comparison;
 pub use encoding::{column_width, decode, encode, row_width};
 pub use encoding_laws::{
     bytes_compare_as_rows, bytes_say_one_row, each_row_is_said, row_has_one_encoding,

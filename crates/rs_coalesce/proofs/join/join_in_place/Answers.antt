@@ -1,6 +1,6 @@
 use Rattle.std.proofs.Common.{◌<◌, ◌+◌, length, map, true, false, refl, sym, ap, ◌∙◌, subst, arith}
 use Rattle.rs_facts.specs.Spans.{seen}
-use Rattle.rs_coalesce.specs.Inner.{joined}
+use Rattle.rs_coalesce.specs.Joined.{joined}
 use Rattle.rs_coalesce.proofs.JoinLoop.{SoFar, joined-nothing, so_far-start, so_far-join, so_far-apart, grown-is, joins-at, so_far-end}
 use Rattle.rs_coalesce.proofs.join.join_in_place.Goals as goal
 use Rattle.rs_coalesce.proofs.join.join_in_place.Goals.{then-is_joined, else-is_joined}

@@ -1,7 +1,7 @@
 use Rattle.std.proofs.Common.{◌≡◌, ◌<◌, ◌++◌, length, map, take, drop, get_or}
 use Rattle.rs_facts.specs.declared.fact.Span.{Span}
 use Rattle.rs_facts.specs.Spans.{seen}
-use Rattle.rs_coalesce.specs.Inner.{joined, joined_onto}
+use Rattle.rs_coalesce.specs.Joined.{joined, joined_onto}
 use Rattle.rs_coalesce.proofs.join.join_in_place.Given as goal
 
 -- What is joined so far, and the rest joined onto the last of it, is all of it joined.

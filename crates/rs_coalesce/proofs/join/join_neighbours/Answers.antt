@@ -1,7 +1,7 @@
 use Rattle.std.proofs.Common.{◌≤◌, ◌++◌, length, map, drop, ap, ◌∙◌, arith}
 use Rattle.std.proofs.lemmas.List.{take-take, take-append-le}
 use Rattle.rs_facts.specs.Spans.{seen}
-use Rattle.rs_coalesce.specs.Inner.{joined}
+use Rattle.rs_coalesce.specs.Joined.{joined}
 use Rattle.rs_coalesce.proofs.join.join_neighbours.Goals as goal
 
 pub returns : goal.returns

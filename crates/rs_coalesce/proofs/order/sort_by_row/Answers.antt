@@ -3,7 +3,7 @@ use Rattle.std.proofs.lemmas.Fn.{always_returns_same}
 use Rattle.std.proofs.lemmas.List.Sorted.{ranks_by}
 use Rattle.std.specs.Ordering.{is_lt}
 use Rattle.rs_facts.specs.Spans.{seen}
-use Rattle.rs_coalesce.specs.Inner.{row_place_cmp}
+use Rattle.rs_coalesce.specs.Joined.{row_place_cmp}
 use Rattle.rs_coalesce.proofs.Orders.{row_place_cmp-total}
 use Rattle.rs_coalesce.proofs.order.sort_by_row.Goals as goal
 

@@ -1,7 +1,7 @@
 use Rattle.std.proofs.lemmas.Result.{err_from_is_err_and}
 use Rattle.rs_grammar.specs.Grammar.{rules}
-use Rattle.rs_parser.specs.Reading.{is_done, through, stops_in}
-use Rattle.rs_parser.proofs.Steps.{takes_as, misses}
+use Rattle.rs_query_parser.specs.Reading.{is_done, through, stops_in}
+use Rattle.rs_query_parser.proofs.Steps.{takes_as, misses}
 use Rattle.rs_parser.proofs.reading.move_referent.Goals as goal
 
 pub returns-in_err-rest-clause-runs : goal.returns-in_err-rest-clause-runs
@@ -36,4 +36,7 @@ returns-in_err-position-clause-runs c =
 
 pub returns-clause-runs : goal.returns-clause-runs
 unfolding rules
-returns-clause-runs c = takes_as c.in_ok-rest.ensures.found (takes_as c.in_ok-route.ensures.found (takes_as c.in_ok-name.ensures.found (takes_as c.in_ok-rest-2.ensures.found (through c.in_ok-position.ensures.runs (is_done)))))
+returns-clause-runs c = takes_as c.in_ok-rest.ensures.found (takes_as c.in_ok-route.ensures.found (takes_as c.in_ok-name.ensures.found (takes_as c.in_ok-rest-2.ensures.found (through c.in_ok-position.ensures.runs is_done))))
+
+pub returns-clause-spelled : goal.returns-clause-spelled
+returns-clause-spelled c = rw (c.in_ok-rest.ensures.spelled, c.in_ok-route.ensures.spelled, c.in_ok-name.ensures.spelled, c.in_ok-rest-2.ensures.spelled, c.in_ok-position.ensures.spelled)

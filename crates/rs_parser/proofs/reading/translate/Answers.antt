@@ -1,7 +1,8 @@
+use Rattle.std.proofs.Common.{append_assoc}
 use Rattle.std.proofs.lemmas.Result.{err_from_is_err_and}
 use Rattle.rs_grammar.specs.Grammar.{rules}
-use Rattle.rs_parser.specs.Reading.{is_done, through, stops_in}
-use Rattle.rs_parser.proofs.Steps.{takes_as, misses}
+use Rattle.rs_query_parser.specs.Reading.{is_done, through, stops_in}
+use Rattle.rs_query_parser.proofs.Steps.{takes_as, misses}
 use Rattle.rs_parser.proofs.reading.translate.Goals as goal
 
 pub returns-in_err-route-clause-runs : goal.returns-in_err-route-clause-runs
@@ -30,4 +31,7 @@ returns-in_err-method-clause-runs c =
 
 pub returns-clause-runs : goal.returns-clause-runs
 unfolding rules
-returns-clause-runs c = takes_as c.in_ok-route.ensures.found (through c.in_ok-position.ensures.runs (takes_as c.in_ok-rest.ensures.found (through c.in_ok-method.ensures.runs (is_done))))
+returns-clause-runs c = takes_as c.in_ok-route.ensures.found (through c.in_ok-position.ensures.runs (takes_as c.in_ok-rest.ensures.found (through c.in_ok-method.ensures.runs is_done)))
+
+pub returns-clause-spelled : goal.returns-clause-spelled
+returns-clause-spelled c = rw (c.in_ok-route.ensures.spelled, c.in_ok-position.ensures.spelled, c.in_ok-rest.ensures.spelled, c.in_ok-method.ensures.spelled, append_assoc)

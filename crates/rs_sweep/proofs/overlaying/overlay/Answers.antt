@@ -2,7 +2,7 @@ use Rattle.std.proofs.Common.{◌≡◌, ◌+◌, length, sym, ap, ◌∙◌}
 use Rattle.std.proofs.lemmas.List.Sorted.{IsPermutation-map}
 use Rattle.rs_facts.specs.Spans.{seen, IsPlaced}
 use Rattle.rs_facts.proofs.SpanLaws.{places_of-permutation}
-use Rattle.rs_sweep.specs.Lists.{overlaid_kind}
+use Rattle.rs_facts.specs.Query.{overlaid_kind}
 use Rattle.rs_sweep.proofs.Arrangement.{every-moved}
 use Rattle.rs_sweep.proofs.overlaying.overlay.Goals as goal
 

@@ -1,6 +1,6 @@
 use Rattle.std.proofs.Common.{◌≡◌, ◌++◌, map, drop}
 use Rattle.rs_value.specs.declared.column.Kind.TheVariants.{Line}
-use Rattle.rs_coalesce.specs.Inner.{joined_onto}
+use Rattle.rs_coalesce.specs.Joined.{joined_onto}
 use Rattle.rs_sweep.specs.Taken.{taken_of}
 use Rattle.rs_sweep.proofs.TakenLaws.{keys}
 use Rattle.rs_sweep.proofs.taken.join.Given as goal

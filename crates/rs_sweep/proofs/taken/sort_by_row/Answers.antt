@@ -4,7 +4,7 @@ use Rattle.std.proofs.lemmas.List.Sorted.{ranks_by}
 use Rattle.std.specs.Ordering.{is_lt}
 use Rattle.rs_facts.specs.declared.fact.Span.{Span}
 use Rattle.rs_facts.specs.Spans.{seen}
-use Rattle.rs_coalesce.specs.Inner.{row_place_cmp}
+use Rattle.rs_coalesce.specs.Joined.{row_place_cmp}
 use Rattle.rs_coalesce.proofs.Orders.{row_place_cmp-total}
 use Rattle.rs_sweep.proofs.taken.sort_by_row.Goals as goal
 

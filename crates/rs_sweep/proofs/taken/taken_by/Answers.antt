@@ -1,7 +1,7 @@
 use Rattle.std.proofs.Common.{ap, ◌∙◌}
 use Rattle.std.proofs.lemmas.Result.{IfOk-weaker}
 use Rattle.rs_value.specs.declared.column.Kind.TheVariants.{Line}
-use Rattle.rs_coalesce.specs.Inner.{joined}
+use Rattle.rs_coalesce.specs.Joined.{joined}
 use Rattle.rs_sweep.proofs.TakenLaws.{keys, gathered-all, gathered-each}
 use Rattle.rs_sweep.proofs.taken.taken_by.Goals as goal
 

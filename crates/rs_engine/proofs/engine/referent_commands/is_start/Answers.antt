@@ -1,7 +1,7 @@
 use Rattle.std.proofs.Common.{ap, ◌∙◌}
 use Rattle.std.specs.Str.{bytes_eq}
 use Rattle.rs_methods.specs.Position.{start_name}
-use Rattle.rs_engine.proofs.ReferentLaws.{start_by_bytes}
+use Rattle.rs_catalog.proofs.ReferentLaws.{start_by_bytes}
 use Rattle.rs_engine.proofs.engine.referent_commands.is_start.Goals as goal
 
 pub returns : goal.returns

@@ -5,9 +5,9 @@ use Rattle.rs_engine.proofs.printer.PositionPrinter.push.Goals as goal
 
 pub returns-in-Absolute : goal.returns-in-Absolute
 returns-in-Absolute c =
-    rw (printed_absolute c.args.self.now.referents.now c.args.self.now.route.now.bytes c.args.self.now.ends c.args.self.now.method c.args.place c.in-Absolute.is) (search rules)
+    rw (printed_absolute c.args.self.now.referents.now c.args.self.now.route c.args.self.now.method c.args.place c.in-Absolute.is) (search rules)
 
 pub returns-in_ok-position-in-Relative : goal.returns-in_ok-position-in-Relative
 returns-in_ok-position-in-Relative c =
-    rw (sym (printed_expressed c.args.self.now.referents.now c.args.self.now.route.now.bytes c.args.self.now.ends c.args.self.now.method c.args.place c.from_thousandths-k.result (string_bytes c.in_ok-position-in-Relative.position)
+    rw (sym (printed_expressed c.args.self.now.referents.now c.args.self.now.route c.args.self.now.method c.args.place c.from_thousandths-k.result (string_bytes c.in_ok-position-in-Relative.position)
     c.from_thousandths-k.ensures c.in_ok-position-in-Relative.ensures)) (search rules)

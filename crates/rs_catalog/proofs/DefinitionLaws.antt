@@ -1,0 +1,100 @@
+-- What is so of every catalogue stays so when a route, a table or a view is added or taken out.
+use Rattle.std.proofs.Common.{◌≡◌, ℕ, ◌<◌, ◌≤◌, ⊎_elim, Some, length, sym, ap, subst, ◌∙◌}
+use Rattle.std.specs.FinMap as names
+use Rattle.std.specs.FinMap.{get-empty}
+use Rattle.rs_measure.specs.declared.measure.TheConstants.{GREATEST_MEASURE}
+use Rattle.rs_value.specs.declared.column.TheConstants.{COLUMNS}
+use Rattle.rs_facts.specs.Fact.{Name, Names, name_cmp}
+use Rattle.rs_machine.specs.declared.limits.TheConstants.{ROUTES, TABLES}
+use Rattle.rs_catalog.specs.Definitions.{RouteItem, TableItem, ViewItem, Definitions, no_definitions, IsFree, AreNumbered, AreDefinitions}
+use Rattle.rs_catalog.specs.Changes.{with_route, with_table, without_route, without_table}
+use Rattle.rs_catalog.proofs.MapLaws.{none_some, cases_insert, before_remove}
+
+-- ---- numbers
+
+module _ {X : Type 0} (number_of : X → ℕ) where
+  numbered-empty : AreNumbered number_of names.empty
+  numbered-empty a b x y at other same = none_some x (sym (get-empty name_cmp a) ∙ at)
+
+  -- a value whose number is free
+  pub numbered-insert : (items : Names X) (key : Name) (value : X) → AreNumbered number_of items → IsFree number_of items (number_of value) → AreNumbered number_of (names.insert items key value)
+  numbered-insert items key value numbered free a b x y at other same =
+      ⊎_elim
+      (λ (first : (a ≡ key) × (value ≡ x)). ⊎_elim
+      (λ (second : (b ≡ key) × (value ≡ y)). first.0 ∙ sym second.0)
+      (λ was. absurd (free b y was (sym same ∙ ap number_of (sym first.1))))
+      (cases_insert items key value b y other))
+      (λ was. ⊎_elim
+      (λ (second : (b ≡ key) × (value ≡ y)). absurd (free a x was (same ∙ ap number_of (sym second.1))))
+      (λ too. numbered a b x y was too same)
+      (cases_insert items key value b y other))
+      (cases_insert items key value a x at)
+
+  pub numbered-remove : (items : Names X) (key : Name) → AreNumbered number_of items → AreNumbered number_of (names.remove items key)
+  numbered-remove items key numbered a b x y at other same = numbered a b x y (before_remove items key a x at) (before_remove items key b y other) same
+
+-- ---- what is so of each
+
+abbrev IsRoute : RouteItem → Type 0
+IsRoute item = (item.number < ROUTES) × (item.ends.start < item.ends.finish) × (item.ends.finish ≤ GREATEST_MEASURE)
+
+abbrev IsTable : TableItem → Type 0
+IsTable item = (item.number < TABLES) × (length item.columns ≤ COLUMNS)
+
+module _ {X : Type 0} (IsSo : X → Type 0) where
+  each-insert : (items : Names X) (key : Name) (value : X) → ((name : Name) (item : X) → names.get items name ≡ Some item → IsSo item) → IsSo value
+      → (name : Name) (item : X) → names.get (names.insert items key value) name ≡ Some item → IsSo item
+  each-insert items key value all one name item there =
+      ⊎_elim (λ (same : (name ≡ key) × (value ≡ item)). subst IsSo same.1 one) (λ was. all name item was) (cases_insert items key value name item there)
+
+  each-remove : (items : Names X) (key : Name) → ((name : Name) (item : X) → names.get items name ≡ Some item → IsSo item)
+      → (name : Name) (item : X) → names.get (names.remove items key) name ≡ Some item → IsSo item
+  each-remove items key all name item there = all name item (before_remove items key name item there)
+
+-- ---- definitions
+
+pub are_definitions-empty : AreDefinitions no_definitions
+are_definitions-empty = record {
+  route_numbers = numbered-empty (λ (item : RouteItem). item.number);
+  table_numbers = numbered-empty (λ (item : TableItem). item.number);
+  routes = λ name item there. none_some item (sym (get-empty name_cmp name) ∙ there);
+  tables = λ name item there. none_some item (sym (get-empty name_cmp name) ∙ there);
+}
+
+pub are_definitions-route : (definitions : Definitions) (name : Name) (item : RouteItem) → AreDefinitions definitions → IsFree (λ item. item.number) definitions.routes item.number → IsRoute item
+    → AreDefinitions (with_route definitions name item)
+are_definitions-route definitions name item are free one = record {
+  route_numbers = numbered-insert (λ (item : RouteItem). item.number) definitions.routes name item are.route_numbers free;
+  table_numbers = are.table_numbers;
+  routes = each-insert IsRoute definitions.routes name item are.routes one;
+  tables = are.tables;
+}
+
+pub are_definitions-table : (definitions : Definitions) (name : Name) (item : TableItem) → AreDefinitions definitions → IsFree (λ item. item.number) definitions.tables item.number → IsTable item
+    → AreDefinitions (with_table definitions name item)
+are_definitions-table definitions name item are free one = record {
+  route_numbers = are.route_numbers;
+  table_numbers = numbered-insert (λ (item : TableItem). item.number) definitions.tables name item are.table_numbers free;
+  routes = are.routes;
+  tables = each-insert IsTable definitions.tables name item are.tables one;
+}
+
+-- a view has no number
+pub are_definitions-views : (definitions : Definitions) (views : Names ViewItem) → AreDefinitions definitions → AreDefinitions (record definitions { views = views })
+are_definitions-views definitions views are = record { route_numbers = are.route_numbers; table_numbers = are.table_numbers; routes = are.routes; tables = are.tables }
+
+pub are_definitions-without_route : (definitions : Definitions) (name : Name) → AreDefinitions definitions → AreDefinitions (without_route definitions name)
+are_definitions-without_route definitions name are = record {
+  route_numbers = numbered-remove (λ (item : RouteItem). item.number) definitions.routes name are.route_numbers;
+  table_numbers = are.table_numbers;
+  routes = each-remove IsRoute definitions.routes name are.routes;
+  tables = are.tables;
+}
+
+pub are_definitions-without_table : (definitions : Definitions) (name : Name) → AreDefinitions definitions → AreDefinitions (without_table definitions name)
+are_definitions-without_table definitions name are = record {
+  route_numbers = are.route_numbers;
+  table_numbers = numbered-remove (λ (item : TableItem). item.number) definitions.tables name are.table_numbers;
+  routes = are.routes;
+  tables = each-remove IsTable definitions.tables name are.tables;
+}

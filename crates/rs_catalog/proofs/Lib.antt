@@ -1,0 +1,9 @@
+pub mod NameOrder
+pub mod Names
+pub mod MapLaws
+mod FreeNumbers
+pub mod DefinitionLaws
+mod Numbered
+pub mod ReferentLaws
+mod UseLaws
+pub mod StateLaws

@@ -1,0 +1,113 @@
+-- What the catalogue keeps: routes, tables and views by name, routes and tables with their numbers.
+use Rattle.std.specs.Prelude.{◌≡◌, ℕ, ◌<◌, ◌≤◌, List, [], length, Option, Some, None}
+use Rattle.std.specs.Ordering.{nat_cmp}
+use Rattle.std.specs.FinMap as names
+use Rattle.rs_measure.specs.declared.measure.TheConstants.{GREATEST_MEASURE}
+use Rattle.rs_value.specs.declared.column.Kind.{Kind}
+use Rattle.rs_value.specs.declared.column.TheConstants.{COLUMNS}
+use Rattle.rs_facts.specs.Fact.{Name, Names, Places, Facts, none}
+use Rattle.rs_facts.specs.Query.{RouteEnds, Column, Table, World}
+use Rattle.rs_facts.specs.Runs.{Stretch}
+use Rattle.rs_facts.specs.Spans.{places_of}
+use Rattle.rs_syntax.specs.declared.queries.Query.{Query}
+use Rattle.rs_syntax.specs.QueryView.{query_tree}
+use Rattle.rs_syntax.specs.Tree.{QueryTree}
+use Rattle.rs_machine.specs.declared.limits.TheConstants.{ROUTES, TABLES}
+use Rattle.rs_machine.specs.State.{State}
+use Rattle.rs_catalog.specs.Names.{map_values}
+
+-- what stands under numbers
+abbrev pub Numbered : Type 0 → Type 0
+Numbered X = names.FinMap nat_cmp X
+
+pub record RouteItem : Type 0 where
+  pub number : ℕ
+  pub ends : RouteEnds
+
+pub record TableItem : Type 0 where
+  pub number : ℕ
+  pub kind : Kind
+  pub columns : List Column
+
+-- a view: its query, and the query's text as it was written
+pub record ViewItem : Type 0 where
+  pub query : Query
+  pub text : List ℕ
+
+pub record Definitions : Type 0 where
+  pub routes : Names RouteItem
+  pub tables : Names TableItem
+  pub views : Names ViewItem
+
+abbrev pub no_definitions : Definitions
+no_definitions = record { routes = names.empty; tables = names.empty; views = names.empty }
+
+-- ---- numbers
+
+-- nothing under a name has the number
+abbrev pub IsFree : {X : Type 0} → (X → ℕ) → Names X → ℕ → Type 0
+IsFree {X} number_of items n = (name : Name) (item : X) → names.get items name ≡ Some item → number_of item ≡ n → ⊥
+
+-- the least number that nothing has
+pub record IsLeastFree {X : Type 0} (number_of : X → ℕ) (items : Names X) (n : ℕ) : Type 0 where
+  pub free : IsFree number_of items n
+  pub least : (m : ℕ) → m < n → IsFree number_of items m → ⊥
+
+-- each has a number of its own
+abbrev pub AreNumbered : {X : Type 0} → (X → ℕ) → Names X → Type 0
+AreNumbered {X} number_of items = (a b : Name) (x y : X) → names.get items a ≡ Some x → names.get items b ≡ Some y → number_of x ≡ number_of y → a ≡ b
+
+-- What is so of every catalogue: numbers are distinct and below their limits, each route's ends are measures, the first
+-- below the second, and a table has no more columns than a row has room for.
+pub record AreDefinitions (definitions : Definitions) : Type 0 where
+  pub route_numbers : AreNumbered (λ item. item.number) definitions.routes
+  pub table_numbers : AreNumbered (λ item. item.number) definitions.tables
+  pub routes : (name : Name) (item : RouteItem) → names.get definitions.routes name ≡ Some item
+      → (item.number < ROUTES) × (item.ends.start < item.ends.finish) × (item.ends.finish ≤ GREATEST_MEASURE)
+  pub tables : (name : Name) (item : TableItem) → names.get definitions.tables name ≡ Some item
+      → (item.number < TABLES) × (length item.columns ≤ COLUMNS)
+
+-- ---- the state
+
+abbrev pub routes_of : Definitions → Names RouteEnds
+routes_of definitions = map_values (λ item. item.ends) definitions.routes
+
+abbrev pub views_of : Definitions → Names QueryTree
+views_of definitions = map_values (λ item. query_tree item.query) definitions.views
+
+-- what a route has, by its number; nothing where there is no such route
+abbrev pub on_numbered : {X : Type 0} → X → (ℕ → X) → Option RouteItem → X
+on_numbered nothing by_number None = nothing
+on_numbered nothing by_number (Some item) = by_number item.number
+
+abbrev pub no_places : Places
+no_places k = none
+
+-- a table's rows on each route, from its spans by the routes' numbers
+unfoldable pub facts_from : Names RouteItem → (ℕ → List Stretch) → Facts
+facts_from routes spans_on route = on_numbered no_places (λ number. places_of (spans_on number)) (names.get routes route)
+
+abbrev pub table_from : Names RouteItem → (ℕ → ℕ → List Stretch) → TableItem → Table
+table_from routes spans_on item = record { kind = item.kind; columns = item.columns; facts = facts_from routes (spans_on item.number) }
+
+unfoldable pub tables_from : Definitions → (ℕ → ℕ → List Stretch) → Names Table
+tables_from definitions spans_on = map_values (table_from definitions.routes spans_on) definitions.tables
+
+unfoldable pub referents_from : Definitions → (ℕ → Names ℕ) → Name → Names ℕ
+referents_from definitions referents_on route = on_numbered names.empty referents_on (names.get definitions.routes route)
+
+-- The state of the machine: the definitions, for each route's number its referents, for each table's number and
+-- route's number the spans, and how many changes were accepted.
+abbrev pub state_from : Definitions → (ℕ → Names ℕ) → (ℕ → ℕ → List Stretch) → ℕ → State
+state_from definitions referents_on spans_on changes = record {
+  routes = routes_of definitions;
+  referents = referents_from definitions referents_on;
+  tables = tables_from definitions spans_on;
+  views = views_of definitions;
+  changes = changes;
+  cursors = λ session. names.empty;
+}
+
+-- what a query of it is asked of
+abbrev pub world_from : Definitions → (ℕ → ℕ → List Stretch) → World
+world_from definitions spans_on = record { routes = routes_of definitions; tables = tables_from definitions spans_on }

@@ -1,0 +1,9 @@
+pub mod Names
+pub mod Definitions
+pub mod Events
+pub mod Codes
+pub mod Lends
+pub mod Changes
+pub mod Taken
+pub mod Uses
+pub mod Referents

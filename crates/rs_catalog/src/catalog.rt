@@ -1,0 +1,252 @@
+//! The catalogue: routes, tables and views by name, each route and each table with a number of its own.
+//!
+//! It promises the finite maps that its definitions say, and for each new route and table the least free number.
+
+ghost use Rattle.std.specs.Prelude.{◌≡◌, ◌<◌, ◌≤◌, ◌||◌, map, length, string_bytes, vec_len, IfOk, OnOk, OnErr};
+ghost use Rattle.std.specs.Option.{option_copied};
+ghost use Rattle.std.specs.Result.{result_map_both};
+ghost use Rattle.std.specs.FinMap as names;
+ghost use Rattle.rs_syntax.specs.View.{column_tree};
+ghost use Rattle.rs_machine.specs.Checks.{found};
+ghost use Rattle.rs_machine.specs.State.{has};
+ghost use Rattle.rs_catalog.specs.Names.{entries_by_bytes};
+ghost use Rattle.rs_catalog.specs.Definitions.{AreDefinitions, IsLeastFree, no_definitions};
+ghost use Rattle.rs_catalog.specs.Changes.{with_route, with_table, with_view, without_route, without_table, without_view};
+
+use crate::by_name::ByName;
+use crate::entries::{Ends, RouteEntry, TableEntry, ViewEntry};
+use crate::numbers::Numbers;
+use rs_machine::limits::{ROUTES, TABLES};
+use rs_measure::{Measure, Refusal};
+use rs_methods::Name;
+use rs_syntax::{ColumnDefinition, Query};
+use rs_value::{COLUMNS, Kind};
+use std::alloc::{AllocError, Global};
+use std::collections::btree_map;
+use std::marker::Model;
+
+/// Routes, tables and views by name.
+#[derive(Drop)]
+pub struct Catalog {
+    routes: ByName<RouteEntry>,
+    tables: ByName<TableEntry>,
+    views: ByName<ViewEntry>,
+}
+
+impl Model for Catalog {
+    ghost use Rattle.rs_catalog.specs.Codes.{definitions_code};
+    ghost use Rattle.rs_catalog.specs.Definitions.{AreDefinitions, Definitions};
+
+    ghost Value = { Definitions };
+
+    ghost coded = { definitions_code };
+
+    ghost view = { λ c. record { routes = c.routes; tables = c.tables; views = c.views } };
+
+    ghost invariant = { λ c. AreDefinitions (record { routes = c.routes; tables = c.tables; views = c.views }) };
+}
+
+impl Catalog {
+    /// No route, no table and no view. It takes no memory.
+    pub fn new(alloc: Global) -> Self
+        ensures { result ≡ no_definitions }
+    {
+        Catalog {
+            routes: ByName::new(alloc),
+            tables: ByName::new(alloc),
+            views: ByName::new(alloc),
+        }
+    }
+
+    /// The route of this name.
+    pub fn route(&self, name: &Name) -> Option<RouteEntry>
+        ensures { result ≡ names.get self.now.routes name.now.bytes }
+    {
+        self.routes.get(name).copied()
+    }
+
+    /// The route of this name; 20 where there is none.
+    pub fn named_route(&self, name: &Name) -> Result<RouteEntry, Refusal>
+        ensures { result ≡ found (names.get self.now.routes name.now.bytes) Refusal.NoSuchRoute }
+    {
+        match self.route(name) {
+            Some(route) => Ok(route),
+            None => Err(Refusal::NoSuchRoute),
+        }
+    }
+
+    /// The table of this name.
+    pub fn table(&self, name: &Name) -> Option<&TableEntry>
+        ensures { option_copied result ≡ names.get self.now.tables name.now.bytes }
+    {
+        self.tables.get(name)
+    }
+
+    /// The table of this name; 21 where there is none.
+    pub fn named_table(&self, name: &Name) -> Result<&TableEntry, Refusal>
+        ensures { result_map_both (λ table. table.now) (λ refusal. refusal) result ≡ found (names.get self.now.tables name.now.bytes) Refusal.NoSuchName }
+    {
+        match self.table(name) {
+            Some(table) => Ok(table),
+            None => Err(Refusal::NoSuchName),
+        }
+    }
+
+    /// The view of this name.
+    pub fn view(&self, name: &Name) -> Option<&ViewEntry>
+        ensures { option_copied result ≡ names.get self.now.views name.now.bytes }
+    {
+        self.views.get(name)
+    }
+
+    /// Whether a table or a view has this name: they share their names.
+    pub fn has_table_or_view(&self, name: &Name) -> bool
+        ensures { result ≡ (has self.now.tables name.now.bytes || has self.now.views name.now.bytes) }
+    {
+        self.table(name).is_some() || self.view(name).is_some()
+    }
+
+    /// How many routes there are.
+    pub fn routes_len(&self) -> usize
+        ensures { result ≡ names.len self.now.routes }
+    {
+        self.routes.len()
+    }
+
+    /// How many tables there are.
+    pub fn tables_len(&self) -> usize
+        ensures { result ≡ names.len self.now.tables }
+    {
+        self.tables.len()
+    }
+
+    /// How many views there are.
+    pub fn views_len(&self) -> usize
+        ensures { result ≡ names.len self.now.views }
+    {
+        self.views.len()
+    }
+
+    /// The routes, in the order of their names.
+    pub fn routes(&self) -> btree_map::Iter<'_, Name, RouteEntry>
+        ensures { entries_by_bytes (λ route. route) result ≡ names.entries self.now.routes }
+    {
+        self.routes.iter()
+    }
+
+    /// The tables, in the order of their names.
+    pub fn tables(&self) -> btree_map::Iter<'_, Name, TableEntry>
+        ensures { entries_by_bytes (λ table. table) result ≡ names.entries self.now.tables }
+    {
+        self.tables.iter()
+    }
+
+    /// The views, in the order of their names.
+    pub fn views(&self) -> btree_map::Iter<'_, Name, ViewEntry>
+        ensures { entries_by_bytes (λ view. view) result ≡ names.entries self.now.views }
+    {
+        self.views.iter()
+    }
+
+    /// Defines a route under the least number that no route has, which is the answer. For want of memory it changes
+    /// nothing.
+    pub fn define_route(
+        &mut self,
+        name: Name,
+        start: Measure,
+        finish: Measure,
+    ) -> Result<u32, AllocError>
+        requires ordered { start < finish }
+        requires room { names.len self.old.routes < ROUTES }
+        ensures least { IfOk result (λ number. IsLeastFree (λ item. item.number) self.old.routes number) }
+        ensures ok { IfOk result (λ number. self.new ≡ with_route self.old name.bytes (record { number = number; ends = record { start = start; finish = finish } })) }
+        ensures err { OnErr result (self.new ≡ self.old) }
+    {
+        let number = self.free_route_number();
+        let entry = RouteEntry::new(number, Ends::new(start, finish));
+        self.routes.define(name, entry)?;
+        Ok(number)
+    }
+
+    /// Defines a table under the least number that no table has, which is the answer. For want of memory it changes
+    /// nothing.
+    pub fn define_table(
+        &mut self,
+        name: Name,
+        kind: Kind,
+        columns: Vec<ColumnDefinition>,
+    ) -> Result<u32, AllocError>
+        requires columns { vec_len columns ≤ COLUMNS }
+        requires room { names.len self.old.tables < TABLES }
+        ensures least { IfOk result (λ number. IsLeastFree (λ item. item.number) self.old.tables number) }
+        ensures ok { IfOk result (λ number. self.new ≡ with_table self.old name.bytes (record { number = number; kind = kind; columns = map column_tree columns.items })) }
+        ensures err { OnErr result (self.new ≡ self.old) }
+    {
+        let number = self.free_table_number();
+        let entry = TableEntry::new(number, kind, columns);
+        self.tables.define(name, entry)?;
+        Ok(number)
+    }
+
+    /// Defines a view by its query and the query's text. For want of memory it changes nothing.
+    pub fn define_view(&mut self, name: Name, query: Query, text: String) -> Result<(), AllocError>
+        ensures ok { OnOk result (self.new ≡ with_view self.old name.bytes (record { query = query; text = string_bytes text })) }
+        ensures err { OnErr result (self.new ≡ self.old) }
+    {
+        self.views.define(name, ViewEntry::new(query, text))
+    }
+
+    /// Takes a route out, if it is there. It takes no memory.
+    pub fn drop_route(&mut self, name: &Name)
+        ensures { self.new ≡ without_route self.old name.now.bytes }
+    {
+        self.routes.remove(name);
+    }
+
+    /// Takes a table out, if it is there. It takes no memory.
+    pub fn drop_table(&mut self, name: &Name)
+        ensures { self.new ≡ without_table self.old name.now.bytes }
+    {
+        self.tables.remove(name);
+    }
+
+    /// Takes a view out, if it is there. It takes no memory.
+    pub fn drop_view(&mut self, name: &Name)
+        ensures { self.new ≡ without_view self.old name.now.bytes }
+    {
+        self.views.remove(name);
+    }
+
+    /// The least number that no route has.
+    fn free_route_number(&self) -> u32
+        requires { names.len self.now.routes < ROUTES }
+        ensures least { IsLeastFree (λ item. item.number) self.now.routes result }
+        ensures below { result < ROUTES }
+    {
+        let mut taken = Numbers::<ROUTES>::none();
+        for (_, route) in self.routes.iter() {
+            taken.take(route.number());
+        }
+        taken.least_free()
+    }
+
+    /// The least number that no table has.
+    fn free_table_number(&self) -> u32
+        requires { names.len self.now.tables < TABLES }
+        ensures least { IsLeastFree (λ item. item.number) self.now.tables result }
+        ensures below { result < TABLES }
+    {
+        let mut taken = Numbers::<TABLES>::none();
+        for (_, table) in self.tables.iter() {
+            taken.take(table.number());
+        }
+        taken.least_free()
+    }
+
+    /// They are numbered, and within their limits.
+    pub fn stand(&self)
+        ensures { AreDefinitions self.now }
+    {
+        let _routes = &self.routes;
+    }
+}

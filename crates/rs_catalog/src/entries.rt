@@ -1,0 +1,213 @@
+//! What the catalogue keeps under a name: a route's number and ends, a table's number, kind and columns, and a view's
+//! query and text.
+//!
+//! It promises that a route starts below its finish.
+
+ghost use Rattle.std.specs.Prelude.{◌≡◌, ◌<◌, ◌≤◌, map, string_bytes};
+ghost use Rattle.rs_measure.specs.declared.measure.TheConstants.{GREATEST_MEASURE};
+ghost use Rattle.rs_syntax.specs.View.{column_tree};
+
+use rs_measure::Measure;
+use rs_methods::Route;
+use rs_syntax::{ColumnDefinition, Query};
+use rs_value::Kind;
+use std::marker::Model;
+
+/// Where a route starts and where it ends.
+#[derive(Clone, Copy)]
+pub struct Ends {
+    start: Measure,
+    finish: Measure,
+}
+
+impl Model for Ends {
+    ghost use Rattle.std.specs.Prelude.{◌<◌};
+    ghost use Rattle.rs_facts.specs.Query.{RouteEnds};
+
+    ghost Value = { RouteEnds };
+
+    ghost view = { λ e. record { start = e.start; finish = e.finish } };
+
+    ghost invariant = { λ e. e.start < e.finish };
+
+    ghost inverse = { λ e. record { start = e.start; finish = e.finish } };
+}
+
+impl Ends {
+    /// A route's ends.
+    pub fn new(start: Measure, finish: Measure) -> Self
+        requires { start < finish }
+        ensures value { result ≡ record { start = start; finish = finish } }
+        ensures measured { finish ≤ GREATEST_MEASURE }
+    {
+        let _in_range = finish.thousandths();
+        Ends { start, finish }
+    }
+
+    /// Where the route starts.
+    pub fn start(self) -> Measure
+        ensures { result ≡ self.start }
+    {
+        self.start
+    }
+
+    /// Where the route ends.
+    pub fn finish(self) -> Measure
+        ensures { result ≡ self.finish }
+    {
+        self.finish
+    }
+
+    /// The route from one end to the other as positions see it, under a number.
+    pub fn as_route(self, number: u32) -> Route
+        ensures number { result.number ≡ number }
+        ensures start { result.start ≡ self.start }
+        ensures finish { result.finish ≡ self.finish }
+    {
+        Route {
+            number,
+            start: self.start,
+            finish: self.finish,
+        }
+    }
+}
+
+/// A route: its number and its ends.
+#[derive(Clone, Copy)]
+pub struct RouteEntry {
+    number: u32,
+    ends: Ends,
+}
+
+impl Model for RouteEntry {
+    ghost use Rattle.rs_catalog.specs.Codes.{route_code};
+    ghost use Rattle.rs_catalog.specs.Definitions.{RouteItem};
+
+    ghost Value = { RouteItem };
+
+    ghost coded = { route_code };
+
+    ghost view = { λ r. record { number = r.number; ends = r.ends } };
+
+    ghost inverse = { λ item. record { number = item.number; ends = item.ends } };
+}
+
+impl RouteEntry {
+    /// A route of this number from one end to the other.
+    pub fn new(number: u32, ends: Ends) -> Self
+        ensures { result ≡ record { number = number; ends = ends } }
+    {
+        RouteEntry { number, ends }
+    }
+
+    /// The route's number.
+    pub fn number(self) -> u32
+        ensures { result ≡ self.number }
+    {
+        self.number
+    }
+
+    /// The route's ends.
+    pub fn ends(self) -> Ends
+        ensures { result ≡ self.ends }
+    {
+        self.ends
+    }
+}
+
+/// A table: its number, its kind and its columns.
+#[derive(Drop)]
+pub struct TableEntry {
+    number: u32,
+    kind: Kind,
+    columns: Vec<ColumnDefinition>,
+}
+
+impl Model for TableEntry {
+    ghost use Rattle.std.specs.Prelude.{map};
+    ghost use Rattle.rs_syntax.specs.View.{column_tree};
+    ghost use Rattle.rs_catalog.specs.Codes.{table_code};
+    ghost use Rattle.rs_catalog.specs.Definitions.{TableItem};
+
+    ghost Value = { TableItem };
+
+    ghost coded = { table_code };
+
+    ghost view = { λ t. record { number = t.number; kind = t.kind; columns = map column_tree t.columns.items } };
+}
+
+impl TableEntry {
+    /// A table of this number and kind with these columns.
+    pub fn new(number: u32, kind: Kind, columns: Vec<ColumnDefinition>) -> Self
+        ensures { result ≡ record { number = number; kind = kind; columns = map column_tree columns.items } }
+    {
+        TableEntry {
+            number,
+            kind,
+            columns,
+        }
+    }
+
+    /// The table's number.
+    pub fn number(&self) -> u32
+        ensures { result ≡ self.now.number }
+    {
+        self.number
+    }
+
+    /// Whether it holds points or lines.
+    pub fn kind(&self) -> Kind
+        ensures { result ≡ self.now.kind }
+    {
+        self.kind
+    }
+
+    /// Its columns, from the left.
+    pub fn columns(&self) -> &[ColumnDefinition]
+        ensures { map column_tree result.now ≡ self.now.columns }
+    {
+        &self.columns
+    }
+}
+
+/// A view: its query, and the query's text as it was written.
+#[derive(Drop)]
+pub struct ViewEntry {
+    query: Query,
+    text: String,
+}
+
+impl Model for ViewEntry {
+    ghost use Rattle.std.specs.Prelude.{string_bytes};
+    ghost use Rattle.rs_catalog.specs.Codes.{view_code};
+    ghost use Rattle.rs_catalog.specs.Definitions.{ViewItem};
+
+    ghost Value = { ViewItem };
+
+    ghost coded = { view_code };
+
+    ghost view = { λ v. record { query = v.query; text = string_bytes v.text } };
+}
+
+impl ViewEntry {
+    /// A view of this query, with the query's text.
+    pub fn new(query: Query, text: String) -> Self
+        ensures { result ≡ record { query = query; text = string_bytes text } }
+    {
+        ViewEntry { query, text }
+    }
+
+    /// The view's query.
+    pub fn query(&self) -> &Query
+        ensures { result.now ≡ self.now.query }
+    {
+        &self.query
+    }
+
+    /// The query's text as it was written.
+    pub fn text(&self) -> &str
+        ensures { result.now ≡ self.now.text }
+    {
+        self.text.as_str()
+    }
+}

@@ -1,0 +1,17 @@
+-- What a check promises of a query that it accepts.
+use Rattle.std.specs.Prelude.{◌≡◌, map, Ok}
+use Rattle.rs_facts.specs.Query.{kind_of, columns_of}
+use Rattle.rs_facts.specs.WellFormed.{IsWellFormed}
+use Rattle.rs_syntax.specs.Tree.{QueryTree}
+use Rattle.rs_syntax.specs.View.{column_tree}
+use Rattle.rs_machine.specs.State.{State, world_of}
+use Rattle.rs_machine.specs.Checking as machine
+use Rattle.rs_checker.specs.declared.checked.Checked.{Checked}
+use Rattle.rs_checker.specs.CheckedView.{query_of}
+
+-- It is what the machine makes of the query in this state, with its kind and its columns, and can be evaluated.
+pub record IsChecked (state : State) (query : QueryTree) (checked : Checked) : Type 0 where
+  pub is : machine.checked state query ≡ Ok (query_of checked.query)
+  pub well_formed : IsWellFormed (world_of state) (query_of checked.query)
+  pub kind : checked.kind ≡ kind_of (world_of state) (query_of checked.query)
+  pub columns : map column_tree checked.columns.items ≡ columns_of (world_of state) (query_of checked.query)

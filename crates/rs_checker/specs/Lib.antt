@@ -1,0 +1,6 @@
+pub mod CheckedView
+pub mod Checks
+pub mod Inner
+pub mod Sizes
+pub mod Steps
+pub mod Nodes

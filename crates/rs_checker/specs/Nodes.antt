@@ -1,0 +1,57 @@
+-- What the passes of a check find, in every state of the same definitions and referents.
+use Rattle.std.specs.Prelude.{◌≡◌, ℕ, ◌||◌, nat_lt, List, [], ◌∷◌, Result, Ok, Err}
+use Rattle.std.specs.FinMap as names
+use Rattle.rs_measure.specs.declared.refusal.Refusal.{Refusal}
+use Rattle.rs_measure.specs.declared.refusal.Refusal.TheVariants.{NoSuchRoute, NoSuchName, EmptySpan}
+use Rattle.rs_methods.specs.Position.{located}
+use Rattle.rs_facts.specs.Fact.{Name, Names}
+use Rattle.rs_facts.specs.Query.{Window, on_route, between, Query, window_rows}
+use Rattle.rs_facts.specs.Runs.{Stretch}
+use Rattle.rs_syntax.specs.Tree.{WindowTree, whole_route, part_of_route, QueryTree}
+use Rattle.rs_machine.specs.State.{has}
+use Rattle.rs_machine.specs.Checks.{◌>>=◌, unless, found}
+use Rattle.rs_machine.specs.Checking.{nodes_checked}
+use Rattle.rs_catalog.specs.Definitions.{Definitions, state_from}
+use Rattle.rs_checker.specs.declared.checked.Checked.{Checked}
+use Rattle.rs_checker.specs.Steps.{IsNode}
+
+-- each is the name of a table or a view
+abbrev pub names_there : Definitions → List Name → Result (Unit {0}) Refusal
+names_there definitions [] = Ok tt
+names_there definitions (name ∷ more) = do
+  _ ← unless (has definitions.tables name || has definitions.views name) NoSuchName
+  names_there definitions more
+
+-- a window by the routes that are defined and the referents by the routes' numbers
+abbrev pub located_window : Definitions → (ℕ → Names ℕ) → WindowTree → Result Window Refusal
+located_window definitions on (whole_route route) = do
+  _ ← found (names.get definitions.routes route) NoSuchRoute
+  Ok (on_route route)
+located_window definitions on (part_of_route route from to) = do
+  item ← found (names.get definitions.routes route) NoSuchRoute
+  first ← located item.ends.start item.ends.finish (names.entries (on item.number)) from
+  second ← located item.ends.start item.ends.finish (names.entries (on item.number)) to
+  _ ← unless (nat_lt first second) EmptySpan
+  Ok (between route first second)
+
+abbrev pub window_step : Definitions → (ℕ → Names ℕ) → Query → WindowTree → Result Query Refusal
+window_step definitions on query window = do
+  place ← located_window definitions on window
+  Ok (window_rows query place)
+
+-- in every such state it is what the machine makes of the query, its views opened
+pub record AreNodes (definitions : Definitions) (on : ℕ → Names ℕ) (query : QueryTree) (made : Checked) : Type 0 where
+  pub each : (spans_on : ℕ → ℕ → List Stretch) (changes : ℕ) → IsNode (state_from definitions on spans_on changes) query made
+
+-- in every such state the machine refuses the query so
+pub record AreRefused (definitions : Definitions) (on : ℕ → Names ℕ) (query : QueryTree) (refusal : Refusal) : Type 0 where
+  pub each : (spans_on : ℕ → ℕ → List Stretch) (changes : ℕ) → nodes_checked (state_from definitions on spans_on changes) query ≡ Err refusal
+
+-- the same of two operands
+pub record ArePair (definitions : Definitions) (on : ℕ → Names ℕ) (left right : QueryTree) (one other : Checked) : Type 0 where
+  pub first : AreNodes definitions on left one
+  pub second : AreNodes definitions on right other
+
+pub record IsPairRefused (definitions : Definitions) (on : ℕ → Names ℕ) (left right : QueryTree) (refusal : Refusal) : Type 0 where
+  pub each : (spans_on : ℕ → ℕ → List Stretch) (changes : ℕ) (next : Query → Query → Result Query Refusal)
+      → (nodes_checked (state_from definitions on spans_on changes) left >>= (λ a. nodes_checked (state_from definitions on spans_on changes) right >>= (λ b. next a b))) ≡ Err refusal

@@ -1,0 +1,15 @@
+//! The checker: a query with its names looked up, its views opened and its windows located, or the first refusal.
+#![tactic(auto)]
+
+pub mod checked;
+pub mod checking;
+pub mod columns;
+pub mod conditions;
+mod operators;
+mod size;
+mod views;
+mod windows;
+
+pub use checked::{Checked, CheckedQuery, Columns, LocatedWindow};
+pub use checking::check;
+pub use conditions::check_condition;

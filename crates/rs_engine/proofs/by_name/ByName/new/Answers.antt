@@ -1,7 +1,0 @@
-use Rattle.std.proofs.Common.{ap}
-use Rattle.rs_engine.specs.Names.{names_of}
-use Rattle.rs_engine.proofs.by_name.ByName.new.Goals as goal
-
-pub returns : goal.returns
-unfolding names_of
-returns g c = ap (names_of (λ value. value)) c.new.ensures.empty

@@ -1,0 +1,4 @@
+mod Variants
+mod Steps
+mod Operands
+mod TableRows

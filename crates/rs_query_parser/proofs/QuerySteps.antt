@@ -1,0 +1,29 @@
+-- Steps of reading queries: how an operator and what follows it are spelled.
+use Rattle.std.proofs.Common.{◌≡◌, List, [], ◌∷◌, ◌++◌, sym, ap, ◌∙◌, append_assoc}
+use Rattle.rs_grammar.specs.declared.kind.TokenKind.{TokenKind}
+use Rattle.rs_grammar.specs.declared.kind.TokenKind.TheVariants as kinds
+use Rattle.rs_lexer.specs.declared.token.Token.{Token}
+use Rattle.rs_syntax.specs.Written.{Lexeme, mark, operator_lexemes, lexemes_of, QuerySyntax, query_lexemes}
+use Rattle.rs_syntax.specs.declared.written.WrittenQuery.{WrittenQuery}
+use Rattle.rs_syntax.specs.WrittenView.{query_syntax}
+
+-- an operator, a query, and what is after the comma in the brackets
+pub operator-spelled : (kind : TokenKind) (tokens behind rest end : List Token) (operand others : List Lexeme) (query : WrittenQuery) (syntax : QuerySyntax)
+    → lexemes_of tokens ≡ mark kinds.LeftParen ∷ (operand ++ mark kinds.Comma ∷ lexemes_of behind)
+    → lexemes_of behind ≡ others ++ lexemes_of rest → lexemes_of rest ≡ mark kinds.RightParen ∷ lexemes_of end
+    → query_syntax query ≡ syntax → query_lexemes syntax ≡ operator_lexemes kind operand others
+    → mark kind ∷ lexemes_of tokens ≡ query_lexemes (query_syntax query) ++ lexemes_of end
+operator-spelled kind tokens behind rest end operand others query syntax first second last written spelled =
+    let inside = second ∙ ap (λ ps. others ++ ps) last ∙ sym (append_assoc others (mark kinds.RightParen ∷ []) (lexemes_of end)) in
+    let whole = ap (λ ps. operand ++ mark kinds.Comma ∷ ps) inside
+    ∙ sym (append_assoc operand (mark kinds.Comma ∷ (others ++ mark kinds.RightParen ∷ [])) (lexemes_of end)) in
+    ap (λ ps. mark kind ∷ ps) (first ∙ ap (λ ps. mark kinds.LeftParen ∷ ps) whole)
+    ∙ ap (λ ps. ps ++ lexemes_of end) (sym (ap query_lexemes written ∙ spelled))
+
+-- a query in brackets, and the comma after it
+pub operand-spelled : (tokens inside behind end : List Token) (query boxed : WrittenQuery) → lexemes_of tokens ≡ mark kinds.LeftParen ∷ lexemes_of inside
+    → lexemes_of inside ≡ query_lexemes (query_syntax query) ++ lexemes_of behind → lexemes_of behind ≡ mark kinds.Comma ∷ lexemes_of end → boxed ≡ query
+    → lexemes_of tokens ≡ mark kinds.LeftParen ∷ (query_lexemes (query_syntax boxed) ++ mark kinds.Comma ∷ lexemes_of end)
+operand-spelled tokens inside behind end query boxed first second last same =
+    first ∙ ap (λ ps. mark kinds.LeftParen ∷ ps) (second ∙ ap (λ ps. query_lexemes (query_syntax query) ++ ps) last
+    ∙ ap (λ q. query_lexemes (query_syntax q) ++ mark kinds.Comma ∷ lexemes_of end) (sym same))

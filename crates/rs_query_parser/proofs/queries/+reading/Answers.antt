@@ -1,0 +1,239 @@
+use Rattle.std.proofs.Common.{[], ◌∷◌, refl, ap, ◌∙◌}
+use Rattle.rs_grammar.specs.declared.kind.TokenKind.TheVariants as kinds
+use Rattle.rs_grammar.specs.Grammar.{rules, query, condition, bracketed_names, window, done, pick, sub, need, where_form, dissolve_form, rename_form, pair_form, window_query_form}
+use Rattle.rs_syntax.specs.Written.{mark, told, written_where, written_dissolve, written_rename, written_pair, written_window, pair_kind, window_lexemes, bracketed_names_lexemes, condition_lexemes, query_lexemes}
+use Rattle.rs_syntax.specs.WrittenView.{condition_syntax, query_syntax}
+use Rattle.rs_syntax.proofs.ChainLaws.{where_written, dissolve_written, rename_written, pair_written, window_written}
+use Rattle.rs_query_parser.proofs.QuerySteps.{operand-spelled, operator-spelled}
+use Rattle.std.proofs.lemmas.Result.{err_from_is_err_and}
+use Rattle.rs_query_parser.specs.Reading.{is_done, skips, through, stops_in, gives_up}
+use Rattle.rs_query_parser.proofs.Steps.{takes_as, misses, RunsTo-takes, RunsTo-skips}
+use Rattle.rs_query_parser.proofs.queries.+reading.Goals as goal
+
+pub operand_query-returns-in_err-rest-clause-begins : goal.operand_query-returns-in_err-rest-clause-begins
+operand_query-returns-in_err-rest-clause-begins t c =
+    let p = err_from_is_err_and c.from_residual.result c.from_residual.ensures.1 in
+    rw (p.1, p.2) (λ form. misses c.in_err-rest.ensures.found)
+
+pub operand_query-returns-in_err-query-clause-begins : goal.operand_query-returns-in_err-query-clause-begins
+unfolding rules
+operand_query-returns-in_err-query-clause-begins t c =
+    let p = err_from_is_err_and c.from_residual-in_err-query.result c.from_residual-in_err-query.ensures.1 in
+    rw (p.1, p.2) (λ form. takes_as c.in_ok-rest.ensures.found (stops_in c.in_err-query.ensures.runs))
+
+pub operand_query-returns-in_err-rest-2-clause-begins : goal.operand_query-returns-in_err-rest-2-clause-begins
+unfolding rules
+operand_query-returns-in_err-rest-2-clause-begins t c =
+    let p = err_from_is_err_and c.from_residual-in_err-rest-2.result c.from_residual-in_err-rest-2.ensures.1 in
+    rw (p.1, p.2) (λ form. takes_as c.in_ok-rest.ensures.found (through c.in_ok-query.ensures.runs (misses c.in_err-rest-2.ensures.found)))
+
+pub operand_query-returns-in_err-new-clause-begins : goal.operand_query-returns-in_err-new-clause-begins
+operand_query-returns-in_err-new-clause-begins t c =
+    let p = err_from_is_err_and c.from_residual-in_err-new.result c.from_residual-in_err-new.ensures.1 in
+    rw (p.1, p.2) (λ form. gives_up)
+
+pub operand_query-returns-clause-begins : goal.operand_query-returns-clause-begins
+unfolding rules
+operand_query-returns-clause-begins t c = λ form outcome further. takes_as c.in_ok-rest.ensures.found (through c.in_ok-query.ensures.runs (takes_as c.in_ok-rest-2.ensures.found (further)))
+
+pub operand_query-returns-clause-spelled : goal.operand_query-returns-clause-spelled
+operand_query-returns-clause-spelled t c = operand-spelled c.args.tokens.now c.in_ok-rest.rest.now c.in_ok-query.rest.now c.in_ok-rest-2.rest.now c.in_ok-query.query _ c.in_ok-rest.ensures.spelled c.in_ok-query.ensures.spelled c.in_ok-rest-2.ensures.spelled c.in_ok-new.ensures.ok
+
+pub where_query-returns-in_err-query-clause-runs : goal.where_query-returns-in_err-query-clause-runs
+where_query-returns-in_err-query-clause-runs t c =
+    let p = err_from_is_err_and c.from_residual.result c.from_residual.ensures.1 in
+    rw (p.1, p.2) (c.in_err-query.ensures.begins (sub condition (need kinds.RightParen done)))
+
+pub where_query-returns-in_err-condition-clause-runs : goal.where_query-returns-in_err-condition-clause-runs
+unfolding rules
+where_query-returns-in_err-condition-clause-runs t c =
+    let p = err_from_is_err_and c.from_residual-in_err-condition.result c.from_residual-in_err-condition.ensures.1 in
+    rw (p.1, p.2) (c.in_ok-query.ensures.begins (sub condition (need kinds.RightParen done)) _ (stops_in c.in_err-condition.ensures.runs))
+
+pub where_query-returns-in_err-rest-clause-runs : goal.where_query-returns-in_err-rest-clause-runs
+unfolding rules
+where_query-returns-in_err-rest-clause-runs t c =
+    let p = err_from_is_err_and c.from_residual-in_err-rest.result c.from_residual-in_err-rest.ensures.1 in
+    rw (p.1, p.2) (c.in_ok-query.ensures.begins (sub condition (need kinds.RightParen done)) _ (through c.in_ok-condition.ensures.runs (misses c.in_err-rest.ensures.found)))
+
+pub where_query-returns-clause-runs : goal.where_query-returns-clause-runs
+unfolding rules
+where_query-returns-clause-runs t c = c.in_ok-query.ensures.begins (sub condition (need kinds.RightParen done)) _ (through c.in_ok-condition.ensures.runs (takes_as c.in_ok-rest.ensures.found (is_done)))
+
+pub where_query-returns-clause-spelled : goal.where_query-returns-clause-spelled
+where_query-returns-clause-spelled t c = operator-spelled kinds.Where c.args.tokens.now c.in_ok-query.rest.now c.in_ok-condition.rest.now c.in_ok-rest.rest.now (query_lexemes (query_syntax c.in_ok-query.query.value)) (condition_lexemes (condition_syntax c.in_ok-condition.condition.items)) _ (written_where (query_syntax c.in_ok-query.query.value) (condition_syntax c.in_ok-condition.condition.items)) c.in_ok-query.ensures.spelled c.in_ok-condition.ensures.spelled c.in_ok-rest.ensures.spelled (where_written c.in_ok-query.query c.in_ok-condition.condition) refl
+
+pub dissolve_query-returns-in_err-query-clause-runs : goal.dissolve_query-returns-in_err-query-clause-runs
+dissolve_query-returns-in_err-query-clause-runs t c =
+    let p = err_from_is_err_and c.from_residual.result c.from_residual.ensures.1 in
+    rw (p.1, p.2) (c.in_err-query.ensures.begins (sub bracketed_names (need kinds.RightParen done)))
+
+pub dissolve_query-returns-in_err-names-clause-runs : goal.dissolve_query-returns-in_err-names-clause-runs
+unfolding rules
+dissolve_query-returns-in_err-names-clause-runs t c =
+    let p = err_from_is_err_and c.from_residual-in_err-names.result c.from_residual-in_err-names.ensures.1 in
+    rw (p.1, p.2) (c.in_ok-query.ensures.begins (sub bracketed_names (need kinds.RightParen done)) _ (stops_in c.in_err-names.ensures.runs))
+
+pub dissolve_query-returns-in_err-rest-clause-runs : goal.dissolve_query-returns-in_err-rest-clause-runs
+unfolding rules
+dissolve_query-returns-in_err-rest-clause-runs t c =
+    let p = err_from_is_err_and c.from_residual-in_err-rest.result c.from_residual-in_err-rest.ensures.1 in
+    rw (p.1, p.2) (c.in_ok-query.ensures.begins (sub bracketed_names (need kinds.RightParen done)) _ (through c.in_ok-names.ensures.runs (misses c.in_err-rest.ensures.found)))
+
+pub dissolve_query-returns-clause-runs : goal.dissolve_query-returns-clause-runs
+unfolding rules
+dissolve_query-returns-clause-runs t c = c.in_ok-query.ensures.begins (sub bracketed_names (need kinds.RightParen done)) _ (through c.in_ok-names.ensures.runs (takes_as c.in_ok-rest.ensures.found (is_done)))
+
+pub dissolve_query-returns-clause-spelled : goal.dissolve_query-returns-clause-spelled
+dissolve_query-returns-clause-spelled t c = operator-spelled kinds.Dissolve c.args.tokens.now c.in_ok-query.rest.now c.in_ok-names.rest.now c.in_ok-rest.rest.now (query_lexemes (query_syntax c.in_ok-query.query.value)) (bracketed_names_lexemes c.in_ok-names.names.items) _ (written_dissolve (query_syntax c.in_ok-query.query.value) c.in_ok-names.names.items) c.in_ok-query.ensures.spelled c.in_ok-names.ensures.spelled c.in_ok-rest.ensures.spelled (dissolve_written c.in_ok-query.query c.in_ok-names.names) refl
+
+pub rename_query-returns-in_err-query-clause-runs : goal.rename_query-returns-in_err-query-clause-runs
+rename_query-returns-in_err-query-clause-runs t c =
+    let p = err_from_is_err_and c.from_residual.result c.from_residual.ensures.1 in
+    rw (p.1, p.2) (c.in_err-query.ensures.begins (need kinds.Name (need kinds.To (need kinds.Name (need kinds.RightParen done)))))
+
+pub rename_query-returns-in_err-from-clause-runs : goal.rename_query-returns-in_err-from-clause-runs
+rename_query-returns-in_err-from-clause-runs t c =
+    let p = err_from_is_err_and c.from_residual-in_err-from.result c.from_residual-in_err-from.ensures.1 in
+    rw (p.1, p.2) (c.in_ok-query.ensures.begins (need kinds.Name (need kinds.To (need kinds.Name (need kinds.RightParen done)))) _ (misses c.in_err-from.ensures.found))
+
+pub rename_query-returns-in_err-rest-clause-runs : goal.rename_query-returns-in_err-rest-clause-runs
+rename_query-returns-in_err-rest-clause-runs t c =
+    let p = err_from_is_err_and c.from_residual-in_err-rest.result c.from_residual-in_err-rest.ensures.1 in
+    rw (p.1, p.2) (c.in_ok-query.ensures.begins (need kinds.Name (need kinds.To (need kinds.Name (need kinds.RightParen done)))) _ (takes_as c.in_ok-from.ensures.found (misses c.in_err-rest.ensures.found)))
+
+pub rename_query-returns-in_err-to-clause-runs : goal.rename_query-returns-in_err-to-clause-runs
+rename_query-returns-in_err-to-clause-runs t c =
+    let p = err_from_is_err_and c.from_residual-in_err-to.result c.from_residual-in_err-to.ensures.1 in
+    rw (p.1, p.2) (c.in_ok-query.ensures.begins (need kinds.Name (need kinds.To (need kinds.Name (need kinds.RightParen done)))) _ (takes_as c.in_ok-from.ensures.found (takes_as c.in_ok-rest.ensures.found (misses c.in_err-to.ensures.found))))
+
+pub rename_query-returns-in_err-rest-2-clause-runs : goal.rename_query-returns-in_err-rest-2-clause-runs
+rename_query-returns-in_err-rest-2-clause-runs t c =
+    let p = err_from_is_err_and c.from_residual-in_err-rest-2.result c.from_residual-in_err-rest-2.ensures.1 in
+    rw (p.1, p.2) (c.in_ok-query.ensures.begins (need kinds.Name (need kinds.To (need kinds.Name (need kinds.RightParen done)))) _ (takes_as c.in_ok-from.ensures.found (takes_as c.in_ok-rest.ensures.found (takes_as c.in_ok-to.ensures.found (misses c.in_err-rest-2.ensures.found)))))
+
+pub rename_query-returns-clause-runs : goal.rename_query-returns-clause-runs
+rename_query-returns-clause-runs t c = c.in_ok-query.ensures.begins (need kinds.Name (need kinds.To (need kinds.Name (need kinds.RightParen done)))) _ (takes_as c.in_ok-from.ensures.found (takes_as c.in_ok-rest.ensures.found (takes_as c.in_ok-to.ensures.found (takes_as c.in_ok-rest-2.ensures.found (is_done)))))
+
+pub rename_query-returns-clause-spelled : goal.rename_query-returns-clause-spelled
+rename_query-returns-clause-spelled t c = operator-spelled kinds.Rename c.args.tokens.now c.in_ok-query.rest.now c.in_ok-to.rest.now c.in_ok-rest-2.rest.now (query_lexemes (query_syntax c.in_ok-query.query.value)) (told kinds.Name c.in_ok-from.from ∷ mark kinds.To ∷ told kinds.Name c.in_ok-to.to ∷ []) _ (written_rename (query_syntax c.in_ok-query.query.value) c.in_ok-from.from c.in_ok-to.to) c.in_ok-query.ensures.spelled (c.in_ok-from.ensures.spelled ∙ ap (λ ps. told kinds.Name c.in_ok-from.from ∷ ps) (c.in_ok-rest.ensures.spelled ∙ ap (λ ps. mark kinds.To ∷ ps) c.in_ok-to.ensures.spelled)) c.in_ok-rest-2.ensures.spelled (rename_written c.in_ok-query.query c.in_ok-from.from c.in_ok-to.to) refl
+
+pub pair_query-returns-in_err-left-clause-runs : goal.pair_query-returns-in_err-left-clause-runs
+pair_query-returns-in_err-left-clause-runs t c =
+    let p = err_from_is_err_and c.from_residual.result c.from_residual.ensures.1 in
+    rw (p.1, p.2) (c.in_err-left.ensures.begins (sub query (need kinds.RightParen done)))
+
+pub pair_query-returns-in_err-right-clause-runs : goal.pair_query-returns-in_err-right-clause-runs
+unfolding rules
+pair_query-returns-in_err-right-clause-runs t c =
+    let p = err_from_is_err_and c.from_residual-in_err-right.result c.from_residual-in_err-right.ensures.1 in
+    rw (p.1, p.2) (c.in_ok-left.ensures.begins (sub query (need kinds.RightParen done)) _ (stops_in c.in_err-right.ensures.runs))
+
+pub pair_query-returns-in_err-rest-clause-runs : goal.pair_query-returns-in_err-rest-clause-runs
+unfolding rules
+pair_query-returns-in_err-rest-clause-runs t c =
+    let p = err_from_is_err_and c.from_residual-in_err-rest.result c.from_residual-in_err-rest.ensures.1 in
+    rw (p.1, p.2) (c.in_ok-left.ensures.begins (sub query (need kinds.RightParen done)) _ (through c.in_ok-right.ensures.runs (misses c.in_err-rest.ensures.found)))
+
+pub pair_query-returns-in_err-right-2-clause-runs : goal.pair_query-returns-in_err-right-2-clause-runs
+pair_query-returns-in_err-right-2-clause-runs t c =
+    let p = err_from_is_err_and c.from_residual-in_err-right-2.result c.from_residual-in_err-right-2.ensures.1 in
+    rw (p.1, p.2) (gives_up)
+
+pub pair_query-returns-clause-runs : goal.pair_query-returns-clause-runs
+unfolding rules
+pair_query-returns-clause-runs t c = c.in_ok-left.ensures.begins (sub query (need kinds.RightParen done)) _ (through c.in_ok-right.ensures.runs (takes_as c.in_ok-rest.ensures.found (is_done)))
+
+pub pair_query-returns-clause-spelled : goal.pair_query-returns-clause-spelled
+pair_query-returns-clause-spelled t c = operator-spelled (pair_kind c.args.operator) c.args.tokens.now c.in_ok-left.rest.now c.in_ok-right.rest.now c.in_ok-rest.rest.now (query_lexemes (query_syntax c.in_ok-left.left.value)) (query_lexemes (query_syntax c.in_ok-right.right)) _ (written_pair c.args.operator (query_syntax c.in_ok-left.left.value) (query_syntax c.in_ok-right.right)) c.in_ok-left.ensures.spelled c.in_ok-right.ensures.spelled c.in_ok-rest.ensures.spelled (pair_written c.args.operator c.in_ok-left.left c.in_ok-right-2.right ∙ ap (λ q. written_pair c.args.operator (query_syntax c.in_ok-left.left.value) (query_syntax q)) c.in_ok-right-2.ensures.ok) refl
+
+pub window_query-returns-in_err-query-clause-runs : goal.window_query-returns-in_err-query-clause-runs
+window_query-returns-in_err-query-clause-runs t c =
+    let p = err_from_is_err_and c.from_residual.result c.from_residual.ensures.1 in
+    rw (p.1, p.2) (c.in_err-query.ensures.begins (sub window (need kinds.RightParen done)))
+
+pub window_query-returns-in_err-window-clause-runs : goal.window_query-returns-in_err-window-clause-runs
+unfolding rules
+window_query-returns-in_err-window-clause-runs t c =
+    let p = err_from_is_err_and c.from_residual-in_err-window.result c.from_residual-in_err-window.ensures.1 in
+    rw (p.1, p.2) (c.in_ok-query.ensures.begins (sub window (need kinds.RightParen done)) _ (stops_in c.in_err-window.ensures.runs))
+
+pub window_query-returns-in_err-rest-clause-runs : goal.window_query-returns-in_err-rest-clause-runs
+unfolding rules
+window_query-returns-in_err-rest-clause-runs t c =
+    let p = err_from_is_err_and c.from_residual-in_err-rest.result c.from_residual-in_err-rest.ensures.1 in
+    rw (p.1, p.2) (c.in_ok-query.ensures.begins (sub window (need kinds.RightParen done)) _ (through c.in_ok-window.ensures.runs (misses c.in_err-rest.ensures.found)))
+
+pub window_query-returns-clause-runs : goal.window_query-returns-clause-runs
+unfolding rules
+window_query-returns-clause-runs t c = c.in_ok-query.ensures.begins (sub window (need kinds.RightParen done)) _ (through c.in_ok-window.ensures.runs (takes_as c.in_ok-rest.ensures.found (is_done)))
+
+pub window_query-returns-clause-spelled : goal.window_query-returns-clause-spelled
+window_query-returns-clause-spelled t c = operator-spelled kinds.Window c.args.tokens.now c.in_ok-query.rest.now c.in_ok-window.rest.now c.in_ok-rest.rest.now (query_lexemes (query_syntax c.in_ok-query.query.value)) (window_lexemes c.in_ok-window.window) _ (written_window (query_syntax c.in_ok-query.query.value) c.in_ok-window.window) c.in_ok-query.ensures.spelled c.in_ok-window.ensures.spelled c.in_ok-rest.ensures.spelled (window_written c.in_ok-query.query c.in_ok-window.window) refl
+
+pub query-returns-in-Some-clause-runs : goal.query-returns-in-Some-clause-runs
+query-returns-in-Some-clause-runs t c = RunsTo-takes kinds.Where where_form (pick kinds.Dissolve dissolve_form (pick kinds.Rename rename_form (pick kinds.Overlay pair_form (pick kinds.Cover pair_form (pick kinds.Merge pair_form (pick kinds.Minus pair_form (pick kinds.Window window_query_form (need kinds.Name done)))))))) c.args.tokens.now c.in-Some.rest.now c.where_query.result c.in-Some.ensures.found c.where_query.ensures.runs
+
+pub query-returns-in-Some-mark-clause-runs : goal.query-returns-in-Some-mark-clause-runs
+query-returns-in-Some-mark-clause-runs t c =
+    RunsTo-skips kinds.Where where_form (pick kinds.Dissolve dissolve_form (pick kinds.Rename rename_form (pick kinds.Overlay pair_form (pick kinds.Cover pair_form (pick kinds.Merge pair_form (pick kinds.Minus pair_form (pick kinds.Window window_query_form (need kinds.Name done)))))))) c.args.tokens.now c.dissolve_query.result c.in_default.ensures.found
+    (RunsTo-takes kinds.Dissolve dissolve_form (pick kinds.Rename rename_form (pick kinds.Overlay pair_form (pick kinds.Cover pair_form (pick kinds.Merge pair_form (pick kinds.Minus pair_form (pick kinds.Window window_query_form (need kinds.Name done))))))) c.args.tokens.now c.in-Some-mark.rest.now c.dissolve_query.result c.in-Some-mark.ensures.found c.dissolve_query.ensures.runs)
+
+pub query-returns-in-Some-mark-2-clause-runs : goal.query-returns-in-Some-mark-2-clause-runs
+query-returns-in-Some-mark-2-clause-runs t c =
+    RunsTo-skips kinds.Where where_form (pick kinds.Dissolve dissolve_form (pick kinds.Rename rename_form (pick kinds.Overlay pair_form (pick kinds.Cover pair_form (pick kinds.Merge pair_form (pick kinds.Minus pair_form (pick kinds.Window window_query_form (need kinds.Name done)))))))) c.args.tokens.now c.rename_query.result c.in_default.ensures.found
+    (RunsTo-skips kinds.Dissolve dissolve_form (pick kinds.Rename rename_form (pick kinds.Overlay pair_form (pick kinds.Cover pair_form (pick kinds.Merge pair_form (pick kinds.Minus pair_form (pick kinds.Window window_query_form (need kinds.Name done))))))) c.args.tokens.now c.rename_query.result c.in_default-mark.ensures.found
+    (RunsTo-takes kinds.Rename rename_form (pick kinds.Overlay pair_form (pick kinds.Cover pair_form (pick kinds.Merge pair_form (pick kinds.Minus pair_form (pick kinds.Window window_query_form (need kinds.Name done)))))) c.args.tokens.now c.in-Some-mark-2.rest.now c.rename_query.result c.in-Some-mark-2.ensures.found c.rename_query.ensures.runs))
+
+pub query-returns-in-Some-mark-3-clause-runs : goal.query-returns-in-Some-mark-3-clause-runs
+query-returns-in-Some-mark-3-clause-runs t c =
+    RunsTo-skips kinds.Where where_form (pick kinds.Dissolve dissolve_form (pick kinds.Rename rename_form (pick kinds.Overlay pair_form (pick kinds.Cover pair_form (pick kinds.Merge pair_form (pick kinds.Minus pair_form (pick kinds.Window window_query_form (need kinds.Name done)))))))) c.args.tokens.now c.pair_query.result c.in_default.ensures.found
+    (RunsTo-skips kinds.Dissolve dissolve_form (pick kinds.Rename rename_form (pick kinds.Overlay pair_form (pick kinds.Cover pair_form (pick kinds.Merge pair_form (pick kinds.Minus pair_form (pick kinds.Window window_query_form (need kinds.Name done))))))) c.args.tokens.now c.pair_query.result c.in_default-mark.ensures.found
+    (RunsTo-skips kinds.Rename rename_form (pick kinds.Overlay pair_form (pick kinds.Cover pair_form (pick kinds.Merge pair_form (pick kinds.Minus pair_form (pick kinds.Window window_query_form (need kinds.Name done)))))) c.args.tokens.now c.pair_query.result c.in_default-mark-2.ensures.found
+    (RunsTo-takes kinds.Overlay pair_form (pick kinds.Cover pair_form (pick kinds.Merge pair_form (pick kinds.Minus pair_form (pick kinds.Window window_query_form (need kinds.Name done))))) c.args.tokens.now c.in-Some-mark-3.rest.now c.pair_query.result c.in-Some-mark-3.ensures.found c.pair_query.ensures.runs)))
+
+pub query-returns-in-Some-mark-4-clause-runs : goal.query-returns-in-Some-mark-4-clause-runs
+query-returns-in-Some-mark-4-clause-runs t c =
+    RunsTo-skips kinds.Where where_form (pick kinds.Dissolve dissolve_form (pick kinds.Rename rename_form (pick kinds.Overlay pair_form (pick kinds.Cover pair_form (pick kinds.Merge pair_form (pick kinds.Minus pair_form (pick kinds.Window window_query_form (need kinds.Name done)))))))) c.args.tokens.now c.pair_query-in-Some-mark-4.result c.in_default.ensures.found
+    (RunsTo-skips kinds.Dissolve dissolve_form (pick kinds.Rename rename_form (pick kinds.Overlay pair_form (pick kinds.Cover pair_form (pick kinds.Merge pair_form (pick kinds.Minus pair_form (pick kinds.Window window_query_form (need kinds.Name done))))))) c.args.tokens.now c.pair_query-in-Some-mark-4.result c.in_default-mark.ensures.found
+    (RunsTo-skips kinds.Rename rename_form (pick kinds.Overlay pair_form (pick kinds.Cover pair_form (pick kinds.Merge pair_form (pick kinds.Minus pair_form (pick kinds.Window window_query_form (need kinds.Name done)))))) c.args.tokens.now c.pair_query-in-Some-mark-4.result c.in_default-mark-2.ensures.found
+    (RunsTo-skips kinds.Overlay pair_form (pick kinds.Cover pair_form (pick kinds.Merge pair_form (pick kinds.Minus pair_form (pick kinds.Window window_query_form (need kinds.Name done))))) c.args.tokens.now c.pair_query-in-Some-mark-4.result c.in_default-mark-3.ensures.found
+    (RunsTo-takes kinds.Cover pair_form (pick kinds.Merge pair_form (pick kinds.Minus pair_form (pick kinds.Window window_query_form (need kinds.Name done)))) c.args.tokens.now c.in-Some-mark-4.rest.now c.pair_query-in-Some-mark-4.result c.in-Some-mark-4.ensures.found c.pair_query-in-Some-mark-4.ensures.runs))))
+
+pub query-returns-in-Some-mark-5-clause-runs : goal.query-returns-in-Some-mark-5-clause-runs
+query-returns-in-Some-mark-5-clause-runs t c =
+    RunsTo-skips kinds.Where where_form (pick kinds.Dissolve dissolve_form (pick kinds.Rename rename_form (pick kinds.Overlay pair_form (pick kinds.Cover pair_form (pick kinds.Merge pair_form (pick kinds.Minus pair_form (pick kinds.Window window_query_form (need kinds.Name done)))))))) c.args.tokens.now c.pair_query-in-Some-mark-5.result c.in_default.ensures.found
+    (RunsTo-skips kinds.Dissolve dissolve_form (pick kinds.Rename rename_form (pick kinds.Overlay pair_form (pick kinds.Cover pair_form (pick kinds.Merge pair_form (pick kinds.Minus pair_form (pick kinds.Window window_query_form (need kinds.Name done))))))) c.args.tokens.now c.pair_query-in-Some-mark-5.result c.in_default-mark.ensures.found
+    (RunsTo-skips kinds.Rename rename_form (pick kinds.Overlay pair_form (pick kinds.Cover pair_form (pick kinds.Merge pair_form (pick kinds.Minus pair_form (pick kinds.Window window_query_form (need kinds.Name done)))))) c.args.tokens.now c.pair_query-in-Some-mark-5.result c.in_default-mark-2.ensures.found
+    (RunsTo-skips kinds.Overlay pair_form (pick kinds.Cover pair_form (pick kinds.Merge pair_form (pick kinds.Minus pair_form (pick kinds.Window window_query_form (need kinds.Name done))))) c.args.tokens.now c.pair_query-in-Some-mark-5.result c.in_default-mark-3.ensures.found
+    (RunsTo-skips kinds.Cover pair_form (pick kinds.Merge pair_form (pick kinds.Minus pair_form (pick kinds.Window window_query_form (need kinds.Name done)))) c.args.tokens.now c.pair_query-in-Some-mark-5.result c.in_default-mark-4.ensures.found
+    (RunsTo-takes kinds.Merge pair_form (pick kinds.Minus pair_form (pick kinds.Window window_query_form (need kinds.Name done))) c.args.tokens.now c.in-Some-mark-5.rest.now c.pair_query-in-Some-mark-5.result c.in-Some-mark-5.ensures.found c.pair_query-in-Some-mark-5.ensures.runs)))))
+
+pub query-returns-in-Some-mark-6-clause-runs : goal.query-returns-in-Some-mark-6-clause-runs
+query-returns-in-Some-mark-6-clause-runs t c =
+    RunsTo-skips kinds.Where where_form (pick kinds.Dissolve dissolve_form (pick kinds.Rename rename_form (pick kinds.Overlay pair_form (pick kinds.Cover pair_form (pick kinds.Merge pair_form (pick kinds.Minus pair_form (pick kinds.Window window_query_form (need kinds.Name done)))))))) c.args.tokens.now c.pair_query-in-Some-mark-6.result c.in_default.ensures.found
+    (RunsTo-skips kinds.Dissolve dissolve_form (pick kinds.Rename rename_form (pick kinds.Overlay pair_form (pick kinds.Cover pair_form (pick kinds.Merge pair_form (pick kinds.Minus pair_form (pick kinds.Window window_query_form (need kinds.Name done))))))) c.args.tokens.now c.pair_query-in-Some-mark-6.result c.in_default-mark.ensures.found
+    (RunsTo-skips kinds.Rename rename_form (pick kinds.Overlay pair_form (pick kinds.Cover pair_form (pick kinds.Merge pair_form (pick kinds.Minus pair_form (pick kinds.Window window_query_form (need kinds.Name done)))))) c.args.tokens.now c.pair_query-in-Some-mark-6.result c.in_default-mark-2.ensures.found
+    (RunsTo-skips kinds.Overlay pair_form (pick kinds.Cover pair_form (pick kinds.Merge pair_form (pick kinds.Minus pair_form (pick kinds.Window window_query_form (need kinds.Name done))))) c.args.tokens.now c.pair_query-in-Some-mark-6.result c.in_default-mark-3.ensures.found
+    (RunsTo-skips kinds.Cover pair_form (pick kinds.Merge pair_form (pick kinds.Minus pair_form (pick kinds.Window window_query_form (need kinds.Name done)))) c.args.tokens.now c.pair_query-in-Some-mark-6.result c.in_default-mark-4.ensures.found
+    (RunsTo-skips kinds.Merge pair_form (pick kinds.Minus pair_form (pick kinds.Window window_query_form (need kinds.Name done))) c.args.tokens.now c.pair_query-in-Some-mark-6.result c.in_default-mark-5.ensures.found
+    (RunsTo-takes kinds.Minus pair_form (pick kinds.Window window_query_form (need kinds.Name done)) c.args.tokens.now c.in-Some-mark-6.rest.now c.pair_query-in-Some-mark-6.result c.in-Some-mark-6.ensures.found c.pair_query-in-Some-mark-6.ensures.runs))))))
+
+pub query-returns-in-Some-mark-7-clause-runs : goal.query-returns-in-Some-mark-7-clause-runs
+query-returns-in-Some-mark-7-clause-runs t c =
+    RunsTo-skips kinds.Where where_form (pick kinds.Dissolve dissolve_form (pick kinds.Rename rename_form (pick kinds.Overlay pair_form (pick kinds.Cover pair_form (pick kinds.Merge pair_form (pick kinds.Minus pair_form (pick kinds.Window window_query_form (need kinds.Name done)))))))) c.args.tokens.now c.window_query.result c.in_default.ensures.found
+    (RunsTo-skips kinds.Dissolve dissolve_form (pick kinds.Rename rename_form (pick kinds.Overlay pair_form (pick kinds.Cover pair_form (pick kinds.Merge pair_form (pick kinds.Minus pair_form (pick kinds.Window window_query_form (need kinds.Name done))))))) c.args.tokens.now c.window_query.result c.in_default-mark.ensures.found
+    (RunsTo-skips kinds.Rename rename_form (pick kinds.Overlay pair_form (pick kinds.Cover pair_form (pick kinds.Merge pair_form (pick kinds.Minus pair_form (pick kinds.Window window_query_form (need kinds.Name done)))))) c.args.tokens.now c.window_query.result c.in_default-mark-2.ensures.found
+    (RunsTo-skips kinds.Overlay pair_form (pick kinds.Cover pair_form (pick kinds.Merge pair_form (pick kinds.Minus pair_form (pick kinds.Window window_query_form (need kinds.Name done))))) c.args.tokens.now c.window_query.result c.in_default-mark-3.ensures.found
+    (RunsTo-skips kinds.Cover pair_form (pick kinds.Merge pair_form (pick kinds.Minus pair_form (pick kinds.Window window_query_form (need kinds.Name done)))) c.args.tokens.now c.window_query.result c.in_default-mark-4.ensures.found
+    (RunsTo-skips kinds.Merge pair_form (pick kinds.Minus pair_form (pick kinds.Window window_query_form (need kinds.Name done))) c.args.tokens.now c.window_query.result c.in_default-mark-5.ensures.found
+    (RunsTo-skips kinds.Minus pair_form (pick kinds.Window window_query_form (need kinds.Name done)) c.args.tokens.now c.window_query.result c.in_default-mark-6.ensures.found
+    (RunsTo-takes kinds.Window window_query_form (need kinds.Name done) c.args.tokens.now c.in-Some-mark-7.rest.now c.window_query.result c.in-Some-mark-7.ensures.found c.window_query.ensures.runs)))))))
+
+pub query-returns-in_err-name-clause-runs : goal.query-returns-in_err-name-clause-runs
+query-returns-in_err-name-clause-runs t c =
+    let p = err_from_is_err_and c.from_residual.result c.from_residual.ensures.1 in
+    rw (p.1, p.2) (skips c.in_default.ensures.found (skips c.in_default-mark.ensures.found (skips c.in_default-mark-2.ensures.found (skips c.in_default-mark-3.ensures.found (skips c.in_default-mark-4.ensures.found (skips c.in_default-mark-5.ensures.found (skips c.in_default-mark-6.ensures.found (skips c.in_default-mark-7.ensures.found (misses c.in_err-name.ensures.found)))))))))
+
+pub query-returns-clause-runs : goal.query-returns-clause-runs
+query-returns-clause-runs t c = skips c.in_default.ensures.found (skips c.in_default-mark.ensures.found (skips c.in_default-mark-2.ensures.found (skips c.in_default-mark-3.ensures.found (skips c.in_default-mark-4.ensures.found (skips c.in_default-mark-5.ensures.found (skips c.in_default-mark-6.ensures.found (skips c.in_default-mark-7.ensures.found (takes_as c.in_ok-name.ensures.found (is_done)))))))))

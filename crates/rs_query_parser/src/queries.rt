@@ -1,0 +1,147 @@
+//! The descent's part for queries.
+//!
+//! Each function takes tokens from the front and returns the others, or those at which it stopped.
+//! Calls nest only with the brackets of a line.
+
+ghost use Rattle.std.specs.Prelude.{◌≡◌, ◌<◌, ◌∷◌, ◌++◌, length, IfOk, MatchResult};
+ghost use Rattle.rs_grammar.specs.declared.kind.TokenKind.TheVariants as kinds;
+ghost use Rattle.rs_grammar.specs.Grammar.{query_form, where_form, dissolve_form, rename_form, pair_form, window_query_form};
+ghost use Rattle.rs_syntax.specs.Written.{mark, pair_kind, query_lexemes, lexemes_of};
+ghost use Rattle.rs_syntax.specs.WrittenView.{query_syntax};
+ghost use Rattle.rs_query_parser.specs.Reading.{RunsTo, BeginsOperand};
+
+use crate::conditions::condition;
+use crate::front::{Stop, mark, need_mark, need_text};
+use crate::names::bracketed_names;
+use crate::windows::window;
+use rs_grammar::kind::TokenKind;
+use rs_lexer::Token;
+use rs_syntax::written::{PairOperator, WrittenQuery};
+use std::alloc::Global;
+
+// "(" query ","
+#[cycle(reading)]
+fn operand_query(alloc: Global, tokens: &[Token]) -> Result<(Box<WrittenQuery>, &[Token]), Stop<'_>>
+    ensures begins { BeginsOperand tokens.now result }
+    ensures spelled { IfOk result (λ found. lexemes_of tokens.now
+        ≡ mark kinds.LeftParen ∷ (query_lexemes (query_syntax found.0.value) ++ mark kinds.Comma ∷ lexemes_of found.1.now)) }
+    ensures shorter { IfOk result (λ found. length found.1.now < length tokens.now) }
+{
+    let rest = need_mark(tokens, TokenKind::LeftParen)?;
+    let (query, rest) = query(alloc, rest)?;
+    let rest = need_mark(rest, TokenKind::Comma)?;
+    Ok((Box::new(alloc, query)?, rest))
+}
+
+// after WHERE: "(" query "," condition ")"
+#[cycle(reading)]
+fn where_query(alloc: Global, tokens: &[Token]) -> Result<(WrittenQuery, &[Token]), Stop<'_>>
+    ensures runs { RunsTo where_form tokens.now result }
+    ensures spelled { IfOk result (λ found. mark kinds.Where ∷ lexemes_of tokens.now
+        ≡ query_lexemes (query_syntax found.0) ++ lexemes_of found.1.now) }
+    ensures shorter { IfOk result (λ found. length found.1.now < length tokens.now) }
+{
+    let (query, rest) = operand_query(alloc, tokens)?;
+    let (condition, rest) = condition(alloc, rest)?;
+    let rest = need_mark(rest, TokenKind::RightParen)?;
+    Ok((WrittenQuery::Where(query, condition), rest))
+}
+
+// after DISSOLVE: "(" query "," "(" [ names ] ")" ")"
+#[cycle(reading)]
+fn dissolve_query(alloc: Global, tokens: &[Token]) -> Result<(WrittenQuery, &[Token]), Stop<'_>>
+    ensures runs { RunsTo dissolve_form tokens.now result }
+    ensures spelled { IfOk result (λ found. mark kinds.Dissolve ∷ lexemes_of tokens.now
+        ≡ query_lexemes (query_syntax found.0) ++ lexemes_of found.1.now) }
+    ensures shorter { IfOk result (λ found. length found.1.now < length tokens.now) }
+{
+    let (query, rest) = operand_query(alloc, tokens)?;
+    let (names, rest) = bracketed_names(alloc, rest)?;
+    let rest = need_mark(rest, TokenKind::RightParen)?;
+    Ok((WrittenQuery::Dissolve(query, names), rest))
+}
+
+// after RENAME: "(" query "," name TO name ")"
+#[cycle(reading)]
+fn rename_query(alloc: Global, tokens: &[Token]) -> Result<(WrittenQuery, &[Token]), Stop<'_>>
+    ensures runs { RunsTo rename_form tokens.now result }
+    ensures spelled { IfOk result (λ found. mark kinds.Rename ∷ lexemes_of tokens.now
+        ≡ query_lexemes (query_syntax found.0) ++ lexemes_of found.1.now) }
+    ensures shorter { IfOk result (λ found. length found.1.now < length tokens.now) }
+{
+    let (query, rest) = operand_query(alloc, tokens)?;
+    let (from, rest) = need_text(rest, TokenKind::Name)?;
+    let rest = need_mark(rest, TokenKind::To)?;
+    let (to, rest) = need_text(rest, TokenKind::Name)?;
+    let rest = need_mark(rest, TokenKind::RightParen)?;
+    Ok((WrittenQuery::Rename(query, from, to), rest))
+}
+
+// after an operator's word: "(" query "," query ")"
+#[cycle(reading)]
+fn pair_query(
+    alloc: Global,
+    operator: PairOperator,
+    tokens: &[Token],
+) -> Result<(WrittenQuery, &[Token]), Stop<'_>>
+    ensures runs { RunsTo pair_form tokens.now result }
+    ensures spelled { IfOk result (λ found. mark (pair_kind operator) ∷ lexemes_of tokens.now
+        ≡ query_lexemes (query_syntax found.0) ++ lexemes_of found.1.now) }
+    ensures shorter { IfOk result (λ found. length found.1.now < length tokens.now) }
+{
+    let (left, rest) = operand_query(alloc, tokens)?;
+    let (right, rest) = query(alloc, rest)?;
+    let rest = need_mark(rest, TokenKind::RightParen)?;
+    let right = Box::new(alloc, right)?;
+    Ok((WrittenQuery::Pair(operator, left, right), rest))
+}
+
+// after WINDOW: "(" query "," window ")"
+#[cycle(reading)]
+fn window_query(alloc: Global, tokens: &[Token]) -> Result<(WrittenQuery, &[Token]), Stop<'_>>
+    ensures runs { RunsTo window_query_form tokens.now result }
+    ensures spelled { IfOk result (λ found. mark kinds.Window ∷ lexemes_of tokens.now
+        ≡ query_lexemes (query_syntax found.0) ++ lexemes_of found.1.now) }
+    ensures shorter { IfOk result (λ found. length found.1.now < length tokens.now) }
+{
+    let (query, rest) = operand_query(alloc, tokens)?;
+    let (window, rest) = window(rest)?;
+    let rest = need_mark(rest, TokenKind::RightParen)?;
+    Ok((WrittenQuery::Window(query, window), rest))
+}
+
+/// Reads the syntax of a query from the front, and returns the tokens after it.
+#[cycle(reading)]
+pub fn query(alloc: Global, tokens: &[Token]) -> Result<(WrittenQuery, &[Token]), Stop<'_>>
+    ensures runs { RunsTo query_form tokens.now result }
+    ensures spelled { IfOk result (λ found.
+        lexemes_of tokens.now ≡ query_lexemes (query_syntax found.0) ++ lexemes_of found.1.now) }
+    ensures shorter { IfOk result (λ found. length found.1.now < length tokens.now) }
+{
+    if let Some(rest) = mark(tokens, TokenKind::Where) {
+        return where_query(alloc, rest);
+    }
+    if let Some(rest) = mark(tokens, TokenKind::Dissolve) {
+        return dissolve_query(alloc, rest);
+    }
+    if let Some(rest) = mark(tokens, TokenKind::Rename) {
+        return rename_query(alloc, rest);
+    }
+    if let Some(rest) = mark(tokens, TokenKind::Overlay) {
+        return pair_query(alloc, PairOperator::Overlay, rest);
+    }
+    if let Some(rest) = mark(tokens, TokenKind::Cover) {
+        return pair_query(alloc, PairOperator::Cover, rest);
+    }
+    if let Some(rest) = mark(tokens, TokenKind::Merge) {
+        return pair_query(alloc, PairOperator::Merge, rest);
+    }
+    if let Some(rest) = mark(tokens, TokenKind::Minus) {
+        return pair_query(alloc, PairOperator::Minus, rest);
+    }
+    if let Some(rest) = mark(tokens, TokenKind::Window) {
+        return window_query(alloc, rest);
+    }
+    let (name, rest) = need_text(tokens, TokenKind::Name)?;
+    Ok((WrittenQuery::Named(name), rest))
+}
