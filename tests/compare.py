@@ -6,7 +6,8 @@
 Each round is a fresh run of both on the same lines. Where the answers differ, the lines
 are shortened to a few that still differ, and these are printed with both answers. How
 many lines of each sort there were is asserted too (tally.py), and that positions are read
-back as they are printed (positions.py). The same numbers give the same lines each time.
+back as they are printed (positions.py). The same numbers give the same lines each time;
+`--lines 200000 --rounds 400` is the long run.
 The last line is `N passed, M failed`: rounds, sorts and checks of positions.
 """
 
@@ -223,7 +224,7 @@ def options():
     parser = argparse.ArgumentParser(description="Compares the program with the slow machine.")
     parser.add_argument("--program", default=PROGRAM, help="what is compared (default: the program that the gate built)")
     parser.add_argument("--slow", default=SLOW, help="what it is compared with (default: the slow machine)")
-    parser.add_argument("--lines", type=int, default=40_000, help="pseudo-random lines in all")
+    parser.add_argument("--lines", type=int, default=20_000, help="pseudo-random lines in all")
     parser.add_argument("--rounds", type=int, default=40, help="fresh runs that share the lines")
     parser.add_argument("--seed", type=int, default=0)
     parser.add_argument("--only", type=int, help="the number of one round, which is run alone")
@@ -246,7 +247,7 @@ def main():
     results.append(report_tally(tally, tally.lines >= FEWEST_TALLIED, chosen.counts))
     results.append(report_positions(programs))
     passed, failed = (sum(numbers) for numbers in zip(*results))
-    print("%d lines in %d rounds of seed %d" % (tally.lines, len(rounds), chosen.seed))
+    print("%d lines in %d rounds of seed %d: %s" % (tally.lines, len(rounds), chosen.seed, tally.summary()))
     print("%d passed, %d failed" % (passed, failed))
     return 1 if failed else 0
 

@@ -4,8 +4,10 @@
     tests/conversations.py [--program CMD] [--timeout SECONDS] [--jobs N] [FILE ..]
     tests/conversations.py --expand FILE
 
-Without files it runs every tests/conversations/*.txt and every example of README.md and docs/LANGUAGE.md. An example
-is a fenced or indented block whose first line begins with `> `; other blocks of a `.md` file are skipped. CMD is
+Without files it runs every tests/conversations/*.txt and every example of README.md, docs/LANGUAGE.md and
+docs/COOKBOOK.md. An example is a fenced or indented block whose first line begins with `> `; other blocks of a `.md`
+file are skipped. Where the file has a line `<!-- each example follows FILE -->`, the lines of FILE, a path from the
+repository's root, are sent before each of its examples, and each of them must be accepted. CMD is
 `crates/roadseg/out/roadseg run` by default. For each line that is answered otherwise it prints the file, the number of
 the line in the file, the line sent, and the first line of the reply that differs, as wanted and as got. A run that
 does not end with status 0, or writes to standard error, fails too. The last line is `N passed, M failed`, counted in
@@ -43,7 +45,10 @@ import sys
 
 ROOT = os.path.dirname(os.path.dirname(os.path.abspath(__file__)))
 PROGRAM = shlex.quote(os.path.join(ROOT, "crates", "roadseg", "out", "roadseg")) + " run"
-DOCUMENTS = ["README.md", os.path.join("docs", "LANGUAGE.md")]
+DOCUMENTS = ["README.md", os.path.join("docs", "LANGUAGE.md"), os.path.join("docs", "COOKBOOK.md")]
+
+# What a document says where its examples follow the lines of a file.
+FOLLOWS = re.compile(r"<!-- each example follows (\S+) -->")
 
 # Of so many lines of a conversation the differences are printed; the others are counted.
 DIFFERENCES_SHOWN = 5
@@ -52,16 +57,22 @@ BYTES_SHOWN = 300
 # The last line of a reply.
 FINISH = re.compile(rb"[0-9]+ (OK|ERR) ")
 
+# The reply to a line that is only to be accepted.
+ACCEPTED = re.compile(rb"[0-9]+ OK [0-9]+\n")
+
 
 class Misspelt(Exception):
     """A file that is no conversation."""
 
 
 class Exchange:
-    """A line that is sent, or the rest of one that is cut, and its whole answer."""
+    """A line that is sent, or the rest of one that is cut, and its whole answer; or only that it is accepted."""
 
-    def __init__(self, number, sent):
-        self.number, self.sent, self.wanted = number, sent, bytearray()
+    def __init__(self, number, sent, is_answer_free=False):
+        self.number, self.sent, self.wanted, self.is_answer_free = number, sent, bytearray(), is_answer_free
+
+    def is_answered_by(self, reply):
+        return bool(ACCEPTED.fullmatch(reply)) if self.is_answer_free else reply == self.wanted
 
 
 class Conversation:
@@ -199,14 +210,27 @@ def blocks_of(lines):
             block, is_fenced = [], is_fence and not is_fenced
 
 
+def numbered_lines(path):
+    with open(path, encoding="utf-8", newline="\n") as file:
+        return list(enumerate(file.read().split("\n"), 1))
+
+
+def example_of(name, block, before):
+    """The conversation of an example, after lines that are only to be accepted."""
+    conversation = conversation_of(name, block)
+    conversation.exchanges[:0] = [Exchange(number, line.encode() + b"\n", True) for number, line in before if line]
+    return conversation
+
+
 def conversations_of(path):
     """The conversations of a file: one of a `.txt` file, each example of a `.md` file."""
-    with open(path, encoding="utf-8", newline="\n") as file:
-        lines = list(enumerate(file.read().split("\n"), 1))
+    lines = numbered_lines(path)
     name = os.path.relpath(path)
     if not path.endswith(".md"):
         return [conversation_of(name, lines)]
-    return [conversation_of(name, block) for block in blocks_of(lines)
+    files = [found[1] for _number, line in lines if (found := FOLLOWS.fullmatch(line))]
+    before = [line for file in files for line in numbered_lines(os.path.join(ROOT, file))]
+    return [example_of(name, block, before) for block in blocks_of(lines)
             if block and block[0][1].startswith("> ")]
 
 
@@ -279,7 +303,7 @@ def differences(conversation, out):
     for exchange in conversation.exchanges:
         is_whole = exchange.sent.endswith(b"\n")
         got = next(replies, b"") if is_whole else b""
-        if got != exchange.wanted:
+        if not exchange.is_answered_by(got):
             found.append(difference(conversation.name, exchange, got))
     rest = b"".join(replies)
     if rest:

@@ -5,39 +5,47 @@
 
 It keeps a set of rows for every single thousandth of each table on each route, and
 knows no span, page, index or plan. It shares nothing with the crates that it judges:
-the reading of lines is its own (slow_reader.py). Rows are tuples of None, numbers and
-bytes; names are bytes; places are thousandths. A refused line changes nothing, since
-each command looks at all that could refuse it before its effect.
+the reading of lines is its own (slow_reader.py), and so are queries (slow_queries.py).
+Rows are tuples of None, numbers and bytes; names are bytes; places are thousandths. A
+refused line changes nothing, since each command looks at all that could refuse it before
+its effect.
 
-A query is a tree (Named is its only node today). A further operator is a case in
-`check_query`, in `places`, in `rows_at`, and later in its columns and its kind.
+A further command is a class in slow_commands.py, a function that reads it, and here a
+case of `serve` and a function. A further operator is a class there, a line of the
+reader's `operators`, and a case of `node` with a class of its own in slow_queries.py.
 """
 
 import sys
 
-from slow_reader import (
-    WHOLE_PART,
+from slow_commands import (
     Absolute,
     DefineReferent,
     DefineRoute,
     DefineTable,
+    DefineView,
     DropReferent,
+    DropRoute,
+    DropTable,
+    DropView,
     Insert,
     Interpolative,
     MoveReferent,
     Named,
     Refused,
     Relative,
+    Remove,
     Select,
     Translate,
-    command_of,
-    session_of,
-    text_of_line,
+    Window,
+    parts_of,
+    refuse_if,
 )
+from slow_queries import MOST_COLUMNS, QueryColumn, View, meets, opened, size_of
+from slow_reader import WHOLE_PART, command_of, session_of, text_of_line
 
 MOST_ROUTES = 4096
 MOST_TABLES = 128
-MOST_COLUMNS = 12
+MOST_VIEWS = 128
 MOST_REFERENTS = 1000
 MOST_CHANGES = 2**63 - 1
 
@@ -53,22 +61,20 @@ WORDS = {
     12: "number out of range",
     20: "no such route",
     21: "no such name",
+    22: "no such column",
     23: "in use",
     24: "name taken",
     25: "no such referent",
     27: "limit",
     30: "outside the route",
     31: "empty span",
+    32: "point or line wanted",
     33: "wrong type or number of values",
     34: "text too long",
+    40: "columns differ",
     41: "column twice",
+    42: "kinds differ",
 }
-
-
-def refuse_if(is_so, number):
-    """A check of a command: the first that fails is answered."""
-    if is_so:
-        raise Refused(number)
 
 
 class Route:
@@ -92,6 +98,16 @@ class Route:
         refuse_if(not self.start <= place <= self.finish, 30)
         return place
 
+    def places_of(self, ends):
+        """Where positions lie: the first is looked at first, then the second, then 31 where they are no span."""
+        places = [self.locate(position) for position in ends]
+        refuse_if(len(places) == 2 and places[0] >= places[1], 31)
+        return places
+
+    def within(self, ends):
+        """The thousandths of a span; where none is given, of the whole route, its end among them."""
+        return range(*self.places_of(ends)) if ends else range(self.start, self.finish + 1)
+
     def express(self, place, method):
         """The text of a place by a method."""
         if method == b"RELATIVE":
@@ -113,11 +129,16 @@ class Route:
 
 
 class Table:
-    """Columns, and for each route and thousandth the set of rows that hold there."""
+    """A kind, columns, and for each route and thousandth the set of rows that hold there."""
 
-    def __init__(self, columns):
-        self.columns = columns
+    def __init__(self, is_line, types):
+        self.is_line = is_line
+        self.types = types
+        self.columns = [QueryColumn(column.name, column.longest is not None) for column in types]
         self.rows = {}
+
+    def places(self, route):
+        return self.rows.get(route, {}).keys()
 
     def rows_at(self, route, place):
         return self.rows.get(route, {}).get(place, set())
@@ -129,13 +150,19 @@ class Table:
         rows.add(row)
         return is_new
 
+    def take_away(self, route, place, row):
+        """The row does not hold at the thousandth from now on."""
+        self.rows[route][place].remove(row)
+        if not self.rows[route][place]:
+            del self.rows[route][place]
+
     def check_row(self, row):
         """Refused 33 for the number of values, then for their types from the left; then 34."""
-        refuse_if(len(row) != len(self.columns), 33)
-        for column, value in zip(self.columns, row):
+        refuse_if(len(row) != len(self.types), 33)
+        for column, value in zip(self.types, row):
             refuse_if(isinstance(value, bytes) and column.longest is None, 33)
             refuse_if(isinstance(value, int) and column.longest is not None, 33)
-        for column, value in zip(self.columns, row):
+        for column, value in zip(self.types, row):
             refuse_if(isinstance(value, bytes) and len(value) > column.longest, 34)
 
 
@@ -145,6 +172,7 @@ class Machine:
     def __init__(self):
         self.routes = {}
         self.tables = {}
+        self.views = {}
         self.changes = 0
 
     # Lines and replies.
@@ -167,14 +195,24 @@ class Machine:
                 return self.define_route(command)
             case DefineTable():
                 return self.define_table(command)
+            case DefineView():
+                return self.define_view(command)
             case DefineReferent():
                 return self.define_referent(command)
-            case MoveReferent():
-                return self.move_referent(command)
+            case DropRoute(name):
+                return self.drop_route(name)
+            case DropTable(name):
+                return self.drop_table(name)
+            case DropView(name):
+                return self.drop_view(name)
             case DropReferent():
                 return self.drop_referent(command)
+            case MoveReferent():
+                return self.move_referent(command)
             case Insert():
                 return self.insert(command)
+            case Remove():
+                return self.remove(command)
             case Translate():
                 return self.translate(command)
             case Select():
@@ -190,12 +228,22 @@ class Machine:
         refuse_if(name not in self.tables, 21)
         return self.tables[name]
 
-    def span(self, route, first, last):
-        """Where two positions lie: the first is looked at, then the second, then their order."""
-        start = route.locate(first)
-        finish = route.locate(last)
-        refuse_if(start >= finish, 31)
-        return start, finish
+    def has_rows(self, name):
+        """Whether a name is a table's or a view's, which share their names."""
+        return name in self.tables or name in self.views
+
+    def parts_of_views(self):
+        """All that the queries of all views say, as they were written."""
+        for view in self.views.values():
+            yield from parts_of(view.query)
+
+    def is_in_a_view(self, name):
+        """Whether a view names this table or view."""
+        return any(isinstance(part, Named) and part.name == name for part in self.parts_of_views())
+
+    def windows_of_views(self, route):
+        """The windows on a route in the queries of all views."""
+        return [part for part in self.parts_of_views() if isinstance(part, Window) and part.route == route]
 
     def own_referents(self, route, name):
         """The referents of a route, of which this one may be changed: refused 20, 25, 23."""
@@ -221,12 +269,20 @@ class Machine:
 
     def define_table(self, command):
         names = [column.name for column in command.columns]
-        refuse_if(command.name in self.tables, 24)
+        refuse_if(self.has_rows(command.name), 24)
         refuse_if(len(set(names)) < len(names), 41)
         refuse_if(len(names) > MOST_COLUMNS, 27)
         refuse_if(len(self.tables) == MOST_TABLES, 27)
         self.count_change()
-        self.tables[command.name] = Table(command.columns)
+        self.tables[command.name] = Table(command.is_line, command.columns)
+        return [], 0
+
+    def define_view(self, command):
+        opened(self, command.query)
+        refuse_if(self.has_rows(command.name), 24)
+        refuse_if(len(self.views) == MOST_VIEWS, 27)
+        self.count_change()
+        self.views[command.name] = View(command.query, *size_of(self, command.query))
         return [], 0
 
     def define_referent(self, command):
@@ -245,8 +301,33 @@ class Machine:
         referents[command.name] = place
         return [], 0
 
+    def drop_route(self, name):
+        self.route(name)
+        refuse_if(any(table.places(name) for table in self.tables.values()), 23)
+        refuse_if(self.windows_of_views(name), 23)
+        self.count_change()
+        del self.routes[name]
+        return [], 0
+
+    def drop_table(self, name):
+        self.table(name)
+        refuse_if(self.is_in_a_view(name), 23)
+        self.count_change()
+        del self.tables[name]
+        return [], 0
+
+    def drop_view(self, name):
+        refuse_if(name not in self.views, 21)
+        refuse_if(self.is_in_a_view(name), 23)
+        self.count_change()
+        del self.views[name]
+        return [], 0
+
     def drop_referent(self, command):
         referents = self.own_referents(command.route, command.name)
+        for window in self.windows_of_views(command.route):
+            named = [position.name for position in window.ends or () if isinstance(position, Relative)]
+            refuse_if(command.name in named, 23)
         self.count_change()
         del referents[command.name]
         return [], 0
@@ -254,53 +335,56 @@ class Machine:
     def insert(self, command):
         route = self.route(command.route)
         table = self.table(command.table)
-        start, finish = self.span(route, command.first, command.last)
+        places = route.places_of(command.ends)
+        refuse_if(table.is_line != (len(places) == 2), 32)
         table.check_row(command.row)
         self.count_change()
-        keep_short(finish - start)
-        return [], sum(table.put(command.route, place, command.row) for place in range(start, finish))
+        held = range(*places) if table.is_line else places
+        keep_short(len(held))
+        return [], sum(table.put(command.route, place, command.row) for place in held)
+
+    def remove(self, command):
+        route = self.route(command.route)
+        table = self.table(command.table)
+        within = route.within(command.ends)
+        is_meant = meets(table.columns, command.condition) if command.condition else lambda row: True
+        self.count_change()
+        going = [
+            (place, row)
+            for place in table.places(command.route)
+            if place in within
+            for row in table.rows_at(command.route, place)
+            if is_meant(row)
+        ]
+        for place, row in going:
+            table.take_away(command.route, place, row)
+        return [], len(going)
 
     def translate(self, command):
         route = self.route(command.route)
         return [route.express(route.locate(command.position), command.method)], 1
 
     def select(self, command):
-        self.check_query(command.query)
-        rows = [self.run_text(run, command.method) for run in self.runs(command.query)]
+        query = opened(self, command.query)
+        rows = [self.run_text(run, command.method) for run in self.runs(query)]
         return rows, len(rows)
 
-    # Queries.
-
-    def check_query(self, query):
-        match query:
-            case Named(name):
-                self.table(name)
-
-    def places(self, query, route):
-        """The thousandths of a route at which the query may have rows; at all others it has none."""
-        match query:
-            case Named(name):
-                return self.tables[name].rows.get(route, {}).keys()
-
-    def rows_at(self, query, route, place):
-        """The set of the query's rows at one thousandth, by its outermost operator."""
-        match query:
-            case Named(name):
-                return self.tables[name].rows_at(route, place)
+    # The runs of an opened query.
 
     def runs(self, query):
-        """The maximal runs, by the route's name, then by their start, then by their row."""
+        """By route name, then by start, then by row: (route, start, end, row), with no end where they are points."""
         for route in sorted(self.routes):
-            rows = {place: self.rows_at(query, route, place) for place in self.places(query, route)}
+            rows = {place: query.rows_at(route, place) for place in query.places(route)}
             for start in sorted(rows):
-                begun = rows[start] - rows.get(start - 1, set())
-                for row in sorted(begun, key=row_order):
-                    yield route, start, end_of_run(rows, start, row), row
+                before = rows.get(start - 1, set()) if query.is_line else set()
+                for row in sorted(rows[start] - before, key=row_order):
+                    yield route, start, end_of_run(rows, start, row) if query.is_line else None, row
 
     def run_text(self, run, method):
         name, start, finish, row = run
         route = self.routes[name]
-        parts = [name.decode(), route.express(start, method), route.express(finish, method)]
+        parts = [name.decode(), route.express(start, method)]
+        parts += [] if finish is None else [route.express(finish, method)]
         return " ".join(parts + [value_text(value) for value in row])
 
 
@@ -355,7 +439,7 @@ def main():
     for line in sys.stdin.buffer:
         if line.endswith(b"\n"):
             sys.stdout.buffer.write(machine.answer(line[:-1]))
-    sys.stdout.buffer.flush()
+            sys.stdout.buffer.flush()
 
 
 if __name__ == "__main__":

@@ -10,6 +10,42 @@ Names and texts are bytes, measures are thousandths, parts are billionths.
 import re
 from typing import NamedTuple
 
+from slow_commands import (
+    Absolute,
+    All,
+    Any,
+    Column,
+    ColumnName,
+    Comparison,
+    Cover,
+    DefineReferent,
+    DefineRoute,
+    DefineTable,
+    DefineView,
+    Dissolve,
+    DropReferent,
+    DropRoute,
+    DropTable,
+    DropView,
+    Insert,
+    Interpolative,
+    IsNull,
+    Merge,
+    Minus,
+    MoveReferent,
+    Named,
+    Not,
+    Overlay,
+    Refused,
+    Relative,
+    Remove,
+    Rename,
+    Select,
+    Translate,
+    Where,
+    Window,
+)
+
 LONGEST_LINE = 4096
 LAST_SESSION = 63
 LONGEST_NAME = 32
@@ -26,89 +62,8 @@ RESERVED = frozenset(
 )
 
 METHODS = (b"ABSOLUTE", b"RELATIVE", b"INTERPOLATIVE")
-
-
-class Refused(Exception):
-    """A line is refused by a number; the column stands beside 11 alone."""
-
-    def __init__(self, number, column=None):
-        super().__init__(number, column)
-        self.number = number
-        self.column = column
-
-
-# What a command is. A position is Absolute, Relative or Interpolative; a query is a tree.
-
-
-class Absolute(NamedTuple):
-    measure: int
-
-
-class Relative(NamedTuple):
-    name: bytes
-    offset: int
-
-
-class Interpolative(NamedTuple):
-    part: int
-
-
-class Column(NamedTuple):
-    name: bytes
-    longest: int | None  # the most bytes of a text; None where the column holds numbers
-
-
-class Named(NamedTuple):
-    """The query that is a table's name."""
-
-    name: bytes
-
-
-class DefineRoute(NamedTuple):
-    name: bytes
-    start: int
-    finish: int
-
-
-class DefineReferent(NamedTuple):
-    route: bytes
-    name: bytes
-    position: tuple
-
-
-class MoveReferent(NamedTuple):
-    route: bytes
-    name: bytes
-    position: tuple
-
-
-class DropReferent(NamedTuple):
-    route: bytes
-    name: bytes
-
-
-class DefineTable(NamedTuple):
-    name: bytes
-    columns: list
-
-
-class Insert(NamedTuple):
-    table: bytes
-    route: bytes
-    first: tuple
-    last: tuple
-    row: tuple
-
-
-class Translate(NamedTuple):
-    route: bytes
-    position: tuple
-    method: bytes
-
-
-class Select(NamedTuple):
-    query: tuple
-    method: bytes
+SIGNS = (b"=", b"<>", b"<", b"<=", b">", b">=")
+PAIRED = {b"OVERLAY": Overlay, b"COVER": Cover, b"MERGE": Merge, b"MINUS": Minus}
 
 
 # Lines and tokens.
@@ -302,6 +257,14 @@ class Reader:
                 return method
         raise self.fault()
 
+    def span(self):
+        """FROM and TO with their positions, if they come next."""
+        if not self.takes(b"FROM"):
+            return None
+        first = self.position()
+        self.take(b"TO")
+        return first, self.position()
+
     def column(self):
         name = self.name()
         if self.takes(b"INT"):
@@ -326,33 +289,122 @@ class Reader:
         self.check_range(number <= GREATEST_NUMBER)
         return -number if is_below_zero else number
 
+    # Queries.
+
     def query(self):
+        """A name, or an operator and in brackets its operands and what else it takes."""
+        for word, read_rest in self.operators():
+            if self.takes(word):
+                self.take(b"(")
+                operand = self.query()
+                self.take(b",")
+                query = read_rest(operand)
+                self.take(b")")
+                return query
         return Named(self.name())
+
+    def operators(self):
+        """The words of the operators, and what reads each from its first comma on."""
+        yield b"WHERE", lambda operand: Where(operand, self.condition())
+        yield b"DISSOLVE", lambda operand: Dissolve(operand, self.column_names())
+        yield b"RENAME", self.rename
+        yield b"WINDOW", lambda operand: Window(operand, self.name(), self.span())
+        for word, operator in PAIRED.items():
+            yield word, lambda left, operator=operator: operator(left, self.query())
+
+    def column_names(self):
+        self.take(b"(")
+        names = [] if self.sees(b")") else self.list_of(self.name)
+        self.take(b")")
+        return names
+
+    def rename(self, operand):
+        name = self.name()
+        self.take(b"TO")
+        return Rename(operand, name, self.name())
+
+    # Conditions.
+
+    def condition(self):
+        return self.chain(b"OR", self.conjunction, Any)
+
+    def conjunction(self):
+        return self.chain(b"AND", self.atom, All)
+
+    def chain(self, word, read_part, join):
+        """One part, or several with a word between."""
+        parts = [read_part()]
+        while self.takes(word):
+            parts.append(read_part())
+        return parts[0] if len(parts) == 1 else join(parts)
+
+    def atom(self):
+        if self.takes(b"NOT"):
+            return Not(self.bracketed_condition())
+        if self.sees(b"("):
+            return self.bracketed_condition()
+        column = self.name()
+        if self.takes(b"IS"):
+            is_wanted = not self.takes(b"NOT")
+            self.take(b"NULL")
+            return IsNull(column, is_wanted)
+        return Comparison(column, self.sign(), self.other_side())
+
+    def bracketed_condition(self):
+        self.take(b"(")
+        condition = self.condition()
+        self.take(b")")
+        return condition
+
+    def sign(self):
+        for sign in SIGNS:
+            if self.takes(sign):
+                return sign
+        raise self.fault()
+
+    def other_side(self):
+        """What a column is compared with: a column's name or a value."""
+        if self.sees_kind("quoted") or self.sees_kind("whole") or self.sees(b"-"):
+            return self.literal()
+        return ColumnName(self.name())
 
     # Commands.
 
     def command(self):
-        if self.takes(b"DEFINE"):
-            return self.define()
-        if self.takes(b"MOVE"):
-            return self.move_referent()
-        if self.takes(b"DROP"):
-            return self.drop_referent()
-        if self.takes(b"INSERT"):
-            return self.insert()
-        if self.takes(b"TRANSLATE"):
-            return self.translate()
-        if self.takes(b"SELECT"):
-            return self.select()
+        for word, read_rest in self.commands():
+            if self.takes(word):
+                return read_rest()
         raise self.fault()
+
+    def commands(self):
+        """The words that commands begin with, and what reads each after its word."""
+        yield b"DEFINE", self.define
+        yield b"DROP", self.drop
+        yield b"MOVE", self.move_referent
+        yield b"INSERT", self.insert
+        yield b"REMOVE", self.remove
+        yield b"TRANSLATE", self.translate
+        yield b"SELECT", self.select
 
     def define(self):
         if self.takes(b"ROUTE"):
             return self.define_route()
         if self.takes(b"REFERENT"):
             return self.define_referent()
+        if self.takes(b"VIEW"):
+            return self.define_view()
+        if self.takes(b"POINT"):
+            return self.define_table(is_line=False)
         self.take(b"LINE")
-        return self.define_table()
+        return self.define_table(is_line=True)
+
+    def drop(self):
+        if self.takes(b"REFERENT"):
+            return DropReferent(self.name(), self.name())
+        for word, command in ((b"ROUTE", DropRoute), (b"TABLE", DropTable), (b"VIEW", DropView)):
+            if self.takes(word):
+                return command(self.name())
+        raise self.fault()
 
     def define_route(self):
         name = self.name()
@@ -367,10 +419,15 @@ class Reader:
         self.take(b"AT")
         return DefineReferent(route, name, self.position())
 
-    def define_table(self):
+    def define_table(self, is_line):
         self.take(b"TABLE")
         name = self.name()
-        return DefineTable(name, self.bracketed_list_of(self.column))
+        return DefineTable(name, is_line, self.bracketed_list_of(self.column))
+
+    def define_view(self):
+        name = self.name()
+        self.take(b"AS")
+        return DefineView(name, self.query())
 
     def move_referent(self):
         self.take(b"REFERENT")
@@ -379,22 +436,27 @@ class Reader:
         self.take(b"TO")
         return MoveReferent(route, name, self.position())
 
-    def drop_referent(self):
-        self.take(b"REFERENT")
-        route = self.name()
-        return DropReferent(route, self.name())
-
     def insert(self):
         self.take(b"INTO")
         table = self.name()
         self.take(b"ON")
         route = self.name()
-        self.take(b"FROM")
-        first = self.position()
-        self.take(b"TO")
-        last = self.position()
+        ends = self.span() or self.point()
         self.take(b"VALUES")
-        return Insert(table, route, first, last, tuple(self.bracketed_list_of(self.value)))
+        return Insert(table, route, ends, tuple(self.bracketed_list_of(self.value)))
+
+    def point(self):
+        """AT with its position."""
+        self.take(b"AT")
+        return (self.position(),)
+
+    def remove(self):
+        table = self.name()
+        self.take(b"ON")
+        route = self.name()
+        ends = self.span()
+        condition = self.condition() if self.takes(b"WHERE") else None
+        return Remove(table, route, ends, condition)
 
     def translate(self):
         route = self.name()

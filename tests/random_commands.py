@@ -1,0 +1,255 @@
+"""Pseudo-random commands: each gives its tokens, and what is known once it is accepted."""
+
+from random_parts import (
+    COLUMNS,
+    GREATEST_MEASURE,
+    LONG_ROUTES,
+    LONGEST_SPAN,
+    METHODS,
+    REFERENTS,
+    SHORT_ROUTES,
+    UNKNOWN,
+    listed,
+)
+from random_queries import Queries
+
+
+# Tables that are dropped in no flawless line.
+KEPT = (b"pave", b"crash")
+
+
+class Commands(Queries):
+    """Writes commands by what is known, and remembers what those without a flaw make."""
+
+    def route_tokens(self, name, start, finish):
+        return [b"DEFINE", b"ROUTE", name, b"FROM", self.measure(start), b"TO", self.measure(finish)]
+
+    def define_route(self):
+        name = self.new_name(self.routes)
+        length = self.random.randint(1, LONGEST_SPAN)
+        start = self.pick([0, 1, 7, 996, 999_990, GREATEST_MEASURE - length, self.random.randrange(10**6)])
+        finish = start + length
+        if self.flaw():
+            finish = self.pick([start, max(start - length, 0)])
+        return self.route_tokens(name, start, finish), lambda: self.know_route(name, start, finish)
+
+    def table_tokens(self, name, is_line, columns):
+        tokens = [[column] + self.type_tokens(longest) for column, longest in columns]
+        kind = b"LINE" if is_line else b"POINT"
+        return [b"DEFINE", kind, b"TABLE", name, b"("] + listed(tokens) + [b")"]
+
+    def type_tokens(self, longest):
+        if longest is None:
+            return [b"INT"]
+        length = b"%d" % longest
+        if self.flaw(0.3):
+            length = self.pick([b"0", b"41", b"041", b"0000", b"99999999999999999999"])
+        return [b"TEXT", b"(", b"00" + length if self.chance(0.05) else length, b")"]
+
+    def define_table(self):
+        name = self.new_name(list(self.tables) + list(self.views))
+        is_line = self.chance(0.6)
+        count = self.pick([1, 2, 2, 3, 4, 6, 11, 12, 12])
+        if self.flaw(2):
+            count = self.pick([13, 14])
+        names = self.random.sample(COLUMNS, count)
+        if self.flaw(4):
+            names[-1] = names[0]
+        columns = [(column, self.pick([None, None, 1, 2, 5, 8, 39, 40])) for column in names]
+        return self.table_tokens(name, is_line, columns), lambda: self.know_table(name, is_line, columns)
+
+    def define_view(self):
+        name = self.new_name(list(self.views) + list(self.tables))
+        self.is_view = True
+        query = self.some_query({1: 3, 2: 3, 3: 1})
+        self.is_view = False
+        return [b"DEFINE", b"VIEW", name, b"AS"] + query.tokens, lambda: self.know_view(name, query)
+
+    def know_view(self, name, query):
+        if len(self.views) < 128:
+            self.views[name] = self.known_view(query)
+
+    def define_referent(self):
+        route, route_name = self.some_route()
+        if self.kind == "crowded" and self.chance(0.5):
+            route = route_name = b"A"
+        referents = self.routes[route].referents
+        names = [name for name in REFERENTS if name not in referents]
+        if not names or self.flaw(11):
+            self.is_flawed = self.is_flawed or self.kind != "crowded"
+            names = list(referents) + [b"START", b"x" * 33, b"e%d" % self.random.randrange(99)]
+        name = self.pick(names[:3] if self.chance(0.5) else names)
+        place = self.some_place(self.routes[route])
+        tokens = [b"DEFINE", b"REFERENT", route_name, name, b"AT"] + self.position(route, place)
+        return tokens, lambda: self.know_referent(route, name, place)
+
+    def drop_route(self):
+        """A route, mostly one that has no events and is in no window."""
+        names = list(self.routes)
+        with_events = {route for _, route, _ in self.spans}
+        in_windows = {route for view in self.views.values() for route in view.routes}
+        held = sorted(in_windows - with_events)
+        name = self.pick(names[-6:]) if self.chance(0.8) else self.pick(names)
+        name = self.pick(held) if held and self.chance(0.3) else name
+        self.is_flawed = self.is_flawed or name in with_events | in_windows or name in self.first_routes()
+        return [b"DROP", b"ROUTE", self.pick(UNKNOWN) if self.flaw(2) else name], lambda: self.routes.pop(name)
+
+    def first_routes(self):
+        return LONG_ROUTES if self.kind == "long" else SHORT_ROUTES
+
+    def drop_table(self):
+        """A table, mostly a late one; one of each kind stays."""
+        names = [name for name in self.tables if name not in KEPT or self.is_named(name)] or UNKNOWN
+        name = self.pick(names[-4:]) if self.chance(0.7) else self.pick(names)
+        self.is_flawed = self.is_flawed or self.is_named(name) or name not in self.tables
+        written = self.pick(UNKNOWN + tuple(self.views)[:6]) if self.flaw(2) else name
+        return [b"DROP", b"TABLE", written], lambda: self.forget_table(name)
+
+    def forget_table(self, name):
+        del self.tables[name]
+        self.spans = {key: spans for key, spans in self.spans.items() if key[0] != name}
+
+    def drop_view(self):
+        """A view, mostly one that no view names."""
+        names = [name for name in self.views if not self.is_named(name)]
+        name = self.pick(names) if names and self.chance(0.6) else self.pick(list(self.views) or UNKNOWN)
+        self.is_flawed = self.is_flawed or self.is_named(name) or name not in self.views
+        written = self.pick(UNKNOWN + tuple(self.tables)) if self.flaw(2) else name
+        return [b"DROP", b"VIEW", written], lambda: self.views.pop(name)
+
+    def is_named(self, name):
+        """Whether a view names it."""
+        return any(name in view.names for view in self.views.values())
+
+    def move_referent(self):
+        route, route_name = self.route_with_referents()
+        name = self.some_referent(route)
+        place = self.some_place(self.routes[route])
+        tokens = [b"MOVE", b"REFERENT", route_name, name, b"TO"] + self.position(route, place)
+        return tokens, lambda: self.know_referent(route, name, place)
+
+    def drop_referent(self):
+        route, route_name = self.route_with_referents()
+        name = self.some_referent(route)
+        held = {referent for view in self.views.values() if route in view.routes for referent in view.referents}
+        held = sorted(held & self.routes[route].referents.keys())
+        name = self.pick(held) if held and self.chance(0.4) else name
+        self.is_flawed = self.is_flawed or name in held
+        return [b"DROP", b"REFERENT", route_name, name], lambda: self.routes[route].referents.pop(name)
+
+    def route_with_referents(self):
+        """Some route, and mostly one that has referents beside START."""
+        for _ in range(6):
+            route, name = self.some_route()
+            if len(self.routes[route].referents) > 1:
+                break
+        return route, name
+
+    def insert(self):
+        self.rate *= 0.6  # it has more parts than others, each of which may have a flaw
+        table, table_name = self.some_table()
+        route, route_name = self.some_route()
+        known = self.tables[table]
+        row = self.pick(known.rows) if self.chance(0.9) else self.row(known.columns)
+        key = (table, route, row)
+        is_line = known.is_line != self.flaw(0.7)
+        if is_line:
+            start, finish = self.span(route, self.spans.get(key, []))
+            self.mark_span(key, start, finish)
+            self.mark_end(route, finish, "to the end")
+            tokens = self.span_tokens(route, start, finish)
+        else:
+            start = finish = self.some_place(self.routes[route])
+            tokens = [b"AT"] + self.position(route, start)
+            self.mark_end(route, start, "point at the end")
+        tokens = [b"INSERT", b"INTO", table_name, b"ON", route_name] + tokens
+        tokens += [b"VALUES"] + self.row_tokens(known.columns, row)
+        return tokens, lambda: self.know_span(key, start, finish)
+
+    def mark_end(self, route, place, mark):
+        if place == self.routes[route].finish:
+            self.marks.add(mark)
+
+    def remove(self):
+        self.rate *= 0.7
+        table, table_name = self.some_table()
+        route, route_name = self.some_route()
+        tokens = [b"REMOVE", table_name, b"ON", route_name]
+        is_whole = self.chance(0.15)
+        if not is_whole:
+            own = [span for key, spans in self.spans.items() if key[:2] == (table, route) for span in spans]
+            tokens += self.span_tokens(route, *self.span(route, own))
+        if self.chance(0.55):
+            is_whole = False
+            tokens += [b"WHERE"] + self.condition(self.columns_of(table), 1)
+        return tokens, lambda: self.know_removed(table, route, is_whole)
+
+    def know_removed(self, table, route, is_whole):
+        if is_whole:
+            self.spans = {key: spans for key, spans in self.spans.items() if key[:2] != (table, route)}
+
+    def span(self, name, spans):
+        """A short span of a route, at times one that touches or overlaps one of these."""
+        route = self.routes[name]
+        start = self.random.randint(route.start, route.finish - 1)
+        finish = self.random.randint(start + 1, min(start + LONGEST_SPAN, route.finish))
+        if self.flaw(3.5):
+            return self.pick([(start, start), (finish, start)])
+        if self.chance(0.08):
+            return max(route.start, route.finish - (finish - start)), route.finish
+        if spans and self.chance(0.75):
+            lo, hi = self.pick(spans[-6:])
+            ends = {lo - 2, lo - 1, lo, lo + 1, hi - 1, hi, hi + 1, hi + 3}
+            ends = sorted(end for end in ends if route.start <= end <= route.finish)
+            start, finish = sorted(self.random.sample(ends, 2))
+        return start, finish
+
+    def span_tokens(self, route, start, finish):
+        """FROM and TO; on a long route both ends hang on one referent or on none, so that the span is short."""
+        how = None if self.kind != "long" else self.pick(METHODS)
+        if how == b"RELATIVE":
+            known = self.routes[route]
+            referent = self.pick(list(known.referents))
+            first, last = self.relative(known, referent, start), self.relative(known, referent, finish)
+        else:
+            first, last = self.position(route, start, how), self.position(route, finish, how)
+        return [b"FROM"] + first + [b"TO"] + last
+
+    def mark_span(self, key, start, finish):
+        """Notes how the span lies beside earlier ones of its row, and over those of other rows."""
+        own = self.spans.get(key, [])
+        others = [
+            span for other, spans in self.spans.items() if other[:2] == key[:2] and other != key for span in spans
+        ]
+        if any(lo == finish or hi == start for lo, hi in own):
+            self.marks.add("touching")
+        if any(lo < finish and start < hi for lo, hi in own):
+            self.marks.add("overlapping")
+        if any(lo < start and finish < hi for lo, hi in own):
+            self.marks.add("within")
+        if any(start < lo and hi < finish for lo, hi in own):
+            self.marks.add("around")
+        if any(lo < finish and start < hi for lo, hi in others):
+            self.marks.add("across another row")
+
+    def translate(self):
+        route, route_name = self.some_route()
+        position = self.position(route, self.some_place(self.routes[route]))
+        method = b"METRIC" if self.flaw(0.3) else self.pick(METHODS)
+        return [b"TRANSLATE", route_name] + position + [b"AS", method], lambda: None
+
+    def select(self):
+        """A table's or a view's name."""
+        tokens = [b"SELECT"] + self.named(None).tokens
+        if self.chance(0.8):
+            tokens += [b"AS", self.pick(METHODS)]
+        return tokens, lambda: None
+
+    def select_query(self):
+        """A query with an operator at least, mostly."""
+        query = self.some_query({1: 30, 2: 28, 3: 20, 4: 12, 5: 10})
+        self.marks.add("query")
+        tokens = [b"SELECT"] + query.tokens
+        if self.chance(0.4):
+            tokens += [b"AS", self.pick(METHODS)]
+        return tokens, lambda: None
