@@ -1,0 +1,5 @@
+mod Cuts
+mod MovedTexts
+mod MovedQueries
+mod ViewTexts
+mod Selected
