@@ -4,13 +4,16 @@
     bench/operators.py [--program 'crates/roadseg/out/roadseg run'] [--spans 100000] [--smaller 25000] [--routes 400]
                        [--windows 1000] [--rounds 5]
 
-For each question, the best of the rounds: the whole process (the load, the query and its answer), the query alone in a
-live process that has the load (from the first byte of its line sent to the last byte of its answer), and each tool over
-files that are sorted already. Then the ratio of the query alone to the fastest tool, the growth exponent of the query
-alone from the smaller load to the larger one, and the process's resident memory after its load and at its most.
+For each question, the best of the rounds: the whole process (the load, the query and its answer); the query alone, asked
+once a round of one live process that has the load (from the first byte of its line sent to the last byte of its answer),
+with the first round's beside it; and each tool over files that are sorted already, from its start to its end. Then the
+ratio of the query alone to the fastest tool, the growth exponent of the query alone from the smaller load to the larger
+one, and the live process's resident memory after its load and at its most.
 
-The tools are bedtools, bedops, mawk and sqlite3 (an rtree, loaded before the clock starts); those that are missing are
-named. Their answers are compared with the program's, row for row. Figures of one run: nothing of time is promised.
+The tools are bedtools, bedops, mawk and sqlite3 (an rtree in memory, loaded before the clock starts, that writes its
+answer to a file); those that are missing are named. Their answers are compared with the program's, row for row. A round
+asks the program and each tool in turn, so that what else the machine does meets all of them. Figures of one run: nothing
+of time is promised.
 """
 
 import argparse
@@ -33,6 +36,9 @@ PIECE = 1 << 20
 
 # What the last line of a reply begins with, after the LF of the line before: all of one length.
 ENDINGS = (b"\n0 OK", b"\n0 ER")
+
+# More bytes than the last line of a reply has.
+LAST_LINE = 128
 
 
 # Loads.
@@ -224,15 +230,29 @@ class Live:
 
     def receive(self, count):
         """Pieces up to the end of the reply line that ends the last answer."""
+        if count == 1:
+            return self.receive_one()
         pieces, tail = [], b"\n"
         while count > 0 or not tail.endswith(b"\n"):
-            piece = os.read(self.process.stdout.fileno(), PIECE)
-            if not piece:
-                sys.exit("the program ended before its answer")
-            pieces.append(piece)
-            count -= sum((tail + piece).count(mark) for mark in ENDINGS)
-            tail = (tail + piece)[1 - len(ENDINGS[0]) :]
+            pieces.append(self.piece())
+            text = tail + pieces[-1]
+            count -= sum(text.count(mark) for mark in ENDINGS)
+            tail = text[1 - len(ENDINGS[0]) :]
         return pieces
+
+    def receive_one(self):
+        """Pieces up to the end of one answer; only the end of each is looked at."""
+        pieces, tail = [], b"\n"
+        while not (tail.endswith(b"\n") and tail[tail.rfind(b"\n", 0, -1) :].startswith(ENDINGS)):
+            pieces.append(self.piece())
+            tail = (tail + pieces[-1][-LAST_LINE:])[-LAST_LINE:]
+        return pieces
+
+    def piece(self):
+        piece = os.read(self.process.stdout.fileno(), PIECE)
+        if not piece:
+            sys.exit("the program ended before its answer")
+        return piece
 
     def memory(self):
         """Kilobytes that are resident now, and at the most so far."""
@@ -290,9 +310,10 @@ def run_tool(tool, folder):
 
 
 class Rtree:
-    """sqlite3 with the spans of pavement in an rtree in memory; it writes line by line."""
+    """sqlite3 with the spans of pavement in an rtree in memory. It writes rows to a file, and then one line to say so."""
 
-    def __init__(self, load):
+    def __init__(self, load, folder):
+        self.rows = os.path.join(folder, "rows")
         self.numbers = {route: number for number, route in enumerate(load.routes)}
         self.live = Live("stdbuf -oL sqlite3 :memory:")
         spans = ["(%d,%d,%d,%d,%d,%s)" % (place, start, finish, self.numbers[route], self.numbers[route], values[0])
@@ -308,8 +329,10 @@ class Rtree:
                " WHERE lo < %d AND hi > %d AND first <= %d AND last >= %d ORDER BY lo;"
                % (route, start, finish, finish, start, self.numbers[route], self.numbers[route])
                for route, start, finish in found]
-        answer, spent = self.live.answer("\n".join(sql + ["SELECT '0 OK 0';", ""]).encode(), 1)
-        return rows_of(answer), spent
+        script = [".output " + self.rows, *sql, ".output stdout", "SELECT '0 OK 0';", ""]
+        _, spent = self.live.answer("\n".join(script).encode(), 1)
+        with open(self.rows, "rb") as file:
+            return rows_of(file.read()), spent
 
     def end(self):
         self.live.end()
@@ -327,9 +350,10 @@ class Best:
     def take(self, name, spent):
         self.seconds[name] = min(spent, self.seconds.get(name, spent))
 
-    def fastest_tool(self):
-        tools = {name: spent for name, spent in self.seconds.items() if name not in ("whole", "alone")}
-        return min(tools, key=tools.get) if tools else None
+    def tools(self):
+        """The tools that were timed, the fastest first."""
+        names = [name for name in self.seconds if name not in ("whole", "alone")]
+        return sorted(names, key=self.seconds.get)
 
 
 def compare(question, tool, mine, others):
@@ -343,20 +367,18 @@ def is_here(tool):
     return all(shutil.which(word) for word in re.findall(r"\b(?:bedtools|bedops|mawk)\b(?= )", tool.command))
 
 
-def ask(program, data, queries):
-    """One live process: the answer, its seconds, and the memory after the load and at its most."""
-    live = Live(program)
-    live.answer(data, data.count(b"\n"))
-    loaded, _ = live.memory()
-    answer, spent = live.answer(queries, queries.count(b"\n"))
-    _, most = live.memory()
-    live.end()
-    return rows_of(answer), spent, (loaded, most)
+class Asked(NamedTuple):
+    """What was found of one question: the best seconds, those of the first answer, its rows, and the memory."""
+
+    best: Best
+    first: float
+    count: int
+    loaded: int
+    most: int
 
 
 def time_question(words, question, spans, with_tools):
-    """The best of the rounds: seconds, the number of rows, and the memory."""
-    best, memory, mine = Best(), None, []
+    """The rounds of one question."""
     load = load_of(question.tables, spans, words.routes)
     data = lines_of(load)
     found = windows(load, words.windows) if question.name == "windows" else None
@@ -364,37 +386,44 @@ def time_question(words, question, spans, with_tools):
     queries = "".join("0 SELECT %s\n" % query for query in asked).encode()
     with tempfile.TemporaryDirectory() as folder:
         write_files(load, folder)
-        rtree = Rtree(load) if found and with_tools and shutil.which("sqlite3") and shutil.which("stdbuf") else None
+        timed = [lambda tool=tool: (tool.name, *run_tool(tool, folder)) for tool in question.tools if is_here(tool)]
+        rtree = Rtree(load, folder) if found and with_tools and shutil.which("sqlite3") and shutil.which("stdbuf") else None
+        if rtree:
+            timed.append(lambda: ("sqlite3", *rtree.answer(found)))
+        best = Best()
         for _ in range(words.rounds):
             best.take("whole", whole(words.program, data + queries, folder))
-            mine, spent, memory = ask(words.program, data, queries)
+        live = Live(words.program)
+        live.answer(data, data.count(b"\n"))
+        loaded, _ = live.memory()
+        first, rows = None, []
+        for _ in range(words.rounds):
+            answer, spent = live.answer(queries, queries.count(b"\n"))
             best.take("alone", spent)
-            for tool in question.tools if with_tools else []:
-                if is_here(tool):
-                    rows, spent = run_tool(tool, folder)
-                    best.take(tool.name, spent)
-                    compare(question.name, tool.name, mine, rows)
-            if rtree:
-                rows, spent = rtree.answer(found)
-                best.take("sqlite3", spent)
-                compare(question.name, "sqlite3", mine, rows)
+            first, rows = first or spent, rows_of(answer)
+            for run in timed if with_tools else []:
+                name, others, spent = run()
+                best.take(name, spent)
+                compare(question.name, name, rows, others)
+        _, most = live.memory()
+        live.end()
         if rtree:
             rtree.end()
-    return best, len(mine), memory
+    return Asked(best, first, len(rows), loaded, most)
 
 
 def report(words, question):
     """A line of the table."""
-    best, count, memory = time_question(words, question, words.spans, True)
-    smaller, _, _ = time_question(words, question, words.smaller, False)
-    alone = best.seconds["alone"]
-    exponent = math.log(alone / smaller.seconds["alone"]) / math.log(words.spans / words.smaller)
-    tool = best.fastest_tool()
-    told = "none" if tool is None else "%s %.0f" % (tool, 1000 * best.seconds[tool])
-    ratio = "" if tool is None else "%.2f" % (alone / best.seconds[tool])
-    print("| %s | %d | %.0f | %.0f | %s | %s | %.2f | %d, %d |" % (
-        question.name, count, 1000 * best.seconds["whole"], 1000 * alone, told, ratio, exponent,
-        memory[0] // 1024, memory[1] // 1024), flush=True)
+    asked = time_question(words, question, words.spans, True)
+    smaller = time_question(words, question, words.smaller, False)
+    best, alone = asked.best, asked.best.seconds["alone"]
+    exponent = math.log(alone / smaller.best.seconds["alone"]) / math.log(words.spans / words.smaller)
+    tools = best.tools()
+    told = ", ".join("%s %.0f" % (tool, 1000 * best.seconds[tool]) for tool in tools) or "none"
+    ratio = "%.2f" % (alone / best.seconds[tools[0]]) if tools else ""
+    print("| %s | %d | %.0f | %.0f (%.0f) | %s | %s | %.2f | %d, %d |" % (
+        question.name, asked.count, 1000 * best.seconds["whole"], 1000 * alone, 1000 * asked.first, told, ratio,
+        exponent, asked.loaded // 1024, asked.most // 1024), flush=True)
 
 
 def main():
@@ -410,8 +439,9 @@ def main():
     for tool in ("bedtools", "bedops", "mawk", "sqlite3"):
         if not shutil.which(tool):
             print("missing: %s" % tool)
-    print("%d spans on %d routes, best of %d; milliseconds and megabytes" % (words.spans, words.routes, words.rounds))
-    print("| Question | Rows | Whole process | Query alone | Fastest tool | Alone to tool | Exponent | Memory after load, at most |")
+    print("%d spans on %d routes, best of %d; milliseconds and megabytes; load of the machine %.1f, %d processors" % (
+        words.spans, words.routes, words.rounds, os.getloadavg()[0], os.cpu_count()))
+    print("| Question | Rows | Whole process | Query alone (first) | Tools | Alone to the fastest | Exponent | Memory after load, at most |")
     print("|---|---|---|---|---|---|---|---|")
     for question in QUESTIONS + [Question("windows", ("pave",), [], [])]:
         if words.only in (None, question.name):

@@ -23,8 +23,8 @@ pub fn kept_runs(alloc: Global, spans: &[Span]) -> Result<Vec<&Span>, AllocError
     Ok(runs)
 }
 
-/// Each span, lent.
-fn lent(alloc: Global, spans: &[Span]) -> Result<Vec<&Span>, AllocError>
+/// Each span, lent. No row is copied; the only refusal is for want of memory for the list of them.
+pub fn lent(alloc: Global, spans: &[Span]) -> Result<Vec<&Span>, AllocError>
     ensures { IfOk result (λ lent. map seen_lent lent.items ≡ map seen spans.now) }
 {
     let mut lent = Vec::with_capacity(alloc, spans.len())?;

@@ -9,5 +9,5 @@ pub mod kept;
 pub mod maximal;
 mod order;
 
-pub use kept::kept_runs;
+pub use kept::{kept_runs, lent};
 pub use maximal::{runs, runs_of_runs_are_the_same};

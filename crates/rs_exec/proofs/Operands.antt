@@ -1,30 +1,65 @@
--- The rows of an operand, said of the box that holds the operand and of the list that is lent.
-use Rattle.std.proofs.Common.{◌≡◌, ℕ, ◌+◌, ◌≤◌, List, map, length, sym, ap, ◌∙◌, subst}
+-- The rows of an operand, said of the box that holds the operand and of a list of them in order, its own or lent.
+use Rattle.std.proofs.Common.{◌≡◌, ℕ, ◌+◌, ◌≤◌, Bor, List, map, length, sym, ap, ◌∙◌, subst}
+use Rattle.std.proofs.lemmas.List.Elements.{All-from_recursion, recursion_from_All}
+use Rattle.std.proofs.lemmas.List.Sorted.{All-permutation}
+use Rattle.std.specs.List.{AllByRecursion}
+use Rattle.std.specs.List.Sorted.{IsPermutation}
+use Rattle.std.specs.Prelude.{Vec}
+use Rattle.std.specs.declared.alloc.Global.{Global}
 use Rattle.rs_value.specs.declared.column.TheConstants.{COLUMNS}
 use Rattle.rs_value.specs.declared.column.Kind.{Kind}
-use Rattle.rs_value.specs.declared.column.Kind.TheVariants.{Line}
 use Rattle.rs_facts.specs.declared.fact.Span.{Span}
 use Rattle.rs_facts.specs.Fact.{Name}
 use Rattle.rs_facts.specs.Operators.{covered}
 use Rattle.rs_facts.specs.Query.{World, Query, cover_rows, kind_of}
 use Rattle.rs_facts.specs.WellFormed.{width_of}
 use Rattle.rs_facts.specs.Runs.{Stretch}
-use Rattle.rs_facts.specs.Spans.{seen, places_of, ArePlaced}
+use Rattle.rs_facts.specs.Spans.{seen, places_of, IsPlaced, ArePlaced}
+use Rattle.rs_facts.proofs.SpanLaws.{places_of-permutation}
+use Rattle.rs_coalesce.specs.Lent.{seen_lent}
 use Rattle.rs_sweep.specs.Lists.{AreSorted, AreWide, Fit}
 use Rattle.rs_checker.specs.declared.checked.CheckedQuery.{CheckedQuery}
 use Rattle.rs_checker.specs.CheckedView.{query_of}
 use Rattle.rs_exec.specs.Evaluated.{AreRowsOf}
+use Rattle.rs_exec.specs.Rows.{spans_of, HoldsRows}
+use Rattle.rs_exec.specs.declared.rows.Rows.{Rows}
+use Rattle.rs_exec.specs.declared.rows.Rows.TheVariants.{Made}
 use Rattle.rs_exec.proofs.Steps.{wide_fit, cover-step}
 
+every-moved : (P : Stretch → Type 0) (xs ys : List Stretch) → IsPermutation xs ys → AllByRecursion P xs → AllByRecursion P ys
+every-moved P xs ys h all = recursion_from_All P ys (All-permutation P xs ys h (All-from_recursion P xs all))
+
 module _ (world : World) (route : Name) where
-  pub held-rows : (held value : CheckedQuery) (spans : List Span) → held ≡ value → AreRowsOf world (query_of held) route (map seen spans) → AreRowsOf world (query_of value) route (map seen spans)
-  held-rows held value spans same rows = subst (λ q. AreRowsOf world (query_of q) route (map seen spans)) same rows
+  pub held-rows : (held value : CheckedQuery) (rows : Rows) → held ≡ value → HoldsRows world (query_of held) route rows → HoldsRows world (query_of value) route rows
+  held-rows held value rows same holds = subst (λ q. HoldsRows world (query_of q) route rows) same holds
 
-  pub lent-rows : (held value : CheckedQuery) (lent spans : List Span) → held ≡ value → lent ≡ spans → AreRowsOf world (query_of held) route (map seen spans) → AreRowsOf world (query_of value) route (map seen lent)
-  lent-rows held value lent spans same is rows = subst (λ list. AreRowsOf world (query_of value) route (map seen list)) (sym is) (held-rows held value spans same rows)
+  -- the spans in another order
+  pub moved-rows : (query : Query) (rows : Rows) (spans : List Stretch) → HoldsRows world query route rows → IsPermutation (spans_of rows) spans → AreSorted spans → AreRowsOf world query route spans
+  moved-rows query rows spans holds moved sorted = record {
+    means = λ k. sym (ap (λ places. places k) (places_of-permutation (spans_of rows) spans moved)) ∙ holds.means k;
+    sorted = sorted;
+    placed = every-moved (IsPlaced (kind_of world query)) (spans_of rows) spans moved holds.placed;
+    wide = every-moved (λ span. length span.row ≡ width_of world query) (spans_of rows) spans moved holds.wide;
+  }
 
-  pub rows_fit : (a b : Query) (left right : List Span) → AreRowsOf world a route (map seen left) → AreRowsOf world b route (map seen right) → width_of world a + width_of world b ≤ COLUMNS → Fit (map seen left) (map seen right)
-  rows_fit a b left right first second few = wide_fit (width_of world a) (width_of world b) (map seen left) (map seen right) first.wide second.wide few
+  -- the spans of an operand, said of the box that holds its query
+  pub operand-rows : (held value : CheckedQuery) (rows : Rows) (spans : List Stretch) → held ≡ value → HoldsRows world (query_of held) route rows → IsPermutation (spans_of rows) spans → AreSorted spans → AreRowsOf world (query_of value) route spans
+  operand-rows held value rows spans same holds moved sorted = moved-rows (query_of value) rows spans (held-rows held value rows same holds) moved sorted
+
+  -- the same of a list of them that is lent
+  pub lent-rows : (held value : CheckedQuery) (rows : Rows) (spans lent : List (Bor Span)) → held ≡ value → HoldsRows world (query_of held) route rows → IsPermutation (spans_of rows) (map seen_lent spans) → AreSorted (map seen_lent spans) → lent ≡ spans → AreRowsOf world (query_of value) route (map seen_lent lent)
+  lent-rows held value rows spans lent same holds moved sorted is = subst (λ list. AreRowsOf world (query_of value) route (map seen_lent list)) (sym is) (operand-rows held value rows (map seen_lent spans) same holds moved sorted)
+
+  pub made-rows : (query : Query) (spans : Vec Span Global) → AreRowsOf world query route (map seen spans.items) → HoldsRows world query route (Made spans)
+  made-rows query spans rows = record {
+    means = rows.means;
+    ordered = rows.sorted;
+    placed = rows.placed;
+    wide = rows.wide;
+  }
+
+  pub rows_fit : (a b : Query) (left right : List Stretch) → AreRowsOf world a route left → AreRowsOf world b route right → width_of world a + width_of world b ≤ COLUMNS → Fit left right
+  rows_fit a b left right first second few = wide_fit (width_of world a) (width_of world b) left right first.wide second.wide few
 
   -- the widths as the code has them
   pub cover-held : (m n p q : ℕ) (a b : Query) (left right new : List Stretch) → p ≡ m → q ≡ n → AreRowsOf world a route left → AreRowsOf world b route right

@@ -1,5 +1,5 @@
 -- From what an operator says of its spans to what they are of the query: a lemma an operator.
-use Rattle.std.proofs.Common.{◌≡◌, ℕ, true, false, ◌+◌, ◌≤◌, ◌<◌, List, [], ◌∷◌, ◌++◌, map, length, length-append, refl, sym, ap, ◌∙◌, subst, arith}
+use Rattle.std.proofs.Common.{◌≡◌, ℕ, true, false, ◌+◌, ◌≤◌, List, [], ◌∷◌, length, length-append, sym, ap, ◌∙◌, subst, arith}
 use Rattle.std.specs.Prelude.{if◌then◌else◌}
 use Rattle.std.specs.List.{AllByRecursion}
 use Rattle.std.proofs.lemmas.List.{length-map}
@@ -10,7 +10,7 @@ use Rattle.rs_facts.specs.Fact.{Name, RowSet, none, keep}
 use Rattle.rs_facts.specs.Insert.{same_name}
 use Rattle.rs_facts.specs.Condition.{Condition, meets}
 use Rattle.rs_facts.specs.Operators.{windowed, dissolved, overlaid, covered, merged, without}
-use Rattle.rs_facts.specs.Query.{column_at, World, Query, Window, on_route, between, window_rows, seen_through, where_rows, dissolve_rows, rename_column, overlay_rows, cover_rows, merge_rows, minus_rows, rows_at, kind_of, columns_of, overlaid_kind}
+use Rattle.rs_facts.specs.Query.{column_at, World, Query, Window, on_route, between, window_rows, seen_through, where_rows, dissolve_rows, overlay_rows, cover_rows, merge_rows, minus_rows, rows_at, kind_of, columns_of, overlaid_kind}
 use Rattle.rs_facts.specs.WellFormed.{width_of}
 use Rattle.rs_facts.specs.Runs.{Stretch}
 use Rattle.rs_facts.specs.Spans.{places_of, IsPlaced, ArePlaced}

@@ -1,1 +1,2 @@
 pub mod Evaluated
+pub mod Rows

@@ -13,14 +13,15 @@ ghost use Rattle.rs_catalog.specs.Definitions.{world_from};
 ghost use Rattle.rs_catalog.specs.Events.{AreEventsOf};
 ghost use Rattle.rs_checker.specs.CheckedView.{window_of, query_of};
 ghost use Rattle.rs_exec.specs.Evaluated.{AreRowsOf, route_of, seen_inside};
+ghost use Rattle.rs_exec.specs.Rows.{HoldsRows};
 
+use crate::rows::{Rows, lent_rows, own_rows};
 use rs_catalog::{Catalog, RouteEntry};
 use rs_checker::{CheckedQuery, LocatedWindow};
 use rs_event_lists::EventLists;
 use rs_facts::Span;
 use rs_methods::Name;
-use rs_spans::copy_spans;
-use rs_sweep::{cover, dissolve, merge, minus, overlay, select, sort_by_place, window};
+use rs_sweep::{cover, dissolve, merge, minus, overlay, select, window};
 use std::alloc::{AllocError, Global};
 
 /// What a query is evaluated over, and on which route.
@@ -45,70 +46,86 @@ pub fn eval(alloc: Global, site: &Site<'_>, query: &CheckedQuery) -> Result<Vec<
     ensures { IfOk result (λ spans. AreRowsOf (world_from site.now.catalog.now (spans_on site.now.events.now))
         (query_of query.now) site.now.name.now.bytes (map seen spans.items)) }
 {
+    let rows = rows_of(alloc, site, query)?;
+    let spans = own_rows(alloc, rows)?;
+    Ok(spans)
+}
+
+/// The same, of a table lent. So are the spans of tables to operators that make rows anew.
+fn rows_of<'a>(alloc: Global, site: &Site<'a>, query: &CheckedQuery) -> Result<Rows<'a>, AllocError>
+    requires there { names.get site.now.catalog.now.routes site.now.name.now.bytes ≡ Some site.now.route }
+    requires stored { AreEventsOf site.now.catalog.now (spans_on site.now.events.now) }
+    requires well_formed { IsWellFormed (world_from site.now.catalog.now (spans_on site.now.events.now)) (query_of query.now) }
+    ensures { IfOk result (λ rows. HoldsRows (world_from site.now.catalog.now (spans_on site.now.events.now))
+        (query_of query.now) site.now.name.now.bytes rows) }
+{
     match query {
-        CheckedQuery::Table(name) => table_spans(alloc, site, name),
+        CheckedQuery::Table(name) => Ok(Rows::Kept(kept_spans(site, name))),
         CheckedQuery::Where(operand, condition) => {
-            let mut spans = eval(alloc, site, operand)?;
+            let rows = rows_of(alloc, site, operand)?;
+            let mut spans = own_rows(alloc, rows)?;
             select(&mut spans, condition);
-            Ok(spans)
+            Ok(Rows::Made(spans))
         }
         CheckedQuery::Dissolve(operand, columns) => {
-            let mut spans = eval(alloc, site, operand)?;
+            let rows = rows_of(alloc, site, operand)?;
+            let mut spans = own_rows(alloc, rows)?;
             dissolve(&mut spans, columns);
-            Ok(spans)
+            Ok(Rows::Made(spans))
         }
-        CheckedQuery::Rename(operand, _, _) => eval(alloc, site, operand),
+        CheckedQuery::Rename(operand, _, _) => rows_of(alloc, site, operand),
         CheckedQuery::Overlay(left, right) => {
-            let left = eval(alloc, site, left)?;
-            let right = eval(alloc, site, right)?;
+            let left = rows_of(alloc, site, left)?;
+            let right = rows_of(alloc, site, right)?;
+            let (left, right) = (lent_rows(alloc, &left)?, lent_rows(alloc, &right)?);
             let (spans, _) = overlay(alloc, &left, &right)?;
-            Ok(spans)
+            Ok(Rows::Made(spans))
         }
         CheckedQuery::Cover(left_width, right_width, left, right) => {
-            let left = eval(alloc, site, left)?;
-            let right = eval(alloc, site, right)?;
+            let left = rows_of(alloc, site, left)?;
+            let right = rows_of(alloc, site, right)?;
+            let (left, right) = (lent_rows(alloc, &left)?, lent_rows(alloc, &right)?);
             let (left_width, right_width) = (usize::from(*left_width), usize::from(*right_width));
             let spans = cover(alloc, &left, &right, left_width, right_width)?;
-            Ok(spans)
+            Ok(Rows::Made(spans))
         }
         CheckedQuery::Merge(left, right) => {
-            let left = eval(alloc, site, left)?;
-            let right = eval(alloc, site, right)?;
-            let spans = merge(left, right)?;
-            Ok(spans)
+            let left = rows_of(alloc, site, left)?;
+            let right = rows_of(alloc, site, right)?;
+            let spans = merge(own_rows(alloc, left)?, own_rows(alloc, right)?)?;
+            Ok(Rows::Made(spans))
         }
         CheckedQuery::Minus(left, right) => {
-            let left = eval(alloc, site, left)?;
-            let right = eval(alloc, site, right)?;
-            let spans = minus(alloc, left, &right)?;
-            Ok(spans)
+            let left = rows_of(alloc, site, left)?;
+            let right = rows_of(alloc, site, right)?;
+            let right = lent_rows(alloc, &right)?;
+            let spans = minus(alloc, own_rows(alloc, left)?, &right)?;
+            Ok(Rows::Made(spans))
         }
         CheckedQuery::Window(operand, window) => {
             if !is_on(*window, site.name) {
-                return Ok(Vec::new(alloc));
+                return Ok(Rows::Made(Vec::new(alloc)));
             }
-            let mut spans = eval(alloc, site, operand)?;
+            let rows = rows_of(alloc, site, operand)?;
+            let mut spans = own_rows(alloc, rows)?;
             cut(&mut spans, *window);
-            Ok(spans)
+            Ok(Rows::Made(spans))
         }
     }
 }
 
-/// The spans of a table on a route, by where they begin.
-fn table_spans(alloc: Global, site: &Site<'_>, name: &Name) -> Result<Vec<Span>, AllocError>
+/// The spans that are kept of a table on a route.
+fn kept_spans<'a>(site: &Site<'a>, name: &Name) -> &'a [Span]
     requires there { names.get site.now.catalog.now.routes site.now.name.now.bytes ≡ Some site.now.route }
     requires stored { AreEventsOf site.now.catalog.now (spans_on site.now.events.now) }
     requires table { IsWellFormed (world_from site.now.catalog.now (spans_on site.now.events.now)) (table_rows name.now.bytes) }
-    ensures { IfOk result (λ spans. AreRowsOf (world_from site.now.catalog.now (spans_on site.now.events.now))
-        (table_rows name.now.bytes) site.now.name.now.bytes (map seen spans.items)) }
+    ensures { HoldsRows (world_from site.now.catalog.now (spans_on site.now.events.now))
+        (table_rows name.now.bytes) site.now.name.now.bytes (Rows.Kept result) }
 {
     let Some(table) = site.catalog.table(name) else {
-        return Ok(Vec::new(alloc));
+        return &[];
     };
-    let kept = site.events.spans(table.number(), site.route.number());
-    let mut spans = copy_spans(alloc, kept)?;
-    sort_by_place(&mut spans);
-    Ok(spans)
+    site.events.spans(table.number(), site.route.number())
 }
 
 /// Whether a window is on the route of this name.

@@ -4,5 +4,6 @@
 #![tactic(auto)]
 
 pub mod evaluation;
+mod rows;
 
 pub use evaluation::{Site, eval};

@@ -14,24 +14,25 @@ use Rattle.rs_sweep.specs.Lists.{AreSorted}
 
 -- ---- sorting
 
-abbrev pub ByPlace : List Span → Type 0
-ByPlace spans = IsSortedBy (λ a b. is_lt (nat_cmp a.lo b.lo)) spans
+-- spans, or spans that are lent, each seen as a stretch
+abbrev pub ByPlace : {X : Type 0} → (X → Stretch) → List X → Type 0
+ByPlace view spans = IsSortedBy (λ a b. is_lt (nat_cmp (view a).lo (view b).lo)) spans
 
 not_below : (a b : ℕ) → is_lt (nat_cmp a b) ≡ false → b ≤ a
 not_below a b e = elim (cases_lt a b) [ inl l ↦ let wrong : is_lt (nat_cmp a b) ≡ true = ap is_lt (nat_cmp-below a b l) in cc | inr m ↦ m ]
 
-rest_sorted : (first : Span) (rest : List Span) → ByPlace (first ∷ rest) → ByPlace rest
-rest_sorted first rest h k d a b =
+rest_sorted : {X : Type 0} (view : X → Stretch) (first : X) (rest : List X) → ByPlace view (first ∷ rest) → ByPlace view rest
+rest_sorted view first rest h k d a b =
     let more : suc k + 1 ≡ suc (k + 1) = omega arith in
-    subst (λ n. is_lt (nat_cmp (get_or (first ∷ rest) n d).lo (get_or rest k d).lo) ≡ false) more (h (suc k) d (omega arith) (omega arith))
+    subst (λ n. is_lt (nat_cmp (view (get_or (first ∷ rest) n d)).lo (view (get_or rest k d)).lo) ≡ false) more (h (suc k) d (omega arith) (omega arith))
 
-pub sorted-from_sort : (spans : List Span) → ByPlace spans → AreSorted (map seen spans)
-sorted-from_sort [] h = tt
-sorted-from_sort (first ∷ []) h = (tt, tt)
-sorted-from_sort (first ∷ next ∷ rest) h =
-    let later = sorted-from_sort (next ∷ rest) (rest_sorted first (next ∷ rest) h) in
-    let low = not_below next.lo first.lo (h 0 first (omega arith) (omega arith)) in
-    ((low, every-weaker (λ l. next.lo ≤ l.lo) (λ l. first.lo ≤ l.lo) (λ l m. omega (arith, low, m)) (map seen rest) later.0), later)
+pub sorted-from_sort : {X : Type 0} (view : X → Stretch) (spans : List X) → ByPlace view spans → AreSorted (map view spans)
+sorted-from_sort view [] h = tt
+sorted-from_sort view (first ∷ []) h = (tt, tt)
+sorted-from_sort view (first ∷ next ∷ rest) h =
+    let later = sorted-from_sort view (next ∷ rest) (rest_sorted view first (next ∷ rest) h) in
+    let low = not_below (view next).lo (view first).lo (h 0 first (omega arith) (omega arith)) in
+    ((low, every-weaker (λ l. (view next).lo ≤ l.lo) (λ l. (view first).lo ≤ l.lo) (λ l m. omega (arith, low, m)) (map view rest) later.0), later)
 
 -- ---- what holds of all
 

@@ -1,5 +1,5 @@
 -- Spans cut to the parts that others leave, one after another.
-use Rattle.std.proofs.Common.{◌≡◌, ℕ, zero, suc, ◌+◌, ◌<◌, ◌≤◌, Bool, true, false, not, ◌&&◌, ◌||◌, inl, inr, List, [], ◌∷◌, ◌++◌, map, length, drop, get_or, refl, sym, ap, ◌∙◌, subst, arith, append_assoc}
+use Rattle.std.proofs.Common.{◌≡◌, ℕ, zero, suc, ◌+◌, ◌<◌, ◌≤◌, Bool, true, false, not, ◌&&◌, ◌||◌, inl, inr, List, [], ◌∷◌, ◌++◌, map, length, drop, get_or, Bor, refl, sym, ap, ◌∙◌, subst, arith, append_assoc}
 use Rattle.std.proofs.lemmas.List.{map-append, drop_more, drop_all, length-append}
 use Rattle.std.proofs.lemmas.List.Folds.{list_any-append}
 use Rattle.std.specs.List.{list_any, AllByRecursion}
@@ -14,6 +14,7 @@ use Rattle.rs_value.specs.View.{row_of}
 use Rattle.rs_facts.specs.Runs.{Stretch, stretch}
 use Rattle.rs_facts.specs.declared.fact.Span.{Span}
 use Rattle.rs_facts.specs.Spans.{seen, places_of, IsPlaced, ArePlaced}
+use Rattle.rs_coalesce.specs.Lent.{seen_lent}
 use Rattle.rs_facts.proofs.KeptLaws.{every-append, every-before, every-behind}
 use Rattle.rs_facts.proofs.Rows.{same_row, same_row-refl, cases_row}
 use Rattle.rs_facts.proofs.RowSets.{any-map, any-same, any-places, any_row, contains-mapped, contains-without, contains-covered}
@@ -137,12 +138,12 @@ parts-last change span found piece old parts others last whole is h =
     ∙ ap (λ zs. old ++ zs) (sym (map-append (changed_part change span) others (last ∷ [])))
     ∙ sym (ap (λ zs. old ++ map (changed_part change span) zs) whole)
 
-pub cut-next : (change : Row → Row) (rows : Rows) (taken : List Stretch) (done : List Span) (old mid now : List Stretch) (span : Span) (more : List Span) (parts : List Part) → more ≡ done ++ span ∷ [] → IsCut change rows taken (map seen done) old mid
-    → ((k : ℕ) → list_any (in_part k) parts ≡ (within span.lo span.hi k && not (contains (places_of taken k) (key rows (seen span).row)))) → AllByRecursion (LiesIn (seen span)) parts
-    → now ≡ mid ++ map (changed_part change (seen span)) parts → IsCut change rows taken (map seen more) old now
-cut-next change rows taken done old mid now span more parts is h free inside added =
-    subst (λ zs. IsCut change rows taken zs old now) (sym (ap (map seen) is ∙ map-append seen done (span ∷ [])))
-    (cut-more change rows taken (map seen done) old mid now (seen span) parts h free inside added)
+pub cut-next : {X : Type 0} (view : X → Stretch) (change : Row → Row) (rows : Rows) (taken : List Stretch) (done : List X) (old mid now : List Stretch) (span : X) (more : List X) (parts : List Part) → more ≡ done ++ span ∷ [] → IsCut change rows taken (map view done) old mid
+    → ((k : ℕ) → list_any (in_part k) parts ≡ (within (view span).lo (view span).hi k && not (contains (places_of taken k) (key rows (view span).row)))) → AllByRecursion (LiesIn (view span)) parts
+    → now ≡ mid ++ map (changed_part change (view span)) parts → IsCut change rows taken (map view more) old now
+cut-next view change rows taken done old mid now span more parts is h free inside added =
+    subst (λ zs. IsCut change rows taken zs old now) (sym (ap (map view) is ∙ map-append view done (span ∷ [])))
+    (cut-more change rows taken (map view done) old mid now (view span) parts h free inside added)
 
 -- ---- MINUS
 
@@ -249,10 +250,10 @@ wide-fit m n (a ∷ left) right l p q = (each right q, wide-fit m n left right l
     each [] q = tt
     each (b ∷ right) q = (omega (arith, l, p.0, q.0), each right q.1)
 
-pub every-seen : (P : Stretch → Type 0) (spans : List Span) (i : ℕ) (span : Span) → i < length spans → span ≡ get_or spans i span → AllByRecursion P (map seen spans) → P (seen span)
-every-seen P spans i span below is all = subst (λ s. P (seen s)) (sym is) (at spans i span below all)
+pub every-lent : (P : Stretch → Type 0) (spans : List (Bor Span)) (i : ℕ) (span : Bor Span) → i < length spans → span ≡ get_or spans i span → AllByRecursion P (map seen_lent spans) → P (seen_lent span)
+every-lent P spans i span below is all = subst (λ (s : Bor Span). P (seen_lent s)) (sym is) (at spans i span below all)
   where
-    at : (spans : List Span) (i : ℕ) (d : Span) → i < length spans → AllByRecursion P (map seen spans) → P (seen (get_or spans i d))
+    at : (spans : List (Bor Span)) (i : ℕ) (d : Bor Span) → i < length spans → AllByRecursion P (map seen_lent spans) → P (seen_lent (get_or spans i d))
     at [] i d below all = absurd (omega arith)
     at (x ∷ xs) zero d below all = all.0
     at (x ∷ xs) (suc i) d below all = at xs i d (omega arith) all.1

@@ -1,5 +1,5 @@
 -- One span laid over those of the other list: what it finds, and how often it asks.
-use Rattle.std.proofs.Common.{◌≡◌, ℕ, suc, ◌+◌, ◌<◌, ◌≤◌, min, Bool, true, false, ◌&&◌, ◌||◌, cond, List, [], ◌∷◌, ◌++◌, map, length, drop, get_or, count_by, refl, sym, ap, ◌∙◌, subst, arith, append_assoc}
+use Rattle.std.proofs.Common.{◌≡◌, ℕ, suc, ◌+◌, ◌<◌, ◌≤◌, min, Bool, true, false, ◌&&◌, ◌||◌, cond, List, [], ◌∷◌, ◌++◌, map, length, drop, get_or, count_by, Bor, refl, sym, ap, ◌∙◌, subst, arith, append_assoc}
 use Rattle.std.proofs.lemmas.Bool.{and_parts, and_from, ltb-true, ltb-false, cond-true, cond-false}
 use Rattle.std.proofs.lemmas.List.{drop_more, map-append}
 use Rattle.std.proofs.lemmas.List.Sums.{sum_by-cons}
@@ -10,6 +10,7 @@ use Rattle.rs_facts.specs.declared.fact.Span.{Span}
 use Rattle.rs_facts.specs.Insert.{within}
 use Rattle.rs_facts.specs.Runs.{Stretch}
 use Rattle.rs_facts.specs.Spans.{seen}
+use Rattle.rs_coalesce.specs.Lent.{seen_lent}
 use Rattle.rs_facts.proofs.Placing.{within-true, within-bounds}
 use Rattle.rs_facts.proofs.Rows.{same_row}
 use Rattle.rs_facts.proofs.RowSets.{either-way}
@@ -108,8 +109,8 @@ laid-all P Q side one each (other ∷ others) low all = elim (nat_lt other.lo on
 
 -- ---- the loop
 
-pub rest-at : (spans : List Span) (i : ℕ) (next : Span) → i < length spans → next ≡ get_or spans i next → map seen (drop i spans) ≡ seen next ∷ map seen (drop (i + 1) spans)
-rest-at spans i next below is = ap (map seen) (drop_more spans i next below) ∙ ap (λ s. seen s ∷ map seen (drop (i + 1) spans)) (sym is)
+pub rest-at : (spans : List (Bor Span)) (i : ℕ) (next : Bor Span) → i < length spans → next ≡ get_or spans i next → map seen_lent (drop i spans) ≡ seen_lent next ∷ map seen_lent (drop (i + 1) spans)
+rest-at spans i next below is = ap (map seen_lent) (drop_more spans i next below) ∙ ap (λ (s : Bor Span). seen_lent s ∷ map seen_lent (drop (i + 1) spans)) (sym is)
 
 pub found-more : (side : Side) (one : Stretch) (found : List Span) (piece : Span) (other : Stretch) (others rest all : List Stretch) → others ≡ other ∷ rest → nat_lt other.lo one.hi ≡ true → seen piece ≡ piece_of side one other
     → map seen found ++ laid side one others ≡ all → map seen (found ++ piece ∷ []) ++ laid side one rest ≡ all

@@ -2,7 +2,9 @@
 use Rattle.std.proofs.Common.{◌≡◌, ◌↔◌, ℕ, ◌+◌, ◌<◌, ◌≤◌, Bool, true, false, IsTrue, inr, List, [], ◌∷◌, ◌++◌, map, length, drop, get_or, Bor, Ordering, refl, sym, ap, ◌∙◌, subst, arith, append_assoc}
 use Rattle.std.proofs.lemmas.Bool.{lt-ltb, le-ltb, cond-true, cond-false}
 use Rattle.std.proofs.lemmas.List.{drop_more, map-append, get_or-map, length-map}
-use Rattle.std.proofs.lemmas.List.Sorted.{IsPermutation-map}
+use Rattle.std.proofs.lemmas.List.Elements.{All-from_recursion, recursion_from_All}
+use Rattle.std.proofs.lemmas.List.Sorted.{All-permutation, IsPermutation-map}
+use Rattle.std.specs.List.{AllByRecursion}
 use Rattle.std.specs.List.Sorted.{IsPermutation, IsSortedBy}
 use Rattle.std.specs.Ordering.{is_lt}
 use Rattle.rs_value.specs.Row.{Row, row_cmp}
@@ -11,15 +13,15 @@ use Rattle.rs_facts.specs.declared.fact.Span.{Span}
 use Rattle.rs_facts.specs.Runs.{Stretch}
 use Rattle.rs_facts.specs.Spans.{seen, places_of, ArePlaced, AreKept}
 use Rattle.rs_facts.proofs.SpanLaws.{places_of-permutation}
+use Rattle.rs_coalesce.specs.Lent.{seen_lent}
 use Rattle.rs_coalesce.specs.Joined.{row_place_cmp, joins, join, joined_onto, joined}
 use Rattle.rs_coalesce.proofs.Joining.{BySorted, Stand, stand-from_sorted, joined-kept, joined-means}
 use Rattle.rs_coalesce.proofs.Orders.{joins-reached, joins-apart}
 use Rattle.rs_sweep.specs.Lists.{AreSorted}
-use Rattle.rs_sweep.specs.Taken.{target, key, keyed, taken_of}
+use Rattle.rs_sweep.specs.Taken.{key, keyed, taken_of}
 use Rattle.rs_sweep.specs.declared.taken.Rows.{Rows}
 use Rattle.rs_sweep.specs.declared.taken.Rows.TheVariants.{All, Each}
 use Rattle.rs_sweep.specs.declared.taken.Taken.{Taken}
-use Rattle.rs_sweep.proofs.Arrangement.{every-moved}
 
 -- ---- whether a span goes on
 
@@ -41,11 +43,14 @@ joins-none rows t s test e l = joins-apart Line (taken_of rows t) (keyed rows s)
 
 -- ---- the loop that joins
 
-abbrev pub keys : Rows → List (Bor Span) → List Stretch
-keys rows order = map (keyed rows) (map seen (map target order))
+abbrev target : Bor Span → Span
+target reference = reference.now
 
-pub rest-at : (rows : Rows) (order : List (Bor Span)) (i : ℕ) (next : Bor Span) → i < length order → next ≡ get_or order i next → keys rows (drop i order) ≡ keyed rows (seen next.now) ∷ keys rows (drop (i + 1) order)
-rest-at rows order i next below is = ap (keys rows) (drop_more order i next below) ∙ ap (λ (s : Bor Span). keyed rows (seen s.now) ∷ keys rows (drop (i + 1) order)) (sym is)
+abbrev pub keys : Rows → List (Bor Span) → List Stretch
+keys rows order = map (keyed rows) (map seen_lent order)
+
+pub rest-at : (rows : Rows) (order : List (Bor Span)) (i : ℕ) (next : Bor Span) → i < length order → next ≡ get_or order i next → keys rows (drop i order) ≡ keyed rows (seen_lent next) ∷ keys rows (drop (i + 1) order)
+rest-at rows order i next below is = ap (keys rows) (drop_more order i next below) ∙ ap (λ (s : Bor Span). keyed rows (seen_lent s) ∷ keys rows (drop (i + 1) order)) (sym is)
 
 pub onto-joined : (found : List Stretch) (a b grown : Stretch) (more rest all : List Stretch) → more ≡ b ∷ rest → joins Line a b ≡ true → grown ≡ join a b → found ++ joined_onto Line a more ≡ all → found ++ joined_onto Line grown rest ≡ all
 onto-joined found a b grown more rest all is e is_grown h =
@@ -109,7 +114,7 @@ keyed_each [] = refl
 keyed_each (x ∷ xs) = ap (λ zs. x ∷ zs) (keyed_each xs)
 
 abbrev pub ByRow : List (Bor Span) → Type 0
-ByRow order = IsSortedBy (λ a b. is_lt (row_place_cmp (seen a.now) (seen b.now))) order
+ByRow order = IsSortedBy (λ a b. is_lt (row_place_cmp (seen_lent a) (seen_lent b))) order
 
 by_row : (first : Bor Span) (rest : List (Bor Span)) → ByRow (first ∷ rest) → BySorted (map target (first ∷ rest))
 by_row first rest h k d low high =
@@ -120,41 +125,45 @@ by_row first rest h k d low high =
     subst (λ s. is_lt (row_place_cmp (seen s) (seen (get_or (map target (first ∷ rest)) k d))) ≡ false) (sym two)
     (subst (λ s. is_lt (row_place_cmp (seen (get_or (first ∷ rest) (k + 1) first).now) (seen s)) ≡ false) (sym one) (h k first low below))
 
-standing_refs : (order : List (Bor Span)) → ByRow order → AreStanding (map seen (map target order))
+seen_target : (order : List (Bor Span)) → map seen (map target order) ≡ map seen_lent order
+seen_target [] = refl
+seen_target (first ∷ rest) = ap (λ zs. seen_lent first ∷ zs) (seen_target rest)
+
+standing_refs : (order : List (Bor Span)) → ByRow order → AreStanding (map seen_lent order)
 standing_refs [] h = tt
-standing_refs (first ∷ rest) h = stand-from_sorted first.now (map target rest) (by_row first rest h)
+standing_refs (first ∷ rest) h = subst (Stand (seen_lent first)) (seen_target rest) (stand-from_sorted first.now (map target rest) (by_row first rest h))
 
 pub standing-each : (order : List (Bor Span)) → ByRow order → AreStanding (keys Each order)
-standing-each order h = subst AreStanding (sym (keyed_each (map seen (map target order)))) (standing_refs order h)
+standing-each order h = subst AreStanding (sym (keyed_each (map seen_lent order))) (standing_refs order h)
 
 -- ---- together
 
-pub record Gathered (rows : Rows) (spans : List Span) (taken : List Taken) : Type 0 where
+pub record Gathered (rows : Rows) (spans : List (Bor Span)) (taken : List Taken) : Type 0 where
   pub kept : AreKept Line (map (taken_of rows) taken)
-  pub same : places_of (map (taken_of rows) taken) ≡ places_of (map (keyed rows) (map seen spans))
+  pub same : places_of (map (taken_of rows) taken) ≡ places_of (keys rows spans)
 
-pub gathered-all : (rows : Rows) (spans : List Span) (order : List (Bor Span)) (taken : List Taken) → rows ≡ All → AreSorted (map seen spans) → ArePlaced Line (map seen spans) → map target order ≡ spans
-    → map (taken_of rows) taken ≡ joined Line (keys rows order) → Gathered rows spans taken
-gathered-all rows spans order taken e sorted placed is made =
-    let keyed_is : keys rows order ≡ map (keyed rows) (map seen spans) = ap (λ zs. map (keyed rows) (map seen zs)) is in
-    let standing : AreStanding (map (keyed rows) (map seen spans)) = subst (λ r. AreStanding (map (keyed r) (map seen spans))) (sym e) (standing-all (map seen spans) sorted) in
-    let some = keyed-placed rows (map seen spans) placed in
-    let all = made ∙ ap (joined Line) keyed_is in
+pub gathered-all : (rows : Rows) (spans : List (Bor Span)) (taken : List Taken) → rows ≡ All → AreSorted (map seen_lent spans) → ArePlaced Line (map seen_lent spans)
+    → map (taken_of rows) taken ≡ joined Line (keys rows spans) → Gathered rows spans taken
+gathered-all rows spans taken e sorted placed made =
+    let standing : AreStanding (keys rows spans) = subst (λ r. AreStanding (keys r spans)) (sym e) (standing-all (map seen_lent spans) sorted) in
+    let some = keyed-placed rows (map seen_lent spans) placed in
     record {
-      kept = subst (AreKept Line) (sym all) (kept-from_standing (map (keyed rows) (map seen spans)) standing some);
-      same = ap places_of all ∙ means-from_standing (map (keyed rows) (map seen spans)) standing some;
+      kept = subst (AreKept Line) (sym made) (kept-from_standing (keys rows spans) standing some);
+      same = ap places_of made ∙ means-from_standing (keys rows spans) standing some;
     }
 
-pub gathered-each : (rows : Rows) (spans : List Span) (order sorted : List (Bor Span)) (taken : List Taken) → rows ≡ Each → ArePlaced Line (map seen spans) → map target order ≡ spans → IsPermutation order sorted → ByRow sorted
+every-moved : (P : Stretch → Type 0) (xs ys : List (Bor Span)) → IsPermutation xs ys → AllByRecursion P (map seen_lent xs) → AllByRecursion P (map seen_lent ys)
+every-moved P xs ys h all = recursion_from_All P (map seen_lent ys) (All-permutation P (map seen_lent xs) (map seen_lent ys) (IsPermutation-map seen_lent xs ys h) (All-from_recursion P (map seen_lent xs) all))
+
+pub gathered-each : (rows : Rows) (spans sorted : List (Bor Span)) (taken : List Taken) → rows ≡ Each → ArePlaced Line (map seen_lent spans) → IsPermutation spans sorted → ByRow sorted
     → map (taken_of rows) taken ≡ joined Line (keys rows sorted) → Gathered rows spans taken
-gathered-each rows spans order sorted taken e placed is moved by made =
-    let over : IsPermutation spans (map target sorted) = subst (λ zs. IsPermutation zs (map target sorted)) is (IsPermutation-map target order sorted moved) in
-    let some : ArePlaced Line (keys rows sorted) = keyed-placed rows (map seen (map target sorted)) (every-moved (λ s. s.lo < s.hi) spans (map target sorted) over placed) in
+gathered-each rows spans sorted taken e placed moved by made =
+    let some : ArePlaced Line (keys rows sorted) = keyed-placed rows (map seen_lent sorted) (every-moved (λ s. s.lo < s.hi) spans sorted moved placed) in
     let standing : AreStanding (keys rows sorted) = subst (λ r. AreStanding (keys r sorted)) (sym e) (standing-each sorted by) in
     record {
       kept = subst (AreKept Line) (sym made) (kept-from_standing (keys rows sorted) standing some);
       same = ap places_of made ∙ means-from_standing (keys rows sorted) standing some
-          ∙ sym (places_of-permutation (map (keyed rows) (map seen spans)) (keys rows sorted) (IsPermutation-map (keyed rows) (map seen spans) (map seen (map target sorted)) (IsPermutation-map seen spans (map target sorted) over)));
+          ∙ sym (places_of-permutation (keys rows spans) (keys rows sorted) (IsPermutation-map (keyed rows) (map seen_lent spans) (map seen_lent sorted) (IsPermutation-map seen_lent spans sorted moved)));
     }
 
 pub keys-none : (rows : Rows) (order : List (Bor Span)) → length order ≡ 0 → keys rows order ≡ []

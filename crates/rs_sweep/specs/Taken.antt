@@ -1,17 +1,12 @@
 -- What spans take together, row by row or all rows alike.
 use Rattle.std.specs.Prelude.{Bool, true, false, ◌&&◌, nat_le, nat_lt, []}
 use Rattle.std.specs.Ordering.{match_ordering, eq_by_cmp}
-use denote.Ref.{Bor}
 use Rattle.rs_value.specs.Row.{Row, row_cmp}
 use Rattle.rs_value.specs.View.{row_of}
-use Rattle.rs_facts.specs.declared.fact.Span.{Span}
 use Rattle.rs_facts.specs.Runs.{Stretch, stretch}
 use Rattle.rs_sweep.specs.declared.taken.Rows.{Rows}
 use Rattle.rs_sweep.specs.declared.taken.Rows.TheVariants.{All, Each}
 use Rattle.rs_sweep.specs.declared.taken.Taken.{Taken}
-
-abbrev pub target : Bor Span → Span
-target reference = reference.now
 
 -- the row, or none where rows are not told apart
 abbrev pub key : Rows → Row → Row

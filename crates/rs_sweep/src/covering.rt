@@ -8,6 +8,7 @@ ghost use Rattle.rs_value.specs.declared.column.TheConstants.{COLUMNS};
 ghost use Rattle.rs_value.specs.View.{row_of};
 ghost use Rattle.rs_facts.specs.Operators.{covered, nulls};
 ghost use Rattle.rs_facts.specs.Spans.{seen, places_of, ArePlaced, AreKept};
+ghost use Rattle.rs_coalesce.specs.Lent.{seen_lent};
 ghost use Rattle.rs_sweep.specs.Inner.{joined_row, joined_with};
 ghost use Rattle.rs_sweep.specs.Lists.{AreSorted, AreWide};
 ghost use Rattle.rs_sweep.specs.Parts.{IsCut, changed_part};
@@ -29,23 +30,23 @@ use std::alloc::{AllocError, Global};
 /// the columns of the other. The only refusal is for want of memory.
 pub fn cover(
     alloc: Global,
-    left: &[Span],
-    right: &[Span],
+    left: &[&Span],
+    right: &[&Span],
     left_width: usize,
     right_width: usize,
 ) -> Result<Vec<Span>, AllocError>
-    requires left_placed { ArePlaced kinds.Line (map seen left.now) }
-    requires right_placed { ArePlaced kinds.Line (map seen right.now) }
-    requires left_sorted { AreSorted (map seen left.now) }
-    requires right_sorted { AreSorted (map seen right.now) }
-    requires left_wide { AreWide left_width (map seen left.now) }
-    requires right_wide { AreWide right_width (map seen right.now) }
+    requires left_placed { ArePlaced kinds.Line (map seen_lent left.now) }
+    requires right_placed { ArePlaced kinds.Line (map seen_lent right.now) }
+    requires left_sorted { AreSorted (map seen_lent left.now) }
+    requires right_sorted { AreSorted (map seen_lent right.now) }
+    requires left_wide { AreWide left_width (map seen_lent left.now) }
+    requires right_wide { AreWide right_width (map seen_lent right.now) }
     requires fits { left_width + right_width ≤ COLUMNS }
     ensures means { IfOk result (λ spans. (k : ℕ) → places_of (map seen spans.items) k
-        ≡ covered left_width right_width (places_of (map seen left.now) k) (places_of (map seen right.now) k)) }
+        ≡ covered left_width right_width (places_of (map seen_lent left.now) k) (places_of (map seen_lent right.now) k)) }
     ensures sorted { IfOk result (λ spans. AreSorted (map seen spans.items)) }
-    ensures placed { IfOk result (λ spans. (kind : Kind) → ArePlaced kind (map seen left.now)
-        → ArePlaced kind (map seen right.now) → ArePlaced kind (map seen spans.items)) }
+    ensures placed { IfOk result (λ spans. (kind : Kind) → ArePlaced kind (map seen_lent left.now)
+        → ArePlaced kind (map seen_lent right.now) → ArePlaced kind (map seen spans.items)) }
     ensures width { IfOk result (λ spans. AreWide (left_width + right_width) (map seen spans.items)) }
 {
     let mut comparisons = Comparisons::new();
@@ -78,16 +79,16 @@ pub fn cover(
 fn pad(
     alloc: Global,
     side: Side,
-    spans: &[Span],
+    spans: &[&Span],
     taken: &[Taken<'_>],
     nulls: &Box<Tuple>,
     found: &mut Vec<Span>,
 ) -> Result<(), AllocError>
     requires kept { AreKept kinds.Line (map (taken_of rows.All) taken.now) }
     requires fits { AllByRecursion (λ span. length span.row + length (row_of nulls.now.value) ≤ COLUMNS)
-        (map seen spans.now) }
+        (map seen_lent spans.now) }
     ensures { OnOk result (IsCut (joined_with side (row_of nulls.now.value)) rows.All
-        (map (taken_of rows.All) taken.now) (map seen spans.now) (map seen found.old.items) (map seen found.new.items)) }
+        (map (taken_of rows.All) taken.now) (map seen_lent spans.now) (map seen found.old.items) (map seen found.new.items)) }
 {
     let mut parts = Vec::new(alloc);
     for span in spans {

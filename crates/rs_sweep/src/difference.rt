@@ -5,6 +5,7 @@ ghost use Rattle.rs_value.specs.declared.column.Kind.{Kind};
 ghost use Rattle.rs_value.specs.declared.column.Kind.TheVariants as kinds;
 ghost use Rattle.rs_facts.specs.Operators.{without};
 ghost use Rattle.rs_facts.specs.Spans.{seen, places_of, ArePlaced};
+ghost use Rattle.rs_coalesce.specs.Lent.{seen_lent};
 ghost use Rattle.rs_sweep.specs.Lists.{AreSorted, AreWide};
 ghost use Rattle.rs_sweep.specs.Parts.{changed_part, unchanged};
 
@@ -16,11 +17,11 @@ use std::alloc::{AllocError, Global};
 
 /// The rows of the left where the right does not have them. Rows that stay are moved; they are copied only where a
 /// span falls into several parts. The only refusal is for want of memory.
-pub fn minus(alloc: Global, left: Vec<Span>, right: &[Span]) -> Result<Vec<Span>, AllocError>
-    requires right_placed { ArePlaced kinds.Line (map seen right.now) }
-    requires right_sorted { AreSorted (map seen right.now) }
+pub fn minus(alloc: Global, left: Vec<Span>, right: &[&Span]) -> Result<Vec<Span>, AllocError>
+    requires right_placed { ArePlaced kinds.Line (map seen_lent right.now) }
+    requires right_sorted { AreSorted (map seen_lent right.now) }
     ensures means { IfOk result (λ spans. (k : ℕ) → places_of (map seen spans.items) k
-        ≡ without (places_of (map seen left.items) k) (places_of (map seen right.now) k)) }
+        ≡ without (places_of (map seen left.items) k) (places_of (map seen_lent right.now) k)) }
     ensures sorted { IfOk result (λ spans. AreSorted (map seen spans.items)) }
     ensures placed { IfOk result (λ spans. (kind : Kind) → ArePlaced kind (map seen left.items)
         → ArePlaced kind (map seen spans.items)) }

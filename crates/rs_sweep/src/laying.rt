@@ -4,6 +4,7 @@ ghost use Rattle.std.specs.Prelude.{◌≡◌, ◌≤◌, ◌+◌, ◌*◌, ◌+
 ghost use Rattle.std.specs.List.{AllByRecursion};
 ghost use Rattle.rs_value.specs.declared.column.TheConstants.{COLUMNS};
 ghost use Rattle.rs_facts.specs.Spans.{seen};
+ghost use Rattle.rs_coalesce.specs.Lent.{seen_lent};
 ghost use Rattle.rs_sweep.specs.Inner.{piece_of, laid};
 
 use crate::comparisons::Comparisons;
@@ -23,16 +24,16 @@ pub(crate) enum Side {
 pub(crate) fn lay(
     side: Side,
     one: &Span,
-    others: &[Span],
+    others: &[&Span],
     found: &mut Vec<Span>,
     comparisons: &mut Comparisons,
 ) -> Result<(), AllocError>
     requires { AllByRecursion (λ other. length (seen one.now).row + length other.row ≤ COLUMNS)
-        (map seen others.now) }
+        (map seen_lent others.now) }
     ensures found { OnOk result (map seen found.new.items
-        ≡ map seen found.old.items ++ laid side (seen one.now) (map seen others.now)) }
+        ≡ map seen found.old.items ++ laid side (seen one.now) (map seen_lent others.now)) }
     ensures counted { OnOk result (comparisons.new.made
-        ≤ comparisons.old.made + 1 + 2 * length (laid side (seen one.now) (map seen others.now))) }
+        ≤ comparisons.old.made + 1 + 2 * length (laid side (seen one.now) (map seen_lent others.now))) }
 {
     for other in others {
         if !comparisons.is_below(other.lo, one.hi) {

@@ -25,6 +25,6 @@ pub use conditions::meets;
 pub use covering::cover;
 pub use difference::minus;
 pub use filter::select;
-pub use order::sort_by_place;
+pub use order::{sort_by_place, sort_lent};
 pub use overlaying::overlay;
 pub use union::merge;

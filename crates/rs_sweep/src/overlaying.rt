@@ -6,6 +6,7 @@ ghost use Rattle.rs_value.specs.declared.column.Kind.TheVariants as kinds;
 ghost use Rattle.rs_facts.specs.Operators.{overlaid};
 ghost use Rattle.rs_facts.specs.Spans.{seen, places_of, ArePlaced};
 ghost use Rattle.rs_facts.specs.Query.{overlaid_kind};
+ghost use Rattle.rs_coalesce.specs.Lent.{seen_lent};
 ghost use Rattle.rs_sweep.specs.Lists.{AreSorted, AreWide, Fit, pairs};
 ghost use Rattle.rs_sweep.specs.Inner.{ArePieces};
 
@@ -17,21 +18,25 @@ use std::alloc::{AllocError, Global};
 
 /// Each row of the left before each row of the right, and the number of comparisons of a bound of the one with a bound
 /// of the other. The only refusal is for want of memory.
-pub fn overlay(alloc: Global, left: &[Span], right: &[Span]) -> Result<(Vec<Span>, u64), AllocError>
-    requires left_placed { ArePlaced kinds.Line (map seen left.now) }
-    requires right_placed { ArePlaced kinds.Line (map seen right.now) }
-    requires left_sorted { AreSorted (map seen left.now) }
-    requires right_sorted { AreSorted (map seen right.now) }
-    requires fits { Fit (map seen left.now) (map seen right.now) }
+pub fn overlay(
+    alloc: Global,
+    left: &[&Span],
+    right: &[&Span],
+) -> Result<(Vec<Span>, u64), AllocError>
+    requires left_placed { ArePlaced kinds.Line (map seen_lent left.now) }
+    requires right_placed { ArePlaced kinds.Line (map seen_lent right.now) }
+    requires left_sorted { AreSorted (map seen_lent left.now) }
+    requires right_sorted { AreSorted (map seen_lent right.now) }
+    requires fits { Fit (map seen_lent left.now) (map seen_lent right.now) }
     ensures means { IfOk result (λ answer. (k : ℕ) → places_of (map seen answer.0.items) k
-        ≡ overlaid (places_of (map seen left.now) k) (places_of (map seen right.now) k)) }
+        ≡ overlaid (places_of (map seen_lent left.now) k) (places_of (map seen_lent right.now) k)) }
     ensures sorted { IfOk result (λ answer. AreSorted (map seen answer.0.items)) }
-    ensures placed { IfOk result (λ answer. (a b : Kind) → ArePlaced a (map seen left.now)
-        → ArePlaced b (map seen right.now) → ArePlaced (overlaid_kind a b) (map seen answer.0.items)) }
-    ensures width { IfOk result (λ answer. (m n : ℕ) → AreWide m (map seen left.now)
-        → AreWide n (map seen right.now) → AreWide (m + n) (map seen answer.0.items)) }
+    ensures placed { IfOk result (λ answer. (a b : Kind) → ArePlaced a (map seen_lent left.now)
+        → ArePlaced b (map seen_lent right.now) → ArePlaced (overlaid_kind a b) (map seen answer.0.items)) }
+    ensures width { IfOk result (λ answer. (m n : ℕ) → AreWide m (map seen_lent left.now)
+        → AreWide n (map seen_lent right.now) → AreWide (m + n) (map seen answer.0.items)) }
     ensures comparisons { IfOk result (λ answer. answer.1
-        ≤ 2 * (length left.now + length right.now) + 2 * pairs (map seen left.now) (map seen right.now)) }
+        ≤ 2 * (length left.now + length right.now) + 2 * pairs (map seen_lent left.now) (map seen_lent right.now)) }
 {
     let mut comparisons = Comparisons::new();
     let mut found = pieces(alloc, left, right, &mut comparisons)?;
@@ -42,26 +47,26 @@ pub fn overlay(alloc: Global, left: &[Span], right: &[Span]) -> Result<(Vec<Span
 /// The pieces, in no order. Of two spans the one that begins first is laid over the other.
 pub(crate) fn pieces(
     alloc: Global,
-    left: &[Span],
-    right: &[Span],
+    left: &[&Span],
+    right: &[&Span],
     comparisons: &mut Comparisons,
 ) -> Result<Vec<Span>, AllocError>
-    requires left_placed { ArePlaced kinds.Line (map seen left.now) }
-    requires right_placed { ArePlaced kinds.Line (map seen right.now) }
-    requires left_sorted { AreSorted (map seen left.now) }
-    requires right_sorted { AreSorted (map seen right.now) }
-    requires fits { Fit (map seen left.now) (map seen right.now) }
-    ensures pieces { IfOk result (λ found. ArePieces (map seen left.now) (map seen right.now)
+    requires left_placed { ArePlaced kinds.Line (map seen_lent left.now) }
+    requires right_placed { ArePlaced kinds.Line (map seen_lent right.now) }
+    requires left_sorted { AreSorted (map seen_lent left.now) }
+    requires right_sorted { AreSorted (map seen_lent right.now) }
+    requires fits { Fit (map seen_lent left.now) (map seen_lent right.now) }
+    ensures pieces { IfOk result (λ found. ArePieces (map seen_lent left.now) (map seen_lent right.now)
         (map seen found.items)) }
     ensures counted { IfOk result (λ found. comparisons.new.made ≤ comparisons.old.made
-        + 2 * (length left.now + length right.now) + 2 * pairs (map seen left.now) (map seen right.now)) }
+        + 2 * (length left.now + length right.now) + 2 * pairs (map seen_lent left.now) (map seen_lent right.now)) }
 {
     let mut found = Vec::new(alloc);
     let mut i = 0;
     let mut j = 0;
     while i < left.len() && j < right.len() {
-        let a = &left[i];
-        let b = &right[j];
+        let a = left[i];
+        let b = right[j];
         if comparisons.is_below(a.lo, b.lo) {
             lay(Side::Left, a, &right[j..], &mut found, comparisons)?;
             i += 1;

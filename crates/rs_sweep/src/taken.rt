@@ -6,8 +6,9 @@ ghost use Rattle.std.specs.List.Sorted.{IsSortedBy};
 ghost use Rattle.rs_value.specs.declared.column.Kind.TheVariants as kinds;
 ghost use Rattle.rs_coalesce.specs.Joined.{row_place_cmp, joined, joins};
 ghost use Rattle.rs_facts.specs.Spans.{seen, places_of, AreKept, ArePlaced};
+ghost use Rattle.rs_coalesce.specs.Lent.{seen_lent};
 ghost use Rattle.rs_sweep.specs.Lists.{AreSorted};
-ghost use Rattle.rs_sweep.specs.Taken.{keyed, taken_of, target};
+ghost use Rattle.rs_sweep.specs.Taken.{keyed, taken_of};
 
 use rs_facts::Span;
 use rs_value::{compare_rows, same_row};
@@ -33,32 +34,22 @@ pub(crate) struct Taken<'a> {
 pub(crate) fn taken_by<'a>(
     alloc: Global,
     rows: Rows,
-    spans: &'a [Span],
+    spans: &[&'a Span],
 ) -> Result<Vec<Taken<'a>>, AllocError>
-    requires sorted { AreSorted (map seen spans.now) }
-    requires placed { ArePlaced kinds.Line (map seen spans.now) }
+    requires sorted { AreSorted (map seen_lent spans.now) }
+    requires placed { ArePlaced kinds.Line (map seen_lent spans.now) }
     ensures kept { IfOk result (λ taken. AreKept kinds.Line (map (taken_of rows) taken.items)) }
     ensures same { IfOk result (λ taken. places_of (map (taken_of rows) taken.items)
-        ≡ places_of (map (keyed rows) (map seen spans.now))) }
+        ≡ places_of (map (keyed rows) (map seen_lent spans.now))) }
 {
-    let mut order = references(alloc, spans)?;
     match rows {
-        Rows::All => join(alloc, rows, order.as_slice()),
+        Rows::All => join(alloc, rows, spans),
         Rows::Each => {
+            let mut order = Vec::from_slice(alloc, spans)?;
             sort_by_row(&mut order);
             join(alloc, rows, order.as_slice())
         }
     }
-}
-
-fn references<'a>(alloc: Global, spans: &'a [Span]) -> Result<Vec<&'a Span>, AllocError>
-    ensures { IfOk result (λ all. map target all.items ≡ spans.now) }
-{
-    let mut all = Vec::with_capacity(alloc, spans.len())?;
-    for span in spans {
-        all.push(span)?;
-    }
-    Ok(all)
 }
 
 /// Compares two spans by row, and by place where their rows are equal.
@@ -70,7 +61,7 @@ fn by_row(left: &Span, right: &Span) -> Ordering
 
 fn sort_by_row(order: &mut Vec<&Span>)
     ensures moved { IsPermutation order.old.items order.new.items }
-    ensures sorted { IsSortedBy (λ a b. is_lt (row_place_cmp (seen a.now) (seen b.now))) order.new.items }
+    ensures sorted { IsSortedBy (λ a b. is_lt (row_place_cmp (seen_lent a) (seen_lent b))) order.new.items }
 {
     order.sort_unstable_by(|left, right| by_row(left, right));
 }
@@ -89,7 +80,7 @@ fn is_joined(rows: Rows, taken: &Taken<'_>, span: &Span) -> bool
 /// Joins spans that are in order by row and place.
 fn join<'a>(alloc: Global, rows: Rows, order: &[&'a Span]) -> Result<Vec<Taken<'a>>, AllocError>
     ensures { IfOk result (λ taken. map (taken_of rows) taken.items
-        ≡ joined kinds.Line (map (keyed rows) (map seen (map target order.now)))) }
+        ≡ joined kinds.Line (map (keyed rows) (map seen_lent order.now))) }
 {
     let mut taken = Vec::new(alloc);
     let Some((first, rest)) = order.split_first() else {

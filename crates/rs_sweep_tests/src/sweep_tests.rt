@@ -6,9 +6,11 @@ ghost use Rattle.std.specs.Prelude.{◌≡◌, ◌<◌, ◌≤◌, ◌^◌, ℕ,
 ghost use Rattle.rs_value.specs.declared.column.Kind.TheVariants as kinds;
 ghost use Rattle.rs_value.specs.View.{row_of};
 ghost use Rattle.rs_facts.specs.Spans.{seen, ArePlaced};
+ghost use Rattle.rs_coalesce.specs.Lent.{seen_lent};
 ghost use Rattle.rs_sweep.specs.Lists.{AreSorted, AreWide};
 ghost use Rattle.rs_event_lists.specs.Held.{kind_at};
 
+use rs_coalesce::lent;
 use rs_event_lists::EventLists;
 use rs_facts::{Condition, Span, Term};
 use rs_sweep::{cover, dissolve, merge, minus, overlay, select, window};
@@ -72,6 +74,18 @@ fn steps(alloc: Global, from: u32, number: i64) -> Result<Vec<Span>, AllocError>
     Ok(spans)
 }
 
+/// Lines of one value each, lent to an operator.
+fn lent_lines(alloc: Global, spans: &[Span]) -> Result<Vec<&Span>, AllocError>
+    requires placed { ArePlaced kinds.Line (map seen spans.now) }
+    requires sorted { AreSorted (map seen spans.now) }
+    requires width { AreWide 1 (map seen spans.now) }
+    ensures placed { IfOk result (λ lent. ArePlaced kinds.Line (map seen_lent lent.items)) }
+    ensures sorted { IfOk result (λ lent. AreSorted (map seen_lent lent.items)) }
+    ensures width { IfOk result (λ lent. AreWide 1 (map seen_lent lent.items)) }
+{
+    lent(alloc, spans)
+}
+
 /// Whether the span is this, from `lo` to `hi` with a row.
 fn is<const N: usize>(span: &Span, wanted: &(u32, u32, [Value; N])) -> bool {
     let (lo, hi, row) = wanted;
@@ -89,7 +103,8 @@ fn overlaid_steps(alloc: Global, from: u32) -> Result<(Vec<Span>, u64), AllocErr
 {
     let left = steps(alloc, 0, 1)?;
     let right = steps(alloc, from, 2)?;
-    overlay(alloc, left.as_slice(), right.as_slice())
+    let (left, right) = (lent_lines(alloc, &left)?, lent_lines(alloc, &right)?);
+    overlay(alloc, &left, &right)
 }
 
 #[test]
@@ -110,7 +125,10 @@ fn rows_beside_and_without_others(rt: HostRuntime) -> Result<(), Fail> {
     let alloc = rt.alloc();
     let left = two(alloc, (0, 10, 1), (5, 15, 2))?;
     let right = two(alloc, (2, 10, 3), (12, 20, 4))?;
-    let mut covered = cover(alloc, left.as_slice(), right.as_slice(), 1, 1)?;
+    let mut covered = {
+        let (left, right) = (lent_lines(alloc, &left)?, lent_lines(alloc, &right)?);
+        cover(alloc, &left, &right, 1, 1)?
+    };
     let wanted = [
         (0, 2, [ONE, NULL]),
         (2, 10, [ONE, THREE]),
@@ -131,7 +149,7 @@ fn rows_beside_and_without_others(rt: HostRuntime) -> Result<(), Fail> {
     ];
     assert!(rt; are(covered.as_slice(), &wanted));
     let other = two(alloc, (3, 9, 1), (8, 20, 2))?;
-    let rest = minus(alloc, left, other.as_slice())?;
+    let rest = minus(alloc, left, &lent_lines(alloc, &other)?)?;
     let wanted = [(0, 3, [ONE]), (5, 8, [TWO]), (9, 10, [ONE])];
     assert!(rt; are(rest.as_slice(), &wanted));
     Ok(())

@@ -2,6 +2,7 @@ use Rattle.std.proofs.Common.{◌≡◌, ◌+◌, length, map, sym, ap, ◌∙�
 use Rattle.std.proofs.lemmas.List.Sorted.{IsPermutation-map}
 use Rattle.rs_value.specs.View.{row_of}
 use Rattle.rs_facts.specs.Spans.{seen, IsPlaced}
+use Rattle.rs_coalesce.specs.Lent.{seen_lent}
 use Rattle.rs_facts.proofs.SpanLaws.{places_of-permutation}
 use Rattle.rs_sweep.specs.Inner.{joined_with}
 use Rattle.rs_sweep.specs.Parts.{IsCut}
@@ -14,24 +15,24 @@ use Rattle.rs_sweep.proofs.CutLaws.{cover-means, cover-placed, cover-wide, wide-
 use Rattle.rs_sweep.proofs.covering.cover.Goals as goal
 
 pub pieces-requires-clause-fits : goal.pieces-requires-clause-fits
-pieces-requires-clause-fits c = wide-fit c.args.left_width c.args.right_width (map seen c.args.left.now) (map seen c.args.right.now) c.requires.fits c.requires.left_wide c.requires.right_wide
+pieces-requires-clause-fits c = wide-fit c.args.left_width c.args.right_width (map seen_lent c.args.left.now) (map seen_lent c.args.right.now) c.requires.fits c.requires.left_wide c.requires.right_wide
 
 pub pad-requires-clause-fits : goal.pad-requires-clause-fits
-pad-requires-clause-fits c = wide-fits c.args.left_width c.args.right_width (map seen c.args.left.now) c.requires.fits c.requires.left_wide (row_of c.in_ok-after.after.value) (ap length c.in_ok-after.ensures ∙ nulls-length c.args.right_width)
+pad-requires-clause-fits c = wide-fits c.args.left_width c.args.right_width (map seen_lent c.args.left.now) c.requires.fits c.requires.left_wide (row_of c.in_ok-after.after.value) (ap length c.in_ok-after.ensures ∙ nulls-length c.args.right_width)
 
 pub pad-requires-2-clause-fits : goal.pad-requires-2-clause-fits
-pad-requires-2-clause-fits c = wide-fits c.args.right_width c.args.left_width (map seen c.args.right.now) (omega (arith, c.requires.fits)) c.requires.right_wide (row_of c.in_ok-before.before.value) (ap length c.in_ok-before.ensures ∙ nulls-length c.args.left_width)
+pad-requires-2-clause-fits c = wide-fits c.args.right_width c.args.left_width (map seen_lent c.args.right.now) (omega (arith, c.requires.fits)) c.requires.right_wide (row_of c.in_ok-before.before.value) (ap length c.in_ok-before.ensures ∙ nulls-length c.args.left_width)
 
-left_cut : (c : goal.After-drop-by_left-2) → IsCut (joined_with Left (row_of c.in_ok-after.after.value)) All (map (taken_of All) c.in_ok-by_right.by_right.items) (map seen c.args.left.now) (map seen c.in_ok-found.found.items) (map seen c.pad.new.found.items)
-left_cut c = subst (λ zs. IsCut (joined_with Left (row_of c.in_ok-after.after.value)) All (map (taken_of All) zs) (map seen c.args.left.now) (map seen c.in_ok-found.found.items) (map seen c.pad.new.found.items)) c.as_slice.ensures.value c.in_ok-pad.ensures
+left_cut : (c : goal.After-drop-by_left-2) → IsCut (joined_with Left (row_of c.in_ok-after.after.value)) All (map (taken_of All) c.in_ok-by_right.by_right.items) (map seen_lent c.args.left.now) (map seen c.in_ok-found.found.items) (map seen c.pad.new.found.items)
+left_cut c = subst (λ zs. IsCut (joined_with Left (row_of c.in_ok-after.after.value)) All (map (taken_of All) zs) (map seen_lent c.args.left.now) (map seen c.in_ok-found.found.items) (map seen c.pad.new.found.items)) c.as_slice.ensures.value c.in_ok-pad.ensures
 
-right_cut : (c : goal.After-drop-by_left-2) → IsCut (joined_with Right (row_of c.in_ok-before.before.value)) All (map (taken_of All) c.in_ok-by_left.by_left.items) (map seen c.args.right.now) (map seen c.pad.new.found.items) (map seen c.pad-2.new.found.items)
-right_cut c = subst (λ zs. IsCut (joined_with Right (row_of c.in_ok-before.before.value)) All (map (taken_of All) zs) (map seen c.args.right.now) (map seen c.pad.new.found.items) (map seen c.pad-2.new.found.items)) c.as_slice-2.ensures.value c.in_ok-pad-2.ensures
+right_cut : (c : goal.After-drop-by_left-2) → IsCut (joined_with Right (row_of c.in_ok-before.before.value)) All (map (taken_of All) c.in_ok-by_left.by_left.items) (map seen_lent c.args.right.now) (map seen c.pad.new.found.items) (map seen c.pad-2.new.found.items)
+right_cut c = subst (λ zs. IsCut (joined_with Right (row_of c.in_ok-before.before.value)) All (map (taken_of All) zs) (map seen_lent c.args.right.now) (map seen c.pad.new.found.items) (map seen c.pad-2.new.found.items)) c.as_slice-2.ensures.value c.in_ok-pad-2.ensures
 
 pub returns-clause-means : goal.returns-clause-means
 returns-clause-means c = λ k.
     ap (λ p. p k) (sym (places_of-permutation _ _ (IsPermutation-map seen _ _ c.sort_by_place.ensures.moved)))
-    ∙ cover-means c.args.left_width c.args.right_width _ _ (map seen c.args.left.now) (map seen c.args.right.now) _ _ _ _ (map seen c.pad-2.new.found.items) c.in_ok-found.ensures.pieces c.in_ok-before.ensures c.in_ok-after.ensures c.in_ok-by_left.ensures.same c.in_ok-by_right.ensures.same (left_cut c) (right_cut c) k
+    ∙ cover-means c.args.left_width c.args.right_width _ _ (map seen_lent c.args.left.now) (map seen_lent c.args.right.now) _ _ _ _ (map seen c.pad-2.new.found.items) c.in_ok-found.ensures.pieces c.in_ok-before.ensures c.in_ok-after.ensures c.in_ok-by_left.ensures.same c.in_ok-by_right.ensures.same (left_cut c) (right_cut c) k
 
 pub returns-clause-placed : goal.returns-clause-placed
 returns-clause-placed c = λ kind p q. every-moved (IsPlaced kind) _ _ c.sort_by_place.ensures.moved (cover-placed kind _ _ _ _ _ _ _ _ _ c.in_ok-found.ensures.pieces (left_cut c) (right_cut c) p q)

@@ -5,6 +5,7 @@ use Rattle.rs_value.specs.declared.column.Kind.TheVariants.{Line}
 use Rattle.rs_facts.specs.Fact.{contains}
 use Rattle.rs_facts.specs.Insert.{within}
 use Rattle.rs_facts.specs.Spans.{seen, places_of, IsPlaced, AreKept}
+use Rattle.rs_coalesce.specs.Lent.{seen_lent}
 use Rattle.rs_facts.proofs.SpanLaws.{places_of-permutation}
 use Rattle.rs_sweep.specs.Parts.{IsCut, unchanged, changed_part}
 use Rattle.rs_sweep.specs.Taken.{taken_of}
@@ -28,7 +29,7 @@ pub loop-span-preserved : goal.loop-span-preserved
 loop-span-preserved c = record {
   whole = whole-next c.loop-span.yielded c.loop-span.span-iterator.rest.items c.next.new.self.rest.items c.args.left.items c.in-Some.span c.in-Some.ensures.steps.0 c.loop-span.invariant.whole;
   counted = let e = ap length c.in-Some.ensures.steps.0 in let f = c.in-Some.ensures.steps.1 in omega (arith, e, f, c.loop-span.invariant.counted);
-  cut = cut-next unchanged Each (map (taken_of Each) c.in_ok-taken.taken.items) c.loop-span.yielded [] _ _ c.in-Some.span _ c.parts_outside.new.parts.items refl c.loop-span.invariant.cut
+  cut = cut-next seen unchanged Each (map (taken_of Each) c.in_ok-taken.taken.items) c.loop-span.yielded [] _ _ c.in-Some.span _ c.parts_outside.new.parts.items refl c.loop-span.invariant.cut
       (λ k. c.in_ok-parts_outside.ensures.free k ∙ ap (λ zs. within c.in-Some.span.lo c.in-Some.span.hi k && not (contains (places_of (map (taken_of Each) zs) k) (row_of c.in-Some.span.tuple.value))) c.as_slice.ensures.value)
       c.in_ok-parts_outside.ensures.inside
       (c.in_ok-cut.ensures ∙ ap (λ zs. map seen c.loop-span.kept.items ++ map (changed_part unchanged (seen c.in-Some.span)) zs) c.as_slice-in-loop-span.ensures.value);
@@ -40,7 +41,7 @@ all_cut c = subst (λ zs. IsCut unchanged Each (map (taken_of Each) c.in_ok-take
 pub returns-clause-means : goal.returns-clause-means
 returns-clause-means c = λ k.
     ap (λ p. p k) (sym (places_of-permutation _ _ (IsPermutation-map seen _ _ c.sort_by_place.ensures.moved)))
-    ∙ cut-minus _ (map seen c.args.right.now) (map seen c.args.left.items) (map seen c.loop-span.kept.items) (keyed-each _ (map seen c.args.right.now) c.in_ok-taken.ensures.same) (all_cut c) k
+    ∙ cut-minus _ (map seen_lent c.args.right.now) (map seen c.args.left.items) (map seen c.loop-span.kept.items) (keyed-each _ (map seen_lent c.args.right.now) c.in_ok-taken.ensures.same) (all_cut c) k
 
 pub returns-clause-placed : goal.returns-clause-placed
 returns-clause-placed c = λ kind p. every-moved (IsPlaced kind) _ _ c.sort_by_place.ensures.moved (cut-kept-placed kind _ _ _ (all_cut c) p)
