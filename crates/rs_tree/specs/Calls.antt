@@ -34,3 +34,7 @@ pub record Becomes (form : Form) (old new : PageMap) (root : ℕ) (before : ℕ 
 -- no tree stands there with pages that are shared with other owners and a free list, so that each has one owner
 pub record IsNotShared (form : Form) (pages : PageMap) (root : ℕ) : Type 0 where
   pub none : (cells : List (List ℕ)) (used others : ℕ → ℕ) → IsTree form pages root cells used → Shares pages (used & others) → ⊥
+
+-- where a tree stands there, whose pages are shared with other owners and a free list, a tree with other cells takes its place
+pub record Changes (form : Form) (old new : PageMap) (root to : ℕ) (change : List (List ℕ) → List (List ℕ)) : Type 0 where
+  pub each : (cells : List (List ℕ)) (used others : ℕ → ℕ) → IsTree form old root cells used → Shares old (used & others) → Becomes form old new to used (change cells)

@@ -1,0 +1,195 @@
+-- Cells that say records, in order: where a bound on route and beginning cuts them, and where they end.
+use Rattle.std.proofs.Common.{◌≡◌, ◌<◌, ◌≤◌, ◌+◌, ◌-◌, ◌*◌, ◌%◌, ◌^◌, ◌==◌, ℕ, zero, suc, Bool, true, false, not, ◌&&◌, ◌||◌, cond, nat_lt, List, [], ◌∷◌, ◌++◌, length, drop, filter, refl, sym, ap, ◌∙◌, subst, inl, inr, arith, pow-suc, mul_comm}
+use Rattle.std.proofs.Math.Arith.{mod-mul}
+use Rattle.std.proofs.Math.Nat.{mod-lt, mod-eq_of_lt, pow-le-pow_right, mul-le-mul_right, add-mul}
+use Rattle.std.proofs.lemmas.Bool.{cases_order}
+use Rattle.std.proofs.lemmas.Bool.Decides.{nat_tests}
+use Rattle.std.proofs.lemmas.List.{append_assoc, length-append, drop_at}
+use Rattle.std.specs.Cmp.{nat_cmp_is}
+use Rattle.std.specs.Cmp.Lexicographic.{slice_cmp}
+use Rattle.std.specs.Int.{w32, w64, to_be_bytes, byte_at, bytes_high_first}
+use Rattle.std.specs.List.{AllZip}
+use Rattle.std.specs.Ordering.{nat_cmp, ordering_then, is_lt}
+use Rattle.std.specs.declared.cmp.Ordering.{Ordering}
+use Rattle.std.specs.declared.cmp.Ordering.TheVariants.{Less, Equal, Greater}
+use Rattle.byteorder.specs.Numbers.{big_number-reads_back}
+use Rattle.rs_records.specs.Order.{is_below}
+use Rattle.rs_tree.specs.Cells.{is_within, cells_within}
+use Rattle.rs_interval.specs.EventRecords.{EventRecord, SaysRecord, overlaps}
+use Rattle.rs_interval.specs.Ends.{end_of}
+
+less : (x y : ℕ) → x < y → nat_cmp x y ≡ Less
+less x y h = sym (nat_cmp_is x y Less h)
+
+equal : (x y : ℕ) → x ≡ y → nat_cmp x y ≡ Equal
+equal x y h = sym (nat_cmp_is x y Equal h)
+
+greater : (x y : ℕ) → y < x → nat_cmp x y ≡ Greater
+greater x y h = sym (nat_cmp_is x y Greater h)
+
+-- a digit in front decides, where it is another
+beside : (a b unit x y : ℕ) → a < b → x < unit → a * unit + x < b * unit + y
+beside a b unit x y h small =
+    let whole : (a + 1) * unit ≤ b * unit = mul-le-mul_right unit (omega arith) in
+    let apart : (a + 1) * unit ≡ a * unit + 1 * unit = add-mul a 1 unit in
+    omega arith
+
+then_assoc : (one two three : Ordering) → ordering_then one (ordering_then two three) ≡ ordering_then (ordering_then one two) three
+then_assoc Less two three = refl
+then_assoc Equal two three = refl
+then_assoc Greater two three = refl
+
+-- the order by a digit and then by the rest is the order by the whole
+digits_cmp : (a b unit x y u v : ℕ) → x < unit → y < unit → u ≡ a * unit + x → v ≡ b * unit + y → ordering_then (nat_cmp a b) (nat_cmp x y) ≡ nat_cmp u v
+digits_cmp a b unit x y u v small also is at = elim (cases_order a b) [
+  | inl same ↦
+      let units : a * unit ≡ b * unit = ap (λ (n : ℕ). n * unit) same in
+      ap (λ o. ordering_then o (nat_cmp x y)) (equal a b same) ∙ elim (cases_order x y) [
+        | inl level ↦ equal x y level ∙ sym (equal u v (omega arith))
+        | inr apart ↦ elim apart [
+          | inl below ↦ less x y below ∙ sym (less u v (omega arith))
+          | inr above ↦ greater x y above ∙ sym (greater u v (omega arith))
+        ]
+      ]
+  | inr apart ↦ elim apart [
+    | inl below ↦ ap (λ o. ordering_then o (nat_cmp x y)) (less a b below) ∙ sym (less u v (omega (arith, beside a b unit x y below small)))
+    | inr above ↦ ap (λ o. ordering_then o (nat_cmp x y)) (greater a b above) ∙ sym (greater u v (omega (arith, beside b a unit y x above also)))
+  ]
+]
+
+above_none : (k : ℕ) → 0 < 256 ^ k
+above_none k = pow-le-pow_right {n = 256} (omega arith) {i = 0} {j = k} (omega arith)
+
+-- a number below 256 ^ (k + 1) is a byte and a number below 256 ^ k
+digit_more : (k x : ℕ) → x % 256 ^ suc k ≡ byte_at k x * 256 ^ k + x % 256 ^ k
+digit_more zero x = omega arith
+digit_more (suc k) x =
+    let wider : 256 ^ suc (suc k) ≡ 256 * 256 ^ suc k = pow-suc 256 (suc k) ∙ mul_comm (256 ^ suc k) 256 in
+    rw (wider, mod-mul x {m = 256} {c = 256 ^ suc k} (omega arith) (above_none (suc k))) (omega arith)
+
+-- what begins with numbers of as many bytes is ordered by these, and then by the rest
+front_cmp : (k x y : ℕ) (xs ys : List ℕ)
+    → slice_cmp nat_cmp (bytes_high_first k x ++ xs) (bytes_high_first k y ++ ys) ≡ ordering_then (nat_cmp (x % 256 ^ k) (y % 256 ^ k)) (slice_cmp nat_cmp xs ys)
+front_cmp zero x y xs ys = let level : x % 1 ≡ y % 1 = omega arith in ap (λ o. ordering_then o (slice_cmp nat_cmp xs ys)) (sym (equal (x % 1) (y % 1) level))
+front_cmp (suc k) x y xs ys =
+    ap (ordering_then (nat_cmp (byte_at k x) (byte_at k y))) (front_cmp k x y xs ys)
+    ∙ then_assoc (nat_cmp (byte_at k x) (byte_at k y)) (nat_cmp (x % 256 ^ k) (y % 256 ^ k)) (slice_cmp nat_cmp xs ys)
+    ∙ ap (λ o. ordering_then o (slice_cmp nat_cmp xs ys))
+    (digits_cmp (byte_at k x) (byte_at k y) (256 ^ k) (x % 256 ^ k) (y % 256 ^ k) (x % 256 ^ suc k) (y % 256 ^ suc k)
+    (mod-lt x (above_none k)) (mod-lt y (above_none k)) (digit_more k x) (digit_more k y))
+
+-- of four bytes
+word_cmp : (x y : ℕ) (xs ys : List ℕ) → x < 2 ^ 32 → y < 2 ^ 32
+    → slice_cmp nat_cmp (to_be_bytes w32 x ++ xs) (to_be_bytes w32 y ++ ys) ≡ ordering_then (nat_cmp x y) (slice_cmp nat_cmp xs ys)
+word_cmp x y xs ys few small =
+    front_cmp 4 x y xs ys ∙ ap (λ n. ordering_then (nat_cmp n (y % 2 ^ 32)) (slice_cmp nat_cmp xs ys)) (mod-eq_of_lt few)
+    ∙ ap (λ n. ordering_then (nat_cmp x n) (slice_cmp nat_cmp xs ys)) (mod-eq_of_lt small)
+
+then_lt : (x y : ℕ) (o : Ordering) → is_lt (ordering_then (nat_cmp x y) o) ≡ (nat_lt x y || (x == y && is_lt o))
+then_lt x y o = by (nat_lt x y) (x == y) where
+  by : (p q : Bool) → is_lt (ordering_then (cond p Less (cond q Equal Greater)) o) ≡ (p || (q && is_lt o))
+  by true q = refl
+  by false true = refl
+  by false false = refl
+
+-- nothing is below what has no bytes
+none_lt : (xs : List ℕ) → is_lt (slice_cmp nat_cmp xs []) ≡ false
+none_lt [] = refl
+none_lt (x ∷ xs) = refl
+
+below_beginning : (x y f b : ℕ) (xs : List ℕ) → x < 2 ^ 32 → y < 2 ^ 32 → f < 2 ^ 32 → b < 2 ^ 32
+    → is_below (to_be_bytes w32 x ++ (to_be_bytes w32 f ++ xs)) (to_be_bytes w32 y ++ to_be_bytes w32 b) ≡ (nat_lt x y || (x == y && (nat_lt f b || (f == b && false))))
+unfolding is_below
+below_beginning x y f b xs few small low high =
+    ap is_lt (word_cmp x y (to_be_bytes w32 f ++ xs) (to_be_bytes w32 b) few small) ∙ then_lt x y (slice_cmp nat_cmp (to_be_bytes w32 f ++ xs) (to_be_bytes w32 b))
+    ∙ ap (λ t. nat_lt x y || (x == y && t)) (ap is_lt (word_cmp f b xs [] low high) ∙ then_lt f b (slice_cmp nat_cmp xs []) ∙ ap (λ t. nat_lt f b || (f == b && t)) (none_lt xs))
+
+and_none : (p : Bool) → (p && false) ≡ false
+and_none true = refl
+and_none false = refl
+
+or_none : (p : Bool) → (p || false) ≡ p
+or_none true = refl
+or_none false = refl
+
+-- nothing begins before 0
+not_before : (f : ℕ) → (nat_lt f 0 || (f == 0 && false)) ≡ false
+not_before f = let no : nat_lt f 0 ≡ false = grind (arith, nat_tests) in rw (no, and_none (f == 0)) refl
+
+-- not below the route, and below the beginning of another place on it: on the route and before that place
+between_is : (x y f b : ℕ) → (not (nat_lt x y || (x == y && false)) && (nat_lt x y || (x == y && (nat_lt f b || (f == b && false))))) ≡ (x == y && nat_lt f b)
+between_is x y f b = elim (cases_order x y) [
+  | inl same ↦
+      let no : nat_lt x y ≡ false = grind (arith, nat_tests) in
+      let yes : (x == y) ≡ true = grind (arith, nat_tests) in
+      rw (no, yes, and_none (f == b), or_none (nat_lt f b)) refl
+  | inr apart ↦ elim apart [
+    | inl below ↦
+        let yes : nat_lt x y ≡ true = grind (arith, nat_tests) in
+        let no : (x == y) ≡ false = grind (arith, nat_tests) in
+        rw (yes, no) refl
+    | inr above ↦
+        let no : nat_lt x y ≡ false = grind (arith, nat_tests) in
+        let none : (x == y) ≡ false = grind (arith, nat_tests) in
+        rw (no, none) refl
+  ]
+]
+
+module _ (route a b : ℕ) (known : route < 2 ^ 32) (bound : b < 2 ^ 32) where
+  abbrev low : List ℕ
+  low = to_be_bytes w32 route ++ to_be_bytes w32 0
+
+  abbrev high : List ℕ
+  high = to_be_bytes w32 route ++ to_be_bytes w32 b
+
+  -- the bounds cut where the record's route and beginning say
+  within_is : (cell : List ℕ) (event : EventRecord) → SaysRecord cell event → is_within low high cell ≡ (event.route == route && nat_lt event.from b)
+  within_is cell event says =
+      let rest : List ℕ = event.row ++ (to_be_bytes w64 event.born ++ (to_be_bytes w32 event.to ++ to_be_bytes w64 event.died)) in
+      let starts : is_below cell low ≡ (nat_lt event.route route || (event.route == route && false)) =
+      ap (λ c. is_below c low) says.bytes ∙ below_beginning event.route route event.from 0 rest says.route_fits known says.from_fits (omega arith)
+      ∙ ap (λ t. nat_lt event.route route || (event.route == route && t)) (not_before event.from) in
+      let stops : is_below cell high ≡ (nat_lt event.route route || (event.route == route && (nat_lt event.from b || (event.from == b && false)))) =
+      ap (λ c. is_below c high) says.bytes ∙ below_beginning event.route route event.from b rest says.route_fits known says.from_fits bound in
+      ap (λ t. not t && is_below cell high) starts ∙ ap (λ t. not (nat_lt event.route route || (event.route == route && false)) && t) stops
+      ∙ between_is event.route route event.from b
+
+-- a record ends where its cell says
+pub end_is : (cell : List ℕ) (event : EventRecord) → SaysRecord cell event → (end_of cell).end ≡ event.to
+end_is cell event says =
+    let born : List ℕ = to_be_bytes w64 event.born in
+    let back : List ℕ = to_be_bytes w32 event.to ++ to_be_bytes w64 event.died in
+    let front : List ℕ = to_be_bytes w32 event.route ++ (to_be_bytes w32 event.from ++ (event.row ++ born)) in
+    let parted : cell ≡ front ++ back = says.bytes ∙ ap (λ (l : List ℕ). to_be_bytes w32 event.route ++ (to_be_bytes w32 event.from ++ l)) (sym (append_assoc event.row born back)) in
+    let size : length cell ≡ length front + 12 = ap length parted ∙ length-append front back in
+    let long : nat_lt (length cell) 12 ≡ false = grind (arith, nat_tests) in
+    let place : length front ≡ length cell - 12 = omega arith in
+    let rest : drop (length cell - 12) cell ≡ back = ap (drop (length cell - 12)) parted ∙ drop_at front back (length cell - 12) place in
+    rw (long, rest) (big_number-reads_back 4 event.to (to_be_bytes w64 event.died) says.to_fits)
+
+module _ (route a b : ℕ) (known : route < 2 ^ 32) (bound : b < 2 ^ 32) where
+  abbrev after : List (List ℕ) → List (List ℕ)
+  after = filter (λ cell. nat_lt a (end_of cell).end)
+
+  abbrev between : List (List ℕ) → List (List ℕ)
+  between = cells_within (to_be_bytes w32 route ++ to_be_bytes w32 0) (to_be_bytes w32 route ++ to_be_bytes w32 b)
+
+  one_more : (c : List ℕ) (e : EventRecord) (rest : List (List ℕ)) (others : List EventRecord) (p q : Bool) → SaysRecord c e → AllZip SaysRecord (after rest) others
+      → AllZip SaysRecord (after (cond (p && q) (c ∷ rest) rest)) (cond (p && (q && nat_lt a e.to)) (e ∷ others) others)
+  one_more c e rest others false q says ih = ih
+  one_more c e rest others true false says ih = ih
+  one_more c e rest others true true says ih =
+      subst (λ n. AllZip SaysRecord (cond (nat_lt a n) (c ∷ after rest) (after rest)) (cond (nat_lt a e.to) (e ∷ others) others)) (sym (end_is c e says)) (at (nat_lt a e.to)) where
+        at : (t : Bool) → AllZip SaysRecord (cond t (c ∷ after rest) (after rest)) (cond t (e ∷ others) others)
+        at true = (says, ih)
+        at false = ih
+
+  -- what lies between the bounds and ends after a are the cells of the records that overlap
+  pub selected : (cells : List (List ℕ)) (events : List EventRecord) → AllZip SaysRecord cells events
+      → AllZip SaysRecord (filter (λ cell. nat_lt a (end_of cell).end) (cells_within (to_be_bytes w32 route ++ to_be_bytes w32 0) (to_be_bytes w32 route ++ to_be_bytes w32 b) cells)) (filter (overlaps route a b) events)
+  selected [] [] all = tt
+  selected [] (e ∷ es) all = absurd all
+  selected (c ∷ cs) [] all = absurd all
+  selected (c ∷ cs) (e ∷ es) all =
+      subst (λ w. AllZip SaysRecord (after (cond w (c ∷ between cs) (between cs))) (filter (overlaps route a b) (e ∷ es))) (sym (within_is route a b known bound c e all.0))
+      (one_more c e (between cs) (filter (overlaps route a b) es) (e.route == route) (nat_lt e.from b) all.0 (selected cs es all.1))

@@ -1,0 +1,2 @@
+pub mod EventOrder
+pub mod Finding

@@ -1,0 +1,6 @@
+pub mod Between
+pub mod Listing
+pub mod Pieces
+pub mod Replacing
+pub mod Saying
+pub mod Working

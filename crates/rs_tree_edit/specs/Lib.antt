@@ -1,0 +1,3 @@
+pub mod Choosing
+pub mod Editing
+pub mod Parts

@@ -1,0 +1,35 @@
+//! Pages of records brought into use.
+
+ghost use Rattle.std.specs.Prelude.{◌≡◌, ◌≤◌, ◌<◌, ◌*◌, true, IfOk, length};
+ghost use Rattle.rs_owners.specs.Changes.{WorksAfter};
+ghost use Rattle.rs_page.specs.Header.{page_kind};
+ghost use Rattle.rs_records.specs.Records.{records};
+ghost use Rattle.rs_tree_edit.specs.Editing.{AddsPage, HasNoFreeList};
+
+use crate::editing::edit_page;
+use rs_measure::Refusal;
+use rs_page::{ContentKind, PageNumber};
+use rs_pages::Pages;
+
+/// Brings a page into use that holds these records. It is refused as `allocate` is, and for want of memory.
+pub fn add_page<P: Pages>(
+    pages: &mut P,
+    kind: ContentKind,
+    width: usize,
+    count: usize,
+    bytes: &[u8],
+) -> Result<PageNumber, Refusal>
+    requires begun { (P.store pages.old).is_begun ≡ true }
+    requires wide { 0 < width }
+    requires whole { length bytes.now ≡ count * width }
+    requires fit { count * width ≤ 4080 }
+    ensures keeps { P.keeps pages.old pages.new }
+    ensures works { WorksAfter (P.is_tied pages.old → HasNoFreeList (P.store pages.old).map) result
+        (P.store pages.old) (P.store pages.new) }
+    ensures added { P.is_tied pages.old → IfOk result (λ number. AddsPage (P.store pages.old).map (P.store pages.new).map
+        number (page_kind kind) width (records count width bytes.now)) }
+{
+    let number = pages.allocate(kind)?;
+    edit_page(pages, number, kind, width, 0, 0, 0, count, bytes)?;
+    Ok(number)
+}

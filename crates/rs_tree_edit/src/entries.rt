@@ -1,0 +1,78 @@
+//! Entries of inner pages, written anew from the pages that they say.
+
+ghost use Rattle.std.specs.Prelude.{◌≡◌, ◌≤◌, ◌*◌, OnOk, length, drop, slice_get, Some};
+ghost use Rattle.rs_owners.specs.Changes.{WorksAfter};
+ghost use Rattle.rs_pages.specs.Lending.{RestsAfter};
+ghost use Rattle.rs_tree.specs.Form.{form_of};
+ghost use Rattle.rs_tree_page.specs.Layouts.{entry_bytes};
+ghost use Rattle.rs_tree_page.specs.Node.{IsNode};
+ghost use Rattle.rs_tree_search.specs.Reading.{HasNoNode};
+ghost use Rattle.rs_tree_edit.specs.Parts.{SaysPart, SaysNode};
+
+use crate::reading::read_part;
+use rs_measure::Refusal;
+use rs_page::{Page, PageNumber};
+use rs_pages::Pages;
+use rs_records::record_at;
+use rs_tree::Summary;
+use rs_tree_page::{Layout, Node, content, inner_summary, leaf_summary, write_entry};
+
+/// Writes the entry that says the page with this number: the summary of its cells and the least of them are those of its
+/// own bytes. It is refused as `read_part` is.
+pub fn write_entry_of<P: Pages, S: Summary>(
+    pages: &mut P,
+    layout: Layout,
+    number: PageNumber,
+    entry: &mut [u8],
+) -> Result<(), Refusal>
+    requires entry { length entry.old ≡ entry_bytes layout }
+    requires summary { layout.summary ≡ S.WIDTH }
+    ensures rests { RestsAfter P.is_tied P.store P.keeps result pages.old pages.new }
+    ensures works { WorksAfter (P.is_tied pages.old → HasNoNode (P.store pages.old).map number layout) result
+        (P.store pages.old) (P.store pages.new) }
+    ensures says { P.is_tied pages.old → OnOk result
+        (SaysPart (form_of S.says S.unit S.join S.of layout.summary layout.width) (P.store pages.old).map number entry.new) }
+{
+    let loaded = read_part(pages, number, layout)?;
+    match loaded.node {
+        Node::Leaf(count) => write_leaf_entry::<S>(&loaded.page, layout, number, count, entry),
+        Node::Inner(count) => write_inner_entry::<S>(&loaded.page, layout, number, count, entry),
+    }
+    Ok(())
+}
+
+/// Writes the entry that says a leaf.
+fn write_leaf_entry<S: Summary>(
+    page: &Page,
+    layout: Layout,
+    number: PageNumber,
+    count: usize,
+    entry: &mut [u8],
+)
+    requires entry { length entry.old ≡ entry_bytes layout }
+    requires summary { layout.summary ≡ S.WIDTH }
+    requires node { IsNode page.now.bytes number layout (Node.Leaf count) }
+    ensures { SaysNode (form_of S.says S.unit S.join S.of layout.summary layout.width) number page.now.bytes entry.new }
+{
+    let whole = leaf_summary::<S>(page, count, layout);
+    let least = record_at(content(page), layout.width, 0);
+    write_entry(entry, layout, number, whole, least);
+}
+
+/// Writes the entry that says an inner page.
+fn write_inner_entry<S: Summary>(
+    page: &Page,
+    layout: Layout,
+    number: PageNumber,
+    count: usize,
+    entry: &mut [u8],
+)
+    requires entry { length entry.old ≡ entry_bytes layout }
+    requires summary { layout.summary ≡ S.WIDTH }
+    requires node { IsNode page.now.bytes number layout (Node.Inner count) }
+    ensures { SaysNode (form_of S.says S.unit S.join S.of layout.summary layout.width) number page.now.bytes entry.new }
+{
+    let whole = inner_summary::<S>(page, count, layout);
+    let first = record_at(content(page), layout.entry_width(), 0);
+    write_entry(entry, layout, number, whole, &first[layout.least_from()..]);
+}

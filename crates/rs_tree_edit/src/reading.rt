@@ -1,0 +1,28 @@
+//! One page of a tree, read by itself.
+
+ghost use Rattle.std.specs.Prelude.{IfOk, IfErr};
+ghost use Rattle.rs_owners.specs.Changes.{WorksAfter};
+ghost use Rattle.rs_pages.specs.Lending.{RestsAfter};
+ghost use Rattle.rs_tree_search.specs.Reading.{HasNoNode, IsLoaded};
+
+use rs_measure::Refusal;
+use rs_page::PageNumber;
+use rs_pages::Pages;
+use rs_tree_page::Layout;
+use rs_tree_search::load::{Loaded, load};
+
+/// A copy of the page with this number, which is one of a tree's. It is refused with 91, and with 94 where it is no page
+/// of a tree.
+pub fn read_part<P: Pages>(
+    pages: &mut P,
+    number: PageNumber,
+    layout: Layout,
+) -> Result<Loaded, Refusal>
+    ensures rests { RestsAfter P.is_tied P.store P.keeps result pages.old pages.new }
+    ensures works { WorksAfter (P.is_tied pages.old → HasNoNode (P.store pages.old).map number layout) result
+        (P.store pages.old) (P.store pages.new) }
+    ensures loaded { IfOk result (IsLoaded (P.is_tied pages.old) (P.store pages.old).map number layout) }
+{
+    let mut left = 1;
+    load(pages, number, layout, &mut left)
+}
