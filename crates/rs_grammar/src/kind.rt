@@ -9,7 +9,7 @@ pub const NAME_BYTES: usize = 32;
 pub const BRACKETS: usize = 32;
 
 /// What a token is.
-#[derive(Clone, Copy, PartialEq, Eq, Debug)]
+#[derive(Clone, Copy, PartialEq, Eq)]
 pub enum TokenKind {
     /// `ABSOLUTE`.
     Absolute,

@@ -12,7 +12,7 @@ use rs_measure::Refusal;
 use std::alloc::Global;
 
 /// A token of a line: its kind, and the place and the number of its bytes in the line.
-#[derive(Clone, Copy, Debug)]
+#[derive(Clone, Copy)]
 pub struct Token {
     /// What it is.
     pub kind: TokenKind,

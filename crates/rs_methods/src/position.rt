@@ -14,7 +14,7 @@ pub const START: &str = "START";
 pub type Name = ArrayString<NAME_BYTES>;
 
 /// Whether a measure is counted beyond a referent or before it.
-#[derive(Clone, Copy, PartialEq, Eq, Debug)]
+#[derive(Clone, Copy, PartialEq, Eq)]
 pub enum Sign {
     /// Beyond it.
     Plus,
@@ -23,7 +23,7 @@ pub enum Sign {
 }
 
 /// A position on a route: measures in thousandths, parts in billionths of the route's length.
-#[derive(Clone, Copy, Debug)]
+#[derive(Clone, Copy)]
 pub enum Position {
     /// The measure itself.
     Absolute(Measure),
@@ -35,7 +35,7 @@ pub enum Position {
 
 /// The method of linear referencing by which a position is printed. The names absolute, relative and
 /// interpolative are those of ISO 19148; what each means here is this project's own.
-#[derive(Clone, Copy, PartialEq, Eq, Debug)]
+#[derive(Clone, Copy, PartialEq, Eq)]
 pub enum Method {
     /// The measure itself.
     Absolute,

@@ -20,7 +20,7 @@ use std::cmp::Ordering;
 use std::marker::Model;
 
 /// A referent: a name at a measure of a route.
-#[derive(Clone, Copy, Debug)]
+#[derive(Clone, Copy)]
 pub struct Referent {
     /// The number of the route.
     pub route: u32,

@@ -7,7 +7,7 @@ ghost use Rattle.std.specs.Prelude.{◌<◌};
 use rs_measure::Measure;
 
 /// A route: its number, and its least and its greatest measure. The least lies below the greatest.
-#[derive(Clone, Copy, Debug)]
+#[derive(Clone, Copy)]
 pub struct Route {
     /// The number under which its referents are listed.
     pub number: u32,

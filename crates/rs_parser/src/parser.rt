@@ -12,8 +12,8 @@ ghost use Rattle.rs_value.specs.Values.{is_text};
 ghost use Rattle.rs_syntax.specs.Sound.{IsSound};
 ghost use Rattle.rs_syntax.specs.Verdict.{fault_column, IsWritten, Parses, Reads};
 
-use crate::meaning::meaning;
 use crate::reading::command;
+use rs_command_meaning::meaning::meaning;
 use rs_grammar::kind::{BRACKETS, TokenKind};
 use rs_lexer::{Token, tokens};
 use rs_measure::Refusal;

@@ -5,60 +5,22 @@
 
 ghost use Rattle.std.specs.Prelude.{◌≡◌, ◌∷◌, ◌++◌, IfOk};
 ghost use Rattle.rs_grammar.specs.declared.kind.TokenKind.TheVariants as kinds;
-ghost use Rattle.rs_grammar.specs.Grammar.{command_form, move_form, translate_form, select_form};
+ghost use Rattle.rs_grammar.specs.Grammar.{command_form, select_form};
 ghost use Rattle.rs_syntax.specs.Written.{mark, spelling, lexemes_of, IsFull};
 ghost use Rattle.rs_syntax.specs.View.{written_of};
 ghost use Rattle.rs_query_parser.specs.Reading.{RunsTo};
 
-use crate::definitions::define;
-use crate::drops::drop_command;
-use crate::events::{insert, remove};
+use rs_command_parser::definitions::define;
+use rs_command_parser::drops::drop_command;
+use rs_command_parser::events::{insert, remove};
+use rs_command_parser::moves::{move_referent, translate};
 use rs_grammar::kind::TokenKind;
 use rs_lexer::Token;
-use rs_query_parser::front::{Stop, mark, need_mark, need_text};
-use rs_query_parser::positions::{method, position, wanted_method};
+use rs_query_parser::front::{Stop, mark, need_mark};
+use rs_query_parser::positions::wanted_method;
 use rs_query_parser::queries::query;
 use rs_syntax::written::WrittenCommand;
 use std::alloc::Global;
-
-// after MOVE: REFERENT route name TO pos
-fn move_referent(tokens: &[Token]) -> Result<(WrittenCommand, &[Token]), Stop<'_>>
-    ensures runs { RunsTo move_form tokens.now result }
-    ensures spelled { IfOk result (λ found. mark kinds.Move ∷ lexemes_of tokens.now
-        ≡ spelling (written_of found.0) ++ lexemes_of found.1.now) }
-    ensures full { IfOk result (λ found. IsFull (written_of found.0)) }
-{
-    let rest = need_mark(tokens, TokenKind::Referent)?;
-    let (route, rest) = need_text(rest, TokenKind::Name)?;
-    let (name, rest) = need_text(rest, TokenKind::Name)?;
-    let rest = need_mark(rest, TokenKind::To)?;
-    let (position, rest) = position(rest)?;
-    let command = WrittenCommand::MoveReferent {
-        route,
-        name,
-        position,
-    };
-    Ok((command, rest))
-}
-
-// after TRANSLATE: route pos AS method
-fn translate(tokens: &[Token]) -> Result<(WrittenCommand, &[Token]), Stop<'_>>
-    ensures runs { RunsTo translate_form tokens.now result }
-    ensures spelled { IfOk result (λ found. mark kinds.Translate ∷ lexemes_of tokens.now
-        ≡ spelling (written_of found.0) ++ lexemes_of found.1.now) }
-    ensures full { IfOk result (λ found. IsFull (written_of found.0)) }
-{
-    let (route, rest) = need_text(tokens, TokenKind::Name)?;
-    let (position, rest) = position(rest)?;
-    let rest = need_mark(rest, TokenKind::As)?;
-    let (method, rest) = method(rest)?;
-    let command = WrittenCommand::Translate {
-        route,
-        position,
-        method,
-    };
-    Ok((command, rest))
-}
 
 // after SELECT: query [ AS method ]
 fn select(alloc: Global, tokens: &[Token]) -> Result<(WrittenCommand, &[Token]), Stop<'_>>

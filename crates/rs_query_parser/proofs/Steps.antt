@@ -1,6 +1,6 @@
 -- Steps of reading by a form.
-use Rattle.std.proofs.Common.{◌≡◌, ◌≤◌, suc, length, List, [], ◌∷◌, ◌++◌, Option, Some, Result, Ok, Err, refl, sym, ap, ◌∙◌, subst, append_assoc, append-nil, arith, length-append}
-use Rattle.std.specs.Prelude.{MatchResult}
+use Rattle.std.proofs.Common.{◌≡◌, ◌<◌, ◌≤◌, suc, length, List, [], ◌∷◌, ◌++◌, Option, Some, Result, Ok, Err, refl, sym, ap, ◌∙◌, subst, append_assoc, append-nil, arith, length-append}
+use Rattle.std.specs.Prelude.{MatchResult, IfOk}
 use Rattle.std.specs.Borrow.{Bor}
 use Rattle.rs_grammar.specs.declared.kind.TokenKind.{TokenKind}
 use Rattle.rs_lexer.specs.declared.token.Token.{Token}
@@ -36,6 +36,19 @@ pub RunsTo-takes : {X : Type 0} (kind : TokenKind) (form other : Form) (tokens r
     → kinds_of tokens ≡ kind ∷ kinds_of rest → RunsTo form rest answer → RunsTo (pick kind form other) tokens answer
 RunsTo-takes kind form other tokens rest (Ok found) e run = takes_as e run
 RunsTo-takes kind form other tokens rest (Err stop) e run = takes_as e run
+
+-- what a function answers after what a form begins with
+pub RunsTo-after : {X : Type 0} (form other : Form) (tokens rest : List Token) (answer : Result (X × Bor (List Token)) Stop)
+    → ((outcome : Result (List TokenKind) (Option (List TokenKind))) → Runs form (kinds_of rest) outcome → Runs other (kinds_of tokens) outcome)
+    → RunsTo form rest answer → RunsTo other tokens answer
+RunsTo-after form other tokens rest (Ok found) before run = before (Ok (kinds_of found.1.now)) run
+RunsTo-after form other tokens rest (Err stop) before run = before (Err (halt_of stop)) run
+
+-- fewer tokens are left than some of which fewer are left
+pub shorter-after : {X : Type 0} (tokens rest : List Token) (answer : Result (X × Bor (List Token)) Stop) → length rest < length tokens
+    → IfOk answer (λ found. length found.1.now < length rest) → IfOk answer (λ found. length found.1.now < length tokens)
+shorter-after tokens rest (Ok found) h shorter = omega arith
+shorter-after tokens rest (Err stop) h shorter = tt
 
 pub RunsTo-need : (kind : TokenKind) (tokens : List Token) (answer : Result (Token × Bor (List Token)) Stop)
     → MatchResult answer (λ found. kinds_of tokens ≡ kind ∷ kinds_of found.1.now) (λ stop. Lacks kind (kinds_of tokens) × (halt_of stop ≡ Some (kinds_of tokens)))

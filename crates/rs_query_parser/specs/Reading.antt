@@ -1,14 +1,13 @@
 -- What the functions of the descent answer.
-use Rattle.std.specs.Prelude.{◌≡◌, ◌⊎◌, List, [], ◌∷◌, ◌++◌, Option, Some, None, Result, Ok, Err}
+use Rattle.std.specs.Prelude.{List, [], ◌∷◌, ◌++◌, Option, Some, None, Result, Ok, Err}
 use Rattle.std.specs.Borrow.{Bor}
-use Rattle.rs_measure.specs.declared.refusal.Refusal.{Refusal}
-use Rattle.rs_measure.specs.declared.refusal.Refusal.TheVariants.{OutOfMemory, NumberOutOfRange}
 use Rattle.rs_grammar.specs.declared.kind.TokenKind.{TokenKind}
+use Rattle.rs_grammar.specs.declared.kind.TokenKind.TheVariants as kinds
 use Rattle.rs_lexer.specs.declared.token.Token.{Token}
 use Rattle.rs_query_parser.specs.declared.front.Stop.{Stop}
 use Rattle.rs_query_parser.specs.declared.front.Stop.TheVariants as stops
 use Rattle.rs_lexer.specs.Lexis.{kinds_of}
-use Rattle.rs_grammar.specs.Grammar.{Form, operand_query_form}
+use Rattle.rs_grammar.specs.Grammar.{Form, done, need}
 use Rattle.rs_syntax.specs.Written.{Lexeme, mark}
 -- how the descent reads by the table
 pub use Rattle.rs_grammar.specs.Reading.{Lacks, Runs, is_done, is_fail, takes, skips, through, stops_in, gives_up, StopsAt}
@@ -28,14 +27,17 @@ abbrev pub leading_lexemes : {A : Type 0} → TokenKind → (A → List Lexeme) 
 leading_lexemes kind lexemes [] more = more
 leading_lexemes kind lexemes (item ∷ items) more = lexemes item ++ (mark kind ∷ leading_lexemes kind lexemes items more)
 
--- Reading a query in brackets up to the comma after it, as each operator begins: what is read after the comma
--- decides, or reading stops here.
-abbrev pub BeginsOperand : {X : Type 0} → List Token → Result (X × Bor (List Token)) Stop → Type 0
-BeginsOperand tokens (Ok found) =
+-- Reading what a form begins with: what is read after it decides, or reading stops here.
+abbrev pub Begins : {X : Type 0} → (Form → Form) → List Token → Result (X × Bor (List Token)) Stop → Type 0
+Begins lead tokens (Ok found) =
     (form : Form) (outcome : Result (List TokenKind) (Option (List TokenKind)))
-    → Runs form (kinds_of found.1.now) outcome → Runs (operand_query_form form) (kinds_of tokens) outcome
-BeginsOperand tokens (Err stop) = (form : Form) → Runs (operand_query_form form) (kinds_of tokens) (Err (halt_of stop))
+    → Runs form (kinds_of found.1.now) outcome → Runs (lead form) (kinds_of tokens) outcome
+Begins lead tokens (Err stop) = (form : Form) → Runs (lead form) (kinds_of tokens) (Err (halt_of stop))
 
--- why there is no meaning: a growth was refused, or no tree is said by the tokens, a number being out of its range
-abbrev pub NothingSaid : {Tree : Type 0} → (Tree → Type 0) → Refusal → Type 0
-NothingSaid {Tree} says refusal = (refusal ≡ OutOfMemory) ⊎ ((refusal ≡ NumberOutOfRange) × ((tree : Tree) → says tree → ⊥))
+-- name TO name
+abbrev pub renaming_form : Form → Form
+renaming_form form = need kinds.Name (need kinds.To (need kinds.Name form))
+
+-- the bracket that closes
+abbrev pub closing_form : Form
+closing_form = need kinds.RightParen done

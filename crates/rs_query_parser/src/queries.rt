@@ -5,10 +5,10 @@
 
 ghost use Rattle.std.specs.Prelude.{◌≡◌, ◌<◌, ◌∷◌, ◌++◌, length, IfOk, MatchResult};
 ghost use Rattle.rs_grammar.specs.declared.kind.TokenKind.TheVariants as kinds;
-ghost use Rattle.rs_grammar.specs.Grammar.{query_form, where_form, dissolve_form, rename_form, pair_form, window_query_form};
-ghost use Rattle.rs_syntax.specs.Written.{mark, pair_kind, query_lexemes, lexemes_of};
+ghost use Rattle.rs_grammar.specs.Grammar.{query_form, operand_query_form, where_form, dissolve_form, rename_form, pair_form, window_query_form};
+ghost use Rattle.rs_syntax.specs.Written.{mark, told, pair_kind, query_lexemes, lexemes_of};
 ghost use Rattle.rs_syntax.specs.WrittenView.{query_syntax};
-ghost use Rattle.rs_query_parser.specs.Reading.{RunsTo, BeginsOperand};
+ghost use Rattle.rs_query_parser.specs.Reading.{RunsTo, Begins, renaming_form, closing_form};
 
 use crate::conditions::condition;
 use crate::front::{Stop, mark, need_mark, need_text};
@@ -19,18 +19,54 @@ use rs_lexer::Token;
 use rs_syntax::written::{PairOperator, WrittenQuery};
 use std::alloc::Global;
 
+// a bracket that closes, after all else of a query
+fn closed(query: WrittenQuery, tokens: &[Token]) -> Result<(WrittenQuery, &[Token]), Stop<'_>>
+    ensures runs { RunsTo closing_form tokens.now result }
+    ensures same { IfOk result (λ found. found.0 ≡ query) }
+    ensures spelled { IfOk result (λ found. lexemes_of tokens.now ≡ mark kinds.RightParen ∷ lexemes_of found.1.now) }
+    ensures shorter { IfOk result (λ found. length found.1.now < length tokens.now) }
+{
+    let rest = need_mark(tokens, TokenKind::RightParen)?;
+    Ok((query, rest))
+}
+
+// name TO name
+fn renaming(tokens: &[Token]) -> Result<((Token, Token), &[Token]), Stop<'_>>
+    ensures begins { Begins renaming_form tokens.now result }
+    ensures spelled { IfOk result (λ found. lexemes_of tokens.now
+        ≡ told kinds.Name found.0.0 ∷ mark kinds.To ∷ told kinds.Name found.0.1 ∷ lexemes_of found.1.now) }
+    ensures shorter { IfOk result (λ found. length found.1.now < length tokens.now) }
+{
+    let (from, rest) = need_text(tokens, TokenKind::Name)?;
+    let rest = need_mark(rest, TokenKind::To)?;
+    let (to, rest) = need_text(rest, TokenKind::Name)?;
+    Ok(((from, to), rest))
+}
+
+// query
+#[cycle(reading)]
+fn boxed_query(alloc: Global, tokens: &[Token]) -> Result<(Box<WrittenQuery>, &[Token]), Stop<'_>>
+    ensures runs { RunsTo query_form tokens.now result }
+    ensures spelled { IfOk result (λ found.
+        lexemes_of tokens.now ≡ query_lexemes (query_syntax found.0.value) ++ lexemes_of found.1.now) }
+    ensures shorter { IfOk result (λ found. length found.1.now < length tokens.now) }
+{
+    let (query, rest) = query(alloc, tokens)?;
+    Ok((Box::new(alloc, query)?, rest))
+}
+
 // "(" query ","
 #[cycle(reading)]
 fn operand_query(alloc: Global, tokens: &[Token]) -> Result<(Box<WrittenQuery>, &[Token]), Stop<'_>>
-    ensures begins { BeginsOperand tokens.now result }
+    ensures begins { Begins operand_query_form tokens.now result }
     ensures spelled { IfOk result (λ found. lexemes_of tokens.now
         ≡ mark kinds.LeftParen ∷ (query_lexemes (query_syntax found.0.value) ++ mark kinds.Comma ∷ lexemes_of found.1.now)) }
     ensures shorter { IfOk result (λ found. length found.1.now < length tokens.now) }
 {
     let rest = need_mark(tokens, TokenKind::LeftParen)?;
-    let (query, rest) = query(alloc, rest)?;
+    let (query, rest) = boxed_query(alloc, rest)?;
     let rest = need_mark(rest, TokenKind::Comma)?;
-    Ok((Box::new(alloc, query)?, rest))
+    Ok((query, rest))
 }
 
 // after WHERE: "(" query "," condition ")"
@@ -43,8 +79,7 @@ fn where_query(alloc: Global, tokens: &[Token]) -> Result<(WrittenQuery, &[Token
 {
     let (query, rest) = operand_query(alloc, tokens)?;
     let (condition, rest) = condition(alloc, rest)?;
-    let rest = need_mark(rest, TokenKind::RightParen)?;
-    Ok((WrittenQuery::Where(query, condition), rest))
+    closed(WrittenQuery::Where(query, condition), rest)
 }
 
 // after DISSOLVE: "(" query "," "(" [ names ] ")" ")"
@@ -57,8 +92,7 @@ fn dissolve_query(alloc: Global, tokens: &[Token]) -> Result<(WrittenQuery, &[To
 {
     let (query, rest) = operand_query(alloc, tokens)?;
     let (names, rest) = bracketed_names(alloc, rest)?;
-    let rest = need_mark(rest, TokenKind::RightParen)?;
-    Ok((WrittenQuery::Dissolve(query, names), rest))
+    closed(WrittenQuery::Dissolve(query, names), rest)
 }
 
 // after RENAME: "(" query "," name TO name ")"
@@ -70,11 +104,8 @@ fn rename_query(alloc: Global, tokens: &[Token]) -> Result<(WrittenQuery, &[Toke
     ensures shorter { IfOk result (λ found. length found.1.now < length tokens.now) }
 {
     let (query, rest) = operand_query(alloc, tokens)?;
-    let (from, rest) = need_text(rest, TokenKind::Name)?;
-    let rest = need_mark(rest, TokenKind::To)?;
-    let (to, rest) = need_text(rest, TokenKind::Name)?;
-    let rest = need_mark(rest, TokenKind::RightParen)?;
-    Ok((WrittenQuery::Rename(query, from, to), rest))
+    let ((from, to), rest) = renaming(rest)?;
+    closed(WrittenQuery::Rename(query, from, to), rest)
 }
 
 // after an operator's word: "(" query "," query ")"
@@ -90,10 +121,8 @@ fn pair_query(
     ensures shorter { IfOk result (λ found. length found.1.now < length tokens.now) }
 {
     let (left, rest) = operand_query(alloc, tokens)?;
-    let (right, rest) = query(alloc, rest)?;
-    let rest = need_mark(rest, TokenKind::RightParen)?;
-    let right = Box::new(alloc, right)?;
-    Ok((WrittenQuery::Pair(operator, left, right), rest))
+    let (right, rest) = boxed_query(alloc, rest)?;
+    closed(WrittenQuery::Pair(operator, left, right), rest)
 }
 
 // after WINDOW: "(" query "," window ")"
@@ -106,8 +135,7 @@ fn window_query(alloc: Global, tokens: &[Token]) -> Result<(WrittenQuery, &[Toke
 {
     let (query, rest) = operand_query(alloc, tokens)?;
     let (window, rest) = window(rest)?;
-    let rest = need_mark(rest, TokenKind::RightParen)?;
-    Ok((WrittenQuery::Window(query, window), rest))
+    closed(WrittenQuery::Window(query, window), rest)
 }
 
 /// Reads the syntax of a query from the front, and returns the tokens after it.

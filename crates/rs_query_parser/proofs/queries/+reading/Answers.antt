@@ -1,14 +1,27 @@
-use Rattle.std.proofs.Common.{[], ◌∷◌, refl, ap, ◌∙◌}
+use Rattle.std.proofs.Common.{[], ◌∷◌, arith, refl}
 use Rattle.rs_grammar.specs.declared.kind.TokenKind.TheVariants as kinds
 use Rattle.rs_grammar.specs.Grammar.{rules, query, condition, bracketed_names, window, done, pick, sub, need, where_form, dissolve_form, rename_form, pair_form, window_query_form}
 use Rattle.rs_syntax.specs.Written.{mark, told, written_where, written_dissolve, written_rename, written_pair, written_window, pair_kind, window_lexemes, bracketed_names_lexemes, condition_lexemes, query_lexemes}
 use Rattle.rs_syntax.specs.WrittenView.{condition_syntax, query_syntax}
 use Rattle.rs_syntax.proofs.ChainLaws.{where_written, dissolve_written, rename_written, pair_written, window_written}
-use Rattle.rs_query_parser.proofs.QuerySteps.{operand-spelled, operator-spelled}
+use Rattle.rs_query_parser.proofs.QuerySteps.{operand-spelled, operator-closed}
 use Rattle.std.proofs.lemmas.Result.{err_from_is_err_and}
-use Rattle.rs_query_parser.specs.Reading.{is_done, skips, through, stops_in, gives_up}
-use Rattle.rs_query_parser.proofs.Steps.{takes_as, misses, RunsTo-takes, RunsTo-skips}
+use Rattle.rs_query_parser.specs.Reading.{renaming_form, closing_form, is_done, skips, through, stops_in, gives_up}
+use Rattle.rs_query_parser.proofs.Steps.{takes_as, misses, RunsTo-takes, RunsTo-skips, RunsTo-after, shorter-after}
 use Rattle.rs_query_parser.proofs.queries.+reading.Goals as goal
+
+pub boxed_query-returns-in_err-query-clause-runs : goal.boxed_query-returns-in_err-query-clause-runs
+boxed_query-returns-in_err-query-clause-runs t c =
+    let p = err_from_is_err_and c.from_residual.result c.from_residual.ensures.1 in
+    rw (p.1, p.2) (c.in_err-query.ensures.runs)
+
+pub boxed_query-returns-in_err-new-clause-runs : goal.boxed_query-returns-in_err-new-clause-runs
+boxed_query-returns-in_err-new-clause-runs t c =
+    let p = err_from_is_err_and c.from_residual-in_err-new.result c.from_residual-in_err-new.ensures.1 in
+    rw (p.1, p.2) (gives_up)
+
+pub boxed_query-returns-clause-spelled : goal.boxed_query-returns-clause-spelled
+boxed_query-returns-clause-spelled t c = rw c.in_ok-new.ensures.ok c.in_ok-query.ensures.spelled
 
 pub operand_query-returns-in_err-rest-clause-begins : goal.operand_query-returns-in_err-rest-clause-begins
 operand_query-returns-in_err-rest-clause-begins t c =
@@ -27,149 +40,151 @@ operand_query-returns-in_err-rest-2-clause-begins t c =
     let p = err_from_is_err_and c.from_residual-in_err-rest-2.result c.from_residual-in_err-rest-2.ensures.1 in
     rw (p.1, p.2) (λ form. takes_as c.in_ok-rest.ensures.found (through c.in_ok-query.ensures.runs (misses c.in_err-rest-2.ensures.found)))
 
-pub operand_query-returns-in_err-new-clause-begins : goal.operand_query-returns-in_err-new-clause-begins
-operand_query-returns-in_err-new-clause-begins t c =
-    let p = err_from_is_err_and c.from_residual-in_err-new.result c.from_residual-in_err-new.ensures.1 in
-    rw (p.1, p.2) (λ form. gives_up)
-
 pub operand_query-returns-clause-begins : goal.operand_query-returns-clause-begins
 unfolding rules
-operand_query-returns-clause-begins t c = λ form outcome further. takes_as c.in_ok-rest.ensures.found (through c.in_ok-query.ensures.runs (takes_as c.in_ok-rest-2.ensures.found (further)))
+operand_query-returns-clause-begins t c = λ form outcome further. takes_as c.in_ok-rest.ensures.found (through c.in_ok-query.ensures.runs (takes_as c.in_ok-rest-2.ensures.found further))
 
 pub operand_query-returns-clause-spelled : goal.operand_query-returns-clause-spelled
-operand_query-returns-clause-spelled t c = operand-spelled c.args.tokens.now c.in_ok-rest.rest.now c.in_ok-query.rest.now c.in_ok-rest-2.rest.now c.in_ok-query.query _ c.in_ok-rest.ensures.spelled c.in_ok-query.ensures.spelled c.in_ok-rest-2.ensures.spelled c.in_ok-new.ensures.ok
+operand_query-returns-clause-spelled t c = operand-spelled c.args.tokens.now c.in_ok-rest.rest.now c.in_ok-query.rest.now c.in_ok-rest-2.rest.now c.in_ok-query.query.value c.in_ok-rest.ensures.spelled c.in_ok-query.ensures.spelled c.in_ok-rest-2.ensures.spelled
 
 pub where_query-returns-in_err-query-clause-runs : goal.where_query-returns-in_err-query-clause-runs
 where_query-returns-in_err-query-clause-runs t c =
     let p = err_from_is_err_and c.from_residual.result c.from_residual.ensures.1 in
-    rw (p.1, p.2) (c.in_err-query.ensures.begins (sub condition (need kinds.RightParen done)))
+    rw (p.1, p.2) (c.in_err-query.ensures.begins (sub condition closing_form))
 
 pub where_query-returns-in_err-condition-clause-runs : goal.where_query-returns-in_err-condition-clause-runs
 unfolding rules
 where_query-returns-in_err-condition-clause-runs t c =
     let p = err_from_is_err_and c.from_residual-in_err-condition.result c.from_residual-in_err-condition.ensures.1 in
-    rw (p.1, p.2) (c.in_ok-query.ensures.begins (sub condition (need kinds.RightParen done)) _ (stops_in c.in_err-condition.ensures.runs))
-
-pub where_query-returns-in_err-rest-clause-runs : goal.where_query-returns-in_err-rest-clause-runs
-unfolding rules
-where_query-returns-in_err-rest-clause-runs t c =
-    let p = err_from_is_err_and c.from_residual-in_err-rest.result c.from_residual-in_err-rest.ensures.1 in
-    rw (p.1, p.2) (c.in_ok-query.ensures.begins (sub condition (need kinds.RightParen done)) _ (through c.in_ok-condition.ensures.runs (misses c.in_err-rest.ensures.found)))
+    rw (p.1, p.2) (c.in_ok-query.ensures.begins (sub condition closing_form) _ (stops_in c.in_err-condition.ensures.runs))
 
 pub where_query-returns-clause-runs : goal.where_query-returns-clause-runs
 unfolding rules
-where_query-returns-clause-runs t c = c.in_ok-query.ensures.begins (sub condition (need kinds.RightParen done)) _ (through c.in_ok-condition.ensures.runs (takes_as c.in_ok-rest.ensures.found (is_done)))
+where_query-returns-clause-runs t c =
+    RunsTo-after closing_form where_form c.args.tokens.now c.in_ok-condition.rest.now c.closed.result
+    (λ outcome run. c.in_ok-query.ensures.begins (sub condition closing_form) outcome (through c.in_ok-condition.ensures.runs run)) c.closed.ensures.runs
 
 pub where_query-returns-clause-spelled : goal.where_query-returns-clause-spelled
-where_query-returns-clause-spelled t c = operator-spelled kinds.Where c.args.tokens.now c.in_ok-query.rest.now c.in_ok-condition.rest.now c.in_ok-rest.rest.now (query_lexemes (query_syntax c.in_ok-query.query.value)) (condition_lexemes (condition_syntax c.in_ok-condition.condition.items)) _ (written_where (query_syntax c.in_ok-query.query.value) (condition_syntax c.in_ok-condition.condition.items)) c.in_ok-query.ensures.spelled c.in_ok-condition.ensures.spelled c.in_ok-rest.ensures.spelled (where_written c.in_ok-query.query c.in_ok-condition.condition) refl
+where_query-returns-clause-spelled t c =
+    operator-closed kinds.Where c.args.tokens.now c.in_ok-query.rest.now c.in_ok-condition.rest.now (query_lexemes (query_syntax c.in_ok-query.query.value)) (condition_lexemes (condition_syntax c.in_ok-condition.condition.items)) _
+    (written_where (query_syntax c.in_ok-query.query.value) (condition_syntax c.in_ok-condition.condition.items)) c.closed.result c.in_ok-query.ensures.spelled c.in_ok-condition.ensures.spelled
+    (where_written c.in_ok-query.query c.in_ok-condition.condition) refl c.closed.ensures.same c.closed.ensures.spelled
+
+pub where_query-returns-clause-shorter : goal.where_query-returns-clause-shorter
+where_query-returns-clause-shorter t c =
+    shorter-after c.args.tokens.now c.in_ok-condition.rest.now c.closed.result
+    (omega (arith, c.in_ok-query.ensures.shorter, c.in_ok-condition.ensures.shorter)) c.closed.ensures.shorter
 
 pub dissolve_query-returns-in_err-query-clause-runs : goal.dissolve_query-returns-in_err-query-clause-runs
 dissolve_query-returns-in_err-query-clause-runs t c =
     let p = err_from_is_err_and c.from_residual.result c.from_residual.ensures.1 in
-    rw (p.1, p.2) (c.in_err-query.ensures.begins (sub bracketed_names (need kinds.RightParen done)))
+    rw (p.1, p.2) (c.in_err-query.ensures.begins (sub bracketed_names closing_form))
 
 pub dissolve_query-returns-in_err-names-clause-runs : goal.dissolve_query-returns-in_err-names-clause-runs
 unfolding rules
 dissolve_query-returns-in_err-names-clause-runs t c =
     let p = err_from_is_err_and c.from_residual-in_err-names.result c.from_residual-in_err-names.ensures.1 in
-    rw (p.1, p.2) (c.in_ok-query.ensures.begins (sub bracketed_names (need kinds.RightParen done)) _ (stops_in c.in_err-names.ensures.runs))
-
-pub dissolve_query-returns-in_err-rest-clause-runs : goal.dissolve_query-returns-in_err-rest-clause-runs
-unfolding rules
-dissolve_query-returns-in_err-rest-clause-runs t c =
-    let p = err_from_is_err_and c.from_residual-in_err-rest.result c.from_residual-in_err-rest.ensures.1 in
-    rw (p.1, p.2) (c.in_ok-query.ensures.begins (sub bracketed_names (need kinds.RightParen done)) _ (through c.in_ok-names.ensures.runs (misses c.in_err-rest.ensures.found)))
+    rw (p.1, p.2) (c.in_ok-query.ensures.begins (sub bracketed_names closing_form) _ (stops_in c.in_err-names.ensures.runs))
 
 pub dissolve_query-returns-clause-runs : goal.dissolve_query-returns-clause-runs
 unfolding rules
-dissolve_query-returns-clause-runs t c = c.in_ok-query.ensures.begins (sub bracketed_names (need kinds.RightParen done)) _ (through c.in_ok-names.ensures.runs (takes_as c.in_ok-rest.ensures.found (is_done)))
+dissolve_query-returns-clause-runs t c =
+    RunsTo-after closing_form dissolve_form c.args.tokens.now c.in_ok-names.rest.now c.closed.result
+    (λ outcome run. c.in_ok-query.ensures.begins (sub bracketed_names closing_form) outcome (through c.in_ok-names.ensures.runs run)) c.closed.ensures.runs
 
 pub dissolve_query-returns-clause-spelled : goal.dissolve_query-returns-clause-spelled
-dissolve_query-returns-clause-spelled t c = operator-spelled kinds.Dissolve c.args.tokens.now c.in_ok-query.rest.now c.in_ok-names.rest.now c.in_ok-rest.rest.now (query_lexemes (query_syntax c.in_ok-query.query.value)) (bracketed_names_lexemes c.in_ok-names.names.items) _ (written_dissolve (query_syntax c.in_ok-query.query.value) c.in_ok-names.names.items) c.in_ok-query.ensures.spelled c.in_ok-names.ensures.spelled c.in_ok-rest.ensures.spelled (dissolve_written c.in_ok-query.query c.in_ok-names.names) refl
+dissolve_query-returns-clause-spelled t c =
+    operator-closed kinds.Dissolve c.args.tokens.now c.in_ok-query.rest.now c.in_ok-names.rest.now (query_lexemes (query_syntax c.in_ok-query.query.value)) (bracketed_names_lexemes c.in_ok-names.names.items) _
+    (written_dissolve (query_syntax c.in_ok-query.query.value) c.in_ok-names.names.items) c.closed.result c.in_ok-query.ensures.spelled c.in_ok-names.ensures.spelled
+    (dissolve_written c.in_ok-query.query c.in_ok-names.names) refl c.closed.ensures.same c.closed.ensures.spelled
+
+pub dissolve_query-returns-clause-shorter : goal.dissolve_query-returns-clause-shorter
+dissolve_query-returns-clause-shorter t c =
+    shorter-after c.args.tokens.now c.in_ok-names.rest.now c.closed.result
+    (omega (arith, c.in_ok-query.ensures.shorter, c.in_ok-names.ensures.shorter)) c.closed.ensures.shorter
 
 pub rename_query-returns-in_err-query-clause-runs : goal.rename_query-returns-in_err-query-clause-runs
 rename_query-returns-in_err-query-clause-runs t c =
     let p = err_from_is_err_and c.from_residual.result c.from_residual.ensures.1 in
-    rw (p.1, p.2) (c.in_err-query.ensures.begins (need kinds.Name (need kinds.To (need kinds.Name (need kinds.RightParen done)))))
+    rw (p.1, p.2) (c.in_err-query.ensures.begins (renaming_form closing_form))
 
 pub rename_query-returns-in_err-from-clause-runs : goal.rename_query-returns-in_err-from-clause-runs
 rename_query-returns-in_err-from-clause-runs t c =
     let p = err_from_is_err_and c.from_residual-in_err-from.result c.from_residual-in_err-from.ensures.1 in
-    rw (p.1, p.2) (c.in_ok-query.ensures.begins (need kinds.Name (need kinds.To (need kinds.Name (need kinds.RightParen done)))) _ (misses c.in_err-from.ensures.found))
-
-pub rename_query-returns-in_err-rest-clause-runs : goal.rename_query-returns-in_err-rest-clause-runs
-rename_query-returns-in_err-rest-clause-runs t c =
-    let p = err_from_is_err_and c.from_residual-in_err-rest.result c.from_residual-in_err-rest.ensures.1 in
-    rw (p.1, p.2) (c.in_ok-query.ensures.begins (need kinds.Name (need kinds.To (need kinds.Name (need kinds.RightParen done)))) _ (takes_as c.in_ok-from.ensures.found (misses c.in_err-rest.ensures.found)))
-
-pub rename_query-returns-in_err-to-clause-runs : goal.rename_query-returns-in_err-to-clause-runs
-rename_query-returns-in_err-to-clause-runs t c =
-    let p = err_from_is_err_and c.from_residual-in_err-to.result c.from_residual-in_err-to.ensures.1 in
-    rw (p.1, p.2) (c.in_ok-query.ensures.begins (need kinds.Name (need kinds.To (need kinds.Name (need kinds.RightParen done)))) _ (takes_as c.in_ok-from.ensures.found (takes_as c.in_ok-rest.ensures.found (misses c.in_err-to.ensures.found))))
-
-pub rename_query-returns-in_err-rest-2-clause-runs : goal.rename_query-returns-in_err-rest-2-clause-runs
-rename_query-returns-in_err-rest-2-clause-runs t c =
-    let p = err_from_is_err_and c.from_residual-in_err-rest-2.result c.from_residual-in_err-rest-2.ensures.1 in
-    rw (p.1, p.2) (c.in_ok-query.ensures.begins (need kinds.Name (need kinds.To (need kinds.Name (need kinds.RightParen done)))) _ (takes_as c.in_ok-from.ensures.found (takes_as c.in_ok-rest.ensures.found (takes_as c.in_ok-to.ensures.found (misses c.in_err-rest-2.ensures.found)))))
+    rw (p.1, p.2) (c.in_ok-query.ensures.begins (renaming_form closing_form) _ (c.in_err-from.ensures.begins closing_form))
 
 pub rename_query-returns-clause-runs : goal.rename_query-returns-clause-runs
-rename_query-returns-clause-runs t c = c.in_ok-query.ensures.begins (need kinds.Name (need kinds.To (need kinds.Name (need kinds.RightParen done)))) _ (takes_as c.in_ok-from.ensures.found (takes_as c.in_ok-rest.ensures.found (takes_as c.in_ok-to.ensures.found (takes_as c.in_ok-rest-2.ensures.found (is_done)))))
+unfolding rules
+rename_query-returns-clause-runs t c =
+    RunsTo-after closing_form rename_form c.args.tokens.now c.in_ok-from.rest.now c.closed.result
+    (λ outcome run. c.in_ok-query.ensures.begins (renaming_form closing_form) outcome (c.in_ok-from.ensures.begins closing_form outcome run)) c.closed.ensures.runs
 
 pub rename_query-returns-clause-spelled : goal.rename_query-returns-clause-spelled
-rename_query-returns-clause-spelled t c = operator-spelled kinds.Rename c.args.tokens.now c.in_ok-query.rest.now c.in_ok-to.rest.now c.in_ok-rest-2.rest.now (query_lexemes (query_syntax c.in_ok-query.query.value)) (told kinds.Name c.in_ok-from.from ∷ mark kinds.To ∷ told kinds.Name c.in_ok-to.to ∷ []) _ (written_rename (query_syntax c.in_ok-query.query.value) c.in_ok-from.from c.in_ok-to.to) c.in_ok-query.ensures.spelled (c.in_ok-from.ensures.spelled ∙ ap (λ ps. told kinds.Name c.in_ok-from.from ∷ ps) (c.in_ok-rest.ensures.spelled ∙ ap (λ ps. mark kinds.To ∷ ps) c.in_ok-to.ensures.spelled)) c.in_ok-rest-2.ensures.spelled (rename_written c.in_ok-query.query c.in_ok-from.from c.in_ok-to.to) refl
+rename_query-returns-clause-spelled t c =
+    operator-closed kinds.Rename c.args.tokens.now c.in_ok-query.rest.now c.in_ok-from.rest.now (query_lexemes (query_syntax c.in_ok-query.query.value)) (told kinds.Name c.in_ok-from.from ∷ mark kinds.To ∷ told kinds.Name c.in_ok-from.to ∷ []) _
+    (written_rename (query_syntax c.in_ok-query.query.value) c.in_ok-from.from c.in_ok-from.to) c.closed.result c.in_ok-query.ensures.spelled c.in_ok-from.ensures.spelled
+    (rename_written c.in_ok-query.query c.in_ok-from.from c.in_ok-from.to) refl c.closed.ensures.same c.closed.ensures.spelled
+
+pub rename_query-returns-clause-shorter : goal.rename_query-returns-clause-shorter
+rename_query-returns-clause-shorter t c =
+    shorter-after c.args.tokens.now c.in_ok-from.rest.now c.closed.result
+    (omega (arith, c.in_ok-query.ensures.shorter, c.in_ok-from.ensures.shorter)) c.closed.ensures.shorter
 
 pub pair_query-returns-in_err-left-clause-runs : goal.pair_query-returns-in_err-left-clause-runs
 pair_query-returns-in_err-left-clause-runs t c =
     let p = err_from_is_err_and c.from_residual.result c.from_residual.ensures.1 in
-    rw (p.1, p.2) (c.in_err-left.ensures.begins (sub query (need kinds.RightParen done)))
+    rw (p.1, p.2) (c.in_err-left.ensures.begins (sub query closing_form))
 
 pub pair_query-returns-in_err-right-clause-runs : goal.pair_query-returns-in_err-right-clause-runs
 unfolding rules
 pair_query-returns-in_err-right-clause-runs t c =
     let p = err_from_is_err_and c.from_residual-in_err-right.result c.from_residual-in_err-right.ensures.1 in
-    rw (p.1, p.2) (c.in_ok-left.ensures.begins (sub query (need kinds.RightParen done)) _ (stops_in c.in_err-right.ensures.runs))
-
-pub pair_query-returns-in_err-rest-clause-runs : goal.pair_query-returns-in_err-rest-clause-runs
-unfolding rules
-pair_query-returns-in_err-rest-clause-runs t c =
-    let p = err_from_is_err_and c.from_residual-in_err-rest.result c.from_residual-in_err-rest.ensures.1 in
-    rw (p.1, p.2) (c.in_ok-left.ensures.begins (sub query (need kinds.RightParen done)) _ (through c.in_ok-right.ensures.runs (misses c.in_err-rest.ensures.found)))
-
-pub pair_query-returns-in_err-right-2-clause-runs : goal.pair_query-returns-in_err-right-2-clause-runs
-pair_query-returns-in_err-right-2-clause-runs t c =
-    let p = err_from_is_err_and c.from_residual-in_err-right-2.result c.from_residual-in_err-right-2.ensures.1 in
-    rw (p.1, p.2) (gives_up)
+    rw (p.1, p.2) (c.in_ok-left.ensures.begins (sub query closing_form) _ (stops_in c.in_err-right.ensures.runs))
 
 pub pair_query-returns-clause-runs : goal.pair_query-returns-clause-runs
 unfolding rules
-pair_query-returns-clause-runs t c = c.in_ok-left.ensures.begins (sub query (need kinds.RightParen done)) _ (through c.in_ok-right.ensures.runs (takes_as c.in_ok-rest.ensures.found (is_done)))
+pair_query-returns-clause-runs t c =
+    RunsTo-after closing_form pair_form c.args.tokens.now c.in_ok-right.rest.now c.closed.result
+    (λ outcome run. c.in_ok-left.ensures.begins (sub query closing_form) outcome (through c.in_ok-right.ensures.runs run)) c.closed.ensures.runs
 
 pub pair_query-returns-clause-spelled : goal.pair_query-returns-clause-spelled
-pair_query-returns-clause-spelled t c = operator-spelled (pair_kind c.args.operator) c.args.tokens.now c.in_ok-left.rest.now c.in_ok-right.rest.now c.in_ok-rest.rest.now (query_lexemes (query_syntax c.in_ok-left.left.value)) (query_lexemes (query_syntax c.in_ok-right.right)) _ (written_pair c.args.operator (query_syntax c.in_ok-left.left.value) (query_syntax c.in_ok-right.right)) c.in_ok-left.ensures.spelled c.in_ok-right.ensures.spelled c.in_ok-rest.ensures.spelled (pair_written c.args.operator c.in_ok-left.left c.in_ok-right-2.right ∙ ap (λ q. written_pair c.args.operator (query_syntax c.in_ok-left.left.value) (query_syntax q)) c.in_ok-right-2.ensures.ok) refl
+pair_query-returns-clause-spelled t c =
+    operator-closed (pair_kind c.args.operator) c.args.tokens.now c.in_ok-left.rest.now c.in_ok-right.rest.now (query_lexemes (query_syntax c.in_ok-left.left.value)) (query_lexemes (query_syntax c.in_ok-right.right.value)) _
+    (written_pair c.args.operator (query_syntax c.in_ok-left.left.value) (query_syntax c.in_ok-right.right.value)) c.closed.result c.in_ok-left.ensures.spelled c.in_ok-right.ensures.spelled
+    (pair_written c.args.operator c.in_ok-left.left c.in_ok-right.right) refl c.closed.ensures.same c.closed.ensures.spelled
+
+pub pair_query-returns-clause-shorter : goal.pair_query-returns-clause-shorter
+pair_query-returns-clause-shorter t c =
+    shorter-after c.args.tokens.now c.in_ok-right.rest.now c.closed.result
+    (omega (arith, c.in_ok-left.ensures.shorter, c.in_ok-right.ensures.shorter)) c.closed.ensures.shorter
 
 pub window_query-returns-in_err-query-clause-runs : goal.window_query-returns-in_err-query-clause-runs
 window_query-returns-in_err-query-clause-runs t c =
     let p = err_from_is_err_and c.from_residual.result c.from_residual.ensures.1 in
-    rw (p.1, p.2) (c.in_err-query.ensures.begins (sub window (need kinds.RightParen done)))
+    rw (p.1, p.2) (c.in_err-query.ensures.begins (sub window closing_form))
 
 pub window_query-returns-in_err-window-clause-runs : goal.window_query-returns-in_err-window-clause-runs
 unfolding rules
 window_query-returns-in_err-window-clause-runs t c =
     let p = err_from_is_err_and c.from_residual-in_err-window.result c.from_residual-in_err-window.ensures.1 in
-    rw (p.1, p.2) (c.in_ok-query.ensures.begins (sub window (need kinds.RightParen done)) _ (stops_in c.in_err-window.ensures.runs))
-
-pub window_query-returns-in_err-rest-clause-runs : goal.window_query-returns-in_err-rest-clause-runs
-unfolding rules
-window_query-returns-in_err-rest-clause-runs t c =
-    let p = err_from_is_err_and c.from_residual-in_err-rest.result c.from_residual-in_err-rest.ensures.1 in
-    rw (p.1, p.2) (c.in_ok-query.ensures.begins (sub window (need kinds.RightParen done)) _ (through c.in_ok-window.ensures.runs (misses c.in_err-rest.ensures.found)))
+    rw (p.1, p.2) (c.in_ok-query.ensures.begins (sub window closing_form) _ (stops_in c.in_err-window.ensures.runs))
 
 pub window_query-returns-clause-runs : goal.window_query-returns-clause-runs
 unfolding rules
-window_query-returns-clause-runs t c = c.in_ok-query.ensures.begins (sub window (need kinds.RightParen done)) _ (through c.in_ok-window.ensures.runs (takes_as c.in_ok-rest.ensures.found (is_done)))
+window_query-returns-clause-runs t c =
+    RunsTo-after closing_form window_query_form c.args.tokens.now c.in_ok-window.rest.now c.closed.result
+    (λ outcome run. c.in_ok-query.ensures.begins (sub window closing_form) outcome (through c.in_ok-window.ensures.runs run)) c.closed.ensures.runs
 
 pub window_query-returns-clause-spelled : goal.window_query-returns-clause-spelled
-window_query-returns-clause-spelled t c = operator-spelled kinds.Window c.args.tokens.now c.in_ok-query.rest.now c.in_ok-window.rest.now c.in_ok-rest.rest.now (query_lexemes (query_syntax c.in_ok-query.query.value)) (window_lexemes c.in_ok-window.window) _ (written_window (query_syntax c.in_ok-query.query.value) c.in_ok-window.window) c.in_ok-query.ensures.spelled c.in_ok-window.ensures.spelled c.in_ok-rest.ensures.spelled (window_written c.in_ok-query.query c.in_ok-window.window) refl
+window_query-returns-clause-spelled t c =
+    operator-closed kinds.Window c.args.tokens.now c.in_ok-query.rest.now c.in_ok-window.rest.now (query_lexemes (query_syntax c.in_ok-query.query.value)) (window_lexemes c.in_ok-window.window) _
+    (written_window (query_syntax c.in_ok-query.query.value) c.in_ok-window.window) c.closed.result c.in_ok-query.ensures.spelled c.in_ok-window.ensures.spelled
+    (window_written c.in_ok-query.query c.in_ok-window.window) refl c.closed.ensures.same c.closed.ensures.spelled
+
+pub window_query-returns-clause-shorter : goal.window_query-returns-clause-shorter
+window_query-returns-clause-shorter t c =
+    shorter-after c.args.tokens.now c.in_ok-window.rest.now c.closed.result
+    (omega (arith, c.in_ok-query.ensures.shorter, c.in_ok-window.ensures.shorter)) c.closed.ensures.shorter
 
 pub query-returns-in-Some-clause-runs : goal.query-returns-in-Some-clause-runs
 query-returns-in-Some-clause-runs t c = RunsTo-takes kinds.Where where_form (pick kinds.Dissolve dissolve_form (pick kinds.Rename rename_form (pick kinds.Overlay pair_form (pick kinds.Cover pair_form (pick kinds.Merge pair_form (pick kinds.Minus pair_form (pick kinds.Window window_query_form (need kinds.Name done)))))))) c.args.tokens.now c.in-Some.rest.now c.where_query.result c.in-Some.ensures.found c.where_query.ensures.runs

@@ -5,6 +5,9 @@ use Rattle.rs_query_parser.proofs.queries.+reading.Given as goal
 abbrev pub decreases-query : goal.decreases-query
 decreases-query l = 3 * length l.tokens.now
 
+abbrev pub decreases-boxed_query : goal.decreases-boxed_query
+decreases-boxed_query l = 3 * length l.tokens.now + 1
+
 abbrev pub decreases-operand_query : goal.decreases-operand_query
 decreases-operand_query l = 3 * length l.tokens.now + 1
 

@@ -1,0 +1,13 @@
+use Rattle.rs_command_meaning.proofs.meaning.definition_said.Goals as goal
+
+pub returns-in-DefineRoute-clause-err : goal.returns-in-DefineRoute-clause-err
+returns-in-DefineRoute-clause-err c = rw c.in-DefineRoute.is c.route_said.ensures.err
+
+pub returns-in-DefineTable-clause-err : goal.returns-in-DefineTable-clause-err
+returns-in-DefineTable-clause-err c = rw (c.in-DefineTable.is, ← c.deref.ensures.value) c.table_said.ensures.err
+
+pub returns-in-DefineReferent-clause-err : goal.returns-in-DefineReferent-clause-err
+returns-in-DefineReferent-clause-err c = rw c.in-DefineReferent.is c.referent_said.ensures.err
+
+pub returns-in-DefineView-clause-err : goal.returns-in-DefineView-clause-err
+returns-in-DefineView-clause-err c = rw c.in-DefineView.is c.view_said.ensures.err

@@ -1,0 +1,36 @@
+use Rattle.std.proofs.lemmas.Result.{err_from_is_err_and}
+use Rattle.rs_grammar.specs.Grammar.{rules}
+use Rattle.rs_query_parser.specs.Reading.{is_done, skips}
+use Rattle.rs_query_parser.proofs.Steps.{takes_as, misses}
+use Rattle.rs_command_parser.proofs.columns.column_type.Goals as goal
+
+pub returns-in-Some-clause-runs : goal.returns-in-Some-clause-runs
+returns-in-Some-clause-runs c = takes_as c.in-Some.ensures.found is_done
+
+pub returns-in_err-rest-clause-runs : goal.returns-in_err-rest-clause-runs
+unfolding rules
+returns-in_err-rest-clause-runs c =
+    let p = err_from_is_err_and c.from_residual.result c.from_residual.ensures.1 in
+    rw (p.1, p.2) (skips c.in_default.ensures.found (misses c.in_err-rest.ensures.found))
+
+pub returns-in_err-rest-2-clause-runs : goal.returns-in_err-rest-2-clause-runs
+unfolding rules
+returns-in_err-rest-2-clause-runs c =
+    let p = err_from_is_err_and c.from_residual-in_err-rest-2.result c.from_residual-in_err-rest-2.ensures.1 in
+    rw (p.1, p.2) (skips c.in_default.ensures.found (takes_as c.in_ok-rest.ensures.found (misses c.in_err-rest-2.ensures.found)))
+
+pub returns-in_err-most-clause-runs : goal.returns-in_err-most-clause-runs
+unfolding rules
+returns-in_err-most-clause-runs c =
+    let p = err_from_is_err_and c.from_residual-in_err-most.result c.from_residual-in_err-most.ensures.1 in
+    rw (p.1, p.2) (skips c.in_default.ensures.found (takes_as c.in_ok-rest.ensures.found (takes_as c.in_ok-rest-2.ensures.found (misses c.in_err-most.ensures.found))))
+
+pub returns-in_err-rest-3-clause-runs : goal.returns-in_err-rest-3-clause-runs
+unfolding rules
+returns-in_err-rest-3-clause-runs c =
+    let p = err_from_is_err_and c.from_residual-in_err-rest-3.result c.from_residual-in_err-rest-3.ensures.1 in
+    rw (p.1, p.2) (skips c.in_default.ensures.found (takes_as c.in_ok-rest.ensures.found (takes_as c.in_ok-rest-2.ensures.found (takes_as c.in_ok-most.ensures.found (misses c.in_err-rest-3.ensures.found)))))
+
+pub returns-clause-runs : goal.returns-clause-runs
+unfolding rules
+returns-clause-runs c = skips c.in_default.ensures.found (takes_as c.in_ok-rest.ensures.found (takes_as c.in_ok-rest-2.ensures.found (takes_as c.in_ok-most.ensures.found (takes_as c.in_ok-rest-3.ensures.found (is_done)))))

@@ -1,0 +1,57 @@
+use Rattle.std.proofs.lemmas.Result.{err_from_is_err_and}
+use Rattle.rs_grammar.specs.declared.kind.TokenKind.TheVariants as kinds
+use Rattle.rs_grammar.specs.Grammar.{fail, pick, need, drop_name_form, drop_referent_form}
+use Rattle.rs_query_parser.specs.Reading.{skips}
+use Rattle.rs_query_parser.proofs.Steps.{misses, RunsTo-skips, RunsTo-takes}
+use Rattle.rs_command_parser.proofs.drops.drop_command.Goals as goal
+
+pub returns-in-Some-clause-runs : goal.returns-in-Some-clause-runs
+returns-in-Some-clause-runs c =
+    RunsTo-takes kinds.Route drop_name_form (pick kinds.Table drop_name_form (pick kinds.View drop_name_form (need kinds.Referent drop_referent_form))) c.args.tokens.now c.in-Some.rest.now c.drop_route.result c.in-Some.ensures.found c.drop_route.ensures.runs
+
+pub returns-in-Some-clause-spelled : goal.returns-in-Some-clause-spelled
+returns-in-Some-clause-spelled c = rw c.in-Some.ensures.spelled c.drop_route.ensures.spelled
+
+pub returns-in-Some-clause-full : goal.returns-in-Some-clause-full
+returns-in-Some-clause-full c = c.drop_route.ensures.full
+
+pub returns-in-Some-mark-clause-runs : goal.returns-in-Some-mark-clause-runs
+returns-in-Some-mark-clause-runs c =
+    RunsTo-skips kinds.Route drop_name_form (pick kinds.Table drop_name_form (pick kinds.View drop_name_form (need kinds.Referent drop_referent_form))) c.args.tokens.now c.drop_table.result c.in_default.ensures.found
+    (RunsTo-takes kinds.Table drop_name_form (pick kinds.View drop_name_form (need kinds.Referent drop_referent_form)) c.args.tokens.now c.in-Some-mark.rest.now c.drop_table.result c.in-Some-mark.ensures.found c.drop_table.ensures.runs)
+
+pub returns-in-Some-mark-clause-spelled : goal.returns-in-Some-mark-clause-spelled
+returns-in-Some-mark-clause-spelled c = rw c.in-Some-mark.ensures.spelled c.drop_table.ensures.spelled
+
+pub returns-in-Some-mark-clause-full : goal.returns-in-Some-mark-clause-full
+returns-in-Some-mark-clause-full c = c.drop_table.ensures.full
+
+pub returns-in-Some-mark-2-clause-runs : goal.returns-in-Some-mark-2-clause-runs
+returns-in-Some-mark-2-clause-runs c =
+    RunsTo-skips kinds.Route drop_name_form (pick kinds.Table drop_name_form (pick kinds.View drop_name_form (need kinds.Referent drop_referent_form))) c.args.tokens.now c.drop_view.result c.in_default.ensures.found
+    (RunsTo-skips kinds.Table drop_name_form (pick kinds.View drop_name_form (need kinds.Referent drop_referent_form)) c.args.tokens.now c.drop_view.result c.in_default-mark.ensures.found
+    (RunsTo-takes kinds.View drop_name_form (need kinds.Referent drop_referent_form) c.args.tokens.now c.in-Some-mark-2.rest.now c.drop_view.result c.in-Some-mark-2.ensures.found c.drop_view.ensures.runs))
+
+pub returns-in-Some-mark-2-clause-spelled : goal.returns-in-Some-mark-2-clause-spelled
+returns-in-Some-mark-2-clause-spelled c = rw c.in-Some-mark-2.ensures.spelled c.drop_view.ensures.spelled
+
+pub returns-in-Some-mark-2-clause-full : goal.returns-in-Some-mark-2-clause-full
+returns-in-Some-mark-2-clause-full c = c.drop_view.ensures.full
+
+pub returns-in_err-rest-clause-runs : goal.returns-in_err-rest-clause-runs
+returns-in_err-rest-clause-runs c =
+    let p = err_from_is_err_and c.from_residual.result c.from_residual.ensures.1 in
+    rw (p.1, p.2) (skips c.in_default.ensures.found (skips c.in_default-mark.ensures.found (skips c.in_default-mark-2.ensures.found (misses c.in_err-rest.ensures.found))))
+
+pub returns-clause-runs : goal.returns-clause-runs
+returns-clause-runs c =
+    RunsTo-skips kinds.Route drop_name_form (pick kinds.Table drop_name_form (pick kinds.View drop_name_form (need kinds.Referent drop_referent_form))) c.args.tokens.now c.drop_referent.result c.in_default.ensures.found
+    (RunsTo-skips kinds.Table drop_name_form (pick kinds.View drop_name_form (need kinds.Referent drop_referent_form)) c.args.tokens.now c.drop_referent.result c.in_default-mark.ensures.found
+    (RunsTo-skips kinds.View drop_name_form (need kinds.Referent drop_referent_form) c.args.tokens.now c.drop_referent.result c.in_default-mark-2.ensures.found
+    (RunsTo-takes kinds.Referent drop_referent_form fail c.args.tokens.now c.in_ok-rest.rest.now c.drop_referent.result c.in_ok-rest.ensures.found c.drop_referent.ensures.runs)))
+
+pub returns-clause-spelled : goal.returns-clause-spelled
+returns-clause-spelled c = rw c.in_ok-rest.ensures.spelled c.drop_referent.ensures.spelled
+
+pub returns-clause-full : goal.returns-clause-full
+returns-clause-full c = c.drop_referent.ensures.full

@@ -1,0 +1,10 @@
+//! The parser of the commands that change something, and of TRANSLATE.
+//!
+//! The tokens are read by the table of the grammar. What they say is looked at in other crates.
+#![tactic(auto)]
+
+mod columns;
+pub mod definitions;
+pub mod drops;
+pub mod events;
+pub mod moves;

@@ -1,2 +1,0 @@
-mod MeaningLaws
-mod ViewTexts

@@ -1,0 +1,4 @@
+pub mod MeaningLaws
+mod SayingLaws
+mod OperandLaws
+mod ViewTexts

@@ -1,0 +1,73 @@
+use Rattle.std.proofs.Common.{refl, sym, subst, arith}
+use Rattle.rs_grammar.specs.declared.kind.TokenKind.TheVariants as kinds
+use Rattle.rs_syntax.proofs.ToldLaws.{AreToldOf-append}
+use Rattle.rs_syntax.specs.Written.{list_lexemes, name_lexemes, condition_lexemes, AreToldOf}
+use Rattle.rs_syntax.specs.WrittenView.{condition_syntax}
+use Rattle.rs_query_meaning.proofs.OperandLaws.{operand-told, others-told, operand-length, others-length, where-whole, dissolve-whole, rename-whole, window-whole, pair-whole}
+use Rattle.rs_query_meaning.proofs.said_queries.+saying.Goals as goal
+
+pub query_said-operand_query_said-requires : goal.query_said-operand_query_said-requires
+query_said-operand_query_said-requires t c =
+    let whole = where-whole c.args.written.now c.in-Where.operand c.deref.result.now c.deref.ensures c.in-Where.wanted c.in-Where.is in
+    (omega (arith, operand-length whole), operand-told c.args.line.now whole c.requires.1.1)
+
+pub query_said-condition_said-requires : goal.query_said-condition_said-requires
+query_said-condition_said-requires t c =
+    let whole = where-whole c.args.written.now c.in-Where.operand c.in-Where.operand.value refl c.in-Where.wanted c.in-Where.is in
+    subst (λ items. AreToldOf c.args.line.now (condition_lexemes (condition_syntax items))) (sym c.deref-in-Where.ensures.value) (others-told c.args.line.now whole c.requires.1.1)
+
+pub query_said-operand_query_said-requires-in-Dissolve : goal.query_said-operand_query_said-requires-in-Dissolve
+query_said-operand_query_said-requires-in-Dissolve t c =
+    let whole = dissolve-whole c.args.written.now c.in-Dissolve.operand c.deref-in-Dissolve.result.now c.deref-in-Dissolve.ensures c.in-Dissolve.columns c.in-Dissolve.is in
+    (omega (arith, operand-length whole), operand-told c.args.line.now whole c.requires.1.1)
+
+pub query_said-names_said-requires : goal.query_said-names_said-requires
+query_said-names_said-requires t c =
+    let whole = dissolve-whole c.args.written.now c.in-Dissolve.operand c.in-Dissolve.operand.value refl c.in-Dissolve.columns c.in-Dissolve.is in
+    subst (λ items. AreToldOf c.args.line.now (list_lexemes kinds.Comma name_lexemes items)) (sym c.deref-in-Dissolve-2.ensures.value)
+    (AreToldOf-append c.args.line.now (list_lexemes kinds.Comma name_lexemes c.in-Dissolve.columns.items) _ (others-told c.args.line.now whole c.requires.1.1).1).0
+
+pub query_said-operand_query_said-requires-in-Rename : goal.query_said-operand_query_said-requires-in-Rename
+query_said-operand_query_said-requires-in-Rename t c =
+    let whole = rename-whole c.args.written.now c.in-Rename.operand c.deref-in-Rename.result.now c.deref-in-Rename.ensures c.in-Rename.from c.in-Rename.to c.in-Rename.is in
+    (omega (arith, operand-length whole), operand-told c.args.line.now whole c.requires.1.1)
+
+pub query_said-name-requires-in-Rename-clause-inside : goal.query_said-name-requires-in-Rename-clause-inside
+query_said-name-requires-in-Rename-clause-inside t c =
+    let whole = rename-whole c.args.written.now c.in-Rename.operand c.in-Rename.operand.value refl c.in-Rename.from c.in-Rename.to c.in-Rename.is in
+    (others-told c.args.line.now whole c.requires.1.1).0.0
+
+pub query_said-name-requires-in-Rename-clause-kind : goal.query_said-name-requires-in-Rename-clause-kind
+query_said-name-requires-in-Rename-clause-kind t c =
+    let whole = rename-whole c.args.written.now c.in-Rename.operand c.in-Rename.operand.value refl c.in-Rename.from c.in-Rename.to c.in-Rename.is in
+    (others-told c.args.line.now whole c.requires.1.1).0.1
+
+pub query_said-name-requires-in-Rename-2-clause-inside : goal.query_said-name-requires-in-Rename-2-clause-inside
+query_said-name-requires-in-Rename-2-clause-inside t c =
+    let whole = rename-whole c.args.written.now c.in-Rename.operand c.in-Rename.operand.value refl c.in-Rename.from c.in-Rename.to c.in-Rename.is in
+    (others-told c.args.line.now whole c.requires.1.1).1.1.0.0
+
+pub query_said-name-requires-in-Rename-2-clause-kind : goal.query_said-name-requires-in-Rename-2-clause-kind
+query_said-name-requires-in-Rename-2-clause-kind t c =
+    let whole = rename-whole c.args.written.now c.in-Rename.operand c.in-Rename.operand.value refl c.in-Rename.from c.in-Rename.to c.in-Rename.is in
+    (others-told c.args.line.now whole c.requires.1.1).1.1.0.1
+
+pub query_said-operand_query_said-requires-in-Pair : goal.query_said-operand_query_said-requires-in-Pair
+query_said-operand_query_said-requires-in-Pair t c =
+    let whole = pair-whole c.args.written.now c.in-Pair.first c.deref-in-Pair.result.now c.deref-in-Pair.ensures c.in-Pair.operator c.in-Pair.second c.in-Pair.second.value c.in-Pair.is refl in
+    (omega (arith, operand-length whole), operand-told c.args.line.now whole c.requires.1.1)
+
+pub query_said-operand_query_said-requires-in-Pair-2 : goal.query_said-operand_query_said-requires-in-Pair-2
+query_said-operand_query_said-requires-in-Pair-2 t c =
+    let whole = pair-whole c.args.written.now c.in-Pair.first c.in-Pair.first.value refl c.in-Pair.operator c.in-Pair.second c.deref-in-Pair-2.result.now c.in-Pair.is c.deref-in-Pair-2.ensures in
+    (omega (arith, others-length whole), others-told c.args.line.now whole c.requires.1.1)
+
+pub query_said-operand_query_said-requires-in-Window : goal.query_said-operand_query_said-requires-in-Window
+query_said-operand_query_said-requires-in-Window t c =
+    let whole = window-whole c.args.written.now c.in-Window.operand c.deref-in-Window.result.now c.deref-in-Window.ensures c.in-Window.place c.in-Window.is in
+    (omega (arith, operand-length whole), operand-told c.args.line.now whole c.requires.1.1)
+
+pub query_said-window_said-requires : goal.query_said-window_said-requires
+query_said-window_said-requires t c =
+    let whole = window-whole c.args.written.now c.in-Window.operand c.in-Window.operand.value refl c.in-Window.place c.in-Window.is in
+    others-told c.args.line.now whole c.requires.1.1
