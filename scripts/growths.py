@@ -1,15 +1,18 @@
 #!/usr/bin/env python3
-"""Holds conversations over memory by programs that judge their own answers, and refuses their growths in turn.
+"""Refuses each growth of two programs that judge their own answers, one growth in each run.
 
-`rs_growths` holds each conversation of `tests/conversations` that has room there once, with no growth refused. Those that
-`tests/refused_growths.txt` names it holds once more for each growth that they ask for, that growth refused, and
-`rs_pager_growths` makes its calls of the pager in the same way. These runs are MOST_RUNS at the most.
+    growths.py [--count]
 
-Such a program prints the same whichever growth was refused; any other output, or status, is a failure. `rt try
---fail-alloc N --cases FOLDER` builds a program once and always refuses the growth with number N; a program asks for as
-many growths before its own as its input says, so that the refused one is another of its own in each case. The growths
-are counted once, by the interpreter; up to the refused one a run goes as the counted one, so it comes to that growth.
-There is a line for each program, and the last line is `N passed, M failed` for all runs.
+`rs_growths` holds the conversations that `tests/refused_growths.txt` names, each in runs of its own; `rs_pager_growths`
+makes its calls of the pager. Such a program prints the same whichever of its growths was refused, and then whether the
+next growth was given; any other output, or status, is a failure. The list says how many growths each of them asks for.
+A run that comes to its refused growth is given the next one, and the run in which the growth after the last is refused
+is not: so a number that is too small or too large is found out. Then the growths are counted anew, and all is run once
+more. `--count` writes the numbers into the list. These runs are MOST_RUNS at the most.
+
+`rt try --fail-alloc N --cases FOLDER` builds a program once and always refuses the growth with number N; a program asks
+for as many growths before its own as its input has dots at first, so that the refused one is another of its own in each
+case. There is a line for each program, and the last line is `N passed, M failed` for all runs.
 """
 
 import concurrent.futures
@@ -24,20 +27,12 @@ CONVERSATIONS = os.path.join(ROOT, "tests", "conversations")
 LIST = os.path.join(ROOT, "tests", "refused_growths.txt")
 EXPAND = os.path.join(ROOT, "tests", "conversations.py")
 
-# The program that makes calls of the pager; all other cases are conversations.
+# The program that holds conversations, the one that makes calls of the pager, and how the list names the latter.
+CONVERSED = "rs_growths"
 PAGER = "rs_pager_growths"
 
 # How many runs there are in which a growth is refused, at the most.
 MOST_RUNS = 700
-
-# Conversations that have no room in `rs_growths`; the program holds them.
-TOO_LONG = {
-    "length-of-a-line": "a line of 70,000 bytes",
-    "limit-of-routes": "an answer of 120,000 bytes",
-    "many-rows-at-one-place": "an answer of 32,000 bytes",
-    "separate-spans-in-turn": "an answer of 93,000 bytes",
-    "separate-spans-of-one-row": "an answer of 40,000 bytes",
-}
 
 # More growths than any program asks for.
 NONE_REFUSED = 1_000_000
@@ -45,143 +40,179 @@ NONE_REFUSED = 1_000_000
 # More steps of the interpreter than any counted run takes, some twenty seconds of it.
 MOST_STEPS = 100_000_000
 
-# A worker gets so many cases at the least, since it builds the program for them.
-CASES_OF_A_BUILD = 100
+# A line of the list: a name and a number.
+LISTED = re.compile(r"^(?P<name>[\w-]+) +(?P<count>\d+)$", re.MULTILINE)
 
-# What is said of a run that went as wanted, compiled, and by the interpreter too where its growths are counted.
-AS_WANTED = re.compile("run=ended status=0 runners=([12]) output=expected")
+# What is said of a run that went as wanted.
+AS_WANTED = re.compile(r"run=ended status=0 runners=[12] output=expected")
+
+# The last line of a program, where the next growth was given and where it was refused.
+GIVEN, REFUSED = b"the next growth was given\n", b"the next growth was refused\n"
 
 
 class Case:
-    """A run of a program: what it is given after the growths that it asks for first."""
+    """A run: of its own growths the one with number `refused` is refused; after `count` of them it has ended."""
 
-    def __init__(self, program, name, text, is_counted, offset=0):
-        self.program, self.name, self.text, self.is_counted, self.offset = program, name, text, is_counted, offset
-
-    def after(self, offset):
-        """The same, with so many growths asked for first, which are not counted again."""
-        return Case(self.program, self.name, self.text, False, offset)
+    def __init__(self, name, count, refused):
+        self.name, self.count, self.refused = name, count, refused
 
     def key(self):
-        return "%s_%d" % (self.name, self.offset)
-
-    def input(self):
-        if self.program == PAGER:
-            return b"." * self.offset
-        return b"%d\n%s" % (self.offset, self.text)
+        return "%s_%d" % (self.name, self.refused)
 
 
-def wanted(program):
-    with open(os.path.join(ROOT, "crates", program, "stdout"), "rb") as file:
-        return file.read()
+def program_of(name):
+    return PAGER if name == PAGER else CONVERSED
 
 
-def run(refused, cases):
-    """For each case, all of one group, whether the run went as wanted, and how many growths it asked for."""
-    program, is_counted = cases[0].program, cases[0].is_counted
-    # the interpreter counts the growths; where they don't matter it ends at once
-    steps = ["--steps", str(MOST_STEPS if is_counted else 1)]
-    with tempfile.TemporaryDirectory() as folder:
-        for case in cases:
-            path = os.path.join(folder, case.key())
-            with open(path, "wb") as file:
-                file.write(case.input())
-            with open(path + ".stdout", "wb") as file:
-                file.write(wanted(program))
-        done = subprocess.run(["rt", "try", *steps, "--fail-alloc", str(refused), "--cases", folder],
-                              cwd=os.path.join(ROOT, "crates", program), stdin=subprocess.DEVNULL,
-                              stdout=subprocess.PIPE, stderr=subprocess.STDOUT, text=True, errors="replace")
-    return told_by(done.stdout, cases)
-
-
-def told_by(output, cases):
-    """What the output says of each case: its growths stand before its own line. A case without a line failed."""
-    runners = 2 if cases[0].is_counted else 1
-    results, asked, said = {case.key(): (False, 0) for case in cases}, 0, []
-    for line in output.split("\n"):
-        said.append(line)
-        count = re.match(r"allocations: (\d+)", line)
-        if count:
-            asked = int(count[1])
-        case = re.match(r"case=(\S+) (.*)", line)
-        if case:
-            went = AS_WANTED.match(case[2])
-            is_right = bool(went) and int(went[1]) >= runners
-            results[case[1]] = (is_right, asked)
-            if not is_right:
-                print("\n".join(said), flush=True)
-            asked, said = 0, []
-    if not all(is_right for is_right, _asked in results.values()):
-        print("\n".join(said), flush=True)
-    return results
-
-
-def run_all(pool, workers, refused, cases):
-    """The results of all cases: each part of them is run behind one build of its program."""
-    groups = {}
-    for case in cases:
-        groups.setdefault((case.program, case.is_counted), []).append(case)
-    parts = []
-    for own in groups.values():
-        share = round(workers * len(own) / len(cases))
-        count = max(1, min(share, len(own) // CASES_OF_A_BUILD))
-        parts += [own[first::count] for first in range(count)]
-    results = {}
-    for part, told in zip(parts, pool.map(lambda part: run(refused, part), parts)):
-        results.update({case: told[case.key()] for case in part})
-    return results
-
-
-def expanded(name):
-    """The plain form of a conversation."""
-    path = os.path.join(CONVERSATIONS, name + ".txt")
-    return subprocess.run([sys.executable, EXPAND, "--expand", path], stdout=subprocess.PIPE, check=True).stdout
-
-
-def named_by_the_list():
+def listed():
+    """How many growths each conversation, and the program of the pager, asks for."""
     with open(LIST, encoding="utf-8") as file:
-        lines = [line.split("#")[0].strip() for line in file]
-    return [line.removesuffix(".txt") for line in lines if line]
+        return {found["name"]: int(found["count"]) for found in LISTED.finditer(file.read())}
 
 
-def all_cases():
-    """Each conversation and the calls of the pager, with no growth asked for first."""
-    names = sorted(name[:-4] for name in os.listdir(CONVERSATIONS) if name.endswith(".txt"))
-    names = [name for name in names if name not in TOO_LONG]
-    listed = named_by_the_list()
-    if not set(listed) <= set(names):
-        sys.exit("%s names no conversation: %s" % (LIST, " ".join(set(listed) - set(names))))
-    return [Case("rs_growths", name, expanded(name), name in listed) for name in names] + [Case(PAGER, "calls", b"", True)]
+def write_list(counts):
+    with open(LIST, encoding="utf-8") as file:
+        text = file.read()
+    with open(LIST, "w", encoding="utf-8") as file:
+        file.write(LISTED.sub(lambda found: "%s %d" % (found["name"], counts[found["name"]]), text))
 
 
-def refused_cases(plain):
-    """Each case whose growths are counted, once for each of them, and the number of the growth that is refused."""
-    counts = {case: asked for case, (_is_right, asked) in plain.items() if case.is_counted}
-    runs, refused = sum(counts.values()), max(counts.values())
-    print("%d runs in which a growth is refused, of %d at the most" % (runs, MOST_RUNS), flush=True)
-    if runs > MOST_RUNS:
-        sys.exit(" ".join("%s:%d" % (case.name, count) for case, count in counts.items()))
-    return [case.after(refused - own) for case, count in counts.items() for own in range(1, count + 1)], refused
+# What a program is given, and what it prints.
 
 
-def report(results):
+def exchanges(name):
+    """The lines of a conversation with their answers."""
+    path = os.path.join(CONVERSATIONS, name + ".txt")
+    plain = subprocess.run([sys.executable, EXPAND, "--expand", path], stdout=subprocess.PIPE, check=True).stdout
+    found = []
+    for line in plain.splitlines(keepends=True):
+        mark, _, text = line.partition(b" ")
+        if mark == b"<":
+            found[-1][1] += text
+        else:
+            found.append([text if mark == b">" else text.removesuffix(b"\n"), b""])
+    return found
+
+
+def is_look(sent, wanted):
+    """Whether a line changes nothing: a query, or one that is refused."""
+    command = sent.lstrip(b"0123456789 ")
+    return command.startswith((b"SELECT ", b"TRANSLATE ")) or wanted.partition(b" ")[2].startswith(b"ERR ")
+
+
+def fields_of(name):
+    """What a program reads after the dots: of a conversation each line with its answer and the one without memory."""
+    if name == PAGER:
+        return b""
+    fields = []
+    for sent, wanted in exchanges(name):
+        session = wanted.partition(b" ")[0]
+        fields += [b"look" if is_look(sent, wanted) else b"", sent, wanted, session + b" ERR 90 out of memory\n"]
+    return b"".join(field + b"\0" for field in fields)
+
+
+def printed_by(name, last_line):
+    with open(os.path.join(ROOT, "crates", program_of(name), "stdout"), "rb") as file:
+        return file.readline() + last_line
+
+
+# Runs.
+
+
+def run(program, refused, steps, cases):
+    """What `rt try` says where it refuses the growth with this number, over cases: a key, an input, an output."""
+    with tempfile.TemporaryDirectory() as folder:
+        for key, given, wanted in cases:
+            path = os.path.join(folder, key)
+            with open(path, "wb") as file:
+                file.write(given)
+            with open(path + ".stdout", "wb") as file:
+                file.write(wanted)
+        words = ["rt", "try", "--steps", str(steps), "--fail-alloc", str(refused), "--cases", folder]
+        return subprocess.run(words, cwd=os.path.join(ROOT, "crates", program), stdin=subprocess.DEVNULL,
+                              stdout=subprocess.PIPE, stderr=subprocess.STDOUT, text=True, errors="replace").stdout
+
+
+def counted(names):
+    """How many growths each asks for, as the interpreter counts them."""
+    counts = {}
+    for program in sorted({program_of(name) for name in names}):
+        own = [name for name in names if program_of(name) == program]
+        cases = [(name, b"\n" + fields_of(name), printed_by(name, GIVEN)) for name in own]
+        # the growths of a case stand before its own line; its last one is the one after the end
+        for block in re.split(r"(?<=\n)(?=allocations:)", run(program, NONE_REFUSED, MOST_STEPS, cases)):
+            found = re.match(r"allocations: (\d+)[^~]*?^case=(\S+) run=ended status=0 runners=2 output=expected", block, re.M)
+            if found:
+                counts[found[2]] = int(found[1]) - 1
+    missing = [name for name in names if name not in counts]
+    if missing:
+        sys.exit("not answered as wanted with no growth refused: %s" % " ".join(missing))
+    return counts
+
+
+def refused_in(program, cases):
+    """Runs each case of a program after one build; gives for each whether it went as wanted."""
+    number = max(case.refused for case in cases)
+    texts = {name: fields_of(name) for name in {case.name for case in cases}}
+    given = [
+        (
+            case.key(),
+            b"." * (number - case.refused) + b"\n" + texts[case.name],
+            printed_by(case.name, GIVEN if case.refused <= case.count else REFUSED),
+        )
+        for case in cases
+    ]
+    # the interpreter ends at once
+    said = run(program, number, 1, given)
+    right = {found[1] for found in re.finditer(r"^case=(\S+) (.*)$", said, re.M) if AS_WANTED.match(found[2])}
+    return {case: case.key() in right for case in cases}, said
+
+
+def refused_in_turn(counts):
+    """Each growth of each, and the one after its last, refused in a run; the runs of a program follow its one build."""
+    cases = [Case(name, count, own) for name, count in counts.items() for own in range(1, count + 2)]
+    print("%d runs in which a growth is refused, of %d at the most" % (len(cases), MOST_RUNS), flush=True)
+    if len(cases) > MOST_RUNS:
+        sys.exit(" ".join("%s:%d" % item for item in counts.items()))
+    groups = {program: [case for case in cases if program_of(case.name) == program] for program in (CONVERSED, PAGER)}
+    with concurrent.futures.ThreadPoolExecutor(len(groups)) as pool:
+        told = dict(zip(groups, pool.map(refused_in, groups, groups.values())))
+    return {program: results for program, (results, _said) in told.items()}, "".join(said for _results, said in told.values())
+
+
+def is_stale(results):
+    """Whether the runs about the last growth of one of them went otherwise than wanted, as where the list is old."""
+    every = [item for of_program in results.values() for item in of_program.items()]
+    return any(not is_right and case.refused >= case.count for case, is_right in every)
+
+
+def report(results, said):
     """Prints how many runs of each program went as wanted, and of all; gives how many did not."""
-    for program in sorted({program for program, _is_right in results}):
-        right = [is_right for it, is_right in results if it == program]
-        print("%s: %d passed, %d failed" % (program, sum(right), len(right) - sum(right)))
-    failed = sum(not is_right for _program, is_right in results)
-    print("%d passed, %d failed" % (len(results) - failed, failed))
+    rights = [is_right for of_program in results.values() for is_right in of_program.values()]
+    failed = rights.count(False)
+    if failed:
+        wrong = [case.key() for of_program in results.values() for case, is_right in of_program.items() if not is_right]
+        print(said[-4_000:])
+        print("otherwise than wanted: %s" % " ".join(wrong))
+    for program, of_program in results.items():
+        right = list(of_program.values()).count(True)
+        print("%s: %d passed, %d failed" % (program, right, len(of_program) - right))
+    print("%d passed, %d failed" % (len(rights) - failed, failed))
     return failed
 
 
 def main():
-    workers = os.cpu_count() or 1
-    with concurrent.futures.ThreadPoolExecutor(workers) as pool:
-        plain = run_all(pool, workers, NONE_REFUSED, all_cases())
-        results = [(case.program, is_right) for case, (is_right, _asked) in plain.items()]
-        cases, refused = refused_cases(plain)
-        results += [(case.program, is_right) for case, (is_right, _asked) in run_all(pool, workers, refused, cases).items()]
-    return 1 if report(results) else 0
+    counts = listed()
+    if sys.argv[1:] == ["--count"]:
+        write_list(counted(list(counts)))
+        return 0
+    results, said = refused_in_turn(counts)
+    if is_stale(results):
+        anew = counted(list(counts))
+        if anew != counts:
+            print("%s is old, run growths.py --count: %s" % (LIST, " ".join("%s:%d" % item for item in anew.items())), flush=True)
+            results, said = refused_in_turn(anew)
+    return 1 if report(results, said) else 0
 
 
 if __name__ == "__main__":

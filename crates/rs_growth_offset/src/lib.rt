@@ -10,21 +10,19 @@ use std::io::Read;
 /// How many growths are asked for at the most.
 pub const GREATEST_OFFSET: u32 = 4_096;
 
-/// Asks for so many growths, and gives their memory back at once. Where a growth is refused nothing else changes.
-pub fn ask_for(alloc: Global, growths: u32) {
-    for _ in 0..growths.min(GREATEST_OFFSET) {
-        let _given = Box::new(alloc, [0_u8]);
-    }
+/// Asks for a growth, and gives its memory back at once. Answers whether it was given.
+pub fn is_given(alloc: Global) -> bool {
+    Box::new(alloc, [0_u8]).is_ok()
 }
 
-/// Asks for a growth for each byte of the input, and gives its memory back at once. It ends where the input does,
-/// or a read fails. Where a growth is refused nothing else changes.
-pub fn ask_for_each_byte<R: Read>(alloc: Global, input: &mut R) {
+/// Asks for a growth for each dot that the input begins with, and takes these dots and the byte after them. It ends
+/// where the input does, or a read fails. Where a growth is refused nothing else changes.
+pub fn ask_for_each_dot<R: Read>(alloc: Global, input: &mut R) {
     let mut byte = [0_u8];
     for _ in 0..GREATEST_OFFSET {
-        if !matches!(input.read(&mut byte), Ok(1)) {
+        if !matches!(input.read(&mut byte), Ok(1)) || byte != [b'.'] {
             return;
         }
-        let _given = Box::new(alloc, byte);
+        let _ = is_given(alloc);
     }
 }

@@ -7,7 +7,7 @@ mod random_calls;
 
 use crate::random_calls::RandomCalls;
 use rs_disk::{FailedCut, FailingDisk, MemoryDisk};
-use rs_growth_offset::ask_for_each_byte;
+use rs_growth_offset::{ask_for_each_dot, is_given};
 use rs_pager_judge::{AfterRefusal, Judge, script_calls};
 use std::alloc::Global;
 use std::io;
@@ -40,14 +40,16 @@ fn is_right(alloc: Global, after: AfterRefusal, seed: u64) -> bool {
 }
 
 fn main(rt: HostRuntime) -> io::Result<()> {
-    ask_for_each_byte(rt.alloc(), &mut rt.stdin());
-    let ends = [(AfterRefusal::Abandon, 1), (AfterRefusal::Commit, 2)];
-    if ends
-        .iter()
-        .all(|(after, seed)| is_right(rt.alloc(), *after, *seed))
-    {
-        println!(rt; "each call was answered as wanted")
+    let alloc = rt.alloc();
+    ask_for_each_dot(alloc, &mut rt.stdin());
+    if is_right(alloc, AfterRefusal::Abandon, 1) && is_right(alloc, AfterRefusal::Commit, 2) {
+        println!(rt; "each call was answered as wanted")?;
     } else {
-        println!(rt; "some call was answered otherwise")
+        println!(rt; "some call was answered otherwise")?;
+    }
+    if is_given(alloc) {
+        println!(rt; "the next growth was given")
+    } else {
+        println!(rt; "the next growth was refused")
     }
 }

@@ -197,11 +197,10 @@ impl Judge {
     fn wanted(&mut self, call: Call) -> Answer {
         let is_in_use = match call {
             Call::Page(number) => {
-                return self
-                    .working
-                    .mark(number)
-                    .map(u32::from)
-                    .ok_or(Refusal::DamagedFile);
+                return match self.working.mark(number) {
+                    Some(mark) => Ok(u32::from(mark)),
+                    None => Err(Refusal::DamagedFile),
+                };
             }
             Call::Write(number, mark) => self.working.write(number, mark),
             Call::Allocate => return self.wanted_page(),

@@ -28,7 +28,10 @@ impl Plain {
 
     /// The mark of a page; none where it is not in use.
     pub fn mark(&self, number: u32) -> Option<u8> {
-        self.marks.get(number as usize).copied().flatten()
+        match self.marks.get(number as usize) {
+            Some(mark) => *mark,
+            None => None,
+        }
     }
 
     /// Marks a page that is in use, and answers whether it is.

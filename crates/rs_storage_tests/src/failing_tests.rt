@@ -1,9 +1,10 @@
 //! One script of calls, of which the disk fails one after the other: after each fault the pages are as before, and both
-//! ends of the changes leave what they are to leave.
+//! ends of the changes leave what they are to leave. Such a fault leaves half a write, and a cut that is done or not.
 
 use crate::expect::expect;
 use crate::image::disk_of;
-use rs_pager_judge::{AfterRefusal, Judge, script_calls};
+use rs_disk::{Disk, FailedCut, FailingDisk, MemoryDisk, PAGE_SIZE};
+use rs_pager_judge::{AfterRefusal, Judge, TestDisk, script_calls};
 use std::alloc::Global;
 use std::test::Fail;
 
@@ -36,4 +37,32 @@ fn a_fault_of_the_disk_changes_no_page(rt: HostRuntime) -> Result<(), Fail> {
         expect(runs > 40, "more than 40 calls fail")?;
     }
     Ok(())
+}
+
+/// A disk of two pages of the letter `a`, of which the first call fails.
+fn two_pages(alloc: Global, failed_cut: FailedCut) -> Result<TestDisk, Fail> {
+    let mut disk = MemoryDisk::new(alloc);
+    let pages = vec![in alloc; b'a'; 2 * PAGE_SIZE]?;
+    disk.write(0, pages.as_slice())?;
+    Ok(FailingDisk::new(disk, 1, failed_cut))
+}
+
+/// How many pages a cut to one leaves where it fails.
+fn pages_after_a_failed_cut(alloc: Global, failed_cut: FailedCut) -> Result<u32, Fail> {
+    let mut disk = two_pages(alloc, failed_cut)?;
+    expect(disk.cut(1).is_err(), "the cut fails")?;
+    Ok(disk.pages())
+}
+
+#[test]
+fn what_a_failed_call_leaves(rt: HostRuntime) -> Result<(), Fail> {
+    let alloc = rt.alloc();
+    let mut disk = two_pages(alloc, FailedCut::Done)?;
+    expect(disk.write(1, b"wxyz").is_err(), "the write fails")?;
+    let mut start = [0; 6];
+    disk.read(0, &mut start)?;
+    expect(start == *b"awxaaa", "half the range is written")?;
+    let done = pages_after_a_failed_cut(alloc, FailedCut::Done)?;
+    let not_done = pages_after_a_failed_cut(alloc, FailedCut::NotDone)?;
+    expect(done == 1 && not_done == 2, "it is done or not, as was said")
 }

@@ -12,7 +12,7 @@ pub struct Greatest {
 }
 
 impl Summary for Greatest {
-    ghost use Rattle.rs_tree_tests.specs.Greater.{greater, greatest_of, last_byte, greater_assoc, none_first, none_last};
+    ghost use Rattle.rs_storage_tests.specs.Greater.{greater, greatest_of, last_byte, greater_assoc, none_first, none_last};
 
     const WIDTH: usize = 1;
 

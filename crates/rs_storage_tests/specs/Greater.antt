@@ -1,7 +1,7 @@
 -- The greatest byte of two.
 use Rattle.std.specs.Prelude.{◌≡◌, ℕ, max, List, length, slice_index, ◌-◌}
 use Rattle.std.proofs.Common.{ap, arith}
-use Rattle.rs_tree_tests.specs.declared.greatest.Greatest.{Greatest}
+use Rattle.rs_storage_tests.specs.declared.greatest.Greatest.{Greatest}
 
 abbrev pub greatest_of : ℕ → Greatest
 greatest_of byte = record { byte = byte }

@@ -2,6 +2,7 @@
 
 ghost use Rattle.std.specs.Prelude.{◌≡◌, ◌≤◌, length};
 
+use crate::expect::expect;
 use crate::greatest::Greatest;
 use rs_measure::Refusal;
 use rs_page::{ContentKind, PageHeader, PageNumber};
@@ -57,39 +58,20 @@ fn are(found: &Cells, wanted: &[[u8; 2]]) -> bool {
 }
 
 #[test]
-fn range_gives_the_cells_within_the_bounds(rt: HostRuntime) -> Result<(), Fail> {
+fn a_small_tree_is_searched(rt: HostRuntime) -> Result<(), Fail> {
     let alloc = rt.alloc();
     let mut pages = PlainPages::new(alloc, 10)?;
     let root = small_tree(&mut pages)?;
     let layout = Layout::new(2, 1);
     let found = range::<PlainPages, Greatest>(alloc, &mut pages, layout, root, &[2], &[7])?;
-    assert!(rt; are(&found, &[[2, 0], [4, 1], [5, 3]]));
-    Ok(())
-}
-
-#[test]
-fn descend_passes_over_parts_that_are_not_accepted(rt: HostRuntime) -> Result<(), Fail> {
-    let alloc = rt.alloc();
-    let mut pages = PlainPages::new(alloc, 10)?;
-    let root = small_tree(&mut pages)?;
-    let layout = Layout::new(2, 1);
+    expect(are(&found, &[[2, 0], [4, 1], [5, 3]]), "within the bounds")?;
     let keep = |greatest: &Greatest| greatest.byte > 8;
     let (found, reads) = descend(alloc, &mut pages, layout, root, &[0], &[9], &keep)?;
-    assert!(rt; are(&found, &[[1, 9]]));
-    assert_eq!(rt; reads, 2);
-    Ok(())
-}
-
-#[test]
-fn page_that_is_no_tree_is_damaged(rt: HostRuntime) -> Result<(), Fail> {
-    let alloc = rt.alloc();
-    let mut pages = PlainPages::new(alloc, 10)?;
-    small_tree(&mut pages)?;
-    let layout = Layout::new(2, 1);
+    expect(are(&found, &[[1, 9]]), "what is accepted")?;
+    expect(reads == 2, "what is not accepted isn't read")?;
     let directory = PageNumber::new(1);
     match range::<PlainPages, Greatest>(alloc, &mut pages, layout, directory, &[0], &[9]) {
-        Ok(_) => assert!(rt; false),
-        Err(refusal) => assert!(rt; refusal == Refusal::DamagedFile),
+        Ok(_) => Err("the directory is no tree".into()),
+        Err(refusal) => expect(refusal == Refusal::DamagedFile, "it is damaged"),
     }
-    Ok(())
 }
