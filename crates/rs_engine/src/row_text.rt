@@ -15,6 +15,9 @@ use rs_facts::Span;
 use rs_value::{Kind, push_values};
 use std::alloc::{AllocError, Global};
 
+/// The room that a line is given at first, in bytes; it takes more where it needs more.
+const LINE_ROOM: usize = 48;
+
 /// Appends the line of each run of one route.
 pub fn push_lines(
     alloc: Global,
@@ -59,7 +62,8 @@ fn line_text(
     requires { IsWithinEnds printer.now.route.ends kind (seen run.now) }
     ensures { IfOk result (λ text. string_bytes text ≡ line_of (printed_by printer.now) kind printer.now.name.now.bytes (seen run.now)) }
 {
-    let mut text = String::from_str(alloc, printer.name.as_str())?;
+    let mut text = String::with_capacity(alloc, LINE_ROOM)?;
+    text.push_str(printer.name.as_str())?;
     printer.push(&mut text, run.lo)?;
     match kind {
         Kind::Point => (),

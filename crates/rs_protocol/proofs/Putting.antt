@@ -7,7 +7,7 @@ use Rattle.std.specs.Prelude.{flat_map}
 use Rattle.std.specs.Io.KnownBytes.{Appends, Keeps}
 use Rattle.std.proofs.KnownBytes.{Appends-nil, Appends-trans, Appends-kept}
 use Rattle.rs_protocol.specs.declared.stream.Fault.{Fault}
-use Rattle.rs_protocol.specs.Inner.{PutsBut, Puts}
+use Rattle.rs_protocol.specs.Inner.{PutsBut, Puts, PutsLater}
 
 -- the texts of one part more
 flat_map-take-more : (X : Type 0) (text : X → List ℕ) (parts : List X) (i : ℕ) (d : X) → i < length parts
@@ -112,3 +112,71 @@ Puts-stops-in T U X fault text seen parts i d shown a b c within shown_is first 
     (Puts-stops-at T U X fault made parts i d a b c within
     (subst (Appends a b) (flat_map-map X (List ℕ) ℕ text seen (take i parts)) first)
     (subst Q (ap text shown_is) stop))
+
+-- ---- what is held back
+
+-- more after what was pending
+pub PutsBut-join : (all pending bytes now : List ℕ) (a b c : Option (List ℕ)) → PutsBut all pending a b → PutsBut (pending ++ bytes) now b c → PutsBut (all ++ bytes) now a c
+PutsBut-join all pending bytes now a b c first then = record {
+  front = first.front ++ then.front;
+  whole = ap (λ l. l ++ bytes) first.whole ∙ append_assoc first.front pending bytes ∙ ap (λ l. first.front ++ l) then.whole ∙ sym (append_assoc first.front then.front now);
+  put = Appends-trans a b c first.front then.front first.put then.put;
+}
+
+-- what was pending is put, or a front of it
+pub PutsBut-then : (T : Type 0) (result : Result T Fault) (all pending : List ℕ) (a b c : Option (List ℕ)) → PutsBut all pending a b → Puts result pending b c → Puts result all a c
+PutsBut-then T (Ok done) all pending a b c first then = subst (Appends a c) (sym first.whole) (Appends-trans a b c first.front pending first.put then)
+PutsBut-then T (Err fault) all pending a b c first then =
+    let puts : PutsBut pending then.1.0 b c = then.1.2 in (
+      then.0,
+      (
+        then.1.0,
+        then.1.1,
+        record {
+          front = first.front ++ puts.front;
+          whole = first.whole ∙ ap (λ l. first.front ++ l) puts.whole ∙ sym (append_assoc first.front puts.front then.1.0);
+          put = Appends-trans a b c first.front puts.front first.put puts.put;
+        },
+      ),
+    )
+
+-- all of them are held back
+pub PutsLater-held : (pending bytes now : List ℕ) (a : Option (List ℕ)) → now ≡ pending ++ bytes → PutsBut (pending ++ bytes) now a a
+PutsLater-held pending bytes now a is = subst (λ l. PutsBut (pending ++ bytes) l a a) (sym is) (PutsBut-nothing (pending ++ bytes) a)
+
+-- nothing is pending any more
+pub PutsLater-after : (result : Result (Unit {0}) Fault) (bytes pending now : List ℕ) (a b c : Option (List ℕ)) → now ≡ [] → Appends a b pending → Puts result bytes b c → PutsLater result bytes pending now a c
+PutsLater-after (Ok done) bytes pending now a b c none first then = record {
+  front = pending ++ bytes;
+  whole = sym (ap (λ l. (pending ++ bytes) ++ l) none ∙ append-nil (pending ++ bytes));
+  put = Appends-trans a b c pending bytes first then;
+}
+PutsLater-after (Err fault) bytes pending now a b c none first then = Puts-then (Unit {0}) (Err fault) pending bytes a b c first then
+
+shown-more : (X : Type 0) (text : List ℕ → List ℕ) (seen : X → List ℕ) (parts : List X) (i : ℕ) (d : X) (shown : List ℕ) → i < length parts → shown ≡ seen (get_or parts i d)
+    → flat_map text (map seen (take (i + 1) parts)) ≡ flat_map text (map seen (take i parts)) ++ text shown
+shown-more X text seen parts i d shown within is =
+    flat_map-map X (List ℕ) ℕ text seen (take (i + 1) parts)
+    ∙ flat_map-take-more X (λ part. text (seen part)) parts i d within
+    ∙ (λ j. sym (flat_map-map X (List ℕ) ℕ text seen (take i parts)) j ++ text (sym is j))
+
+-- a part after those that are put but for what is pending
+pub PutsBut-part : (X : Type 0) (text : List ℕ → List ℕ) (seen : X → List ℕ) (parts : List X) (i : ℕ) (d : X) (shown pending now : List ℕ) (a b c : Option (List ℕ)) → i < length parts → shown ≡ seen (get_or parts i d)
+    → PutsBut (flat_map text (map seen (take i parts))) pending a b → PutsBut (pending ++ text shown) now b c → PutsBut (flat_map text (map seen (take (i + 1) parts))) now a c
+PutsBut-part X text seen parts i d shown pending now a b c within is first then =
+    subst (λ l. PutsBut l now a c) (sym (shown-more X text seen parts i d shown within is)) (PutsBut-join _ pending (text shown) now a b c first then)
+
+-- a part that is not put whole
+pub PutsBut-stops : (X : Type 0) (fault : Fault) (text : List ℕ → List ℕ) (seen : X → List ℕ) (parts : List X) (i : ℕ) (d : X) (shown pending : List ℕ) (a b c : Option (List ℕ)) → i < length parts → shown ≡ seen (get_or parts i d)
+    → PutsBut (flat_map text (map seen (take i parts))) pending a b → Puts {T = Unit {0}} (Err fault) (pending ++ text shown) b c → Puts {T = Unit {0}} (Err fault) (flat_map text (map seen parts)) a c
+PutsBut-stops X fault text seen parts i d shown pending a b c within is first stop =
+    let here : Puts {T = Unit {0}} (Err fault) (flat_map text (map seen (take i parts)) ++ text shown) a c = (stop.0, (stop.1.0, stop.1.1, PutsBut-join _ pending (text shown) stop.1.0 a b c first stop.1.2)) in
+    let rest = flat_map text (map seen (drop (i + 1) parts)) in
+    let all : flat_map text (map seen (take i parts)) ++ text shown ++ rest ≡ flat_map text (map seen parts) =
+    ap (λ l. l ++ rest) (sym (shown-more X text seen parts i d shown within is))
+    ∙ (λ j. flat_map-map X (List ℕ) ℕ text seen (take (i + 1) parts) j ++ flat_map-map X (List ℕ) ℕ text seen (drop (i + 1) parts) j)
+    ∙ sym (flat_map-append (λ part. text (seen part)) (take (i + 1) parts) (drop (i + 1) parts))
+    ∙ ap (flat_map (λ part. text (seen part))) (take-append-drop (i + 1) parts)
+    ∙ sym (flat_map-map X (List ℕ) ℕ text seen parts) in
+    let P : List ℕ → Type 0 = λ l. Puts {T = Unit {0}} (Err fault) l a c in
+    subst P all (Puts-stops (Unit {0}) (Unit {0}) fault _ rest a c here)

@@ -1,5 +1,5 @@
 -- What the functions of this crate hand to one another.
-use Rattle.std.specs.Prelude.{◌≡◌, ℕ, ◌<◌, List, take, Option, None, Some, Result, MatchResult}
+use Rattle.std.specs.Prelude.{◌≡◌, ℕ, ◌<◌, List, ◌++◌, take, Option, None, Some, Result, Err, MatchResult}
 use Rattle.std.specs.Io.KnownBytes.{Appends, Consumes}
 use Rattle.rs_measure.specs.FixedPoint.{number_of_digits}
 use Rattle.rs_machine.specs.Served.{Machine}
@@ -25,6 +25,13 @@ pub record IsRequest (line text : List ℕ) (session digits : ℕ) : Type 0 wher
   pub is_readable : line_refusal line ≡ None
   pub text_is : text ≡ without_return line
   pub session_begins : HasSession text session digits
+
+-- The writer has grown by what was pending and the bytes, but for what is pending now; or by a front of them with a
+-- fault.
+abbrev pub PutsLater : {T : Type 0} → Result T Fault → List ℕ → List ℕ → List ℕ → Option (List ℕ) → Option (List ℕ) → Type 0
+PutsLater result bytes pending now before after =
+    MatchResult result (λ _. PutsBut (pending ++ bytes) now before after)
+    (λ fault. Puts {T = Unit {0}} (Err fault) (pending ++ bytes) before after)
 
 -- the line is answered, and its reply put into the writer
 pub record PutsAnswer {T : Type 0} (result : Result T Fault) (line : List ℕ) (old new : Machine) (before after : Option (List ℕ)) : Type 0 where

@@ -2,8 +2,9 @@
 //!
 //! What is put is written whole, or a front of it and then a fault.
 
-ghost use Rattle.std.specs.Prelude.{◌≡◌, flat_map, IfSome};
+ghost use Rattle.std.specs.Prelude.{◌≡◌, ◌++◌, true, false, flat_map, IfSome};
 ghost use Rattle.rs_protocol.specs.Puts.{Puts};
+ghost use Rattle.rs_protocol.specs.Inner.{PutsLater};
 
 use crate::stream::Fault;
 use arrayvec::ArrayVec;
@@ -11,6 +12,12 @@ use std::io::Write;
 
 /// How many bytes are gathered into one write, at the most.
 const GATHERED_BYTES: usize = 256;
+
+/// How many bytes of rows are held back and then written at once, at the most.
+const PENDING_BYTES: usize = 4_096;
+
+/// Bytes that are still to be written.
+pub(crate) type Pending = ArrayVec<u8, PENDING_BYTES>;
 
 /// Writes the bytes whole. A write that fails, or takes nothing, ends it.
 pub(crate) fn put<W: Write>(writer: &mut W, bytes: &[u8]) -> Result<(), Fault>
@@ -57,4 +64,32 @@ pub fn put_parts<W: Write>(writer: &mut W, parts: &[&[u8]]) -> Result<(), Fault>
         Some(piece) => put(writer, piece.as_slice()),
         None => put_each(writer, parts),
     }
+}
+
+/// Adds the parts to what is pending, if all of them are short enough and fit; else it changes nothing.
+fn holds_back(pending: &mut Pending, parts: &[&[u8]]) -> bool
+    ensures held { result ≡ true → pending.new.items ≡ pending.old.items ++ flat_map (λ part. part.now) parts.now }
+    ensures unchanged { result ≡ false → pending.new.items ≡ pending.old.items }
+{
+    match gathered(parts) {
+        Some(piece) => pending.try_extend_from_slice(piece.as_slice()).is_ok(),
+        None => false,
+    }
+}
+
+/// Holds the parts back, or writes what is pending and then them. After a fault a front of it all is out.
+pub(crate) fn put_later<W: Write>(
+    writer: &mut W,
+    pending: &mut Pending,
+    parts: &[&[u8]],
+) -> Result<(), Fault>
+    ensures { PutsLater result (flat_map (λ part. part.now) parts.now) pending.old.items pending.new.items
+        (W.contents writer.old) (W.contents writer.new) }
+{
+    if holds_back(pending, parts) {
+        return Ok(());
+    }
+    put(writer, pending.as_slice())?;
+    pending.clear();
+    put_parts(writer, parts)
 }

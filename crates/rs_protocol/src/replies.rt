@@ -5,22 +5,32 @@
 ghost use Rattle.std.specs.Prelude.{flat_map};
 ghost use Rattle.rs_machine.specs.ReplyText.{row_text, ok_text, refusal_text, reply_text};
 ghost use Rattle.rs_serve.specs.ReplyView.{reply_of, rows_of};
-ghost use Rattle.rs_protocol.specs.Inner.{Puts};
+ghost use Rattle.rs_protocol.specs.Inner.{Puts, PutsLater};
 
-use crate::put::put_parts;
+use crate::put::{Pending, put, put_later, put_parts};
 use crate::stream::Fault;
 use itoa::Buffer;
 use rs_measure::Refusal;
 use rs_serve::{Finish, Reply};
 use std::io::Write;
 
-/// Writes `S ROW` and what follows it.
-pub(crate) fn put_row<W: Write>(writer: &mut W, session: u8, row: &str) -> Result<(), Fault>
-    ensures { Puts result (row_text session row.now) (W.contents writer.old) (W.contents writer.new) }
+/// Writes `S ROW` and what follows it, or holds it back.
+fn put_row<W: Write>(
+    writer: &mut W,
+    pending: &mut Pending,
+    session: u8,
+    row: &str,
+) -> Result<(), Fault>
+    ensures { PutsLater result (row_text session row.now) pending.old.items pending.new.items
+        (W.contents writer.old) (W.contents writer.new) }
 {
     let mut session_digits = Buffer::new();
     let session_text = session_digits.format(session).as_bytes();
-    put_parts(writer, &[session_text, b" ROW ", row.as_bytes(), b"\n"])
+    put_later(
+        writer,
+        pending,
+        &[session_text, b" ROW ", row.as_bytes(), b"\n"],
+    )
 }
 
 /// Writes `S OK n`.
@@ -54,15 +64,16 @@ pub(crate) fn put_refusal<W: Write>(
     )
 }
 
-/// Writes the ROW lines.
+/// Writes the ROW lines, many of them at once.
 pub(crate) fn put_rows<W: Write>(writer: &mut W, session: u8, rows: &[String]) -> Result<(), Fault>
     ensures { Puts result (flat_map (row_text session) (rows_of rows.now))
         (W.contents writer.old) (W.contents writer.new) }
 {
+    let mut pending = Pending::new();
     for row in rows {
-        put_row(writer, session, row.as_str())?;
+        put_row(writer, &mut pending, session, row.as_str())?;
     }
-    Ok(())
+    put(writer, pending.as_slice())
 }
 
 /// Writes a reply whole.
