@@ -31,7 +31,7 @@ next_above (x ∷ y ∷ ys) zero up h = up.0.0
 next_above (x ∷ xs) (suc i) up h = next_above xs i up.1 (omega arith)
 
 -- what is neither below the cell nor the cell is above it
-above_of : (cell l : List ℕ) → is_below l cell ≡ false → (l ≡ cell → ⊥) → is_below cell l ≡ true
+pub above_of : (cell l : List ℕ) → is_below l cell ≡ false → (l ≡ cell → ⊥) → is_below cell l ≡ true
 above_of cell l not_below other = elim (is_below-cases l cell) [
   | inl less ↦ absurd (false≢true (sym not_below ∙ less))
   | inr (inl same) ↦ absurd (other same)
@@ -66,11 +66,11 @@ entry_before ls cell (suc place) up some is none =
       above = λ h. here ls (suc place) (is.after h) h none;
     } in
     subst (IsEntryFor ls cell) same chosen where
-  here : (xs : List (List ℕ)) (i : ℕ) → is_below (get_or xs i []) cell ≡ false → i < length xs → (slice_get xs i ≡ Some cell → ⊥) → is_below cell (get_or xs i []) ≡ true
-  here xs i after h isnt =
-      let there = inside_has xs i h in
-      let same = index_of xs i there.0 there.1 in
-      above_of cell (get_or xs i []) after (λ e. isnt (there.1 ∙ ap (λ (y : List ℕ). Some y) (sym same ∙ e)))
+      here : (xs : List (List ℕ)) (i : ℕ) → is_below (get_or xs i []) cell ≡ false → i < length xs → (slice_get xs i ≡ Some cell → ⊥) → is_below cell (get_or xs i []) ≡ true
+      here xs i after h isnt =
+          let there = inside_has xs i h in
+          let same = index_of xs i there.0 there.1 in
+          above_of cell (get_or xs i []) after (λ e. isnt (there.1 ∙ ap (λ (y : List ℕ). Some y) (sym same ∙ e)))
 
 -- each of these is above the cell
 abbrev pub AllAbove : List ℕ → List (List ℕ) → Type 0
@@ -80,7 +80,7 @@ all_below_upto : (l cell : List ℕ) (cs : List (List ℕ)) → is_below cell l 
 all_below_upto l cell [] h all = tt
 all_below_upto l cell (c ∷ cs) h all = (below_upto c l cell all.0 h, all_below_upto l cell cs h all.1)
 
-all_above_trans : (cell l : List ℕ) (cs : List (List ℕ)) → is_below cell l ≡ true → AllByRecursion (λ other. IsTrue (is_below l other)) cs → AllAbove cell cs
+pub all_above_trans : (cell l : List ℕ) (cs : List (List ℕ)) → is_below cell l ≡ true → AllByRecursion (λ other. IsTrue (is_below l other)) cs → AllAbove cell cs
 all_above_trans cell l [] h all = tt
 all_above_trans cell l (c ∷ cs) h all = (is_below-trans cell l c h all.0, all_above_trans cell l cs h all.1)
 
@@ -95,9 +95,11 @@ module _ {X : Type 0} (cells : X → List (List ℕ)) where
   lies_between ls parts cell at part leasts up chosen there = record { below = before at chosen.not_above there; above = after (drop (suc at) parts) (drop (suc at) ls) rest_leasts rest_up first_above } where
     size : length ls ≡ length parts
     size = zip_lengths (λ least p. slice_get (cells p) 0 ≡ Some least) ls parts leasts
+
     first_of : (cs ds : List (List ℕ)) (l : List ℕ) (xs : List (List ℕ)) → slice_get cs 0 ≡ Some l → Ascends (xs ++ (cs ++ ds)) → AllBelow l xs
     first_of [] ds l xs e h = absurd (cc)
     first_of (c ∷ cs) ds l xs e h = let same : c ≡ l = cc in subst (λ y. AllBelow y xs) same (ascends_across xs c (cs ++ ds) h)
+
     before : (i : ℕ) → (0 < i → is_below cell (get_or ls i []) ≡ false) → slice_get parts i ≡ Some part → AllBelow cell (flat_map cells (take i parts))
     before zero h e = tt
     before (suc i) h e =
@@ -107,6 +109,7 @@ module _ {X : Type 0} (cells : X → List (List ℕ)) where
         all_below_upto least.0 cell (flat_map cells (take (suc i) parts)) not_above
         (first_of (cells part) (flat_map cells (drop (suc (suc i)) parts)) least.0 (flat_map cells (take (suc i) parts)) says
         (subst Ascends (flat_at cells parts (suc i) part e) up))
+
     rest_leasts : Leasts cells (drop (suc at) ls) (drop (suc at) parts)
     rest_leasts = drop_zip ls parts (suc at) leasts where
       drop_zip : (as' : List (List ℕ)) (bs : List X) (i : ℕ) → Leasts cells as' bs → Leasts cells (drop i as') (drop i bs)
@@ -115,8 +118,10 @@ module _ {X : Type 0} (cells : X → List (List ℕ)) where
       drop_zip [] (b ∷ bs) (suc i) all = absurd all
       drop_zip (a ∷ as') [] (suc i) all = absurd all
       drop_zip (a ∷ as') (b ∷ bs) (suc i) all = drop_zip as' bs i all.1
+
     rest_up : Ascends (flat_map cells (drop (suc at) parts))
     rest_up = ascends_last (cells part) (flat_map cells (drop (suc at) parts)) (ascends_last (flat_map cells (take at parts)) (cells part ++ flat_map cells (drop (suc at) parts)) (subst Ascends (flat_at cells parts at part there) up))
+
     first_above : (l : List ℕ) → slice_get (drop (suc at) ls) 0 ≡ Some l → is_below cell l ≡ true
     first_above l e = at_place ls (suc at) e chosen.above where
       at_place : (xs : List (List ℕ)) (i : ℕ) → slice_get (drop i xs) 0 ≡ Some l → (i < length xs → is_below cell (get_or xs i []) ≡ true) → is_below cell l ≡ true
@@ -124,6 +129,7 @@ module _ {X : Type 0} (cells : X → List (List ℕ)) where
       at_place [] (suc i) e h = absurd (cc)
       at_place (x ∷ xs) zero e h = let same : x ≡ l = cc in subst (λ y. is_below cell y ≡ true) same (h (omega arith))
       at_place (x ∷ xs) (suc i) e h = at_place xs i e (λ inside. h (omega arith))
+
     after : (ps : List X) (ms : List (List ℕ)) → Leasts cells ms ps → Ascends (flat_map cells ps) → ((l : List ℕ) → slice_get ms 0 ≡ Some l → is_below cell l ≡ true) → AllAbove cell (flat_map cells ps)
     after [] ms all h first = tt
     after (p ∷ ps) [] all h first = absurd all

@@ -78,7 +78,7 @@ part_replaced form old new height shape at part tops cells others lies e shares 
       lie = all_append (Lies form new height) (take at shape.parts) (place.parts ++ drop (suc at) shape.parts)
           (parts_kept form old new (rest & others) moved.keeps height (take at shape.parts) (λ n. omega arith) (all_take (Lies form old height) shape.parts at lies.1))
           (all_append (Lies form new height) place.parts (drop (suc at) shape.parts) place.lie
-              (parts_kept form old new (rest & others) moved.keeps height (drop (suc at) shape.parts) (λ n. omega arith) (all_drop (Lies form old height) shape.parts (suc at) lies.1)));
+          (parts_kept form old new (rest & others) moved.keeps height (drop (suc at) shape.parts) (λ n. omega arith) (all_drop (Lies form old height) shape.parts (suc at) lies.1)));
       moves = moves_same old new (uses height part & rest) (uses_all height place.parts & rest) (uses (suc height) shape)
           (one_at shape.page & uses_all height (take at shape.parts ++ (place.parts ++ drop (suc at) shape.parts)))
           (uses_split height shape at part e)
@@ -128,21 +128,24 @@ inner_written form old mid new height number page before others parts count at r
     let counted : length es ≡ length (map (child_of height) parts) = zip_lengths (SaysChild form) es (map (child_of height) parts) says in
     record {
       parts = (record { page = number; parts = parts }) ∷ [];
-      lie = ((
-        record {
-          after = reparts.after;
-          below = omega (arith, reparts.below, moved.keeps.no_fewer);
-          page = splices.page;
-          there = splices.replaces.there;
-          inner = record {
-            has = subst (λ n. HasRecords splices.page kind.Inner number n (entry_width form)) counted lists.has;
-            some = omega (arith, some, length-map parts (child_of height));
-            entries = subst (λ n. AllZip (SaysChild form) (records n (entry_width form) (content splices.page)) (map (child_of height) parts)) counted
-                (subst (λ rs. AllZip (SaysChild form) rs (map (child_of height) parts)) (sym lists.holds) says);
-          };
-        },
-        parts_kept form mid new (uses_all height parts & others) moved.keeps height parts (λ n. omega arith) reparts.lie,
-      ), tt);
+      lie = (
+        (
+          record {
+            after = reparts.after;
+            below = omega (arith, reparts.below, moved.keeps.no_fewer);
+            page = splices.page;
+            there = splices.replaces.there;
+            inner = record {
+              has = subst (λ n. HasRecords splices.page kind.Inner number n (entry_width form)) counted lists.has;
+              some = omega (arith, some, length-map parts (child_of height));
+              entries = subst (λ n. AllZip (SaysChild form) (records n (entry_width form) (content splices.page)) (map (child_of height) parts)) counted
+                  (subst (λ rs. AllZip (SaysChild form) rs (map (child_of height) parts)) (sym lists.holds) says);
+            };
+          },
+          parts_kept form mid new (uses_all height parts & others) moved.keeps height parts (λ n. omega arith) reparts.lie,
+        ),
+        tt,
+      );
       top = refl;
       lists = append-nil (flat_map (cells_of height) parts);
       moves = moves_same old new before (one_at number & uses_all height parts) before (uses_all (suc height) ((record { page = number; parts = parts }) ∷ [])) (λ n. refl) (λ n. omega arith)
@@ -162,13 +165,16 @@ leaf_written form old new shape at removed added lies splices some =
     (splices-lists old new shape.page kind.Leaf form.width (length shape.cells) at removed added lies.page lies.there splices) in
     record {
       parts = (record { page = shape.page; cells = cells }) ∷ [];
-      lie = (record {
-        after = lies.after;
-        below = omega (arith, lies.below, ap (λ (f : FileHeader). f.pages) splices.replaces.fields);
-        page = splices.page;
-        there = splices.replaces.there;
-        leaf = record { has = lists.has; some = some; holds = lists.holds };
-      }, tt);
+      lie = (
+        record {
+          after = lies.after;
+          below = omega (arith, lies.below, ap (λ (f : FileHeader). f.pages) splices.replaces.fields);
+          page = splices.page;
+          there = splices.replaces.there;
+          leaf = record { has = lists.has; some = some; holds = lists.holds };
+        },
+        tt,
+      );
       top = refl;
       lists = append-nil cells;
       moves = moves_same old new (one_at shape.page) (one_at shape.page) (uses 0 shape) (uses_all 0 ((record { page = shape.page; cells = cells }) ∷ [])) (λ n. refl) (λ n. omega arith)

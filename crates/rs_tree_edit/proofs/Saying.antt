@@ -77,6 +77,7 @@ pub part_said : (form : Form) (pages : PageMap) (number : ℕ) (page entry : Lis
 part_said form pages number page entry there node = record { each = at } where
   same : (top : ℕ) (other : List ℕ) → top ≡ number → pages.page top ≡ Some other → other ≡ page
   same top other is has = page_one pages number other page (subst (λ n. pages.page n ≡ Some other) is has) there
+
   at : (height : ℕ) (shape : Shape height) → IsPart form pages number height shape → SaysChild form entry (child_of height shape)
   at zero shape part =
       let leaf = subst (λ n. IsLeaf form page n shape.cells) part.top (subst (λ p. IsLeaf form p shape.page shape.cells) (same shape.page part.lies.page part.top part.lies.there) part.lies.leaf) in

@@ -11,14 +11,7 @@ use rs_records::{place, record_at};
 use rs_tree_page::Layout;
 
 /// Whether there is a record at this place that has this key from byte `from` on.
-pub fn has_key(
-    bytes: &[u8],
-    width: usize,
-    count: usize,
-    from: usize,
-    at: usize,
-    key: &[u8],
-) -> bool
+pub fn has_key(bytes: &[u8], width: usize, count: usize, from: usize, at: usize, key: &[u8]) -> bool
     requires fit { count * width ≤ length bytes.now }
     requires inside { from ≤ width }
     ensures { IsTrue result ↔ (slice_get (keys from (records count width bytes.now)) at ≡ Some key.now) }

@@ -1,0 +1,9 @@
+pub mod Ascending
+pub mod Cells
+pub mod Halves
+pub mod Halving
+pub mod Here
+pub mod Levels
+pub mod Rooting
+pub mod Tops
+pub mod Under

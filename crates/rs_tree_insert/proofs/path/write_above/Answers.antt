@@ -1,0 +1,45 @@
+-- The entries first, then the page above.
+use Rattle.std.proofs.Common.{◌≡◌, ◌⊎◌, ◌*◌, inr, ap, ◌∙◌, arith}
+use Rattle.rs_page.specs.declared.header.PageKind.TheVariants as kind
+use Rattle.rs_records.specs.Records.{records}
+use Rattle.rs_tree.specs.Form.{Form, form_of}
+use Rattle.rs_tree_page.specs.Layouts.{entry_bytes}
+use Rattle.rs_tree_search.proofs.Entering.{records_fit}
+use Rattle.rs_tree_edit.proofs.Working.{works_then}
+use Rattle.rs_tree_insert.specs.Inserting.{HasNoTops, tops}
+use Rattle.rs_tree_insert.specs.Writing.{IsBroken}
+use Rattle.rs_tree_insert.proofs.Halves.{if_ok}
+use Rattle.rs_tree_insert.proofs.Tops.{broken_before, puts_entries}
+use Rattle.rs_tree_insert.proofs.path.write_above.Goals as goal
+
+pub put_records-requires-clause-fit : goal.put_records-requires-clause-fit
+put_records-requires-clause-fit g c =
+    let same : c.args.count * c.entry_width-width.result ≡ c.args.count * entry_bytes c.args.layout = ap (λ w. c.args.count * w) c.entry_width-width.ensures.width in
+    omega (arith, same, records_fit c.args.page.now.bytes kind.Inner c.args.number c.args.count (entry_bytes c.args.layout) c.requires.node.0)
+
+pub returns-clause-works : goal.returns-clause-works
+returns-clause-works g c =
+    let form : Form = form_of g.S.Summary.says g.S.Summary.unit g.S.Summary.join g.S.Summary.of c.args.layout.summary c.args.layout.width in
+    let old = (g.P.Pages.store c.args.pages.now).map in
+    let mid = (g.P.Pages.store c.write_entries.new.pages).map in
+    works_then (g.P.Pages.is_tied c.args.pages.now → HasNoTops form old (tops c.args.below c.args.put))
+    (g.P.Pages.is_tied c.args.pages.now → HasNoTops form old (tops c.args.below c.args.put) ⊎ IsBroken old c.args.number)
+    (g.P.Pages.is_tied c.write_entries.new.pages → IsBroken mid c.args.number)
+    c.in_ok-more.more c.put_records.result (g.P.Pages.store c.args.pages.now) (g.P.Pages.store c.write_entries.new.pages) (g.P.Pages.store c.put_records.new.pages)
+    (λ broken tied. inr (broken_before old mid c.args.number (c.in_ok-more.ensures.rests.rests.keeps.pages tied)
+    (broken (g.met.P.Pages.keeps_tied c.args.pages.now c.write_entries.new.pages c.in_ok-more.ensures.rests.below tied))))
+    c.in_ok-more.ensures.works c.put_records.ensures.works
+
+pub returns-clause-above : goal.returns-clause-above
+returns-clause-above g c = λ tied there.
+    let mid = (g.P.Pages.store c.write_entries.new.pages).map in
+    let same = c.in_ok-more.ensures.rests.rests.keeps.pages tied in
+    let later = g.met.P.Pages.keeps_tied c.args.pages.now c.write_entries.new.pages c.in_ok-more.ensures.rests.below tied in
+    if_ok c.put_records.result (c.put_records.ensures.puts later (same.pages c.args.number ∙ there)) (λ answer puts. record {
+      mid = mid;
+      same = same;
+      entries = records c.in_ok-more.more (entry_bytes c.args.layout) c.write_entries.new.entries;
+      says = c.in_ok-more.ensures.says tied;
+      puts = puts_entries mid (g.P.Pages.store c.put_records.new.pages).map c.args.number c.args.page.now.bytes c.entry_width-width.result (entry_bytes c.args.layout) c.args.count c.args.at c.in_ok-more.more
+          c.write_entries.new.entries answer c.entry_width-width.ensures.width puts;
+    })

@@ -1,0 +1,11 @@
+//! What became of a cell below a page.
+
+use rs_page::PageNumber;
+
+/// The cell was there; or it was put there; or it was, and this page was split off.
+#[derive(Clone, Copy)]
+pub enum Put {
+    Found,
+    Placed,
+    Split(PageNumber),
+}

@@ -1,0 +1,50 @@
+//! The entries of a page below, and of the one that was split off it.
+
+ghost use Rattle.std.specs.Prelude.{◌≡◌, ◌≤◌, ◌*◌, IfOk, length};
+ghost use Rattle.rs_owners.specs.Changes.{WorksAfter};
+ghost use Rattle.rs_pages.specs.Lending.{RestsAfter};
+ghost use Rattle.rs_records.specs.Records.{records};
+ghost use Rattle.rs_tree.specs.Form.{form_of};
+ghost use Rattle.rs_tree_page.specs.Layouts.{entry_bytes};
+ghost use Rattle.rs_tree_insert.specs.Inserting.{HasNoTops, SaysTops, tops};
+
+use crate::answer::Put;
+use rs_measure::Refusal;
+use rs_page::PageNumber;
+use rs_pages::Pages;
+use rs_tree::Summary;
+use rs_tree_edit::write_entry_of;
+use rs_tree_page::Layout;
+
+/// The bytes of two entries at the most.
+pub const TWO_ENTRIES: usize = 2 * 1360;
+
+/// Writes the entry of a page, and that of the page that was split off it, and answers how many there are.
+pub fn write_entries<P: Pages, S: Summary>(
+    pages: &mut P,
+    layout: Layout,
+    first: PageNumber,
+    put: Put,
+    entries: &mut [u8],
+) -> Result<usize, Refusal>
+    requires room { length entries.old ≡ TWO_ENTRIES }
+    requires summary { layout.summary ≡ S.WIDTH }
+    ensures rests { RestsAfter P.is_tied P.store P.keeps result pages.old pages.new }
+    ensures works { WorksAfter (P.is_tied pages.old
+        → HasNoTops (form_of S.says S.unit S.join S.of layout.summary layout.width) (P.store pages.old).map (tops first put))
+        result (P.store pages.old) (P.store pages.new) }
+    ensures count { IfOk result (λ more. more ≡ length (tops first put)) }
+    ensures says { P.is_tied pages.old → IfOk result (λ more.
+        SaysTops (form_of S.says S.unit S.join S.of layout.summary layout.width) (P.store pages.old).map (tops first put)
+        (records more (entry_bytes layout) entries.new)) }
+{
+    let width = layout.entry_width();
+    write_entry_of::<P, S>(pages, layout, first, &mut entries[..width])?;
+    match put {
+        Put::Split(other) => {
+            write_entry_of::<P, S>(pages, layout, other, &mut entries[width..2 * width])?;
+            Ok(2)
+        }
+        _ => Ok(1),
+    }
+}

@@ -1,0 +1,101 @@
+//! A cell put into a whole tree, from its root.
+
+ghost use Rattle.std.specs.Prelude.{◌≡◌, ◌↔◌, ℕ, true, false, List, Contains, IsTrue, IfOk, length};
+ghost use Rattle.rs_owners.specs.Changes.{WorksAfter};
+ghost use Rattle.rs_pages.specs.PageMap.{SamePages};
+ghost use Rattle.rs_tree.specs.Calls.{Changes, IsNotShared};
+ghost use Rattle.rs_tree.specs.Cells.{with_cell};
+ghost use Rattle.rs_tree.specs.Form.{form_of};
+ghost use Rattle.rs_tree.specs.Tree.{IsTree};
+ghost use Rattle.rs_tree_insert.specs.Inserting.{AddsAbove, HasNoTops, tops};
+ghost use Rattle.rs_tree_insert.specs.declared.answer.Put.TheVariants as put;
+ghost use Rattle.rs_tree_edit.specs.Editing.{AddsPage, HasNoFreeList};
+ghost use Rattle.std.specs.Prelude.{◌⊎◌};
+
+use crate::answer::Put;
+use crate::entries::{TWO_ENTRIES, write_entries};
+use crate::path::insert_below;
+use rs_measure::Refusal;
+use rs_page::{ContentKind, PageNumber};
+use rs_pages::Pages;
+use rs_tree::Summary;
+use rs_tree_edit::add_page;
+use rs_tree_page::Layout;
+use rs_tree_search::LEVELS;
+
+/// What became of a tree: its root, and whether the cell was not there before.
+#[derive(Clone, Copy)]
+pub struct Inserted {
+    pub root: PageNumber,
+    pub new: bool,
+}
+
+/// Puts a cell into the tree with this root (0: the empty one). Where the cell was there already nothing changes. It is
+/// refused with 90, with 91, with 92 where the file is full, and with 94 only where no tree stands there whose pages are its
+/// own; some pages may have been changed then.
+pub fn insert<P: Pages, S: Summary>(
+    pages: &mut P,
+    layout: Layout,
+    root: PageNumber,
+    cell: &[u8],
+) -> Result<Inserted, Refusal>
+    requires begun { (P.store pages.old).is_begun ≡ true }
+    requires summary { layout.summary ≡ S.WIDTH }
+    requires width { length cell.now ≡ layout.width }
+    ensures keeps { P.keeps pages.old pages.new }
+    ensures works { WorksAfter (P.is_tied pages.old
+        → IsNotShared (form_of S.says S.unit S.join S.of layout.summary layout.width) (P.store pages.old).map root)
+        result (P.store pages.old) (P.store pages.new) }
+    ensures inserted { P.is_tied pages.old → IfOk result (λ answer.
+        Changes (form_of S.says S.unit S.join S.of layout.summary layout.width) (P.store pages.old).map (P.store pages.new).map
+        root answer.root (with_cell cell.now)) }
+    ensures found { P.is_tied pages.old → IfOk result (λ answer. (cells : List (List ℕ)) (used : ℕ → ℕ)
+        → IsTree (form_of S.says S.unit S.join S.of layout.summary layout.width) (P.store pages.old).map root cells used
+        → (IsTrue answer.new ↔ (Contains cells cell.now → ⊥))) }
+    ensures rests { P.is_tied pages.old → IfOk result (λ answer. answer.new ≡ false
+        → SamePages (P.store pages.new).map (P.store pages.old).map) }
+{
+    if root.number() == 0 {
+        let root = add_page(pages, ContentKind::Leaf, layout.width, 1, cell)?;
+        return Ok(Inserted { root, new: true });
+    }
+    let _count = pages.count();
+    match insert_below::<P, S>(pages, layout, root, LEVELS, cell)? {
+        Put::Found => Ok(Inserted { root, new: false }),
+        Put::Placed => Ok(Inserted { root, new: true }),
+        Put::Split(other) => {
+            let root = add_root::<P, S>(pages, layout, root, other)?;
+            Ok(Inserted { root, new: true })
+        }
+    }
+}
+
+/// Brings an inner page into use above two pages.
+fn add_root<P: Pages, S: Summary>(
+    pages: &mut P,
+    layout: Layout,
+    first: PageNumber,
+    second: PageNumber,
+) -> Result<PageNumber, Refusal>
+    requires begun { (P.store pages.old).is_begun ≡ true }
+    requires summary { layout.summary ≡ S.WIDTH }
+    ensures keeps { P.keeps pages.old pages.new }
+    ensures works { WorksAfter (P.is_tied pages.old
+        → HasNoTops (form_of S.says S.unit S.join S.of layout.summary layout.width) (P.store pages.old).map
+        (tops first (put.Split second)) ⊎ HasNoFreeList (P.store pages.old).map)
+        result (P.store pages.old) (P.store pages.new) }
+    ensures above { P.is_tied pages.old → IfOk result (λ root.
+        AddsAbove (form_of S.says S.unit S.join S.of layout.summary layout.width) (P.store pages.old).map
+        (P.store pages.new).map root (tops first (put.Split second))) }
+{
+    let mut entries = [0; TWO_ENTRIES];
+    let width = layout.entry_width();
+    let more = write_entries::<P, S>(pages, layout, first, Put::Split(second), &mut entries)?;
+    add_page(
+        pages,
+        ContentKind::Inner,
+        width,
+        more,
+        &entries[..more * width],
+    )
+}
