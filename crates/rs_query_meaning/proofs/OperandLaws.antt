@@ -10,10 +10,14 @@ use Rattle.rs_syntax.specs.declared.written.WrittenAtom.{WrittenAtom}
 use Rattle.rs_syntax.specs.declared.written.WrittenQuery.{WrittenQuery}
 use Rattle.rs_syntax.specs.declared.written.WrittenQuery.TheVariants as queries
 use Rattle.rs_syntax.specs.declared.written.WrittenWindow.{WrittenWindow}
-use Rattle.rs_syntax.specs.Written.{Lexeme, mark, told, operator_lexemes, pair_kind, window_lexemes, bracketed_names_lexemes, condition_lexemes, query_lexemes, AreToldOf}
+use Rattle.rs_measure.specs.declared.refusal.Refusal.{Refusal}
+use Rattle.rs_syntax.specs.Tree.{QueryTree}
+use Rattle.rs_syntax.specs.Written.{Lexeme, mark, told, operator_lexemes, pair_kind, window_lexemes, bracketed_names_lexemes, condition_lexemes, query_lexemes, QuerySyntax, written_where, written_dissolve, written_rename, written_pair, written_window, SaysQuery, AreToldOf}
 use Rattle.rs_syntax.specs.WrittenView.{condition_syntax, query_syntax}
 use Rattle.rs_syntax.proofs.ChainLaws.{where_written, dissolve_written, rename_written, pair_written, window_written}
 use Rattle.rs_syntax.proofs.ToldLaws.{AreToldOf-append}
+use Rattle.rs_query_meaning.specs.Saying.{NothingSaid}
+use Rattle.rs_query_meaning.proofs.SayingLaws.{nothing-said}
 
 -- an operator's word, and in brackets its operand and what is after the comma
 pub record IsOperator (lexemes : List Lexeme) (kind : TokenKind) (operand others : List Lexeme) : Type 0 where
@@ -83,3 +87,32 @@ module _ (query : WrittenQuery) (operand : Box WrittenQuery Global) (inside : Wr
         ∙ ap (λ q. operator_lexemes (pair_kind operator) (query_lexemes (query_syntax q)) (query_lexemes (query_syntax second.value))) (sym same)
         ∙ ap (λ q. operator_lexemes (pair_kind operator) (query_lexemes (query_syntax inside)) (query_lexemes (query_syntax q))) (sym also);
   }
+
+-- How a query of each variant is written, its operand given by its value.
+module _ (query : WrittenQuery) (operand : Box WrittenQuery Global) (inside : WrittenQuery) (same : inside ≡ operand.value) where
+  pub where-is : (wanted : Vec (Vec WrittenAtom Global) Global) (items : List (Vec WrittenAtom Global)) → query ≡ queries.Where operand wanted → items ≡ wanted.items
+      → query_syntax query ≡ written_where (query_syntax inside) (condition_syntax items)
+  where-is wanted items is also =
+      ap query_syntax is ∙ where_written operand wanted ∙ ap (λ q. written_where (query_syntax q) (condition_syntax wanted.items)) (sym same)
+      ∙ ap (λ ws. written_where (query_syntax inside) (condition_syntax ws)) (sym also)
+
+  pub dissolve-is : (names : Vec Token Global) → query ≡ queries.Dissolve operand names → query_syntax query ≡ written_dissolve (query_syntax inside) names.items
+  dissolve-is names is = ap query_syntax is ∙ dissolve_written operand names ∙ ap (λ q. written_dissolve (query_syntax q) names.items) (sym same)
+
+  pub rename-is : (from to : Token) → query ≡ queries.Rename operand from to → query_syntax query ≡ written_rename (query_syntax inside) from to
+  rename-is from to is = ap query_syntax is ∙ rename_written operand from to ∙ ap (λ q. written_rename (query_syntax q) from to) (sym same)
+
+  pub window-is : (window : WrittenWindow) → query ≡ queries.Window operand window → query_syntax query ≡ written_window (query_syntax inside) window
+  window-is window is = ap query_syntax is ∙ window_written operand window ∙ ap (λ q. written_window (query_syntax q) window) (sym same)
+
+  pub pair-is : (operator : PairOperator) (second : Box WrittenQuery Global) (other : WrittenQuery) → query ≡ queries.Pair operator operand second → other ≡ second.value
+      → query_syntax query ≡ written_pair operator (query_syntax inside) (query_syntax other)
+  pair-is operator second other is also =
+      ap query_syntax is ∙ pair_written operator operand second ∙ ap (λ q. written_pair operator (query_syntax q) (query_syntax second.value)) (sym same)
+      ∙ ap (λ q. written_pair operator (query_syntax inside) (query_syntax q)) (sym also)
+
+-- where nothing is said of a part, nothing is said of a query written with it
+pub query-none : {A : Type 0} (part : A → Type 0) (line : List ℕ) (query : WrittenQuery) (syntax : QuerySyntax) (refusal : Refusal) → query_syntax query ≡ syntax
+    → ((tree : QueryTree) → SaysQuery line syntax tree → (a : A) × part a) → NothingSaid part refusal → NothingSaid (SaysQuery line (query_syntax query)) refusal
+query-none part line query syntax refusal is inside none =
+    nothing-said part (SaysQuery line (query_syntax query)) refusal (λ tree says. inside tree (subst (λ s. SaysQuery line s tree) is says)) none

@@ -1,3 +1,4 @@
 pub mod Steps
 mod ConditionSteps
 mod QuerySteps
+mod FrontLaws

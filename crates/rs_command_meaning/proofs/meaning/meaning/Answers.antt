@@ -19,6 +19,21 @@ returns-in-Translate-clause-err c = rw c.in-Translate.is c.translation_said.ensu
 pub returns-in-Select-clause-err : goal.returns-in-Select-clause-err
 returns-in-Select-clause-err c = rw c.in-Select.is c.selection_said.ensures.err
 
+pub returns-in-MoveReferent-clause-ok : goal.returns-in-MoveReferent-clause-ok
+returns-in-MoveReferent-clause-ok c = rw c.in-MoveReferent.is c.move_said.ensures.ok
+
+pub returns-in-Insert-clause-ok : goal.returns-in-Insert-clause-ok
+returns-in-Insert-clause-ok c = rw (c.in-Insert.is, ← c.deref.ensures.value) c.event_said.ensures.ok
+
+pub returns-in-Remove-clause-ok : goal.returns-in-Remove-clause-ok
+returns-in-Remove-clause-ok c = rw c.in-Remove.is c.removal_said.ensures.ok
+
+pub returns-in-Translate-clause-ok : goal.returns-in-Translate-clause-ok
+returns-in-Translate-clause-ok c = rw c.in-Translate.is c.translation_said.ensures.ok
+
+pub returns-in-Select-clause-ok : goal.returns-in-Select-clause-ok
+returns-in-Select-clause-ok c = rw c.in-Select.is c.selection_said.ensures.ok
+
 pub definition_said-requires-clause-defines : goal.definition_said-requires-clause-defines
 definition_said-requires-clause-defines c =
     let no = c.in_default in

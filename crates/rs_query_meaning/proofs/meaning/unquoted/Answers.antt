@@ -1,4 +1,5 @@
 use Rattle.std.proofs.Common.{◌≡◌, ◌++◌, string_bytes, false, sym, ap, ◌∙◌, subst, arith}
+use Rattle.std.proofs.lemmas.Grind.{common_steps}
 use Rattle.std.proofs.lemmas.Str.{lead_after_ascii}
 use Rattle.std.specs.Char.{encode_utf8}
 use Rattle.std.specs.Str.Iter.{chars_rest}
@@ -14,6 +15,9 @@ pub range_from-rest-requires : goal.range_from-rest-requires
 range_from-rest-requires c = λ _.
     let first = first_is_ascii c.args.quoted.now kinds.Quoted c.requires in
     (omega (arith, first.0), λ lt. lead_after_ascii c.args.quoted.now 0 c.utf8.quoted first.1 lt)
+
+pub loop-character-preserved-then-not-is_behind_quote : goal.loop-character-preserved-then-not-is_behind_quote
+loop-character-preserved-then-not-is_behind_quote c = grind (arith, common_steps)
 
 pub loop-character-preserved : goal.loop-character-preserved
 loop-character-preserved c =

@@ -252,3 +252,51 @@ query-returns-in_err-name-clause-runs t c =
 
 pub query-returns-clause-runs : goal.query-returns-clause-runs
 query-returns-clause-runs t c = skips c.in_default.ensures.found (skips c.in_default-mark.ensures.found (skips c.in_default-mark-2.ensures.found (skips c.in_default-mark-3.ensures.found (skips c.in_default-mark-4.ensures.found (skips c.in_default-mark-5.ensures.found (skips c.in_default-mark-6.ensures.found (skips c.in_default-mark-7.ensures.found (takes_as c.in_ok-name.ensures.found (is_done)))))))))
+
+pub query-returns-in-Some-clause-spelled : goal.query-returns-in-Some-clause-spelled
+query-returns-in-Some-clause-spelled t c = rw c.in-Some.ensures.spelled c.where_query.ensures.spelled
+
+pub query-returns-in-Some-clause-shorter : goal.query-returns-in-Some-clause-shorter
+query-returns-in-Some-clause-shorter t c = shorter-after c.args.tokens.now c.in-Some.rest.now c.where_query.result c.in-Some.ensures.shorter c.where_query.ensures.shorter
+
+pub query-returns-in-Some-mark-clause-spelled : goal.query-returns-in-Some-mark-clause-spelled
+query-returns-in-Some-mark-clause-spelled t c = rw c.in-Some-mark.ensures.spelled c.dissolve_query.ensures.spelled
+
+pub query-returns-in-Some-mark-clause-shorter : goal.query-returns-in-Some-mark-clause-shorter
+query-returns-in-Some-mark-clause-shorter t c = shorter-after c.args.tokens.now c.in-Some-mark.rest.now c.dissolve_query.result c.in-Some-mark.ensures.shorter c.dissolve_query.ensures.shorter
+
+pub query-returns-in-Some-mark-2-clause-spelled : goal.query-returns-in-Some-mark-2-clause-spelled
+query-returns-in-Some-mark-2-clause-spelled t c = rw c.in-Some-mark-2.ensures.spelled c.rename_query.ensures.spelled
+
+pub query-returns-in-Some-mark-2-clause-shorter : goal.query-returns-in-Some-mark-2-clause-shorter
+query-returns-in-Some-mark-2-clause-shorter t c = shorter-after c.args.tokens.now c.in-Some-mark-2.rest.now c.rename_query.result c.in-Some-mark-2.ensures.shorter c.rename_query.ensures.shorter
+
+pub query-returns-in-Some-mark-3-clause-spelled : goal.query-returns-in-Some-mark-3-clause-spelled
+query-returns-in-Some-mark-3-clause-spelled t c = rw c.in-Some-mark-3.ensures.spelled c.pair_query.ensures.spelled
+
+pub query-returns-in-Some-mark-3-clause-shorter : goal.query-returns-in-Some-mark-3-clause-shorter
+query-returns-in-Some-mark-3-clause-shorter t c = shorter-after c.args.tokens.now c.in-Some-mark-3.rest.now c.pair_query.result c.in-Some-mark-3.ensures.shorter c.pair_query.ensures.shorter
+
+pub query-returns-in-Some-mark-4-clause-spelled : goal.query-returns-in-Some-mark-4-clause-spelled
+query-returns-in-Some-mark-4-clause-spelled t c = rw c.in-Some-mark-4.ensures.spelled c.pair_query-in-Some-mark-4.ensures.spelled
+
+pub query-returns-in-Some-mark-4-clause-shorter : goal.query-returns-in-Some-mark-4-clause-shorter
+query-returns-in-Some-mark-4-clause-shorter t c = shorter-after c.args.tokens.now c.in-Some-mark-4.rest.now c.pair_query-in-Some-mark-4.result c.in-Some-mark-4.ensures.shorter c.pair_query-in-Some-mark-4.ensures.shorter
+
+pub query-returns-in-Some-mark-5-clause-spelled : goal.query-returns-in-Some-mark-5-clause-spelled
+query-returns-in-Some-mark-5-clause-spelled t c = rw c.in-Some-mark-5.ensures.spelled c.pair_query-in-Some-mark-5.ensures.spelled
+
+pub query-returns-in-Some-mark-5-clause-shorter : goal.query-returns-in-Some-mark-5-clause-shorter
+query-returns-in-Some-mark-5-clause-shorter t c = shorter-after c.args.tokens.now c.in-Some-mark-5.rest.now c.pair_query-in-Some-mark-5.result c.in-Some-mark-5.ensures.shorter c.pair_query-in-Some-mark-5.ensures.shorter
+
+pub query-returns-in-Some-mark-6-clause-spelled : goal.query-returns-in-Some-mark-6-clause-spelled
+query-returns-in-Some-mark-6-clause-spelled t c = rw c.in-Some-mark-6.ensures.spelled c.pair_query-in-Some-mark-6.ensures.spelled
+
+pub query-returns-in-Some-mark-6-clause-shorter : goal.query-returns-in-Some-mark-6-clause-shorter
+query-returns-in-Some-mark-6-clause-shorter t c = shorter-after c.args.tokens.now c.in-Some-mark-6.rest.now c.pair_query-in-Some-mark-6.result c.in-Some-mark-6.ensures.shorter c.pair_query-in-Some-mark-6.ensures.shorter
+
+pub query-returns-in-Some-mark-7-clause-spelled : goal.query-returns-in-Some-mark-7-clause-spelled
+query-returns-in-Some-mark-7-clause-spelled t c = rw c.in-Some-mark-7.ensures.spelled c.window_query.ensures.spelled
+
+pub query-returns-in-Some-mark-7-clause-shorter : goal.query-returns-in-Some-mark-7-clause-shorter
+query-returns-in-Some-mark-7-clause-shorter t c = shorter-after c.args.tokens.now c.in-Some-mark-7.rest.now c.window_query.result c.in-Some-mark-7.ensures.shorter c.window_query.ensures.shorter
