@@ -4,6 +4,7 @@
 #![tactic(auto)]
 
 pub mod greatest_end;
+pub mod laws;
 pub mod search;
 
 pub use greatest_end::GreatestEnd;

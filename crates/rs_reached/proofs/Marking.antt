@@ -87,7 +87,8 @@ pub each_once : (count : ℕ) (marks : List Bool) (used : ℕ → ℕ)
 each_once count marks used is none n =
     (λ inside. omega (arith, is n, all_taken marks none n, none_taken count n inside), λ past. omega (arith, is n, all_taken marks none n, past_taken count n past))
 
-taken-le : (marks : List Bool) (n : ℕ) → taken marks n ≤ 1
+-- once at the most
+pub taken-le : (marks : List Bool) (n : ℕ) → taken marks n ≤ 1
 unfolding taken
 taken-le marks n = by (get_or marks n true) where
   by : (b : Bool) → cond b 1 0 ≤ 1

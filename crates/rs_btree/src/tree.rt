@@ -1,0 +1,189 @@
+//! A tree of cells of one width, with summaries of them in its inner pages.
+//!
+//! The calls that only read leave all pages as they are.
+
+ghost use Rattle.std.specs.Prelude.{◌≡◌, ◌⊎◌, ◌↔◌, ◌<◌, ◌≤◌, ◌+◌, ◌*◌, ℕ, Bool, IsTrue, Contains, List, [], IfOk, IfErr, OnOk, OnErr, Err, true, false, length};
+ghost use Rattle.std.specs.Fn.{FnReturnsAt};
+ghost use Rattle.rs_owners.specs.Changes.{WorksAfter};
+ghost use Rattle.rs_owners.specs.Counts.{no_pages};
+ghost use Rattle.rs_pages.specs.Lending.{RestsAfter};
+ghost use Rattle.rs_pages.specs.PageMap.{PageMap, SamePages};
+ghost use Rattle.rs_reached.specs.Marks.{taken};
+ghost use Rattle.rs_records.specs.Listed.{listed, record_width};
+ghost use Rattle.rs_tree.specs.Calls.{AcceptsParts, Changes, Finds, IsNotShared, RefusesToRead};
+ghost use Rattle.rs_tree.specs.Cells.{cells_within, with_cell};
+ghost use Rattle.rs_tree.specs.Form.{form_of};
+ghost use Rattle.rs_tree.specs.Tree.{IsTree};
+ghost use Rattle.rs_tree_check.specs.Validating.{Validates, HasNoFreshTree};
+ghost use Rattle.rs_tree_search.specs.Asking.{Computes};
+ghost use Rattle.rs_btree.specs.Rooted.{Rooted};
+
+use rs_measure::Refusal;
+use rs_page::PageNumber;
+use rs_pages::Pages;
+use rs_reached::Reached;
+use rs_records::Cells;
+use rs_tree::Summary;
+use rs_tree_check::validate;
+use rs_tree_clear::clear;
+use rs_tree_insert::insert;
+use rs_tree_page::Layout;
+use rs_tree_search::{descend, range};
+use std::alloc::Global;
+use std::marker::{Model, PhantomData};
+
+/// A tree of cells of one width, whose inner pages keep summaries of the cells below them.
+#[derive(Drop)]
+pub struct Tree<S: Summary> {
+    layout: Layout,
+    root: PageNumber,
+    summaries: PhantomData<S>,
+}
+
+impl<S: Summary> Model for Tree<S> {
+    ghost Value = { Rooted };
+
+    ghost view = { λ tree. record { width = tree.layout.width; root = tree.root } };
+
+    ghost invariant = { λ tree. tree.layout.summary ≡ S.WIDTH };
+}
+
+impl<S: Summary> Tree<S> {
+    /// The empty tree of cells of this width. Three entries of an inner page fit it at least.
+    pub fn new(width: usize) -> Tree<S>
+        requires some { 0 < width }
+        requires fits { 3 * (4 + S.WIDTH + width) ≤ 4080 }
+        ensures width { result.width ≡ width }
+        ensures empty { (pages : PageMap)
+            → IsTree (form_of S.says S.unit S.join S.of S.WIDTH width) pages result.root [] no_pages }
+    {
+        Tree::at(width, PageNumber::new(0))
+    }
+
+    /// The tree of cells of this width with this root.
+    pub fn at(width: usize, root: PageNumber) -> Tree<S>
+        requires some { 0 < width }
+        requires fits { 3 * (4 + S.WIDTH + width) ≤ 4080 }
+        ensures width { result.width ≡ width }
+        ensures root { result.root ≡ root }
+    {
+        Tree {
+            layout: Layout::new(width, S::WIDTH),
+            root,
+            summaries: PhantomData,
+        }
+    }
+
+    /// The page at the top; 0: the tree is empty.
+    pub fn root(&self) -> PageNumber
+        ensures { result ≡ self.now.root }
+    {
+        self.root
+    }
+
+    /// The cells from `low` on, below `high`. It is refused with 90, with 91, and with 94 only where no tree stands there.
+    pub fn range<P: Pages>(
+        &self,
+        alloc: Global,
+        pages: &mut P,
+        low: &[u8],
+        high: &[u8],
+    ) -> Result<Cells, Refusal>
+        ensures rests { RestsAfter P.is_tied P.store P.keeps result pages.old pages.new }
+        ensures width { IfOk result (λ found. record_width found ≡ self.now.width) }
+        ensures found { P.is_tied pages.old → IfOk result (λ found. (cells : List (List ℕ)) (used : ℕ → ℕ)
+            → IsTree (form_of S.says S.unit S.join S.of S.WIDTH self.now.width) (P.store pages.old).map self.now.root cells used
+            → listed found ≡ cells_within low.now high.now cells) }
+        ensures refused { IfErr result (λ why. RefusesToRead (P.is_tied pages.old)
+            (form_of S.says S.unit S.join S.of S.WIDTH self.now.width) self.now.root why
+            (P.store pages.old) (P.store pages.new)) }
+    {
+        range::<P, S>(alloc, pages, self.layout, self.root, low, high)
+    }
+
+    /// The cells of `range` whose own summary `keep` accepts, and how many pages were read: two for each level of the tree
+    /// and as many more for each cell at the most, where `keep` accepts a join exactly where it accepts one of its parts.
+    /// It is refused as `range` is.
+    pub fn descend<P: Pages, F: Fn(&S) -> bool>(
+        &self,
+        alloc: Global,
+        pages: &mut P,
+        low: &[u8],
+        high: &[u8],
+        keep: &F,
+    ) -> Result<(Cells, u32), Refusal>
+        requires callable { F.IsAlwaysCallable keep.now }
+        ensures rests { RestsAfter P.is_tied P.store P.keeps result pages.old pages.new }
+        ensures width { IfOk result (λ found. record_width found.0 ≡ self.now.width) }
+        ensures found { P.is_tied pages.old → (test : S → Bool) → Computes (FnReturnsAt F.Fn keep.now) test
+            → AcceptsParts S.join test → IfOk result (λ found. Finds
+            (form_of S.says S.unit S.join S.of S.WIDTH self.now.width) (P.store pages.old).map self.now.root
+            low.now high.now (λ cell. test (S.of cell)) (listed found.0) found.1) }
+        ensures refused { IfErr result (λ why. RefusesToRead (P.is_tied pages.old)
+            (form_of S.says S.unit S.join S.of S.WIDTH self.now.width) self.now.root why
+            (P.store pages.old) (P.store pages.new)) }
+    {
+        descend::<P, S, F>(alloc, pages, self.layout, self.root, low, high, keep)
+    }
+
+    /// Marks the tree's pages. Ok exactly where a well formed tree stands there none of whose pages was reached before; 94
+    /// where none does; 91 where a page couldn't be read. What is marked after a refusal is open.
+    pub fn validate<P: Pages>(&self, pages: &mut P, reached: &mut Reached) -> Result<(), Refusal>
+        ensures rests { RestsAfter P.is_tied P.store P.keeps result pages.old pages.new }
+        ensures size { length reached.new ≡ length reached.old }
+        ensures validates { P.is_tied pages.old → OnOk result (Validates
+            (form_of S.says S.unit S.join S.of S.WIDTH self.now.width) (P.store pages.old).map self.now.root
+            (taken reached.old) (taken reached.new)) }
+        ensures refused { IfErr result (λ why. (why ≡ Refusal.Disk) ⊎ (why ≡ Refusal.DamagedFile)) }
+        ensures damaged { P.is_tied pages.old → result ≡ Err Refusal.DamagedFile → HasNoFreshTree
+            (form_of S.says S.unit S.join S.of S.WIDTH self.now.width) (P.store pages.old).map self.now.root
+            (taken reached.old) }
+    {
+        validate::<P, S>(pages, self.layout, self.root, reached)
+    }
+
+    /// Puts a cell into the tree, and answers whether it was not there before; where it was, nothing changes. It is refused
+    /// with 90, with 91, with 92 where the file is full, and with 94 only where no tree stands there with pages of its own; the
+    /// tree is as it was then, and the working pages are to be abandoned.
+    pub fn insert<P: Pages>(&mut self, pages: &mut P, cell: &[u8]) -> Result<bool, Refusal>
+        requires begun { (P.store pages.old).is_begun ≡ true }
+        requires cell { length cell.now ≡ self.old.width }
+        ensures keeps { P.keeps pages.old pages.new }
+        ensures works { WorksAfter (P.is_tied pages.old → IsNotShared
+            (form_of S.says S.unit S.join S.of S.WIDTH self.old.width) (P.store pages.old).map self.old.root)
+            result (P.store pages.old) (P.store pages.new) }
+        ensures inserted { P.is_tied pages.old → OnOk result (Changes
+            (form_of S.says S.unit S.join S.of S.WIDTH self.old.width) (P.store pages.old).map (P.store pages.new).map
+            self.old.root self.new.root (with_cell cell.now)) }
+        ensures found { P.is_tied pages.old → IfOk result (λ new. (cells : List (List ℕ)) (used : ℕ → ℕ)
+            → IsTree (form_of S.says S.unit S.join S.of S.WIDTH self.old.width) (P.store pages.old).map self.old.root cells used
+            → (IsTrue new ↔ (Contains cells cell.now → ⊥))) }
+        ensures rests { P.is_tied pages.old → IfOk result (λ new. new ≡ false
+            → SamePages (P.store pages.new).map (P.store pages.old).map) }
+        ensures width { self.new.width ≡ self.old.width }
+        ensures stays { OnErr result (self.new ≡ self.old) }
+    {
+        let inserted = insert::<P, S>(pages, self.layout, self.root, cell)?;
+        self.root = inserted.root;
+        Ok(inserted.new)
+    }
+
+    /// Frees all pages of the tree, which is the empty one then. It is refused with 90, with 91, and with 94 only where no
+    /// tree stands there with pages of its own; the tree is as it was then, and the working pages are to be abandoned.
+    pub fn clear<P: Pages>(&mut self, pages: &mut P) -> Result<(), Refusal>
+        requires begun { (P.store pages.old).is_begun ≡ true }
+        ensures keeps { P.keeps pages.old pages.new }
+        ensures works { WorksAfter (P.is_tied pages.old → IsNotShared
+            (form_of S.says S.unit S.join S.of S.WIDTH self.old.width) (P.store pages.old).map self.old.root)
+            result (P.store pages.old) (P.store pages.new) }
+        ensures cleared { P.is_tied pages.old → OnOk result (Changes
+            (form_of S.says S.unit S.join S.of S.WIDTH self.old.width) (P.store pages.old).map (P.store pages.new).map
+            self.old.root self.new.root (λ _. [])) }
+        ensures width { self.new.width ≡ self.old.width }
+        ensures stays { OnErr result (self.new ≡ self.old) }
+    {
+        clear::<P, S>(pages, self.layout, self.root)?;
+        self.root = PageNumber::new(0);
+        Ok(())
+    }
+}

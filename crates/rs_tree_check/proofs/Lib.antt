@@ -1,0 +1,6 @@
+pub mod Entries
+pub mod Fresh
+pub mod Joins
+pub mod Orders
+pub mod Reaching
+pub mod Uniques

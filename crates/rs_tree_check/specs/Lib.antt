@@ -1,0 +1,4 @@
+pub mod Bounds
+pub mod Checking
+pub mod Entering
+pub mod Validating
