@@ -1,12 +1,11 @@
 use Rattle.std.proofs.Common.{◌≡◌, ◌++◌, string_bytes, false, sym, ap, ◌∙◌, subst, arith}
-use Rattle.std.proofs.lemmas.Grind.{common_steps}
 use Rattle.std.proofs.lemmas.Str.{lead_after_ascii}
 use Rattle.std.specs.Char.{encode_utf8}
 use Rattle.std.specs.Str.Iter.{chars_rest}
 use Rattle.rs_grammar.specs.declared.kind.TokenKind.TheVariants as kinds
 use Rattle.rs_syntax.specs.Written.{unquoted, unquoted_rest}
 use Rattle.rs_lexer.proofs.TokenLaws.{first_is_ascii}
-use Rattle.rs_syntax.proofs.UnquotedLaws.{unquoted-behind, unquoted-other}
+use Rattle.rs_syntax.proofs.UnquotedLaws.{unquoted-behind, unquoted-other, unquoted-quote}
 use Rattle.rs_query_meaning.proofs.MeaningLaws.{unquoted_more}
 use Rattle.rs_query_meaning.proofs.meaning.unquoted.Goals as goal
 use Rattle.rs_query_meaning.proofs.meaning.unquoted.Goals.{else-character-eq39-via-then-character-eq39+else-not-is_behind_quote, else-character-eq39-via-else-character-eq39}
@@ -17,7 +16,12 @@ range_from-rest-requires c = λ _.
     (omega (arith, first.0), λ lt. lead_after_ascii c.args.quoted.now 0 c.utf8.quoted first.1 lt)
 
 pub loop-character-preserved-then-not-is_behind_quote : goal.loop-character-preserved-then-not-is_behind_quote
-loop-character-preserved-then-not-is_behind_quote c = grind (arith, common_steps)
+loop-character-preserved-then-not-is_behind_quote c =
+    let rest = chars_rest c.next.new.self in
+    let quote = sym (unquoted-quote c.in-Some.character rest c.if-character-eq39.true) in
+    let front = ap (λ b. unquoted_rest b (encode_utf8 c.in-Some.character ++ rest)) (sym c.if-not-is_behind_quote.true) in
+    let next = ap (unquoted_rest c.loop-character.is_behind_quote) (sym c.in-Some.ensures.steps.0) in
+    ap (λ bs. string_bytes c.loop-character.text ++ bs) (quote ∙ front ∙ next) ∙ c.loop-character.invariant
 
 pub loop-character-preserved : goal.loop-character-preserved
 loop-character-preserved c =
