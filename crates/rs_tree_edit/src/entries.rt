@@ -1,6 +1,6 @@
 //! Entries of inner pages, written anew from the pages that they say.
 
-ghost use Rattle.std.specs.Prelude.{◌≡◌, ◌≤◌, ◌*◌, OnOk, length, drop, slice_get, Some};
+ghost use Rattle.std.specs.Prelude.{◌≡◌, OnOk, length};
 ghost use Rattle.rs_owners.specs.Changes.{WorksAfter};
 ghost use Rattle.rs_pages.specs.Lending.{RestsAfter};
 ghost use Rattle.rs_tree.specs.Form.{form_of};

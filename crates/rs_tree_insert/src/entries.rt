@@ -1,6 +1,6 @@
 //! The entries of a page below, and of the one that was split off it.
 
-ghost use Rattle.std.specs.Prelude.{◌≡◌, ◌≤◌, ◌*◌, IfOk, length};
+ghost use Rattle.std.specs.Prelude.{◌≡◌, ◌*◌, IfOk, length};
 ghost use Rattle.rs_owners.specs.Changes.{WorksAfter};
 ghost use Rattle.rs_pages.specs.Lending.{RestsAfter};
 ghost use Rattle.rs_records.specs.Records.{records};

@@ -1,6 +1,6 @@
 //! A cell put into a whole tree, from its root.
 
-ghost use Rattle.std.specs.Prelude.{◌≡◌, ◌↔◌, ℕ, true, false, List, Contains, IsTrue, IfOk, length};
+ghost use Rattle.std.specs.Prelude.{◌≡◌, ◌⊎◌, ◌↔◌, ℕ, true, false, List, Contains, IsTrue, IfOk, length};
 ghost use Rattle.rs_owners.specs.Changes.{WorksAfter};
 ghost use Rattle.rs_pages.specs.PageMap.{SamePages};
 ghost use Rattle.rs_tree.specs.Calls.{Changes, IsNotShared};
@@ -9,8 +9,7 @@ ghost use Rattle.rs_tree.specs.Form.{form_of};
 ghost use Rattle.rs_tree.specs.Tree.{IsTree};
 ghost use Rattle.rs_tree_insert.specs.Inserting.{AddsAbove, HasNoTops, tops};
 ghost use Rattle.rs_tree_insert.specs.declared.answer.Put.TheVariants as put;
-ghost use Rattle.rs_tree_edit.specs.Editing.{AddsPage, HasNoFreeList};
-ghost use Rattle.std.specs.Prelude.{◌⊎◌};
+ghost use Rattle.rs_tree_edit.specs.Editing.{HasNoFreeList};
 
 use crate::answer::Put;
 use crate::entries::{TWO_ENTRIES, write_entries};
