@@ -46,6 +46,11 @@ pub fn eval(alloc: Global, site: &Site<'_>, query: &CheckedQuery) -> Result<Vec<
     ensures { IfOk result (λ spans. AreRowsOf (world_from site.now.catalog.now (spans_on site.now.events.now))
         (query_of query.now) site.now.name.now.bytes (map seen spans.items)) }
 {
+    if let CheckedQuery::Window(_, window) = query {
+        if !is_on(*window, site.name) {
+            return Ok(Vec::new(alloc));
+        }
+    }
     let rows = rows_of(alloc, site, query)?;
     let spans = own_rows(alloc, rows)?;
     Ok(spans)
