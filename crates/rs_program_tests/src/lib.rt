@@ -1,16 +1,9 @@
-//! What no line shows: the program's words and statuses, streams that are short, that fail and that are longer than any
-//! buffer, and the refusals that no command gives yet.
+//! The program called with words and streams of a test: its status, and what it says of a fault.
 //!
-//! What lines show is in `tests/conversations`. Everything here is for the tests alone.
+//! No line shows these; the program's words and a whole session are shown by `crates/roadseg` too.
 #![tactic(auto)]
 
 #[cfg(test)]
-mod expect;
-#[cfg(test)]
 mod program_tests;
-#[cfg(test)]
-mod refusal_tests;
-#[cfg(test)]
-mod stream_tests;
 #[cfg(test)]
 mod streams;

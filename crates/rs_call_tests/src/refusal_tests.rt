@@ -1,8 +1,6 @@
 //! The numbers and words of refusals that no line is answered with, or with a column that no line has.
 
-use crate::expect::expect;
 use rs_measure::Refusal;
-use std::test::Fail;
 
 static REFUSALS: [(Refusal, u8, &str); 11] = [
     (Refusal::TotalTooLarge, 50, "total too large"),
@@ -22,15 +20,10 @@ static REFUSALS: [(Refusal, u8, &str); 11] = [
     ),
 ];
 
-fn refusals() -> &'static [(Refusal, u8, &'static str)] {
-    &REFUSALS
-}
-
 #[test]
-fn refusals_have_their_numbers_and_words(_rt: HostRuntime) -> Result<(), Fail> {
-    for (refusal, number, words) in refusals() {
-        expect(refusal.number() == *number, "the number")?;
-        expect(refusal.words().as_str() == *words, words)?;
+fn refusals_have_their_numbers_and_words(rt: HostRuntime) {
+    for (refusal, number, words) in REFUSALS {
+        assert_eq!(rt; refusal.number(), number);
+        assert_eq!(rt; refusal.words().as_str(), words);
     }
-    Ok(())
 }

@@ -2,10 +2,10 @@
 //!
 //! The replies are written by hand. Where a read or a write fails, what was answered before stays as it was.
 
-use crate::expect::expect;
 use crate::streams::{Narrow, Pieces, reader_of, writer_of};
 use rs_engine::Engine;
 use rs_protocol::{End, Fault, answer, run};
+use rs_serve::Session;
 use std::alloc::Global;
 use std::io::ErrorKind;
 use std::test::Fail;
@@ -69,9 +69,8 @@ fn pieces_of_any_size_are_answered_alike(rt: HostRuntime) -> Result<(), Fail> {
             let mut reader = reader_of(input.as_slice(), size);
             let mut writer = writer_of(rt.alloc(), size);
             let ended = run(rt.alloc(), &mut engine, &mut reader, &mut writer);
-            expect(ended == Ok(end), "the end")?;
-            let is_answered = writer.written.as_slice() == replies.as_slice();
-            expect(is_answered, "all lines are answered")?;
+            assert_eq!(rt; ended, Ok(end), "in pieces of {size}");
+            assert_eq!(rt; writer.written.as_slice(), replies.as_slice());
         }
     }
     Ok(())
@@ -90,10 +89,9 @@ fn lines_before_a_read_fault_are_answered(rt: HostRuntime) -> Result<(), Fail> {
             };
             let mut writer = writer_of(rt.alloc(), usize::MAX);
             let ended = run(rt.alloc(), &mut engine, &mut reader, &mut writer);
-            expect(ended == Err(Fault::Read), "the read fault")?;
+            assert_eq!(rt; ended, Err(Fault::Read), "at read {reads}");
             let wanted = replies(rt.alloc(), feeds(&input.as_slice()[..reads]))?;
-            let is_answered = writer.written.as_slice() == wanted.as_slice();
-            expect(is_answered, "the lines before it are answered")?;
+            assert_eq!(rt; writer.written.as_slice(), wanted.as_slice());
         }
     }
     Ok(())
@@ -129,12 +127,14 @@ fn a_write_fault_cuts_the_replies_and_keeps_what_was_accepted(rt: HostRuntime) -
                 ..writer_of(rt.alloc(), usize::MAX)
             };
             let ended = run(rt.alloc(), &mut engine, &mut reader, &mut writer);
-            expect(ended == Err(Fault::Write), "the write fault")?;
-            let is_cut = writer.written.as_slice() == &replies.as_slice()[..room];
-            expect(is_cut, "the replies are written up to it")?;
+            assert_eq!(rt; ended, Err(Fault::Write), "with room for {room}");
+            assert_eq!(rt; writer.written.as_slice(), &replies.as_slice()[..room]);
             let selected = answer(rt.alloc(), &mut engine, b"0 SELECT pave\n")?;
-            let is_kept = selected.as_slice() == selected_after(room);
-            expect(is_kept, "what was accepted is kept")?;
+            assert_eq!(rt;
+                selected.as_slice(),
+                selected_after(room),
+                "with room for {room}"
+            );
         }
     }
     Ok(())
@@ -150,14 +150,21 @@ fn seventy_thousand_bytes_are_read_one_by_one(rt: HostRuntime) -> Result<(), Fai
         )?;
         wanted.extend_from_slice(b"0 ERR 21 no such name\n")?;
     }
-    expect(input.len() > 70_000, "bytes")?;
+    assert!(rt; input.len() > 70_000);
     let mut engine = Engine::fresh(rt.alloc());
     let mut reader = reader_of(input.as_slice(), 1);
     let mut writer = writer_of(rt.alloc(), 1);
     let ended = run(rt.alloc(), &mut engine, &mut reader, &mut writer);
-    expect(ended == Ok(End::Whole), "the end")?;
-    let is_answered = writer.written.as_slice() == wanted.as_slice();
-    expect(is_answered, "all lines are answered")?;
+    assert_eq!(rt; ended, Ok(End::Whole));
+    assert!(rt; writer.written.as_slice() == wanted.as_slice());
     let answered = answer(rt.alloc(), &mut engine, input.as_slice())?;
-    expect(answered.as_slice() == wanted.as_slice(), "at once too")
+    assert!(rt; answered.as_slice() == wanted.as_slice());
+    Ok(())
+}
+
+#[test]
+fn sessions_are_0_to_63(rt: HostRuntime) {
+    for number in 0..64u8 {
+        assert_eq!(rt; Session::from_number(number).number(), number);
+    }
 }
