@@ -1,6 +1,6 @@
 use Rattle.std.proofs.lemmas.Result.{err_from_is_err_and}
 use Rattle.std.proofs.lemmas.List.{take_all}
-use Rattle.std.proofs.Common.{string_bytes, ap, sym, subst, ◌∙◌}
+use Rattle.std.proofs.Common.{string_bytes, ap, subst, ◌∙◌}
 use Rattle.std.specs.Prelude.{flat_map}
 use Rattle.rs_machine.specs.ReplyText.{row_text}
 use Rattle.rs_serve.specs.ReplyView.{rows_of}
