@@ -1,0 +1,3 @@
+pub mod Passing
+pub mod Under
+pub mod Whole

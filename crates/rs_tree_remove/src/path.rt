@@ -1,0 +1,89 @@
+//! The path of a cell: down to its leaf, and up again.
+
+ghost use Rattle.std.specs.Prelude.{◌≡◌, ◌≤◌, ◌<◌, Some, true, IfOk};
+ghost use Rattle.rs_owners.specs.Changes.{WorksAfter};
+ghost use Rattle.rs_tree.specs.Form.{form_of};
+ghost use Rattle.rs_tree_page.specs.Node.{IsNode};
+ghost use Rattle.rs_tree_shrink.specs.Leaving.{RemovesPart, HasNoOwnPart};
+
+use rs_measure::Refusal;
+use rs_page::{Page, PageNumber};
+use rs_pages::Pages;
+use rs_records::record_at;
+use rs_tree::Summary;
+use rs_tree_edit::{entry_for, read_part};
+use rs_tree_mend::mend;
+use rs_tree_page::entry::child;
+use rs_tree_page::{Layout, Node, content};
+use rs_tree_shrink::Removed;
+use rs_tree_shrink::finishing::{drop_entry, renew_entry};
+use rs_tree_shrink::leaf::remove_from_leaf;
+
+/// Takes a cell out of the part of a tree with this page at its top.
+#[cycle(removing)]
+pub fn remove_below<P: Pages, S: Summary>(
+    pages: &mut P,
+    layout: Layout,
+    number: PageNumber,
+    levels: u32,
+    cell: &[u8],
+) -> Result<Removed, Refusal>
+    requires begun { (P.store pages.old).is_begun ≡ true }
+    requires summary { layout.summary ≡ S.WIDTH }
+    ensures keeps { P.keeps pages.old pages.new }
+    ensures works { WorksAfter (P.is_tied pages.old
+        → HasNoOwnPart (form_of S.says S.unit S.join S.of layout.summary layout.width) (P.store pages.old).map number levels)
+        result (P.store pages.old) (P.store pages.new) }
+    ensures removed { P.is_tied pages.old → IfOk result (RemovesPart
+        (form_of S.says S.unit S.join S.of layout.summary layout.width) (P.store pages.old).map (P.store pages.new).map number
+        cell.now) }
+{
+    let loaded = read_part(pages, number, layout)?;
+    match loaded.node {
+        Node::Leaf(count) => {
+            remove_from_leaf::<P, S>(pages, layout, number, &loaded.page, count, cell)
+        }
+        Node::Inner(count) => {
+            if levels == 0 {
+                return Err(Refusal::DamagedFile);
+            }
+            remove_under::<P, S>(pages, layout, number, &loaded.page, count, levels, cell)
+        }
+    }
+}
+
+/// Takes a cell out of what is below an inner page, whose bytes are told.
+#[cycle(removing)]
+fn remove_under<P: Pages, S: Summary>(
+    pages: &mut P,
+    layout: Layout,
+    number: PageNumber,
+    page: &Page,
+    count: usize,
+    levels: u32,
+    cell: &[u8],
+) -> Result<Removed, Refusal>
+    requires begun { (P.store pages.old).is_begun ≡ true }
+    requires summary { layout.summary ≡ S.WIDTH }
+    requires levels { 0 < levels }
+    requires node { IsNode page.now.bytes number layout (Node.Inner count) }
+    ensures keeps { P.keeps pages.old pages.new }
+    ensures works { WorksAfter (P.is_tied pages.old → (P.store pages.old).map.page number ≡ Some page.now.bytes
+        → HasNoOwnPart (form_of S.says S.unit S.join S.of layout.summary layout.width) (P.store pages.old).map number levels)
+        result (P.store pages.old) (P.store pages.new) }
+    ensures removed { P.is_tied pages.old → (P.store pages.old).map.page number ≡ Some page.now.bytes → IfOk result (RemovesPart
+        (form_of S.says S.unit S.join S.of layout.summary layout.width) (P.store pages.old).map (P.store pages.new).map number
+        cell.now) }
+{
+    let bytes = content(page);
+    let at = entry_for(bytes, layout, count, cell);
+    let below = child(record_at(bytes, layout.entry_width(), at), layout);
+    match remove_below::<P, S>(pages, layout, below, levels - 1, cell)? {
+        Removed::Missing => Ok(Removed::Missing),
+        Removed::Kept => renew_entry::<P, S>(pages, layout, number, page, count, at, 1, below),
+        Removed::Gone => drop_entry::<P, S>(pages, layout, number, page, count, at),
+        Removed::Single(only) => {
+            mend::<P, S>(pages, layout, number, page, count, at, below, only)
+        }
+    }
+}

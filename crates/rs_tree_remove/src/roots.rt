@@ -1,0 +1,56 @@
+//! A cell taken out of a whole tree, from its root.
+
+ghost use Rattle.std.specs.Prelude.{◌≡◌, ◌↔◌, ℕ, true, List, Contains, IsTrue, IfOk};
+ghost use Rattle.rs_owners.specs.Changes.{WorksAfter};
+ghost use Rattle.rs_owners.specs.Counts.{◌&◌};
+ghost use Rattle.rs_owners.specs.Owners.{Shares};
+ghost use Rattle.rs_tree.specs.Calls.{Changes, IsNotShared};
+ghost use Rattle.rs_tree.specs.Cells.{without_cell};
+ghost use Rattle.rs_tree.specs.Form.{form_of};
+ghost use Rattle.rs_tree.specs.Tree.{IsTree};
+
+use crate::path::remove_below;
+use rs_measure::Refusal;
+use rs_page::PageNumber;
+use rs_pages::Pages;
+use rs_tree::Summary;
+use rs_tree_page::Layout;
+use rs_tree_search::LEVELS;
+use rs_tree_shrink::Removed;
+
+/// Takes a cell out of the tree with this root (0: the empty one), and answers the root of what is left and whether the cell was
+/// there. No page is needed. It is refused with 90, with 91, and with 94 only where no tree stands there whose pages are its
+/// own; some pages may have been changed then.
+pub fn remove<P: Pages, S: Summary>(
+    pages: &mut P,
+    layout: Layout,
+    root: PageNumber,
+    cell: &[u8],
+) -> Result<(PageNumber, bool), Refusal>
+    requires begun { (P.store pages.old).is_begun ≡ true }
+    requires summary { layout.summary ≡ S.WIDTH }
+    ensures keeps { P.keeps pages.old pages.new }
+    ensures works { WorksAfter (P.is_tied pages.old
+        → IsNotShared (form_of S.says S.unit S.join S.of layout.summary layout.width) (P.store pages.old).map root)
+        result (P.store pages.old) (P.store pages.new) }
+    ensures removed { P.is_tied pages.old → IfOk result (λ answer.
+        Changes (form_of S.says S.unit S.join S.of layout.summary layout.width) (P.store pages.old).map (P.store pages.new).map
+        root answer.0 (without_cell cell.now)) }
+    ensures found { P.is_tied pages.old → IfOk result (λ answer. (cells : List (List ℕ)) (used others : ℕ → ℕ)
+        → IsTree (form_of S.says S.unit S.join S.of layout.summary layout.width) (P.store pages.old).map root cells used
+        → Shares (P.store pages.old).map (used & others) → (IsTrue answer.1 ↔ Contains cells cell.now)) }
+{
+    if root.number() == 0 {
+        return Ok((root, false));
+    }
+    let _count = pages.count();
+    match remove_below::<P, S>(pages, layout, root, LEVELS, cell)? {
+        Removed::Missing => Ok((root, false)),
+        Removed::Kept => Ok((root, true)),
+        Removed::Gone => Ok((PageNumber::new(0), true)),
+        Removed::Single(top) => {
+            pages.release(root)?;
+            Ok((top, true))
+        }
+    }
+}

@@ -1,0 +1,3 @@
+pub mod Leaves
+pub mod Refusing
+pub mod Written
