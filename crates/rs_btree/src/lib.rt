@@ -3,6 +3,7 @@
 //! A tree is told by its root. Its calls are lent the pages; what they do is said of the list of its cells.
 #![tactic(auto)]
 
+pub mod replacing;
 pub mod tree;
 
 pub use tree::Tree;

@@ -5,19 +5,22 @@
 ghost use Rattle.std.specs.Prelude.{◌≡◌, ◌⊎◌, ◌↔◌, ◌<◌, ◌≤◌, ◌+◌, ◌*◌, ℕ, Bool, IsTrue, Contains, List, [], IfOk, IfErr, OnOk, OnErr, Err, true, false, length};
 ghost use Rattle.std.specs.Fn.{FnReturnsAt};
 ghost use Rattle.rs_owners.specs.Changes.{WorksAfter};
-ghost use Rattle.rs_owners.specs.Counts.{no_pages};
+ghost use Rattle.rs_owners.specs.Counts.{◌&◌, no_pages};
+ghost use Rattle.rs_owners.specs.Owners.{Shares};
 ghost use Rattle.rs_pages.specs.Lending.{RestsAfter};
 ghost use Rattle.rs_pages.specs.PageMap.{PageMap, SamePages};
 ghost use Rattle.rs_reached.specs.Marks.{taken};
 ghost use Rattle.rs_records.specs.Listed.{listed, record_width};
 ghost use Rattle.rs_tree.specs.Calls.{AcceptsParts, Changes, Finds, IsNotShared, RefusesToRead};
-ghost use Rattle.rs_tree.specs.Cells.{cells_within, with_cell};
+ghost use Rattle.rs_tree.specs.Cells.{cells_within, with_cell, without_cell};
 ghost use Rattle.rs_tree.specs.Form.{form_of};
 ghost use Rattle.rs_tree.specs.Tree.{IsTree};
 ghost use Rattle.rs_tree_check.specs.Validating.{Validates, HasNoFreshTree};
 ghost use Rattle.rs_tree_search.specs.Asking.{Computes};
+ghost use Rattle.rs_btree.specs.Replacing.{Replaces};
 ghost use Rattle.rs_btree.specs.Rooted.{Rooted};
 
+use crate::replacing::replace;
 use rs_measure::Refusal;
 use rs_page::PageNumber;
 use rs_pages::Pages;
@@ -28,6 +31,7 @@ use rs_tree_check::validate;
 use rs_tree_clear::clear;
 use rs_tree_insert::insert;
 use rs_tree_page::Layout;
+use rs_tree_remove::remove;
 use rs_tree_search::{descend, range};
 use std::alloc::Global;
 use std::marker::{Model, PhantomData};
@@ -166,6 +170,58 @@ impl<S: Summary> Tree<S> {
         let inserted = insert::<P, S>(pages, self.layout, self.root, cell)?;
         self.root = inserted.root;
         Ok(inserted.new)
+    }
+
+    /// Takes a cell out of the tree, and answers whether it was there; where it wasn't, the same cells stay. It is refused with 90,
+    /// with 91, and with 94 only where no tree stands there with pages of its own; the tree is as it was then, and the working
+    /// pages are to be abandoned.
+    pub fn remove<P: Pages>(&mut self, pages: &mut P, cell: &[u8]) -> Result<bool, Refusal>
+        requires begun { (P.store pages.old).is_begun ≡ true }
+        ensures keeps { P.keeps pages.old pages.new }
+        ensures works { WorksAfter (P.is_tied pages.old → IsNotShared
+            (form_of S.says S.unit S.join S.of S.WIDTH self.old.width) (P.store pages.old).map self.old.root)
+            result (P.store pages.old) (P.store pages.new) }
+        ensures removed { P.is_tied pages.old → OnOk result (Changes
+            (form_of S.says S.unit S.join S.of S.WIDTH self.old.width) (P.store pages.old).map (P.store pages.new).map
+            self.old.root self.new.root (without_cell cell.now)) }
+        ensures found { P.is_tied pages.old → IfOk result (λ found. (cells : List (List ℕ)) (used others : ℕ → ℕ)
+            → IsTree (form_of S.says S.unit S.join S.of S.WIDTH self.old.width) (P.store pages.old).map self.old.root cells used
+            → Shares (P.store pages.old).map (used & others) → (IsTrue found ↔ Contains cells cell.now)) }
+        ensures width { self.new.width ≡ self.old.width }
+        ensures stays { OnErr result (self.new ≡ self.old) }
+    {
+        let (root, found) = remove::<P, S>(pages, self.layout, self.root, cell)?;
+        self.root = root;
+        Ok(found)
+    }
+
+    /// Puts another cell in the place of a cell, and answers whether that was there; where it wasn't, the same cells stay. It is
+    /// refused with 90, with 91, with 92 where the file is full, and with 94 only where no tree stands there with pages of its
+    /// own; the tree is as it was then, and the working pages are to be abandoned.
+    pub fn replace<P: Pages>(
+        &mut self,
+        pages: &mut P,
+        cell: &[u8],
+        other: &[u8],
+    ) -> Result<bool, Refusal>
+        requires begun { (P.store pages.old).is_begun ≡ true }
+        requires cell { length other.now ≡ self.old.width }
+        ensures keeps { P.keeps pages.old pages.new }
+        ensures works { WorksAfter (P.is_tied pages.old → IsNotShared
+            (form_of S.says S.unit S.join S.of S.WIDTH self.old.width) (P.store pages.old).map self.old.root)
+            result (P.store pages.old) (P.store pages.new) }
+        ensures replaced { P.is_tied pages.old → OnOk result (Replaces
+            (form_of S.says S.unit S.join S.of S.WIDTH self.old.width) (P.store pages.old).map (P.store pages.new).map
+            self.old.root self.new.root cell.now other.now) }
+        ensures found { P.is_tied pages.old → IfOk result (λ found. (cells : List (List ℕ)) (used others : ℕ → ℕ)
+            → IsTree (form_of S.says S.unit S.join S.of S.WIDTH self.old.width) (P.store pages.old).map self.old.root cells used
+            → Shares (P.store pages.old).map (used & others) → (IsTrue found ↔ Contains cells cell.now)) }
+        ensures width { self.new.width ≡ self.old.width }
+        ensures stays { OnErr result (self.new ≡ self.old) }
+    {
+        let (root, found) = replace::<P, S>(pages, self.layout, self.root, cell, other)?;
+        self.root = root;
+        Ok(found)
     }
 
     /// Frees all pages of the tree, which is the empty one then. It is refused with 90, with 91, and with 94 only where no

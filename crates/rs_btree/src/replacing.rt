@@ -1,0 +1,53 @@
+//! A cell put in the place of another, in a tree told by its root.
+//!
+//! The first is taken out, and the other is put in where the first was there.
+
+ghost use Rattle.std.specs.Prelude.{◌≡◌, ◌↔◌, ℕ, true, List, Contains, IsTrue, IfOk, length};
+ghost use Rattle.rs_btree.specs.Replacing.{Replaces};
+ghost use Rattle.rs_owners.specs.Changes.{WorksAfter};
+ghost use Rattle.rs_owners.specs.Counts.{◌&◌};
+ghost use Rattle.rs_owners.specs.Owners.{Shares};
+ghost use Rattle.rs_tree.specs.Calls.{IsNotShared};
+ghost use Rattle.rs_tree.specs.Form.{form_of};
+ghost use Rattle.rs_tree.specs.Tree.{IsTree};
+
+use rs_measure::Refusal;
+use rs_page::PageNumber;
+use rs_pages::Pages;
+use rs_tree::Summary;
+use rs_tree_insert::insert;
+use rs_tree_page::Layout;
+use rs_tree_remove::remove;
+
+/// Puts the other cell in the place of the first, and answers the root of what is left and whether the first was there; where it
+/// wasn't, the same cells stay. It is refused with 90, with 91, with 92 where the file is full, and with 94 only where no tree
+/// stands there whose pages are its own; some pages may have been changed then.
+pub fn replace<P: Pages, S: Summary>(
+    pages: &mut P,
+    layout: Layout,
+    root: PageNumber,
+    cell: &[u8],
+    other: &[u8],
+) -> Result<(PageNumber, bool), Refusal>
+    requires begun { (P.store pages.old).is_begun ≡ true }
+    requires summary { layout.summary ≡ S.WIDTH }
+    requires width { length other.now ≡ layout.width }
+    ensures keeps { P.keeps pages.old pages.new }
+    ensures works { WorksAfter (P.is_tied pages.old
+        → IsNotShared (form_of S.says S.unit S.join S.of layout.summary layout.width) (P.store pages.old).map root)
+        result (P.store pages.old) (P.store pages.new) }
+    ensures replaced { P.is_tied pages.old → IfOk result (λ answer.
+        Replaces (form_of S.says S.unit S.join S.of layout.summary layout.width) (P.store pages.old).map (P.store pages.new).map
+        root answer.0 cell.now other.now) }
+    ensures found { P.is_tied pages.old → IfOk result (λ answer. (cells : List (List ℕ)) (used others : ℕ → ℕ)
+        → IsTree (form_of S.says S.unit S.join S.of layout.summary layout.width) (P.store pages.old).map root cells used
+        → Shares (P.store pages.old).map (used & others) → (IsTrue answer.1 ↔ Contains cells cell.now)) }
+{
+    let (below, found) = remove::<P, S>(pages, layout, root, cell)?;
+    if found {
+        let inserted = insert::<P, S>(pages, layout, below, other)?;
+        Ok((inserted.root, found))
+    } else {
+        Ok((below, found))
+    }
+}
