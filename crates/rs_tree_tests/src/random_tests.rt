@@ -1,0 +1,89 @@
+//! Pseudo-random calls of two trees in one file, beside plain keys: over a disk that fails, in a file that fills up, and in one
+//! with room for all.
+
+ghost use Rattle.std.specs.Prelude.{◌≤◌};
+
+use rs_disk::{FailedCut, FailingDisk, MemoryDisk};
+use rs_tree_judge::{Call, Judge, KEYS, Kind, RandomCalls};
+use std::alloc::Global;
+use std::test::Fail;
+
+/// A run: its seed, how many calls are made, how many pages there may be, which call of the disk fails (0: none does), and
+/// how wide the second tree's cells are. Three of the first tree's fit a page.
+#[derive(Clone, Copy)]
+struct Run {
+    seed: u64,
+    calls: u32,
+    limit: u32,
+    failing_call: u64,
+    width: usize,
+    ghost least: { 16 ≤ width },
+    ghost most: { width ≤ 1109 },
+}
+
+/// Makes the calls, and answers how many of the disk failed, how many of the trees were refused, and how many because the
+/// file was full.
+fn made(alloc: Global, run: &Run) -> Option<(u64, u64, u64)> {
+    let disk = FailingDisk::new(MemoryDisk::new(alloc), run.failing_call, FailedCut::Done);
+    let mut judge = Judge::new(
+        alloc,
+        disk,
+        run.limit,
+        Kind::new(1_109),
+        Kind::new(run.width),
+    )?;
+    let mut calls = RandomCalls::new(run.seed);
+    for _call in 0..run.calls {
+        let (call, is_second) = calls.next_call();
+        judge.make(call, is_second);
+    }
+    judge.make(Call::Search(0, KEYS, 0), false);
+    judge.make(Call::Search(0, KEYS, 0), true);
+    judge.make(Call::Validate, false);
+    judge.finish()
+}
+
+/// The runs in which no call of the disk fails, and how many pages there may be in each.
+static WHOLE: [(u64, u32); 3] = [(1, 1_000), (2, 1_000), (3, 60)];
+
+#[test]
+fn trees_hold_what_plain_keys_hold(rt: HostRuntime) {
+    for (seed, limit) in WHOLE {
+        let run = Run {
+            seed,
+            calls: 2_000,
+            limit,
+            failing_call: 0,
+            width: 100,
+        };
+        match made(rt.alloc(), &run) {
+            Some((failures, refusals, full)) => {
+                assert_eq!(rt; (failures, refusals), (0, 0));
+                assert_eq!(rt; full > 0, limit < 1_000, "a small file is full at times");
+            }
+            None => assert!(rt; false, "seed {seed}: an answer was wrong"),
+        }
+    }
+}
+
+#[test]
+fn a_fault_of_the_disk_leaves_the_trees(rt: HostRuntime) {
+    let mut failed = 0u64;
+    for turn in 0..40u64 {
+        let run = Run {
+            seed: 8,
+            calls: 400,
+            limit: 1_000,
+            failing_call: turn.saturating_mul(5).saturating_add(1),
+            width: 16,
+        };
+        match made(rt.alloc(), &run) {
+            Some((failures, refusals, _)) => {
+                assert_eq!(rt; failures, refusals, "each failure is told once");
+                failed = failed.saturating_add(failures);
+            }
+            None => assert!(rt; false, "call {turn}: an answer was wrong"),
+        }
+    }
+    assert!(rt; failed > 10, "{failed} calls of the disk failed");
+}
