@@ -7,7 +7,6 @@ use Rattle.std.proofs.Math.ListN.{get_or-map}
 use Rattle.std.proofs.lemmas.List.{append-nil, length-map}
 use Rattle.std.specs.List.{refill, AllByRecursion}
 use Rattle.std.specs.Prelude.{if◌then◌else◌}
-use Rattle.rs_checker.proofs.NameLaws.{same_name-true}
 use Rattle.std.proofs.lemmas.List.{length-set}
 use Rattle.rs_value.specs.declared.column.ColumnType.{ColumnType}
 use Rattle.rs_checker.proofs.ConditionLaws.{type_at}
@@ -18,6 +17,7 @@ use Rattle.arrayvec.specs.ArrayString.{ArrayString}
 use Rattle.rs_measure.specs.declared.refusal.Refusal.TheVariants.{NoSuchColumn}
 use Rattle.rs_facts.specs.Fact.{Name}
 use Rattle.rs_facts.specs.Insert.{same_name}
+use Rattle.rs_catalog.proofs.MapLaws.{same_name-true}
 use Rattle.rs_syntax.specs.declared.commands.ColumnDefinition.{ColumnDefinition}
 use Rattle.rs_syntax.specs.View.{column_tree}
 use Rattle.rs_machine.specs.Checks.{◌>>=◌, column_names, some_name_twice, found}

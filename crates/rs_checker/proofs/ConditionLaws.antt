@@ -16,12 +16,12 @@ use Rattle.rs_facts.specs.Query.{Column}
 use Rattle.rs_syntax.specs.declared.queries.Operand.{Operand}
 use Rattle.rs_syntax.specs.declared.commands.ColumnDefinition.{ColumnDefinition}
 use Rattle.rs_syntax.specs.View.{column_tree}
-use Rattle.rs_syntax.specs.declared.queries.Atom.{Atom, Compare, Negated, Bracketed, fold-roll-Atom}
-use Rattle.rs_syntax.specs.declared.queries.Atom.TheVariants.{rolls-Compare, rolls-Negated, rolls-Bracketed}
+use Rattle.rs_syntax.specs.declared.queries.Atom.{Atom, Compare, IsNull, IsNotNull, Negated, Bracketed, fold-roll-Atom}
+use Rattle.rs_syntax.specs.declared.queries.Atom.TheVariants.{rolls-Compare, rolls-IsNull, rolls-IsNotNull, rolls-Negated, rolls-Bracketed}
 use Rattle.rs_syntax.specs.declared.queries.Atom.TheOpen.{Atom-F}
 use Rattle.rs_syntax.specs.QueryView as trees
 use Rattle.rs_syntax.specs.QueryView.{atom_step, atom_tree, condition_tree}
-use Rattle.rs_syntax.specs.Tree.{OperandTree, ConditionTree, compare, negated, bracketed}
+use Rattle.rs_syntax.specs.Tree.{OperandTree, ConditionTree, compare, is_null, is_not_null, negated, bracketed}
 use Rattle.rs_machine.specs.Checks.{◌>>=◌}
 use Rattle.rs_machine.specs.Checking.{condition_checked, operand_checked, column_place, column_type}
 use Rattle.rs_checker.specs.Inner.{atoms_tree, conditions_of, all_joined, any_joined}
@@ -207,9 +207,29 @@ is_some b n m e so is h = when_some n (sym e ∙ so) (is ∙ h)
 pub compare_is : (name : ArrayString) (comparison : Comparison) (operand : Operand) → atom_tree (Compare name comparison operand) ≡ compare name.bytes comparison (trees.operand_tree operand)
 compare_is name comparison operand = ap atom_tree (sym (rolls-Compare name comparison operand)) ∙ fold-roll-Atom ConditionTree atom_step (Atom-F.Compare name comparison operand)
 
-pub compare_checked : (columns : List Column) (name : Name) (comparison : Comparison) (operand : OperandTree) (place : ℕ) (term : said.Term) (tree : ConditionTree) → tree ≡ compare name comparison operand
-    → column_place columns name ≡ Ok place → operand_checked columns (column_type columns place) operand ≡ Ok term → condition_checked columns tree ≡ Ok (said.compare (said.column place) comparison term)
-compare_checked columns name comparison operand place term tree is there checked = rw (is, there, checked)
+pub null_is : (name : ArrayString) → atom_tree (IsNull name) ≡ is_null name.bytes
+null_is name = ap atom_tree (sym (rolls-IsNull name)) ∙ fold-roll-Atom ConditionTree atom_step (Atom-F.IsNull name)
+
+not_null_is : (name : ArrayString) → atom_tree (IsNotNull name) ≡ is_not_null name.bytes
+not_null_is name = ap atom_tree (sym (rolls-IsNotNull name)) ∙ fold-roll-Atom ConditionTree atom_step (Atom-F.IsNotNull name)
+
+module _ (columns : List Column) (name : ArrayString) (tree : ConditionTree) (is : tree ≡ atom_tree (IsNotNull name)) where
+  negates : (place : Result ℕ Refusal) → (place >>= (λ place. Ok (said.negated (said.tests_null (said.column place))))) ≡ ((place >>= (λ place. Ok (said.tests_null (said.column place)))) >>= (λ inside. Ok (said.negated inside)))
+  negates (Ok place) = refl
+  negates (Err refusal) = refl
+
+  not_null : condition_checked columns tree ≡ (condition_checked columns (is_null name.bytes) >>= (λ inside. Ok (said.negated inside)))
+  not_null = ap (condition_checked columns) (is ∙ not_null_is name) ∙ negates (column_place columns name.bytes)
+
+  pub not_null_refused : (refusal : Refusal) → condition_checked columns (is_null name.bytes) ≡ Err refusal → condition_checked columns tree ≡ Err refusal
+  not_null_refused refusal e = not_null ∙ ap (λ r. r >>= (λ inside. Ok (said.negated inside))) e
+
+  pub not_null_done : (condition : said.Condition) → condition_checked columns (is_null name.bytes) ≡ Ok condition → condition_checked columns tree ≡ Ok (said.negated condition)
+  not_null_done condition e = not_null ∙ ap (λ r. r >>= (λ inside. Ok (said.negated inside))) e
+
+pub compare_checked : (columns : List Column) (name : Name) (comparison : Comparison) (operand : OperandTree) (place : ℕ) (term : said.Term)
+    → column_place columns name ≡ Ok place → operand_checked columns (column_type columns place) operand ≡ Ok term → condition_checked columns (compare name comparison operand) ≡ Ok (said.compare (said.column place) comparison term)
+compare_checked columns name comparison operand place term there checked = rw (there, checked)
 
 -- the type of a column of the code
 pub type_at : (items given : List ColumnDefinition) (place index : ℕ) (item : ColumnDefinition) → given ≡ items → index ≡ place → place < length items

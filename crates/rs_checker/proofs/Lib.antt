@@ -1,4 +1,3 @@
-pub mod NameLaws
 pub mod Walks
 pub mod ColumnLaws
 pub mod ConditionLaws

@@ -1,17 +1,16 @@
 -- Nodes over checked operands, in every state of the same definitions and referents.
-use Rattle.std.proofs.Common.{◌≡◌, ℕ, true, false, ◌||◌, List, [], ◌∷◌, ◌++◌, Option, Some, None, Result, Ok, Err, refl, sym, ap, ◌∙◌}
-use Rattle.std.proofs.Common.{◌⊎◌, inl, inr, IfOk, IfErr}
-use Rattle.std.proofs.lemmas.Result.{IfOk-weaker, IfErr-weaker}
+use Rattle.std.proofs.Common.{◌≡◌, ℕ, true, false, ◌||◌, List, [], ◌∷◌, ◌++◌, map, Option, Some, None, Result, Ok, Err, refl, sym, ap, ◌∙◌}
 use Rattle.std.specs.Option.{option_map}
 use Rattle.std.specs.Prelude.{is_some, nat_lt}
 use Rattle.std.specs.FinMap as names
 use Rattle.rs_measure.specs.declared.refusal.Refusal.{Refusal}
-use Rattle.rs_measure.specs.declared.refusal.Refusal.TheVariants.{OutOfMemory, NoSuchName, NoSuchRoute, EmptySpan}
+use Rattle.rs_measure.specs.declared.refusal.Refusal.TheVariants.{NoSuchName, NoSuchRoute, EmptySpan}
 use Rattle.rs_methods.specs.Position.{located}
 use Rattle.rs_facts.specs.Fact.{Name, Names}
 use Rattle.rs_facts.specs.Query.{on_route, between, Query, merge_rows, minus_rows, window_rows}
 use Rattle.rs_facts.specs.Runs.{Stretch}
-use Rattle.rs_syntax.specs.Tree.{ConditionTree, WindowTree, whole_route, part_of_route, QueryTree, filtered, dissolved, renamed, overlaid, covered, merged, subtracted, windowed}
+use Rattle.rs_syntax.specs.QueryView.{condition_tree, window_tree}
+use Rattle.rs_syntax.specs.Tree.{WindowTree, whole_route, part_of_route, QueryTree}
 use Rattle.rs_machine.specs.State.{State, has, world_of}
 use Rattle.rs_machine.specs.Checks.{◌>>=◌, unless, found, span_on}
 use Rattle.rs_machine.specs.Checking as machine
@@ -19,9 +18,14 @@ use Rattle.rs_machine.specs.Checking.{nodes_checked}
 use Rattle.rs_catalog.specs.Definitions.{Definitions, state_from, referents_from, on_numbered}
 use Rattle.rs_catalog.proofs.StateLaws.{get-routes_of, get-views_of, get-tables_from}
 use Rattle.rs_checker.specs.declared.checked.Checked.{Checked}
+use Rattle.rs_checker.specs.declared.node.UnaryOperator.{UnaryOperator}
+use Rattle.rs_checker.specs.declared.node.UnaryOperator.TheVariants as unary
+use Rattle.rs_checker.specs.declared.node.BinaryOperator.{BinaryOperator}
+use Rattle.rs_checker.specs.declared.node.BinaryOperator.TheVariants as binary
 use Rattle.rs_checker.specs.CheckedView.{query_of}
-use Rattle.rs_checker.specs.Steps.{IsStep, Stands, seen_columns, filter_step, dissolve_step, rename_step, overlay_step, cover_step, merge_step, minus_step}
-use Rattle.rs_checker.specs.Nodes.{names_there, located_window, window_step, AreNodes, AreRefused, ArePair, IsPairRefused}
+use Rattle.rs_checker.specs.NodeView.{unary_tree, binary_tree}
+use Rattle.rs_checker.specs.Steps.{IsStep, Stands, seen_columns, filter_step, dissolve_step, rename_step, overlay_step, cover_step, merge_step, minus_step, binary_step}
+use Rattle.rs_checker.specs.Nodes.{names_there, located_window, unary_step, AreNodes, AreRefused}
 
 -- ---- names
 
@@ -70,176 +74,116 @@ window_same definitions on spans_on changes (part_of_route route from to) =
       | Some item ↦ spans route (located item.ends.start item.ends.finish (names.entries (on item.number)) from) (located item.ends.start item.ends.finish (names.entries (on item.number)) to)
     ]
 
--- ---- one operand, and two
+-- ---- an operator over one operand
 
 module _ (definitions : Definitions) (on : ℕ → Names ℕ) where
-  module _ (node a : QueryTree) (f : State → Query → Result Query Refusal) (is : (state : State) → nodes_checked state node ≡ (nodes_checked state a >>= f state)) where
-    pub one_inside : (refusal : Refusal) → AreRefused definitions on a refusal → AreRefused definitions on node refusal
-    one_inside refusal refused = record { each = λ s c. is (state_from definitions on s c) ∙ ap (λ r. r >>= f (state_from definitions on s c)) (refused.each s c) }
+  -- what the machine asks
+  abbrev asks_one : State → UnaryOperator → Query → Result Query Refusal
+  asks_one state (unary.Where condition) query = machine.filter_checked state query (condition_tree condition.now)
+  asks_one state (unary.Dissolve columns) query = machine.dissolve_checked state query (map (λ name. name.bytes) columns.now)
+  asks_one state (unary.Rename from to) query = machine.rename_checked state query from.now.bytes to.now.bytes
+  asks_one state (unary.Window window) query = machine.window_checked state (window_tree window.now) >>= (λ located. Ok (window_rows query located))
 
-    module _ (operand : Checked) (at : AreNodes definitions on a operand) (expected : Result Query Refusal)
-        (asks : (spans_on : ℕ → ℕ → List Stretch) (changes : ℕ) → Stands (world_of (state_from definitions on spans_on changes)) operand → f (state_from definitions on spans_on changes) (query_of operand.query) ≡ expected) where
-      asked : (spans_on : ℕ → ℕ → List Stretch) (changes : ℕ) → nodes_checked (state_from definitions on spans_on changes) node ≡ expected
-      asked s c = is (state_from definitions on s c) ∙ ap (λ r. r >>= f (state_from definitions on s c)) ((at.each s c).is) ∙ asks s c ((at.each s c).stands)
+  one_checked : (state : State) (operator : UnaryOperator) (a : QueryTree) → nodes_checked state (unary_tree operator a) ≡ (nodes_checked state a >>= asks_one state operator)
+  one_checked state (unary.Where condition) a = refl
+  one_checked state (unary.Dissolve columns) a = refl
+  one_checked state (unary.Rename from to) a = refl
+  one_checked state (unary.Window window) a = refl
 
-      pub one_made : (made : Checked) → IsStep expected (λ world. Stands world operand) made → AreNodes definitions on node made
-      one_made made step = record { each = λ s c. record { is = asked s c ∙ step.query; stands = step.stands (world_of (state_from definitions on s c)) ((at.each s c).stands) } }
+  one_asked : (spans_on : ℕ → ℕ → List Stretch) (changes : ℕ) (operator : UnaryOperator) (operand : Checked) → Stands (world_of (state_from definitions on spans_on changes)) operand
+      → asks_one (state_from definitions on spans_on changes) operator (query_of operand.query) ≡ unary_step definitions on operator (seen_columns operand) (query_of operand.query)
+  one_asked s c (unary.Where condition) operand h = ap (λ columns. filter_step columns (query_of operand.query) (condition_tree condition.now)) (sym h.columns)
+  one_asked s c (unary.Dissolve names) operand h = ap (λ columns. dissolve_step columns (query_of operand.query) (map (λ name. name.bytes) names.now)) (sym h.columns)
+  one_asked s c (unary.Rename from to) operand h = ap (λ columns. rename_step columns (query_of operand.query) from.now.bytes to.now.bytes) (sym h.columns)
+  one_asked s c (unary.Window window) operand h = ap (λ r. r >>= (λ located. Ok (window_rows (query_of operand.query) located))) (window_same definitions on s c (window_tree window.now))
 
-      pub one_refused : (refusal : Refusal) → expected ≡ Err refusal → AreRefused definitions on node refusal
-      one_refused refusal e = record { each = λ s c. asked s c ∙ e }
-
-  module _ (node a b : QueryTree) (f : State → Query → Query → Result Query Refusal)
-      (is : (state : State) → nodes_checked state node ≡ (nodes_checked state a >>= (λ x. nodes_checked state b >>= (λ y. f state x y)))) where
-    pub two_inside : (refusal : Refusal) → IsPairRefused definitions on a b refusal → AreRefused definitions on node refusal
-    two_inside refusal refused = record { each = λ s c. is (state_from definitions on s c) ∙ refused.each s c (f (state_from definitions on s c)) }
-
-    module _ (one other : Checked) (at : ArePair definitions on a b one other) (expected : Result Query Refusal)
-        (asks : (spans_on : ℕ → ℕ → List Stretch) (changes : ℕ) → Stands (world_of (state_from definitions on spans_on changes)) one → Stands (world_of (state_from definitions on spans_on changes)) other
-        → f (state_from definitions on spans_on changes) (query_of one.query) (query_of other.query) ≡ expected) where
-      both_asked : (spans_on : ℕ → ℕ → List Stretch) (changes : ℕ) → nodes_checked (state_from definitions on spans_on changes) node ≡ expected
-      both_asked s c =
+  module _ (node a : QueryTree) (operator : UnaryOperator) (is : node ≡ unary_tree operator a) where
+    pub unary_inside : (refusal : Refusal) → AreRefused definitions on a refusal → AreRefused definitions on node refusal
+    unary_inside refusal refused = record {
+      each = λ s c.
           let state = state_from definitions on s c in
-          is state ∙ ap (λ r. r >>= (λ x. nodes_checked state b >>= (λ y. f state x y))) ((at.first.each s c).is)
-          ∙ ap (λ r. r >>= (λ y. f state (query_of one.query) y)) ((at.second.each s c).is) ∙ asks s c ((at.first.each s c).stands) ((at.second.each s c).stands)
-
-      pub two_made : (made : Checked) → IsStep expected (λ world. Stands world one × Stands world other) made → AreNodes definitions on node made
-      two_made made step = record { each = λ s c. record { is = both_asked s c ∙ step.query; stands = step.stands (world_of (state_from definitions on s c)) ((at.first.each s c).stands, (at.second.each s c).stands) } }
-
-      pub two_refused : (refusal : Refusal) → expected ≡ Err refusal → AreRefused definitions on node refusal
-      two_refused refusal e = record { each = λ s c. both_asked s c ∙ e }
-
-  module _ (a b : QueryTree) (refusal : Refusal) where
-    pub first_refused : AreRefused definitions on a refusal → IsPairRefused definitions on a b refusal
-    first_refused refused = record { each = λ s c next. ap (λ r. r >>= (λ x. nodes_checked (state_from definitions on s c) b >>= (λ y. next x y))) (refused.each s c) }
-
-    pub second_refused : (one : Checked) → AreNodes definitions on a one → AreRefused definitions on b refusal → IsPairRefused definitions on a b refusal
-    second_refused one at refused = record {
-      each = λ s c next.
-          ap (λ r. r >>= (λ x. nodes_checked (state_from definitions on s c) b >>= (λ y. next x y))) ((at.each s c).is) ∙ ap (λ r. r >>= (λ y. next (query_of one.query) y)) (refused.each s c);
+          ap (nodes_checked state) is ∙ one_checked state operator a ∙ ap (λ r. r >>= asks_one state operator) (refused.each s c);
     }
 
--- ---- each operator
+    module _ (operand : Checked) (at : AreNodes definitions on a operand) where
+      abbrev expected : Result Query Refusal
+      expected = unary_step definitions on operator (seen_columns operand) (query_of operand.query)
 
-or_so : {A P Q : Type 0} → (P → Q) → A ⊎ P → A ⊎ Q
-or_so f (inl a) = inl a
-or_so f (inr p) = inr (f p)
+      asked : (spans_on : ℕ → ℕ → List Stretch) (changes : ℕ) → nodes_checked (state_from definitions on spans_on changes) node ≡ expected
+      asked s c =
+          let state = state_from definitions on s c in
+          ap (nodes_checked state) is ∙ one_checked state operator a ∙ ap (λ r. r >>= asks_one state operator) ((at.each s c).is) ∙ one_asked s c operator operand ((at.each s c).stands)
 
-module _ (definitions : Definitions) (on : ℕ → Names ℕ) (node : QueryTree) where
-  module _ (a : QueryTree) (x : ConditionTree) (is : node ≡ filtered a x) where
-    pub filter_inside : (refusal : Refusal) → AreRefused definitions on a refusal → AreRefused definitions on node refusal
-    filter_inside = one_inside definitions on node a (λ state query. machine.filter_checked state query x) (λ state. ap (nodes_checked state) is)
+      pub unary_made : (made : Checked) → IsStep expected (λ world. Stands world operand) made → AreNodes definitions on node made
+      unary_made made step = record { each = λ s c. record { is = asked s c ∙ step.query; stands = step.stands (world_of (state_from definitions on s c)) ((at.each s c).stands) } }
 
-    module _ (operand : Checked) (at : AreNodes definitions on a operand) (r : Result Checked Refusal) where
-      filter_asks : (spans_on : ℕ → ℕ → List Stretch) (changes : ℕ) → Stands (world_of (state_from definitions on spans_on changes)) operand → machine.filter_checked (state_from definitions on spans_on changes) (query_of operand.query) x ≡ filter_step (seen_columns operand) (query_of operand.query) x
-      filter_asks s c h = ap (λ columns. filter_step columns (query_of operand.query) x) (sym h.columns)
+      pub unary_refused : (refusal : Refusal) → expected ≡ Err refusal → AreRefused definitions on node refusal
+      unary_refused refusal e = record { each = λ s c. asked s c ∙ e }
 
-      pub filter_ok : IfOk r (λ made. IsStep (filter_step (seen_columns operand) (query_of operand.query) x) (λ world. Stands world operand) made) → IfOk r (λ made. AreNodes definitions on node made)
-      filter_ok = IfOk-weaker r _ _ (one_made definitions on node a (λ state query. machine.filter_checked state query x) (λ state. ap (nodes_checked state) is) operand at _ filter_asks)
+-- ---- an operator over two operands
 
-      pub filter_refused : IfErr r (λ refusal. (refusal ≡ OutOfMemory) ⊎ (filter_step (seen_columns operand) (query_of operand.query) x ≡ Err refusal)) → IfErr r (λ refusal. (refusal ≡ OutOfMemory) ⊎ AreRefused definitions on node refusal)
-      filter_refused = IfErr-weaker r _ _ (λ refusal. or_so (one_refused definitions on node a (λ state query. machine.filter_checked state query x) (λ state. ap (nodes_checked state) is) operand at _ filter_asks refusal))
+module _ (definitions : Definitions) (on : ℕ → Names ℕ) where
+  abbrev asks_two : State → BinaryOperator → Query → Query → Result Query Refusal
+  asks_two state binary.Overlay x y = machine.overlay_checked state x y
+  asks_two state binary.Cover x y = machine.cover_checked state x y
+  asks_two state binary.Merge x y = machine.alike state x y >>= (λ _. Ok (merge_rows x y))
+  asks_two state binary.Minus x y = machine.alike state x y >>= (λ _. Ok (minus_rows x y))
 
-  module _ (a : QueryTree) (x : List Name) (is : node ≡ dissolved a x) where
-    pub dissolve_inside : (refusal : Refusal) → AreRefused definitions on a refusal → AreRefused definitions on node refusal
-    dissolve_inside = one_inside definitions on node a (λ state query. machine.dissolve_checked state query x) (λ state. ap (nodes_checked state) is)
+  two_checked : (state : State) (operator : BinaryOperator) (a b : QueryTree) → nodes_checked state (binary_tree operator a b) ≡ (nodes_checked state a >>= (λ x. nodes_checked state b >>= (λ y. asks_two state operator x y)))
+  two_checked state binary.Overlay a b = refl
+  two_checked state binary.Cover a b = refl
+  two_checked state binary.Merge a b = refl
+  two_checked state binary.Minus a b = refl
 
-    module _ (operand : Checked) (at : AreNodes definitions on a operand) (r : Result Checked Refusal) where
-      dissolve_asks : (spans_on : ℕ → ℕ → List Stretch) (changes : ℕ) → Stands (world_of (state_from definitions on spans_on changes)) operand → machine.dissolve_checked (state_from definitions on spans_on changes) (query_of operand.query) x ≡ dissolve_step (seen_columns operand) (query_of operand.query) x
-      dissolve_asks s c h = ap (λ columns. dissolve_step columns (query_of operand.query) x) (sym h.columns)
+  cover_asks : (together kinds : Result (Unit {0}) Refusal) (query : Query) → (together >>= (λ _. kinds >>= (λ _. Ok query))) ≡ ((together >>= (λ _. kinds)) >>= (λ _. Ok query))
+  cover_asks (Ok x) kinds query = refl
+  cover_asks (Err refusal) kinds query = refl
 
-      pub dissolve_ok : IfOk r (λ made. IsStep (dissolve_step (seen_columns operand) (query_of operand.query) x) (λ world. Stands world operand) made) → IfOk r (λ made. AreNodes definitions on node made)
-      dissolve_ok = IfOk-weaker r _ _ (one_made definitions on node a (λ state query. machine.dissolve_checked state query x) (λ state. ap (nodes_checked state) is) operand at _ dissolve_asks)
+  two_asked : (spans_on : ℕ → ℕ → List Stretch) (changes : ℕ) (operator : BinaryOperator) (one other : Checked)
+      → Stands (world_of (state_from definitions on spans_on changes)) one → Stands (world_of (state_from definitions on spans_on changes)) other
+      → asks_two (state_from definitions on spans_on changes) operator (query_of one.query) (query_of other.query) ≡ binary_step operator one.kind other.kind (seen_columns one) (seen_columns other) (query_of one.query) (query_of other.query)
+  two_asked s c binary.Overlay one other h k = λ i. overlay_step (sym h.columns i) (sym k.columns i) (query_of one.query) (query_of other.query)
+  two_asked s c binary.Cover one other h k = cover_asks _ _ _ ∙ (λ i. cover_step (sym h.kind i) (sym k.kind i) (sym h.columns i) (sym k.columns i) (query_of one.query) (query_of other.query))
+  two_asked s c binary.Merge one other h k = λ i. merge_step (sym h.kind i) (sym k.kind i) (sym h.columns i) (sym k.columns i) (query_of one.query) (query_of other.query)
+  two_asked s c binary.Minus one other h k = λ i. minus_step (sym h.kind i) (sym k.kind i) (sym h.columns i) (sym k.columns i) (query_of one.query) (query_of other.query)
 
-      pub dissolve_refused : IfErr r (λ refusal. (refusal ≡ OutOfMemory) ⊎ (dissolve_step (seen_columns operand) (query_of operand.query) x ≡ Err refusal)) → IfErr r (λ refusal. (refusal ≡ OutOfMemory) ⊎ AreRefused definitions on node refusal)
-      dissolve_refused = IfErr-weaker r _ _ (λ refusal. or_so (one_refused definitions on node a (λ state query. machine.dissolve_checked state query x) (λ state. ap (nodes_checked state) is) operand at _ dissolve_asks refusal))
+  module _ (node a b : QueryTree) (operator : BinaryOperator) (is : node ≡ binary_tree operator a b) where
+    opens : (spans_on : ℕ → ℕ → List Stretch) (changes : ℕ) → nodes_checked (state_from definitions on spans_on changes) node
+        ≡ (nodes_checked (state_from definitions on spans_on changes) a >>= (λ x. nodes_checked (state_from definitions on spans_on changes) b >>= (λ y. asks_two (state_from definitions on spans_on changes) operator x y)))
+    opens s c = ap (nodes_checked (state_from definitions on s c)) is ∙ two_checked (state_from definitions on s c) operator a b
 
-  module _ (a : QueryTree) (x y : Name) (is : node ≡ renamed a x y) where
-    pub rename_inside : (refusal : Refusal) → AreRefused definitions on a refusal → AreRefused definitions on node refusal
-    rename_inside = one_inside definitions on node a (λ state query. machine.rename_checked state query x y) (λ state. ap (nodes_checked state) is)
+    pub first_inside : (refusal : Refusal) → AreRefused definitions on a refusal → AreRefused definitions on node refusal
+    first_inside refusal refused = record {
+      each = λ s c.
+          let state = state_from definitions on s c in
+          opens s c ∙ ap (λ r. r >>= (λ x. nodes_checked state b >>= (λ y. asks_two state operator x y))) (refused.each s c);
+    }
 
-    module _ (operand : Checked) (at : AreNodes definitions on a operand) (r : Result Checked Refusal) where
-      rename_asks : (spans_on : ℕ → ℕ → List Stretch) (changes : ℕ) → Stands (world_of (state_from definitions on spans_on changes)) operand → machine.rename_checked (state_from definitions on spans_on changes) (query_of operand.query) x y ≡ rename_step (seen_columns operand) (query_of operand.query) x y
-      rename_asks s c h = ap (λ columns. rename_step columns (query_of operand.query) x y) (sym h.columns)
+    module _ (one : Checked) (at : AreNodes definitions on a one) where
+      after_first : (spans_on : ℕ → ℕ → List Stretch) (changes : ℕ) → nodes_checked (state_from definitions on spans_on changes) node
+          ≡ (nodes_checked (state_from definitions on spans_on changes) b >>= (λ y. asks_two (state_from definitions on spans_on changes) operator (query_of one.query) y))
+      after_first s c =
+          let state = state_from definitions on s c in
+          opens s c ∙ ap (λ r. r >>= (λ x. nodes_checked state b >>= (λ y. asks_two state operator x y))) ((at.each s c).is)
 
-      pub rename_ok : IfOk r (λ made. IsStep (rename_step (seen_columns operand) (query_of operand.query) x y) (λ world. Stands world operand) made) → IfOk r (λ made. AreNodes definitions on node made)
-      rename_ok = IfOk-weaker r _ _ (one_made definitions on node a (λ state query. machine.rename_checked state query x y) (λ state. ap (nodes_checked state) is) operand at _ rename_asks)
+      pub second_inside : (refusal : Refusal) → AreRefused definitions on b refusal → AreRefused definitions on node refusal
+      second_inside refusal refused = record {
+        each = λ s c. after_first s c ∙ ap (λ r. r >>= (λ y. asks_two (state_from definitions on s c) operator (query_of one.query) y)) (refused.each s c);
+      }
 
-      pub rename_refused : IfErr r (λ refusal. (refusal ≡ OutOfMemory) ⊎ (rename_step (seen_columns operand) (query_of operand.query) x y ≡ Err refusal)) → IfErr r (λ refusal. (refusal ≡ OutOfMemory) ⊎ AreRefused definitions on node refusal)
-      rename_refused = IfErr-weaker r _ _ (λ refusal. or_so (one_refused definitions on node a (λ state query. machine.rename_checked state query x y) (λ state. ap (nodes_checked state) is) operand at _ rename_asks refusal))
+      module _ (other : Checked) (at_other : AreNodes definitions on b other) where
+        abbrev both_expected : Result Query Refusal
+        both_expected = binary_step operator one.kind other.kind (seen_columns one) (seen_columns other) (query_of one.query) (query_of other.query)
 
-  module _ (a : QueryTree) (x : WindowTree) (is : node ≡ windowed a x) where
-    placing : State → Query → Result Query Refusal
-    placing state query = machine.window_checked state x >>= (λ place. Ok (window_rows query place))
+        both_asked : (spans_on : ℕ → ℕ → List Stretch) (changes : ℕ) → nodes_checked (state_from definitions on spans_on changes) node ≡ both_expected
+        both_asked s c =
+            let state = state_from definitions on s c in
+            after_first s c ∙ ap (λ r. r >>= (λ y. asks_two state operator (query_of one.query) y)) ((at_other.each s c).is) ∙ two_asked s c operator one other ((at.each s c).stands) ((at_other.each s c).stands)
 
-    pub window_inside : (refusal : Refusal) → AreRefused definitions on a refusal → AreRefused definitions on node refusal
-    unfolding placing
-    window_inside = one_inside definitions on node a placing (λ state. ap (nodes_checked state) is)
+        pub binary_made : (made : Checked) → IsStep both_expected (λ world. Stands world one × Stands world other) made → AreNodes definitions on node made
+        binary_made made step = record {
+          each = λ s c. record { is = both_asked s c ∙ step.query; stands = step.stands (world_of (state_from definitions on s c)) ((at.each s c).stands, (at_other.each s c).stands) };
+        }
 
-    module _ (operand : Checked) (at : AreNodes definitions on a operand) (r : Result Checked Refusal) where
-      window_asks : (spans_on : ℕ → ℕ → List Stretch) (changes : ℕ) → Stands (world_of (state_from definitions on spans_on changes)) operand → placing (state_from definitions on spans_on changes) (query_of operand.query) ≡ window_step definitions on (query_of operand.query) x
-      unfolding placing
-      window_asks s c h = ap (λ r. r >>= (λ place. Ok (window_rows (query_of operand.query) place))) (window_same definitions on s c x)
-
-      pub window_ok : IfOk r (λ made. IsStep (window_step definitions on (query_of operand.query) x) (λ world. Stands world operand) made) → IfOk r (λ made. AreNodes definitions on node made)
-      unfolding placing
-      window_ok = IfOk-weaker r _ _ (one_made definitions on node a placing (λ state. ap (nodes_checked state) is) operand at _ window_asks)
-
-      pub window_refused : IfErr r (λ refusal. (refusal ≡ OutOfMemory) ⊎ (window_step definitions on (query_of operand.query) x ≡ Err refusal)) → IfErr r (λ refusal. (refusal ≡ OutOfMemory) ⊎ AreRefused definitions on node refusal)
-      unfolding placing
-      window_refused = IfErr-weaker r _ _ (λ refusal. or_so (one_refused definitions on node a placing (λ state. ap (nodes_checked state) is) operand at _ window_asks refusal))
-
-  module _ (a b : QueryTree) (is : node ≡ overlaid a b) where
-    pub overlay_inside : (refusal : Refusal) → IsPairRefused definitions on a b refusal → AreRefused definitions on node refusal
-    overlay_inside = two_inside definitions on node a b (λ state x y. machine.overlay_checked state x y) (λ state. ap (nodes_checked state) is)
-
-    module _ (one other : Checked) (at : ArePair definitions on a b one other) (r : Result Checked Refusal) where
-      overlay_asks : (s : ℕ → ℕ → List Stretch) (c : ℕ) → Stands (world_of (state_from definitions on s c)) one → Stands (world_of (state_from definitions on s c)) other → (machine.overlay_checked (state_from definitions on s c) (query_of one.query) (query_of other.query)) ≡ overlay_step (seen_columns one) (seen_columns other) (query_of one.query) (query_of other.query)
-      overlay_asks s c h k = λ i. overlay_step (sym h.columns i) (sym k.columns i) (query_of one.query) (query_of other.query)
-
-      pub overlay_ok : IfOk r (λ made. IsStep (overlay_step (seen_columns one) (seen_columns other) (query_of one.query) (query_of other.query)) (λ world. Stands world one × Stands world other) made) → IfOk r (λ made. AreNodes definitions on node made)
-      overlay_ok = IfOk-weaker r _ _ (two_made definitions on node a b (λ state x y. machine.overlay_checked state x y) (λ state. ap (nodes_checked state) is) one other at _ overlay_asks)
-
-      pub overlay_refused : IfErr r (λ refusal. (refusal ≡ OutOfMemory) ⊎ (overlay_step (seen_columns one) (seen_columns other) (query_of one.query) (query_of other.query) ≡ Err refusal)) → IfErr r (λ refusal. (refusal ≡ OutOfMemory) ⊎ AreRefused definitions on node refusal)
-      overlay_refused = IfErr-weaker r _ _ (λ refusal. or_so (two_refused definitions on node a b (λ state x y. machine.overlay_checked state x y) (λ state. ap (nodes_checked state) is) one other at _ overlay_asks refusal))
-
-  module _ (a b : QueryTree) (is : node ≡ covered a b) where
-    pub cover_inside : (refusal : Refusal) → IsPairRefused definitions on a b refusal → AreRefused definitions on node refusal
-    cover_inside = two_inside definitions on node a b (λ state x y. machine.cover_checked state x y) (λ state. ap (nodes_checked state) is)
-
-    module _ (one other : Checked) (at : ArePair definitions on a b one other) (r : Result Checked Refusal) where
-      cover_asks : (s : ℕ → ℕ → List Stretch) (c : ℕ) → Stands (world_of (state_from definitions on s c)) one → Stands (world_of (state_from definitions on s c)) other → (machine.cover_checked (state_from definitions on s c) (query_of one.query) (query_of other.query)) ≡ cover_step one.kind other.kind (seen_columns one) (seen_columns other) (query_of one.query) (query_of other.query)
-      cover_asks s c h k = λ i. cover_step (sym h.kind i) (sym k.kind i) (sym h.columns i) (sym k.columns i) (query_of one.query) (query_of other.query)
-
-      pub cover_ok : IfOk r (λ made. IsStep (cover_step one.kind other.kind (seen_columns one) (seen_columns other) (query_of one.query) (query_of other.query)) (λ world. Stands world one × Stands world other) made) → IfOk r (λ made. AreNodes definitions on node made)
-      cover_ok = IfOk-weaker r _ _ (two_made definitions on node a b (λ state x y. machine.cover_checked state x y) (λ state. ap (nodes_checked state) is) one other at _ cover_asks)
-
-      pub cover_refused : IfErr r (λ refusal. (refusal ≡ OutOfMemory) ⊎ (cover_step one.kind other.kind (seen_columns one) (seen_columns other) (query_of one.query) (query_of other.query) ≡ Err refusal)) → IfErr r (λ refusal. (refusal ≡ OutOfMemory) ⊎ AreRefused definitions on node refusal)
-      cover_refused = IfErr-weaker r _ _ (λ refusal. or_so (two_refused definitions on node a b (λ state x y. machine.cover_checked state x y) (λ state. ap (nodes_checked state) is) one other at _ cover_asks refusal))
-
-  module _ (a b : QueryTree) (is : node ≡ merged a b) where
-    pub merge_inside : (refusal : Refusal) → IsPairRefused definitions on a b refusal → AreRefused definitions on node refusal
-    merge_inside = two_inside definitions on node a b (λ state x y. machine.alike state x y >>= (λ _. Ok (merge_rows x y))) (λ state. ap (nodes_checked state) is)
-
-    module _ (one other : Checked) (at : ArePair definitions on a b one other) (r : Result Checked Refusal) where
-      merge_asks : (s : ℕ → ℕ → List Stretch) (c : ℕ) → Stands (world_of (state_from definitions on s c)) one → Stands (world_of (state_from definitions on s c)) other → (machine.alike (state_from definitions on s c) (query_of one.query) (query_of other.query) >>= (λ _. Ok (merge_rows (query_of one.query) (query_of other.query)))) ≡ merge_step one.kind other.kind (seen_columns one) (seen_columns other) (query_of one.query) (query_of other.query)
-      merge_asks s c h k = λ i. merge_step (sym h.kind i) (sym k.kind i) (sym h.columns i) (sym k.columns i) (query_of one.query) (query_of other.query)
-
-      pub merge_ok : IfOk r (λ made. IsStep (merge_step one.kind other.kind (seen_columns one) (seen_columns other) (query_of one.query) (query_of other.query)) (λ world. Stands world one × Stands world other) made) → IfOk r (λ made. AreNodes definitions on node made)
-      merge_ok = IfOk-weaker r _ _ (two_made definitions on node a b (λ state x y. machine.alike state x y >>= (λ _. Ok (merge_rows x y))) (λ state. ap (nodes_checked state) is) one other at _ merge_asks)
-
-      pub merge_refused : IfErr r (λ refusal. (refusal ≡ OutOfMemory) ⊎ (merge_step one.kind other.kind (seen_columns one) (seen_columns other) (query_of one.query) (query_of other.query) ≡ Err refusal)) → IfErr r (λ refusal. (refusal ≡ OutOfMemory) ⊎ AreRefused definitions on node refusal)
-      merge_refused = IfErr-weaker r _ _ (λ refusal. or_so (two_refused definitions on node a b (λ state x y. machine.alike state x y >>= (λ _. Ok (merge_rows x y))) (λ state. ap (nodes_checked state) is) one other at _ merge_asks refusal))
-
-  module _ (a b : QueryTree) (is : node ≡ subtracted a b) where
-    pub minus_inside : (refusal : Refusal) → IsPairRefused definitions on a b refusal → AreRefused definitions on node refusal
-    minus_inside = two_inside definitions on node a b (λ state x y. machine.alike state x y >>= (λ _. Ok (minus_rows x y))) (λ state. ap (nodes_checked state) is)
-
-    module _ (one other : Checked) (at : ArePair definitions on a b one other) (r : Result Checked Refusal) where
-      minus_asks : (s : ℕ → ℕ → List Stretch) (c : ℕ) → Stands (world_of (state_from definitions on s c)) one → Stands (world_of (state_from definitions on s c)) other → (machine.alike (state_from definitions on s c) (query_of one.query) (query_of other.query) >>= (λ _. Ok (minus_rows (query_of one.query) (query_of other.query)))) ≡ minus_step one.kind other.kind (seen_columns one) (seen_columns other) (query_of one.query) (query_of other.query)
-      minus_asks s c h k = λ i. minus_step (sym h.kind i) (sym k.kind i) (sym h.columns i) (sym k.columns i) (query_of one.query) (query_of other.query)
-
-      pub minus_ok : IfOk r (λ made. IsStep (minus_step one.kind other.kind (seen_columns one) (seen_columns other) (query_of one.query) (query_of other.query)) (λ world. Stands world one × Stands world other) made) → IfOk r (λ made. AreNodes definitions on node made)
-      minus_ok = IfOk-weaker r _ _ (two_made definitions on node a b (λ state x y. machine.alike state x y >>= (λ _. Ok (minus_rows x y))) (λ state. ap (nodes_checked state) is) one other at _ minus_asks)
-
-      pub minus_refused : IfErr r (λ refusal. (refusal ≡ OutOfMemory) ⊎ (minus_step one.kind other.kind (seen_columns one) (seen_columns other) (query_of one.query) (query_of other.query) ≡ Err refusal)) → IfErr r (λ refusal. (refusal ≡ OutOfMemory) ⊎ AreRefused definitions on node refusal)
-      minus_refused = IfErr-weaker r _ _ (λ refusal. or_so (two_refused definitions on node a b (λ state x y. machine.alike state x y >>= (λ _. Ok (minus_rows x y))) (λ state. ap (nodes_checked state) is) one other at _ minus_asks refusal))
+        pub binary_refused : (refusal : Refusal) → both_expected ≡ Err refusal → AreRefused definitions on node refusal
+        binary_refused refusal e = record { each = λ s c. both_asked s c ∙ e }

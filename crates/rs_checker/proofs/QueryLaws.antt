@@ -1,53 +1,74 @@
--- Queries of the code as trees, their views opened node by node.
-use Rattle.std.proofs.Common.{◌≡◌, List, ℕ, zero, suc, ◌-◌, ◌<◌, ◌≤◌, map, Some, None, Vec, Global, refl, sym, ap, ◌∙◌, arith}
-use Rattle.std.specs.Prelude.{unwrap_or}
-use Rattle.std.specs.declared.boxed.Box.{Box}
+-- Queries by their topmost node: what they name, how large they are, and their views opened.
+use Rattle.std.proofs.Common.{◌≡◌, ℕ, zero, suc, ◌+◌, ◌-◌, ◌<◌, ◌≤◌, ◌++◌, Some, None, Bor, refl, ap, ◌∙◌, arith}
+use Rattle.std.specs.Prelude.{max, unwrap_or}
 use Rattle.std.specs.FinMap as names
 use Rattle.arrayvec.specs.ArrayString.{ArrayString}
 use Rattle.rs_facts.specs.Fact.{Names, Name}
-use Rattle.rs_syntax.specs.declared.queries.Atom.{Atom}
-use Rattle.rs_syntax.specs.declared.queries.Window.{Window}
-use Rattle.rs_syntax.specs.declared.queries.Query as code
-use Rattle.rs_syntax.specs.declared.queries.Query.{Query, fold-roll-Query}
-use Rattle.rs_syntax.specs.declared.queries.Query.TheVariants.{rolls-Where, rolls-Dissolve, rolls-Rename, rolls-Window, rolls-Overlay, rolls-Cover, rolls-Merge, rolls-Minus}
-use Rattle.rs_syntax.specs.declared.queries.Query.TheOpen.{Query-F}
-use Rattle.rs_syntax.specs.QueryView.{condition_tree, window_tree, query_step, query_tree}
-use Rattle.rs_syntax.specs.Tree.{ConditionTree, WindowTree, QueryTree, named, filtered, dissolved, renamed, overlaid, covered, merged, subtracted, windowed}
-use Rattle.rs_machine.specs.Opening.{opened_once, opened_times}
+use Rattle.rs_syntax.specs.declared.queries.Query.{Query}
+use Rattle.rs_syntax.specs.QueryView.{query_tree}
+use Rattle.rs_syntax.specs.Tree.{QueryTree, named}
+use Rattle.rs_machine.specs.Opening.{names_in, opened_once, opened_times, nodes, depth}
+use Rattle.rs_checker.specs.declared.node.UnaryOperator.{UnaryOperator}
+use Rattle.rs_checker.specs.declared.node.UnaryOperator.TheVariants as unary
+use Rattle.rs_checker.specs.declared.node.BinaryOperator.{BinaryOperator}
+use Rattle.rs_checker.specs.declared.node.BinaryOperator.TheVariants as binary
+use Rattle.rs_checker.specs.declared.node.Node.{Node}
+use Rattle.rs_checker.specs.declared.node.Node.TheVariants as tops
+use Rattle.rs_checker.specs.NodeView.{unary_tree, binary_tree, node_tree}
+
+-- ---- names and size
+
+pub names_unary : (operator : UnaryOperator) (a : QueryTree) → names_in (unary_tree operator a) ≡ names_in a
+names_unary (unary.Where condition) a = refl
+names_unary (unary.Dissolve columns) a = refl
+names_unary (unary.Rename from to) a = refl
+names_unary (unary.Window window) a = refl
+
+pub names_binary : (operator : BinaryOperator) (a b : QueryTree) → names_in (binary_tree operator a b) ≡ names_in a ++ names_in b
+names_binary binary.Overlay a b = refl
+names_binary binary.Cover a b = refl
+names_binary binary.Merge a b = refl
+names_binary binary.Minus a b = refl
+
+pub nodes_unary : (operator : UnaryOperator) (a : QueryTree) → nodes (unary_tree operator a) ≡ nodes a + 1
+nodes_unary (unary.Where condition) a = refl
+nodes_unary (unary.Dissolve columns) a = refl
+nodes_unary (unary.Rename from to) a = refl
+nodes_unary (unary.Window window) a = refl
+
+pub nodes_binary : (operator : BinaryOperator) (a b : QueryTree) → nodes (binary_tree operator a b) ≡ nodes a + nodes b + 1
+nodes_binary binary.Overlay a b = refl
+nodes_binary binary.Cover a b = refl
+nodes_binary binary.Merge a b = refl
+nodes_binary binary.Minus a b = refl
+
+pub depth_unary : (operator : UnaryOperator) (a : QueryTree) → depth (unary_tree operator a) ≡ depth a + 1
+depth_unary (unary.Where condition) a = refl
+depth_unary (unary.Dissolve columns) a = refl
+depth_unary (unary.Rename from to) a = refl
+depth_unary (unary.Window window) a = refl
+
+pub depth_binary : (operator : BinaryOperator) (a b : QueryTree) → depth (binary_tree operator a b) ≡ max (depth a) (depth b) + 1
+depth_binary binary.Overlay a b = refl
+depth_binary binary.Cover a b = refl
+depth_binary binary.Merge a b = refl
+depth_binary binary.Minus a b = refl
 
 -- ---- opening
 
-pub opened_filtered : (n : ℕ) (views : Names QueryTree) (a : QueryTree) (condition : ConditionTree) → opened_times n views (filtered a condition) ≡ filtered (opened_times n views a) condition
-opened_filtered zero views a condition = refl
-opened_filtered (suc n) views a condition = opened_filtered n views (opened_once views a) condition
+pub opened_unary : (n : ℕ) (views : Names QueryTree) (operator : UnaryOperator) (a : QueryTree) → opened_times n views (unary_tree operator a) ≡ unary_tree operator (opened_times n views a)
+opened_unary zero views operator a = refl
+opened_unary (suc n) views (unary.Where condition) a = opened_unary n views (unary.Where condition) (opened_once views a)
+opened_unary (suc n) views (unary.Dissolve columns) a = opened_unary n views (unary.Dissolve columns) (opened_once views a)
+opened_unary (suc n) views (unary.Rename from to) a = opened_unary n views (unary.Rename from to) (opened_once views a)
+opened_unary (suc n) views (unary.Window window) a = opened_unary n views (unary.Window window) (opened_once views a)
 
-pub opened_dissolved : (n : ℕ) (views : Names QueryTree) (a : QueryTree) (columns : List Name) → opened_times n views (dissolved a columns) ≡ dissolved (opened_times n views a) columns
-opened_dissolved zero views a columns = refl
-opened_dissolved (suc n) views a columns = opened_dissolved n views (opened_once views a) columns
-
-pub opened_renamed : (n : ℕ) (views : Names QueryTree) (a : QueryTree) (from to : Name) → opened_times n views (renamed a from to) ≡ renamed (opened_times n views a) from to
-opened_renamed zero views a from to = refl
-opened_renamed (suc n) views a from to = opened_renamed n views (opened_once views a) from to
-
-pub opened_windowed : (n : ℕ) (views : Names QueryTree) (a : QueryTree) (window : WindowTree) → opened_times n views (windowed a window) ≡ windowed (opened_times n views a) window
-opened_windowed zero views a window = refl
-opened_windowed (suc n) views a window = opened_windowed n views (opened_once views a) window
-
-pub opened_overlaid : (n : ℕ) (views : Names QueryTree) (a b : QueryTree) → opened_times n views (overlaid a b) ≡ overlaid (opened_times n views a) (opened_times n views b)
-opened_overlaid zero views a b = refl
-opened_overlaid (suc n) views a b = opened_overlaid n views (opened_once views a) (opened_once views b)
-
-pub opened_covered : (n : ℕ) (views : Names QueryTree) (a b : QueryTree) → opened_times n views (covered a b) ≡ covered (opened_times n views a) (opened_times n views b)
-opened_covered zero views a b = refl
-opened_covered (suc n) views a b = opened_covered n views (opened_once views a) (opened_once views b)
-
-pub opened_merged : (n : ℕ) (views : Names QueryTree) (a b : QueryTree) → opened_times n views (merged a b) ≡ merged (opened_times n views a) (opened_times n views b)
-opened_merged zero views a b = refl
-opened_merged (suc n) views a b = opened_merged n views (opened_once views a) (opened_once views b)
-
-pub opened_subtracted : (n : ℕ) (views : Names QueryTree) (a b : QueryTree) → opened_times n views (subtracted a b) ≡ subtracted (opened_times n views a) (opened_times n views b)
-opened_subtracted zero views a b = refl
-opened_subtracted (suc n) views a b = opened_subtracted n views (opened_once views a) (opened_once views b)
+pub opened_binary : (n : ℕ) (views : Names QueryTree) (operator : BinaryOperator) (a b : QueryTree) → opened_times n views (binary_tree operator a b) ≡ binary_tree operator (opened_times n views a) (opened_times n views b)
+opened_binary zero views operator a b = refl
+opened_binary (suc n) views binary.Overlay a b = opened_binary n views binary.Overlay (opened_once views a) (opened_once views b)
+opened_binary (suc n) views binary.Cover a b = opened_binary n views binary.Cover (opened_once views a) (opened_once views b)
+opened_binary (suc n) views binary.Merge a b = opened_binary n views binary.Merge (opened_once views a) (opened_once views b)
+opened_binary (suc n) views binary.Minus a b = opened_binary n views binary.Minus (opened_once views a) (opened_once views b)
 
 -- a view's name is its query, once more opened
 pub opened_view : (n : ℕ) (views : Names QueryTree) (name : Name) (query : QueryTree) → 0 < n → names.get views name ≡ Some query → opened_times n views (named name) ≡ opened_times (n - 1) views query
@@ -65,52 +86,15 @@ opened_table (suc n) views name none = ap (λ o. opened_times n views (unwrap_or
 pub opened_never : (n : ℕ) (views : Names QueryTree) (name : Name) → n ≤ 0 → opened_times n views (named name) ≡ named name
 opened_never n views name none = let e : n ≡ 0 = omega arith in ap (λ m. opened_times m views (named name)) e
 
--- ---- queries of the code
+-- ---- a query of the code
 
-pub Where_opened : (n : ℕ) (views : Names QueryTree) (query given : Query) (operand : Box Query Global) (x : Vec (Vec Atom Global) Global) → query ≡ code.Where operand x → given ≡ operand.value
-    → opened_times n views (query_tree query) ≡ filtered (opened_times n views (query_tree given)) (condition_tree x.items)
-Where_opened n views query given operand x is same =
-    ap (λ q. opened_times n views (query_tree q)) (is ∙ sym (rolls-Where operand x)) ∙ ap (opened_times n views) (fold-roll-Query QueryTree query_step (Query-F.Where operand x))
-    ∙ opened_filtered n views (query_tree operand.value) (condition_tree x.items) ∙ ap (λ q. filtered (opened_times n views (query_tree q)) (condition_tree x.items)) (sym same)
+module _ (n : ℕ) (views : Names QueryTree) (query : Query) (node : Node) (top : query_tree query ≡ node_tree node) where
+  pub named_opened : (name : Bor ArrayString) → node ≡ tops.Named name → opened_times n views (query_tree query) ≡ opened_times n views (named name.now.bytes)
+  named_opened name is = ap (opened_times n views) (top ∙ ap node_tree is)
 
-pub Dissolve_opened : (n : ℕ) (views : Names QueryTree) (query given : Query) (operand : Box Query Global) (x : Vec ArrayString Global) → query ≡ code.Dissolve operand x → given ≡ operand.value
-    → opened_times n views (query_tree query) ≡ dissolved (opened_times n views (query_tree given)) (map (λ name. name.bytes) x.items)
-Dissolve_opened n views query given operand x is same =
-    ap (λ q. opened_times n views (query_tree q)) (is ∙ sym (rolls-Dissolve operand x)) ∙ ap (opened_times n views) (fold-roll-Query QueryTree query_step (Query-F.Dissolve operand x))
-    ∙ opened_dissolved n views (query_tree operand.value) (map (λ name. name.bytes) x.items) ∙ ap (λ q. dissolved (opened_times n views (query_tree q)) (map (λ name. name.bytes) x.items)) (sym same)
+  pub unary_opened : (operator : UnaryOperator) (operand : Bor Query) → node ≡ tops.Unary operator operand → opened_times n views (query_tree query) ≡ unary_tree operator (opened_times n views (query_tree operand.now))
+  unary_opened operator operand is = ap (opened_times n views) (top ∙ ap node_tree is) ∙ opened_unary n views operator (query_tree operand.now)
 
-pub Rename_opened : (n : ℕ) (views : Names QueryTree) (query given : Query) (operand : Box Query Global) (x y : ArrayString) → query ≡ code.Rename operand x y → given ≡ operand.value
-    → opened_times n views (query_tree query) ≡ renamed (opened_times n views (query_tree given)) x.bytes y.bytes
-Rename_opened n views query given operand x y is same =
-    ap (λ q. opened_times n views (query_tree q)) (is ∙ sym (rolls-Rename operand x y)) ∙ ap (opened_times n views) (fold-roll-Query QueryTree query_step (Query-F.Rename operand x y))
-    ∙ opened_renamed n views (query_tree operand.value) x.bytes y.bytes ∙ ap (λ q. renamed (opened_times n views (query_tree q)) x.bytes y.bytes) (sym same)
-
-pub Window_opened : (n : ℕ) (views : Names QueryTree) (query given : Query) (operand : Box Query Global) (x : Window) → query ≡ code.Window operand x → given ≡ operand.value
-    → opened_times n views (query_tree query) ≡ windowed (opened_times n views (query_tree given)) (window_tree x)
-Window_opened n views query given operand x is same =
-    ap (λ q. opened_times n views (query_tree q)) (is ∙ sym (rolls-Window operand x)) ∙ ap (opened_times n views) (fold-roll-Query QueryTree query_step (Query-F.Window operand x))
-    ∙ opened_windowed n views (query_tree operand.value) (window_tree x) ∙ ap (λ q. windowed (opened_times n views (query_tree q)) (window_tree x)) (sym same)
-
-pub Overlay_opened : (n : ℕ) (views : Names QueryTree) (query first second : Query) (left right : Box Query Global) → query ≡ code.Overlay left right → first ≡ left.value → second ≡ right.value
-    → opened_times n views (query_tree query) ≡ overlaid (opened_times n views (query_tree first)) (opened_times n views (query_tree second))
-Overlay_opened n views query first second left right is same other =
-    ap (λ q. opened_times n views (query_tree q)) (is ∙ sym (rolls-Overlay left right)) ∙ ap (opened_times n views) (fold-roll-Query QueryTree query_step (Query-F.Overlay left right))
-    ∙ opened_overlaid n views (query_tree left.value) (query_tree right.value) ∙ sym (λ i. overlaid (opened_times n views (query_tree (same i))) (opened_times n views (query_tree (other i))))
-
-pub Cover_opened : (n : ℕ) (views : Names QueryTree) (query first second : Query) (left right : Box Query Global) → query ≡ code.Cover left right → first ≡ left.value → second ≡ right.value
-    → opened_times n views (query_tree query) ≡ covered (opened_times n views (query_tree first)) (opened_times n views (query_tree second))
-Cover_opened n views query first second left right is same other =
-    ap (λ q. opened_times n views (query_tree q)) (is ∙ sym (rolls-Cover left right)) ∙ ap (opened_times n views) (fold-roll-Query QueryTree query_step (Query-F.Cover left right))
-    ∙ opened_covered n views (query_tree left.value) (query_tree right.value) ∙ sym (λ i. covered (opened_times n views (query_tree (same i))) (opened_times n views (query_tree (other i))))
-
-pub Merge_opened : (n : ℕ) (views : Names QueryTree) (query first second : Query) (left right : Box Query Global) → query ≡ code.Merge left right → first ≡ left.value → second ≡ right.value
-    → opened_times n views (query_tree query) ≡ merged (opened_times n views (query_tree first)) (opened_times n views (query_tree second))
-Merge_opened n views query first second left right is same other =
-    ap (λ q. opened_times n views (query_tree q)) (is ∙ sym (rolls-Merge left right)) ∙ ap (opened_times n views) (fold-roll-Query QueryTree query_step (Query-F.Merge left right))
-    ∙ opened_merged n views (query_tree left.value) (query_tree right.value) ∙ sym (λ i. merged (opened_times n views (query_tree (same i))) (opened_times n views (query_tree (other i))))
-
-pub Minus_opened : (n : ℕ) (views : Names QueryTree) (query first second : Query) (left right : Box Query Global) → query ≡ code.Minus left right → first ≡ left.value → second ≡ right.value
-    → opened_times n views (query_tree query) ≡ subtracted (opened_times n views (query_tree first)) (opened_times n views (query_tree second))
-Minus_opened n views query first second left right is same other =
-    ap (λ q. opened_times n views (query_tree q)) (is ∙ sym (rolls-Minus left right)) ∙ ap (opened_times n views) (fold-roll-Query QueryTree query_step (Query-F.Minus left right))
-    ∙ opened_subtracted n views (query_tree left.value) (query_tree right.value) ∙ sym (λ i. subtracted (opened_times n views (query_tree (same i))) (opened_times n views (query_tree (other i))))
+  pub binary_opened : (operator : BinaryOperator) (left right : Bor Query) → node ≡ tops.Binary operator left right
+      → opened_times n views (query_tree query) ≡ binary_tree operator (opened_times n views (query_tree left.now)) (opened_times n views (query_tree right.now))
+  binary_opened operator left right is = ap (opened_times n views) (top ∙ ap node_tree is) ∙ opened_binary n views operator (query_tree left.now) (query_tree right.now)

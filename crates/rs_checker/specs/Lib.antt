@@ -1,6 +1,7 @@
 pub mod CheckedView
 pub mod Checks
 pub mod Inner
+pub mod NodeView
 pub mod Sizes
 pub mod Steps
 pub mod Nodes

@@ -1,19 +1,22 @@
 -- What the passes of a check find, in every state of the same definitions and referents.
-use Rattle.std.specs.Prelude.{◌≡◌, ℕ, ◌||◌, nat_lt, List, [], ◌∷◌, Result, Ok, Err}
+use Rattle.std.specs.Prelude.{◌≡◌, ℕ, ◌||◌, nat_lt, List, [], ◌∷◌, map, Result, Ok, Err}
 use Rattle.std.specs.FinMap as names
 use Rattle.rs_measure.specs.declared.refusal.Refusal.{Refusal}
 use Rattle.rs_measure.specs.declared.refusal.Refusal.TheVariants.{NoSuchRoute, NoSuchName, EmptySpan}
 use Rattle.rs_methods.specs.Position.{located}
 use Rattle.rs_facts.specs.Fact.{Name, Names}
-use Rattle.rs_facts.specs.Query.{Window, on_route, between, Query, window_rows}
+use Rattle.rs_facts.specs.Query.{Column, Window, on_route, between, Query, window_rows}
 use Rattle.rs_facts.specs.Runs.{Stretch}
+use Rattle.rs_syntax.specs.QueryView.{condition_tree, window_tree}
 use Rattle.rs_syntax.specs.Tree.{WindowTree, whole_route, part_of_route, QueryTree}
 use Rattle.rs_machine.specs.State.{has}
 use Rattle.rs_machine.specs.Checks.{◌>>=◌, unless, found}
 use Rattle.rs_machine.specs.Checking.{nodes_checked}
 use Rattle.rs_catalog.specs.Definitions.{Definitions, state_from}
 use Rattle.rs_checker.specs.declared.checked.Checked.{Checked}
-use Rattle.rs_checker.specs.Steps.{IsNode}
+use Rattle.rs_checker.specs.declared.node.UnaryOperator.{UnaryOperator}
+use Rattle.rs_checker.specs.declared.node.UnaryOperator.TheVariants as unary
+use Rattle.rs_checker.specs.Steps.{IsNode, filter_step, dissolve_step, rename_step}
 
 -- each is the name of a table or a view
 abbrev pub names_there : Definitions → List Name → Result (Unit {0}) Refusal
@@ -39,6 +42,13 @@ window_step definitions on query window = do
   place ← located_window definitions on window
   Ok (window_rows query place)
 
+-- any operator over one operand of these columns
+abbrev pub unary_step : Definitions → (ℕ → Names ℕ) → UnaryOperator → List Column → Query → Result Query Refusal
+unary_step definitions on (unary.Where condition) columns query = filter_step columns query (condition_tree condition.now)
+unary_step definitions on (unary.Dissolve names) columns query = dissolve_step columns query (map (λ name. name.bytes) names.now)
+unary_step definitions on (unary.Rename from to) columns query = rename_step columns query from.now.bytes to.now.bytes
+unary_step definitions on (unary.Window window) columns query = window_step definitions on query (window_tree window.now)
+
 -- in every such state it is what the machine makes of the query, its views opened
 pub record AreNodes (definitions : Definitions) (on : ℕ → Names ℕ) (query : QueryTree) (made : Checked) : Type 0 where
   pub each : (spans_on : ℕ → ℕ → List Stretch) (changes : ℕ) → IsNode (state_from definitions on spans_on changes) query made
@@ -46,12 +56,3 @@ pub record AreNodes (definitions : Definitions) (on : ℕ → Names ℕ) (query 
 -- in every such state the machine refuses the query so
 pub record AreRefused (definitions : Definitions) (on : ℕ → Names ℕ) (query : QueryTree) (refusal : Refusal) : Type 0 where
   pub each : (spans_on : ℕ → ℕ → List Stretch) (changes : ℕ) → nodes_checked (state_from definitions on spans_on changes) query ≡ Err refusal
-
--- the same of two operands
-pub record ArePair (definitions : Definitions) (on : ℕ → Names ℕ) (left right : QueryTree) (one other : Checked) : Type 0 where
-  pub first : AreNodes definitions on left one
-  pub second : AreNodes definitions on right other
-
-pub record IsPairRefused (definitions : Definitions) (on : ℕ → Names ℕ) (left right : QueryTree) (refusal : Refusal) : Type 0 where
-  pub each : (spans_on : ℕ → ℕ → List Stretch) (changes : ℕ) (next : Query → Query → Result Query Refusal)
-      → (nodes_checked (state_from definitions on spans_on changes) left >>= (λ a. nodes_checked (state_from definitions on spans_on changes) right >>= (λ b. next a b))) ≡ Err refusal

@@ -14,10 +14,17 @@ use Rattle.rs_machine.specs.State.{State, world_of}
 use Rattle.rs_machine.specs.Checks.{◌>>=◌, unless, same_kind, some_name_twice, column_names}
 use Rattle.rs_machine.specs.Checking.{column_place, column_places, condition_checked, may_stand_together, same_columns, nodes_checked}
 use Rattle.rs_checker.specs.declared.checked.Checked.{Checked}
+use Rattle.rs_checker.specs.declared.operand.CheckedOperand.{CheckedOperand}
+use Rattle.rs_checker.specs.declared.node.BinaryOperator.{BinaryOperator}
+use Rattle.rs_checker.specs.declared.node.BinaryOperator.TheVariants as binary
 use Rattle.rs_checker.specs.CheckedView.{query_of}
 
 abbrev pub seen_columns : Checked → List Column
 seen_columns checked = map column_tree checked.columns.items
+
+-- the same query off the heap
+abbrev pub checked_of : CheckedOperand → Checked
+checked_of operand = record { query = operand.query.value; kind = operand.kind; columns = operand.columns }
 
 -- It can be evaluated, and its kind and its columns are those that it says.
 pub record Stands (world : World) (checked : Checked) : Type 0 where
@@ -65,10 +72,14 @@ overlay_step left right a b = do
 abbrev pub kinds_agree : Kind → Kind → Result (Unit {0}) Refusal
 kinds_agree one other = unless (same_kind one other) KindsDiffer
 
+abbrev pub may_cover : Kind → Kind → List Column → List Column → Result (Unit {0}) Refusal
+may_cover one other left right = do
+  _ ← may_stand_together left right
+  kinds_agree one other
+
 abbrev pub cover_step : Kind → Kind → List Column → List Column → Query → Query → Result Query Refusal
 cover_step one other left right a b = do
-  _ ← may_stand_together left right
-  _ ← kinds_agree one other
+  _ ← may_cover one other left right
   Ok (cover_rows (length left) (length right) a b)
 
 abbrev pub alike : Kind → Kind → List Column → List Column → Result (Unit {0}) Refusal
@@ -85,3 +96,11 @@ abbrev pub minus_step : Kind → Kind → List Column → List Column → Query 
 minus_step one other left right a b = do
   _ ← alike one other left right
   Ok (minus_rows a b)
+
+-- ---- any operator over two operands
+
+abbrev pub binary_step : BinaryOperator → Kind → Kind → List Column → List Column → Query → Query → Result Query Refusal
+binary_step binary.Overlay one other left right a b = overlay_step left right a b
+binary_step binary.Cover one other left right a b = cover_step one other left right a b
+binary_step binary.Merge one other left right a b = merge_step one other left right a b
+binary_step binary.Minus one other left right a b = minus_step one other left right a b

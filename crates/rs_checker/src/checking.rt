@@ -2,7 +2,7 @@
 //!
 //! It promises what the machine makes of the query in every state of these definitions and referents.
 
-ghost use Rattle.std.specs.Prelude.{◌≡◌, ◌⊎◌, ℕ, List, IfOk, IfErr, Ok, Err};
+ghost use Rattle.std.specs.Prelude.{◌≡◌, ◌⊎◌, ℕ, List, [], ◌∷◌, IfOk, IfErr, Ok, Err};
 ghost use Rattle.rs_facts.specs.Fact.{Names};
 ghost use Rattle.rs_facts.specs.Runs.{Stretch};
 ghost use Rattle.rs_syntax.specs.QueryView.{query_tree};
@@ -12,10 +12,14 @@ ghost use Rattle.rs_machine.specs.Opening.{names_in, opened_times};
 ghost use Rattle.rs_catalog.specs.Definitions.{state_from, views_of};
 ghost use Rattle.rs_catalog.specs.Referents.{referents_on};
 ghost use Rattle.rs_checker.specs.Checks.{IsChecked};
-ghost use Rattle.rs_checker.specs.Nodes.{names_there, AreNodes, AreRefused, ArePair, IsPairRefused};
+ghost use Rattle.rs_checker.specs.CheckedView.{query_of};
+ghost use Rattle.rs_checker.specs.Steps.{IsStep, Stands, checked_of, seen_columns, binary_step};
+ghost use Rattle.rs_checker.specs.Nodes.{names_there, unary_step, AreNodes, AreRefused};
 
 use crate::checked::{Checked, CheckedQuery, Columns};
 use crate::columns::joined;
+use crate::node::{BinaryOperator, Node, UnaryOperator, top_node};
+use crate::operand::{CheckedOperand, boxed};
 use crate::operators::{cover, dissolve, filter, merge, minus, overlay, rename};
 use crate::size::fits_limits;
 use crate::views::opened_query;
@@ -50,34 +54,24 @@ pub fn check(
 fn names_known(catalog: &Catalog, query: &Query) -> Result<(), Refusal>
     ensures { result ≡ names_there catalog.now (names_in (query_tree query.now)) }
 {
-    match query {
-        Query::Named(name) => {
-            if catalog.has_table_or_view(name) {
-                Ok(())
-            } else {
-                Err(Refusal::NoSuchName)
-            }
-        }
-        Query::Where(operand, _) => names_known(catalog, operand),
-        Query::Dissolve(operand, _) => names_known(catalog, operand),
-        Query::Rename(operand, _, _) => names_known(catalog, operand),
-        Query::Overlay(left, right) => {
+    match top_node(query) {
+        Node::Named(name) => name_known(catalog, name),
+        Node::Unary(_, operand) => names_known(catalog, operand),
+        Node::Binary(_, left, right) => {
             names_known(catalog, left)?;
             names_known(catalog, right)
         }
-        Query::Cover(left, right) => {
-            names_known(catalog, left)?;
-            names_known(catalog, right)
-        }
-        Query::Merge(left, right) => {
-            names_known(catalog, left)?;
-            names_known(catalog, right)
-        }
-        Query::Minus(left, right) => {
-            names_known(catalog, left)?;
-            names_known(catalog, right)
-        }
-        Query::Window(operand, _) => names_known(catalog, operand),
+    }
+}
+
+// Whether a name is a table's or a view's.
+fn name_known(catalog: &Catalog, name: &Name) -> Result<(), Refusal>
+    ensures { result ≡ names_there catalog.now (name.now.bytes ∷ []) }
+{
+    if catalog.has_table_or_view(name) {
+        Ok(())
+    } else {
+        Err(Refusal::NoSuchName)
     }
 }
 
@@ -94,61 +88,73 @@ fn nodes(
     ensures refused { IfErr result (λ refusal. (refusal ≡ Refusal.OutOfMemory)
         ⊎ AreRefused catalog.now (referents_on referents.now) (opened_times openings (views_of catalog.now) (query_tree query.now)) refusal) }
 {
-    match query {
-        Query::Named(name) => name_nodes(alloc, catalog, referents, name, openings),
-        Query::Where(operand, condition) => {
-            let operand = nodes(alloc, catalog, referents, operand, openings)?;
-            filter(alloc, operand, condition.as_slice())
+    match top_node(query) {
+        Node::Named(name) => name_nodes(alloc, catalog, referents, name, openings),
+        Node::Unary(operator, query) => {
+            let operand = boxed_nodes(alloc, catalog, referents, query, openings)?;
+            apply_unary(alloc, catalog, referents, operator, operand)
         }
-        Query::Dissolve(operand, names) => {
-            let operand = nodes(alloc, catalog, referents, operand, openings)?;
-            dissolve(alloc, operand, names.as_slice())
-        }
-        Query::Rename(operand, from, to) => {
-            let operand = nodes(alloc, catalog, referents, operand, openings)?;
-            rename(alloc, operand, from, to)
-        }
-        Query::Overlay(left, right) => {
-            let (left, right) = pair(alloc, catalog, referents, left, right, openings)?;
-            overlay(alloc, left, right)
-        }
-        Query::Cover(left, right) => {
-            let (left, right) = pair(alloc, catalog, referents, left, right, openings)?;
-            cover(alloc, left, right)
-        }
-        Query::Merge(left, right) => {
-            let (left, right) = pair(alloc, catalog, referents, left, right, openings)?;
-            merge(alloc, left, right)
-        }
-        Query::Minus(left, right) => {
-            let (left, right) = pair(alloc, catalog, referents, left, right, openings)?;
-            minus(alloc, left, right)
-        }
-        Query::Window(operand, part) => {
-            let operand = nodes(alloc, catalog, referents, operand, openings)?;
-            window(alloc, catalog, referents, operand, part)
+        Node::Binary(operator, left, right) => {
+            let left = boxed_nodes(alloc, catalog, referents, left, openings)?;
+            let right = boxed_nodes(alloc, catalog, referents, right, openings)?;
+            apply_binary(operator, left, right)
         }
     }
 }
 
-// The same of two operands, the left one first.
+// The same of an operand, its query on the heap.
 #[cycle(nodes)]
-fn pair(
+fn boxed_nodes(
     alloc: Global,
     catalog: &Catalog,
     referents: &RouteReferents,
-    left: &Query,
-    right: &Query,
+    query: &Query,
     openings: usize,
-) -> Result<(Checked, Checked), Refusal>
-    ensures ok { IfOk result (λ made. ArePair catalog.now (referents_on referents.now)
-        (opened_times openings (views_of catalog.now) (query_tree left.now)) (opened_times openings (views_of catalog.now) (query_tree right.now)) made.0 made.1) }
-    ensures refused { IfErr result (λ refusal. (refusal ≡ Refusal.OutOfMemory) ⊎ IsPairRefused catalog.now (referents_on referents.now)
-        (opened_times openings (views_of catalog.now) (query_tree left.now)) (opened_times openings (views_of catalog.now) (query_tree right.now)) refusal) }
+) -> Result<CheckedOperand, Refusal>
+    ensures ok { IfOk result (λ made. AreNodes catalog.now (referents_on referents.now) (opened_times openings (views_of catalog.now) (query_tree query.now)) (checked_of made)) }
+    ensures refused { IfErr result (λ refusal. (refusal ≡ Refusal.OutOfMemory)
+        ⊎ AreRefused catalog.now (referents_on referents.now) (opened_times openings (views_of catalog.now) (query_tree query.now)) refusal) }
 {
-    let first = nodes(alloc, catalog, referents, left, openings)?;
-    let second = nodes(alloc, catalog, referents, right, openings)?;
-    Ok((first, second))
+    boxed(alloc, nodes(alloc, catalog, referents, query, openings)?)
+}
+
+// An operator over one operand.
+fn apply_unary(
+    alloc: Global,
+    catalog: &Catalog,
+    referents: &RouteReferents,
+    operator: UnaryOperator<'_>,
+    operand: CheckedOperand,
+) -> Result<Checked, Refusal>
+    ensures ok { IfOk result (λ made. IsStep (unary_step catalog.now (referents_on referents.now) operator.entry (seen_columns (checked_of operand)) (query_of operand.query.value))
+        (λ world. Stands world (checked_of operand)) made) }
+    ensures refused { IfErr result (λ refusal. (refusal ≡ Refusal.OutOfMemory)
+        ⊎ (unary_step catalog.now (referents_on referents.now) operator.entry (seen_columns (checked_of operand)) (query_of operand.query.value) ≡ Err refusal)) }
+{
+    match operator {
+        UnaryOperator::Where(condition) => filter(alloc, operand, condition),
+        UnaryOperator::Dissolve(names) => dissolve(alloc, operand, names),
+        UnaryOperator::Rename(from, to) => rename(operand, from, to),
+        UnaryOperator::Window(part) => window(catalog, referents, operand, part),
+    }
+}
+
+// An operator over two operands.
+fn apply_binary(
+    operator: BinaryOperator,
+    left: CheckedOperand,
+    right: CheckedOperand,
+) -> Result<Checked, Refusal>
+    ensures ok { IfOk result (λ made. IsStep (binary_step operator left.kind right.kind (seen_columns (checked_of left)) (seen_columns (checked_of right)) (query_of left.query.value) (query_of right.query.value))
+        (λ world. Stands world (checked_of left) × Stands world (checked_of right)) made) }
+    ensures refused { IfErr result (λ refusal. binary_step operator left.kind right.kind (seen_columns (checked_of left)) (seen_columns (checked_of right)) (query_of left.query.value) (query_of right.query.value) ≡ Err refusal) }
+{
+    match operator {
+        BinaryOperator::Overlay => overlay(left, right),
+        BinaryOperator::Cover => cover(left, right),
+        BinaryOperator::Merge => merge(left, right),
+        BinaryOperator::Minus => minus(left, right),
+    }
 }
 
 // The same of a name: of its view's query, where it is opened, or of the table.

@@ -6,6 +6,7 @@ ghost use Rattle.rs_facts.specs.ConditionView.{condition_of, term_of};
 ghost use Rattle.rs_value.specs.View.{literal_datum};
 ghost use Rattle.rs_syntax.specs.View.{column_tree};
 ghost use Rattle.rs_syntax.specs.QueryView.{operand_tree, no_condition, atom_tree, condition_tree};
+ghost use Rattle.rs_syntax.specs.Tree.{compare, is_null};
 ghost use Rattle.rs_machine.specs.Checking.{condition_checked, operand_checked, suits_class};
 ghost use Rattle.rs_checker.specs.Inner.{atoms_tree, all_joined, any_joined, conditions_of};
 
@@ -14,7 +15,7 @@ use crate::columns::{place_of, same_class};
 use rs_facts::{Condition, Term};
 use rs_measure::Refusal;
 use rs_syntax::{Atom, ColumnDefinition, Name, Operand};
-use rs_value::{COLUMNS, ColumnType, Literal};
+use rs_value::{COLUMNS, ColumnType, Comparison, Literal};
 use std::alloc::Global;
 
 /// A condition, an OR of ANDs, with its columns by place. Atom by atom from the left, it is refused with
@@ -87,18 +88,15 @@ fn atom(alloc: Global, columns: &Columns, atom: &Atom) -> Result<Condition, Refu
         ⊎ (condition_checked (map column_tree columns.now.items) (atom_tree atom.now) ≡ Err refusal)) }
 {
     match atom {
-        Atom::Compare(name, comparison, operand) => {
-            let place = place_of(columns, name)?;
-            let term = term(
-                alloc,
-                columns,
-                columns[usize::from(place)].column_type,
-                operand,
-            )?;
-            Ok(Condition::Compare(place, *comparison, term))
-        }
-        Atom::IsNull(name) => Ok(Condition::TestsNull(place_of(columns, name)?)),
-        Atom::IsNotNull(name) => negated(alloc, Condition::TestsNull(place_of(columns, name)?)),
+        Atom::Compare(name, comparison, operand) => compared(
+            alloc,
+            columns,
+            name,
+            *comparison,
+            operand,
+        ),
+        Atom::IsNull(name) => tests_null(columns, name),
+        Atom::IsNotNull(name) => negated(alloc, tests_null(columns, name)?),
         Atom::Negated(condition) => negated(
             alloc,
             disjunction(alloc, columns, condition.as_slice())?,
@@ -108,6 +106,39 @@ fn atom(alloc: Global, columns: &Columns, atom: &Atom) -> Result<Condition, Refu
             disjunction(alloc, columns, condition.as_slice())?,
         ),
     }
+}
+
+// A column that is compared.
+fn compared(
+    alloc: Global,
+    columns: &Columns,
+    name: &Name,
+    comparison: Comparison,
+    operand: &Operand,
+) -> Result<Condition, Refusal>
+    ensures ok { IfOk result (λ checked.
+        condition_checked (map column_tree columns.now.items) (compare name.now.bytes comparison (operand_tree operand.now)) ≡ Ok (condition_of checked)) }
+    ensures refused { IfErr result (λ refusal. (refusal ≡ Refusal.OutOfMemory)
+        ⊎ (condition_checked (map column_tree columns.now.items) (compare name.now.bytes comparison (operand_tree operand.now)) ≡ Err refusal)) }
+{
+    let place = place_of(columns, name)?;
+    let term = term(
+        alloc,
+        columns,
+        columns[usize::from(place)].column_type,
+        operand,
+    )?;
+    Ok(Condition::Compare(place, comparison, term))
+}
+
+// Whether a column holds NULL.
+fn tests_null(columns: &Columns, name: &Name) -> Result<Condition, Refusal>
+    ensures ok { IfOk result (λ checked.
+        condition_checked (map column_tree columns.now.items) (is_null name.now.bytes) ≡ Ok (condition_of checked)) }
+    ensures refused { IfErr result (λ refusal.
+        condition_checked (map column_tree columns.now.items) (is_null name.now.bytes) ≡ Err refusal) }
+{
+    Ok(Condition::TestsNull(place_of(columns, name)?))
 }
 
 // What a column of this type is compared with.
@@ -173,7 +204,7 @@ fn unnamed(columns: &Columns) -> Result<Condition, Refusal>
     ensures refused { IfErr result (λ refusal.
         condition_checked (map column_tree columns.now.items) no_condition ≡ Err refusal) }
 {
-    Ok(Condition::TestsNull(place_of(columns, &Name::new())?))
+    tests_null(columns, &Name::new())
 }
 
 // `NOT`.

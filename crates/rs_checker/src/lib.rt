@@ -5,6 +5,8 @@ pub mod checked;
 pub mod checking;
 pub mod columns;
 pub mod conditions;
+mod node;
+mod operand;
 mod operators;
 mod size;
 mod views;

@@ -10,6 +10,7 @@ ghost use Rattle.rs_machine.specs.Checking.{fits_limits};
 ghost use Rattle.rs_catalog.specs.Definitions.{views_of};
 ghost use Rattle.rs_checker.specs.Sizes.{nodes_left, pair_left};
 
+use crate::node::{Node, top_node};
 use crate::views::opened_query;
 use rs_catalog::Catalog;
 use rs_machine::limits::{DEPTH, NODES};
@@ -37,18 +38,10 @@ fn nodes_left(
     if nodes == 0 || depth == 0 {
         return None;
     }
-    match query {
-        Query::Named(name) => named_left(catalog, name, openings, nodes, depth),
-        Query::Where(operand, _) => nodes_left(catalog, operand, openings, nodes - 1, depth - 1),
-        Query::Dissolve(operand, _) => nodes_left(catalog, operand, openings, nodes - 1, depth - 1),
-        Query::Rename(operand, _, _) => nodes_left(
-            catalog,
-            operand,
-            openings,
-            nodes - 1,
-            depth - 1,
-        ),
-        Query::Overlay(left, right) => pair_left(
+    match top_node(query) {
+        Node::Named(name) => named_left(catalog, name, openings, nodes, depth),
+        Node::Unary(_, operand) => nodes_left(catalog, operand, openings, nodes - 1, depth - 1),
+        Node::Binary(_, left, right) => pair_left(
             catalog,
             left,
             right,
@@ -56,31 +49,6 @@ fn nodes_left(
             nodes - 1,
             depth - 1,
         ),
-        Query::Cover(left, right) => pair_left(
-            catalog,
-            left,
-            right,
-            openings,
-            nodes - 1,
-            depth - 1,
-        ),
-        Query::Merge(left, right) => pair_left(
-            catalog,
-            left,
-            right,
-            openings,
-            nodes - 1,
-            depth - 1,
-        ),
-        Query::Minus(left, right) => pair_left(
-            catalog,
-            left,
-            right,
-            openings,
-            nodes - 1,
-            depth - 1,
-        ),
-        Query::Window(operand, _) => nodes_left(catalog, operand, openings, nodes - 1, depth - 1),
     }
 }
 

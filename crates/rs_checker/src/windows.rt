@@ -1,35 +1,33 @@
 //! Windows on routes: where the positions lie that bound them.
 
-ghost use Rattle.std.specs.Prelude.{◌≡◌, ◌⊎◌, IfOk, IfErr, Ok, Err};
+ghost use Rattle.std.specs.Prelude.{◌≡◌, IfOk, IfErr, Ok, Err};
 ghost use Rattle.rs_syntax.specs.QueryView.{window_tree};
 ghost use Rattle.rs_catalog.specs.Referents.{referents_on};
 ghost use Rattle.rs_checker.specs.CheckedView.{query_of, window_of};
-ghost use Rattle.rs_checker.specs.Steps.{IsStep, Stands};
+ghost use Rattle.rs_checker.specs.Steps.{IsStep, Stands, checked_of};
 ghost use Rattle.rs_checker.specs.Nodes.{located_window, window_step};
 
 use crate::checked::{Checked, CheckedQuery, LocatedWindow};
+use crate::operand::CheckedOperand;
 use rs_catalog::{Catalog, RouteReferents};
 use rs_measure::Refusal;
 use rs_syntax::Window;
-use std::alloc::Global;
 
 /// WINDOW: the rows inside. A route that is missing is refused 20; of a part, the first position is located and then
 /// the second (25, 30), and the first has to lie below the second (31).
 pub fn window(
-    alloc: Global,
     catalog: &Catalog,
     referents: &RouteReferents,
-    operand: Checked,
+    operand: CheckedOperand,
     window: &Window,
 ) -> Result<Checked, Refusal>
-    ensures ok { IfOk result (λ made. IsStep (window_step catalog.now (referents_on referents.now) (query_of operand.query) (window_tree window.now))
-        (λ world. Stands world operand) made) }
-    ensures refused { IfErr result (λ refusal. (refusal ≡ Refusal.OutOfMemory)
-        ⊎ (window_step catalog.now (referents_on referents.now) (query_of operand.query) (window_tree window.now) ≡ Err refusal)) }
+    ensures ok { IfOk result (λ made. IsStep (window_step catalog.now (referents_on referents.now) (query_of operand.query.value) (window_tree window.now))
+        (λ world. Stands world (checked_of operand)) made) }
+    ensures refused { IfErr result (λ refusal. window_step catalog.now (referents_on referents.now) (query_of operand.query.value) (window_tree window.now) ≡ Err refusal) }
 {
     let located = located(catalog, referents, window)?;
     Ok(Checked {
-        query: CheckedQuery::Window(Box::new(alloc, operand.query)?, located),
+        query: CheckedQuery::Window(operand.query, located),
         kind: operand.kind,
         columns: operand.columns,
     })

@@ -13,5 +13,5 @@ decreases-nodes l = 2 * (size.nodes (opened_times l.openings (views_of l.catalog
 abbrev pub decreases-name_nodes : goal.decreases-name_nodes
 decreases-name_nodes l = 2 * (size.nodes (opened_times l.openings (views_of l.catalog.now) (named l.name.now.bytes)) + l.openings)
 
-abbrev pub decreases-pair : goal.decreases-pair
-decreases-pair l = 2 * (size.nodes (opened_times l.openings (views_of l.catalog.now) (query_tree l.left.now)) + size.nodes (opened_times l.openings (views_of l.catalog.now) (query_tree l.right.now)) + l.openings) + 2
+abbrev pub decreases-boxed_nodes : goal.decreases-boxed_nodes
+decreases-boxed_nodes l = 2 * (size.nodes (opened_times l.openings (views_of l.catalog.now) (query_tree l.query.now)) + l.openings) + 2

@@ -4,10 +4,10 @@ use Rattle.rs_measure.specs.declared.refusal.Refusal.TheVariants.{OutOfMemory}
 use Rattle.rs_facts.specs.ConditionView.{condition_of}
 use Rattle.rs_syntax.specs.declared.queries.Atom.{Atom}
 use Rattle.rs_syntax.specs.View.{column_tree}
-use Rattle.rs_syntax.specs.QueryView.{operand_tree, atom_tree, condition_tree}
-use Rattle.rs_machine.specs.Checking.{condition_checked, operand_checked}
+use Rattle.rs_syntax.specs.QueryView.{atom_tree, condition_tree}
+use Rattle.rs_machine.specs.Checking.{condition_checked}
 use Rattle.rs_checker.specs.Inner.{atoms_tree}
-use Rattle.rs_checker.proofs.ConditionLaws.{chain_begins, chain_goes, chain_stops, chain_ends, chain_none, negated_is, bracketed_is, or_refused, is_none, is_some, compare_is, compare_checked, type_at, negated_refused, bracketed_refused, negated_done, bracketed_done}
+use Rattle.rs_checker.proofs.ConditionLaws.{chain_begins, chain_goes, chain_stops, chain_ends, chain_none, negated_is, bracketed_is, or_refused, is_none, is_some, compare_is, null_is, not_null_refused, not_null_done, negated_refused, bracketed_refused, negated_done, bracketed_done}
 use Rattle.rs_checker.proofs.conditions.+conditions.Goals as goal
 
 pub conjunction-loop-part-init : goal.conjunction-loop-part-init
@@ -66,12 +66,35 @@ disjunction-returns-clause-ok t c =
     (chain_ends (map column_tree c.args.columns.now.items) (λ atoms. atoms_tree atoms.items) c.args.condition.now c.loop-atoms.atoms-index c.loop-atoms.parts.items c.loop-atoms.invariant c.loop-atoms-test.false (omega arith) (is_some c.is_empty.result _ _ c.is_empty.ensures c.if-is_empty.false c.loop-atoms.parts.ok.0)).1
     ∙ ap Ok (sym c.any_of.ensures)
 
-pub atom-returns-in_ok-term-in-Compare-clause-ok : goal.atom-returns-in_ok-term-in-Compare-clause-ok
-atom-returns-in_ok-term-in-Compare-clause-ok t c =
-    let columns = map column_tree c.args.columns.now.items in
-    compare_checked columns c.in-Compare.name.bytes c.in-Compare.comparison (operand_tree c.in-Compare.operand) c.in_ok-place-in-Compare.place _ (atom_tree c.args.atom.now)
-    (ap atom_tree c.in-Compare.is ∙ compare_is c.in-Compare.name c.in-Compare.comparison c.in-Compare.operand) (sym c.in_ok-place-in-Compare.ensures.place)
-    (ap (λ type. operand_checked columns type (operand_tree c.in-Compare.operand)) (type_at c.args.columns.now.items c.deref.result.now c.in_ok-place-in-Compare.place c.from.result c.index-deref-from.result c.deref.ensures.0 c.from.ensures c.in_ok-place-in-Compare.ensures.there) ∙ c.in_ok-term-in-Compare.ensures.ok)
+pub atom-returns-in-Compare-clause-ok : goal.atom-returns-in-Compare-clause-ok
+atom-returns-in-Compare-clause-ok t c =
+    let e = ap atom_tree c.in-Compare.is ∙ compare_is c.in-Compare.name c.in-Compare.comparison c.in-Compare.operand in
+    subst (λ tree. IfOk c.compared.result (λ checked. condition_checked (map column_tree c.args.columns.now.items) tree ≡ Ok (condition_of checked))) (sym e) c.compared.ensures.ok
+
+pub atom-returns-in-Compare-clause-refused : goal.atom-returns-in-Compare-clause-refused
+atom-returns-in-Compare-clause-refused t c =
+    let e = ap atom_tree c.in-Compare.is ∙ compare_is c.in-Compare.name c.in-Compare.comparison c.in-Compare.operand in
+    subst (λ tree. IfErr c.compared.result (λ refusal. (refusal ≡ OutOfMemory) ⊎ (condition_checked (map column_tree c.args.columns.now.items) tree ≡ Err refusal))) (sym e) c.compared.ensures.refused
+
+pub atom-returns-in-IsNull-clause-ok : goal.atom-returns-in-IsNull-clause-ok
+atom-returns-in-IsNull-clause-ok t c =
+    let e = ap atom_tree c.in-IsNull.is ∙ null_is c.in-IsNull.name in
+    subst (λ tree. IfOk c.tests_null.result (λ checked. condition_checked (map column_tree c.args.columns.now.items) tree ≡ Ok (condition_of checked))) (sym e) c.tests_null.ensures.ok
+
+pub atom-returns-in-IsNull-clause-refused : goal.atom-returns-in-IsNull-clause-refused
+atom-returns-in-IsNull-clause-refused t c =
+    let e = ap atom_tree c.in-IsNull.is ∙ null_is c.in-IsNull.name in
+    subst (λ tree. IfErr c.tests_null.result (λ refusal. (refusal ≡ OutOfMemory) ⊎ (condition_checked (map column_tree c.args.columns.now.items) tree ≡ Err refusal))) (sym e)
+    (IfErr-weaker c.tests_null.result _ _ (λ refusal h. inr h) c.tests_null.ensures.refused)
+
+pub atom-returns-in_err-tests_null-in-IsNotNull-clause-refused : goal.atom-returns-in_err-tests_null-in-IsNotNull-clause-refused
+atom-returns-in_err-tests_null-in-IsNotNull-clause-refused t c =
+    let p = err_from_is_err_and c.from_residual.result c.from_residual.ensures.1 in
+    rw (p.1, p.2) (inr (not_null_refused (map column_tree c.args.columns.now.items) c.in-IsNotNull.name (atom_tree c.args.atom.now) (ap atom_tree c.in-IsNotNull.is) c.in_err-tests_null-in-IsNotNull.field-0.0 c.in_err-tests_null-in-IsNotNull.ensures.refused))
+
+pub atom-returns-in_ok-tests_null-in-IsNotNull-clause-ok : goal.atom-returns-in_ok-tests_null-in-IsNotNull-clause-ok
+atom-returns-in_ok-tests_null-in-IsNotNull-clause-ok t c =
+    IfOk-weaker c.negated.result _ _ (λ checked e. not_null_done (map column_tree c.args.columns.now.items) c.in-IsNotNull.name (atom_tree c.args.atom.now) (ap atom_tree c.in-IsNotNull.is) _ c.in_ok-tests_null-in-IsNotNull.ensures.ok ∙ ap Ok (sym e)) c.negated.ensures.ok
 
 pub atom-returns-in_err-disjunction-in-Negated-clause-refused : goal.atom-returns-in_err-disjunction-in-Negated-clause-refused
 atom-returns-in_err-disjunction-in-Negated-clause-refused t c =

@@ -3,4 +3,4 @@ use Rattle.rs_checker.proofs.StepLaws.{merge_made}
 use Rattle.rs_checker.proofs.operators.merge.Goals as goal
 
 pub returns-clause-ok : goal.returns-clause-ok
-returns-clause-ok c = merge_made c.args.left c.args.right c.in_ok-new.field-0 c.in_ok-new-2.field-0 c.in_ok-new.ensures.ok c.in_ok-new-2.ensures.ok (sym c.alike.ensures ∙ c.in_ok-alike.was)
+returns-clause-ok c = merge_made c.args.left c.args.right (sym c.alike.ensures ∙ c.in_ok-alike.was)
