@@ -1,24 +1,24 @@
 //! Entries of inner pages, written anew from the pages that they say.
 
-ghost use Rattle.std.specs.Prelude.{◌≡◌, OnOk, length};
+ghost use Rattle.std.specs.Prelude.{◌≡◌, OnOk, OnErr, IsOkUnless, length};
 ghost use Rattle.rs_owners.specs.Changes.{WorksAfter};
 ghost use Rattle.rs_pages.specs.Lending.{RestsAfter};
 ghost use Rattle.rs_tree.specs.Form.{form_of};
 ghost use Rattle.rs_tree_page.specs.Layouts.{entry_bytes};
 ghost use Rattle.rs_tree_page.specs.Node.{IsNode};
+ghost use Rattle.rs_tree_page.specs.declared.node.Node.{Node};
 ghost use Rattle.rs_tree_search.specs.Reading.{HasNoNode};
 ghost use Rattle.rs_tree_edit.specs.Parts.{SaysPart, SaysNode};
 
-use crate::reading::read_part;
 use rs_measure::Refusal;
 use rs_page::{Page, PageNumber};
 use rs_pages::Pages;
 use rs_records::record_at;
 use rs_tree::Summary;
-use rs_tree_page::{Layout, Node, content, inner_summary, leaf_summary, write_entry};
+use rs_tree_page::{Layout, Node, content, inner_summary, leaf_summary, read_node, write_entry};
 
 /// Writes the entry that says the page with this number: the summary of its cells and the least of them are those of its
-/// own bytes. It is refused as `read_part` is.
+/// own bytes. It is refused with 91, and with 94 where it is no page of a tree.
 pub fn write_entry_of<P: Pages, S: Summary>(
     pages: &mut P,
     layout: Layout,
@@ -33,10 +33,30 @@ pub fn write_entry_of<P: Pages, S: Summary>(
     ensures says { P.is_tied pages.old → OnOk result
         (SaysPart (form_of S.says S.unit S.join S.of layout.summary layout.width) (P.store pages.old).map number entry.new) }
 {
-    let loaded = read_part(pages, number, layout)?;
-    match loaded.node {
-        Node::Leaf(count) => write_leaf_entry::<S>(&loaded.page, layout, number, count, entry),
-        Node::Inner(count) => write_inner_entry::<S>(&loaded.page, layout, number, count, entry),
+    match pages.page(number) {
+        Ok(page) => write_node_entry::<S>(page, layout, number, entry),
+        Err(refusal) => Err(refusal),
+    }
+}
+
+/// Writes the entry that says this page. It is refused with 94 where it is no page of a tree.
+fn write_node_entry<S: Summary>(
+    page: &Page,
+    layout: Layout,
+    number: PageNumber,
+    entry: &mut [u8],
+) -> Result<(), Refusal>
+    requires entry { length entry.old ≡ entry_bytes layout }
+    requires summary { layout.summary ≡ S.WIDTH }
+    ensures says { OnOk result
+        (SaysNode (form_of S.says S.unit S.join S.of layout.summary layout.width) number page.now.bytes entry.new) }
+    ensures none { OnErr result ((node : Node) → IsNode page.now.bytes number layout node → ⊥) }
+    ensures refused { IsOkUnless result Refusal.DamagedFile }
+{
+    match read_node(page, number, layout) {
+        Some(Node::Leaf(count)) => write_leaf_entry::<S>(page, layout, number, count, entry),
+        Some(Node::Inner(count)) => write_inner_entry::<S>(page, layout, number, count, entry),
+        None => return Err(Refusal::DamagedFile),
     }
     Ok(())
 }

@@ -14,4 +14,4 @@ pub use adding::add_page;
 pub use choosing::{entry_for, has_key};
 pub use editing::edit_page;
 pub use entries::write_entry_of;
-pub use reading::read_part;
+pub use reading::{read_into, read_part};

@@ -6,10 +6,10 @@ ghost use Rattle.rs_pages.specs.Lending.{RestsAfter};
 ghost use Rattle.rs_tree_search.specs.Reading.{HasNoNode, IsLoaded};
 
 use rs_measure::Refusal;
-use rs_page::PageNumber;
+use rs_page::{Page, PageNumber};
 use rs_pages::Pages;
-use rs_tree_page::Layout;
-use rs_tree_search::load::{Loaded, load};
+use rs_tree_page::{Layout, Node};
+use rs_tree_search::load::{Loaded, load, load_into};
 
 /// A copy of the page with this number, which is one of a tree's. It is refused with 91, and with 94 where it is no page
 /// of a tree.
@@ -25,4 +25,21 @@ pub fn read_part<P: Pages>(
 {
     let mut left = 1;
     load(pages, number, layout, &mut left)
+}
+
+/// The same, where the copy goes into a page of the caller's.
+pub fn read_into<P: Pages>(
+    pages: &mut P,
+    number: PageNumber,
+    layout: Layout,
+    copy: &mut Page,
+) -> Result<Node, Refusal>
+    ensures rests { RestsAfter P.is_tied P.store P.keeps result pages.old pages.new }
+    ensures works { WorksAfter (P.is_tied pages.old → HasNoNode (P.store pages.old).map number layout) result
+        (P.store pages.old) (P.store pages.new) }
+    ensures loaded { IfOk result (λ node. IsLoaded (P.is_tied pages.old) (P.store pages.old).map number layout
+        (record { page = copy.new; node = node })) }
+{
+    let mut left = 1;
+    load_into(pages, number, layout, &mut left, copy)
 }

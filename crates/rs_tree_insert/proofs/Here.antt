@@ -32,7 +32,7 @@ use Rattle.rs_tree_edit.proofs.Replacing.{leaf_written}
 use Rattle.rs_tree_insert.specs.Inserting.{tops, PutsBelow, TellsBelow, HasNoShared}
 use Rattle.rs_tree_insert.specs.Writing.{IsBroken, PutsRecords, SplitsPage, is_found, spliced}
 use Rattle.rs_tree_insert.specs.declared.answer.Put.{Put}
-use Rattle.rs_tree_insert.specs.declared.answer.Put.TheVariants.{Found, Placed, Split}
+use Rattle.rs_tree_insert.specs.declared.answer.Put.TheVariants.{Found, Placed, Kept, Split}
 use Rattle.rs_tree_insert.proofs.Cells.{whole_keys, splits_between, with_new, new_absent, at_contains}
 use Rattle.rs_tree_insert.proofs.Halving.{leaf_split}
 
@@ -83,7 +83,7 @@ module _ (says : List ℕ → List (List ℕ) → Type 0) (layout : Layout) (pag
     -- and is now
     pub here_puts : (new : PageMap) (answer : Put) (added : List (List ℕ)) → added ≡ cell ∷ [] → PutsRecords pages new number page kind.Leaf layout.width count at 0 added answer
         → PutsBelow form pages new number cell answer
-    here_puts new answer added one puts = record { each = at_shape } where
+    here_puts new answer added one puts = record { each = at_shape; kept = λ is. absurd (puts.written is) } where
       leaf_count : (shape : Shape 0) → IsPart form pages number 0 shape → count ≡ length shape.cells
       leaf_count shape part =
           let same : part.lies.page ≡ page = page_one pages number part.lies.page page (subst (λ n. pages.page n ≡ Some part.lies.page) part.top part.lies.there) there in
@@ -103,6 +103,7 @@ module _ (says : List ℕ → List (List ℕ) → Type 0) (layout : Layout) (pag
           omega (arith, length-append (take at shape.cells) ((cell ∷ []) ++ drop (at + 0) shape.cells)) in
           subst (λ n. TakesPlace form pages new 0 (uses 0 shape) (n ∷ []) (with_cell cell shape.cells)) part.top
           (subst (TakesPlace form pages new 0 (uses 0 shape) (shape.page ∷ [])) (with_new shape.cells cell at lies) (leaf_written form pages new shape at 0 (cell ∷ []) part.lies moved some))
+      by_answer shape part lies Kept e = absurd (puts.written (sym e))
       by_answer shape part lies (Split other) e =
           let splits = puts.two other (sym e) in
           let whole : spliced rs at 0 added ≡ with_cell cell shape.cells =
@@ -144,6 +145,7 @@ module _ (form : Form) (old mid : PageMap) (same : SamePages mid old) (number : 
           lists = place.lists;
           moves = moves_trans old mid new (uses height shape) (uses height shape) _ (same_pages-moves old mid (uses height shape) same) place.moves;
         };
+    kept = λ is height shape others part up shares. puts.kept is height shape others (part_later height shape part) up (shares_later (uses height shape) others shares);
   }
 
   pub tells_before : (cell : List ℕ) (answer : Put) → TellsBelow form mid number cell answer → TellsBelow form old number cell answer

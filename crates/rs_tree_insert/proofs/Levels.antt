@@ -23,7 +23,7 @@ use Rattle.rs_tree_edit.specs.Choosing.{IsEntryFor}
 use Rattle.rs_tree_insert.specs.Inserting.{HasNoShared}
 use Rattle.rs_tree_insert.specs.Writing.{is_found}
 use Rattle.rs_tree_insert.specs.declared.answer.Put.{Put}
-use Rattle.rs_tree_insert.specs.declared.answer.Put.TheVariants.{Found, Placed, Split}
+use Rattle.rs_tree_insert.specs.declared.answer.Put.TheVariants.{Found, Placed, Kept, Split}
 
 -- a refusal for damage alone
 pub works_damaged : {T : Type 0} (damaged : Type 0) (s : Store) → damaged → WorksAfter {T = T} damaged (Err refusal.DamagedFile) s s
@@ -61,6 +61,7 @@ entry_chosen layout count at w bytes page entry cell same wide chosen found = re
 pub not_found : (answer : Put) → (answer ≡ Found → ⊥) → is_found answer ≡ false
 not_found Found none = absurd (none refl)
 not_found Placed none = refl
+not_found Kept none = refl
 not_found (Split other) none = refl
 
 -- what is told of an answer under a premise

@@ -3,6 +3,7 @@ pub mod Cells
 pub mod Halves
 pub mod Halving
 pub mod Here
+pub mod Kept
 pub mod Levels
 pub mod Rooting
 pub mod Tops

@@ -20,11 +20,12 @@ use Rattle.rs_tree_search.proofs.Entering.{no_node-no_part}
 use Rattle.rs_tree_edit.specs.Parts.{SaysPart}
 use Rattle.rs_tree_insert.specs.Inserting.{tops, HasNoTops, SaysTops}
 use Rattle.rs_tree_insert.specs.declared.answer.Put.{Put}
-use Rattle.rs_tree_insert.specs.declared.answer.Put.TheVariants.{Found, Placed, Split}
+use Rattle.rs_tree_insert.specs.declared.answer.Put.TheVariants.{Found, Placed, Kept, Split}
 
 pub tops_first : (first : ℕ) (answer : Put) → slice_get (tops first answer) 0 ≡ Some first
 tops_first first Found = refl
 tops_first first Placed = refl
+tops_first first Kept = refl
 tops_first first (Split other) = refl
 
 pub no_node_before : (old mid : PageMap) (number : ℕ) (layout : Layout) → SamePages mid old → HasNoNode mid number layout → HasNoNode old number layout
@@ -57,6 +58,7 @@ two_entries w e one old other rest is size same =
 pub tops_one : (first : ℕ) (answer : Put) → ((other : ℕ) → answer ≡ Split other → ⊥) → tops first answer ≡ first ∷ []
 tops_one first Found none = refl
 tops_one first Placed none = refl
+tops_one first Kept none = refl
 tops_one first (Split other) none = absurd (none other refl)
 
 pub says_one : (form : Form) (pages : PageMap) (first : ℕ) (answer : Put) (entries : List (List ℕ)) (one : List ℕ) → tops first answer ≡ first ∷ [] → entries ≡ one ∷ [] → SaysPart form pages first one

@@ -4,17 +4,19 @@ use Rattle.std.proofs.lemmas.Bool.{false≢true}
 use Rattle.std.proofs.lemmas.List.{length-map, length-append, length-take-le, length-drop}
 use Rattle.std.specs.List.{AllByRecursion, AllZip, Contains, flat_map}
 use Rattle.rs_page.specs.Number.{number_at}
+use Rattle.rs_page.specs.declared.header.PageKind.TheVariants as kind
 use Rattle.rs_pages.specs.PageMap.{PageMap, SamePages}
 use Rattle.rs_pages.proofs.FreeLists.{page_one}
-use Rattle.rs_pages.proofs.Stores.{SamePages-refl}
+use Rattle.rs_pages.proofs.Stores.{SamePages-refl, SamePages-trans}
 use Rattle.rs_records.specs.Order.{Ascends}
 use Rattle.rs_records.specs.Records.{records, keys}
+use Rattle.rs_records.proofs.RecordLists.{length-records}
 use Rattle.rs_owners.specs.Counts.{◌&◌}
 use Rattle.rs_owners.specs.Owners.{Shares}
 use Rattle.rs_owners.proofs.Moving.{same_pages-moves, moves_same}
 use Rattle.rs_tree.specs.Cells.{with_cell}
-use Rattle.rs_tree.specs.Form.{Form, least_from}
-use Rattle.rs_tree.specs.Content.{SaysChild, content}
+use Rattle.rs_tree.specs.Form.{Form, child_bytes, least_from}
+use Rattle.rs_tree.specs.Content.{SaysChild, HasRecords, content}
 use Rattle.rs_tree.specs.Shape.{Shape, Lies, page_of, cells_of, uses, child_of}
 use Rattle.rs_tree.proofs.Lists.{has_inside}
 use Rattle.rs_tree.proofs.Parts.{leasts_ascend}
@@ -28,16 +30,18 @@ use Rattle.rs_tree_search.proofs.Entering.{inner_no_leaf, inner_parts}
 use Rattle.rs_tree_search.proofs.Entries.{part_at}
 use Rattle.rs_tree_search.proofs.Loading.{no_fit-no_node}
 use Rattle.rs_tree_edit.specs.Choosing.{IsEntryFor}
+use Rattle.rs_tree_edit.specs.Editing.{Lists, Splices}
 use Rattle.rs_tree_edit.specs.Parts.{TakesPlace, SaysPart, uses_all}
 use Rattle.rs_tree_edit.proofs.Between.{LiesBetween, lies_between, with_between, among_between, among_all}
-use Rattle.rs_tree_edit.proofs.Pieces.{flat_at, flat_between, zip_spliced}
+use Rattle.rs_tree_edit.proofs.Pieces.{list_at, flat_at, flat_between, zip_spliced}
 use Rattle.rs_tree_edit.proofs.Replacing.{Reparts, beside_part, part_shares, part_replaced, reparts_same, inner_written}
-use Rattle.rs_tree_insert.specs.Inserting.{tops, PutsBelow, TellsBelow, HasNoShared, HasNoTops, WritesAbove}
+use Rattle.rs_tree_insert.specs.Inserting.{tops, Exchanges, PutsBelow, TellsBelow, HasNoShared, HasNoTops, WritesAbove}
 use Rattle.rs_tree_insert.specs.Writing.{IsBroken, is_found, spliced}
 use Rattle.rs_tree_insert.specs.declared.answer.Put.{Put}
-use Rattle.rs_tree_insert.specs.declared.answer.Put.TheVariants.{Found, Placed, Split}
+use Rattle.rs_tree_insert.specs.declared.answer.Put.TheVariants.{Found, Placed, Kept, Split}
 use Rattle.rs_tree_insert.proofs.Cells.{with_present}
 use Rattle.rs_tree_insert.proofs.Halving.{inner_split}
+use Rattle.rs_tree_insert.proofs.Kept.{exchanged, said_with, both_said, said_one, one_said}
 
 -- the part of a shape that a cell belongs in
 pub record Under (form : Form) (pages : PageMap) (entry : List ℕ) (cell : List ℕ) (height : ℕ) (shape : Shape (suc height)) (at : ℕ) : Type 0 where
@@ -63,7 +67,17 @@ says_parts form pages height (n ∷ ns) (entry ∷ rest) (x ∷ xs) all e lie =
 tops_some : (number : ℕ) (answer : Put) → 1 ≤ length (tops number answer)
 tops_some number Found = omega arith
 tops_some number Placed = omega arith
+tops_some number Kept = omega arith
 tops_some number (Split other) = omega arith
+
+found_not_kept : Found ≡ Kept → ⊥
+found_not_kept e = cc
+
+placed_not_kept : Placed ≡ Kept → ⊥
+placed_not_kept e = cc
+
+split_not_kept : (other : ℕ) → Split other ≡ Kept → ⊥
+split_not_kept other e = cc
 
 module _ (says : List ℕ → List (List ℕ) → Type 0) (layout : Layout) (pages : PageMap) (number count at : ℕ) (page entry cell : List ℕ)
     (node : IsNode page number layout (Inner count)) (there : pages.page number ≡ Some page)
@@ -131,10 +145,29 @@ module _ (says : List ℕ → List (List ℕ) → Type 0) (layout : Layout) (pag
         let u = under height shape part up in
         none.none height u.part (beside_part height shape at & others) (part_below height shape u) u.up (omega arith) (part_shares pages height shape at u.part others u.there shares)
 
+  -- the page, put in its own place
+  self_spliced : (map : PageMap) → map.page number ≡ Some page → number < map.fields.pages → Splices map map number kind.Inner (entry_bytes layout) count at 1 (entry ∷ [])
+  self_spliced map has below =
+      let one_more : suc at ≡ at + 1 = omega arith in
+      let whole : take at es ++ ((entry ∷ []) ++ drop (at + 1) es) ≡ es = ap (λ j. take at es ++ (entry ∷ drop j es)) (sym one_more) ∙ sym (list_at es at entry found) in
+      let size : count ≡ length es = sym (length-records count (entry_bytes layout) (content page)) in
+      record {
+        was = page;
+        page = page;
+        there = has;
+        used = rw node.0.header.kind refl;
+        below = below;
+        replaces = record { fields = refl; there = has; others = record { pages = λ other apart. refl } };
+        lists = subst (Lists page kind.Inner number (entry_bytes layout)) (sym whole)
+            (record { has = subst (λ n. HasRecords page kind.Inner number n (entry_bytes layout)) size node.0; holds = ap (λ n. records n (entry_bytes layout) (content page)) (sym size) });
+      }
+
   module _ (mid : PageMap) (below : Put) (puts : PutsBelow form pages mid (number_at 0 4 entry) cell below) where
     -- what the page above has below it then
     pub record Midway (height : ℕ) (shape : Shape (suc height)) : Type 0 where
+      pub u : Under form pages entry cell height shape at
       pub news : List (Shape height)
+      pub holds : flat_map (cells_of height) news ≡ with_cell cell (cells_of height u.part)
       pub top : map (page_of height) news ≡ tops (number_at 0 4 entry) below
       pub lie : AllByRecursion (Lies form mid height) news
       pub some : 2 ≤ length (take at shape.parts ++ (news ++ drop (suc at) shape.parts))
@@ -152,7 +185,9 @@ module _ (says : List ℕ → List (List ℕ) → Type 0) (layout : Layout) (pag
         let many : 2 ≤ length shape.parts = omega (arith, part.lies.0.inner.some, length-map shape.parts (child_of height)) in
         let new_some : 1 ≤ length news = omega (arith, tops_some (number_at 0 4 entry) below, ap length place.top, length-map news (page_of height)) in
         record {
+          u = u;
           news = news;
+          holds = place.lists;
           top = place.top;
           lie = place.lie;
           some = omega (
@@ -170,10 +205,79 @@ module _ (says : List ℕ → List (List ℕ) → Type 0) (layout : Layout) (pag
               ∙ ap (with_cell cell) (sym (cells_cut height shape u));
         }
 
-    -- the page above is written
+    -- the page above says what is below it as it is
+    left_above : (new : PageMap) → SamePages new mid → (height : ℕ) (shape : Shape (suc height)) (others : ℕ → ℕ) → IsPart form pages number (suc height) shape → Shares pages (uses (suc height) shape & others)
+        → (m : Midway height shape) → AllZip (SaysChild form) (entry ∷ []) (map (child_of height) m.news)
+        → TakesPlace form pages new (suc height) (uses (suc height) shape) (number ∷ []) (with_cell cell (cells_of (suc height) shape))
+    left_above new same height shape others part shares m said =
+        let parts : List (Shape height) = take at shape.parts ++ (m.news ++ drop (suc at) shape.parts) in
+        let rep = reparts_same form pages mid new height number page (uses (suc height) shape) parts same m.reparts in
+        let one_more : suc at ≡ at + 1 = omega arith in
+        let zipped = subst (λ j. AllZip (SaysChild form) (take at es ++ ((entry ∷ []) ++ drop j es)) (map (child_of height) parts)) one_more
+        (zip_spliced (SaysChild form) (child_of height) es (entry ∷ []) shape.parts m.news at (suc at) (entries_of height shape part).says said) in
+        subst (TakesPlace form pages new (suc height) (uses (suc height) shape) (number ∷ [])) m.lists
+        (inner_written form pages new new height number page (uses (suc height) shape) others parts count at 1 (entry ∷ []) rep shares (self_spliced new rep.there rep.below) zipped m.some)
+
+    -- the entry that was there says what is below it
+    kept_said : (new : PageMap) (height : ℕ) (shape : Shape (suc height)) (m : Midway height shape) (written : WritesAbove form mid new number page count at (tops (number_at 0 4 entry) below) Kept)
+        → AllZip (SaysChild form) (entry ∷ []) (map (child_of height) m.news)
+    kept_said new height shape m written =
+        let left = written.kept refl in
+        let same : left.entry ≡ entry = cc (left.there, found) in
+        subst (λ e. AllZip (SaysChild form) (e ∷ []) (map (child_of height) m.news)) same
+        (subst (λ rs. AllZip (SaysChild form) rs (map (child_of height) m.news)) left.one
+        (says_parts form mid height (tops (number_at 0 4 entry) below) written.entries m.news written.says.each m.top m.lie))
+
+    -- and what is said of the part goes on to the whole
+    lifted : (height : ℕ) (shape : Shape (suc height)) (u : Under form pages entry cell height shape at) → Exchanges form (cells_of height u.part) (with_cell cell (cells_of height u.part))
+        → Exchanges form (cells_of (suc height) shape) (with_cell cell (cells_of (suc height) shape))
+    lifted height shape u one =
+        let before : List (List ℕ) = flat_map (cells_of height) (take at shape.parts) in
+        let after : List (List ℕ) = flat_map (cells_of height) (drop (suc at) shape.parts) in
+        subst (λ cs. Exchanges form cs (with_cell cell cs)) (sym (cells_cut height shape u))
+        (subst (Exchanges form (before ++ (cells_of height u.part ++ after))) (sym (with_between cell before (cells_of height u.part) after u.between))
+        (exchanged form before (cells_of height u.part) (with_cell cell (cells_of height u.part)) after one))
+
+    kept_exchanges : (new : PageMap) (height : ℕ) (shape : Shape (suc height)) (m : Midway height shape) → WritesAbove form mid new number page count at (tops (number_at 0 4 entry) below) Kept
+        → Exchanges form (cells_of (suc height) shape) (with_cell cell (cells_of (suc height) shape))
+    kept_exchanges new height shape m written =
+        let left = written.kept refl in
+        let same : left.entry ≡ entry = cc (left.there, found) in
+        let said = said_one form height entry (with_cell cell (cells_of height m.u.part)) m.news (kept_said new height shape m written) m.holds in
+        let was : SaysChild form entry (record { page = number_at 0 4 entry; cells = cells_of height m.u.part }) = record { page = refl; summary = m.u.is.says.summary; least = m.u.is.says.least } in
+        lifted height shape m.u (both_said form entry (number_at 0 4 entry) (cells_of height m.u.part) (with_cell cell (cells_of height m.u.part))
+        (λ cells others one other. left.exchange cells others
+        (subst (λ e. form.says (take form.summary (drop child_bytes e)) cells) (sym same) one) (subst (λ e. form.says (take form.summary (drop child_bytes e)) others) (sym same) other)) was said)
+
+    -- where the page below needs no other entry, this one needs none either
+    pub puts_kept : below ≡ Kept → PutsBelow form pages mid number cell Kept
+    puts_kept is = record { each = at_shape; kept = λ same. kept_shape } where
+      part_kept : (height : ℕ) (shape : Shape (suc height)) (others : ℕ → ℕ) → Shares pages (uses (suc height) shape & others) → (u : Under form pages entry cell height shape at)
+          → Exchanges form (cells_of height u.part) (with_cell cell (cells_of height u.part))
+      part_kept height shape others shares u =
+          puts.kept is height u.part (beside_part height shape at & others) (part_below height shape u) u.up (part_shares pages height shape at u.part others u.there shares)
+
+      at_shape : (height : ℕ) (shape : Shape height) (others : ℕ → ℕ) → IsPart form pages number height shape → Ascends (cells_of height shape) → Shares pages (uses height shape & others)
+          → TakesPlace form pages mid height (uses height shape) (tops number Kept) (with_cell cell (cells_of height shape))
+      at_shape zero shape others part up shares = absurd (no_leaf shape part)
+      at_shape (suc height) shape others part up shares =
+          let m = midway height shape others part up shares in
+          let was : SaysChild form entry (record { page = number_at 0 4 entry; cells = cells_of height m.u.part }) = record { page = refl; summary = m.u.is.says.summary; least = m.u.is.says.least } in
+          let said = said_with form entry (number_at 0 4 entry) (cells_of height m.u.part) (with_cell cell (cells_of height m.u.part)) (part_kept height shape others shares m.u) was in
+          let top : map (page_of height) m.news ≡ number_at 0 4 entry ∷ [] = m.top ∙ ap (tops (number_at 0 4 entry)) is in
+          left_above mid (SamePages-refl mid) height shape others part shares m (one_said form height entry (with_cell cell (cells_of height m.u.part)) m.news top m.holds said)
+
+      kept_shape : (height : ℕ) (shape : Shape height) (others : ℕ → ℕ) → IsPart form pages number height shape → Ascends (cells_of height shape) → Shares pages (uses height shape & others)
+          → Exchanges form (cells_of height shape) (with_cell cell (cells_of height shape))
+      kept_shape zero shape others part up shares = absurd (no_leaf shape part)
+      kept_shape (suc height) shape others part up shares =
+          let u = under height shape part up in
+          lifted height shape u (part_kept height shape others shares u)
+
+    -- the page above is written, or stays
     pub puts_above : (new : PageMap) (above : Put) → (mid.page number ≡ Some page → WritesAbove form mid new number page count at (tops (number_at 0 4 entry) below) above)
         → PutsBelow form pages new number cell above
-    puts_above new above writes = record { each = at_shape } where
+    puts_above new above writes = record { each = at_shape; kept = at_kept } where
       by_answer : (height : ℕ) (shape : Shape (suc height)) (others : ℕ → ℕ) → IsPart form pages number (suc height) shape → Shares pages (uses (suc height) shape & others) → Midway height shape
           → (written : WritesAbove form mid new number page count at (tops (number_at 0 4 entry) below) above) → (answer : Put) → answer ≡ above
           → TakesPlace form pages new (suc height) (uses (suc height) shape) (tops number answer) (with_cell cell (cells_of (suc height) shape))
@@ -188,13 +292,18 @@ module _ (says : List ℕ → List (List ℕ) → Type 0) (layout : Layout) (pag
             at_answer : (a : Put) → a ≡ above → Reparts form pages written.mid height number page (uses (suc height) shape) (take at shape.parts ++ (m.news ++ drop (suc at) shape.parts))
                 → AllZip (SaysChild form) (take at es ++ (written.entries ++ drop (at + 1) es)) (map (child_of height) (take at shape.parts ++ (m.news ++ drop (suc at) shape.parts)))
                 → TakesPlace form pages new (suc height) (uses (suc height) shape) (tops number a) (flat_map (cells_of height) (take at shape.parts ++ (m.news ++ drop (suc at) shape.parts)))
-            at_answer Found e rep zipped = absurd (false≢true (sym written.puts.placed ∙ ap is_found (sym e)))
+            at_answer Found e rep zipped = absurd (false≢true (sym (written.puts (λ kept. found_not_kept (e ∙ kept))).placed ∙ ap is_found (sym e)))
             at_answer Placed e rep zipped =
                 inner_written form pages written.mid new height number page (uses (suc height) shape) others (take at shape.parts ++ (m.news ++ drop (suc at) shape.parts)) count at 1 written.entries
-                rep shares (written.puts.one (sym e)) zipped m.some
+                rep shares ((written.puts (λ kept. placed_not_kept (e ∙ kept))).one (sym e)) zipped m.some
+            at_answer Kept e rep zipped =
+                let left = written.kept (sym e) in
+                let stays = SamePages-trans new written.mid mid left.stays written.same in
+                subst (TakesPlace form pages new (suc height) (uses (suc height) shape) (number ∷ [])) (sym m.lists)
+                (left_above new stays height shape others part shares m (kept_said new height shape m (subst (WritesAbove form mid new number page count at (tops (number_at 0 4 entry) below)) (sym e) written)))
             at_answer (Split other) e rep zipped =
                 inner_split form pages written.mid new height number other page (uses (suc height) shape) others (take at shape.parts ++ (m.news ++ drop (suc at) shape.parts))
-                (spliced es at 1 written.entries) rep shares (written.puts.two other (sym e)) zipped
+                (spliced es at 1 written.entries) rep shares ((written.puts (λ kept. split_not_kept other (e ∙ kept))).two other (sym e)) zipped
 
       at_shape : (height : ℕ) (shape : Shape height) (others : ℕ → ℕ) → IsPart form pages number height shape → Ascends (cells_of height shape) → Shares pages (uses height shape & others)
           → TakesPlace form pages new height (uses height shape) (tops number above) (with_cell cell (cells_of height shape))
@@ -202,6 +311,13 @@ module _ (says : List ℕ → List (List ℕ) → Type 0) (layout : Layout) (pag
       at_shape (suc height) shape others part up shares =
           let m = midway height shape others part up shares in
           by_answer height shape others part shares m (writes m.reparts.there) above refl
+
+      at_kept : above ≡ Kept → (height : ℕ) (shape : Shape height) (others : ℕ → ℕ) → IsPart form pages number height shape → Ascends (cells_of height shape) → Shares pages (uses height shape & others)
+          → Exchanges form (cells_of height shape) (with_cell cell (cells_of height shape))
+      at_kept is zero shape others part up shares = absurd (no_leaf shape part)
+      at_kept is (suc height) shape others part up shares =
+          let m = midway height shape others part up shares in
+          kept_exchanges new height shape m (subst (WritesAbove form mid new number page count at (tops (number_at 0 4 entry) below)) is (writes m.reparts.there))
 
     -- where the page above can't be written, no such part has it at its top
     pub none_above : (levels : ℕ) → HasNoTops form mid (tops (number_at 0 4 entry) below) ⊎ IsBroken mid number → HasNoShared form pages number levels
@@ -231,6 +347,7 @@ puts_found form old new number cell same tells = record {
         lists = one_list (cells_of height shape) ∙ sym (with_present (cells_of height shape) cell up has);
         moves = moves_same old new (uses height shape) (uses height shape) (uses height shape) (uses_all height (shape ∷ [])) (λ n. refl) (λ n. omega arith) (same_pages-moves old new (uses height shape) same);
       };
+  kept = λ is. absurd (found_not_kept is);
 } where
   one_list : (cs : List (List ℕ)) → cs ++ [] ≡ cs
   one_list [] = refl

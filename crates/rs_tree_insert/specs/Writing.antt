@@ -38,10 +38,12 @@ pub record SplitsPage (old new : PageMap) (number other : ℕ) (kind : PageKind)
 abbrev pub is_found : Put → Bool
 is_found put.Found = true
 is_found put.Placed = false
+is_found put.Kept = false
 is_found (put.Split other) = false
 
 -- in one page or two
 pub record PutsRecords (old new : PageMap) (number : ℕ) (page : List ℕ) (kind : PageKind) (width count at removed : ℕ) (added : List (List ℕ)) (answer : Put) : Type 0 where
   pub placed : is_found answer ≡ false
+  pub written : answer ≡ put.Kept → ⊥
   pub one : answer ≡ put.Placed → Splices old new number kind width count at removed added
   pub two : (other : ℕ) → answer ≡ put.Split other → SplitsPage old new number other kind width (spliced (records count width (content page)) at removed added)

@@ -16,6 +16,9 @@ use rs_tree::Summary;
 use rs_tree_edit::write_entry_of;
 use rs_tree_page::Layout;
 
+/// The bytes of an entry at the most.
+pub const ONE_ENTRY: usize = 1360;
+
 /// The bytes of two entries at the most.
 pub const TWO_ENTRIES: usize = 2 * 1360;
 

@@ -6,6 +6,7 @@
 
 pub mod answer;
 pub mod entries;
+pub mod finding;
 pub mod path;
 pub mod roots;
 pub mod splitting;

@@ -1,24 +1,26 @@
 //! The path of a cell: down to its leaf, and up again.
 
-ghost use Rattle.std.specs.Prelude.{◌≡◌, ◌⊎◌, ◌<◌, ◌*◌, Some, true, false, IfOk, length};
+ghost use Rattle.std.specs.Prelude.{◌≡◌, ◌⊎◌, ◌<◌, ◌≤◌, ◌*◌, ℕ, List, Some, true, false, [], ◌∷◌, IfOk, IsTrue, length, take, drop, slice_get};
 ghost use Rattle.rs_owners.specs.Changes.{WorksAfter};
 ghost use Rattle.rs_pages.specs.PageMap.{SamePages};
-ghost use Rattle.rs_tree.specs.Form.{form_of};
-ghost use Rattle.rs_tree_page.specs.Node.{IsNode};
+ghost use Rattle.rs_records.specs.Records.{records};
+ghost use Rattle.rs_tree.specs.Content.{content};
+ghost use Rattle.rs_tree.specs.Form.{child_bytes, form_of};
+ghost use Rattle.rs_tree_page.specs.Layouts.{entry_bytes};
+ghost use Rattle.rs_tree_insert.specs.Finding.{BelongsAt, BelongsUnder};
 ghost use Rattle.rs_tree_insert.specs.Inserting.{HasNoShared, HasNoTops, PutsBelow, TellsBelow, WritesAbove, tops};
 ghost use Rattle.rs_tree_insert.specs.Writing.{IsBroken, is_found};
 
 use crate::answer::Put;
-use crate::entries::{TWO_ENTRIES, write_entries};
+use crate::entries::{ONE_ENTRY, TWO_ENTRIES, write_entries};
+use crate::finding::{Spot, find_spot};
 use crate::writing::put_records;
 use rs_measure::Refusal;
-use rs_page::{ContentKind, Page, PageNumber};
+use rs_page::{ContentKind, PageNumber};
 use rs_pages::Pages;
-use rs_records::{place, record_at};
 use rs_tree::Summary;
-use rs_tree_edit::{entry_for, has_key, read_part};
-use rs_tree_page::entry::child;
-use rs_tree_page::{Layout, Node, content};
+use rs_tree_page::Layout;
+use rs_tree_page::entry::{child, summary};
 
 /// Puts a cell into the part of a tree with this page at its top.
 #[cycle(inserting)]
@@ -44,52 +46,46 @@ pub fn insert_below<P: Pages, S: Summary>(
     ensures same { P.is_tied pages.old → IfOk result (λ put. is_found put ≡ true
         → SamePages (P.store pages.new).map (P.store pages.old).map) }
 {
-    let loaded = read_part(pages, number, layout)?;
-    match loaded.node {
-        Node::Leaf(count) => {
-            insert_here::<P, S>(pages, layout, number, &loaded.page, count, cell)
-        }
-        Node::Inner(count) => {
+    let mut bytes = [0; ONE_ENTRY];
+    let entry = &mut bytes[..layout.entry_width()];
+    let spot = find_spot(pages, number, layout, cell, entry)?;
+    match spot {
+        Spot::Found => Ok(Put::Found),
+        Spot::Leaf(count, at) => insert_here::<P, S>(pages, layout, number, count, at, cell),
+        Spot::Inner(count, at) => {
             if levels == 0 {
                 return Err(Refusal::DamagedFile);
             }
-            insert_under::<P, S>(pages, layout, number, &loaded.page, count, levels, cell)
+            insert_under::<P, S>(pages, layout, number, count, at, entry, levels, cell)
         }
     }
 }
 
-/// Puts a cell into a leaf, of which `page` is a copy.
+/// Puts a cell into a leaf of so many cells, at the place where it belongs.
 fn insert_here<P: Pages, S: Summary>(
     pages: &mut P,
     layout: Layout,
     number: PageNumber,
-    page: &Page,
     count: usize,
+    at: usize,
     cell: &[u8],
 ) -> Result<Put, Refusal>
     requires begun { (P.store pages.old).is_begun ≡ true }
     requires width { length cell.now ≡ layout.width }
-    requires node { IsNode page.now.bytes number layout (Node.Leaf count) }
+    requires fit { count * layout.width ≤ 4080 }
+    requires at { at ≤ count }
     ensures keeps { P.keeps pages.old pages.new }
     ensures works { WorksAfter (P.is_tied pages.old → IsBroken (P.store pages.old).map number)
         result (P.store pages.old) (P.store pages.new) }
-    ensures puts { P.is_tied pages.old → (P.store pages.old).map.page number ≡ Some page.now.bytes → IfOk result (λ put.
+    ensures puts { P.is_tied pages.old → (page : List ℕ) → (P.store pages.old).map.page number ≡ Some page
+        → BelongsAt page number layout cell.now count at → IfOk result (λ put.
         PutsBelow (form_of S.says S.unit S.join S.of layout.summary layout.width) (P.store pages.old).map (P.store pages.new).map
         number cell.now put) }
-    ensures found { P.is_tied pages.old → (P.store pages.old).map.page number ≡ Some page.now.bytes → IfOk result (λ put.
-        TellsBelow (form_of S.says S.unit S.join S.of layout.summary layout.width) (P.store pages.old).map number cell.now put) }
-    ensures same { P.is_tied pages.old → IfOk result (λ put. is_found put ≡ true
-        → SamePages (P.store pages.new).map (P.store pages.old).map) }
+    ensures placed { IfOk result (λ put. is_found put ≡ false) }
 {
-    let bytes = content(page);
-    let at = place(bytes, layout.width, count, 0, cell);
-    if has_key(bytes, layout.width, count, 0, at, cell) {
-        return Ok(Put::Found);
-    }
     put_records(
         pages,
         number,
-        page,
         ContentKind::Leaf,
         layout.width,
         count,
@@ -100,14 +96,15 @@ fn insert_here<P: Pages, S: Summary>(
     )
 }
 
-/// Puts a cell below an inner page, of which `page` is a copy.
+/// Puts a cell below an inner page of so many entries, under this one, which is at this place.
 #[cycle(inserting)]
 fn insert_under<P: Pages, S: Summary>(
     pages: &mut P,
     layout: Layout,
     number: PageNumber,
-    page: &Page,
     count: usize,
+    at: usize,
+    entry: &[u8],
     levels: u32,
     cell: &[u8],
 ) -> Result<Put, Refusal>
@@ -115,62 +112,69 @@ fn insert_under<P: Pages, S: Summary>(
     requires summary { layout.summary ≡ S.WIDTH }
     requires width { length cell.now ≡ layout.width }
     requires levels { 0 < levels }
-    requires node { IsNode page.now.bytes number layout (Node.Inner count) }
+    requires fit { count * entry_bytes layout ≤ 4080 }
+    requires at { at < count }
+    requires entry { length entry.now ≡ entry_bytes layout }
     ensures keeps { P.keeps pages.old pages.new }
-    ensures works { WorksAfter (P.is_tied pages.old → (P.store pages.old).map.page number ≡ Some page.now.bytes
-        → HasNoShared (form_of S.says S.unit S.join S.of layout.summary layout.width) (P.store pages.old).map number levels)
+    ensures works { WorksAfter (P.is_tied pages.old → (page : List ℕ) → (P.store pages.old).map.page number ≡ Some page
+        → BelongsUnder page number layout cell.now entry.now count at → HasNoShared (form_of S.says S.unit S.join S.of layout.summary layout.width) (P.store pages.old).map number levels)
         result (P.store pages.old) (P.store pages.new) }
-    ensures puts { P.is_tied pages.old → (P.store pages.old).map.page number ≡ Some page.now.bytes → IfOk result (λ put.
+    ensures puts { P.is_tied pages.old → (page : List ℕ) → (P.store pages.old).map.page number ≡ Some page
+        → BelongsUnder page number layout cell.now entry.now count at → IfOk result (λ put.
         PutsBelow (form_of S.says S.unit S.join S.of layout.summary layout.width) (P.store pages.old).map (P.store pages.new).map
         number cell.now put) }
-    ensures found { P.is_tied pages.old → (P.store pages.old).map.page number ≡ Some page.now.bytes → IfOk result (λ put.
+    ensures found { P.is_tied pages.old → (page : List ℕ) → (P.store pages.old).map.page number ≡ Some page
+        → BelongsUnder page number layout cell.now entry.now count at → IfOk result (λ put.
         TellsBelow (form_of S.says S.unit S.join S.of layout.summary layout.width) (P.store pages.old).map number cell.now put) }
     ensures same { P.is_tied pages.old → IfOk result (λ put. is_found put ≡ true
         → SamePages (P.store pages.new).map (P.store pages.old).map) }
 {
-    let bytes = content(page);
-    let at = entry_for(bytes, layout, count, cell);
-    let below = child(record_at(bytes, layout.entry_width(), at), layout);
+    let below = child(entry, layout);
     let put = insert_below::<P, S>(pages, layout, below, levels - 1, cell)?;
     match put {
         Put::Found => Ok(Put::Found),
-        _ => write_above::<P, S>(pages, layout, number, page, count, at, below, put),
+        Put::Kept => Ok(Put::Kept),
+        _ => write_above::<P, S>(pages, layout, number, count, at, entry, below, put),
     }
 }
 
-/// Writes the entry of a page that a cell was put below into the page above, of which `page` is a copy, and that of the page
-/// that was split off it.
+/// Writes the entry of a page that a cell was put below into the page above, in the place of this one, and that of the page
+/// that was split off it. Where it is the entry that is there, nothing is written.
 fn write_above<P: Pages, S: Summary>(
     pages: &mut P,
     layout: Layout,
     number: PageNumber,
-    page: &Page,
     count: usize,
     at: usize,
+    entry: &[u8],
     below: PageNumber,
     put: Put,
 ) -> Result<Put, Refusal>
     requires begun { (P.store pages.old).is_begun ≡ true }
     requires summary { layout.summary ≡ S.WIDTH }
-    requires node { IsNode page.now.bytes number layout (Node.Inner count) }
+    requires fit { count * entry_bytes layout ≤ 4080 }
     requires at { at < count }
+    requires entry { length entry.now ≡ entry_bytes layout }
     ensures keeps { P.keeps pages.old pages.new }
     ensures works { WorksAfter (P.is_tied pages.old
         → HasNoTops (form_of S.says S.unit S.join S.of layout.summary layout.width) (P.store pages.old).map (tops below put)
         ⊎ IsBroken (P.store pages.old).map number)
         result (P.store pages.old) (P.store pages.new) }
     ensures placed { IfOk result (λ above. is_found above ≡ false) }
-    ensures above { P.is_tied pages.old → (P.store pages.old).map.page number ≡ Some page.now.bytes → IfOk result (λ above.
+    ensures above { P.is_tied pages.old → (page : List ℕ) → (P.store pages.old).map.page number ≡ Some page
+        → slice_get (records count (entry_bytes layout) (content page)) at ≡ Some entry.now → IfOk result (λ above.
         WritesAbove (form_of S.says S.unit S.join S.of layout.summary layout.width) (P.store pages.old).map
-        (P.store pages.new).map number page.now.bytes count at (tops below put) above) }
+        (P.store pages.new).map number page count at (tops below put) above) }
 {
     let mut entries = [0; TWO_ENTRIES];
     let width = layout.entry_width();
     let more = write_entries::<P, S>(pages, layout, below, put, &mut entries)?;
+    if says_same::<S>(layout, entry, more, &entries) {
+        return Ok(Put::Kept);
+    }
     put_records(
         pages,
         number,
-        page,
         ContentKind::Inner,
         width,
         count,
@@ -179,4 +183,22 @@ fn write_above<P: Pages, S: Summary>(
         more,
         &entries[..more * width],
     )
+}
+
+/// Whether there is one entry, and it is this one.
+fn says_same<S: Summary>(layout: Layout, entry: &[u8], more: usize, entries: &[u8]) -> bool
+    requires entry { length entry.now ≡ entry_bytes layout }
+    requires summary { layout.summary ≡ S.WIDTH }
+    requires room { length entries.now ≡ TWO_ENTRIES }
+    ensures same { IsTrue result → records more (entry_bytes layout) entries.now ≡ entry.now ∷ [] }
+    ensures one { (one other : S) → S.says (take layout.summary (drop child_bytes entry.now)) one
+        → S.says (take layout.summary (drop child_bytes entry.now)) other → one ≡ other }
+{
+    // That bytes say one summary at the most is known of bytes that are read: the clause `one` is by this call.
+    let _whole = S::read(summary(entry, layout));
+    if more != 1 {
+        return false;
+    }
+    let width = layout.entry_width();
+    entry == &entries[..width]
 }

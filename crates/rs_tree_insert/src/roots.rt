@@ -62,6 +62,7 @@ pub fn insert<P: Pages, S: Summary>(
     match insert_below::<P, S>(pages, layout, root, LEVELS, cell)? {
         Put::Found => Ok(Inserted { root, new: false }),
         Put::Placed => Ok(Inserted { root, new: true }),
+        Put::Kept => Ok(Inserted { root, new: true }),
         Put::Split(other) => {
             let root = add_root::<P, S>(pages, layout, root, other)?;
             Ok(Inserted { root, new: true })

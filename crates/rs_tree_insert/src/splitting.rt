@@ -1,28 +1,29 @@
 //! Records that fit no page, put into two.
 
-ghost use Rattle.std.specs.Prelude.{◌≡◌, ◌≤◌, ◌<◌, ◌+◌, ◌-◌, ◌*◌, Some, true, IfOk, length};
+ghost use Rattle.std.specs.Prelude.{◌≡◌, ◌≤◌, ◌<◌, ◌+◌, ◌-◌, ◌*◌, ℕ, List, Some, true, IfOk, OnOk, length, take};
 ghost use Rattle.rs_owners.specs.Changes.{WorksAfter};
 ghost use Rattle.rs_page.specs.Header.{page_kind};
+ghost use Rattle.rs_pages.specs.PageMap.{HasNoFit};
 ghost use Rattle.rs_records.specs.Records.{records};
-ghost use Rattle.rs_tree.specs.Content.{content};
+ghost use Rattle.rs_tree.specs.Content.{content, tree_header};
+ghost use Rattle.rs_tree_edit.specs.Editing.{Splices};
 ghost use Rattle.rs_tree_insert.specs.Writing.{IsBroken, SplitsPage, spliced};
 
 use rs_measure::Refusal;
-use rs_page::{ContentKind, Page, PageNumber};
+use rs_page::{ContentKind, Page, PageHeader, PageNumber};
 use rs_pages::Pages;
 use rs_records::splice;
-use rs_tree_edit::{add_page, edit_page};
-use rs_tree_page::content;
+use rs_tree_edit::add_page;
+use rs_tree_page::{content, splice_page};
 
 /// The bytes that two pages have for records.
 const TWO_PAGES: usize = 2 * 4080;
 
-/// Puts records in the place of some of the page with this number, of which `page` is a copy, where they fit it no more:
-/// the first half stays, and the second goes into a new page.
+/// Puts records in the place of some of the page with this number, where they fit it no more: the first half stays, and the
+/// second goes into a new page.
 pub fn split_page<P: Pages>(
     pages: &mut P,
     number: PageNumber,
-    page: &Page,
     kind: ContentKind,
     width: usize,
     count: usize,
@@ -42,27 +43,71 @@ pub fn split_page<P: Pages>(
     ensures keeps { P.keeps pages.old pages.new }
     ensures works { WorksAfter (P.is_tied pages.old → IsBroken (P.store pages.old).map number) result
         (P.store pages.old) (P.store pages.new) }
-    ensures splits { P.is_tied pages.old → (P.store pages.old).map.page number ≡ Some page.now.bytes
+    ensures splits { P.is_tied pages.old → (page : List ℕ) → (P.store pages.old).map.page number ≡ Some page
         → IfOk result (λ other. SplitsPage (P.store pages.old).map (P.store pages.new).map number other (page_kind kind)
-        width (spliced (records count width (content page.now.bytes)) at removed (records more width added.now))) }
+        width (spliced (records count width (content page)) at removed (records more width added.now))) }
 {
     let mut both = [0; TWO_PAGES];
     let total = count - removed + more;
-    splice_beside(page, &mut both, width, count, at, removed, more, added);
     let half = total / 2;
-    let end = half * width;
-    edit_page(
-        pages,
-        number,
-        kind,
-        width,
-        count,
-        0,
-        count,
-        half,
-        &both[..end],
+    halve_page(
+        pages, number, kind, width, count, at, removed, more, added, half, &mut both,
     )?;
+    let end = half * width;
     add_page(pages, kind, width, total - half, &both[end..total * width])
+}
+
+/// Puts records in the place of some of the page with this number, where so many of the first stay. All of them come to the
+/// beginning of other bytes. It is refused as `page_mut` is; nothing has changed then.
+fn halve_page<P: Pages>(
+    pages: &mut P,
+    number: PageNumber,
+    kind: ContentKind,
+    width: usize,
+    count: usize,
+    at: usize,
+    removed: usize,
+    more: usize,
+    added: &[u8],
+    half: usize,
+    both: &mut [u8],
+) -> Result<(), Refusal>
+    requires begun { (P.store pages.old).is_begun ≡ true }
+    requires wide { 0 < width }
+    requires fit { count * width ≤ 4080 }
+    requires part { at + removed ≤ count }
+    requires whole { length added.now ≡ more * width }
+    requires room { (count - removed + more) * width ≤ 8160 }
+    requires half { half * width ≤ 4080 }
+    requires size { length both.old ≡ 8160 }
+    ensures keeps { P.keeps pages.old pages.new }
+    ensures works { WorksAfter (P.is_tied pages.old → HasNoFit (P.store pages.old).map number) result
+        (P.store pages.old) (P.store pages.new) }
+    ensures edited { P.is_tied pages.old → OnOk result (Splices (P.store pages.old).map (P.store pages.new).map number
+        (page_kind kind) width count 0 count (records half width (take (half * width) both.new))) }
+    ensures both { P.is_tied pages.old → (page : List ℕ) → (P.store pages.old).map.page number ≡ Some page
+        → OnOk result (records (count - removed + more) width both.new
+        ≡ spliced (records count width (content page)) at removed (records more width added.now)) }
+{
+    let header = header_of(kind, number, half, width);
+    let page = pages.page_mut(number)?;
+    splice_beside(page, both, width, count, at, removed, more, added);
+    splice_page(page, header, width, count, 0, count, &both[..half * width]);
+    Ok(())
+}
+
+/// The header of a page of so many records.
+fn header_of(kind: ContentKind, number: PageNumber, count: usize, width: usize) -> PageHeader
+    requires wide { 0 < width }
+    requires room { count * width ≤ 4080 }
+    ensures { result ≡ tree_header (page_kind kind) count number }
+{
+    PageHeader {
+        kind: kind.kind(),
+        count: count as u16,
+        number,
+        next: PageNumber::new(0),
+    }
 }
 
 /// Copies the records of a page to the beginning of other bytes, and puts records in the place of some there.

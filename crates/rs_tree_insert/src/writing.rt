@@ -1,6 +1,6 @@
 //! Records of a page put in the place of others, in one page or two.
 
-ghost use Rattle.std.specs.Prelude.{◌≡◌, ◌≤◌, ◌<◌, ◌+◌, ◌*◌, Some, true, false, IfOk, length};
+ghost use Rattle.std.specs.Prelude.{◌≡◌, ◌≤◌, ◌<◌, ◌+◌, ◌*◌, ℕ, List, Some, true, false, IfOk, length};
 ghost use Rattle.rs_owners.specs.Changes.{WorksAfter};
 ghost use Rattle.rs_page.specs.Header.{page_kind};
 ghost use Rattle.rs_records.specs.Records.{records};
@@ -9,16 +9,15 @@ ghost use Rattle.rs_tree_insert.specs.Writing.{IsBroken, PutsRecords, is_found};
 use crate::answer::Put;
 use crate::splitting::split_page;
 use rs_measure::Refusal;
-use rs_page::{ContentKind, Page, PageNumber};
+use rs_page::{ContentKind, PageNumber};
 use rs_pages::Pages;
 use rs_tree_edit::edit_page;
 
-/// Puts records in the place of some of the page with this number, of which `page` is a copy, one more than before at the
-/// most. Where they fit it no more, the second half goes into a new page, which is answered.
+/// Puts records in the place of some of the page with this number, one more than before at the most. Where they fit it no
+/// more, the second half goes into a new page, which is answered.
 pub fn put_records<P: Pages>(
     pages: &mut P,
     number: PageNumber,
-    page: &Page,
     kind: ContentKind,
     width: usize,
     count: usize,
@@ -38,16 +37,14 @@ pub fn put_records<P: Pages>(
     ensures works { WorksAfter (P.is_tied pages.old → IsBroken (P.store pages.old).map number) result
         (P.store pages.old) (P.store pages.new) }
     ensures placed { IfOk result (λ put. is_found put ≡ false) }
-    ensures puts { P.is_tied pages.old → (P.store pages.old).map.page number ≡ Some page.now.bytes
-        → IfOk result (λ put. PutsRecords (P.store pages.old).map (P.store pages.new).map number page.now.bytes
+    ensures puts { P.is_tied pages.old → (page : List ℕ) → (P.store pages.old).map.page number ≡ Some page
+        → IfOk result (λ put. PutsRecords (P.store pages.old).map (P.store pages.new).map number page
         (page_kind kind) width count at removed (records more width added.now) put) }
 {
     if (count - removed + more) * width <= 4080 {
         edit_page(pages, number, kind, width, count, at, removed, more, added)?;
         return Ok(Put::Placed);
     }
-    let other = split_page(
-        pages, number, page, kind, width, count, at, removed, more, added,
-    )?;
+    let other = split_page(pages, number, kind, width, count, at, removed, more, added)?;
     Ok(Put::Split(other))
 }

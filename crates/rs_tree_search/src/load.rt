@@ -1,8 +1,9 @@
 //! Pages of trees, read one by one and counted.
 
-ghost use Rattle.std.specs.Prelude.{◌≡◌, ◌≤◌, ◌+◌, IfOk, IfErr, OnOk};
+ghost use Rattle.std.specs.Prelude.{◌≡◌, ◌≤◌, ◌+◌, IfOk, IfErr, OnOk, OnErr, IsOkUnless};
 ghost use Rattle.rs_pages.specs.Lending.{RestsAfter};
-ghost use Rattle.rs_pages.specs.Uses.{Lends, RefusesToLend};
+ghost use Rattle.rs_tree_page.specs.Node.{IsNode};
+ghost use Rattle.rs_tree_page.specs.declared.node.Node.{Node};
 
 use rs_measure::Refusal;
 use rs_page::{Page, PageNumber};
@@ -36,21 +37,67 @@ pub fn load<P: Pages>(
         return Err(Refusal::DamagedFile);
     }
     *left -= 1;
-    let page = copy(pages, number)?;
-    match read_node(&page, number, layout) {
-        Some(node) => Ok(Loaded { page, node }),
+    match pages.page(number) {
+        Ok(page) => loaded_of(page, number, layout),
+        Err(refusal) => Err(refusal),
+    }
+}
+
+/// A copy of this page, and what it holds. It is refused with 94 where it is no page of a tree.
+fn loaded_of(page: &Page, number: PageNumber, layout: Layout) -> Result<Loaded, Refusal>
+    ensures bytes { IfOk result (λ loaded. loaded.page.bytes ≡ page.now.bytes) }
+    ensures node { IfOk result (λ loaded. IsNode loaded.page.bytes number layout loaded.node) }
+    ensures none { OnErr result ((node : Node) → IsNode page.now.bytes number layout node → ⊥) }
+    ensures refused { IsOkUnless result Refusal.DamagedFile }
+{
+    match read_node(page, number, layout) {
+        Some(node) => Ok(Loaded { page: *page, node }),
         None => Err(Refusal::DamagedFile),
     }
 }
 
-/// A copy of the page with this number.
-fn copy<P: Pages>(pages: &mut P, number: PageNumber) -> Result<Page, Refusal>
+/// The same, where the copy goes into a page of the caller's.
+pub fn load_into<P: Pages>(
+    pages: &mut P,
+    number: PageNumber,
+    layout: Layout,
+    left: &mut u32,
+    copy: &mut Page,
+) -> Result<Node, Refusal>
     ensures rests { RestsAfter P.is_tied P.store P.keeps result pages.old pages.new }
-    ensures lends { IfOk result (λ page. Lends (P.is_tied pages.old) (P.store pages.old) number page.bytes) }
-    ensures refused { IfErr result (RefusesToLend (P.is_tied pages.old) (P.store pages.old) number) }
+    ensures loaded { IfOk result (λ node. IsLoaded (P.is_tied pages.old) (P.store pages.old).map number layout
+        (record { page = copy.new; node = node })) }
+    ensures counted { OnOk result (left.old ≡ left.new + 1) }
+    ensures fewer { left.new ≤ left.old }
+    ensures refused { IfErr result (RefusesToLoad (P.is_tied pages.old) (P.store pages.old).map number layout left.old) }
 {
+    if *left == 0 {
+        return Err(Refusal::DamagedFile);
+    }
+    *left -= 1;
     match pages.page(number) {
-        Ok(page) => Ok(*page),
+        Ok(page) => copy_node(page, number, layout, copy),
         Err(refusal) => Err(refusal),
+    }
+}
+
+/// Copies this page, and tells what it holds. It is refused with 94 where it is no page of a tree.
+fn copy_node(
+    page: &Page,
+    number: PageNumber,
+    layout: Layout,
+    copy: &mut Page,
+) -> Result<Node, Refusal>
+    ensures bytes { OnOk result (copy.new.bytes ≡ page.now.bytes) }
+    ensures node { IfOk result (λ node. IsNode copy.new.bytes number layout node) }
+    ensures none { OnErr result ((node : Node) → IsNode page.now.bytes number layout node → ⊥) }
+    ensures refused { IsOkUnless result Refusal.DamagedFile }
+{
+    match read_node(page, number, layout) {
+        Some(node) => {
+            *copy = *page;
+            Ok(node)
+        }
+        None => Err(Refusal::DamagedFile),
     }
 }

@@ -16,7 +16,7 @@ ghost use Rattle.rs_tree_search.specs.Walking.{Walks, WalksEntry, WalksEntries, 
 
 use crate::asking::accepts;
 use crate::collect::collect;
-use crate::load::load;
+use crate::load::load_into;
 use rs_measure::Refusal;
 use rs_page::{Page, PageNumber};
 use rs_pages::Pages;
@@ -56,24 +56,16 @@ pub fn walk<P: Pages, S: Summary, F: Fn(&S) -> bool>(
         → HasNoPart (form_of S.says S.unit S.join S.of layout.summary layout.width) (P.store pages.old).map number
         levels left.old }
 {
-    let loaded = load(pages, number, layout, left)?;
-    match loaded.node {
-        Node::Leaf(count) => collect(&loaded.page, count, layout, low, high, keep, cells),
+    let mut page = Page::new();
+    let node = load_into(pages, number, layout, left, &mut page)?;
+    match node {
+        Node::Leaf(count) => collect(&page, count, layout, low, high, keep, cells),
         Node::Inner(count) => {
             if levels == 0 {
                 return Err(Refusal::DamagedFile);
             }
             walk_entries(
-                pages,
-                layout,
-                &loaded.page,
-                count,
-                levels,
-                low,
-                high,
-                keep,
-                left,
-                cells,
+                pages, layout, &page, count, levels, low, high, keep, left, cells,
             )
         }
     }

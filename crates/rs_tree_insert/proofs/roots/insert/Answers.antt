@@ -7,7 +7,7 @@ use Rattle.rs_tree.specs.Form.{Form, form_of}
 use Rattle.rs_tree_edit.specs.Editing.{HasNoFreeList}
 use Rattle.rs_tree_edit.proofs.Working.{works_then, works_err}
 use Rattle.rs_tree_insert.specs.Inserting.{tops, PutsBelow, TellsBelow, HasNoShared, HasNoTops}
-use Rattle.rs_tree_insert.specs.declared.answer.Put.TheVariants.{Found, Placed, Split}
+use Rattle.rs_tree_insert.specs.declared.answer.Put.TheVariants.{Found, Placed, Kept, Split}
 use Rattle.rs_tree_insert.proofs.Cells.{one_record}
 use Rattle.rs_tree_insert.proofs.Rooting.{planted, empty_new, tells_found, tells_new, changed, grown, none_grown, none_shared}
 use Rattle.rs_tree_insert.proofs.roots.insert.Goals as goal
@@ -90,6 +90,25 @@ returns-in-Placed-clause-found g c =
     let some : c.args.root ≡ 0 → ⊥ = λ zero. omega (arith, c.number.ensures, zero, c.if-number-eq0.false) in
     let tells = subst (TellsBelow form old c.args.root c.args.cell.now) c.in-Placed.is (c.in_ok-insert_below.ensures.found tied) in
     tells_new form old old c.args.root c.args.cell.now some Placed refl tells
+
+pub returns-in-Kept-clause-inserted : goal.returns-in-Kept-clause-inserted
+returns-in-Kept-clause-inserted g c =
+    λ tied.
+    let form : Form = form_of g.S.Summary.says g.S.Summary.unit g.S.Summary.join g.S.Summary.of c.args.layout.summary c.args.layout.width in
+    let old = (g.P.Pages.store c.args.pages.now).map in
+    let mid = (g.P.Pages.store c.insert_below.new.pages).map in
+    let some : c.args.root ≡ 0 → ⊥ = λ zero. omega (arith, c.number.ensures, zero, c.if-number-eq0.false) in
+    let puts = subst (PutsBelow form old mid c.args.root c.args.cell.now) c.in-Kept.is (c.in_ok-insert_below.ensures.puts tied) in
+    changed form old mid c.args.root c.args.cell.now some Kept refl puts
+
+pub returns-in-Kept-clause-found : goal.returns-in-Kept-clause-found
+returns-in-Kept-clause-found g c =
+    λ tied.
+    let form : Form = form_of g.S.Summary.says g.S.Summary.unit g.S.Summary.join g.S.Summary.of c.args.layout.summary c.args.layout.width in
+    let old = (g.P.Pages.store c.args.pages.now).map in
+    let some : c.args.root ≡ 0 → ⊥ = λ zero. omega (arith, c.number.ensures, zero, c.if-number-eq0.false) in
+    let tells = subst (TellsBelow form old c.args.root c.args.cell.now) c.in-Kept.is (c.in_ok-insert_below.ensures.found tied) in
+    tells_new form old old c.args.root c.args.cell.now some Kept refl tells
 
 pub returns-in_ok-root-in-Split-clause-inserted : goal.returns-in_ok-root-in-Split-clause-inserted
 returns-in_ok-root-in-Split-clause-inserted g c =

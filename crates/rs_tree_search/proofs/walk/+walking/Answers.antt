@@ -18,78 +18,78 @@ use Rattle.rs_tree_search.proofs.Entries.{walks_next, walks_all, reads_next, rea
 use Rattle.rs_tree_search.proofs.Entering.{walks_leaf, walks_inner, once_inner, no_parts-no_part, no_level-no_part, no_node-no_part, walks_accepted, walks_rejected, answer_told, records_fit, entry_there}
 use Rattle.rs_tree_search.proofs.walk.+walking.Goals as goal
 
-pub walk-returns-in_err-loaded-clause-damaged : goal.walk-returns-in_err-loaded-clause-damaged
-walk-returns-in_err-loaded-clause-damaged g t c = λ is tied.
+pub walk-returns-in_err-node-clause-damaged : goal.walk-returns-in_err-node-clause-damaged
+walk-returns-in_err-node-clause-damaged g t c = λ is tied.
     let p = err_from_is_err_and c.from_residual.result c.from_residual.ensures.1 in
-    let why : c.in_err-loaded.field-0.0 ≡ refusal.DamagedFile = cc (p.1, p.2, is) in
+    let why : c.in_err-node.field-0.0 ≡ refusal.DamagedFile = cc (p.1, p.2, is) in
     no_node-no_part (λ bytes cells. g.S.Summary.says bytes (joined g.S.Summary.unit g.S.Summary.join g.S.Summary.of cells)) c.args.layout
-    (g.P.Pages.store c.args.pages.now).map c.args.number c.args.levels c.args.left.now (λ some. c.in_err-loaded.ensures.refused.damaged tied why some)
+    (g.P.Pages.store c.args.pages.now).map c.args.number c.args.levels c.args.left.now (λ some. c.in_err-node.ensures.refused.damaged tied why some)
 
 pub walk-collect-requires-clause-fit : goal.walk-collect-requires-clause-fit
 walk-collect-requires-clause-fit g t c =
-    let node : IsNode c.in_ok-loaded.loaded.page.bytes c.args.number c.args.layout (Leaf c.in-Leaf.count) =
-    subst (IsNode c.in_ok-loaded.loaded.page.bytes c.args.number c.args.layout) c.in-Leaf.is c.in_ok-loaded.ensures.loaded.node in
-    records_fit c.in_ok-loaded.loaded.page.bytes kind.Leaf c.args.number c.in-Leaf.count c.args.layout.width node.0
+    let node : IsNode c.load_into.new.copy.bytes c.args.number c.args.layout (Leaf c.in-Leaf.count) =
+    subst (IsNode c.load_into.new.copy.bytes c.args.number c.args.layout) c.in-Leaf.is c.in_ok-node.ensures.loaded.node in
+    records_fit c.load_into.new.copy.bytes kind.Leaf c.args.number c.in-Leaf.count c.args.layout.width node.0
 
 pub walk-returns-then-levels-eq0-clause-damaged : goal.walk-returns-then-levels-eq0-clause-damaged
 walk-returns-then-levels-eq0-clause-damaged g t c = λ is tied.
     let form : Form = form_of g.S.Summary.says g.S.Summary.unit g.S.Summary.join g.S.Summary.of c.args.layout.summary c.args.layout.width in
-    let node : IsNode c.in_ok-loaded.loaded.page.bytes c.args.number c.args.layout (Inner c.in-Inner.count) =
-    subst (IsNode c.in_ok-loaded.loaded.page.bytes c.args.number c.args.layout) c.in-Inner.is c.in_ok-loaded.ensures.loaded.node in
+    let node : IsNode c.load_into.new.copy.bytes c.args.number c.args.layout (Inner c.in-Inner.count) =
+    subst (IsNode c.load_into.new.copy.bytes c.args.number c.args.layout) c.in-Inner.is c.in_ok-node.ensures.loaded.node in
     let none = no_level-no_part (λ bytes cells. g.S.Summary.says bytes (joined g.S.Summary.unit g.S.Summary.join g.S.Summary.of cells)) c.args.layout
-    (g.P.Pages.store c.args.pages.now).map c.args.number c.in_ok-loaded.loaded.page.bytes [] [] (λ _. true) [] [] c.args.left.now c.load.new.left 0
-    c.in_ok-loaded.ensures.counted (c.in_ok-loaded.ensures.loaded.bytes tied) c.in-Inner.count node in
+    (g.P.Pages.store c.args.pages.now).map c.args.number c.load_into.new.copy.bytes [] [] (λ _. true) [] [] c.args.left.now c.load_into.new.left 0
+    c.in_ok-node.ensures.counted (c.in_ok-node.ensures.loaded.bytes tied) c.in-Inner.count node in
     subst (λ levels. HasNoPart form (g.P.Pages.store c.args.pages.now).map c.args.number levels c.args.left.now) (sym c.if-levels-eq0.true) none
 
 pub walk-walk_entries-requires : goal.walk-walk_entries-requires
 walk-walk_entries-requires g t c κs within =
-    let node : IsNode c.in_ok-loaded.loaded.page.bytes c.args.number c.args.layout (Inner c.in-Inner.count) =
-    subst (IsNode c.in_ok-loaded.loaded.page.bytes c.args.number c.args.layout) c.in-Inner.is c.in_ok-loaded.ensures.loaded.node in
-    let fit : c.in-Inner.count * entry_bytes c.args.layout ≤ 4080 = records_fit c.in_ok-loaded.loaded.page.bytes kind.Inner c.args.number c.in-Inner.count (entry_bytes c.args.layout) node.0 in
+    let node : IsNode c.load_into.new.copy.bytes c.args.number c.args.layout (Inner c.in-Inner.count) =
+    subst (IsNode c.load_into.new.copy.bytes c.args.number c.args.layout) c.in-Inner.is c.in_ok-node.ensures.loaded.node in
+    let fit : c.in-Inner.count * entry_bytes c.args.layout ≤ 4080 = records_fit c.load_into.new.copy.bytes kind.Inner c.args.number c.in-Inner.count (entry_bytes c.args.layout) node.0 in
     search rules
 
 pub walk-returns-in-Leaf-clause-walks : goal.walk-returns-in-Leaf-clause-walks
 walk-returns-in-Leaf-clause-walks g t c =
-    let node : IsNode c.in_ok-loaded.loaded.page.bytes c.args.number c.args.layout (Leaf c.in-Leaf.count) =
-    subst (IsNode c.in_ok-loaded.loaded.page.bytes c.args.number c.args.layout) c.in-Leaf.is c.in_ok-loaded.ensures.loaded.node in
+    let node : IsNode c.load_into.new.copy.bytes c.args.number c.args.layout (Leaf c.in-Leaf.count) =
+    subst (IsNode c.load_into.new.copy.bytes c.args.number c.args.layout) c.in-Leaf.is c.in_ok-node.ensures.loaded.node in
     on_ok c.collect.result c.collect.ensures.found (λ found tied test computes accepts.
     walks_leaf (λ bytes cells. g.S.Summary.says bytes (joined g.S.Summary.unit g.S.Summary.join g.S.Summary.of cells)) c.args.layout
-    (g.P.Pages.store c.args.pages.now).map c.args.number c.in_ok-loaded.loaded.page.bytes c.args.low.now c.args.high.now (λ cell. test (g.S.Summary.of cell))
-    (listed c.args.cells.now) (listed c.collect.new.cells) c.args.left.now c.load.new.left c.load.new.left
-    c.in_ok-loaded.ensures.counted (c.in_ok-loaded.ensures.loaded.bytes tied) c.in-Leaf.count node (found test computes))
+    (g.P.Pages.store c.args.pages.now).map c.args.number c.load_into.new.copy.bytes c.args.low.now c.args.high.now (λ cell. test (g.S.Summary.of cell))
+    (listed c.args.cells.now) (listed c.collect.new.cells) c.args.left.now c.load_into.new.left c.load_into.new.left
+    c.in_ok-node.ensures.counted (c.in_ok-node.ensures.loaded.bytes tied) c.in-Leaf.count node (found test computes))
 
 pub walk-returns-else-levels-eq0-clause-walks : goal.walk-returns-else-levels-eq0-clause-walks
 walk-returns-else-levels-eq0-clause-walks g t c =
-    let node : IsNode c.in_ok-loaded.loaded.page.bytes c.args.number c.args.layout (Inner c.in-Inner.count) =
-    subst (IsNode c.in_ok-loaded.loaded.page.bytes c.args.number c.args.layout) c.in-Inner.is c.in_ok-loaded.ensures.loaded.node in
+    let node : IsNode c.load_into.new.copy.bytes c.args.number c.args.layout (Inner c.in-Inner.count) =
+    subst (IsNode c.load_into.new.copy.bytes c.args.number c.args.layout) c.in-Inner.is c.in_ok-node.ensures.loaded.node in
     on_ok c.walk_entries.result c.walk_entries.ensures.walks (λ walks tied test computes accepts.
-    let later = g.met.P.Pages.keeps_tied c.args.pages.now c.load.new.pages c.in_ok-loaded.ensures.rests.below tied in
+    let later = g.met.P.Pages.keeps_tied c.args.pages.now c.load_into.new.pages c.in_ok-node.ensures.rests.below tied in
     walks_inner (λ bytes cells. g.S.Summary.says bytes (joined g.S.Summary.unit g.S.Summary.join g.S.Summary.of cells)) c.args.layout
-    (g.P.Pages.store c.args.pages.now).map c.args.number c.in_ok-loaded.loaded.page.bytes c.args.low.now c.args.high.now (λ cell. test (g.S.Summary.of cell))
-    (listed c.args.cells.now) (listed c.walk_entries.new.cells) c.args.left.now c.load.new.left c.walk_entries.new.left
-    c.in_ok-loaded.ensures.counted (c.in_ok-loaded.ensures.loaded.bytes tied) c.in-Inner.count (g.P.Pages.store c.load.new.pages).map
-    (c.in_ok-loaded.ensures.rests.rests.keeps.pages tied) node (walks later test computes accepts))
+    (g.P.Pages.store c.args.pages.now).map c.args.number c.load_into.new.copy.bytes c.args.low.now c.args.high.now (λ cell. test (g.S.Summary.of cell))
+    (listed c.args.cells.now) (listed c.walk_entries.new.cells) c.args.left.now c.load_into.new.left c.walk_entries.new.left
+    c.in_ok-node.ensures.counted (c.in_ok-node.ensures.loaded.bytes tied) c.in-Inner.count (g.P.Pages.store c.load_into.new.pages).map
+    (c.in_ok-node.ensures.rests.rests.keeps.pages tied) node (walks later test computes accepts))
 
 pub walk-returns-else-levels-eq0-clause-once : goal.walk-returns-else-levels-eq0-clause-once
 walk-returns-else-levels-eq0-clause-once g t c =
-    let node : IsNode c.in_ok-loaded.loaded.page.bytes c.args.number c.args.layout (Inner c.in-Inner.count) =
-    subst (IsNode c.in_ok-loaded.loaded.page.bytes c.args.number c.args.layout) c.in-Inner.is c.in_ok-loaded.ensures.loaded.node in
+    let node : IsNode c.load_into.new.copy.bytes c.args.number c.args.layout (Inner c.in-Inner.count) =
+    subst (IsNode c.load_into.new.copy.bytes c.args.number c.args.layout) c.in-Inner.is c.in_ok-node.ensures.loaded.node in
     on_ok c.walk_entries.result c.walk_entries.ensures.once (λ once tied.
-    let later = g.met.P.Pages.keeps_tied c.args.pages.now c.load.new.pages c.in_ok-loaded.ensures.rests.below tied in
+    let later = g.met.P.Pages.keeps_tied c.args.pages.now c.load_into.new.pages c.in_ok-node.ensures.rests.below tied in
     once_inner (λ bytes cells. g.S.Summary.says bytes (joined g.S.Summary.unit g.S.Summary.join g.S.Summary.of cells)) c.args.layout
-    (g.P.Pages.store c.args.pages.now).map c.args.number c.in_ok-loaded.loaded.page.bytes [] [] (λ _. true) [] [] c.args.left.now c.load.new.left c.walk_entries.new.left
-    c.in_ok-loaded.ensures.counted (c.in_ok-loaded.ensures.loaded.bytes tied) c.in-Inner.count (g.P.Pages.store c.load.new.pages).map
-    (c.in_ok-loaded.ensures.rests.rests.keeps.pages tied) node (once later))
+    (g.P.Pages.store c.args.pages.now).map c.args.number c.load_into.new.copy.bytes [] [] (λ _. true) [] [] c.args.left.now c.load_into.new.left c.walk_entries.new.left
+    c.in_ok-node.ensures.counted (c.in_ok-node.ensures.loaded.bytes tied) c.in-Inner.count (g.P.Pages.store c.load_into.new.pages).map
+    (c.in_ok-node.ensures.rests.rests.keeps.pages tied) node (once later))
 
 pub walk-returns-else-levels-eq0-clause-damaged : goal.walk-returns-else-levels-eq0-clause-damaged
 walk-returns-else-levels-eq0-clause-damaged g t c = λ is tied.
-    let node : IsNode c.in_ok-loaded.loaded.page.bytes c.args.number c.args.layout (Inner c.in-Inner.count) =
-    subst (IsNode c.in_ok-loaded.loaded.page.bytes c.args.number c.args.layout) c.in-Inner.is c.in_ok-loaded.ensures.loaded.node in
-    let later = g.met.P.Pages.keeps_tied c.args.pages.now c.load.new.pages c.in_ok-loaded.ensures.rests.below tied in
+    let node : IsNode c.load_into.new.copy.bytes c.args.number c.args.layout (Inner c.in-Inner.count) =
+    subst (IsNode c.load_into.new.copy.bytes c.args.number c.args.layout) c.in-Inner.is c.in_ok-node.ensures.loaded.node in
+    let later = g.met.P.Pages.keeps_tied c.args.pages.now c.load_into.new.pages c.in_ok-node.ensures.rests.below tied in
     no_parts-no_part (λ bytes cells. g.S.Summary.says bytes (joined g.S.Summary.unit g.S.Summary.join g.S.Summary.of cells)) c.args.layout
-    (g.P.Pages.store c.args.pages.now).map c.args.number c.in_ok-loaded.loaded.page.bytes [] [] (λ _. true) [] [] c.args.left.now c.load.new.left 0
-    c.in_ok-loaded.ensures.counted (c.in_ok-loaded.ensures.loaded.bytes tied) c.in-Inner.count c.args.levels (g.P.Pages.store c.load.new.pages).map
-    (c.in_ok-loaded.ensures.rests.rests.keeps.pages tied) node (c.walk_entries.ensures.damaged is later)
+    (g.P.Pages.store c.args.pages.now).map c.args.number c.load_into.new.copy.bytes [] [] (λ _. true) [] [] c.args.left.now c.load_into.new.left 0
+    c.in_ok-node.ensures.counted (c.in_ok-node.ensures.loaded.bytes tied) c.in-Inner.count c.args.levels (g.P.Pages.store c.load_into.new.pages).map
+    (c.in_ok-node.ensures.rests.rests.keeps.pages tied) node (c.walk_entries.ensures.damaged is later)
 
 pub walk_entries-record_at-entry-requires : goal.walk_entries-record_at-entry-requires
 walk_entries-record_at-entry-requires g t c =
