@@ -13,3 +13,5 @@ pub mod Inside
 mod KeptRuns
 pub mod RowSets
 mod OperatorRows
+pub mod Carrying
+mod Choosing

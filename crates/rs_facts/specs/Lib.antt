@@ -11,3 +11,5 @@ pub mod Operators
 pub mod Condition
 pub mod OperatorLaws
 pub mod ConditionView
+pub mod Totals
+pub mod TotalText

@@ -1,9 +1,9 @@
 -- What the operators make, said of single rows.
-use Rattle.std.specs.Prelude.{◌≡◌, ◌↔◌, ℕ, not, ◌&&◌, ◌||◌, IsTrue, List, ◌++◌, Contains}
+use Rattle.std.specs.Prelude.{◌≡◌, ◌↔◌, ℕ, ◌+◌, ◌-◌, ◌<◌, ◌≤◌, not, ◌&&◌, ◌||◌, IsTrue, List, ◌++◌, Contains}
 use Rattle.rs_value.specs.Row.{Row}
-use Rattle.rs_facts.specs.Fact.{RowSet, none, contains}
+use Rattle.rs_facts.specs.Fact.{RowSet, none, contains, Places}
 use Rattle.rs_facts.specs.Insert.{within}
-use Rattle.rs_facts.specs.Operators.{from_rows, mapped, nulls, chosen, dissolved, overlaid, covered, merged, without, windowed}
+use Rattle.rs_facts.specs.Operators.{from_rows, mapped, nulls, chosen, dissolved, overlaid, covered, merged, without, windowed, carried}
 
 -- a row of the first before a row of the second
 pub record IsPair (a b : RowSet) (row : Row) : Type 0 where
@@ -18,6 +18,14 @@ pub record IsChanged (change : Row → Row) (rows : RowSet) (row : Row) : Type 0
   pub from : Row
   pub among : IsTrue (contains rows from)
   pub is : row ≡ change from
+
+-- the row stands at a thousandth of the piece that is carried there
+pub record IsCarried (from to onto : ℕ) (places : Places) (j : ℕ) (row : Row) : Type 0 where
+  pub k : ℕ
+  pub after : from ≤ k
+  pub before : k < to
+  pub among : IsTrue (contains (places k) row)
+  pub there : j ≡ onto + (k - from)
 
 -- some row is in the set
 pub record HasRow (rows : RowSet) : Type 0 where
@@ -63,3 +71,7 @@ LeftRowsAreNotOfTheOther = (a b : RowSet) (row : Row) → contains (without a b)
 -- WINDOW has the same rows inside and none outside
 abbrev pub WindowedRowsAreInside : Type 0
 WindowedRowsAreInside = (lo hi k : ℕ) (rows : RowSet) (row : Row) → contains (windowed lo hi k rows) row ≡ (within lo hi k && contains rows row)
+
+-- TRANSFORM has at a thousandth what a piece carries there, and no other row
+abbrev pub CarriedRowsAreThose : Type 0
+CarriedRowsAreThose = (from to onto : ℕ) (places : Places) (j : ℕ) (row : Row) → IsTrue (contains (carried from to onto places j) row) ↔ IsCarried from to onto places j row

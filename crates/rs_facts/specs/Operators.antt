@@ -1,7 +1,7 @@
 -- Operators: what they make of the rows that hold at one thousandth.
-use Rattle.std.specs.Prelude.{ℕ, Bool, true, false, not, List, [], ◌∷◌, ◌++◌, map, flat_map, get_or, replicate, if◌then◌else◌}
+use Rattle.std.specs.Prelude.{ℕ, ◌+◌, ◌-◌, ◌==◌, Bool, true, false, not, List, [], ◌∷◌, ◌++◌, map, flat_map, get_or, replicate, if◌then◌else◌}
 use Rattle.rs_value.specs.Row.{Datum, null, Row}
-use Rattle.rs_facts.specs.Fact.{RowSet, none, contains, add, items, keep}
+use Rattle.rs_facts.specs.Fact.{RowSet, none, contains, add, items, keep, Places, thousandths}
 use Rattle.rs_facts.specs.Insert.{within}
 
 -- the set of the rows of a list
@@ -56,3 +56,8 @@ without a b = keep (λ row. not (contains b row)) a
 -- WINDOW: the same rows at k with lo ≤ k < hi, and none elsewhere
 unfoldable pub windowed : ℕ → ℕ → ℕ → RowSet → RowSet
 windowed lo hi k rows = if within lo hi k then rows else none
+
+-- TRANSFORM, by one piece of an alignment: the thousandth `from` is carried to `onto`, and each k with from ≤ k < to as
+-- far past it. At j are the rows of every k that is carried there.
+unfoldable pub carried : ℕ → ℕ → ℕ → Places → Places
+carried from to onto places j = from_rows (flat_map (λ k. if onto + (k - from) == j then items (places k) else []) (thousandths from to))

@@ -1,7 +1,7 @@
 -- The rows of a query at one thousandth, its kind and its columns.
 --
 -- The query is a checked one: its tables are there, its columns go by place, views are opened, and windows are located.
-use Rattle.std.specs.Prelude.{ℕ, List, [], ◌∷◌, ◌++◌, map, get_or, set, Option, Some, None, if◌then◌else◌}
+use Rattle.std.specs.Prelude.{ℕ, List, [], ◌++◌, map, get_or, set, Option, Some, None, if◌then◌else◌}
 use Rattle.std.specs.FinMap as names
 use Rattle.rs_value.specs.declared.column.Kind.{Kind}
 use Rattle.rs_value.specs.declared.column.Kind.TheVariants as kinds

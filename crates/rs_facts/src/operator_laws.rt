@@ -13,6 +13,7 @@ ghost use Rattle.rs_facts.specs.OperatorLaws.{
   MergedRowsAreOfEither,
   LeftRowsAreNotOfTheOther,
   WindowedRowsAreInside,
+  CarriedRowsAreThose,
 };
 
 /// The set of a list has its rows and no others.
@@ -55,4 +56,9 @@ pub fn rows_left_are_not_of_the_other()
 /// WINDOW has the same rows inside and none outside.
 pub fn windowed_rows_are_inside()
     ensures { WindowedRowsAreInside }
+{}
+
+/// A piece of an alignment has at a thousandth the rows that it carries there, and no others.
+pub fn carried_rows_are_those()
+    ensures { CarriedRowsAreThose }
 {}
