@@ -1,64 +1,57 @@
-//! Cells that are made of keys: zeros, the key, an end that follows from it, and zeros.
+//! Cells that are event records made of keys, in the order of the keys.
 //!
-//! Two cells first differ in their last sixteen bytes, so a comparison that stops early is told.
+//! A hundred keys are on each route, ten of them from each thousandth. The cells of these ten first differ in the last
+//! sixteen bytes, so a comparison that stops early is told.
 
 ghost use Rattle.std.specs.Prelude.{◌≡◌, ◌≤◌, length};
-ghost use Rattle.rs_tree_judge.specs.declared.cells.TheConstants.{WIDEST};
+ghost use Rattle.rs_tree_judge.specs.declared.cells.TheConstants.{NARROWEST, WIDEST};
 
 use byteorder::{BigEndian, ByteOrder};
 use rs_records::Cells;
-use rs_tree_page::Layout;
 
-/// The greatest width of a cell.
+/// The least width of a cell: that of an event record of no columns.
+pub const NARROWEST: usize = 28;
+
+/// The greatest width of a cell. Three such cells fit a page, and three entries.
 pub const WIDEST: usize = 1_109;
 
-/// The kind of a tree: how wide its cells are. Its summary is the greatest end.
-#[derive(Clone, Copy)]
-pub struct Kind {
-    pub layout: Layout,
-    ghost summary: { layout.summary ≡ 4 },
-    ghost least: { 16 ≤ layout.width },
-    ghost most: { layout.width ≤ WIDEST },
+/// The route that a key's cell is on.
+pub fn route_of(key: u32) -> u32 {
+    key / 100
 }
 
-impl Kind {
-    /// Cells of this width.
-    pub fn new(width: usize) -> Kind
-        requires least { 16 ≤ width }
-        requires most { width ≤ WIDEST }
-    {
-        Kind {
-            layout: Layout::new(width, 4),
-        }
-    }
+/// Where a key's cell begins, in thousandths.
+pub fn start_of(key: u32) -> u32 {
+    key % 100 / 10
 }
 
-/// The end that a key's cell has: below 256, and not in the order of the keys.
+/// Where a key's cell ends, in thousandths: below 256, and not in the order of the keys.
 pub fn end_of(key: u32) -> u32 {
     key.wrapping_mul(2_654_435_761) >> 24
 }
 
-/// Writes the cell of a key.
+/// Writes the cell of a key: an event record with a row of zeros, born as the version that the key numbers.
 pub fn put_cell(cell: &mut [u8], key: u32)
-    requires { 16 ≤ length cell.old }
+    requires { NARROWEST ≤ length cell.old }
     ensures { length cell.new ≡ length cell.old }
 {
     let at = cell.len() - 16;
     cell.fill(0);
+    BigEndian::write_u32(&mut cell[..4], route_of(key));
+    BigEndian::write_u32(&mut cell[4..8], start_of(key));
     BigEndian::write_u32(&mut cell[at..at + 4], key);
     BigEndian::write_u32(&mut cell[at + 4..at + 8], end_of(key));
 }
 
 /// Whether this is the cell of a key.
 pub fn is_cell(cell: &[u8], key: u32) -> bool {
-    let Some(at) = cell.len().checked_sub(16) else {
+    if cell.len() < NARROWEST || cell.len() > WIDEST {
         return false;
-    };
-    let (before, after) = cell.split_at(at);
-    before.iter().all(|byte| *byte == 0)
-        && &after[..4] == key.to_be_bytes().as_slice()
-        && &after[4..8] == end_of(key).to_be_bytes().as_slice()
-        && after[8..].iter().all(|byte| *byte == 0)
+    }
+    let mut buffer = [0; WIDEST];
+    let wanted = &mut buffer[..cell.len()];
+    put_cell(wanted, key);
+    cell == wanted
 }
 
 /// Whether these are the cells of some of the keys from `low` on, below `high`: of those that are `wanted`, in order.

@@ -1,25 +1,51 @@
 //! A pager with trees in it, whose calls may come in any order: a call that changes pages begins changes.
 
-ghost use Rattle.std.specs.Prelude.{◌≡◌, true, OnOk};
+ghost use Rattle.std.specs.Prelude.{◌≡◌, ◌≤◌, true, OnOk};
+ghost use Rattle.rs_tree_judge.specs.declared.cells.TheConstants.{NARROWEST, WIDEST};
 
-use crate::cells::{Kind, WIDEST, put_cell};
+use crate::cells::{NARROWEST, WIDEST, put_cell};
+use rs_btree::Tree;
 use rs_disk::{FailingDisk, MemoryDisk};
-use rs_interval::GreatestEnd;
+use rs_interval::{GreatestEnd, overlapping};
 use rs_measure::Refusal;
 use rs_page::PageNumber;
 use rs_pager::Pager;
 use rs_pages::Pages;
 use rs_reached::Reached;
 use rs_records::Cells;
-use rs_tree_check::validate;
-use rs_tree_clear::clear;
-use rs_tree_insert::insert;
-use rs_tree_remove::remove;
-use rs_tree_search::descend;
+use rs_tree_page::Layout;
 use std::alloc::Global;
 
 /// A disk in memory of which one call may fail.
 pub type TestDisk = FailingDisk<MemoryDisk>;
+
+/// Where a tree is: how wide its cells are, and its root. Its summary is the greatest end.
+#[derive(Clone, Copy)]
+pub struct TreeAt {
+    width: usize,
+    root: PageNumber,
+    ghost least: { NARROWEST ≤ width },
+    ghost most: { width ≤ WIDEST },
+}
+
+impl TreeAt {
+    /// An empty tree of cells of this width.
+    pub fn new(width: usize) -> TreeAt
+        requires least { NARROWEST ≤ width }
+        requires most { width ≤ WIDEST }
+    {
+        TreeAt {
+            width,
+            root: PageNumber::new(0),
+        }
+    }
+
+    fn tree(self) -> Tree<GreatestEnd>
+        ensures { result.width ≡ self.width }
+    {
+        Tree::at(self.width, self.root)
+    }
+}
 
 /// A pager, and whether changes are begun.
 #[derive(Drop)]
@@ -84,70 +110,118 @@ impl TreeDriver {
         Ok(())
     }
 
-    /// As `insert`, of the cell of a key.
-    pub fn insert(
-        &mut self,
-        kind: Kind,
-        root: PageNumber,
-        key: u32,
-    ) -> Result<(PageNumber, bool), Refusal> {
+    /// As `Tree::insert`, of the cell of a key.
+    pub fn insert(&mut self, at: &mut TreeAt, key: u32) -> Result<bool, Refusal> {
         self.begin()?;
         let mut buffer = [0; WIDEST];
-        let cell = &mut buffer[..kind.layout.width];
+        let cell = &mut buffer[..at.width];
         put_cell(cell, key);
-        let answer = insert::<_, GreatestEnd>(&mut self.pager, kind.layout, root, cell)?;
-        Ok((answer.root, answer.new))
+        let mut tree = at.tree();
+        let is_new = tree.insert(&mut self.pager, cell)?;
+        at.root = tree.root();
+        Ok(is_new)
     }
 
-    /// As `remove`, of the cell of a key.
-    pub fn remove(
-        &mut self,
-        kind: Kind,
-        root: PageNumber,
-        key: u32,
-    ) -> Result<(PageNumber, bool), Refusal> {
+    /// As `Tree::remove`, of the cell of a key.
+    pub fn remove(&mut self, at: &mut TreeAt, key: u32) -> Result<bool, Refusal> {
         self.begin()?;
         let mut buffer = [0; WIDEST];
-        let cell = &mut buffer[..kind.layout.width];
+        let cell = &mut buffer[..at.width];
         put_cell(cell, key);
-        remove::<_, GreatestEnd>(&mut self.pager, kind.layout, root, cell)
+        let mut tree = at.tree();
+        let was_there = tree.remove(&mut self.pager, cell)?;
+        at.root = tree.root();
+        Ok(was_there)
     }
 
-    /// As `clear`.
-    pub fn clear(&mut self, kind: Kind, root: PageNumber) -> Result<(), Refusal> {
+    /// As `Tree::replace`, of the cell of a key by that of another.
+    pub fn replace(&mut self, at: &mut TreeAt, key: u32, other: u32) -> Result<bool, Refusal> {
         self.begin()?;
-        clear::<_, GreatestEnd>(&mut self.pager, kind.layout, root)
+        let mut buffer = [0; WIDEST];
+        let cell = &mut buffer[..at.width];
+        put_cell(cell, key);
+        let mut other_buffer = [0; WIDEST];
+        let other_cell = &mut other_buffer[..at.width];
+        put_cell(other_cell, other);
+        let mut tree = at.tree();
+        let was_there = tree.replace(&mut self.pager, cell, other_cell)?;
+        at.root = tree.root();
+        Ok(was_there)
     }
 
-    /// As `descend`, for the cells of keys from `low` on, below `high`, that end after `end`.
-    pub fn search(
+    /// As `Tree::clear`.
+    pub fn clear(&mut self, at: &mut TreeAt) -> Result<(), Refusal> {
+        self.begin()?;
+        let mut tree = at.tree();
+        tree.clear(&mut self.pager)?;
+        at.root = tree.root();
+        Ok(())
+    }
+
+    /// As `Tree::range`, for the cells of keys from `low` on, below `high`.
+    pub fn range(
         &mut self,
         alloc: Global,
-        kind: Kind,
-        root: PageNumber,
+        at: TreeAt,
+        low: u32,
+        high: u32,
+    ) -> Result<Cells, Refusal> {
+        let mut first = [0; WIDEST];
+        let from = &mut first[..at.width];
+        put_cell(from, low);
+        let mut after = [0; WIDEST];
+        let to = &mut after[..at.width];
+        put_cell(to, high);
+        at.tree().range(alloc, &mut self.pager, from, to)
+    }
+
+    /// As `Tree::descend`, for the cells of keys from `low` on, below `high`, that end after `end`.
+    pub fn descend(
+        &mut self,
+        alloc: Global,
+        at: TreeAt,
         low: u32,
         high: u32,
         end: u32,
     ) -> Result<Cells, Refusal> {
         let mut first = [0; WIDEST];
-        let from = &mut first[..kind.layout.width];
+        let from = &mut first[..at.width];
         put_cell(from, low);
         let mut after = [0; WIDEST];
-        let to = &mut after[..kind.layout.width];
+        let to = &mut after[..at.width];
         put_cell(to, high);
         let keep = |greatest: &GreatestEnd| end < greatest.end;
-        let (cells, _) = descend(alloc, &mut self.pager, kind.layout, root, from, to, &keep)?;
+        let (cells, _) = at.tree().descend(alloc, &mut self.pager, from, to, &keep)?;
         Ok(cells)
     }
 
-    /// As `validate`.
-    pub fn validate(
+    /// As `overlapping`.
+    pub fn overlapping(
         &mut self,
-        kind: Kind,
-        root: PageNumber,
-        reached: &mut Reached,
-    ) -> Result<(), Refusal> {
-        validate::<_, GreatestEnd>(&mut self.pager, kind.layout, root, reached)
+        alloc: Global,
+        at: TreeAt,
+        route: u32,
+        a: u32,
+        b: u32,
+    ) -> Result<Cells, Refusal> {
+        let layout = Layout::new(at.width, 4);
+        let (cells, _) = overlapping(alloc, &mut self.pager, layout, at.root, route, a, b)?;
+        Ok(cells)
+    }
+
+    /// As `Tree::validate`.
+    pub fn validate(&mut self, at: TreeAt, reached: &mut Reached) -> Result<(), Refusal> {
+        at.tree().validate(&mut self.pager, reached)
+    }
+
+    /// Changes the bits of a byte that a mask has, where there is such a byte in a page.
+    pub fn change(&mut self, number: u32, at: usize, mask: u8) -> Result<(), Refusal> {
+        self.begin()?;
+        let page = self.pager.page_mut(PageNumber::new(number))?;
+        if let Some(byte) = page.bytes.get_mut(at) {
+            *byte ^= mask;
+        }
+        Ok(())
     }
 
     /// How many pages the file has, and how many of them are free.

@@ -3,12 +3,11 @@
 //! A call answers as wanted, or is refused for want of memory, by the disk, or because the file is full. Then the changes
 //! are abandoned, all trees are as they were committed, and the call made again answers as wanted.
 
-use crate::cells::{Kind, are_cells};
-use crate::driver::{TestDisk, TreeDriver};
+use crate::cells::{are_cells, route_of, start_of};
+use crate::driver::{TestDisk, TreeAt, TreeDriver};
 use crate::plain::{KEYS, PlainKeys};
 use rs_disk::Disk;
 use rs_measure::Refusal;
-use rs_page::PageNumber;
 use rs_reached::Reached;
 use std::alloc::Global;
 
@@ -17,9 +16,15 @@ use std::alloc::Global;
 pub enum Call {
     Insert(u32),
     Remove(u32),
+    /// A key, and the one that comes in its place.
+    Replace(u32, u32),
     Clear,
+    /// The keys from one on, below another.
+    Range(u32, u32),
     /// The keys from one on, below another, that end after an end.
-    Search(u32, u32, u32),
+    Descend(u32, u32, u32),
+    /// The keys on a route that end after one thousandth and begin before another.
+    Overlapping(u32, u32, u32),
     /// All trees, and whether each page is theirs or free.
     Validate,
     Commit,
@@ -33,19 +38,17 @@ type Answer = Result<u32, Refusal>;
 /// The answer of a search that found others, or of trees whose pages are not all.
 const WRONG: u32 = 1_000_000;
 
-/// A tree: its root and what it is to hold.
+/// A tree, and what it is to hold.
 #[derive(Clone, Copy)]
-pub struct PlainTree {
-    kind: Kind,
-    root: PageNumber,
+struct PlainTree {
+    at: TreeAt,
     keys: PlainKeys,
 }
 
 impl PlainTree {
-    fn new(kind: Kind) -> PlainTree {
+    fn new(at: TreeAt) -> PlainTree {
         PlainTree {
-            kind,
-            root: PageNumber::new(0),
+            at,
             keys: PlainKeys::new(),
         }
     }
@@ -53,7 +56,7 @@ impl PlainTree {
 
 /// Two trees of a file.
 #[derive(Clone, Copy)]
-pub struct PlainTrees {
+struct PlainTrees {
     first: PlainTree,
     second: PlainTree,
 }
@@ -82,13 +85,13 @@ pub struct Judge {
 }
 
 impl Judge {
-    /// Over an empty file, which is made once more where that is refused. None: it couldn't be made.
+    /// Over an empty file with two empty trees, which is made once more where that is refused. None: it couldn't be made.
     pub fn new(
         alloc: Global,
         disk: TestDisk,
         limit: u32,
-        first: Kind,
-        second: Kind,
+        first: TreeAt,
+        second: TreeAt,
     ) -> Option<Judge> {
         let (driver, refusals) = match TreeDriver::create(alloc, disk, limit) {
             Ok(driver) => (driver, 0),
@@ -155,8 +158,8 @@ impl Judge {
     fn recover(&mut self) {
         self.judge(Call::Abandon, false);
         self.judge(Call::Validate, false);
-        self.judge(Call::Search(0, KEYS, 0), false);
-        self.judge(Call::Search(0, KEYS, 0), true);
+        self.judge(Call::Range(0, KEYS), false);
+        self.judge(Call::Range(0, KEYS), true);
     }
 
     /// Judges a call that is not to be refused.
@@ -174,27 +177,17 @@ impl Judge {
         self.is_right = self.is_right && is_right;
     }
 
-    /// What the trees answer. A root that they tell is kept.
+    /// What the trees answer.
     fn answer(&mut self, call: Call, is_second: bool) -> Answer {
-        let tree = *self.working.one(is_second);
+        let at = &mut self.working.one(is_second).at;
         match call {
-            Call::Insert(key) => {
-                let (root, is_new) = self.driver.insert(tree.kind, tree.root, key)?;
-                self.working.one(is_second).root = root;
-                Ok(u32::from(is_new))
-            }
-            Call::Remove(key) => {
-                let (root, was_there) = self.driver.remove(tree.kind, tree.root, key)?;
-                self.working.one(is_second).root = root;
-                Ok(u32::from(was_there))
-            }
+            Call::Insert(key) => Ok(u32::from(self.driver.insert(at, key)?)),
+            Call::Remove(key) => Ok(u32::from(self.driver.remove(at, key)?)),
+            Call::Replace(key, other) => Ok(u32::from(self.driver.replace(at, key, other)?)),
             Call::Clear => {
-                self.driver.clear(tree.kind, tree.root)?;
-                self.working.one(is_second).root = PageNumber::new(0);
+                self.driver.clear(at)?;
                 Ok(0)
             }
-            Call::Search(low, high, end) => self.search(&tree, low, high, end),
-            Call::Validate => self.validate(),
             Call::Commit => {
                 self.driver.end(true);
                 Ok(0)
@@ -207,16 +200,36 @@ impl Judge {
                 self.driver.flush_and_forget()?;
                 Ok(0)
             }
+            Call::Validate => self.validate(),
+            _ => self.search(call, is_second),
         }
     }
 
-    /// How many cells a search finds, if they are those of the plain keys.
-    fn search(&mut self, tree: &PlainTree, low: u32, high: u32, end: u32) -> Answer {
-        let found = self
-            .driver
-            .search(self.alloc, tree.kind, tree.root, low, high, end)?;
-        let keys = tree.keys;
-        let are_wanted = are_cells(&found, low, high, &|key: u32| keys.has_after(key, end));
+    /// 0, if a search finds the cells of the plain keys.
+    fn search(&mut self, call: Call, is_second: bool) -> Answer {
+        let PlainTree { at, keys } = *self.working.one(is_second);
+        let are_wanted = match call {
+            Call::Range(low, high) => {
+                let found = self.driver.range(self.alloc, at, low, high)?;
+                are_cells(&found, low, high, &|key: u32| keys.has(key))
+            }
+            Call::Descend(low, high, end) => {
+                let found = self.driver.descend(self.alloc, at, low, high, end)?;
+                are_cells(&found, low, high, &|key: u32| keys.has_after(key, end))
+            }
+            Call::Overlapping(route, a, b) => {
+                let found = self.driver.overlapping(self.alloc, at, route, a, b)?;
+                are_cells(
+                    &found,
+                    0,
+                    KEYS,
+                    &|key: u32| {
+                        route_of(key) == route && start_of(key) < b && keys.has_after(key, a)
+                    },
+                )
+            }
+            _ => true,
+        };
         if are_wanted { Ok(0) } else { Ok(WRONG) }
     }
 
@@ -227,20 +240,21 @@ impl Judge {
             return Err(Refusal::OutOfMemory);
         };
         let PlainTrees { first, second } = self.working;
-        self.driver.validate(first.kind, first.root, &mut reached)?;
-        self.driver
-            .validate(second.kind, second.root, &mut reached)?;
+        self.driver.validate(first.at, &mut reached)?;
+        self.driver.validate(second.at, &mut reached)?;
         let are_all = u64::from(reached.left()) == u64::from(free) + 2;
         if are_all { Ok(0) } else { Ok(WRONG) }
     }
 
     /// What they are to answer. What they are to hold changes with it.
     fn wanted(&mut self, call: Call, is_second: bool) -> u32 {
+        let keys = &mut self.working.one(is_second).keys;
         match call {
-            Call::Insert(key) => u32::from(self.working.one(is_second).keys.set(key, true)),
-            Call::Remove(key) => u32::from(self.working.one(is_second).keys.set(key, false)),
+            Call::Insert(key) => u32::from(keys.set(key, true)),
+            Call::Remove(key) => u32::from(keys.set(key, false)),
+            Call::Replace(key, other) => u32::from(keys.replace(key, other)),
             Call::Clear => {
-                self.working.one(is_second).keys = PlainKeys::new();
+                *keys = PlainKeys::new();
                 0
             }
             Call::Commit => {

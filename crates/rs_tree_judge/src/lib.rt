@@ -9,8 +9,8 @@ pub mod judge;
 pub mod plain;
 pub mod random_calls;
 
-pub use cells::{Kind, are_cells, put_cell};
-pub use driver::{TestDisk, TreeDriver};
+pub use cells::are_cells;
+pub use driver::{TestDisk, TreeAt, TreeDriver};
 pub use judge::{Call, Judge};
-pub use plain::{KEYS, PlainKeys};
+pub use plain::KEYS;
 pub use random_calls::RandomCalls;

@@ -39,4 +39,13 @@ impl PlainKeys {
             _ => false,
         }
     }
+
+    /// Puts another key into the place of one that is in the set, and answers whether that was there.
+    pub fn replace(&mut self, key: u32, other: u32) -> bool {
+        let was_there = self.set(key, false);
+        if was_there {
+            self.set(other, true);
+        }
+        was_there
+    }
 }

@@ -2,6 +2,7 @@
 //!
 //! Trees grow for some 500 calls, and shrink for as many.
 
+use crate::cells::route_of;
 use crate::judge::Call;
 use crate::plain::KEYS;
 use rand_core::utils::NextWord;
@@ -37,15 +38,18 @@ impl RandomCalls {
         let is_second = self.below(2) == 1;
         let grows = self.made / TIDE % 2 == 0;
         let key = self.below(KEYS);
-        let call = match self.below(24) {
+        let call = match self.below(28) {
             0..=11 if grows => Call::Insert(key),
             12..=14 if grows => Call::Remove(key),
             0..=11 => Call::Remove(key),
             12..=14 => Call::Insert(key),
-            15..=17 => Call::Search(key, key.saturating_add(self.below(40)), self.below(256)),
-            18 => Call::Validate,
-            19..=21 => Call::Commit,
-            22 => Call::Flush,
+            15..=16 => Call::Replace(key, self.below(KEYS)),
+            17 => Call::Range(key, key.saturating_add(self.below(40))),
+            18..=19 => { Call::Descend(key, key.saturating_add(self.below(40)), self.below(256)) }
+            20..=21 => Call::Overlapping(route_of(key), self.below(256), self.below(12)),
+            22 => Call::Validate,
+            23..=25 => Call::Commit,
+            26 => Call::Flush,
             _ => self.rare_call(),
         };
         (call, is_second)
@@ -55,7 +59,7 @@ impl RandomCalls {
         match self.below(12) {
             0 => Call::Clear,
             1..=3 => Call::Abandon,
-            _ => Call::Search(0, KEYS, 0),
+            _ => Call::Range(0, KEYS),
         }
     }
 }

@@ -1,4 +1,4 @@
-//! Trees beside plain keys, with bytes that are changed, and with many cells.
+//! Trees beside plain keys, in pages written by hand, with bytes that are changed, and with many cells.
 //!
 //! Everything here is for the tests alone.
 #![tactic(auto)]
@@ -6,8 +6,10 @@
 #[cfg(test)]
 mod damage_tests;
 #[cfg(test)]
+mod format_tests;
+#[cfg(test)]
 mod many_tests;
 #[cfg(test)]
-mod plain_tree;
+mod one_tree;
 #[cfg(test)]
 mod random_tests;

@@ -4,7 +4,7 @@
 ghost use Rattle.std.specs.Prelude.{◌≤◌};
 
 use rs_disk::{FailedCut, FailingDisk, MemoryDisk};
-use rs_tree_judge::{Call, Judge, KEYS, Kind, RandomCalls};
+use rs_tree_judge::{Call, Judge, KEYS, RandomCalls, TreeAt};
 use std::alloc::Global;
 use std::test::Fail;
 
@@ -17,7 +17,7 @@ struct Run {
     limit: u32,
     failing_call: u64,
     width: usize,
-    ghost least: { 16 ≤ width },
+    ghost least: { 28 ≤ width },
     ghost most: { width ≤ 1109 },
 }
 
@@ -29,16 +29,16 @@ fn made(alloc: Global, run: &Run) -> Option<(u64, u64, u64)> {
         alloc,
         disk,
         run.limit,
-        Kind::new(1_109),
-        Kind::new(run.width),
+        TreeAt::new(1_109),
+        TreeAt::new(run.width),
     )?;
     let mut calls = RandomCalls::new(run.seed);
     for _call in 0..run.calls {
         let (call, is_second) = calls.next_call();
         judge.make(call, is_second);
     }
-    judge.make(Call::Search(0, KEYS, 0), false);
-    judge.make(Call::Search(0, KEYS, 0), true);
+    judge.make(Call::Range(0, KEYS), false);
+    judge.make(Call::Range(0, KEYS), true);
     judge.make(Call::Validate, false);
     judge.finish()
 }
@@ -75,7 +75,7 @@ fn a_fault_of_the_disk_leaves_the_trees(rt: HostRuntime) {
             calls: 400,
             limit: 1_000,
             failing_call: turn.saturating_mul(5).saturating_add(1),
-            width: 16,
+            width: 28,
         };
         match made(rt.alloc(), &run) {
             Some((failures, refusals, _)) => {

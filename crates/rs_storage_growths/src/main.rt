@@ -1,0 +1,68 @@
+//! Makes calls of a pager and of trees and judges each answer itself, for runs in which a growth is refused.
+//!
+//! What is printed is the same whichever growth was refused.
+#![tactic(auto)]
+
+mod random_calls;
+mod tree_calls;
+
+use crate::random_calls::RandomCalls;
+use crate::tree_calls::tree_refusals;
+use rs_disk::{FailedCut, FailingDisk, MemoryDisk};
+use rs_growth_offset::{ask_for_each_dot, is_given};
+use rs_pager_judge::{AfterRefusal, Judge, script_calls};
+use std::alloc::Global;
+use std::io;
+
+/// How many pseudo-random calls follow.
+const RANDOM_CALLS: u32 = 80;
+
+/// Makes the script's calls, and pseudo-random ones over the same disk, opened again. None: some answer was wrong.
+///
+/// Else how many calls of the disk failed, and how many of the pager were refused.
+fn refusals(alloc: Global, after: AfterRefusal, seed: u64) -> Option<(u64, u64)> {
+    let disk = FailingDisk::new(MemoryDisk::new(alloc), 0, FailedCut::Done);
+    let mut judge = Judge::new(alloc, disk, after)?;
+    judge.make_all(script_calls());
+    let mut judge = judge.opened_again(alloc)?;
+    let mut calls = RandomCalls::new(seed);
+    for _call in 0..RANDOM_CALLS {
+        judge.make(calls.next_call());
+    }
+    judge.make_all(&[]);
+    judge.finish()
+}
+
+/// Whether each call of the trees is answered as wanted, but for one that may be refused.
+fn are_trees_right(alloc: Global) -> bool {
+    match tree_refusals(alloc) {
+        Some((failures, refusals, full)) => failures <= refusals && refusals <= 1 && full == 0,
+        None => false,
+    }
+}
+
+/// Whether each call of the pager is answered as wanted, but for one that may be refused.
+fn is_pager_right(alloc: Global, after: AfterRefusal, seed: u64) -> bool {
+    match refusals(alloc, after, seed) {
+        Some((failures, refusals)) => failures <= refusals && refusals <= 1,
+        None => false,
+    }
+}
+
+fn main(rt: HostRuntime) -> io::Result<()> {
+    let alloc = rt.alloc();
+    ask_for_each_dot(alloc, &mut rt.stdin());
+    if is_pager_right(alloc, AfterRefusal::Abandon, 1)
+        && is_pager_right(alloc, AfterRefusal::Commit, 2)
+        && are_trees_right(alloc)
+    {
+        println!(rt; "each call was answered as wanted")?;
+    } else {
+        println!(rt; "some call was answered otherwise")?;
+    }
+    if is_given(alloc) {
+        println!(rt; "the next growth was given")
+    } else {
+        println!(rt; "the next growth was refused")
+    }
+}
