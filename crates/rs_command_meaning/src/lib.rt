@@ -6,3 +6,4 @@
 pub mod meaning;
 mod said_definitions;
 mod said_events;
+mod said_totals;

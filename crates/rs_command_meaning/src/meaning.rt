@@ -12,6 +12,7 @@ ghost use Rattle.rs_command_meaning.specs.Definitions.{is_definition};
 
 use crate::said_definitions::{referent_said, route_said, table_said, view_said};
 use crate::said_events::{event_said, removal_said};
+use crate::said_totals::total_said;
 use rs_lexer::Token;
 use rs_measure::Refusal;
 use rs_methods::Method;
@@ -191,6 +192,7 @@ pub fn meaning(
             method,
         } => translation_said(line, *route, *position, *method),
         WrittenCommand::Select { query, method } => selection_said(alloc, line, query, *method),
+        WrittenCommand::Total { query, by, summed } => total_said(alloc, line, query, by, *summed),
         _ => definition_said(alloc, line, tokens, written),
     }
 }

@@ -26,8 +26,10 @@ fn column_type(tokens: &[Token]) -> Result<(WrittenType, &[Token]), Stop<'_>>
     let rest = need_mark(tokens, TokenKind::Text)?;
     let rest = need_mark(rest, TokenKind::LeftParen)?;
     let (most, rest) = need_text(rest, TokenKind::Whole)?;
-    let rest = need_mark(rest, TokenKind::RightParen)?;
-    Ok((WrittenType::Text(most), rest))
+    match mark(rest, TokenKind::RightParen) {
+        Some(behind) => Ok((WrittenType::Text(most), behind)),
+        None => Err(Stop::At(rest)),
+    }
 }
 
 // name type

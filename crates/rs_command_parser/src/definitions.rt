@@ -86,13 +86,17 @@ fn define_table(
     let (name, rest) = need_text(rest, TokenKind::Name)?;
     let rest = need_mark(rest, TokenKind::LeftParen)?;
     let (columns, rest) = columns(alloc, rest)?;
-    let rest = need_mark(rest, TokenKind::RightParen)?;
-    let command = WrittenCommand::DefineTable {
-        kind,
-        name,
-        columns,
-    };
-    Ok((command, rest))
+    match mark(rest, TokenKind::RightParen) {
+        Some(behind) => {
+            let command = WrittenCommand::DefineTable {
+                kind,
+                name,
+                columns,
+            };
+            Ok((command, behind))
+        }
+        None => Err(Stop::At(rest)),
+    }
 }
 
 /// After DEFINE: a route, a referent, a view or a table.
@@ -114,6 +118,8 @@ pub fn define(alloc: Global, tokens: &[Token]) -> Result<(WrittenCommand, &[Toke
     if let Some(rest) = mark(tokens, TokenKind::Line) {
         return define_table(alloc, Kind::Line, rest);
     }
-    let rest = need_mark(tokens, TokenKind::Point)?;
-    define_table(alloc, Kind::Point, rest)
+    match mark(tokens, TokenKind::Point) {
+        Some(rest) => define_table(alloc, Kind::Point, rest),
+        None => Err(Stop::At(tokens)),
+    }
 }

@@ -11,7 +11,7 @@ ghost use Rattle.rs_query_parser.specs.Reading.{RunsTo};
 
 use rs_grammar::kind::TokenKind;
 use rs_lexer::Token;
-use rs_query_parser::front::{Stop, mark, need_mark, need_text};
+use rs_query_parser::front::{Stop, mark, need_text, text};
 use rs_syntax::written::WrittenCommand;
 
 // after DROP ROUTE: name
@@ -21,8 +21,10 @@ fn drop_route(tokens: &[Token]) -> Result<(WrittenCommand, &[Token]), Stop<'_>>
         ≡ spelling (written_of found.0) ++ lexemes_of found.1.now) }
     ensures full { IfOk result (λ found. IsFull (written_of found.0)) }
 {
-    let (name, rest) = need_text(tokens, TokenKind::Name)?;
-    Ok((WrittenCommand::DropRoute { name }, rest))
+    match text(tokens, TokenKind::Name) {
+        Some((name, rest)) => Ok((WrittenCommand::DropRoute { name }, rest)),
+        None => Err(Stop::At(tokens)),
+    }
 }
 
 // after DROP TABLE: name
@@ -32,8 +34,10 @@ fn drop_table(tokens: &[Token]) -> Result<(WrittenCommand, &[Token]), Stop<'_>>
         ≡ spelling (written_of found.0) ++ lexemes_of found.1.now) }
     ensures full { IfOk result (λ found. IsFull (written_of found.0)) }
 {
-    let (name, rest) = need_text(tokens, TokenKind::Name)?;
-    Ok((WrittenCommand::DropTable { name }, rest))
+    match text(tokens, TokenKind::Name) {
+        Some((name, rest)) => Ok((WrittenCommand::DropTable { name }, rest)),
+        None => Err(Stop::At(tokens)),
+    }
 }
 
 // after DROP VIEW: name
@@ -43,8 +47,10 @@ fn drop_view(tokens: &[Token]) -> Result<(WrittenCommand, &[Token]), Stop<'_>>
         ≡ spelling (written_of found.0) ++ lexemes_of found.1.now) }
     ensures full { IfOk result (λ found. IsFull (written_of found.0)) }
 {
-    let (name, rest) = need_text(tokens, TokenKind::Name)?;
-    Ok((WrittenCommand::DropView { name }, rest))
+    match text(tokens, TokenKind::Name) {
+        Some((name, rest)) => Ok((WrittenCommand::DropView { name }, rest)),
+        None => Err(Stop::At(tokens)),
+    }
 }
 
 // after DROP REFERENT: route name
@@ -55,8 +61,10 @@ fn drop_referent(tokens: &[Token]) -> Result<(WrittenCommand, &[Token]), Stop<'_
     ensures full { IfOk result (λ found. IsFull (written_of found.0)) }
 {
     let (route, rest) = need_text(tokens, TokenKind::Name)?;
-    let (name, rest) = need_text(rest, TokenKind::Name)?;
-    Ok((WrittenCommand::DropReferent { route, name }, rest))
+    match text(rest, TokenKind::Name) {
+        Some((name, behind)) => Ok((WrittenCommand::DropReferent { route, name }, behind)),
+        None => Err(Stop::At(rest)),
+    }
 }
 
 /// After DROP: a route, a table, a view or a referent.
@@ -75,6 +83,8 @@ pub fn drop_command(tokens: &[Token]) -> Result<(WrittenCommand, &[Token]), Stop
     if let Some(rest) = mark(tokens, TokenKind::View) {
         return drop_view(rest);
     }
-    let rest = need_mark(tokens, TokenKind::Referent)?;
-    drop_referent(rest)
+    match mark(tokens, TokenKind::Referent) {
+        Some(rest) => drop_referent(rest),
+        None => Err(Stop::At(tokens)),
+    }
 }

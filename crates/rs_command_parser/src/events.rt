@@ -15,7 +15,7 @@ ghost use Rattle.rs_command_parser.specs.Forms.{into_form, row_form};
 use rs_grammar::kind::TokenKind;
 use rs_lexer::Token;
 use rs_query_parser::conditions::condition;
-use rs_query_parser::front::{Stop, mark, need_mark, need_text};
+use rs_query_parser::front::{Stop, mark, need_mark, need_text, text};
 use rs_query_parser::positions::place;
 use rs_query_parser::values::value;
 use rs_query_parser::windows::window;
@@ -51,8 +51,10 @@ fn row(alloc: Global, tokens: &[Token]) -> Result<(Vec<WrittenValue>, &[Token]),
     let rest = need_mark(tokens, TokenKind::Values)?;
     let rest = need_mark(rest, TokenKind::LeftParen)?;
     let (values, rest) = values(alloc, rest)?;
-    let rest = need_mark(rest, TokenKind::RightParen)?;
-    Ok((values, rest))
+    match mark(rest, TokenKind::RightParen) {
+        Some(behind) => Ok((values, behind)),
+        None => Err(Stop::At(rest)),
+    }
 }
 
 // INTO table ON route
@@ -64,8 +66,10 @@ fn table_on_route(tokens: &[Token]) -> Result<((Token, Token), &[Token]), Stop<'
     let rest = need_mark(tokens, TokenKind::Into)?;
     let (table, rest) = need_text(rest, TokenKind::Name)?;
     let rest = need_mark(rest, TokenKind::On)?;
-    let (route, rest) = need_text(rest, TokenKind::Name)?;
-    Ok(((table, route), rest))
+    match text(rest, TokenKind::Name) {
+        Some((route, behind)) => Ok(((table, route), behind)),
+        None => Err(Stop::At(rest)),
+    }
 }
 
 /// After INSERT: INTO table ON route place VALUES "(" values ")"

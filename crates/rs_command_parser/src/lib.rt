@@ -1,4 +1,4 @@
-//! The parser of the commands that change something, and of TRANSLATE.
+//! The parser of the commands that change something, of TRANSLATE and of TOTAL.
 //!
 //! The tokens are read by the table of the grammar. What they say is looked at in other crates.
 #![tactic(auto)]
@@ -8,3 +8,4 @@ pub mod definitions;
 pub mod drops;
 pub mod events;
 pub mod moves;
+pub mod totals;

@@ -127,7 +127,7 @@ all_in-lacks xs ys kind all e =
 
 -- The first tokens of a part, and the tokens that reading it would take where something else follows.
 abbrev pub first_kinds : Part → List TokenKind
-first_kinds g.command = kinds.Define ∷ kinds.Drop ∷ kinds.Move ∷ kinds.Insert ∷ kinds.Remove ∷ kinds.Translate ∷ kinds.Select ∷ []
+first_kinds g.command = kinds.Define ∷ kinds.Drop ∷ kinds.Move ∷ kinds.Insert ∷ kinds.Remove ∷ kinds.Translate ∷ kinds.Select ∷ kinds.Total ∷ []
 first_kinds g.place = kinds.From ∷ kinds.At ∷ []
 first_kinds g.columns = kinds.Name ∷ []
 first_kinds g.column = kinds.Name ∷ []
@@ -149,7 +149,7 @@ first_kinds g.operand = kinds.Name ∷ kinds.MinusSign ∷ kinds.Whole ∷ kinds
 first_kinds _ = []
 
 abbrev pub part_bars : Part → List TokenKind
-part_bars g.command = kinds.PlusSign ∷ kinds.MinusSign ∷ kinds.PercentSign ∷ kinds.From ∷ kinds.As ∷ kinds.Where ∷ kinds.And ∷ kinds.Or ∷ []
+part_bars g.command = kinds.PlusSign ∷ kinds.MinusSign ∷ kinds.PercentSign ∷ kinds.From ∷ kinds.As ∷ kinds.Where ∷ kinds.And ∷ kinds.Or ∷ kinds.Sum ∷ []
 part_bars g.place = kinds.PlusSign ∷ kinds.MinusSign ∷ kinds.PercentSign ∷ []
 part_bars g.columns = kinds.Comma ∷ []
 part_bars g.values = kinds.Comma ∷ []

@@ -100,10 +100,18 @@ wanted_form = pick kinds.As (sub method done) done
 abbrev pub select_form : Form
 select_form = sub query wanted_form
 
+-- the column that is summed, if one is named
+abbrev pub summed_form : Form
+summed_form = pick kinds.Sum (need kinds.Name done) done
+
+abbrev pub total_form : Form
+total_form = sub query (need kinds.By (sub bracketed_names summed_form))
+
 abbrev pub command_form : Form
 command_form =
     pick kinds.Define define_form (pick kinds.Drop drop_form (pick kinds.Move move_form
-    (pick kinds.Insert insert_form (pick kinds.Remove remove_form (pick kinds.Translate translate_form (need kinds.Select select_form))))))
+    (pick kinds.Insert insert_form (pick kinds.Remove remove_form (pick kinds.Translate translate_form
+    (pick kinds.Select select_form (need kinds.Total total_form)))))))
 
 abbrev pub columns_form : Form
 columns_form = sub column (pick kinds.Comma (sub columns done) done)

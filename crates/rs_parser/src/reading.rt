@@ -14,6 +14,7 @@ use rs_command_parser::definitions::define;
 use rs_command_parser::drops::drop_command;
 use rs_command_parser::events::{insert, remove};
 use rs_command_parser::moves::{move_referent, translate};
+use rs_command_parser::totals::total;
 use rs_grammar::kind::TokenKind;
 use rs_lexer::Token;
 use rs_query_parser::front::{Stop, mark, need_mark};
@@ -58,6 +59,9 @@ pub fn command(alloc: Global, tokens: &[Token]) -> Result<(WrittenCommand, &[Tok
     if let Some(rest) = mark(tokens, TokenKind::Translate) {
         return translate(rest);
     }
-    let rest = need_mark(tokens, TokenKind::Select)?;
-    select(alloc, rest)
+    if let Some(rest) = mark(tokens, TokenKind::Select) {
+        return select(alloc, rest);
+    }
+    let rest = need_mark(tokens, TokenKind::Total)?;
+    total(alloc, rest)
 }

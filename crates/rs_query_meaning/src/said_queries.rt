@@ -21,8 +21,10 @@ use rs_syntax::Query;
 use rs_syntax::written::{PairOperator, WrittenQuery};
 use std::alloc::Global;
 
-// Names of columns.
-fn names_said(alloc: Global, line: &str, written: &[Token]) -> Result<Vec<Name>, Refusal>
+/// Names of columns.
+///
+/// Refused `OutOfMemory` where a growth was refused.
+pub fn names_said(alloc: Global, line: &str, written: &[Token]) -> Result<Vec<Name>, Refusal>
     requires { AreToldOf line.now (list_lexemes kinds.Comma name_lexemes written.now) }
     ensures ok { IfOk result (λ names. map (λ name. name.bytes) names.items ≡ map (token_text line.now) written.now) }
     ensures err { IfErr result (λ refusal. refusal ≡ OutOfMemory) }

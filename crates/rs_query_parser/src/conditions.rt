@@ -10,7 +10,7 @@ ghost use Rattle.rs_syntax.specs.Written.{mark, told, comparison_lexemes, operan
 ghost use Rattle.rs_syntax.specs.WrittenView.{atom_syntax, conjunction_syntax, condition_syntax};
 ghost use Rattle.rs_query_parser.specs.Reading.{RunsTo};
 
-use crate::front::{Stop, mark, need_mark, need_text, text};
+use crate::front::{Stop, mark, need_mark, text};
 use rs_grammar::kind::TokenKind;
 use rs_lexer::Token;
 use rs_syntax::written::{WrittenAtom, WrittenOperand};
@@ -38,8 +38,10 @@ fn comparison(tokens: &[Token]) -> Result<(Comparison, &[Token]), Stop<'_>>
     if let Some(rest) = mark(tokens, TokenKind::Greater) {
         return Ok((Comparison::Greater, rest));
     }
-    let rest = need_mark(tokens, TokenKind::GreaterOrEqual)?;
-    Ok((Comparison::GreaterOrEqual, rest))
+    if let Some(rest) = mark(tokens, TokenKind::GreaterOrEqual) {
+        return Ok((Comparison::GreaterOrEqual, rest));
+    }
+    Err(Stop::At(tokens))
 }
 
 // name | [ "-" ] Whole | Quoted
@@ -52,14 +54,18 @@ fn operand(tokens: &[Token]) -> Result<(WrittenOperand, &[Token]), Stop<'_>>
         return Ok((WrittenOperand::Column(name), rest));
     }
     if let Some(rest) = mark(tokens, TokenKind::MinusSign) {
-        let (digits, rest) = need_text(rest, TokenKind::Whole)?;
-        return Ok((WrittenOperand::Whole(true, digits), rest));
+        return match text(rest, TokenKind::Whole) {
+            Some((digits, rest)) => Ok((WrittenOperand::Whole(true, digits), rest)),
+            None => Err(Stop::At(rest)),
+        };
     }
     if let Some((digits, rest)) = text(tokens, TokenKind::Whole) {
         return Ok((WrittenOperand::Whole(false, digits), rest));
     }
-    let (quoted, rest) = need_text(tokens, TokenKind::Quoted)?;
-    Ok((WrittenOperand::Quoted(quoted), rest))
+    if let Some((quoted, rest)) = text(tokens, TokenKind::Quoted) {
+        return Ok((WrittenOperand::Quoted(quoted), rest));
+    }
+    Err(Stop::At(tokens))
 }
 
 // after a column and IS: [ NOT ] NULL
@@ -70,11 +76,15 @@ fn null_test(name: Token, tokens: &[Token]) -> Result<(WrittenAtom, &[Token]), S
     ensures shorter { IfOk result (λ found. length found.1.now < length tokens.now) }
 {
     if let Some(rest) = mark(tokens, TokenKind::Not) {
-        let rest = need_mark(rest, TokenKind::Null)?;
-        return Ok((WrittenAtom::IsNotNull(name), rest));
+        return match mark(rest, TokenKind::Null) {
+            Some(rest) => Ok((WrittenAtom::IsNotNull(name), rest)),
+            None => Err(Stop::At(rest)),
+        };
     }
-    let rest = need_mark(tokens, TokenKind::Null)?;
-    Ok((WrittenAtom::IsNull(name), rest))
+    if let Some(rest) = mark(tokens, TokenKind::Null) {
+        return Ok((WrittenAtom::IsNull(name), rest));
+    }
+    Err(Stop::At(tokens))
 }
 
 // after a column: IS [ NOT ] NULL | comparison operand
@@ -101,8 +111,10 @@ fn inside(alloc: Global, tokens: &[Token]) -> Result<(Vec<Vec<WrittenAtom>>, &[T
     ensures shorter { IfOk result (λ found. length found.1.now < length tokens.now) }
 {
     let (condition, rest) = condition(alloc, tokens)?;
-    let rest = need_mark(rest, TokenKind::RightParen)?;
-    Ok((condition, rest))
+    match mark(rest, TokenKind::RightParen) {
+        Some(behind) => Ok((condition, behind)),
+        None => Err(Stop::At(rest)),
+    }
 }
 
 // [ NOT ] "(" condition ")" | name test
@@ -121,8 +133,10 @@ fn atom(alloc: Global, tokens: &[Token]) -> Result<(WrittenAtom, &[Token]), Stop
         let (condition, rest) = inside(alloc, rest)?;
         return Ok((WrittenAtom::Negated(condition), rest));
     }
-    let (name, rest) = need_text(tokens, TokenKind::Name)?;
-    test(name, rest)
+    match text(tokens, TokenKind::Name) {
+        Some((name, rest)) => test(name, rest),
+        None => Err(Stop::At(tokens)),
+    }
 }
 
 // atom { AND atom }

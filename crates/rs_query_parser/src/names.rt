@@ -54,6 +54,8 @@ pub fn bracketed_names(alloc: Global, tokens: &[Token]) -> Result<(Vec<Token>, &
         return Ok((Vec::new(alloc), behind));
     }
     let (names, rest) = names(alloc, rest)?;
-    let rest = need_mark(rest, TokenKind::RightParen)?;
-    Ok((names, rest))
+    match mark(rest, TokenKind::RightParen) {
+        Some(behind) => Ok((names, behind)),
+        None => Err(Stop::At(rest)),
+    }
 }

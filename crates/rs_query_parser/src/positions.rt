@@ -48,8 +48,10 @@ pub fn position(tokens: &[Token]) -> Result<(WrittenPosition, &[Token]), Stop<'_
     ensures spelled { IfOk result (λ found. lexemes_of tokens.now ≡ position_lexemes found.0 ++ lexemes_of found.1.now) }
 {
     if let Some(rest) = mark(tokens, TokenKind::AtSign) {
-        let (referent, rest) = need_text(rest, TokenKind::Name)?;
-        return offset(referent, rest);
+        return match text(rest, TokenKind::Name) {
+            Some((referent, rest)) => offset(referent, rest),
+            None => Err(Stop::At(rest)),
+        };
     }
     let (number, rest) = measure(tokens)?;
     match mark(rest, TokenKind::PercentSign) {
@@ -95,8 +97,10 @@ pub fn method(tokens: &[Token]) -> Result<(Method, &[Token]), Stop<'_>>
     if let Some(rest) = mark(tokens, TokenKind::Relative) {
         return Ok((Method::Relative, rest));
     }
-    let rest = need_mark(tokens, TokenKind::Interpolative)?;
-    Ok((Method::Interpolative, rest))
+    if let Some(rest) = mark(tokens, TokenKind::Interpolative) {
+        return Ok((Method::Interpolative, rest));
+    }
+    Err(Stop::At(tokens))
 }
 
 /// [ AS method ]

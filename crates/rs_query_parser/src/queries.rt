@@ -11,7 +11,7 @@ ghost use Rattle.rs_syntax.specs.WrittenView.{query_syntax};
 ghost use Rattle.rs_query_parser.specs.Reading.{RunsTo, Begins, renaming_form, closing_form};
 
 use crate::conditions::condition;
-use crate::front::{Stop, mark, need_mark, need_text};
+use crate::front::{Stop, mark, need_mark, need_text, text};
 use crate::names::bracketed_names;
 use crate::windows::window;
 use rs_grammar::kind::TokenKind;
@@ -26,8 +26,10 @@ fn closed(query: WrittenQuery, tokens: &[Token]) -> Result<(WrittenQuery, &[Toke
     ensures spelled { IfOk result (λ found. lexemes_of tokens.now ≡ mark kinds.RightParen ∷ lexemes_of found.1.now) }
     ensures shorter { IfOk result (λ found. length found.1.now < length tokens.now) }
 {
-    let rest = need_mark(tokens, TokenKind::RightParen)?;
-    Ok((query, rest))
+    match mark(tokens, TokenKind::RightParen) {
+        Some(rest) => Ok((query, rest)),
+        None => Err(Stop::At(tokens)),
+    }
 }
 
 // name TO name
@@ -65,8 +67,10 @@ fn operand_query(alloc: Global, tokens: &[Token]) -> Result<(Box<WrittenQuery>, 
 {
     let rest = need_mark(tokens, TokenKind::LeftParen)?;
     let (query, rest) = boxed_query(alloc, rest)?;
-    let rest = need_mark(rest, TokenKind::Comma)?;
-    Ok((query, rest))
+    match mark(rest, TokenKind::Comma) {
+        Some(behind) => Ok((query, behind)),
+        None => Err(Stop::At(rest)),
+    }
 }
 
 // after WHERE: "(" query "," condition ")"
@@ -170,6 +174,8 @@ pub fn query(alloc: Global, tokens: &[Token]) -> Result<(WrittenQuery, &[Token])
     if let Some(rest) = mark(tokens, TokenKind::Window) {
         return window_query(alloc, rest);
     }
-    let (name, rest) = need_text(tokens, TokenKind::Name)?;
-    Ok((WrittenQuery::Named(name), rest))
+    match text(tokens, TokenKind::Name) {
+        Some((name, rest)) => Ok((WrittenQuery::Named(name), rest)),
+        None => Err(Stop::At(tokens)),
+    }
 }

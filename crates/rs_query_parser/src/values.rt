@@ -7,7 +7,7 @@ ghost use Rattle.rs_grammar.specs.Grammar.{value_form};
 ghost use Rattle.rs_syntax.specs.Written.{value_lexemes, lexemes_of};
 ghost use Rattle.rs_query_parser.specs.Reading.{RunsTo};
 
-use crate::front::{Stop, mark, need_text, text};
+use crate::front::{Stop, mark, text};
 use rs_grammar::kind::TokenKind;
 use rs_lexer::Token;
 use rs_syntax::written::WrittenValue;
@@ -22,12 +22,16 @@ pub fn value(tokens: &[Token]) -> Result<(WrittenValue, &[Token]), Stop<'_>>
         return Ok((WrittenValue::Null, rest));
     }
     if let Some(rest) = mark(tokens, TokenKind::MinusSign) {
-        let (digits, rest) = need_text(rest, TokenKind::Whole)?;
-        return Ok((WrittenValue::Whole(true, digits), rest));
+        return match text(rest, TokenKind::Whole) {
+            Some((digits, rest)) => Ok((WrittenValue::Whole(true, digits), rest)),
+            None => Err(Stop::At(rest)),
+        };
     }
     if let Some((digits, rest)) = text(tokens, TokenKind::Whole) {
         return Ok((WrittenValue::Whole(false, digits), rest));
     }
-    let (quoted, rest) = need_text(tokens, TokenKind::Quoted)?;
-    Ok((WrittenValue::Quoted(quoted), rest))
+    if let Some((quoted, rest)) = text(tokens, TokenKind::Quoted) {
+        return Ok((WrittenValue::Quoted(quoted), rest));
+    }
+    Err(Stop::At(tokens))
 }

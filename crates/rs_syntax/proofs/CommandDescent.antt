@@ -1,22 +1,30 @@
 -- Any tokens are read as a command as far as the grammar goes on with them, and what is read is spelled.
-use Rattle.std.proofs.Common.{◌≡◌, ◌<◌, List, [], ◌∷◌, ◌++◌, length, Some, None, refl, sym, ap, ◌∙◌, append_assoc, append-nil, arith}
+use Rattle.std.proofs.Common.{◌≡◌, ◌<◌, List, [], ◌∷◌, ◌++◌, length, Option, Some, None, refl, sym, ap, ◌∙◌, append_assoc, append-nil, arith}
 use Rattle.rs_grammar.specs.declared.kind.TokenKind.TheVariants as kinds
 use Rattle.rs_grammar.specs.Grammar as g
-use Rattle.rs_grammar.specs.Grammar.{Form, done, pick, sub, need, rules, wanted_form, command_form, define_form, define_route_form, define_referent_form, define_view_form, define_table_form, drop_name_form, drop_referent_form, drop_form, move_form, insert_form, removal_form, remove_form, translate_form, select_form}
+use Rattle.rs_grammar.specs.Grammar.{Form, done, pick, sub, need, rules, wanted_form, command_form, define_form, define_route_form, define_referent_form, define_view_form, define_table_form, drop_name_form, drop_referent_form, drop_form, move_form, insert_form, removal_form, remove_form, translate_form, select_form, summed_form, total_form}
 use Rattle.rs_value.specs.declared.column.Kind.{Kind}
 use Rattle.rs_value.specs.declared.column.Kind.TheVariants as table_kinds
 use Rattle.rs_lexer.specs.declared.token.Token.{Token}
 use Rattle.rs_syntax.specs.declared.written.WrittenWindow.{WrittenWindow}
-use Rattle.rs_syntax.specs.WrittenParts.{mark, told, measure_lexemes, position_lexemes, location_lexemes, method_lexemes, table_kind, column_lexemes, value_lexemes, lexemes_of}
-use Rattle.rs_syntax.specs.WrittenQueries.{QuerySyntax, window_lexemes, condition_lexemes, query_lexemes}
-use Rattle.rs_syntax.specs.Written.{Written, written_route, written_table, written_referent, written_view, written_move, written_drop_route, written_drop_table, written_drop_view, written_drop_referent, written_insert, written_remove, written_translate, written_select, spelling, IsFull}
+use Rattle.rs_syntax.specs.WrittenParts.{mark, told, measure_lexemes, position_lexemes, location_lexemes, method_lexemes, table_kind, column_lexemes, value_lexemes, summed_lexemes, lexemes_of}
+use Rattle.rs_syntax.specs.WrittenQueries.{QuerySyntax, window_lexemes, condition_lexemes, bracketed_names_lexemes, query_lexemes}
+use Rattle.rs_syntax.specs.Written.{Written, written_route, written_table, written_referent, written_view, written_move, written_drop_route, written_drop_table, written_drop_view, written_drop_referent, written_insert, written_remove, written_translate, written_select, written_total, spelling, IsFull}
 use Rattle.rs_syntax.proofs.Descent.{Spelled, read_done, read_mark, need_mark, need_text, read_part, read_measure, read_position, read_method, read_place, read_window, Items, read_columns, read_values}
-use Rattle.rs_syntax.proofs.QueryDescent.{read_condition, read_query}
+use Rattle.rs_syntax.proofs.QueryDescent.{read_condition, bracketed_ruled, read_query}
 pub use Rattle.rs_syntax.proofs.Descent.{Reading}
 
 -- a command was read, and each list of it has an item
 abbrev pub Full : List Token → List Token → Type 0
 Full tokens rest = (written : Written) × Spelled spelling tokens written rest × IsFull written
+
+-- what is read after BY and its columns is the end of TOTAL
+total_spelled : (query : QuerySyntax) (by : List Token) (summed : Option Token) (a rest : List Token) → lexemes_of a ≡ summed_lexemes summed ++ lexemes_of rest
+    → mark kinds.Total ∷ (query_lexemes query ++ mark kinds.By ∷ (bracketed_names_lexemes by ++ lexemes_of a)) ≡ spelling (written_total query by summed) ++ lexemes_of rest
+total_spelled query by summed a rest here =
+    ap (λ ps. mark kinds.Total ∷ ps)
+    (ap (λ ps. query_lexemes query ++ mark kinds.By ∷ ps) (ap (λ ps. bracketed_names_lexemes by ++ ps) here ∙ sym (append_assoc (bracketed_names_lexemes by) (summed_lexemes summed) (lexemes_of rest)))
+    ∙ sym (append_assoc (query_lexemes query) (mark kinds.By ∷ (bracketed_names_lexemes by ++ summed_lexemes summed)) (lexemes_of rest)))
 
 -- The commands, each after its first words, which the tokens of the whole line begin with.
 module _ (tokens : List Token) where
@@ -199,16 +207,32 @@ module _ (tokens : List Token) where
   read_select a la ha =
       read_part query_lexemes g.query wanted_form a Known (read_query a) (λ b query lb hb. read_wanted query b (omega arith) (ha ∙ ap (λ ps. mark kinds.Select ∷ ps) hb))
 
+  read_summed : (query : QuerySyntax) (by : List Token) (a : List Token) → length a < length tokens
+      → lexemes_of tokens ≡ mark kinds.Total ∷ (query_lexemes query ++ mark kinds.By ∷ (bracketed_names_lexemes by ++ lexemes_of a)) → Reading summed_form a Known
+  read_summed query by a la ha =
+      read_mark kinds.Sum (need kinds.Name done) done a Known refl
+      (λ b lb hb. need_text kinds.Name done b Known refl (λ name c lc ic hc.
+      read_done c Known (written_total query by (Some name), record { spelled = ha ∙ total_spelled query by (Some name) a c (hb ∙ ap (λ ps. mark kinds.Sum ∷ ps) hc); shorter = omega arith }, tt)))
+      (read_done a Known (written_total query by None, record { spelled = ha ∙ total_spelled query by None a a refl; shorter = la }, tt))
+
+  read_total : (a : List Token) → length a < length tokens → lexemes_of tokens ≡ mark kinds.Total ∷ lexemes_of a → Reading total_form a Known
+  read_total a la ha =
+      read_part query_lexemes g.query (need kinds.By (sub g.bracketed_names summed_form)) a Known (read_query a) (λ b query lb hb.
+      need_mark kinds.By (sub g.bracketed_names summed_form) b Known refl (λ c lc hc.
+      read_part bracketed_names_lexemes g.bracketed_names summed_form c Known (bracketed_ruled c) (λ d by ld hd.
+      read_summed query by d (omega arith) (ha ∙ ap (λ ps. mark kinds.Total ∷ ps) (hb ∙ ap (λ ps. query_lexemes query ++ ps) (hc ∙ ap (λ ps. mark kinds.By ∷ ps) hd))))))
+
   -- the tokens as a command
   read_command : Reading command_form tokens Known
   read_command =
-      read_mark kinds.Define define_form (pick kinds.Drop drop_form (pick kinds.Move move_form (pick kinds.Insert insert_form (pick kinds.Remove remove_form (pick kinds.Translate translate_form (need kinds.Select select_form)))))) tokens Known refl read_define
-      (read_mark kinds.Drop drop_form (pick kinds.Move move_form (pick kinds.Insert insert_form (pick kinds.Remove remove_form (pick kinds.Translate translate_form (need kinds.Select select_form))))) tokens Known refl read_drop
-      (read_mark kinds.Move move_form (pick kinds.Insert insert_form (pick kinds.Remove remove_form (pick kinds.Translate translate_form (need kinds.Select select_form)))) tokens Known refl read_move
-      (read_mark kinds.Insert insert_form (pick kinds.Remove remove_form (pick kinds.Translate translate_form (need kinds.Select select_form))) tokens Known refl read_insert
-      (read_mark kinds.Remove remove_form (pick kinds.Translate translate_form (need kinds.Select select_form)) tokens Known refl read_remove
-      (read_mark kinds.Translate translate_form (need kinds.Select select_form) tokens Known refl read_translate
-      (need_mark kinds.Select select_form tokens Known refl read_select))))))
+      read_mark kinds.Define define_form (pick kinds.Drop drop_form (pick kinds.Move move_form (pick kinds.Insert insert_form (pick kinds.Remove remove_form (pick kinds.Translate translate_form (pick kinds.Select select_form (need kinds.Total total_form))))))) tokens Known refl read_define
+      (read_mark kinds.Drop drop_form (pick kinds.Move move_form (pick kinds.Insert insert_form (pick kinds.Remove remove_form (pick kinds.Translate translate_form (pick kinds.Select select_form (need kinds.Total total_form)))))) tokens Known refl read_drop
+      (read_mark kinds.Move move_form (pick kinds.Insert insert_form (pick kinds.Remove remove_form (pick kinds.Translate translate_form (pick kinds.Select select_form (need kinds.Total total_form))))) tokens Known refl read_move
+      (read_mark kinds.Insert insert_form (pick kinds.Remove remove_form (pick kinds.Translate translate_form (pick kinds.Select select_form (need kinds.Total total_form)))) tokens Known refl read_insert
+      (read_mark kinds.Remove remove_form (pick kinds.Translate translate_form (pick kinds.Select select_form (need kinds.Total total_form))) tokens Known refl read_remove
+      (read_mark kinds.Translate translate_form (pick kinds.Select select_form (need kinds.Total total_form)) tokens Known refl read_translate
+      (read_mark kinds.Select select_form (need kinds.Total total_form) tokens Known refl read_select
+      (need_mark kinds.Total total_form tokens Known refl read_total)))))))
 
 -- Reading to the end, or to where it stops.
 pub read_whole : (tokens : List Token) → Reading command_form tokens (Full tokens)

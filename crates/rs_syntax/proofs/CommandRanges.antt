@@ -19,10 +19,10 @@ use Rattle.rs_syntax.specs.declared.written.WrittenWindow.TheVariants as written
 use Rattle.rs_syntax.specs.declared.written.WrittenOperand.{WrittenOperand}
 use Rattle.rs_syntax.specs.declared.written.WrittenOperand.TheVariants as written_operands
 use Rattle.rs_syntax.specs.declared.written.PairOperator.{PairOperator}
-use Rattle.rs_syntax.specs.Tree.{whole_route, part_of_route, column_named, written_value, compare, is_null, is_not_null, negated, bracketed, both, either, named, filtered, dissolved, renamed, windowed, define_route, define_table, define_referent, define_view, move_referent, drop_route, drop_table, drop_view, drop_referent, insert, remove, translate, select}
-use Rattle.rs_syntax.specs.WrittenParts.{SaysColumns, SaysDatum, SaysRow, SaysPosition, SaysLocation}
+use Rattle.rs_syntax.specs.Tree.{whole_route, part_of_route, column_named, written_value, compare, is_null, is_not_null, negated, bracketed, both, either, named, filtered, dissolved, renamed, windowed, define_route, define_table, define_referent, define_view, move_referent, drop_route, drop_table, drop_view, drop_referent, insert, remove, translate, select, total}
+use Rattle.rs_syntax.specs.WrittenParts.{SaysColumns, SaysDatum, SaysRow, SaysPosition, SaysLocation, summed_name}
 use Rattle.rs_syntax.specs.WrittenQueries.{AtomSyntax, written_comparison, written_null, written_not_null, written_negation, written_bracket, ConjunctionSyntax, last_atom, and_then, ConditionSyntax, last_conjunction, or_else, QuerySyntax, written_name, written_where, written_dissolve, written_rename, written_pair, written_window, SaysWindow, SaysOperand, SaysAtom, SaysConjunction, SaysCondition, paired, SaysQuery, SaysRemoval}
-use Rattle.rs_syntax.specs.Written.{Written, written_route, written_table, written_referent, written_view, written_move, written_drop_route, written_drop_table, written_drop_view, written_drop_referent, written_insert, written_remove, written_translate, written_select, view_text, Says}
+use Rattle.rs_syntax.specs.Written.{Written, written_route, written_table, written_referent, written_view, written_move, written_drop_route, written_drop_table, written_drop_view, written_drop_referent, written_insert, written_remove, written_translate, written_select, written_total, view_text, Says}
 use Rattle.rs_syntax.proofs.Ranges.{position_cases, location_cases, columns_cases, datum_cases, row_cases}
 
 -- Windows and conditions.
@@ -166,6 +166,10 @@ select_of : (line : List ℕ) (tokens : List Token) (w : QuerySyntax) (m : Optio
 select_of line tokens w m (inl query) = inl (select query.0 (unwrap_or m methods.Absolute), (query.0, query.1, refl))
 select_of line tokens w m (inr none) = inr (λ tree says. none says.0 says.1)
 
+total_of : (line : List ℕ) (tokens : List Token) (w : QuerySyntax) (by : List Token) (summed : Option Token) → Cases (SaysQuery line w) → Cases (Says line tokens (written_total w by summed))
+total_of line tokens w by summed (inl query) = inl (total query.0 (map (token_text line) by) (summed_name line summed), (query.0, query.1, refl))
+total_of line tokens w by summed (inr none) = inr (λ tree says. none says.0 says.1)
+
 pub says_cases : (line : List ℕ) (tokens : List Token) (w : Written) → Cases (Says line tokens w)
 says_cases line tokens (written_route n s f) = route_of line tokens n s f (measure_cases (token_text line s)) (measure_cases (token_text line f))
 says_cases line tokens (written_table k n ws) = table_of line tokens k n ws (columns_cases line ws)
@@ -180,3 +184,4 @@ says_cases line tokens (written_insert t r w ws) = insert_of line tokens t r w w
 says_cases line tokens (written_remove t w c) = remove_of line tokens t w c (window_cases line w) (removal_cases line c)
 says_cases line tokens (written_translate r w m) = translate_of line tokens r w m (position_cases line w)
 says_cases line tokens (written_select w m) = select_of line tokens w m (query_cases line w)
+says_cases line tokens (written_total w by summed) = total_of line tokens w by summed (query_cases line w)

@@ -1,5 +1,5 @@
 -- What is spelled says how it is written: commands.
-use Rattle.std.proofs.Common.{◌≡◌, Bool, true, false, List, [], ◌∷◌, ◌++◌, Option, Some, None, refl, sym, ap, ◌∙◌, append-nil}
+use Rattle.std.proofs.Common.{◌≡◌, Bool, true, false, List, [], ◌∷◌, ◌++◌, Option, Some, None, refl, sym, ap, ◌∙◌, append_assoc, append-nil}
 use Rattle.std.proofs.lemmas.Bool.{false≢true}
 use Rattle.rs_methods.specs.declared.position.Method.{Method}
 use Rattle.rs_value.specs.declared.column.Kind.{Kind}
@@ -12,10 +12,10 @@ use Rattle.rs_syntax.specs.declared.written.WrittenValue.{WrittenValue}
 use Rattle.rs_syntax.specs.declared.written.WrittenPosition.{WrittenPosition}
 use Rattle.rs_syntax.specs.declared.written.WrittenLocation.{WrittenLocation}
 use Rattle.rs_syntax.specs.declared.written.WrittenWindow.{WrittenWindow}
-use Rattle.rs_syntax.specs.WrittenParts.{mark, position_lexemes, location_lexemes, method_kind, method_lexemes, wanted_lexemes, table_kind, column_lexemes, value_lexemes, list_lexemes}
-use Rattle.rs_syntax.specs.WrittenQueries.{ConditionSyntax, QuerySyntax, window_lexemes, query_lexemes, removal_lexemes}
-use Rattle.rs_syntax.specs.Written.{Written, written_route, written_table, written_referent, written_view, written_move, written_drop_route, written_drop_table, written_drop_view, written_drop_referent, written_insert, written_remove, written_translate, written_select, spelling}
-use Rattle.rs_syntax.proofs.SpellingLaws.{begins_with_sign, columns_same, values_same, last_position, position_same, location_same, method_same, wanted_same}
+use Rattle.rs_syntax.specs.WrittenParts.{mark, position_lexemes, location_lexemes, method_kind, method_lexemes, wanted_lexemes, table_kind, column_lexemes, value_lexemes, name_lexemes, summed_lexemes, list_lexemes}
+use Rattle.rs_syntax.specs.WrittenQueries.{ConditionSyntax, QuerySyntax, window_lexemes, bracketed_names_lexemes, query_lexemes, removal_lexemes}
+use Rattle.rs_syntax.specs.Written.{Written, written_route, written_table, written_referent, written_view, written_move, written_drop_route, written_drop_table, written_drop_view, written_drop_referent, written_insert, written_remove, written_translate, written_select, written_total, spelling}
+use Rattle.rs_syntax.proofs.SpellingLaws.{begins_with_sign, columns_same, values_same, last_position, position_same, location_same, method_same, wanted_same, names_same}
 use Rattle.rs_syntax.proofs.QuerySpelling.{Ends, window_same, query_same, removal_same}
 
 -- The words of a table's kind are no others.
@@ -128,6 +128,26 @@ select_same a b x y e =
     let first = query_same a b (wanted_lexemes x) (wanted_lexemes y) rest in
     ap (λ z. written_select z x) first.0 ∙ ap (written_select b) (wanted_same x y first.1)
 
+-- the column that is summed, at the end of a line
+summed_same : (x y : Option Token) → summed_lexemes x ≡ summed_lexemes y → x ≡ y
+summed_same None None e = refl
+summed_same None (Some b) e = absurd cc
+summed_same (Some a) None e = absurd cc
+summed_same (Some a) (Some b) e = cc
+
+total_same : (a b : QuerySyntax) (xs ys : List Token) (x y : Option Token) → spelling (written_total a xs x) ≡ spelling (written_total b ys y) → written_total a xs x ≡ written_total b ys y
+total_same a b xs ys x y e =
+    let m = mark kinds.By ∷ (bracketed_names_lexemes xs ++ summed_lexemes x) in
+    let n = mark kinds.By ∷ (bracketed_names_lexemes ys ++ summed_lexemes y) in
+    let rest : query_lexemes a ++ m ≡ query_lexemes b ++ n = cc in
+    let queries = query_same a b m n rest in
+    let behind : mark kinds.By ∷ (bracketed_names_lexemes xs ++ summed_lexemes x) ≡ mark kinds.By ∷ (bracketed_names_lexemes ys ++ summed_lexemes y) = queries.1 in
+    let lists : (list_lexemes kinds.Comma name_lexemes xs ++ mark kinds.RightParen ∷ []) ++ summed_lexemes x ≡ (list_lexemes kinds.Comma name_lexemes ys ++ mark kinds.RightParen ∷ []) ++ summed_lexemes y = cc in
+    let names = names_same xs ys (summed_lexemes x) (summed_lexemes y)
+    (sym (append_assoc (list_lexemes kinds.Comma name_lexemes xs) (mark kinds.RightParen ∷ []) (summed_lexemes x)) ∙ lists
+    ∙ append_assoc (list_lexemes kinds.Comma name_lexemes ys) (mark kinds.RightParen ∷ []) (summed_lexemes y)) in
+    ap (λ z. written_total z xs x) queries.0 ∙ ap (λ z. written_total b z x) names.0 ∙ ap (written_total b ys) (summed_same x y names.1)
+
 -- Each command against all.
 route_told : (a b c : Token) (w : Written) → spelling (written_route a b c) ≡ spelling w → written_route a b c ≡ w
 route_told a b c (written_route d e f) same = cc
@@ -187,6 +207,10 @@ select_told : (a : QuerySyntax) (x : Option Method) (w : Written) → spelling (
 select_told a x (written_select b y) same = select_same a b x y same
 select_told a x _ same = absurd cc
 
+total_told : (a : QuerySyntax) (xs : List Token) (x : Option Token) (w : Written) → spelling (written_total a xs x) ≡ spelling w → written_total a xs x ≡ w
+total_told a xs x (written_total b ys y) same = total_same a b xs ys x y same
+total_told a xs x _ same = absurd cc
+
 -- what is spelled says how it is written
 pub written_same : (v w : Written) → spelling v ≡ spelling w → v ≡ w
 written_same (written_route a b c) w same = route_told a b c w same
@@ -202,3 +226,4 @@ written_same (written_insert a b x xs) w same = insert_told a b x xs w same
 written_same (written_remove a v x) w same = remove_told a v x w same
 written_same (written_translate a x m) w same = translate_told a x m w same
 written_same (written_select a x) w same = select_told a x w same
+written_same (written_total a xs x) w same = total_told a xs x w same

@@ -21,10 +21,10 @@ use Rattle.rs_syntax.specs.declared.written.WrittenWindow.{WrittenWindow}
 use Rattle.rs_syntax.specs.declared.written.WrittenWindow.TheVariants as written_windows
 use Rattle.rs_syntax.specs.declared.written.WrittenOperand.{WrittenOperand}
 use Rattle.rs_syntax.specs.declared.written.WrittenOperand.TheVariants as written_operands
-use Rattle.rs_syntax.specs.Tree.{EventLocationTree, along, at_point, WindowTree, part_of_route, OperandTree, written_value, ConditionTree, compare, negated, bracketed, both, either, QueryTree, filtered, dissolved, renamed, windowed, CommandTree, define_route, define_table, define_referent, define_view, move_referent, insert, remove, translate, select}
-use Rattle.rs_syntax.specs.WrittenParts.{SaysType, SaysColumns, SaysDatum, SaysRow, SaysPosition, SaysLocation}
+use Rattle.rs_syntax.specs.Tree.{EventLocationTree, along, at_point, WindowTree, part_of_route, OperandTree, written_value, ConditionTree, compare, negated, bracketed, both, either, QueryTree, filtered, dissolved, renamed, windowed, CommandTree, define_route, define_table, define_referent, define_view, move_referent, insert, remove, translate, select, total}
+use Rattle.rs_syntax.specs.WrittenParts.{SaysType, SaysColumns, SaysDatum, SaysRow, SaysPosition, SaysLocation, summed_name}
 use Rattle.rs_syntax.specs.WrittenQueries.{AtomSyntax, written_comparison, written_null, written_not_null, written_negation, written_bracket, ConjunctionSyntax, last_atom, and_then, ConditionSyntax, last_conjunction, or_else, QuerySyntax, written_name, written_where, written_dissolve, written_rename, written_pair, written_window, SaysWindow, SaysOperand, SaysAtom, SaysConjunction, SaysCondition, paired, SaysQuery, SaysRemoval}
-use Rattle.rs_syntax.specs.Written.{Written, written_route, written_table, written_referent, written_view, written_move, written_drop_route, written_drop_table, written_drop_view, written_drop_referent, written_insert, written_remove, written_translate, written_select, view_text, Says}
+use Rattle.rs_syntax.specs.Written.{Written, written_route, written_table, written_referent, written_view, written_move, written_drop_route, written_drop_table, written_drop_view, written_drop_referent, written_insert, written_remove, written_translate, written_select, written_total, view_text, Says}
 use Rattle.std.specs.Prelude.{map, unwrap_or}
 use Rattle.rs_methods.specs.declared.position.Method.TheVariants as methods
 
@@ -177,3 +177,5 @@ says_same one line tokens (written_translate r w m) a b p q =
     p.2 ∙ ap (λ position. translate (token_text line r) position m) (says_position_same one line w p.0 q.0 p.1 q.1) ∙ sym q.2
 says_same one line tokens (written_select w m) a b p q =
     p.2 ∙ ap (λ query. select query (unwrap_or m methods.Absolute)) (says_query_same one line w p.0 q.0 p.1 q.1) ∙ sym q.2
+says_same one line tokens (written_total w by summed) a b p q =
+    p.2 ∙ ap (λ query. total query (map (token_text line) by) (summed_name line summed)) (says_query_same one line w p.0 q.0 p.1 q.1) ∙ sym q.2

@@ -116,7 +116,7 @@ window_ruled : (tokens : List Token) → Reading (rules g.window) tokens (Whole 
 unfolding rules
 window_ruled tokens = read_window tokens
 
-bracketed_ruled : (tokens : List Token) → Reading (rules g.bracketed_names) tokens (Whole bracketed_names_lexemes tokens)
+pub bracketed_ruled : (tokens : List Token) → Reading (rules g.bracketed_names) tokens (Whole bracketed_names_lexemes tokens)
 unfolding rules
 bracketed_ruled tokens = read_bracketed_names tokens
 

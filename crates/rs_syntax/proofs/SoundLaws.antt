@@ -1,18 +1,22 @@
 -- What a line says is sound.
-use Rattle.std.proofs.Common.{ℕ, List, refl, sym, subst, arith}
+use Rattle.std.proofs.Common.{ℕ, List, Option, Some, None, refl, sym, subst, arith}
 use Rattle.std.specs.Prelude.{IsTrue}
 use Rattle.rs_grammar.specs.declared.kind.TokenKind.TheVariants as kinds
 use Rattle.rs_lexer.specs.declared.token.Token.{Token}
 use Rattle.rs_lexer.specs.Lexis.{token_text}
 use Rattle.rs_value.specs.Values.{is_text}
 use Rattle.rs_syntax.specs.Tree.{CommandTree}
-use Rattle.rs_syntax.specs.WrittenParts.{column_lexemes, position_lexemes, location_lexemes, value_lexemes, list_lexemes, AreToldOf}
-use Rattle.rs_syntax.specs.WrittenQueries.{window_lexemes, query_lexemes}
-use Rattle.rs_syntax.specs.Written.{Written, written_route, written_table, written_referent, written_view, written_move, written_drop_route, written_drop_table, written_drop_view, written_drop_referent, written_insert, written_remove, written_translate, written_select, spelling, Says, IsFull}
-use Rattle.rs_syntax.specs.Sound.{IsSound}
+use Rattle.rs_syntax.specs.WrittenParts.{column_lexemes, position_lexemes, location_lexemes, value_lexemes, summed_lexemes, list_lexemes, AreToldOf, summed_name}
+use Rattle.rs_syntax.specs.WrittenQueries.{window_lexemes, bracketed_names_lexemes, query_lexemes}
+use Rattle.rs_syntax.specs.Written.{Written, written_route, written_table, written_referent, written_view, written_move, written_drop_route, written_drop_table, written_drop_view, written_drop_referent, written_insert, written_remove, written_translate, written_select, written_total, spelling, Says, IsFull}
+use Rattle.rs_syntax.specs.Sound.{IsSummedColumn, IsSound}
 use Rattle.rs_syntax.proofs.ToldLaws.{AreToldOf-append}
 use Rattle.rs_syntax.proofs.SoundParts.{name_sound, each_told, columns_sound, columns_length, row_sound, row_length, measure_sound, position_sound, location_sound}
-use Rattle.rs_syntax.proofs.SoundQueries.{window_sound, query_sound, removal_sound}
+use Rattle.rs_syntax.proofs.SoundQueries.{window_sound, bracketed_sound, query_sound, removal_sound}
+
+summed_sound : (line : List ℕ) (summed : Option Token) → AreToldOf line (summed_lexemes summed) → IsSummedColumn (summed_name line summed)
+summed_sound line None all = tt
+summed_sound line (Some name) all = name_sound line name (token_text line name) all.1.0 refl
 
 -- what is written in full says a sound command
 pub sound : (line : List ℕ) (tokens : List Token) (w : Written) (tree : CommandTree) → IsTrue (is_text line) → IsFull w → AreToldOf line (spelling w) → Says line tokens w tree → IsSound tree
@@ -71,3 +75,7 @@ sound line tokens (written_translate r p m) tree clean full all says =
       position_sound line p says.0 (AreToldOf-append line (position_lexemes p) _ all.1.1).0 says.1,
     )
 sound line tokens (written_select w m) tree clean full all says = subst IsSound (sym says.2) (query_sound line w says.0 clean (AreToldOf-append line (query_lexemes w) _ all.1).0 says.1)
+sound line tokens (written_total w by summed) tree clean full all says =
+    let told = AreToldOf-append line (query_lexemes w) _ all.1 in
+    let behind = AreToldOf-append line (bracketed_names_lexemes by) (summed_lexemes summed) told.1.1 in
+    subst IsSound (sym says.2) (query_sound line w says.0 clean told.0 says.1, bracketed_sound line by behind.0, summed_sound line summed behind.1)

@@ -78,7 +78,7 @@ names_sound : (line : List ℕ) (names : List Token) → EachTold line name_lexe
 names_sound line [] each = tt
 names_sound line (name ∷ names) each = (name_sound line name (token_text line name) each.0.0 refl, names_sound line names each.1)
 
-bracketed_sound : (line : List ℕ) (names : List Token) → AreToldOf line (bracketed_names_lexemes names) → AllByRecursion IsName (map (token_text line) names)
+pub bracketed_sound : (line : List ℕ) (names : List Token) → AreToldOf line (bracketed_names_lexemes names) → AllByRecursion IsName (map (token_text line) names)
 bracketed_sound line names all = names_sound line names (each_told line name_lexemes names (AreToldOf-append line (list_lexemes kinds.Comma name_lexemes names) (mark kinds.RightParen ∷ []) all.1).0)
 
 paired_sound : (o : PairOperator) (left right : QueryTree) → IsQuery left → IsQuery right → IsQuery (paired o left right)

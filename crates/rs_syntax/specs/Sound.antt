@@ -12,7 +12,7 @@ use Rattle.rs_grammar.specs.declared.kind.TheConstants.{NAME_BYTES}
 use Rattle.rs_lexer.specs.Lexis.{reserved, kind_in}
 use Rattle.rs_methods.specs.Position.{PositionExpression, absolute, beyond, before, interpolative}
 use Rattle.rs_methods.specs.PositionText.{IsWord}
-use Rattle.rs_syntax.specs.Tree.{EventLocationTree, along, at_point, WindowTree, whole_route, part_of_route, OperandTree, column_named, written_value, ConditionTree, compare, is_null, is_not_null, negated, bracketed, both, either, QueryTree, named, filtered, dissolved, renamed, overlaid, covered, merged, subtracted, windowed, CommandTree, define_route, define_table, define_referent, define_view, move_referent, drop_route, drop_table, drop_view, drop_referent, insert, remove, translate, select}
+use Rattle.rs_syntax.specs.Tree.{EventLocationTree, along, at_point, WindowTree, whole_route, part_of_route, OperandTree, column_named, written_value, ConditionTree, compare, is_null, is_not_null, negated, bracketed, both, either, QueryTree, named, filtered, dissolved, renamed, overlaid, covered, merged, subtracted, windowed, CommandTree, define_route, define_table, define_referent, define_view, move_referent, drop_route, drop_table, drop_view, drop_referent, insert, remove, translate, select, total}
 
 -- A name: a word of at most NAME_BYTES bytes that is not reserved.
 pub record IsName (name : List ℕ) : Type 0 where
@@ -77,7 +77,12 @@ IsQuery (merged a b) = IsQuery a × IsQuery b
 IsQuery (subtracted a b) = IsQuery a × IsQuery b
 IsQuery (windowed query window) = IsQuery query × IsWindow window
 
--- names are names, each list has an item, numbers are in their ranges, and texts are UTF-8 without control bytes
+-- none where no column is summed
+abbrev pub IsSummedColumn : Option (List ℕ) → Type 0
+IsSummedColumn None = Unit {0}
+IsSummedColumn (Some name) = IsName name
+
+-- names are names, each list but that of TOTAL's columns has an item, numbers are in their ranges, and texts are UTF-8 without control bytes
 abbrev pub IsSound : CommandTree → Type 0
 IsSound (define_route name start finish) = IsName name × IsMeasure start × IsMeasure finish
 IsSound (define_table kind name columns) = IsName name × (1 ≤ length columns) × AreColumns columns
@@ -92,3 +97,4 @@ IsSound (insert table route place row) = IsName table × IsName route × IsEvent
 IsSound (remove table window condition) = IsName table × IsWindow window × IsRemovalCondition condition
 IsSound (translate route position method) = IsName route × IsPosition position
 IsSound (select query method) = IsQuery query
+IsSound (total query by summed) = IsQuery query × AllByRecursion IsName by × IsSummedColumn summed

@@ -58,3 +58,4 @@ pub data CommandTree : Type 0 where
   remove : List ℕ → WindowTree → Option ConditionTree → CommandTree  -- table, where, which rows
   translate : List ℕ → PositionExpression → Method → CommandTree  -- route, position, the method wanted
   select : QueryTree → Method → CommandTree  -- query, the method of its positions
+  total : QueryTree → List (List ℕ) → Option (List ℕ) → CommandTree  -- query, the columns of its groups, the column summed

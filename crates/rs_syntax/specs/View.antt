@@ -1,6 +1,7 @@
 -- The value of a command of the code, and how a written one is written.
 use Rattle.std.specs.Prelude.{ℕ, List, map, Option, Some, None, Vec, string_bytes}
 use Rattle.std.specs.declared.alloc.Global.{Global}
+use Rattle.arrayvec.specs.ArrayString.{ArrayString}
 use Rattle.rs_methods.specs.Position.{expression_of}
 use Rattle.rs_value.specs.declared.column.ColumnType.{ColumnType}
 use Rattle.rs_value.specs.View.{literal_row}
@@ -11,11 +12,11 @@ use Rattle.rs_syntax.specs.declared.commands.Command.{Command}
 use Rattle.rs_syntax.specs.declared.commands.Command.TheVariants as commands
 use Rattle.rs_syntax.specs.declared.written.WrittenCommand.{WrittenCommand}
 use Rattle.rs_syntax.specs.declared.written.WrittenCommand.TheVariants as forms
-use Rattle.rs_syntax.specs.Written.{Written, written_route, written_table, written_referent, written_view, written_move, written_drop_route, written_drop_table, written_drop_view, written_drop_referent, written_insert, written_remove, written_translate, written_select}
+use Rattle.rs_syntax.specs.Written.{Written, written_route, written_table, written_referent, written_view, written_move, written_drop_route, written_drop_table, written_drop_view, written_drop_referent, written_insert, written_remove, written_translate, written_select, written_total}
 use Rattle.rs_syntax.specs.WrittenView.{query_syntax, removal_syntax}
 use Rattle.rs_syntax.specs.declared.queries.Atom.{Atom}
 use Rattle.rs_syntax.specs.QueryView.{window_tree, condition_tree, query_tree}
-use Rattle.rs_syntax.specs.Tree.{EventLocationTree, along, at_point, ConditionTree, CommandTree, define_route, define_table, define_referent, define_view, move_referent, drop_route, drop_table, drop_view, drop_referent, insert, remove, translate, select}
+use Rattle.rs_syntax.specs.Tree.{EventLocationTree, along, at_point, ConditionTree, CommandTree, define_route, define_table, define_referent, define_view, move_referent, drop_route, drop_table, drop_view, drop_referent, insert, remove, translate, select, total}
 
 -- a column's name and type
 abbrev pub column_tree : ColumnDefinition → List ℕ × ColumnType
@@ -30,6 +31,11 @@ location_tree (locations.At position) = at_point (expression_of position)
 abbrev pub removal_tree : Option (Vec (Vec Atom Global) Global) → Option ConditionTree
 removal_tree None = None
 removal_tree (Some conjunctions) = Some (condition_tree conjunctions.items)
+
+-- the column that is summed, where the line says it
+abbrev pub summed_tree : Option ArrayString → Option (List ℕ)
+summed_tree None = None
+summed_tree (Some name) = Some name.bytes
 
 -- a command as a value
 abbrev pub tree_of : Command → CommandTree
@@ -46,6 +52,7 @@ tree_of (commands.Insert table route place values) = insert table.bytes route.by
 tree_of (commands.Remove table window condition) = remove table.bytes (window_tree window) (removal_tree condition)
 tree_of (commands.Translate route position method) = translate route.bytes (expression_of position) method
 tree_of (commands.Select query method) = select (query_tree query) method
+tree_of (commands.Total query by summed) = total (query_tree query) (map (λ name. name.bytes) by.items) (summed_tree summed)
 
 -- how a command of the code is written
 abbrev pub written_of : WrittenCommand → Written
@@ -62,3 +69,4 @@ written_of (forms.Insert table route place values) = written_insert table route 
 written_of (forms.Remove table window condition) = written_remove table window (removal_syntax condition)
 written_of (forms.Translate route position method) = written_translate route position method
 written_of (forms.Select query method) = written_select (query_syntax query) method
+written_of (forms.Total query by summed) = written_total (query_syntax query) by.items summed

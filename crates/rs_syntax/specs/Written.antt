@@ -1,5 +1,5 @@
 -- A command as a line writes it, and what it says.
-use Rattle.std.specs.Prelude.{◌≡◌, ℕ, ◌+◌, ◌-◌, ◌<◌, List, [], ◌∷◌, ◌++◌, length, take, drop, Option, unwrap_or}
+use Rattle.std.specs.Prelude.{◌≡◌, ℕ, ◌+◌, ◌-◌, ◌<◌, List, [], ◌∷◌, ◌++◌, length, take, drop, map, Option, unwrap_or}
 use Rattle.rs_measure.specs.Measure.{SaysMeasure}
 use Rattle.rs_methods.specs.Position.{PositionExpression}
 use Rattle.rs_methods.specs.declared.position.Method.{Method}
@@ -15,9 +15,9 @@ use Rattle.rs_syntax.specs.declared.written.WrittenValue.{WrittenValue}
 use Rattle.rs_syntax.specs.declared.written.WrittenPosition.{WrittenPosition}
 use Rattle.rs_syntax.specs.declared.written.WrittenLocation.{WrittenLocation}
 use Rattle.rs_syntax.specs.declared.written.WrittenWindow.{WrittenWindow}
-use Rattle.rs_syntax.specs.Tree.{EventLocationTree, WindowTree, ConditionTree, QueryTree, CommandTree, define_route, define_table, define_referent, define_view, move_referent, drop_route, drop_table, drop_view, drop_referent, insert, remove, translate, select}
+use Rattle.rs_syntax.specs.Tree.{EventLocationTree, WindowTree, ConditionTree, QueryTree, CommandTree, define_route, define_table, define_referent, define_view, move_referent, drop_route, drop_table, drop_view, drop_referent, insert, remove, translate, select, total}
 -- the parts that a command is made of
-pub use Rattle.rs_syntax.specs.WrittenParts.{Lexeme, mark, told, has_text, lexeme_of, lexemes_of, measure_lexemes, position_lexemes, span_lexemes, location_lexemes, method_kind, method_lexemes, wanted_lexemes, table_kind, type_lexemes, column_lexemes, value_lexemes, name_lexemes, further_lexemes, list_lexemes, IsToldOf, AreToldOf, SaysType, SaysColumns, unquoted_rest, unquoted, signed, SaysDatum, SaysRow, SaysPosition, SaysLocation}
+pub use Rattle.rs_syntax.specs.WrittenParts.{Lexeme, mark, told, has_text, lexeme_of, lexemes_of, measure_lexemes, position_lexemes, span_lexemes, location_lexemes, method_kind, method_lexemes, wanted_lexemes, table_kind, type_lexemes, column_lexemes, value_lexemes, name_lexemes, summed_lexemes, further_lexemes, list_lexemes, IsToldOf, AreToldOf, SaysType, SaysColumns, unquoted_rest, unquoted, signed, SaysDatum, SaysRow, SaysPosition, SaysLocation, summed_name}
 pub use Rattle.rs_syntax.specs.WrittenQueries.{AtomSyntax, written_comparison, written_null, written_not_null, written_negation, written_bracket, ConjunctionSyntax, last_atom, and_then, ConditionSyntax, last_conjunction, or_else, QuerySyntax, written_name, written_where, written_dissolve, written_rename, written_pair, written_window, window_lexemes, comparison_kind, comparison_lexemes, operand_lexemes, atom_lexemes, conjunction_lexemes, condition_lexemes, bracketed_names_lexemes, pair_kind, operator_lexemes, query_lexemes, removal_lexemes, SaysWindow, SaysOperand, SaysAtom, SaysConjunction, SaysCondition, paired, SaysQuery, SaysRemoval}
 
 -- a command whose names, numbers and texts are still tokens of the line
@@ -35,6 +35,7 @@ pub data Written : Type 0 where
   written_remove : Token → WrittenWindow → Option ConditionSyntax → Written  -- table, where, which rows
   written_translate : Token → WrittenPosition → Method → Written  -- route, position, the method wanted
   written_select : QuerySyntax → Option Method → Written  -- query, the method after AS
+  written_total : QuerySyntax → List Token → Option Token → Written  -- query, the columns after BY, the column after SUM
 
 -- how a command is spelled
 abbrev pub spelling : Written → List Lexeme
@@ -61,6 +62,8 @@ spelling (written_remove table window condition) =
 spelling (written_translate route position method) =
     mark kinds.Translate ∷ told kinds.Name route ∷ (position_lexemes position ++ mark kinds.As ∷ method_lexemes method)
 spelling (written_select query method) = mark kinds.Select ∷ (query_lexemes query ++ wanted_lexemes method)
+spelling (written_total query by summed) =
+    mark kinds.Total ∷ (query_lexemes query ++ mark kinds.By ∷ (bracketed_names_lexemes by ++ summed_lexemes summed))
 
 -- a list of the command has an item at least
 abbrev pub IsFull : Written → Type 0
@@ -111,3 +114,5 @@ Says line tokens (written_translate route written method) tree =
     (position : PositionExpression) × SaysPosition line written position × (tree ≡ translate (token_text line route) position method)
 Says line tokens (written_select written method) tree =
     (query : QueryTree) × SaysQuery line written query × (tree ≡ select query (unwrap_or method methods.Absolute))
+Says line tokens (written_total written by summed) tree =
+    (query : QueryTree) × SaysQuery line written query × (tree ≡ total query (map (token_text line) by) (summed_name line summed))

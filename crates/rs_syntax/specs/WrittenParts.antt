@@ -101,6 +101,11 @@ value_lexemes (written_values.Quoted quoted) = told kinds.Quoted quoted ∷ []
 abbrev pub name_lexemes : Token → List Lexeme
 name_lexemes token = told kinds.Name token ∷ []
 
+-- the column that is summed, if one is named
+abbrev pub summed_lexemes : Option Token → List Lexeme
+summed_lexemes None = []
+summed_lexemes (Some name) = mark kinds.Sum ∷ name_lexemes name
+
 -- the items, with a mark before each
 abbrev pub further_lexemes : {A : Type 0} → TokenKind → (A → List Lexeme) → List A → List Lexeme
 further_lexemes kind lexemes [] = []
@@ -175,3 +180,8 @@ abbrev pub SaysLocation : List ℕ → WrittenLocation → EventLocationTree →
 SaysLocation line (written_locations.Along from to) (along first second) = SaysPosition line from first × SaysPosition line to second
 SaysLocation line (written_locations.At written) (at_point position) = SaysPosition line written position
 SaysLocation line _ _ = ⊥
+
+-- the name of the column that is summed, if one is named
+abbrev pub summed_name : List ℕ → Option Token → Option (List ℕ)
+summed_name line None = None
+summed_name line (Some name) = Some (token_text line name)

@@ -1,6 +1,6 @@
 //! The syntax tree: the commands that a line may be.
 //!
-//! Names have 1 to `NAME_BYTES` bytes, and each list has one item at least.
+//! Names have 1 to `NAME_BYTES` bytes, and each list but that of TOTAL's columns has one item at least.
 
 use crate::queries::{Atom, Query, Window};
 use rs_measure::Measure;
@@ -138,5 +138,14 @@ pub enum Command {
         query: Query,
         /// How positions are to be printed; absolute where the line says nothing of it.
         method: Method,
+    },
+    /// Of each group of a query's rows, at how many places it holds and what a column adds up to.
+    Total {
+        /// The query whose rows are grouped.
+        query: Query,
+        /// The columns whose values make a group; without one all rows are one group.
+        by: Vec<Name>,
+        /// The column that is summed, if any.
+        summed: Option<Name>,
     },
 }

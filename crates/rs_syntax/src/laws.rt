@@ -24,9 +24,10 @@ pub fn line_has_an_answer()
     ensures { (line : List ℕ) (from : ℕ) → (answer : Result CommandTree Refusal) × Reads line from answer }
 {}
 
-/// A command that the text of a line says keeps to what `IsSound` says: its names are names, its lists have
-/// items, its measures, its parts, the numbers of its rows and the lengths of its columns are in their ranges,
-/// and its texts are UTF-8 without control bytes, as the line's text is.
+/// A command that the text of a line says keeps to what `IsSound` says: its names are names, the lists of a
+/// table's columns and of a row's values have items, its measures, its parts, the numbers of its rows and the
+/// lengths of its columns are in their ranges, and its texts are UTF-8 without control bytes, as the line's
+/// text is.
 pub fn command_of_a_line_is_sound()
     ensures { (line : List ℕ) (from : ℕ) (tree : CommandTree) → IsTrue (is_text line) → Reads line from (Ok tree) → IsSound tree }
 {

@@ -246,4 +246,13 @@ pub enum WrittenCommand {
         /// How positions are to be printed, where the line says it.
         method: Option<Method>,
     },
+    /// `TOTAL`, with the column after `SUM` where there is one.
+    Total {
+        /// The query whose rows are grouped.
+        query: WrittenQuery,
+        /// The columns in brackets after `BY`, perhaps none.
+        by: Vec<Token>,
+        /// The column that is summed, where the line says it.
+        summed: Option<Token>,
+    },
 }

@@ -9,7 +9,7 @@ use Rattle.rs_grammar.specs.Grammar.{Form, fail, pick, rules, Derives, nothing, 
 use Rattle.rs_lexer.specs.declared.token.Token.{Token}
 use Rattle.rs_lexer.specs.Lexis.{kinds_of, AreTokensFrom}
 use Rattle.rs_syntax.specs.Tree.{QueryTree, define_view}
-use Rattle.rs_syntax.specs.Written.{Lexeme, mark, told, has_text, lexeme_of, lexemes_of, QuerySyntax, query_lexemes, SaysQuery, end_of, text_of_tokens, Written, written_route, written_table, written_referent, written_view, written_move, written_drop_route, written_drop_table, written_drop_view, written_drop_referent, written_insert, written_remove, written_translate, written_select, Says, view_text}
+use Rattle.rs_syntax.specs.Written.{Lexeme, mark, told, has_text, lexeme_of, lexemes_of, QuerySyntax, query_lexemes, SaysQuery, end_of, text_of_tokens, Written, written_route, written_table, written_referent, written_view, written_move, written_drop_route, written_drop_table, written_drop_view, written_drop_referent, written_insert, written_remove, written_translate, written_select, written_total, Says, view_text}
 use Rattle.rs_syntax.specs.Verdict.{IsWritten, is_command, Reads, has_tokens}
 use Rattle.rs_syntax_laws.specs.ViewTexts.{first_place, from_the_first, TextSaysQuery}
 use Rattle.rs_syntax_laws.proofs.Cuts.{last_cut}
@@ -43,7 +43,7 @@ view_derived ks (this (that (that (this (this (this (part query nothing))))))) =
 view_derived ks (this (that (that (this (this (that none)))))) = elim none [ ]
 view_derived ks (this (that (that (this (that none))))) = elim none [ ]
 view_derived ks (this (that (that (that (that (that none)))))) = elim none [ ]
-view_derived ks (that (that (that (that (that (that (that none))))))) = elim none [ ]
+view_derived ks (that (that (that (that (that (that (that (that none)))))))) = elim none [ ]
 
 -- tokens of a line that are spelled as a query, by themselves
 alone : (line : List ℕ) (place : ℕ) (tokens : List Token) (written : QuerySyntax) (query : QueryTree) → AreTokensFrom line place tokens
@@ -87,6 +87,7 @@ view_said line tokens name query text (written_insert t r w vs) says = let e = s
 view_said line tokens name query text (written_remove t w c) says = let e = says.4 in absurd cc
 view_said line tokens name query text (written_translate r p m) says = let e = says.2 in absurd cc
 view_said line tokens name query text (written_select w m) says = let e = says.2 in absurd cc
+view_said line tokens name query text (written_total w by summed) says = let e = says.2 in absurd cc
 
 -- tokens that are spelled as a view's definition
 of_view : (line : List ℕ) (from : ℕ) (tokens : List Token) (name : Token) (w : QuerySyntax) (query : QueryTree) → AreTokensFrom line from tokens

@@ -19,6 +19,9 @@ returns-in-Translate-clause-err c = rw c.in-Translate.is c.translation_said.ensu
 pub returns-in-Select-clause-err : goal.returns-in-Select-clause-err
 returns-in-Select-clause-err c = rw c.in-Select.is c.selection_said.ensures.err
 
+pub returns-in-Total-clause-err : goal.returns-in-Total-clause-err
+returns-in-Total-clause-err c = rw (c.in-Total.is, ← c.deref-in-Total.ensures.value) c.total_said.ensures.err
+
 pub returns-in-MoveReferent-clause-ok : goal.returns-in-MoveReferent-clause-ok
 returns-in-MoveReferent-clause-ok c = rw c.in-MoveReferent.is c.move_said.ensures.ok
 
@@ -33,6 +36,9 @@ returns-in-Translate-clause-ok c = rw c.in-Translate.is c.translation_said.ensur
 
 pub returns-in-Select-clause-ok : goal.returns-in-Select-clause-ok
 returns-in-Select-clause-ok c = rw c.in-Select.is c.selection_said.ensures.ok
+
+pub returns-in-Total-clause-ok : goal.returns-in-Total-clause-ok
+returns-in-Total-clause-ok c = rw (c.in-Total.is, ← c.deref-in-Total.ensures.value) c.total_said.ensures.ok
 
 pub definition_said-requires-clause-defines : goal.definition_said-requires-clause-defines
 definition_said-requires-clause-defines c =
@@ -51,4 +57,5 @@ definition_said-requires-clause-defines c =
       | forms.Remove table window condition ↦ λ is. absurd (no.not-Remove table window condition is)
       | forms.Translate route position method ↦ λ is. absurd (no.not-Translate route position method is)
       | forms.Select query method ↦ λ is. absurd (no.not-Select query method is)
+      | forms.Total query by summed ↦ λ is. absurd (no.not-Total query by summed is)
     ] refl

@@ -1,8 +1,7 @@
-use Rattle.std.proofs.lemmas.Result.{err_from_is_err_and}
 use Rattle.rs_grammar.specs.declared.kind.TokenKind.TheVariants as kinds
 use Rattle.rs_grammar.specs.Grammar.{fail, pick, need, define_route_form, define_referent_form, define_view_form, define_table_form}
-use Rattle.rs_query_parser.specs.Reading.{skips}
-use Rattle.rs_query_parser.proofs.Steps.{misses, RunsTo-skips, RunsTo-takes}
+use Rattle.rs_query_parser.specs.Reading.{is_fail, skips}
+use Rattle.rs_query_parser.proofs.Steps.{RunsTo-skips, RunsTo-takes}
 use Rattle.rs_command_parser.proofs.definitions.define.Goals as goal
 
 pub returns-in-Some-clause-runs : goal.returns-in-Some-clause-runs
@@ -51,21 +50,19 @@ returns-in-Some-mark-3-clause-spelled c = rw c.in-Some-mark-3.ensures.spelled c.
 pub returns-in-Some-mark-3-clause-full : goal.returns-in-Some-mark-3-clause-full
 returns-in-Some-mark-3-clause-full c = c.define_table.ensures.full
 
-pub returns-in_err-rest-clause-runs : goal.returns-in_err-rest-clause-runs
-returns-in_err-rest-clause-runs c =
-    let p = err_from_is_err_and c.from_residual.result c.from_residual.ensures.1 in
-    rw (p.1, p.2) (skips c.in_default.ensures.found (skips c.in_default-mark.ensures.found (skips c.in_default-mark-2.ensures.found (skips c.in_default-mark-3.ensures.found (misses c.in_err-rest.ensures.found)))))
+pub returns-in-Some-mark-4-clause-runs : goal.returns-in-Some-mark-4-clause-runs
+returns-in-Some-mark-4-clause-runs c =
+    RunsTo-skips kinds.Route define_route_form (pick kinds.Referent define_referent_form (pick kinds.View define_view_form (pick kinds.Line define_table_form (need kinds.Point define_table_form)))) c.args.tokens.now c.define_table-in-Some-mark-4.result c.in_default.ensures.found
+    (RunsTo-skips kinds.Referent define_referent_form (pick kinds.View define_view_form (pick kinds.Line define_table_form (need kinds.Point define_table_form))) c.args.tokens.now c.define_table-in-Some-mark-4.result c.in_default-mark.ensures.found
+    (RunsTo-skips kinds.View define_view_form (pick kinds.Line define_table_form (need kinds.Point define_table_form)) c.args.tokens.now c.define_table-in-Some-mark-4.result c.in_default-mark-2.ensures.found
+    (RunsTo-skips kinds.Line define_table_form (need kinds.Point define_table_form) c.args.tokens.now c.define_table-in-Some-mark-4.result c.in_default-mark-3.ensures.found
+    (RunsTo-takes kinds.Point define_table_form fail c.args.tokens.now c.in-Some-mark-4.rest.now c.define_table-in-Some-mark-4.result c.in-Some-mark-4.ensures.found c.define_table-in-Some-mark-4.ensures.runs))))
 
-pub returns-clause-runs : goal.returns-clause-runs
-returns-clause-runs c =
-    RunsTo-skips kinds.Route define_route_form (pick kinds.Referent define_referent_form (pick kinds.View define_view_form (pick kinds.Line define_table_form (need kinds.Point define_table_form)))) c.args.tokens.now c.define_table-2.result c.in_default.ensures.found
-    (RunsTo-skips kinds.Referent define_referent_form (pick kinds.View define_view_form (pick kinds.Line define_table_form (need kinds.Point define_table_form))) c.args.tokens.now c.define_table-2.result c.in_default-mark.ensures.found
-    (RunsTo-skips kinds.View define_view_form (pick kinds.Line define_table_form (need kinds.Point define_table_form)) c.args.tokens.now c.define_table-2.result c.in_default-mark-2.ensures.found
-    (RunsTo-skips kinds.Line define_table_form (need kinds.Point define_table_form) c.args.tokens.now c.define_table-2.result c.in_default-mark-3.ensures.found
-    (RunsTo-takes kinds.Point define_table_form fail c.args.tokens.now c.in_ok-rest.rest.now c.define_table-2.result c.in_ok-rest.ensures.found c.define_table-2.ensures.runs))))
+pub returns-in-Some-mark-4-clause-spelled : goal.returns-in-Some-mark-4-clause-spelled
+returns-in-Some-mark-4-clause-spelled c = rw c.in-Some-mark-4.ensures.spelled c.define_table-in-Some-mark-4.ensures.spelled
 
-pub returns-clause-spelled : goal.returns-clause-spelled
-returns-clause-spelled c = rw c.in_ok-rest.ensures.spelled c.define_table-2.ensures.spelled
+pub returns-in-Some-mark-4-clause-full : goal.returns-in-Some-mark-4-clause-full
+returns-in-Some-mark-4-clause-full c = c.define_table-in-Some-mark-4.ensures.full
 
-pub returns-clause-full : goal.returns-clause-full
-returns-clause-full c = c.define_table-2.ensures.full
+pub returns-in-None-clause-runs : goal.returns-in-None-clause-runs
+returns-in-None-clause-runs c = skips c.in_default.ensures.found (skips c.in_default-mark.ensures.found (skips c.in_default-mark-2.ensures.found (skips c.in_default-mark-3.ensures.found (skips c.in-None.ensures.found is_fail))))

@@ -1,7 +1,7 @@
 use Rattle.std.proofs.Common.{append_assoc}
 use Rattle.std.proofs.lemmas.Result.{err_from_is_err_and}
 use Rattle.rs_grammar.specs.Grammar.{rules}
-use Rattle.rs_query_parser.specs.Reading.{is_done, through, stops_in}
+use Rattle.rs_query_parser.specs.Reading.{is_done, is_fail, skips, through, stops_in}
 use Rattle.rs_query_parser.proofs.Steps.{takes_as, misses}
 use Rattle.rs_command_parser.proofs.definitions.define_table.Goals as goal
 
@@ -29,15 +29,13 @@ returns-in_err-columns-clause-runs c =
     let p = err_from_is_err_and c.from_residual-in_err-columns.result c.from_residual-in_err-columns.ensures.1 in
     rw (p.1, p.2) (takes_as c.in_ok-rest.ensures.found (takes_as c.in_ok-name.ensures.found (takes_as c.in_ok-rest-2.ensures.found (stops_in c.in_err-columns.ensures.runs))))
 
-pub returns-in_err-rest-3-clause-runs : goal.returns-in_err-rest-3-clause-runs
+pub returns-in-Some-clause-runs : goal.returns-in-Some-clause-runs
 unfolding rules
-returns-in_err-rest-3-clause-runs c =
-    let p = err_from_is_err_and c.from_residual-in_err-rest-3.result c.from_residual-in_err-rest-3.ensures.1 in
-    rw (p.1, p.2) (takes_as c.in_ok-rest.ensures.found (takes_as c.in_ok-name.ensures.found (takes_as c.in_ok-rest-2.ensures.found (through c.in_ok-columns.ensures.runs (misses c.in_err-rest-3.ensures.found)))))
+returns-in-Some-clause-runs c = takes_as c.in_ok-rest.ensures.found (takes_as c.in_ok-name.ensures.found (takes_as c.in_ok-rest-2.ensures.found (through c.in_ok-columns.ensures.runs (takes_as c.in-Some.ensures.found is_done))))
 
-pub returns-clause-runs : goal.returns-clause-runs
+pub returns-in-None-clause-runs : goal.returns-in-None-clause-runs
 unfolding rules
-returns-clause-runs c = takes_as c.in_ok-rest.ensures.found (takes_as c.in_ok-name.ensures.found (takes_as c.in_ok-rest-2.ensures.found (through c.in_ok-columns.ensures.runs (takes_as c.in_ok-rest-3.ensures.found is_done))))
+returns-in-None-clause-runs c = takes_as c.in_ok-rest.ensures.found (takes_as c.in_ok-name.ensures.found (takes_as c.in_ok-rest-2.ensures.found (through c.in_ok-columns.ensures.runs (skips c.in-None.ensures.found is_fail))))
 
-pub returns-clause-spelled : goal.returns-clause-spelled
-returns-clause-spelled c = rw (c.in_ok-rest.ensures.spelled, c.in_ok-name.ensures.spelled, c.in_ok-rest-2.ensures.spelled, c.in_ok-columns.ensures.spelled, c.in_ok-rest-3.ensures.spelled, append_assoc)
+pub returns-in-Some-clause-spelled : goal.returns-in-Some-clause-spelled
+returns-in-Some-clause-spelled c = rw (c.in_ok-rest.ensures.spelled, c.in_ok-name.ensures.spelled, c.in_ok-rest-2.ensures.spelled, c.in_ok-columns.ensures.spelled, c.in-Some.ensures.spelled, append_assoc)

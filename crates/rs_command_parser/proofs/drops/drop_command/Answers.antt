@@ -1,8 +1,7 @@
-use Rattle.std.proofs.lemmas.Result.{err_from_is_err_and}
 use Rattle.rs_grammar.specs.declared.kind.TokenKind.TheVariants as kinds
 use Rattle.rs_grammar.specs.Grammar.{fail, pick, need, drop_name_form, drop_referent_form}
-use Rattle.rs_query_parser.specs.Reading.{skips}
-use Rattle.rs_query_parser.proofs.Steps.{misses, RunsTo-skips, RunsTo-takes}
+use Rattle.rs_query_parser.specs.Reading.{is_fail, skips}
+use Rattle.rs_query_parser.proofs.Steps.{RunsTo-skips, RunsTo-takes}
 use Rattle.rs_command_parser.proofs.drops.drop_command.Goals as goal
 
 pub returns-in-Some-clause-runs : goal.returns-in-Some-clause-runs
@@ -38,20 +37,18 @@ returns-in-Some-mark-2-clause-spelled c = rw c.in-Some-mark-2.ensures.spelled c.
 pub returns-in-Some-mark-2-clause-full : goal.returns-in-Some-mark-2-clause-full
 returns-in-Some-mark-2-clause-full c = c.drop_view.ensures.full
 
-pub returns-in_err-rest-clause-runs : goal.returns-in_err-rest-clause-runs
-returns-in_err-rest-clause-runs c =
-    let p = err_from_is_err_and c.from_residual.result c.from_residual.ensures.1 in
-    rw (p.1, p.2) (skips c.in_default.ensures.found (skips c.in_default-mark.ensures.found (skips c.in_default-mark-2.ensures.found (misses c.in_err-rest.ensures.found))))
-
-pub returns-clause-runs : goal.returns-clause-runs
-returns-clause-runs c =
+pub returns-in-Some-mark-3-clause-runs : goal.returns-in-Some-mark-3-clause-runs
+returns-in-Some-mark-3-clause-runs c =
     RunsTo-skips kinds.Route drop_name_form (pick kinds.Table drop_name_form (pick kinds.View drop_name_form (need kinds.Referent drop_referent_form))) c.args.tokens.now c.drop_referent.result c.in_default.ensures.found
     (RunsTo-skips kinds.Table drop_name_form (pick kinds.View drop_name_form (need kinds.Referent drop_referent_form)) c.args.tokens.now c.drop_referent.result c.in_default-mark.ensures.found
     (RunsTo-skips kinds.View drop_name_form (need kinds.Referent drop_referent_form) c.args.tokens.now c.drop_referent.result c.in_default-mark-2.ensures.found
-    (RunsTo-takes kinds.Referent drop_referent_form fail c.args.tokens.now c.in_ok-rest.rest.now c.drop_referent.result c.in_ok-rest.ensures.found c.drop_referent.ensures.runs)))
+    (RunsTo-takes kinds.Referent drop_referent_form fail c.args.tokens.now c.in-Some-mark-3.rest.now c.drop_referent.result c.in-Some-mark-3.ensures.found c.drop_referent.ensures.runs)))
 
-pub returns-clause-spelled : goal.returns-clause-spelled
-returns-clause-spelled c = rw c.in_ok-rest.ensures.spelled c.drop_referent.ensures.spelled
+pub returns-in-Some-mark-3-clause-spelled : goal.returns-in-Some-mark-3-clause-spelled
+returns-in-Some-mark-3-clause-spelled c = rw c.in-Some-mark-3.ensures.spelled c.drop_referent.ensures.spelled
 
-pub returns-clause-full : goal.returns-clause-full
-returns-clause-full c = c.drop_referent.ensures.full
+pub returns-in-Some-mark-3-clause-full : goal.returns-in-Some-mark-3-clause-full
+returns-in-Some-mark-3-clause-full c = c.drop_referent.ensures.full
+
+pub returns-in-None-clause-runs : goal.returns-in-None-clause-runs
+returns-in-None-clause-runs c = skips c.in_default.ensures.found (skips c.in_default-mark.ensures.found (skips c.in_default-mark-2.ensures.found (skips c.in-None.ensures.found is_fail)))

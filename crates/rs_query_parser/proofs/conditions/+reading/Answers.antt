@@ -8,7 +8,7 @@ use Rattle.rs_syntax.specs.Written.{conjunction_lexemes, condition_lexemes, lexe
 use Rattle.rs_syntax.specs.WrittenView.{conjunction_syntax, condition_syntax}
 use Rattle.rs_query_parser.proofs.ConditionSteps.{part_lexemes, parts_lexemes, bracket-spelled, negation-spelled, conjunction-read, condition-read}
 use Rattle.std.proofs.lemmas.Result.{err_from_is_err_and}
-use Rattle.rs_query_parser.specs.Reading.{is_done, skips, through, stops_in, gives_up}
+use Rattle.rs_query_parser.specs.Reading.{is_done, is_fail, skips, through, stops_in, gives_up}
 use Rattle.rs_query_parser.proofs.Steps.{takes_as, misses, RunsTo-takes, RunsTo-skips, IsListSoFar, list-stops, list-next, list-end, list-within}
 use Rattle.rs_query_parser.proofs.conditions.+reading.Goals as goal
 
@@ -18,15 +18,13 @@ inside-returns-in_err-condition-clause-runs t c =
     let p = err_from_is_err_and c.from_residual.result c.from_residual.ensures.1 in
     rw (p.1, p.2) (stops_in c.in_err-condition.ensures.runs)
 
-pub inside-returns-in_err-rest-clause-runs : goal.inside-returns-in_err-rest-clause-runs
+pub inside-returns-in-Some-clause-runs : goal.inside-returns-in-Some-clause-runs
 unfolding rules
-inside-returns-in_err-rest-clause-runs t c =
-    let p = err_from_is_err_and c.from_residual-in_err-rest.result c.from_residual-in_err-rest.ensures.1 in
-    rw (p.1, p.2) (through c.in_ok-condition.ensures.runs (misses c.in_err-rest.ensures.found))
+inside-returns-in-Some-clause-runs t c = through c.in_ok-condition.ensures.runs (takes_as c.in-Some.ensures.found is_done)
 
-pub inside-returns-clause-runs : goal.inside-returns-clause-runs
+pub inside-returns-in-None-clause-runs : goal.inside-returns-in-None-clause-runs
 unfolding rules
-inside-returns-clause-runs t c = through c.in_ok-condition.ensures.runs (takes_as c.in_ok-rest.ensures.found (is_done))
+inside-returns-in-None-clause-runs t c = through c.in_ok-condition.ensures.runs (skips c.in-None.ensures.found is_fail)
 
 pub atom-returns-in_err-condition-clause-runs : goal.atom-returns-in_err-condition-clause-runs
 atom-returns-in_err-condition-clause-runs t c =
@@ -55,16 +53,14 @@ atom-returns-in-Some-mark-clause-runs t c = skips c.in_default.ensures.found (ta
 pub atom-returns-in-Some-mark-clause-spelled : goal.atom-returns-in-Some-mark-clause-spelled
 atom-returns-in-Some-mark-clause-spelled t c = negation-spelled c.args.tokens.now c.in-Some-mark.rest.now c.in_ok-rest.rest.now c.in_ok-condition-2.rest.now c.in_ok-condition-2.condition c.in-Some-mark.ensures.spelled c.in_ok-rest.ensures.spelled c.in_ok-condition-2.ensures.spelled
 
-pub atom-returns-in_err-name-clause-runs : goal.atom-returns-in_err-name-clause-runs
-atom-returns-in_err-name-clause-runs t c =
-    let p = err_from_is_err_and c.from_residual-in_err-name.result c.from_residual-in_err-name.ensures.1 in
-    rw (p.1, p.2) (skips c.in_default.ensures.found (skips c.in_default-mark.ensures.found (misses c.in_err-name.ensures.found)))
-
-pub atom-returns-clause-runs : goal.atom-returns-clause-runs
-atom-returns-clause-runs t c =
+pub atom-returns-in-Some-text-clause-runs : goal.atom-returns-in-Some-text-clause-runs
+atom-returns-in-Some-text-clause-runs t c =
     RunsTo-skips kinds.LeftParen inside_form (pick kinds.Not (need kinds.LeftParen inside_form) (need kinds.Name test_form)) c.args.tokens.now c.test.result c.in_default.ensures.found
     (RunsTo-skips kinds.Not (need kinds.LeftParen inside_form) (need kinds.Name test_form) c.args.tokens.now c.test.result c.in_default-mark.ensures.found
-    (RunsTo-takes kinds.Name test_form fail c.args.tokens.now c.in_ok-name.rest.now c.test.result c.in_ok-name.ensures.found c.test.ensures.runs))
+    (RunsTo-takes kinds.Name test_form fail c.args.tokens.now c.in-Some-text.rest.now c.test.result c.in-Some-text.ensures.found c.test.ensures.runs))
+
+pub atom-returns-in-None-clause-runs : goal.atom-returns-in-None-clause-runs
+atom-returns-in-None-clause-runs t c = skips c.in_default.ensures.found (skips c.in_default-mark.ensures.found (skips c.in-None.ensures.found is_fail))
 
 pub conjunction-atom-requires : goal.conjunction-atom-requires
 conjunction-atom-requires t c = (omega (arith, list-within kinds.And (rules conjunction) part_lexemes c.args.tokens.now c.loop-atoms.rest.now c.loop-atoms.atoms.items c.loop-atoms.invariant), tt)

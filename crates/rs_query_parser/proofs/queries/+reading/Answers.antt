@@ -6,7 +6,7 @@ use Rattle.rs_syntax.specs.WrittenView.{condition_syntax, query_syntax}
 use Rattle.rs_syntax.proofs.ChainLaws.{where_written, dissolve_written, rename_written, pair_written, window_written}
 use Rattle.rs_query_parser.proofs.QuerySteps.{operand-spelled, operator-closed}
 use Rattle.std.proofs.lemmas.Result.{err_from_is_err_and}
-use Rattle.rs_query_parser.specs.Reading.{renaming_form, closing_form, is_done, skips, through, stops_in, gives_up}
+use Rattle.rs_query_parser.specs.Reading.{renaming_form, closing_form, is_done, is_fail, skips, through, stops_in, gives_up}
 use Rattle.rs_query_parser.proofs.Steps.{takes_as, misses, RunsTo-takes, RunsTo-skips, RunsTo-after, shorter-after}
 use Rattle.rs_query_parser.proofs.queries.+reading.Goals as goal
 
@@ -34,18 +34,16 @@ operand_query-returns-in_err-query-clause-begins t c =
     let p = err_from_is_err_and c.from_residual-in_err-query.result c.from_residual-in_err-query.ensures.1 in
     rw (p.1, p.2) (λ form. takes_as c.in_ok-rest.ensures.found (stops_in c.in_err-query.ensures.runs))
 
-pub operand_query-returns-in_err-rest-2-clause-begins : goal.operand_query-returns-in_err-rest-2-clause-begins
+pub operand_query-returns-in-Some-clause-begins : goal.operand_query-returns-in-Some-clause-begins
 unfolding rules
-operand_query-returns-in_err-rest-2-clause-begins t c =
-    let p = err_from_is_err_and c.from_residual-in_err-rest-2.result c.from_residual-in_err-rest-2.ensures.1 in
-    rw (p.1, p.2) (λ form. takes_as c.in_ok-rest.ensures.found (through c.in_ok-query.ensures.runs (misses c.in_err-rest-2.ensures.found)))
+operand_query-returns-in-Some-clause-begins t c = λ form outcome further. takes_as c.in_ok-rest.ensures.found (through c.in_ok-query.ensures.runs (takes_as c.in-Some.ensures.found further))
 
-pub operand_query-returns-clause-begins : goal.operand_query-returns-clause-begins
+pub operand_query-returns-in-Some-clause-spelled : goal.operand_query-returns-in-Some-clause-spelled
+operand_query-returns-in-Some-clause-spelled t c = operand-spelled c.args.tokens.now c.in_ok-rest.rest.now c.in_ok-query.rest.now c.in-Some.behind.now c.in_ok-query.query.value c.in_ok-rest.ensures.spelled c.in_ok-query.ensures.spelled c.in-Some.ensures.spelled
+
+pub operand_query-returns-in-None-clause-begins : goal.operand_query-returns-in-None-clause-begins
 unfolding rules
-operand_query-returns-clause-begins t c = λ form outcome further. takes_as c.in_ok-rest.ensures.found (through c.in_ok-query.ensures.runs (takes_as c.in_ok-rest-2.ensures.found further))
-
-pub operand_query-returns-clause-spelled : goal.operand_query-returns-clause-spelled
-operand_query-returns-clause-spelled t c = operand-spelled c.args.tokens.now c.in_ok-rest.rest.now c.in_ok-query.rest.now c.in_ok-rest-2.rest.now c.in_ok-query.query.value c.in_ok-rest.ensures.spelled c.in_ok-query.ensures.spelled c.in_ok-rest-2.ensures.spelled
+operand_query-returns-in-None-clause-begins t c = λ form. takes_as c.in_ok-rest.ensures.found (through c.in_ok-query.ensures.runs (skips c.in-None.ensures.found is_fail))
 
 pub where_query-returns-in_err-query-clause-runs : goal.where_query-returns-in_err-query-clause-runs
 where_query-returns-in_err-query-clause-runs t c =
@@ -245,13 +243,11 @@ query-returns-in-Some-mark-7-clause-runs t c =
     (RunsTo-skips kinds.Minus pair_form (pick kinds.Window window_query_form (need kinds.Name done)) c.args.tokens.now c.window_query.result c.in_default-mark-6.ensures.found
     (RunsTo-takes kinds.Window window_query_form (need kinds.Name done) c.args.tokens.now c.in-Some-mark-7.rest.now c.window_query.result c.in-Some-mark-7.ensures.found c.window_query.ensures.runs)))))))
 
-pub query-returns-in_err-name-clause-runs : goal.query-returns-in_err-name-clause-runs
-query-returns-in_err-name-clause-runs t c =
-    let p = err_from_is_err_and c.from_residual.result c.from_residual.ensures.1 in
-    rw (p.1, p.2) (skips c.in_default.ensures.found (skips c.in_default-mark.ensures.found (skips c.in_default-mark-2.ensures.found (skips c.in_default-mark-3.ensures.found (skips c.in_default-mark-4.ensures.found (skips c.in_default-mark-5.ensures.found (skips c.in_default-mark-6.ensures.found (skips c.in_default-mark-7.ensures.found (misses c.in_err-name.ensures.found)))))))))
+pub query-returns-in-Some-text-clause-runs : goal.query-returns-in-Some-text-clause-runs
+query-returns-in-Some-text-clause-runs t c = skips c.in_default.ensures.found (skips c.in_default-mark.ensures.found (skips c.in_default-mark-2.ensures.found (skips c.in_default-mark-3.ensures.found (skips c.in_default-mark-4.ensures.found (skips c.in_default-mark-5.ensures.found (skips c.in_default-mark-6.ensures.found (skips c.in_default-mark-7.ensures.found (takes_as c.in-Some-text.ensures.found is_done))))))))
 
-pub query-returns-clause-runs : goal.query-returns-clause-runs
-query-returns-clause-runs t c = skips c.in_default.ensures.found (skips c.in_default-mark.ensures.found (skips c.in_default-mark-2.ensures.found (skips c.in_default-mark-3.ensures.found (skips c.in_default-mark-4.ensures.found (skips c.in_default-mark-5.ensures.found (skips c.in_default-mark-6.ensures.found (skips c.in_default-mark-7.ensures.found (takes_as c.in_ok-name.ensures.found (is_done)))))))))
+pub query-returns-in-None-clause-runs : goal.query-returns-in-None-clause-runs
+query-returns-in-None-clause-runs t c = skips c.in_default.ensures.found (skips c.in_default-mark.ensures.found (skips c.in_default-mark-2.ensures.found (skips c.in_default-mark-3.ensures.found (skips c.in_default-mark-4.ensures.found (skips c.in_default-mark-5.ensures.found (skips c.in_default-mark-6.ensures.found (skips c.in_default-mark-7.ensures.found (skips c.in-None.ensures.found is_fail))))))))
 
 pub query-returns-in-Some-clause-spelled : goal.query-returns-in-Some-clause-spelled
 query-returns-in-Some-clause-spelled t c = rw c.in-Some.ensures.spelled c.where_query.ensures.spelled
