@@ -21,8 +21,8 @@ pub fn push_values(text: &mut String, tuple: &Tuple) -> Result<(), AllocError>
     Ok(())
 }
 
-// Appends the text of a value.
-fn push_value(text: &mut String, value: &Value) -> Result<(), AllocError>
+/// Appends the text of a value. Where memory runs out, a part may have been appended.
+pub fn push_value(text: &mut String, value: &Value) -> Result<(), AllocError>
     ensures { OnOk result (string_bytes text.new ≡ string_bytes text.old ++ datum_text (datum_of value.now)) }
 {
     match value {

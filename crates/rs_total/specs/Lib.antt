@@ -1,0 +1,4 @@
+pub mod Tally
+pub mod Counting
+pub mod Totalling
+pub mod Answer

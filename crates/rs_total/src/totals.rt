@@ -1,0 +1,138 @@
+//! Totals, route after route.
+//!
+//! They keep the numbers of each group; the answer is that of the definition for the routes that were added.
+
+ghost use Rattle.std.specs.Prelude.{◌≡◌, ◌<◌, ◌≤◌, ◌^◌, ℕ, ◌⊎◌, Option, List, [], ◌∷◌, ◌++◌, length, map, Ok, Err, IfOk, IfErr, OnOk, IfSome, true, is_some, not};
+ghost use Rattle.std.specs.FinMap.Entries.{is_sorted};
+ghost use Rattle.rs_measure.specs.declared.refusal.Refusal.TheVariants.{OutOfMemory, TotalTooLarge};
+ghost use Rattle.rs_value.specs.declared.column.Kind.{Kind};
+ghost use Rattle.rs_value.specs.declared.column.TheConstants.{COLUMNS};
+ghost use Rattle.rs_value.specs.Row.{row_cmp};
+ghost use Rattle.rs_value.specs.View.{row_of};
+ghost use Rattle.rs_facts.specs.Spans.{seen};
+ghost use Rattle.rs_facts.specs.Totals.{Along, totalled};
+ghost use Rattle.rs_total.specs.Answer.{answered, total_kept, has_passed, some_passed, AreOfGroups};
+ghost use Rattle.rs_total.specs.Totalling.{AreRunsAlong, AreTotalsOf};
+ghost use Rattle.rs_total.specs.Tally.{by_row};
+
+use crate::groups::add_spans;
+use crate::numbers::Numbers;
+use crate::total::{Sum, Total};
+use rs_facts::Span;
+use rs_measure::Refusal;
+use rs_value::Tuple;
+use std::alloc::{AllocError, Global};
+use std::collections::BTreeMap;
+use std::marker::Model;
+
+/// How many thousandths each route has on the line of all routes.
+const ROUTE_PLACES: u64 = 4_294_967_296;
+
+/// The totals of the groups of a query's rows, after some routes.
+#[derive(Drop)]
+pub struct Totals {
+    by: Vec<u8>,
+    summed: Option<u8>,
+    start: u64,
+    groups: BTreeMap<Tuple, Numbers>,
+}
+
+impl Model for Totals {
+    ghost use Rattle.std.specs.Prelude.{◌≤◌, length};
+    ghost use Rattle.rs_value.specs.declared.column.TheConstants.{COLUMNS};
+    ghost use Rattle.rs_total.specs.Tally.{Tally, by_row};
+
+    ghost Value = { Tally };
+
+    ghost view = { λ t. record { by = t.by.items; summed = t.summed; start = t.start; groups = by_row t.groups.entries } };
+
+    ghost invariant = { λ t. length t.by.items ≤ COLUMNS };
+}
+
+impl Totals {
+    /// Of no route yet. The columns of `by`, by their places, make a group; the column of `summed` is summed, if any.
+    /// It takes no memory.
+    pub fn new(alloc: Global, by: Vec<u8>, summed: Option<u8>) -> Self
+        requires few { length by.items ≤ COLUMNS }
+        ensures { AreTotalsOf by.items summed [] result }
+    {
+        Totals {
+            by,
+            summed,
+            start: 0,
+            groups: BTreeMap::new(alloc),
+        }
+    }
+
+    /// Adds the runs of the rows along one route, by place and then by row. The sums are exact for 2^31 routes of fewer
+    /// than 2^32 thousandths each. After want of memory the totals stand for no routes.
+    pub fn add_route(&mut self, runs: &[&Span]) -> Result<(), AllocError>
+        ensures { OnOk result ((kind : Kind) (by : List ℕ) (column : Option ℕ) (routes : List Along) (route : Along) → length routes < 2 ^ 31
+            → AreTotalsOf by column routes self.old → AreRunsAlong kind route (map (λ run. seen run.now) runs.now)
+            → AreTotalsOf by column (routes ++ route ∷ []) self.new) }
+    {
+        add_spans(
+            &mut self.groups,
+            self.by.as_slice(),
+            self.summed,
+            self.start,
+            runs,
+        )?;
+        self.start = self.start.saturating_add(ROUTE_PLACES);
+        Ok(())
+    }
+
+    /// The total of each group that has a fact, in the order of the groups. Where the sizes of some group's values
+    /// passed the limit, `Refusal::TotalTooLarge` (50). The one other refusal is for want of memory.
+    pub fn finish(self, alloc: Global) -> Result<Vec<Total>, Refusal>
+        ensures ok { IfOk result (λ totals. (by : List ℕ) (column : Option ℕ) (routes : List Along) → AreTotalsOf by column routes self
+            → totalled by column routes ≡ Ok (map answered totals.items)) }
+        ensures refused { IfErr result (λ refusal. (refusal ≡ OutOfMemory) ⊎ ((refusal ≡ TotalTooLarge)
+            × ((by : List ℕ) (column : Option ℕ) (routes : List Along) → AreTotalsOf by column routes self
+            → totalled by column routes ≡ Err TotalTooLarge))) }
+    {
+        totals_of(alloc, self.summed, self.groups)
+    }
+}
+
+/// The totals of the groups, in their order; 50 where one of them passed the limit.
+fn totals_of(
+    alloc: Global,
+    summed: Option<u8>,
+    groups: BTreeMap<Tuple, Numbers>,
+) -> Result<Vec<Total>, Refusal>
+    ensures ok { IfOk result (λ totals. AreOfGroups summed (by_row groups.entries) (map answered totals.items)) }
+    ensures refused { IfErr result (λ refusal. (refusal ≡ OutOfMemory)
+        ⊎ ((refusal ≡ TotalTooLarge) × (some_passed summed (by_row groups.entries) ≡ true))) }
+    ensures sorted { is_sorted row_cmp (by_row groups.entries) ≡ true }
+{
+    let mut totals = Vec::with_capacity(alloc, groups.len())?;
+    for (group, numbers) in groups {
+        match total_of(summed, group, numbers) {
+            Some(total) => totals.push(total)?,
+            None => return Err(Refusal::TotalTooLarge),
+        }
+    }
+    Ok(totals)
+}
+
+/// The total of a group; none where it passed the limit.
+fn total_of(summed: Option<u8>, group: Tuple, numbers: Numbers) -> Option<Total>
+    ensures value { IfSome result (λ total. answered total ≡ total_kept summed (row_of group) numbers) }
+    ensures passed { is_some result ≡ not (has_passed summed numbers) }
+{
+    let sum = match (summed, numbers.sizes) {
+        (None, _) => None,
+        (Some(_), Some(sizes)) => Some(Sum {
+            weight: numbers.weight,
+            above_zero: sizes.above,
+            below_zero: sizes.below,
+        }),
+        (Some(_), None) => return None,
+    };
+    Some(Total {
+        group,
+        places: numbers.places,
+        sum,
+    })
+}
