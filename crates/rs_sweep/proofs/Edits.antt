@@ -1,5 +1,5 @@
--- Spans that are cut to a window, or keep some columns: what they mean.
-use Rattle.std.proofs.Common.{◌≡◌, ◌≤◌, ℕ, min, max, Bool, true, false, ◌&&◌, ◌||◌, cond, List, [], ◌∷◌, ◌++◌, map, filter, length, refl, sym, ap, ◌∙◌, subst, arith}
+-- Spans that are cut to a window, carried to another place, or keep some columns: what they mean.
+use Rattle.std.proofs.Common.{◌≡◌, ◌≤◌, ℕ, ◌+◌, ◌-◌, min, max, Bool, true, false, ◌&&◌, ◌||◌, cond, List, [], ◌∷◌, ◌++◌, map, filter, length, refl, sym, ap, ◌∙◌, subst, arith}
 use Rattle.std.proofs.lemmas.Bool.{and_parts, and_from, ltb-true, lt-ltb}
 use Rattle.std.proofs.lemmas.List.{length-map}
 use Rattle.std.proofs.lemmas.List.Sorted.{IsPermutation-map}
@@ -12,7 +12,7 @@ use Rattle.rs_value.specs.declared.column.Kind.TheVariants.{Point, Line}
 use Rattle.rs_facts.specs.declared.fact.Span.{Span}
 use Rattle.rs_facts.specs.Fact.{contains, keep}
 use Rattle.rs_facts.specs.Insert.{within}
-use Rattle.rs_facts.specs.Operators.{chosen, dissolved, merged, windowed}
+use Rattle.rs_facts.specs.Operators.{chosen, dissolved, merged, windowed, carried}
 use Rattle.rs_facts.specs.Runs.{Stretch}
 use Rattle.rs_facts.specs.Spans.{seen, places_of, IsPlaced, ArePlaced}
 use Rattle.rs_facts.proofs.KeptLaws.{every-append}
@@ -20,8 +20,9 @@ use Rattle.rs_facts.proofs.Placing.{within-true, within-bounds}
 use Rattle.rs_facts.proofs.Rows.{same_row}
 use Rattle.rs_facts.proofs.Sets.{same_rows}
 use Rattle.rs_facts.proofs.SpanLaws.{holds, Holds-from_holds, contains-places_of, contains-append, places_of-permutation}
+use Rattle.rs_facts.proofs.Carrying.{contains-carried}
 use Rattle.rs_facts.proofs.RowSets.{any-map, any-same, either-way, any-places, contains-keep, contains-mapped, contains-merged, contains-windowed}
-use Rattle.rs_sweep.specs.Inner.{clipped, in_columns}
+use Rattle.rs_sweep.specs.Inner.{clipped, moved, shifted, in_columns}
 use Rattle.rs_sweep.specs.Lists.{AreSorted, AreWide}
 use Rattle.rs_sweep.proofs.Arrangement.{every-kept, sorted-kept, every-map, sorted-map, every-moved}
 
@@ -84,6 +85,50 @@ windowed-sorted lo hi xs h = sorted-kept some (clipped lo hi) (λ x y l. omega a
 
 pub windowed-wide : (width lo hi : ℕ) (xs : List Stretch) → AreWide width xs → AreWide width (filter some (map (clipped lo hi) xs))
 windowed-wide width lo hi xs h = every-kept (λ s. length s.row ≡ width) (λ s. length s.row ≡ width) some (clipped lo hi) (λ x e t. e) xs h
+
+-- ---- TRANSFORM, by one piece
+
+within_moved : (from to onto lo hi k : ℕ) → from ≤ to → within (moved from to onto lo) (moved from to onto hi) k ≡ (within onto (onto + (to - from)) k && within lo hi (from + (k - onto)))
+within_moved from to onto lo hi k l = either-way _ _
+    (λ e.
+    let h = within-bounds (moved from to onto lo) (moved from to onto hi) k e in
+    let a = h.0 in let b = h.1 in
+    and_from (within onto (onto + (to - from)) k) (within lo hi (from + (k - onto)))
+    (within-true onto (onto + (to - from)) k (omega (arith, a)) (omega (arith, b)))
+    (within-true lo hi (from + (k - onto)) (omega (arith, l, a, b)) (omega (arith, l, a, b))))
+    (λ e.
+    let parts = and_parts (within onto (onto + (to - from)) k) (within lo hi (from + (k - onto))) e in
+    let x = within-bounds onto (onto + (to - from)) k parts.0 in
+    let y = within-bounds lo hi (from + (k - onto)) parts.1 in
+    let a = x.0 in let b = x.1 in let c = y.0 in let d = y.1 in
+    within-true (moved from to onto lo) (moved from to onto hi) k (omega (arith, l, a, b, c, d)) (omega (arith, l, a, b, c, d)))
+
+holds_shifted : (from to onto : ℕ) → from ≤ to → (row : Row) (k : ℕ) (x : Stretch) → holds row k (shifted from to onto x) ≡ (within onto (onto + (to - from)) k && holds row (from + (k - onto)) x)
+unfolding holds
+holds_shifted from to onto l row k x = ap (λ t. t && same_row x.row row) (within_moved from to onto x.lo x.hi k l) ∙ and_assoc (within onto (onto + (to - from)) k) (within x.lo x.hi (from + (k - onto))) (same_row x.row row)
+
+pub shifted-means : (from to onto : ℕ) → from ≤ to → (xs : List Stretch) (k : ℕ) → places_of (filter some (map (shifted from to onto) xs)) k ≡ carried from to onto (places_of xs) k
+shifted-means from to onto l xs k = same_rows _ _ (λ row.
+    contains-places_of (filter some (map (shifted from to onto) xs)) k row
+    ∙ any_some row k (map (shifted from to onto) xs)
+    ∙ any-map (holds row k) (shifted from to onto) xs
+    ∙ any-same _ _ xs (holds_shifted from to onto l row k)
+    ∙ any_and (within onto (onto + (to - from)) k) (holds row (from + (k - onto))) xs
+    ∙ ap (λ t. within onto (onto + (to - from)) k && t) (sym (contains-places_of xs (from + (k - onto)) row))
+    ∙ sym (contains-carried from to onto (places_of xs) k row))
+
+shifted_placed : (kind : Kind) (from to onto : ℕ) → from ≤ to → (x : Stretch) → IsPlaced kind x → some (shifted from to onto x) ≡ true → IsPlaced kind (shifted from to onto x)
+shifted_placed Line from to onto l x h e = ltb-true (moved from to onto x.lo) (moved from to onto x.hi) e
+shifted_placed Point from to onto l x h e = let less = ltb-true (moved from to onto x.lo) (moved from to onto x.hi) e in omega (arith, l, h, less)
+
+pub shifted-placed : (kind : Kind) (from to onto : ℕ) → from ≤ to → (xs : List Stretch) → ArePlaced kind xs → ArePlaced kind (filter some (map (shifted from to onto) xs))
+shifted-placed kind from to onto l xs h = every-kept (IsPlaced kind) (IsPlaced kind) some (shifted from to onto) (shifted_placed kind from to onto l) xs h
+
+pub shifted-sorted : (from to onto : ℕ) (xs : List Stretch) → AreSorted xs → AreSorted (filter some (map (shifted from to onto) xs))
+shifted-sorted from to onto xs h = sorted-kept some (shifted from to onto) (λ x y l. omega (arith, l)) xs h
+
+pub shifted-wide : (width from to onto : ℕ) (xs : List Stretch) → AreWide width xs → AreWide width (filter some (map (shifted from to onto) xs))
+shifted-wide width from to onto xs h = every-kept (λ s. length s.row ≡ width) (λ s. length s.row ≡ width) some (shifted from to onto) (λ x e t. e) xs h
 
 -- ---- DISSOLVE
 

@@ -1,5 +1,5 @@
 -- What the loops of this crate compute. No clause of another crate speaks of it.
-use Rattle.std.specs.Prelude.{◌≡◌, ℕ, ◌+◌, min, max, nat_lt, List, [], ◌∷◌, ◌++◌, if◌then◌else◌}
+use Rattle.std.specs.Prelude.{◌≡◌, ℕ, ◌+◌, ◌-◌, min, max, nat_lt, List, [], ◌∷◌, ◌++◌, if◌then◌else◌}
 use Rattle.rs_value.specs.declared.column.Kind.{Kind}
 use Rattle.rs_value.specs.Row.{Row}
 use Rattle.rs_facts.specs.Operators.{chosen, overlaid}
@@ -13,6 +13,14 @@ use Rattle.rs_sweep.specs.Lists.{AreWide}
 -- the part from lo on and below hi, if there is one
 abbrev pub clipped : ℕ → ℕ → Stretch → Stretch
 clipped lo hi span = stretch (max span.lo lo) (min span.hi hi) span.row
+
+-- where an end is carried to, once it is cut to what lies between the two
+abbrev pub moved : ℕ → ℕ → ℕ → ℕ → ℕ
+moved from to onto place = onto + (min (max place from) to - from)
+
+-- the part from one thousandth on and below another, if there is one, carried to another place
+abbrev pub shifted : ℕ → ℕ → ℕ → Stretch → Stretch
+shifted from to onto span = stretch (moved from to onto span.lo) (moved from to onto span.hi) span.row
 
 -- the columns named of its row
 abbrev pub in_columns : List ℕ → Stretch → Stretch

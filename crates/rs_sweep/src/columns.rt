@@ -3,14 +3,14 @@
 ghost use Rattle.std.specs.Prelude.{◌≡◌, ◌≤◌, ℕ, map, length};
 ghost use Rattle.rs_value.specs.declared.column.Kind.{Kind};
 ghost use Rattle.rs_value.specs.declared.column.TheConstants.{COLUMNS};
-ghost use Rattle.rs_value.specs.View.{datum_of, row_of};
-ghost use Rattle.rs_facts.specs.Operators.{chosen, datum_at, dissolved};
+ghost use Rattle.rs_value.specs.View.{row_of};
+ghost use Rattle.rs_facts.specs.Operators.{chosen, dissolved};
 ghost use Rattle.rs_facts.specs.Spans.{seen, places_of, ArePlaced};
 ghost use Rattle.rs_sweep.specs.Lists.{AreSorted, AreWide};
 ghost use Rattle.rs_sweep.specs.Inner.{in_columns};
 
-use rs_facts::Span;
-use rs_value::{Tuple, Value};
+use rs_facts::{Span, chosen};
+use rs_value::Tuple;
 
 /// Keeps of each row the columns named, each by its place, the leftmost 0. It takes no memory.
 pub fn dissolve(spans: &mut Vec<Span>, columns: &[u8])
@@ -41,19 +41,5 @@ fn choose(tuple: &mut Tuple, columns: &[u8])
     requires { length columns.now ≤ COLUMNS }
     ensures { row_of tuple.new ≡ chosen columns.now (row_of tuple.old) }
 {
-    let mut row = Tuple::new();
-    for column in columns {
-        row.push(value_at(tuple, *column));
-    }
-    *tuple = row;
-}
-
-/// The value in a column; NULL past the end.
-pub(crate) fn value_at(tuple: &Tuple, column: u8) -> Value
-    ensures { datum_of result ≡ datum_at (row_of tuple.now) column }
-{
-    match tuple.as_slice().get(usize::from(column)) {
-        Some(value) => *value,
-        None => Value::Null,
-    }
+    *tuple = chosen(tuple, columns);
 }

@@ -6,8 +6,7 @@ ghost use Rattle.rs_facts.specs.Condition.{is_null, meets, suits};
 ghost use Rattle.rs_facts.specs.ConditionView.{condition_of};
 ghost use Rattle.rs_sweep.specs.Tests.{all_met, any_met, compared, is_suited};
 
-use crate::columns::value_at;
-use rs_facts::{Condition, Term};
+use rs_facts::{Condition, Term, value_at};
 use rs_value::{Comparison, Literal, Tuple, Value};
 use std::cmp::Ordering;
 

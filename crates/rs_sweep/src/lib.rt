@@ -16,6 +16,7 @@ mod order;
 mod overlaying;
 mod parts;
 mod rows;
+mod shifting;
 mod taken;
 mod union;
 
@@ -27,4 +28,5 @@ pub use difference::minus;
 pub use filter::select;
 pub use order::{sort_by_place, sort_lent};
 pub use overlaying::overlay;
+pub use shifting::shift;
 pub use union::merge;
