@@ -338,7 +338,7 @@ class Rtree:
         self.live.end()
 
 
-# The whole.
+# Timing.
 
 
 class Best:
@@ -412,7 +412,7 @@ def time_question(words, question, spans, with_tools):
     return Asked(best, first, len(rows), loaded, most)
 
 
-def report(words, question):
+def report(words, question, time_question):
     """A line of the table."""
     asked = time_question(words, question, words.spans, True)
     smaller = time_question(words, question, words.smaller, False)
@@ -421,31 +421,42 @@ def report(words, question):
     tools = best.tools()
     told = ", ".join("%s %.0f" % (tool, 1000 * best.seconds[tool]) for tool in tools) or "none"
     ratio = "%.2f" % (alone / best.seconds[tools[0]]) if tools else ""
-    print("| %s | %d | %.0f | %.0f (%.0f) | %s | %s | %.2f | %d, %d |" % (
+    print("| %s | %d | %.0f | %.1f (%.1f) | %s | %s | %.2f | %d, %d |" % (
         question.name, asked.count, 1000 * best.seconds["whole"], 1000 * alone, 1000 * asked.first, told, ratio,
         exponent, asked.loaded // 1024, asked.most // 1024), flush=True)
 
 
-def main():
-    parser = argparse.ArgumentParser(description=__doc__, formatter_class=argparse.RawDescriptionHelpFormatter)
-    parser.add_argument("--program", default=PROGRAM)
-    parser.add_argument("--spans", type=int, default=100_000)
-    parser.add_argument("--smaller", type=int, default=25_000)
-    parser.add_argument("--routes", type=int, default=400)
-    parser.add_argument("--windows", type=int, default=1000)
-    parser.add_argument("--rounds", type=int, default=5)
-    parser.add_argument("--only", help="one question by its name")
-    words = parser.parse_args()
-    for tool in ("bedtools", "bedops", "mawk", "sqlite3"):
+def report_all(words, questions, tools, time_question):
+    """The table of these questions, after what is missing and what was asked."""
+    for tool in tools:
         if not shutil.which(tool):
             print("missing: %s" % tool)
     print("%d spans on %d routes, best of %d; milliseconds and megabytes; load of the machine %.1f, %d processors" % (
         words.spans, words.routes, words.rounds, os.getloadavg()[0], os.cpu_count()))
     print("| Question | Rows | Whole process | Query alone (first) | Tools | Alone to the fastest | Exponent | Memory after load, at most |")
     print("|---|---|---|---|---|---|---|---|")
-    for question in QUESTIONS + [Question("windows", ("pave",), [], [])]:
+    for question in questions:
         if words.only in (None, question.name):
-            report(words, question)
+            report(words, question, time_question)
+
+
+def parser_of(description):
+    """What may be said of the program, the load and the rounds."""
+    parser = argparse.ArgumentParser(description=description, formatter_class=argparse.RawDescriptionHelpFormatter)
+    parser.add_argument("--program", default=PROGRAM)
+    parser.add_argument("--spans", type=int, default=100_000)
+    parser.add_argument("--smaller", type=int, default=25_000)
+    parser.add_argument("--routes", type=int, default=400)
+    parser.add_argument("--rounds", type=int, default=5)
+    parser.add_argument("--only", help="one question by its name")
+    return parser
+
+
+def main():
+    parser = parser_of(__doc__)
+    parser.add_argument("--windows", type=int, default=1000)
+    questions = QUESTIONS + [Question("windows", ("pave",), [], [])]
+    report_all(parser.parse_args(), questions, ("bedtools", "bedops", "mawk", "sqlite3"), time_question)
 
 
 if __name__ == "__main__":

@@ -3,9 +3,9 @@
 
     growths.py [--count]
 
-`rs_growths` holds the conversations that `tests/refused_growths.txt` names, each in runs of its own; `rs_pager_growths`
-makes its calls of the pager. Such a program prints the same whichever of its growths was refused, and then whether the
-next growth was given; any other output, or status, is a failure. The list says how many growths each of them asks for.
+`rs_growths` holds the conversations that `tests/refused_growths.txt` names, each in runs of its own; `rs_storage_growths`
+makes its calls of the pager and of trees. Such a program prints the same whichever of its growths was refused, and then
+whether the next growth was given; any other output, or status, is a failure. The list says how many each of them asks for.
 A run that comes to its refused growth is given the next one, and the run in which the growth after the last is refused
 is not: so a number that is too small or too large is found out. Then the growths are counted anew, and all is run once
 more. `--count` writes the numbers into the list. These runs are MOST_RUNS at the most.
@@ -27,9 +27,9 @@ CONVERSATIONS = os.path.join(ROOT, "tests", "conversations")
 LIST = os.path.join(ROOT, "tests", "refused_growths.txt")
 EXPAND = os.path.join(ROOT, "tests", "conversations.py")
 
-# The program that holds conversations, the one that makes calls of the pager, and how the list names the latter.
+# The program that holds conversations, and the one that makes calls of the pager and of trees, by which the list names it.
 CONVERSED = "rs_growths"
-PAGER = "rs_pager_growths"
+STORAGE = "rs_storage_growths"
 
 # How many runs there are in which a growth is refused, at the most.
 MOST_RUNS = 700
@@ -61,11 +61,11 @@ class Case:
 
 
 def program_of(name):
-    return PAGER if name == PAGER else CONVERSED
+    return STORAGE if name == STORAGE else CONVERSED
 
 
 def listed():
-    """How many growths each conversation, and the program of the pager, asks for."""
+    """How many growths each conversation, and the program of the pager and of trees, asks for."""
     with open(LIST, encoding="utf-8") as file:
         return {found["name"]: int(found["count"]) for found in LISTED.finditer(file.read())}
 
@@ -97,12 +97,12 @@ def exchanges(name):
 def is_look(sent, wanted):
     """Whether a line changes nothing: a query, or one that is refused."""
     command = sent.lstrip(b"0123456789 ")
-    return command.startswith((b"SELECT ", b"TRANSLATE ")) or wanted.partition(b" ")[2].startswith(b"ERR ")
+    return command.startswith((b"SELECT ", b"TOTAL ", b"TRANSLATE ")) or wanted.partition(b" ")[2].startswith(b"ERR ")
 
 
 def fields_of(name):
     """What a program reads after the dots: of a conversation each line with its answer and the one without memory."""
-    if name == PAGER:
+    if name == STORAGE:
         return b""
     fields = []
     for sent, wanted in exchanges(name):
@@ -174,7 +174,7 @@ def refused_in_turn(counts):
     print("%d runs in which a growth is refused, of %d at the most" % (len(cases), MOST_RUNS), flush=True)
     if len(cases) > MOST_RUNS:
         sys.exit(" ".join("%s:%d" % item for item in counts.items()))
-    groups = {program: [case for case in cases if program_of(case.name) == program] for program in (CONVERSED, PAGER)}
+    groups = {program: [case for case in cases if program_of(case.name) == program] for program in (CONVERSED, STORAGE)}
     with concurrent.futures.ThreadPoolExecutor(len(groups)) as pool:
         told = dict(zip(groups, pool.map(refused_in, groups, groups.values())))
     return {program: results for program, (results, _said) in told.items()}, "".join(said for _results, said in told.values())

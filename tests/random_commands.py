@@ -253,3 +253,23 @@ class Commands(Queries):
         if self.chance(0.4):
             tokens += [b"AS", self.pick(METHODS)]
         return tokens, lambda: None
+
+    def total(self):
+        """Totals of a query, by some of its columns, mostly with the sum of one; at times no column of numbers."""
+        query = self.some_query({0: 25, 1: 30, 2: 22, 3: 14, 4: 9})
+        tokens = [b"TOTAL"] + query.tokens + [b"BY", b"("] + listed(self.group_columns(query)) + [b")"]
+        numbers = [column.name for column in query.columns if column.longest is None]
+        if self.flaw(4):
+            tokens += [b"SUM", self.pick([b"none", b"N"] + 2 * [name for name in query.names() if name not in numbers])]
+        elif numbers and self.chance(0.85):
+            tokens += [b"SUM", self.pick(numbers)]
+        return tokens, lambda: None
+
+    def group_columns(self, query):
+        """The columns whose values make a group: none, one or several, at times an unknown one or one twice."""
+        names = query.names()
+        count = self.random.choices([0, 1, 2, len(names)], [4, 5, 3, 1])[0]
+        chosen = self.random.sample(names, min(count, len(names)))
+        if self.flaw(4):
+            chosen.insert(self.random.randint(0, len(chosen)), self.pick([b"none", *chosen]))
+        return [[name] for name in chosen]

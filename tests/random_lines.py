@@ -20,7 +20,7 @@ STRAYS = (
     b"@", b"%", b"+", b"-", b"(", b")", b",", b"<>", b"<=", b"=", b"AS", b"AT", b"TO", b"FROM", b"LINE", b"POINT",
     b"ROUTE", b"REFERENT", b"VALUES", b"RELATIVE", b"NULL", b"1", b"0.5", b"K0", b"START", b"'x'", b"''",
     b"WHERE", b"OVERLAY", b"NOT", b"AND", b"OR", b"IS", b"VIEW", b"GAPS", b"TRANSFORM", b"<", b">=", b"()",
-    b"x23456789012345678901234567890123", b";", b"'", b"1.", b".5", b"_x", b"x_",
+    b"BY", b"SUM", b"x23456789012345678901234567890123", b";", b"'", b"1.", b".5", b"_x", b"x_",
 )  # fmt: skip
 
 # Commands that are none, some of them none today.
@@ -31,6 +31,8 @@ BROKEN = (
     b"MOVE ROUTE A TO 0.01", b"DEFINE", b"DEFINE TABLE x (n INT)", b"TRANSLATE A -1 AS ABSOLUTE", b"0 SELECT pave",
     b"INSERT INTO pave ON A FROM 0 TO 0.01 VALUES ('AC'", b"DEFINE ROUTE A FROM 0 TO 100%", b"SELECT ((((pave))))",
     b"DEFINE ROUTE A FROM @START TO 1", b"((((((((((((((((((((((((((((((((((", b"'' '' ''", b"@ % + - <> <= >= < > =",
+    b"TOTAL pave", b"TOTAL pave BY surf", b"TOTAL pave SUM surf BY ()", b"TOTAL pave BY () SUM", b"TOTAL BY ()",
+    b"TOTAL speed BY () SUM (kph)", b"TOTAL speed BY () SUM kph, kph", b"TOTAL speed BY (kph) AS RELATIVE",
 )  # fmt: skip
 
 BAD_BYTES = (
@@ -61,6 +63,7 @@ WEIGHTS = {
     "translate": {"short": 8, "long": 30, "crowded": 14},
     "select": {"short": 8, "long": 12, "crowded": 8},
     "select_query": {"short": 62, "long": 40, "crowded": 8},
+    "total": {"short": 10, "long": 6, "crowded": 4},
 }
 
 

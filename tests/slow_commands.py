@@ -218,3 +218,9 @@ class Translate(NamedTuple):
 class Select(NamedTuple):
     query: tuple
     method: bytes
+
+
+class Total(NamedTuple):
+    query: tuple
+    names: list  # of the columns whose values make a group
+    summed: bytes | None  # the column that is added up

@@ -35,12 +35,13 @@ from slow_commands import (
     Relative,
     Remove,
     Select,
+    Total,
     Translate,
     Window,
     parts_of,
     refuse_if,
 )
-from slow_queries import MOST_COLUMNS, QueryColumn, View, meets, opened, size_of
+from slow_queries import MOST_COLUMNS, QueryColumn, View, meets, opened, place_of, places_of, size_of
 from slow_reader import WHOLE_PART, command_of, session_of, text_of_line
 
 MOST_ROUTES = 4096
@@ -48,6 +49,7 @@ MOST_TABLES = 128
 MOST_VIEWS = 128
 MOST_REFERENTS = 1000
 MOST_CHANGES = 2**63 - 1
+GREATEST_TOTAL = 10**21
 
 # A longer span is none for this machine, which would have to keep a set for each thousandth.
 LONGEST_SPAN = 2_000_000
@@ -74,6 +76,7 @@ WORDS = {
     40: "columns differ",
     41: "column twice",
     42: "kinds differ",
+    50: "total too large",
 }
 
 
@@ -217,6 +220,8 @@ class Machine:
                 return self.translate(command)
             case Select():
                 return self.select(command)
+            case Total():
+                return self.total(command)
 
     # Checks that several commands make.
 
@@ -369,7 +374,28 @@ class Machine:
         rows = [self.run_text(run, command.method) for run in self.runs(query)]
         return rows, len(rows)
 
-    # The runs of an opened query.
+    def total(self, command):
+        query = opened(self, command.query)
+        chosen = places_of(query.columns, command.names)
+        summed = None if command.summed is None else place_of(query.columns, command.summed)
+        refuse_if(summed is not None and query.columns[summed].is_text, 33)
+        groups = self.groups(query, chosen)
+        for facts in groups.values():
+            refuse_if(sum(abs(value) for value in values_of(facts, summed)) > GREATEST_TOTAL, 50)
+        rows = [total_text(group, groups[group], summed, query.is_line) for group in sorted(groups, key=row_order)]
+        return rows, len(rows)
+
+    # The facts of an opened query, one by one, and its runs.
+
+    def groups(self, query, chosen):
+        """The facts of each group, a group being the values at some places of a row: (route, thousandth, row)."""
+        groups = {}
+        for route in self.routes:
+            for place in query.places(route):
+                for row in query.rows_at(route, place):
+                    group = tuple(row[column] for column in chosen)
+                    groups.setdefault(group, []).append((route, place, row))
+        return groups
 
     def runs(self, query):
         """By route name, then by start, then by row: (route, start, end, row), with no end where they are points."""
@@ -405,7 +431,28 @@ def keep_short(length):
         sys.exit("a span of %d thousandths is too long for the slow machine" % length)
 
 
+def values_of(facts, summed):
+    """The values of the summed column over the facts, one for each; NULL is none."""
+    return [row[summed] for _, _, row in facts if summed is not None and row[summed] is not None]
+
+
 # Texts.
+
+
+def total_text(group, facts, summed, is_line):
+    """A group, its length, and where a column is summed how many values it has and what they add up to."""
+    amounts = [len({(route, place) for route, place, _ in facts})]
+    if summed is not None:
+        values = values_of(facts, summed)
+        amounts += [len(values), sum(values)]
+    return " ".join([value_text(value) for value in group] + [amount_text(amount, is_line) for amount in amounts])
+
+
+def amount_text(amount, is_line):
+    """A number of a total: of lines in thousandths, of points a whole number."""
+    if not is_line:
+        return str(amount)
+    return ("-" if amount < 0 else "") + measure_text(abs(amount))
 
 
 def measure_text(place):

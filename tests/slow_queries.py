@@ -104,6 +104,13 @@ def place_of(columns, name):
     return names.index(name)
 
 
+def places_of(columns, names):
+    """The places of columns: refused 22 from the left, then 41 where one is named twice."""
+    places = [place_of(columns, name) for name in names]
+    refuse_if(len(set(names)) < len(names), 41)
+    return places
+
+
 def columns_together(left, right):
     """The columns of two operands side by side: refused 27, 41."""
     refuse_if(len(left.columns) + len(right.columns) > MOST_COLUMNS, 27)
@@ -189,8 +196,7 @@ class WhereNode(OneOperand):
 
 class DissolveNode(OneOperand):
     def __init__(self, operand, names):
-        self.chosen = [place_of(operand.columns, name) for name in names]
-        refuse_if(len(set(names)) < len(names), 41)
+        self.chosen = places_of(operand.columns, names)
         super().__init__(operand, [operand.columns[place] for place in self.chosen])
 
     def rows_at(self, route, place):

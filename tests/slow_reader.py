@@ -41,6 +41,7 @@ from slow_commands import (
     Remove,
     Rename,
     Select,
+    Total,
     Translate,
     Where,
     Window,
@@ -385,6 +386,7 @@ class Reader:
         yield b"REMOVE", self.remove
         yield b"TRANSLATE", self.translate
         yield b"SELECT", self.select
+        yield b"TOTAL", self.total
 
     def define(self):
         if self.takes(b"ROUTE"):
@@ -468,3 +470,9 @@ class Reader:
         query = self.query()
         method = self.method() if self.takes(b"AS") else b"ABSOLUTE"
         return Select(query, method)
+
+    def total(self):
+        query = self.query()
+        self.take(b"BY")
+        names = self.column_names()
+        return Total(query, names, self.name() if self.takes(b"SUM") else None)

@@ -27,6 +27,9 @@ OK = rb" OK \d+$"
 SOME = rb" OK [1-9]\d*$"
 ROW = rb" ROW "
 POINT_ROW = rb" ROW \w+ \d+\.\d{3} (?!\d+\.\d{3}( |$))"
+SUM = rb"\bSUM\b"
+UNCHOSEN = rb"^(?!.*(?:WHERE|DISSOLVE|RENAME)).*"
+UNPAIRED = rb"^(?!.*(?:DISSOLVE|RENAME|OVERLAY|COVER)).*"
 
 SORTS = [
     # Accepted.
@@ -147,6 +150,38 @@ SORTS = [
     Sort(b"SELECT ", rb"", rb" ERR 27 ", 0.1, "depth 33"),
     Sort(b"SELECT ", rb"", rb" ERR 11 ", 0.5, "33 brackets"),
     Sort(b"SELECT ", rb"", OK, 0.1, "32 brackets"),
+    # Totals: their groups, and the three numbers of lines and of points.
+    Sort(b"TOTAL ", rb"", OK, 17),
+    Sort(b"TOTAL ", rb"", rb" OK 0$", 5),
+    Sort(b"TOTAL ", rb"", ROW, 12),
+    Sort(b"TOTAL ", rb"", ROW, 1.4, "view"),
+    Sort(b"TOTAL ", rb"BY *\( *\) *$", ROW, 1.7),
+    Sort(b"TOTAL ", rb"BY *\( *\w+ *\) *$", ROW, 2.7),
+    Sort(b"TOTAL ", rb"BY *\( *\) *SUM\b", ROW, 1.6),
+    Sort(b"TOTAL ", rb"BY *\( *\w+ *\) *SUM\b", ROW, 2.6),
+    Sort(b"TOTAL ", rb"BY *\([^)]*,.*\) *SUM\b", ROW, 1.6),
+    Sort(b"TOTAL ", rb"BY *\([^)]*\b(\w+)\b[^)]*\) *SUM *\1\b", ROW, 2.7),
+    Sort(b"TOTAL ", rb"", rb"(?s) ROW .* ROW ", 5),
+    Sort(b"TOTAL ", rb"", rb" ROW NULL ", 2.5),
+    Sort(b"TOTAL ", rb"", rb" ROW .*'", 4),
+    Sort(b"TOTAL ", SUM, rb" ROW (.* )?\d+\.\d{3}$", 3.3),
+    Sort(b"TOTAL ", SUM, rb" ROW (.* )?-\d+\.\d{3}$", 1.9),
+    Sort(b"TOTAL ", SUM, rb" ROW (.* )?\d+$", 1.5),
+    Sort(b"TOTAL ", SUM, rb" ROW (.* )?-\d+$", 0.8),
+    Sort(b"TOTAL ", rb"\) *$", rb" ROW (.* )?\d+$", 1.5),
+    Sort(b"TOTAL ", SUM, rb" ROW (.* )?0\.000 0\.000$", 1.0),
+    Sort(b"TOTAL ", SUM, rb" ROW (.* )?0 0$", 0.5),
+    Sort(b"TOTAL ", SUM, rb" ROW (.* )?(?!0\.000)\d+\.\d{3} 0\.000$", 0.4),
+    Sort(b"TOTAL ", SUM, rb" ROW (.* )?-?\d{13,}(\.\d{3})?$", 0.7),
+    Sort(b"TOTAL ", SUM, ROW, 0.8, "more values than places"),
+    Sort(b"TOTAL ", rb"^TOTAL +WHERE\b", ROW, 0.7),
+    Sort(b"TOTAL ", rb"^TOTAL +DISSOLVE\b", ROW, 0.8),
+    Sort(b"TOTAL ", rb"^TOTAL +RENAME\b", ROW, 0.4),
+    Sort(b"TOTAL ", rb"^TOTAL +WINDOW\b", ROW, 0.2),
+    Sort(b"TOTAL ", rb"^TOTAL +OVERLAY\b", ROW, 0.8),
+    Sort(b"TOTAL ", rb"^TOTAL +COVER\b", ROW, 1.3),
+    Sort(b"TOTAL ", rb"^TOTAL +MERGE\b", ROW, 0.8),
+    Sort(b"TOTAL ", rb"^TOTAL +MINUS\b", ROW, 0.4),
     # Refused, by each number that today's grammar can give.
     Sort(b"", rb"", rb"^0 ERR 1 ", 9),
     Sort(b"", rb"", rb"^0 ERR 2 ", 3),
@@ -219,6 +254,16 @@ SORTS = [
     Sort(b"SELECT ", rb"", rb" ERR 40 ", 1.3, "query"),
     Sort(b"SELECT ", rb"", rb" ERR 41 ", 1.7, "query"),
     Sort(b"SELECT ", rb"", rb" ERR 42 ", 1.1, "query"),
+    Sort(b"TOTAL ", rb"", rb" ERR 11 ", 2),
+    Sort(b"TOTAL ", rb"", rb" ERR 12 ", 0.4),
+    Sort(b"TOTAL ", rb"", rb" ERR 21 ", 1.4),
+    Sort(b"TOTAL ", rb"", rb" ERR 25 ", 0.2),
+    Sort(b"TOTAL ", rb"", rb" ERR (20|27|30|31|40|42) ", 1.0),
+    # Of these the query has no operator that can be refused by the same number.
+    Sort(b"TOTAL ", UNCHOSEN + rb"BY *\([^)]*\bnone\b", rb" ERR 22 ", 1.7),
+    Sort(b"TOTAL ", UNCHOSEN + rb"BY *\((?![^)]*\bnone\b).*SUM *(none|N)\b", rb" ERR 22 ", 0.7),
+    Sort(b"TOTAL ", UNPAIRED + rb"BY *\([^)]*\b(\w+)\b[^)]*, *\1\b", rb" ERR 41 ", 0.8),
+    Sort(b"TOTAL ", rb"^(?!.*WHERE).*\bSUM\b", rb" ERR 33 ", 0.5),
     # Lines and sessions.
     Sort(b"", rb"", rb"^[1-9]\d OK \d+$", 47),
     Sort(b"", rb"", OK, 29, "session in two digits"),
@@ -248,6 +293,15 @@ def sorts_of(line, marks, reply):
     return found
 
 
+LENGTH_AND_WEIGHT = re.compile(rb" ROW (?:.* )?([\d.]+) ([\d.]+) -?[\d.]+$", re.MULTILINE)
+
+
+def marks_of_totals(reply):
+    """What ROW lines say that end in a length, a weight and a sum: whether a group has two rows at one place."""
+    is_so = any(float(weight) > float(length) for length, weight in LENGTH_AND_WEIGHT.findall(reply))
+    return frozenset(["more values than places"] if is_so else [])
+
+
 class Tally:
     """How many lines of each sort were answered, how many there were in all, and how they were answered."""
 
@@ -259,7 +313,7 @@ class Tally:
 
     def count(self, line, marks, reply):
         self.lines += 1
-        self.seen.update(sorts_of(line, marks, reply))
+        self.seen.update(sorts_of(line, marks | marks_of_totals(reply), reply))
         answer = kind_of_answer(reply)
         self.answers[answer] += 1
         if "query" in marks:

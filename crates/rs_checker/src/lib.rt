@@ -9,9 +9,11 @@ mod node;
 mod operand;
 mod operators;
 mod size;
+pub mod totals;
 mod views;
 mod windows;
 
 pub use checked::{Checked, CheckedQuery, Columns, LocatedWindow};
 pub use checking::check;
 pub use conditions::check_condition;
+pub use totals::{check_group, check_summed};

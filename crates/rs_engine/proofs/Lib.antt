@@ -14,3 +14,4 @@ mod QueryRows
 mod LineTexts
 mod Printing
 mod QueryAnswers
+mod TotalRows

@@ -8,3 +8,4 @@ pub mod Removal
 pub mod Printed
 pub mod View
 pub mod Replied
+pub mod Totalled

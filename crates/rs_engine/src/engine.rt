@@ -13,6 +13,8 @@ mod drops;
 mod events;
 mod queries;
 mod referent_commands;
+mod runs;
+mod totals;
 mod view_commands;
 
 use rs_catalog::{Catalog, RouteReferents};
@@ -123,6 +125,10 @@ impl Engine {
                 method,
             } => rows_reply(alloc, self.translate(&route, &position, method)),
             Command::Select { query, method } => rows_reply(alloc, self.select(&query, method)),
+            Command::Total { query, by, summed } => rows_reply(
+                alloc,
+                self.total(&query, by.as_slice(), &summed),
+            ),
         }
     }
 

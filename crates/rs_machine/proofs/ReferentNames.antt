@@ -13,17 +13,18 @@ use Rattle.rs_value.specs.declared.column.TheConstants.{COLUMNS}
 use Rattle.rs_value.specs.Row.{Row}
 use Rattle.rs_facts.specs.Fact.{Name, Names, name_cmp}
 use Rattle.rs_facts.specs.Insert.{same_name}
+use Rattle.rs_facts.specs.Totals.{totalled}
 use Rattle.rs_methods.specs.Position.{PositionExpression, start_name}
 use Rattle.rs_methods.specs.PositionText.{AreWords}
-use Rattle.rs_syntax.specs.Tree.{EventLocationTree, WindowTree, ConditionTree, QueryTree, CommandTree, define_route, define_table, define_referent, define_view, move_referent, drop_route, drop_table, drop_view, drop_referent, insert, remove, translate, select}
+use Rattle.rs_syntax.specs.Tree.{EventLocationTree, WindowTree, ConditionTree, QueryTree, CommandTree, define_route, define_table, define_referent, define_view, move_referent, drop_route, drop_table, drop_view, drop_referent, insert, remove, translate, select, total}
 use Rattle.rs_syntax.specs.Verdict.{Reads}
 use Rattle.rs_syntax.specs.Sound.{IsName, IsSound}
 use Rattle.rs_machine.specs.State.{State, fresh, has}
 use Rattle.rs_machine.specs.Checks.{◌>>=◌, unless, route_named, table_named, view_named, has_table_or_view, has_referent, position_on, event_span, location_kind, window_span, window_route, same_kind, some_name_twice, column_names, row_fits}
 use Rattle.rs_machine.specs.Opening.{some_view, names_query, names_route, names_referent}
-use Rattle.rs_machine.specs.Checking.{checked, removal_checked}
+use Rattle.rs_machine.specs.Checking.{checked, removal_checked, columns_in, group_checked, summed_checked}
 use Rattle.rs_machine.specs.declared.limits.TheConstants.{ROUTES, REFERENTS, TABLES, VIEWS}
-use Rattle.rs_machine.specs.Step.{Effect, may_change, has_fact_on, some_table, referents_at, with_referents, referent_defined, referent_moved, referent_dropped, view_defined, route_dropped, row_inserted, rows_removed, outcome}
+use Rattle.rs_machine.specs.Step.{Effect, may_change, has_fact_on, some_table, referents_at, with_referents, referent_defined, referent_moved, referent_dropped, view_defined, route_dropped, row_inserted, rows_removed, rows_along, outcome}
 use Rattle.rs_machine.specs.Served.{Machine, Reply, Answers, Served}
 use Rattle.rs_machine.specs.Request.{Request, unreadable, no_command, command, Asks, is_text}
 use Rattle.rs_machine.specs.Answered.{Answer, Replies, AnswersLine, Answered}
@@ -175,6 +176,11 @@ outcome_named state session (remove table window condition) sound named = remove
 outcome_named state session (translate route position method) sound named =
     through (route_named state route) _ (λ ends. through (position_on state route ends position) _ (λ measure. record { named = named }))
 outcome_named state session (select query method) sound named = through (checked state query) _ (λ query. record { named = named })
+outcome_named state session (total tree by summed) sound named =
+    through (checked state tree) _ (λ query.
+    through (group_checked (columns_in state query) by) _ (λ group.
+    through (summed_checked (columns_in state query) summed) _ (λ column.
+    through (totalled group column (rows_along state query)) _ (λ totals. record { named = named }))))
 
 answers_named : (old : Machine) (result : Result Effect Refusal) (reply : Reply) (new : Machine) → Keeps result → AreNamed old.state → Answers old result reply new → AreNamed new.state
 answers_named old (Ok effect) reply new kept named answers = subst AreNamed (sym answers.1) kept.named

@@ -175,6 +175,27 @@ window_checked state (part_of_route route from to) = do
   span ← span_on state route ends from to
   Ok (between route span.0 span.1)
 
+-- ---- the columns of totals
+
+-- the columns whose values make a group: 22 from the left, then 41
+abbrev pub group_checked : List Column → List Name → Result (List ℕ) Refusal
+group_checked columns names = do
+  places ← column_places columns names
+  _ ← unless (not (some_name_twice names)) ColumnTwice
+  Ok places
+
+abbrev pub holds_numbers : ColumnType → Bool
+holds_numbers types.Int = true
+holds_numbers (types.Text most) = false
+
+-- the column that is summed, if any: 22, then 33
+abbrev pub summed_checked : List Column → Option Name → Result (Option ℕ) Refusal
+summed_checked columns None = Ok None
+summed_checked columns (Some name) = do
+  place ← column_place columns name
+  _ ← unless (holds_numbers (column_type columns place)) WrongValues
+  Ok (Some place)
+
 -- ---- the passes
 
 abbrev pub names_known : State → List Name → Result (Unit {0}) Refusal

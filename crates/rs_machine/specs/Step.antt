@@ -16,12 +16,14 @@ use Rattle.rs_facts.specs.Operators.{has_none}
 use Rattle.rs_facts.specs.Query.{RouteEnds, Column, Table, Query, rows_at, kind_of}
 use Rattle.rs_facts.specs.Runs.{Stretch, runs_of}
 use Rattle.rs_facts.specs.LineText.{line_of}
-use Rattle.rs_syntax.specs.Tree.{EventLocationTree, WindowTree, ConditionTree, QueryTree, CommandTree, define_route, define_table, define_referent, define_view, move_referent, drop_route, drop_table, drop_view, drop_referent, insert, remove, translate, select}
+use Rattle.rs_facts.specs.Totals.{Along, totalled}
+use Rattle.rs_facts.specs.TotalText.{total_text}
+use Rattle.rs_syntax.specs.Tree.{EventLocationTree, WindowTree, ConditionTree, QueryTree, CommandTree, define_route, define_table, define_referent, define_view, move_referent, drop_route, drop_table, drop_view, drop_referent, insert, remove, translate, select, total}
 use Rattle.rs_machine.specs.declared.limits.TheConstants.{ROUTES, REFERENTS, TABLES, VIEWS, CHANGES}
 use Rattle.rs_machine.specs.State.{State, RowText, world_of, has}
 use Rattle.rs_machine.specs.Checks.{◌>>=◌, unless, route_named, table_named, view_named, has_table_or_view, has_referent, position_on, event_span, location_kind, window_span, window_route, same_kind, some_name_twice, column_names, row_fits}
 use Rattle.rs_machine.specs.Opening.{some_view, names_query, names_route, names_referent}
-use Rattle.rs_machine.specs.Checking.{checked, removal_checked}
+use Rattle.rs_machine.specs.Checking.{checked, removal_checked, columns_in, group_checked, summed_checked}
 
 -- what an accepted command answers, and the state after it
 pub record Effect : Type 0 where
@@ -227,6 +229,20 @@ selected state tree method = do
   query ← checked state tree
   Ok (effect (lines_of state query method) (length (lines_of state query method)) state)
 
+-- ---- totals
+
+-- the query's rows along each route
+abbrev pub rows_along : State → Query → List Along
+rows_along state query = map (λ route. record { from = route.1.start; to = route.1.finish + 1; places = rows_at (world_of state) query route.0 }) (names.entries state.routes)
+
+abbrev pub totals_printed : State → QueryTree → List Name → Option Name → Result Effect Refusal
+totals_printed state tree by summed = do
+  query ← checked state tree
+  group ← group_checked (columns_in state query) by
+  column ← summed_checked (columns_in state query) summed
+  totals ← totalled group column (rows_along state query)
+  Ok (effect (map (total_text (kind_of (world_of state) query)) totals) (length totals) state)
+
 -- ---- the step
 
 abbrev pub outcome : State → ℕ → CommandTree → Result Effect Refusal
@@ -243,3 +259,4 @@ outcome state session (insert table route place row) = row_inserted state table 
 outcome state session (remove table window condition) = rows_removed state table window condition
 outcome state session (translate route position method) = position_translated state route position method
 outcome state session (select query method) = selected state query method
+outcome state session (total query by summed) = totals_printed state query by summed

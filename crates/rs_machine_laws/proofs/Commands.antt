@@ -10,16 +10,17 @@ use Rattle.rs_value.specs.declared.column.TheConstants.{COLUMNS}
 use Rattle.rs_value.specs.Row.{Row}
 use Rattle.rs_facts.specs.Fact.{Name, Names}
 use Rattle.rs_facts.specs.Insert.{same_name}
+use Rattle.rs_facts.specs.Totals.{totalled}
 use Rattle.rs_facts.specs.Query.{RouteEnds, Column, Table}
 use Rattle.rs_methods.specs.Position.{PositionExpression, start_name}
-use Rattle.rs_syntax.specs.Tree.{EventLocationTree, WindowTree, ConditionTree, QueryTree, CommandTree, define_route, define_table, define_referent, define_view, move_referent, drop_route, drop_table, drop_view, drop_referent, insert, remove, translate, select}
+use Rattle.rs_syntax.specs.Tree.{EventLocationTree, WindowTree, ConditionTree, QueryTree, CommandTree, define_route, define_table, define_referent, define_view, move_referent, drop_route, drop_table, drop_view, drop_referent, insert, remove, translate, select, total}
 use Rattle.rs_syntax.specs.Sound.{IsName, IsQuery, IsSound}
 use Rattle.rs_machine.specs.State.{State, has}
 use Rattle.rs_machine.specs.Checks.{◌>>=◌, unless, route_named, table_named, view_named, has_table_or_view, has_referent, position_on, event_span, location_kind, window_span, window_route, same_kind, some_name_twice, column_names, row_fits}
 use Rattle.rs_machine.specs.Opening.{some_view, names_query, names_route, names_referent}
-use Rattle.rs_machine.specs.Checking.{checked, removal_checked}
+use Rattle.rs_machine.specs.Checking.{checked, removal_checked, columns_in, group_checked, summed_checked}
 use Rattle.rs_machine.specs.declared.limits.TheConstants.{ROUTES, REFERENTS, TABLES, VIEWS, CHANGES}
-use Rattle.rs_machine.specs.Step.{Effect, may_change, with_route, with_table, with_facts_along, without_facts, without_route, empty_table, has_fact_on, some_table, referents_at, with_referents, route_defined, route_dropped, table_defined, table_dropped, view_defined, view_dropped, referent_defined, referent_moved, referent_dropped, row_inserted, rows_removed, outcome}
+use Rattle.rs_machine.specs.Step.{Effect, may_change, with_route, with_table, with_facts_along, without_facts, without_route, empty_table, has_fact_on, some_table, referents_at, with_referents, route_defined, route_dropped, table_defined, table_dropped, view_defined, view_dropped, referent_defined, referent_moved, referent_dropped, row_inserted, rows_removed, rows_along, outcome}
 use Rattle.rs_machine.specs.Lawful.{Each, IsRoute, IsPlaceOf, MayHoldAt, IsReferent, IsTable, IsView, IsLawful}
 use Rattle.rs_machine_laws.proofs.Names.{either_false, each_empty, each_weaker, each_inserted, each_removed, len_none, len_more, len_same, len_less, same_name-true, same_name-false, same_name-back}
 use Rattle.rs_machine_laws.proofs.Checked.{passed, not_true, was_found, or_right, position-lies, event-lies, same_kind-same, distinct}
@@ -354,3 +355,8 @@ outcome-lawful state session (remove table window condition) sound lawful = remo
 outcome-lawful state session (translate route position method) sound lawful =
     through (route_named state route) _ (λ ends there. through (position_on state route ends position) _ (λ measure lies. record { lawful = lawful }))
 outcome-lawful state session (select query method) sound lawful = through (checked state query) _ (λ query is. record { lawful = lawful })
+outcome-lawful state session (total tree by summed) sound lawful =
+    through (checked state tree) _ (λ query is.
+    through (group_checked (columns_in state query) by) _ (λ group groups.
+    through (summed_checked (columns_in state query) summed) _ (λ column sums.
+    through (totalled group column (rows_along state query)) _ (λ totals are. record { lawful = lawful }))))

@@ -18,8 +18,6 @@ use crate::printer::PositionPrinter;
 use crate::row_text::{push_lent_lines, push_lines};
 use rs_catalog::RouteEntry;
 use rs_checker::{Checked, CheckedQuery, check};
-use rs_coalesce::{kept_runs, runs};
-use rs_exec::{Site, eval};
 use rs_measure::{Measure, Refusal};
 use rs_methods::{Method, Name, Position};
 use rs_syntax::Query;
@@ -129,12 +127,7 @@ impl Engine {
         requires there { names.get self.now.definitions.routes printer.now.name.now.bytes ≡ Some printer.now.route }
         ensures { OnOk result (rows_of rows.new.items ≡ rows_of rows.old.items ++ lines_on (state_of self.now) (table_rows name.now.bytes) printer.now.method printer.now.name.now.bytes printer.now.route.ends) }
     {
-        let Some(table) = self.catalog.table(name) else {
-            return Ok(());
-        };
-        self.catalog.stand();
-        let spans = self.events.spans(table.number(), printer.route.number());
-        let runs = kept_runs(self.alloc, spans)?;
+        let runs = self.kept_runs_on(name, printer.name, printer.route)?;
         push_lent_lines(self.alloc, kind, printer, runs.as_slice(), rows)
     }
 
@@ -152,15 +145,7 @@ impl Engine {
         requires there { names.get self.now.definitions.routes printer.now.name.now.bytes ≡ Some printer.now.route }
         ensures { OnOk result (rows_of rows.new.items ≡ rows_of rows.old.items ++ lines_on (state_of self.now) (query_of query.now) printer.now.method printer.now.name.now.bytes printer.now.route.ends) }
     {
-        let site = Site {
-            catalog: &self.catalog,
-            events: &self.events,
-            name: printer.name,
-            route: printer.route,
-        };
-        self.catalog.stand();
-        let spans = eval(self.alloc, &site, query)?;
-        let runs = runs(kind, spans);
+        let runs = self.evaluated_runs(query, kind, printer.name, printer.route)?;
         push_lines(self.alloc, kind, printer, runs.as_slice(), rows)
     }
 }
