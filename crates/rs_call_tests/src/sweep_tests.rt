@@ -13,7 +13,7 @@ ghost use Rattle.rs_event_lists.specs.Held.{kind_at};
 use rs_coalesce::lent;
 use rs_event_lists::EventLists;
 use rs_facts::{Condition, Span, Term};
-use rs_sweep::{cover, dissolve, merge, minus, overlay, select, shift, window};
+use rs_sweep::{cover, dissolve, merge, minus, overlay, select, window};
 use rs_value::{Comparison, Kind, Literal, Tuple, Value};
 use std::alloc::{AllocError, Global};
 use std::test::Fail;
@@ -174,9 +174,6 @@ fn rows_of_two_lists_inside_and_chosen(rt: HostRuntime) -> Result<(), Fail> {
     let above = Condition::Compare(0, Comparison::Greater, Term::Written(Literal::Int(1)));
     select(&mut spans, &above);
     let wanted = [(2, 10, [THREE]), (5, 11, [TWO])];
-    assert!(rt; are(spans.as_slice(), &wanted));
-    shift(&mut spans, 4, 10, 104);
-    let wanted = [(104, 110, [THREE]), (105, 110, [TWO])];
     assert!(rt; are(spans.as_slice(), &wanted));
     Ok(())
 }
