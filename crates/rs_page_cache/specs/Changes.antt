@@ -1,5 +1,5 @@
 -- The pages that are held as changes.
-use Rattle.std.specs.Prelude.{◌≡◌, ◌≢◌, ◌<◌, ℕ, Option, Some, None, IsSome, List, length, slice_index, Contains}
+use Rattle.std.specs.Prelude.{◌≡◌, ◌≢◌, ◌<◌, ℕ, false, Option, Some, None, IsSome, List, length, slice_index, Contains}
 use Rattle.std.specs.List.Sorted.{IsStrictlySortedBy}
 use Rattle.std.specs.Option.{option_map, unwrap_or}
 use Rattle.std.specs.Map.{lookup, keys_of}
@@ -8,7 +8,8 @@ use Rattle.std.specs.Ordering.{nat_cmp}
 use Rattle.std.specs.declared.alloc.Global.{Global}
 use Rattle.std.specs.declared.boxed.Box.{Box}
 use Rattle.rs_page.specs.declared.page.Page.{Page}
-use Rattle.rs_page.specs.PageBytes.{IsBlank}
+use Rattle.rs_disk.specs.declared.disk.TheConstants.{PAGE_SIZE}
+use Rattle.rs_page.specs.PageBytes.{IsBlank, is_free}
 use Rattle.rs_page.specs.declared.header.PageKind.{PageKind}
 use Rattle.rs_pages.specs.Held.{HeldPage, nothing_held, held_change, with_copy}
 
@@ -53,3 +54,9 @@ pub record PutsBlank (kind : PageKind) (number next : ℕ) (old new : Changes) :
   pub blank : IsBlank page kind number next
   pub there : held_at new number ≡ with_copy page (held_at old number)
   pub others : (other : ℕ) → other ≢ number → held_at new other ≡ held_at old other
+
+-- these bytes are the working copy, which is in use
+pub record IsUsedCopy (page : List ℕ) (held : HeldPage) : Type 0 where
+  pub copy : held.copy ≡ Some page
+  pub in_use : is_free page ≡ false
+  pub size : length page ≡ PAGE_SIZE

@@ -3,10 +3,11 @@
 //! The numbers of the working copies are listed apart, so that a commit or an abandonment visits these alone. Room in
 //! that list is made before each copy, so neither of the two takes memory.
 
-ghost use Rattle.std.specs.Prelude.{◌≡◌, ◌≢◌, ◌≤◌, ◌<◌, ◌^◌, ℕ, Some, None, [], length, is_some, IsSome, OnOk, OnErr, IsOkUnless, slice_index};
+ghost use Rattle.std.specs.Prelude.{◌≡◌, ◌≢◌, ◌≤◌, ◌<◌, ◌^◌, ℕ, List, Some, None, true, [], length, is_some, IsSome, IfSome, IfNone, OnOk, OnErr, IsOkUnless, slice_index};
 ghost use Rattle.std.specs.Option.{option_map};
+ghost use Rattle.rs_page.specs.PageBytes.{is_free};
 ghost use Rattle.rs_pages.specs.Held.{HeldPage, nothing_held, held_change, with_copy};
-ghost use Rattle.rs_page_cache.specs.Changes.{held_at, committed_held, abandoned_held, HasCopied, HoldsEach, ListsHeld, PutsBlank};
+ghost use Rattle.rs_page_cache.specs.Changes.{held_at, committed_held, abandoned_held, HasCopied, HoldsEach, IsUsedCopy, ListsHeld, PutsBlank};
 
 use crate::slot::Slot;
 use rs_measure::Refusal;
@@ -79,6 +80,16 @@ impl Changes {
         }
     }
 
+    /// The working copy of the page with this number, where it has one.
+    pub fn copy(&self, number: PageNumber) -> Option<&Page>
+        ensures { option_map (λ page. page.now.bytes) result ≡ (held_at self.now number).copy }
+    {
+        match self.slots.get(&number.number()) {
+            Some(slot) => slot.copy(),
+            None => None,
+        }
+    }
+
     /// Whether the page with this number has a working copy.
     pub fn has_copy(&self, number: PageNumber) -> bool
         ensures { result ≡ is_some (held_at self.now number).copy }
@@ -89,17 +100,15 @@ impl Changes {
         }
     }
 
-    /// The working copy of the page with this number, to be changed.
-    pub fn copy_mut(&mut self, number: PageNumber) -> Option<&mut Page>
+    /// The working copy of the page with this number, to be changed, where it has one that is in use.
+    pub fn used_copy_mut(&mut self, number: PageNumber) -> Option<&mut Page>
         ensures* lends { sem 𝓛 (lends_change self.entry number result) }
-        ensures held { option_map (λ page. page.now.bytes) result ≡ (held_at self.old number).copy }
+        ensures held { IfSome result (λ page. IsUsedCopy page.now.bytes (held_at self.old number)) }
+        ensures none { IfNone result ((page : List ℕ) → (held_at self.old number).copy ≡ Some page → is_free page ≡ true) }
     {
-        if !self.has_copy(number) {
-            return None;
-        }
         match self.slots.get_mut(&number.number()) {
-            Some(slot) => slot.copy_mut(),
-            None => None,
+            Some(slot) if slot.has_used_copy() => slot.copy_mut(),
+            _ => None,
         }
     }
 

@@ -2,10 +2,11 @@
 //!
 //! Both are side by side, so that a commit moves one into the other's place and takes no memory.
 
-ghost use Rattle.std.specs.Prelude.{◌≡◌, Some, None, is_some};
+ghost use Rattle.std.specs.Prelude.{◌≡◌, ℕ, List, Some, None, true, false, is_some, IsSome, IsTrue, IsSomeAnd};
 ghost use Rattle.std.specs.Option.{option_map};
+ghost use Rattle.rs_page.specs.PageBytes.{is_free};
 ghost use Rattle.rs_pages.specs.Held.{held_change, with_copy};
-ghost use Rattle.rs_page_cache.specs.Changes.{committed_held, abandoned_held};
+ghost use Rattle.rs_page_cache.specs.Changes.{committed_held, abandoned_held, IsUsedCopy};
 
 use rs_page::Page;
 use std::marker::Model;
@@ -62,11 +63,33 @@ impl Slot {
         }
     }
 
+    /// The working copy.
+    pub fn copy(&self) -> Option<&Page>
+        ensures { option_map (λ page. page.now.bytes) result ≡ self.now.copy }
+    {
+        match &self.copy {
+            Some(page) => Some(page),
+            None => None,
+        }
+    }
+
     /// Whether there is a working copy.
     pub fn has_copy(&self) -> bool
         ensures { result ≡ is_some self.now.copy }
     {
         self.copy.is_some()
+    }
+
+    /// Whether there is a working copy that is in use.
+    pub fn has_used_copy(&self) -> bool
+        ensures some { IsTrue result → IsSome self.now.copy }
+        ensures used { IsTrue result → IsSomeAnd self.now.copy (λ page. IsUsedCopy page self.now) }
+        ensures none { result ≡ false → (page : List ℕ) → self.now.copy ≡ Some page → is_free page ≡ true }
+    {
+        match &self.copy {
+            Some(page) => !page.is_free(),
+            None => false,
+        }
     }
 
     /// Puts a working copy in place.

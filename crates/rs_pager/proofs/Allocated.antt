@@ -1,5 +1,5 @@
 -- A page comes into use.
-use Rattle.std.proofs.Common.{◌≡◌, ◌≢◌, ◌<◌, ◌≤◌, ◌+◌, ◌-◌, inl, inr, ℕ, Bool, Option, Some, None, List, nat_lt, ◌&&◌, refl, sym, ap, ◌∙◌, subst, arith, true, false}
+use Rattle.std.proofs.Common.{◌≡◌, ◌≢◌, ◌<◌, ◌≤◌, ◌+◌, ◌-◌, inl, inr, ℕ, Bool, Option, Some, None, List, nat_lt, ◌&&◌, refl, sym, ap, ◌∙◌, subst, arith}
 use Rattle.std.proofs.lemmas.Bool.Decides.{nat_tests}
 use Rattle.rs_disk.specs.Counts.{counted_on}
 use Rattle.rs_disk.specs.declared.disk.Disk as disk
@@ -10,7 +10,6 @@ use Rattle.rs_page.specs.declared.header.PageKind.{PageKind}
 use Rattle.rs_pages.specs.Held.{HeldPage, page_or, held_change}
 use Rattle.rs_pages.specs.PageMap.{is_page, used_page}
 use Rattle.rs_pages.specs.FreeList.{TakesFree, TakesLast}
-use Rattle.rs_pages.specs.Store.{Store}
 use Rattle.rs_pages.specs.Uses.{AllocatesPage, RefusesPage}
 use Rattle.rs_pages.proofs.FreeLists.{begins_free, free-not_used}
 use Rattle.std.specs.Prelude.{if◌then◌else◌}

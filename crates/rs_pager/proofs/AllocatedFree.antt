@@ -3,8 +3,7 @@ use Rattle.std.proofs.Common.{◌≡◌, ◌≢◌, ◌⊎◌, inl, inr, ℕ, Li
 use Rattle.rs_disk.specs.declared.disk.Disk as disk
 use Rattle.rs_measure.specs.declared.refusal.Refusal.{Refusal}
 use Rattle.rs_measure.specs.declared.refusal.Refusal.TheVariants as refusal
-use Rattle.rs_page.specs.Header.{Fits}
-use Rattle.rs_page.specs.PageBytes.{empty_header, IsFreeLink}
+use Rattle.rs_page.specs.PageBytes.{IsFreeLink}
 use Rattle.rs_page.specs.declared.file_header.FileHeader.{FileHeader}
 use Rattle.rs_page.specs.declared.header.PageKind.{PageKind}
 use Rattle.rs_pages.specs.Held.{with_copy}

@@ -1,12 +1,11 @@
 -- A page is copied, or refused.
-use Rattle.std.proofs.Common.{◌≡◌, ◌<◌, ◌≤◌, ◌⊎◌, inl, inr, ℕ, Option, Some, None, List, Err, refl, sym, ap, ◌∙◌, subst, arith, ◌≢◌}
+use Rattle.std.proofs.Common.{◌≡◌, ◌≤◌, ◌⊎◌, inl, inr, ℕ, Option, Some, None, List, Err, refl, sym, ap, ◌∙◌}
 use Rattle.rs_measure.specs.declared.refusal.Refusal.{Refusal}
 use Rattle.rs_measure.specs.declared.refusal.Refusal.TheVariants as refusal
 use Rattle.rs_disk.specs.declared.disk.Disk as disk
 use Rattle.rs_pages.specs.Held.{HeldPage, held_change}
-use Rattle.rs_page.specs.declared.file_header.FileHeader.{FileHeader}
 use Rattle.rs_pages.specs.Store.{Rests}
-use Rattle.rs_pages.specs.Lending.{RestsAfter, EditsAfter}
+use Rattle.rs_pages.specs.Lending.{RestsAfter}
 use Rattle.rs_pages.specs.PageMap.{used_page}
 use Rattle.rs_pages.specs.Uses.{Lends, RefusesToEdit, RefusesToLend}
 use Rattle.rs_pages.proofs.Stores.{Lends-before, HoldsUsed-after, HasNoFit-before}
@@ -18,7 +17,7 @@ use Rattle.rs_pager.specs.Copying.{CopiesPage, RefusesCopy, HasCopy, LacksCopy}
 use Rattle.rs_pager.specs.Found.{IsNotAtHand, IsNotLent}
 use Rattle.rs_disk.specs.Content.{Content}
 use Rattle.rs_pager.proofs.Lent.{page-outside}
-use Rattle.rs_pager.proofs.Edited.{PutsCopy, AddsPage, same-adds, with_changes, put-committed, changes-below, put-edits, copy-edits, edits-after, edits-twice}
+use Rattle.rs_pager.proofs.Edited.{PutsCopy, with_changes, put-committed, changes-below, put-edits, copy-edits, edits-after}
 
 -- clean pages were read, and no call of the disk failed
 pub record Loaded {D : Type 0} (d : disk.Ghosts D) (old mid : Paged D) : Type 0 where
@@ -109,29 +108,3 @@ module _ {D : Type 0} (d : disk.Ghosts D) (n : ℕ) where
     damaged = λ _ is. record { none = λ page used fit. outside n p.working.pages (not.damaged is) page (d.seen p.disk) (held_change (held p n)) used };
     not_held = λ used. let wrong : None ≡ Some used.page = sym not.not_held ∙ used.held in cc;
   }
-
-  -- a page was copied, and the copy is lent
-  module _ (old mid : Paged D) (copies : CopiesPage d n old mid) where
-    pub copied-below : n < mid.working.pages
-    copied-below = omega (arith, copies.lends.below, ap (λ (f : FileHeader). f.pages) copies.edits.fields)
-
-    -- what was written into the copy is the working page
-    pub copied-edits : (page : List ℕ) (changes : Changes) → PutsCopy n page mid.changes changes
-        → EditsAfter (IsTied d) (pager_store d) (KeepsBelow d) n page old (with_changes mid changes mid.working)
-    copied-edits page changes puts = record {
-      edits = edits-twice (IsTied d old) (IsTied d mid) n copies.page page (pager_store d old) (pager_store d mid) (pager_store d (with_changes mid changes mid.working))
-          copies.keeps.tied copies.edits (put-edits d mid n page changes puts copies.lends.after copied-below);
-      count = copies.failures;
-      below = KeepsBelow-trans d old mid (with_changes mid changes mid.working) copies.keeps
-          (changes-below d mid changes mid.working (put-committed n page mid.changes changes puts));
-    }
-
-    pub copied-adds : (limit : ℕ) → mid.working.pages ≤ limit → AddsPage n limit mid.working mid.working
-    copied-adds limit within = same-adds n limit mid.working mid.working refl copies.lends.after copied-below within
-
-    -- the copy is the page that was there
-    pub copied-lends : (page : List ℕ) → Some page ≡ (held mid n).copy → Lends (IsTied d old) (pager_store d old) n page
-    copied-lends page there =
-        let one : Some page ≡ Some copies.page = there ∙ ap (λ (h : HeldPage). h.copy) copies.edits.held.there in
-        let same : copies.page ≡ page = cc in
-        subst (Lends (IsTied d old) (pager_store d old) n) same copies.lends

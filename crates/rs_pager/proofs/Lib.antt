@@ -12,3 +12,4 @@ pub mod Released
 pub mod Stored
 pub mod Taken
 pub mod Writing
+pub mod Readied

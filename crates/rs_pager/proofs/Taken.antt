@@ -7,7 +7,6 @@ use Rattle.rs_measure.specs.declared.refusal.Refusal.TheVariants as refusal
 use Rattle.rs_disk.specs.declared.disk.Disk as disk
 use Rattle.rs_page.specs.PageBytes.{IsFreeLink, is_free}
 use Rattle.rs_page.specs.declared.file_header.FileHeader.{FileHeader}
-use Rattle.rs_page.proofs.Headers.{header_is_one}
 use Rattle.rs_pages.specs.Held.{held_change}
 use Rattle.rs_pages.specs.FreeList.{IsFreePage}
 use Rattle.rs_pages.specs.Lending.{RestsAfter}

@@ -3,7 +3,7 @@
 //! A page is looked at each time that it is lent, unless it is held as a change. One to be changed is lent as a copy of
 //! its own.
 
-ghost use Rattle.std.specs.Prelude.{◌≡◌, ◌≢◌, ◌<◌, ℕ, true, IfErr, IfOk, IfSome, IfNone, OnErr, OnOk, IsOkUnless};
+ghost use Rattle.std.specs.Prelude.{◌≡◌, ◌≢◌, ◌<◌, ℕ, true, IfErr, IfOk, IfSome, IfNone, IsTrue, OnErr, OnOk, IsOkUnless};
 ghost use Rattle.rs_page.specs.declared.header.PageKind.{PageKind};
 ghost use Rattle.rs_pages.specs.Lending.{RestsAfter};
 ghost use Rattle.rs_pages.specs.Uses.{RefusesToEdit, AllocatesPage, RefusesPage, ReleasesPage};
@@ -42,10 +42,10 @@ impl<D: Disk> Pages for Pager<D> {
     }
 
     fn page_mut(&mut self, number: PageNumber) -> Result<&mut Page, Refusal> {
-        if let Err(refusal) = self.copy(number) {
+        if let Err(refusal) = self.ready_copy(number) {
             return Err(refusal);
         }
-        match self.changes.copy_mut(number) {
+        match self.changes.used_copy_mut(number) {
             Some(page) => Ok(page),
             None => Err(Refusal::DamagedFile),
         }
@@ -96,9 +96,22 @@ impl<D: Disk> Pages for Pager<D> {
 }
 
 impl<D: Disk> Pager<D> {
-    ghost use Rattle.rs_pager.specs.Copying.{CopiesPage, RefusesCopy, HasCopy, LacksCopy};
+    ghost use Rattle.rs_pager.specs.Copying.{CopiesPage, RefusesCopy, HasCopy, LacksCopy, ReadiesCopy};
     ghost use Rattle.rs_pager.specs.Found.{IsAtHand};
     ghost use Rattle.rs_pager.specs.Taking.{FindsFree, FindsNoFree, RefusesToTake, RefusesToFree};
+
+    /// Holds a working copy of the page with this number. Each page past the committed ones has one, in use or not.
+    fn ready_copy(&mut self, number: PageNumber) -> Result<(), Refusal>
+        requires { self.old.is_begun ≡ true }
+        ensures readies { OnOk result (ReadiesCopy D.Disk number self.old self.new) }
+        ensures rests { OnErr result (RestsAfter (IsTied D.Disk) (pager_store D.Disk) (KeepsBelow D.Disk) result self.old self.new) }
+        ensures refused { IfErr result (RefusesToEdit (IsTied D.Disk self.old) (pager_store D.Disk self.old) number) }
+    {
+        if self.is_new(number) {
+            return Ok(());
+        }
+        self.copy(number)
+    }
 
     /// Holds a working copy of the page with this number.
     fn copy(&mut self, number: PageNumber) -> Result<(), Refusal>
@@ -107,8 +120,21 @@ impl<D: Disk> Pager<D> {
         ensures rests { OnErr result (RestsAfter (IsTied D.Disk) (pager_store D.Disk) (KeepsBelow D.Disk) result self.old self.new) }
         ensures refused { IfErr result (RefusesToEdit (IsTied D.Disk self.old) (pager_store D.Disk self.old) number) }
     {
+        if self.has_used_copy(number) {
+            return Ok(());
+        }
         self.load(number)?;
         self.copy_at_hand(number)
+    }
+
+    /// Whether the page with this number has a working copy, which is in use.
+    fn has_used_copy(&self, number: PageNumber) -> bool
+        ensures { IsTrue result → HasCopy D.Disk number self.now }
+    {
+        match self.changes.copy(number) {
+            Some(page) => !page.is_free(),
+            None => false,
+        }
     }
 
     /// Holds a working copy of the page with this number, which is at hand. After a refusal (90, 94) nothing has changed.

@@ -1,9 +1,11 @@
 //! How a page comes to hand: held as a change, held clean, or read from the disk.
 
-ghost use Rattle.std.specs.Prelude.{◌≡◌, IfErr, IfSome, IfNone, OnOk};
+ghost use Rattle.std.specs.Prelude.{◌≡◌, ◌<◌, is_some, IsSome, IsTrue, IfErr, IfSome, IfNone, OnOk};
 ghost use Rattle.std.specs.Option.{option_map};
 ghost use Rattle.rs_pages.specs.Lending.{RestsAfter};
+ghost use Rattle.rs_pages.specs.Held.{held_change};
 ghost use Rattle.rs_pages.specs.Uses.{Lends};
+ghost use Rattle.rs_pager.specs.Paged.{held};
 ghost use Rattle.rs_pager.specs.Found.{found_page, IsAtHand, IsNotAtHand, FindsFit, FindsUnfit, IsNotLent};
 ghost use Rattle.rs_pager.specs.Maps.{pager_store, KeepsBelow, IsTied};
 
@@ -23,10 +25,26 @@ impl<D: Disk> Pager<D> {
         if number.number() == 0 || number.number() >= self.working.pages {
             return Err(Refusal::DamagedFile);
         }
-        if self.changes.working(number).is_some() {
+        if self.is_change(number) {
             return Ok(());
         }
         self.clean.load(&mut self.disk, number)
+    }
+
+    /// Whether the working page with this number is a change.
+    fn is_change(&self, number: PageNumber) -> bool
+        ensures { result ≡ is_some (held_change (held self.now number)) }
+    {
+        self.is_new(number) || self.changes.working(number).is_some()
+    }
+
+    /// Whether this is the number of a page past the committed ones. Each of these has a working copy, in use or not.
+    pub(crate) fn is_new(&self, number: PageNumber) -> bool
+        ensures after { IsTrue result → 0 < number }
+        ensures below { IsTrue result → number < self.now.working.pages }
+        ensures copied { IsTrue result → IsSome (held self.now number).copy }
+    {
+        number.number() >= self.committed_fields.pages && number.number() < self.working.pages
     }
 
     /// The working page with this number, which is at hand, if it is in use and is a change or fits.

@@ -1,4 +1,4 @@
-use Rattle.std.proofs.Common.{ap, ◌∙◌, subst}
+use Rattle.std.proofs.Common.{subst}
 use Rattle.rs_pager.specs.Paged.{Paged, IsSound}
 use Rattle.rs_pager.proofs.Flushed.{same-shut}
 use Rattle.rs_pager.proofs.pager.Pager.begin.Goals as goal
