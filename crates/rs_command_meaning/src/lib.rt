@@ -4,6 +4,7 @@
 #![tactic(auto)]
 
 pub mod meaning;
+mod said_alignments;
 mod said_definitions;
 mod said_events;
 mod said_totals;

@@ -5,11 +5,12 @@
 ghost use Rattle.std.specs.Prelude.{◌≡◌, [], true, All, IfOk, IfErr};
 ghost use Rattle.rs_lexer.specs.Lexis.{IsTokenOf};
 ghost use Rattle.rs_syntax.specs.View.{tree_of, written_of};
-ghost use Rattle.rs_syntax.specs.Written.{written_move, written_drop_route, written_drop_table, written_drop_view, written_drop_referent, written_translate, written_select, spelling, Says, AreToldOf};
+ghost use Rattle.rs_syntax.specs.Written.{written_move, written_drop_route, written_drop_table, written_drop_view, written_drop_alignment, written_drop_referent, written_translate, written_select, spelling, Says, AreToldOf};
 ghost use Rattle.rs_syntax.specs.WrittenView.{query_syntax};
 ghost use Rattle.rs_query_meaning.specs.Saying.{NothingSaid};
 ghost use Rattle.rs_command_meaning.specs.Definitions.{is_definition};
 
+use crate::said_alignments::alignment_said;
 use crate::said_definitions::{referent_said, route_said, table_said, view_said};
 use crate::said_events::{event_said, removal_said};
 use crate::said_totals::total_said;
@@ -105,6 +106,16 @@ fn view_dropped(line: &str, view: Token) -> Command
     }
 }
 
+// An alignment dropped.
+fn alignment_dropped(line: &str, alignment: Token) -> Command
+    requires { AreToldOf line.now (spelling (written_drop_alignment alignment)) }
+    ensures { Says line.now [] (written_drop_alignment alignment) (tree_of result) }
+{
+    Command::DropAlignment {
+        name: name(line, alignment),
+    }
+}
+
 // A referent dropped.
 fn referent_dropped(line: &str, route: Token, referent: Token) -> Command
     requires { AreToldOf line.now (spelling (written_drop_referent route referent)) }
@@ -146,6 +157,9 @@ fn definition_said(
             position,
         } => referent_said(line, *route, *name, *position),
         WrittenCommand::DefineView { name, query } => view_said(alloc, line, tokens, *name, query),
+        WrittenCommand::DefineAlignment { name, pieces } => {
+            alignment_said(alloc, line, *name, pieces)
+        }
         _ => unreachable!(),
     }
 }
@@ -174,6 +188,7 @@ pub fn meaning(
         WrittenCommand::DropRoute { name } => Ok(route_dropped(line, *name)),
         WrittenCommand::DropTable { name } => Ok(table_dropped(line, *name)),
         WrittenCommand::DropView { name } => Ok(view_dropped(line, *name)),
+        WrittenCommand::DropAlignment { name } => Ok(alignment_dropped(line, *name)),
         WrittenCommand::DropReferent { route, name } => Ok(referent_dropped(line, *route, *name)),
         WrittenCommand::Insert {
             table,

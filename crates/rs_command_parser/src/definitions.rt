@@ -9,6 +9,7 @@ ghost use Rattle.rs_syntax.specs.Written.{mark, table_kind, spelling, lexemes_of
 ghost use Rattle.rs_syntax.specs.View.{written_of};
 ghost use Rattle.rs_query_parser.specs.Reading.{RunsTo};
 
+use crate::alignments::define_alignment;
 use crate::columns::columns;
 use rs_grammar::kind::TokenKind;
 use rs_lexer::Token;
@@ -99,7 +100,7 @@ fn define_table(
     }
 }
 
-/// After DEFINE: a route, a referent, a view or a table.
+/// After DEFINE: a route, a referent, a view, an alignment or a table.
 pub fn define(alloc: Global, tokens: &[Token]) -> Result<(WrittenCommand, &[Token]), Stop<'_>>
     ensures runs { RunsTo define_form tokens.now result }
     ensures spelled { IfOk result (λ found. mark kinds.Define ∷ lexemes_of tokens.now
@@ -114,6 +115,9 @@ pub fn define(alloc: Global, tokens: &[Token]) -> Result<(WrittenCommand, &[Toke
     }
     if let Some(rest) = mark(tokens, TokenKind::View) {
         return define_view(alloc, rest);
+    }
+    if let Some(rest) = mark(tokens, TokenKind::Alignment) {
+        return define_alignment(alloc, rest);
     }
     if let Some(rest) = mark(tokens, TokenKind::Line) {
         return define_table(alloc, Kind::Line, rest);

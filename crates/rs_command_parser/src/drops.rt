@@ -53,6 +53,19 @@ fn drop_view(tokens: &[Token]) -> Result<(WrittenCommand, &[Token]), Stop<'_>>
     }
 }
 
+// after DROP ALIGNMENT: name
+fn drop_alignment(tokens: &[Token]) -> Result<(WrittenCommand, &[Token]), Stop<'_>>
+    ensures runs { RunsTo drop_name_form tokens.now result }
+    ensures spelled { IfOk result (λ found. mark kinds.Drop ∷ mark kinds.Alignment ∷ lexemes_of tokens.now
+        ≡ spelling (written_of found.0) ++ lexemes_of found.1.now) }
+    ensures full { IfOk result (λ found. IsFull (written_of found.0)) }
+{
+    match text(tokens, TokenKind::Name) {
+        Some((name, rest)) => Ok((WrittenCommand::DropAlignment { name }, rest)),
+        None => Err(Stop::At(tokens)),
+    }
+}
+
 // after DROP REFERENT: route name
 fn drop_referent(tokens: &[Token]) -> Result<(WrittenCommand, &[Token]), Stop<'_>>
     ensures runs { RunsTo drop_referent_form tokens.now result }
@@ -67,7 +80,7 @@ fn drop_referent(tokens: &[Token]) -> Result<(WrittenCommand, &[Token]), Stop<'_
     }
 }
 
-/// After DROP: a route, a table, a view or a referent.
+/// After DROP: a route, a table, a view, an alignment or a referent.
 pub fn drop_command(tokens: &[Token]) -> Result<(WrittenCommand, &[Token]), Stop<'_>>
     ensures runs { RunsTo drop_form tokens.now result }
     ensures spelled { IfOk result (λ found. mark kinds.Drop ∷ lexemes_of tokens.now
@@ -82,6 +95,9 @@ pub fn drop_command(tokens: &[Token]) -> Result<(WrittenCommand, &[Token]), Stop
     }
     if let Some(rest) = mark(tokens, TokenKind::View) {
         return drop_view(rest);
+    }
+    if let Some(rest) = mark(tokens, TokenKind::Alignment) {
+        return drop_alignment(rest);
     }
     match mark(tokens, TokenKind::Referent) {
         Some(rest) => drop_referent(rest),

@@ -3,6 +3,7 @@
 //! The tokens are read by the table of the grammar. What they say is looked at in other crates.
 #![tactic(auto)]
 
+mod alignments;
 mod columns;
 pub mod definitions;
 pub mod drops;

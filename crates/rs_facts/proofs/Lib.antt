@@ -14,4 +14,5 @@ mod KeptRuns
 pub mod RowSets
 mod OperatorRows
 pub mod Carrying
+pub mod Transforming
 mod Choosing

@@ -129,7 +129,7 @@ pub contains-without : (a b : RowSet) (row : Row) → contains (without a b) row
 unfolding without
 contains-without a b row = contains-keep (λ other. not (contains b other)) a row
 
-in_cond : (t : Bool) (rows : RowSet) (row : Row) → contains (cond t rows none) row ≡ (t && contains rows row)
+pub in_cond : (t : Bool) (rows : RowSet) (row : Row) → contains (cond t rows none) row ≡ (t && contains rows row)
 in_cond true rows row = refl
 in_cond false rows row = contains-none row
 

@@ -1,9 +1,10 @@
 -- What the operators make, said of single rows.
 use Rattle.std.specs.Prelude.{◌≡◌, ◌↔◌, ℕ, ◌+◌, ◌-◌, ◌<◌, ◌≤◌, not, ◌&&◌, ◌||◌, IsTrue, List, ◌++◌, Contains}
 use Rattle.rs_value.specs.Row.{Row}
-use Rattle.rs_facts.specs.Fact.{RowSet, none, contains, Places}
+use Rattle.rs_facts.specs.Fact.{Name, RowSet, none, contains, Places, Facts}
 use Rattle.rs_facts.specs.Insert.{within}
 use Rattle.rs_facts.specs.Operators.{from_rows, mapped, nulls, chosen, dissolved, overlaid, covered, merged, without, windowed, carried}
+use Rattle.rs_facts.specs.Query.{Piece, transformed}
 
 -- a row of the first before a row of the second
 pub record IsPair (a b : RowSet) (row : Row) : Type 0 where
@@ -26,6 +27,13 @@ pub record IsCarried (from to onto : ℕ) (places : Places) (j : ℕ) (row : Row
   pub before : k < to
   pub among : IsTrue (contains (places k) row)
   pub there : j ≡ onto + (k - from)
+
+-- one of the pieces carries the row to the thousandth of the route
+pub record IsTransformed (pieces : List Piece) (facts : Facts) (route : Name) (j : ℕ) (row : Row) : Type 0 where
+  pub piece : Piece
+  pub of_pieces : Contains pieces piece
+  pub onto_route : piece.onto_route ≡ route
+  pub is_carried : IsCarried piece.from piece.to piece.onto (facts piece.from_route) j row
 
 -- some row is in the set
 pub record HasRow (rows : RowSet) : Type 0 where
@@ -72,6 +80,10 @@ LeftRowsAreNotOfTheOther = (a b : RowSet) (row : Row) → contains (without a b)
 abbrev pub WindowedRowsAreInside : Type 0
 WindowedRowsAreInside = (lo hi k : ℕ) (rows : RowSet) (row : Row) → contains (windowed lo hi k rows) row ≡ (within lo hi k && contains rows row)
 
--- TRANSFORM has at a thousandth what a piece carries there, and no other row
+-- a piece has at a thousandth what it carries there, and no other row
 abbrev pub CarriedRowsAreThose : Type 0
 CarriedRowsAreThose = (from to onto : ℕ) (places : Places) (j : ℕ) (row : Row) → IsTrue (contains (carried from to onto places j) row) ↔ IsCarried from to onto places j row
+
+-- TRANSFORM has at a thousandth of a route what some piece carries there, and no other row
+abbrev pub TransformedRowsAreThose : Type 0
+TransformedRowsAreThose = (pieces : List Piece) (facts : Facts) (route : Name) (j : ℕ) (row : Row) → IsTrue (contains (transformed pieces facts route j) row) ↔ IsTransformed pieces facts route j row

@@ -1,7 +1,7 @@
 -- The rows of a query at one thousandth, its kind and its columns.
 --
 -- The query is a checked one: its tables are there, its columns go by place, views are opened, and windows are located.
-use Rattle.std.specs.Prelude.{ℕ, List, [], ◌++◌, map, get_or, set, Option, Some, None, if◌then◌else◌}
+use Rattle.std.specs.Prelude.{ℕ, List, [], ◌∷◌, ◌++◌, map, get_or, set, Option, Some, None, if◌then◌else◌}
 use Rattle.std.specs.FinMap as names
 use Rattle.rs_value.specs.declared.column.Kind.{Kind}
 use Rattle.rs_value.specs.declared.column.Kind.TheVariants as kinds
@@ -10,7 +10,7 @@ use Rattle.rs_value.specs.declared.column.ColumnType.TheVariants as types
 use Rattle.rs_facts.specs.Fact.{Name, Names, RowSet, none, keep, Facts, no_facts}
 use Rattle.rs_facts.specs.Insert.{same_name}
 use Rattle.rs_facts.specs.Condition.{Condition, meets}
-use Rattle.rs_facts.specs.Operators.{dissolved, overlaid, covered, merged, without, windowed}
+use Rattle.rs_facts.specs.Operators.{dissolved, overlaid, covered, merged, without, windowed, carried}
 
 -- where a route starts and where it ends, in thousandths
 pub record RouteEnds : Type 0 where
@@ -36,6 +36,15 @@ pub data Window : Type 0 where
   on_route : Name → Window
   between : Name → ℕ → ℕ → Window  -- route, from, to
 
+-- A piece of an alignment: the part of a route from one thousandth on and below another is carried onto another route,
+-- or onto the same, its first thousandth to `onto`.
+pub record Piece : Type 0 where
+  pub from_route : Name
+  pub from : ℕ
+  pub to : ℕ
+  pub onto_route : Name
+  pub onto : ℕ
+
 pub data Query : Type 0 where
   table_rows : Name → Query
   where_rows : Query → Condition → Query
@@ -46,6 +55,7 @@ pub data Query : Type 0 where
   merge_rows : Query → Query → Query
   minus_rows : Query → Query → Query
   window_rows : Query → Window → Query
+  transform_rows : Query → Name → List Piece → Query  -- the alignment's name, its pieces
 
 abbrev pub facts_of : Option Table → Facts
 facts_of (Some table) = table.facts
@@ -64,6 +74,15 @@ abbrev pub seen_through : Window → Name → ℕ → RowSet → RowSet
 seen_through (on_route name) route k rows = if same_name name route then rows else none
 seen_through (between name from to) route k rows = if same_name name route then windowed from to k rows else none
 
+-- what one piece carries to each thousandth of each route
+abbrev pub carried_by : Piece → Facts → Facts
+carried_by piece facts route j = if same_name piece.onto_route route then carried piece.from piece.to piece.onto (facts piece.from_route) j else none
+
+-- TRANSFORM: what any of the pieces carries there
+abbrev pub transformed : List Piece → Facts → Facts
+transformed [] facts route j = none
+transformed (piece ∷ pieces) facts route j = merged (carried_by piece facts route j) (transformed pieces facts route j)
+
 -- which rows the query has on a route at a thousandth
 abbrev pub rows_at : World → Query → Name → ℕ → RowSet
 rows_at world (table_rows name) route k = facts_of (names.get world.tables name) route k
@@ -75,6 +94,7 @@ rows_at world (cover_rows m n a b) route k = covered m n (rows_at world a route 
 rows_at world (merge_rows a b) route k = merged (rows_at world a route k) (rows_at world b route k)
 rows_at world (minus_rows a b) route k = without (rows_at world a route k) (rows_at world b route k)
 rows_at world (window_rows query window) route k = seen_through window route k (rows_at world query route k)
+rows_at world (transform_rows query name pieces) route k = transformed pieces (rows_at world query) route k
 
 -- lines over lines make lines; where either has points, points
 abbrev pub overlaid_kind : Kind → Kind → Kind
@@ -94,6 +114,7 @@ kind_of world (cover_rows m n a b) = kind_of world a
 kind_of world (merge_rows a b) = kind_of world a
 kind_of world (minus_rows a b) = kind_of world a
 kind_of world (window_rows query window) = kind_of world query
+kind_of world (transform_rows query name pieces) = kind_of world query
 
 -- the column at a place; past the end one without a name
 abbrev pub column_at : List Column → ℕ → Column
@@ -114,3 +135,4 @@ columns_of world (cover_rows m n a b) = columns_of world a ++ columns_of world b
 columns_of world (merge_rows a b) = columns_of world a
 columns_of world (minus_rows a b) = columns_of world a
 columns_of world (window_rows query window) = columns_of world query
+columns_of world (transform_rows query name pieces) = columns_of world query

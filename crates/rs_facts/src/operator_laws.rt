@@ -14,6 +14,7 @@ ghost use Rattle.rs_facts.specs.OperatorLaws.{
   LeftRowsAreNotOfTheOther,
   WindowedRowsAreInside,
   CarriedRowsAreThose,
+  TransformedRowsAreThose,
 };
 
 /// The set of a list has its rows and no others.
@@ -61,4 +62,9 @@ pub fn windowed_rows_are_inside()
 /// A piece of an alignment has at a thousandth the rows that it carries there, and no others.
 pub fn carried_rows_are_those()
     ensures { CarriedRowsAreThose }
+{}
+
+/// TRANSFORM has at a thousandth of a route the rows that some piece carries there, and no others.
+pub fn transformed_rows_are_those()
+    ensures { TransformedRowsAreThose }
 {}

@@ -65,24 +65,19 @@ local (stops_in run) = let l = local run in (l.0, l.1, λ others s. stops_in (l.
 local {tokens = tokens} gives_up = (tokens, sym (append-nil tokens), λ others s. gives_up)
 
 -- A sample of what a form asks for, given one of each part.
-abbrev completes : (Part → Bool) → Form → Bool
-completes parts done = true
-completes parts fail = false
-completes parts (pick kind form other) = completes parts other || completes parts form
-completes parts (sub p form) = parts p && completes parts form
+abbrev completes : Form → Bool
+completes done = true
+completes fail = false
+completes (pick kind form other) = completes other || completes form
+completes (sub p form) = completes form
 
-abbrev sample : (Part → Bool) → (Part → List TokenKind) → Form → List TokenKind
-sample parts samples done = []
-sample parts samples fail = []
-sample parts samples (pick kind form other) = if completes parts other then sample parts samples other else kind ∷ sample parts samples form
-sample parts samples (sub p form) = samples p ++ sample parts samples form
+abbrev sample : (Part → List TokenKind) → Form → List TokenKind
+sample samples done = []
+sample samples fail = []
+sample samples (pick kind form other) = if completes other then sample samples other else kind ∷ sample samples form
+sample samples (sub p form) = samples p ++ sample samples form
 
--- a part that derives something, and a sample of it
-abbrev yields : Part → Bool
-yields g.pieces = false
-yields g.piece = false
-yields _ = true
-
+-- a sample of each part
 abbrev word : Part → List TokenKind
 word g.command = kinds.Drop ∷ kinds.View ∷ kinds.Name ∷ []
 word g.place = kinds.At ∷ kinds.Whole ∷ []
@@ -103,62 +98,61 @@ word g.conjunction = kinds.Name ∷ kinds.Is ∷ kinds.Null ∷ []
 word g.atom = kinds.Name ∷ kinds.Is ∷ kinds.Null ∷ []
 word g.comparison = kinds.Equal ∷ []
 word g.operand = kinds.Name ∷ []
-word _ = []
+word g.pieces = kinds.Name ∷ kinds.From ∷ kinds.Whole ∷ kinds.To ∷ kinds.Whole ∷ kinds.Into ∷ kinds.Name ∷ kinds.At ∷ kinds.Whole ∷ []
+word g.piece = kinds.Name ∷ kinds.From ∷ kinds.Whole ∷ kinds.To ∷ kinds.Whole ∷ kinds.Into ∷ kinds.Name ∷ kinds.At ∷ kinds.Whole ∷ []
 
 abbrev IsSample : Form → List TokenKind → Type 0
 IsSample form tokens = (others : List TokenKind) → Derives form (tokens ++ others) others
 
-sample_derived : (parts : Part → Bool) (samples : Part → List TokenKind) → ((p : Part) → parts p ≡ true → IsSample (rules p) (samples p))
-    → (form : Form) → completes parts form ≡ true → IsSample form (sample parts samples form)
-sample_derived parts samples known done e others = nothing
-sample_derived parts samples known fail e others = absurd (false≢true e)
-sample_derived parts samples known (pick kind form other) e others =
-    elim (completes parts other) as (λ b. completes parts other ≡ b → Derives (pick kind form other) ((if b then sample parts samples other else kind ∷ sample parts samples form) ++ others) others) [
-      | true ↦ λ c. that (sample_derived parts samples known other c others)
-      | false ↦ λ c. this (sample_derived parts samples known form (⊎_elim (λ h. absurd (false≢true (sym c ∙ h))) (λ h. h) (or-cases (completes parts other) (completes parts form) e)) others)
+sample_derived : (samples : Part → List TokenKind) → ((p : Part) → IsSample (rules p) (samples p)) → (form : Form) → completes form ≡ true → IsSample form (sample samples form)
+sample_derived samples known done e others = nothing
+sample_derived samples known fail e others = absurd (false≢true e)
+sample_derived samples known (pick kind form other) e others =
+    elim (completes other) as (λ b. completes other ≡ b → Derives (pick kind form other) ((if b then sample samples other else kind ∷ sample samples form) ++ others) others) [
+      | true ↦ λ c. that (sample_derived samples known other c others)
+      | false ↦ λ c. this (sample_derived samples known form (⊎_elim (λ h. absurd (false≢true (sym c ∙ h))) (λ h. h) (or-cases (completes other) (completes form) e)) others)
     ] refl
-sample_derived parts samples known (sub p form) e others =
-    let c = and_parts (parts p) (completes parts form) e in
-    subst (λ ts. Derives (sub p form) ts others) (sym (append_assoc (samples p) (sample parts samples form) others))
-    (part (known p c.0 (sample parts samples form ++ others)) (sample_derived parts samples known form c.1 others))
+sample_derived samples known (sub p form) e others =
+    subst (λ ts. Derives (sub p form) ts others) (sym (append_assoc (samples p) (sample samples form) others))
+    (part (known p (sample samples form ++ others)) (sample_derived samples known form e others))
 
-word_derived : (p : Part) → yields p ≡ true → IsSample (rules p) (word p)
+word_derived : (p : Part) → IsSample (rules p) (word p)
 unfolding rules
-word_derived g.command e others = that (this (that (that (this (this nothing)))))
-word_derived g.place e others = that (this (part (that (part (this nothing) (that nothing))) nothing))
-word_derived g.columns e others = part (this (this nothing)) (that nothing)
-word_derived g.column e others = this (this nothing)
-word_derived g.values e others = part (this nothing) (that nothing)
-word_derived g.value e others = this nothing
-word_derived g.measure e others = this nothing
-word_derived g.query e others = that (that (that (that (that (that (that (that (this nothing))))))))
-word_derived g.position e others = that (part (this nothing) (that nothing))
-word_derived g.method e others = this nothing
-word_derived g.column_name e others = this nothing
-word_derived g.names e others = part (this nothing) (that nothing)
-word_derived g.bracketed_names e others = this (this nothing)
-word_derived g.window e others = this (that nothing)
-word_derived g.condition e others = part (part (that (that (this (this (that (this nothing)))))) (that nothing)) (that nothing)
-word_derived g.conjunction e others = part (that (that (this (this (that (this nothing)))))) (that nothing)
-word_derived g.atom e others = that (that (this (this (that (this nothing)))))
-word_derived g.comparison e others = this nothing
-word_derived g.operand e others = this nothing
-word_derived g.pieces e others = absurd (false≢true e)
-word_derived g.piece e others = absurd (false≢true e)
+word_derived g.command others = that (this (that (that (this (this nothing)))))
+word_derived g.place others = that (this (part (that (part (this nothing) (that nothing))) nothing))
+word_derived g.columns others = part (this (this nothing)) (that nothing)
+word_derived g.column others = this (this nothing)
+word_derived g.values others = part (this nothing) (that nothing)
+word_derived g.value others = this nothing
+word_derived g.measure others = this nothing
+word_derived g.query others = that (that (that (that (that (that (that (that (that (this nothing)))))))))
+word_derived g.position others = that (part (this nothing) (that nothing))
+word_derived g.method others = this nothing
+word_derived g.column_name others = this nothing
+word_derived g.names others = part (this nothing) (that nothing)
+word_derived g.bracketed_names others = this (this nothing)
+word_derived g.window others = this (that nothing)
+word_derived g.condition others = part (part (that (that (this (this (that (this nothing)))))) (that nothing)) (that nothing)
+word_derived g.conjunction others = part (that (that (this (this (that (this nothing)))))) (that nothing)
+word_derived g.atom others = that (that (this (this (that (this nothing)))))
+word_derived g.comparison others = this nothing
+word_derived g.operand others = this nothing
+word_derived g.pieces others = part (this (this (part (this nothing) (this (part (this nothing) (this (this (this (part (this nothing) nothing))))))))) (that nothing)
+word_derived g.piece others = this (this (part (this nothing) (this (part (this nothing) (this (this (this (part (this nothing) nothing))))))))
 
 -- a form can be completed after each of its tokens
 abbrev is_productive : Form → Bool
 is_productive done = true
 is_productive fail = true
-is_productive (pick kind form other) = completes yields form && (is_productive form && is_productive other)
-is_productive (sub p form) = completes yields form && is_productive form
+is_productive (pick kind form other) = completes form && (is_productive form && is_productive other)
+is_productive (sub p form) = completes form && is_productive form
 
 sample_of : Form → List TokenKind
-sample_of form = sample yields word form
+sample_of form = sample word form
 
-sample_of_derived : (form : Form) → completes yields form ≡ true → IsSample form (sample_of form)
+sample_of_derived : (form : Form) → completes form ≡ true → IsSample form (sample_of form)
 unfolding sample_of
-sample_of_derived form e = sample_derived yields word word_derived form e
+sample_of_derived form e = sample_derived word word_derived form e
 
 productive : (p : Part) → is_productive (rules p) ≡ true
 unfolding rules
@@ -193,7 +187,7 @@ Completes form tokens (Ok left) = Unit {0}
 Completes form tokens (Err None) = Unit {0}
 Completes form tokens (Err (Some left)) = GoesOn form tokens left
 
-Completes-takes : (kind : TokenKind) (form other : Form) (tokens : List TokenKind) (outcome : Outcome) → completes yields form ≡ true
+Completes-takes : (kind : TokenKind) (form other : Form) (tokens : List TokenKind) (outcome : Outcome) → completes form ≡ true
     → Completes form tokens outcome → Completes (pick kind form other) (kind ∷ tokens) outcome
 Completes-takes kind form other tokens (Ok left) c e = tt
 Completes-takes kind form other tokens (Err None) c e = tt
@@ -209,7 +203,7 @@ Completes-skips kind form other tokens (Ok left) e = tt
 Completes-skips kind form other tokens (Err None) e = tt
 Completes-skips kind form other tokens (Err (Some left)) e = ⊎_elim (λ none. inl none) (λ s. inr (s.0, s.1, s.2, λ others. that (s.3 others))) e
 
-Completes-through : (p : Part) (form : Form) (tokens middle : List TokenKind) (outcome : Outcome) → completes yields form ≡ true
+Completes-through : (p : Part) (form : Form) (tokens middle : List TokenKind) (outcome : Outcome) → completes form ≡ true
     → Frame (rules p) tokens middle → Completes form middle outcome → Completes (sub p form) tokens outcome
 Completes-through p form tokens middle (Ok left) c f e = tt
 Completes-through p form tokens middle (Err None) c f e = tt
@@ -224,7 +218,7 @@ Completes-through p form tokens middle (Err (Some left)) c f e =
     ))
     e
 
-Completes-stops : (p : Part) (form : Form) (tokens : List TokenKind) (halt : Option (List TokenKind)) → completes yields form ≡ true
+Completes-stops : (p : Part) (form : Form) (tokens : List TokenKind) (halt : Option (List TokenKind)) → completes form ≡ true
     → Completes (rules p) tokens (Err halt) → Completes (sub p form) tokens (Err halt)
 Completes-stops p form tokens None c e = tt
 Completes-stops p form tokens (Some left) c e =
@@ -242,20 +236,20 @@ completed : {form : Form} {tokens : List TokenKind} {outcome : Outcome} → Runs
 completed is_done e = tt
 completed is_fail e = inl refl
 completed {outcome = outcome} (takes {kind = kind} {form = form} {other = other} {tokens = tokens} run) e =
-    let p = and_parts (completes yields form) (is_productive form && is_productive other) e in
+    let p = and_parts (completes form) (is_productive form && is_productive other) e in
     Completes-takes kind form other tokens outcome p.0 (completed run (and_parts (is_productive form) (is_productive other) p.1).0)
 completed {tokens = tokens} {outcome = outcome} (skips {kind = kind} {form = form} {other = other} lacks run) e =
-    let p = and_parts (completes yields form) (is_productive form && is_productive other) e in
+    let p = and_parts (completes form) (is_productive form && is_productive other) e in
     Completes-skips kind form other tokens outcome (completed run (and_parts (is_productive form) (is_productive other) p.1).1)
 completed {tokens = tokens} {outcome = outcome} (through {p = p} {form = form} {middle = middle} run more) e =
-    let q = and_parts (completes yields form) (is_productive form) e in
+    let q = and_parts (completes form) (is_productive form) e in
     Completes-through p form tokens middle outcome q.0 (frame (sound run middle refl)) (completed more q.1)
 completed {tokens = tokens} (stops_in {p = p} {form = form} {halt = halt} run) e =
-    let q = and_parts (completes yields form) (is_productive form) e in
+    let q = and_parts (completes form) (is_productive form) e in
     Completes-stops p form tokens halt q.0 (completed run (productive p))
 completed gives_up e = tt
 
-command_completes : completes yields (rules g.command) ≡ true
+command_completes : completes (rules g.command) ≡ true
 unfolding rules
 command_completes = refl
 

@@ -4,7 +4,7 @@ use Rattle.rs_grammar.specs.declared.kind.TokenKind.{TokenKind}
 use Rattle.rs_grammar.specs.declared.kind.TokenKind.TheVariants as kinds
 use Rattle.rs_grammar.specs.declared.kind.TheConstants.{BRACKETS}
 
--- the parts of the language; those of later productions derive nothing yet
+-- the parts of the language
 pub data Part : Type 0 where
   command : Part
   place : Part
@@ -52,10 +52,13 @@ define_view_form = need kinds.Name (need kinds.As (sub query done))
 abbrev pub define_table_form : Form
 define_table_form = need kinds.Table (need kinds.Name (need kinds.LeftParen (sub columns (need kinds.RightParen done))))
 
+abbrev pub define_alignment_form : Form
+define_alignment_form = need kinds.Name (need kinds.LeftParen (sub pieces (need kinds.RightParen done)))
+
 abbrev pub define_form : Form
 define_form =
     pick kinds.Route define_route_form (pick kinds.Referent define_referent_form (pick kinds.View define_view_form
-    (pick kinds.Line define_table_form (need kinds.Point define_table_form))))
+    (pick kinds.Alignment define_alignment_form (pick kinds.Line define_table_form (need kinds.Point define_table_form)))))
 
 -- the name of what is dropped
 abbrev pub drop_name_form : Form
@@ -66,7 +69,8 @@ drop_referent_form = need kinds.Name (need kinds.Name done)
 
 abbrev pub drop_form : Form
 drop_form =
-    pick kinds.Route drop_name_form (pick kinds.Table drop_name_form (pick kinds.View drop_name_form (need kinds.Referent drop_referent_form)))
+    pick kinds.Route drop_name_form (pick kinds.Table drop_name_form (pick kinds.View drop_name_form
+    (pick kinds.Alignment drop_name_form (need kinds.Referent drop_referent_form))))
 
 abbrev pub move_form : Form
 move_form = need kinds.Referent (need kinds.Name (need kinds.Name (need kinds.To (sub position done))))
@@ -165,11 +169,14 @@ pair_form = operand_query_form (sub query (need kinds.RightParen done))
 abbrev pub window_query_form : Form
 window_query_form = operand_query_form (sub window (need kinds.RightParen done))
 
+abbrev pub transform_form : Form
+transform_form = operand_query_form (need kinds.Name (need kinds.RightParen done))
+
 abbrev pub query_form : Form
 query_form =
     pick kinds.Where where_form (pick kinds.Dissolve dissolve_form (pick kinds.Rename rename_form
     (pick kinds.Overlay pair_form (pick kinds.Cover pair_form (pick kinds.Merge pair_form (pick kinds.Minus pair_form
-    (pick kinds.Window window_query_form (need kinds.Name done))))))))
+    (pick kinds.Window window_query_form (pick kinds.Transform transform_form (need kinds.Name done)))))))))
 
 abbrev pub column_name_form : Form
 column_name_form = need kinds.Name done
@@ -184,6 +191,15 @@ bracketed_names_form = need kinds.LeftParen (pick kinds.RightParen done (sub nam
 -- a route, or a part of it
 abbrev pub window_form : Form
 window_form = need kinds.Name (pick kinds.From span_form done)
+
+abbrev pub pieces_form : Form
+pieces_form = sub piece (pick kinds.Comma (sub pieces done) done)
+
+-- the part of a route that is carried, and where to
+abbrev pub piece_form : Form
+piece_form =
+    need kinds.Name (need kinds.From (sub measure (need kinds.To (sub measure
+    (need kinds.Into (need kinds.Name (need kinds.At (sub measure done))))))))
 
 abbrev pub condition_form : Form
 condition_form = sub conjunction (pick kinds.Or (sub condition done) done)
@@ -235,8 +251,8 @@ rules conjunction = conjunction_form
 rules atom = atom_form
 rules comparison = comparison_form
 rules operand = operand_form
-rules pieces = fail
-rules piece = fail
+rules pieces = pieces_form
+rules piece = piece_form
 
 -- Some tokens at the front are what the form asks for, and these are left.
 pub data Derives : Form → List TokenKind → List TokenKind → Type 0 where

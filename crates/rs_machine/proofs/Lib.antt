@@ -1,3 +1,4 @@
 pub mod NameOrder
+pub mod PieceLaws
 pub mod ReadableLines
 mod ReferentNames

@@ -1,6 +1,6 @@
 -- The names of referents stay names that a line can say.
 use Rattle.std.proofs.Common.{◌≡◌, ◌∙◌, ℕ, Bool, true, false, cond, List, [], ◌∷◌, Some, None, length, not, Result, Ok, Err, IfOk, refl, sym, ap, subst, inl, inr}
-use Rattle.std.specs.Prelude.{if◌then◌else◌, IsTrue, nat_le, nat_lt, ◌||◌, Option}
+use Rattle.std.specs.Prelude.{if◌then◌else◌, IsTrue, nat_le, nat_lt, ◌&&◌, ◌||◌, Option}
 use Rattle.std.specs.declared.cmp.Ordering.{Ordering}
 use Rattle.std.specs.declared.cmp.Ordering.TheVariants.{Less, Equal, Greater}
 use Rattle.std.specs.Ordering.{is_eq, eq_by_cmp}
@@ -16,15 +16,15 @@ use Rattle.rs_facts.specs.Insert.{same_name}
 use Rattle.rs_facts.specs.Totals.{totalled}
 use Rattle.rs_methods.specs.Position.{PositionExpression, start_name}
 use Rattle.rs_methods.specs.PositionText.{AreWords}
-use Rattle.rs_syntax.specs.Tree.{EventLocationTree, WindowTree, ConditionTree, QueryTree, CommandTree, define_route, define_table, define_referent, define_view, move_referent, drop_route, drop_table, drop_view, drop_referent, insert, remove, translate, select, total}
+use Rattle.rs_syntax.specs.Tree.{EventLocationTree, WindowTree, PieceTree, ConditionTree, QueryTree, CommandTree, define_route, define_table, define_referent, define_view, define_alignment, move_referent, drop_route, drop_table, drop_view, drop_alignment, drop_referent, insert, remove, translate, select, total}
 use Rattle.rs_syntax.specs.Verdict.{Reads}
 use Rattle.rs_syntax.specs.Sound.{IsName, IsSound}
 use Rattle.rs_machine.specs.State.{State, fresh, has}
-use Rattle.rs_machine.specs.Checks.{◌>>=◌, unless, route_named, table_named, view_named, has_table_or_view, has_referent, position_on, event_span, location_kind, window_span, window_route, same_kind, some_name_twice, column_names, row_fits}
-use Rattle.rs_machine.specs.Opening.{some_view, names_query, names_route, names_referent}
+use Rattle.rs_machine.specs.Checks.{◌>>=◌, unless, route_named, table_named, view_named, alignment_named, pieces_checked, has_table_or_view, has_referent, position_on, event_span, location_kind, window_span, window_route, same_kind, some_name_twice, column_names, row_fits}
+use Rattle.rs_machine.specs.Opening.{some_view, names_query, names_alignment, names_route, names_referent, some_piece_on}
 use Rattle.rs_machine.specs.Checking.{checked, removal_checked, columns_in, group_checked, summed_checked}
-use Rattle.rs_machine.specs.declared.limits.TheConstants.{ROUTES, REFERENTS, TABLES, VIEWS}
-use Rattle.rs_machine.specs.Step.{Effect, may_change, has_fact_on, some_table, referents_at, with_referents, referent_defined, referent_moved, referent_dropped, view_defined, route_dropped, row_inserted, rows_removed, rows_along, outcome}
+use Rattle.rs_machine.specs.declared.limits.TheConstants.{ROUTES, REFERENTS, TABLES, VIEWS, ALIGNMENTS, PIECES}
+use Rattle.rs_machine.specs.Step.{Effect, may_change, has_fact_on, some_table, referents_at, with_referents, referent_defined, referent_moved, referent_dropped, view_defined, alignment_defined, route_dropped, row_inserted, rows_removed, rows_along, outcome}
 use Rattle.rs_machine.specs.Served.{Machine, Reply, Answers, Served}
 use Rattle.rs_machine.specs.Request.{Request, unreadable, no_command, command, Asks, is_text}
 use Rattle.rs_machine.specs.Answered.{Answer, Replies, AnswersLine, Answered}
@@ -114,7 +114,7 @@ route_dropped_named : (state : State) (name : Name) → AreNamed state → Keeps
 unfolding referents_at
 route_dropped_named state name named =
     through (route_named state name) _ (λ ends.
-    through (unless (not (some_table state (has_fact_on name ends) || some_view state (names_route name))) InUse) _ (λ unused.
+    through (unless (not (some_table state (has_fact_on name ends) || some_piece_on state name || some_view state (names_route name))) InUse) _ (λ unused.
     through (may_change state) _ (λ change. record { named = record { each = λ route. at route (same_name route name) } })))
   where
     at : (route : Name) (same : Bool) → Named (if same then names.empty else state.referents route)
@@ -146,6 +146,13 @@ view_defined_named state name query named =
     through (unless (nat_lt (names.len state.views) VIEWS) Limit) _ (λ room.
     through (may_change state) _ (λ change. record { named = record { each = named.each } }))))
 
+alignment_defined_named : (state : State) (name : Name) (pieces : List PieceTree) → AreNamed state → Keeps (alignment_defined state name pieces)
+alignment_defined_named state name pieces named =
+    through (unless (not (has state.alignments name)) NameTaken) _ (λ new.
+    through (unless (nat_lt (names.len state.alignments) ALIGNMENTS && nat_le (length pieces) PIECES) Limit) _ (λ room.
+    through (pieces_checked state.routes pieces) _ (λ lie.
+    through (may_change state) _ (λ change. record { named = record { each = named.each } }))))
+
 outcome_named : (state : State) (session : ℕ) (tree : CommandTree) → IsSound tree → AreNamed state → Keeps (outcome state session tree)
 outcome_named state session (define_route name start finish) sound named =
     through (unless (not (has state.routes name)) NameTaken) _ (λ new.
@@ -160,6 +167,7 @@ outcome_named state session (define_table kind name columns) sound named =
     through (may_change state) _ (λ change. record { named = record { each = named.each } })))))
 outcome_named state session (define_referent route name position) sound named = defined_named state route name position sound.1 named
 outcome_named state session (define_view name query text) sound named = view_defined_named state name query named
+outcome_named state session (define_alignment name pieces) sound named = alignment_defined_named state name pieces named
 outcome_named state session (move_referent route name position) sound named = moved_named state route name position sound.1 named
 outcome_named state session (drop_route name) sound named = route_dropped_named state name named
 outcome_named state session (drop_table name) sound named =
@@ -169,6 +177,10 @@ outcome_named state session (drop_table name) sound named =
 outcome_named state session (drop_view name) sound named =
     through (view_named state name) _ (λ view.
     through (unless (not (some_view state (names_query name))) InUse) _ (λ unused.
+    through (may_change state) _ (λ change. record { named = record { each = named.each } })))
+outcome_named state session (drop_alignment name) sound named =
+    through (alignment_named state name) _ (λ pieces.
+    through (unless (not (some_view state (names_alignment name))) InUse) _ (λ unused.
     through (may_change state) _ (λ change. record { named = record { each = named.each } })))
 outcome_named state session (drop_referent route name) sound named = dropped_named state route name named
 outcome_named state session (insert table route place row) sound named = inserted_named state table route place row named

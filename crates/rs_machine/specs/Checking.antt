@@ -1,7 +1,7 @@
 -- The checks of a query, and the query with its names looked up.
 --
--- Three passes: each name of a table or view, from the left; the size of the query with its views opened; then its
--- nodes, operands before the node, from the left, a view as its query in its place.
+-- Three passes: each name of a table or view, then each of an alignment, from the left; the size of the query with its
+-- views opened; then its nodes, operands before the node, from the left, a view as its query in its place.
 use Rattle.std.specs.Prelude.{ℕ, suc, ◌+◌, Bool, true, false, not, ◌&&◌, ◌||◌, nat_le, List, [], ◌∷◌, length, Option, Some, None, Result, Ok, if◌then◌else◌}
 use Rattle.std.specs.List.{list_any}
 use Rattle.rs_measure.specs.declared.refusal.Refusal.{Refusal}
@@ -13,12 +13,12 @@ use Rattle.rs_value.specs.Row.{Datum, null, number, text, Row}
 use Rattle.rs_facts.specs.Fact.{Name}
 use Rattle.rs_facts.specs.Insert.{same_name}
 use Rattle.rs_facts.specs.Condition as conditions
-use Rattle.rs_facts.specs.Query.{Column, column_at, Window, on_route, between, Query, table_rows, where_rows, dissolve_rows, rename_column, overlay_rows, cover_rows, merge_rows, minus_rows, window_rows, kind_of, columns_of}
-use Rattle.rs_syntax.specs.Tree.{WindowTree, whole_route, part_of_route, OperandTree, column_named, written_value, ConditionTree, compare, is_null, is_not_null, negated, bracketed, both, either, QueryTree, named, filtered, dissolved, renamed, overlaid, covered, merged, subtracted, windowed}
+use Rattle.rs_facts.specs.Query.{Column, column_at, Window, on_route, between, Query, table_rows, where_rows, dissolve_rows, rename_column, overlay_rows, cover_rows, merge_rows, minus_rows, window_rows, transform_rows, kind_of, columns_of}
+use Rattle.rs_syntax.specs.Tree.{WindowTree, whole_route, part_of_route, OperandTree, column_named, written_value, ConditionTree, compare, is_null, is_not_null, negated, bracketed, both, either, QueryTree, named, filtered, dissolved, renamed, overlaid, covered, merged, subtracted, windowed, transformed}
 use Rattle.rs_machine.specs.declared.limits.TheConstants.{NODES, DEPTH}
-use Rattle.rs_machine.specs.State.{State, world_of}
-use Rattle.rs_machine.specs.Checks.{◌>>=◌, unless, found, route_named, table_named, has_table_or_view, span_on, same_kind, some_name_twice, column_names}
-use Rattle.rs_machine.specs.Opening.{names_in, opened, nodes, depth}
+use Rattle.rs_machine.specs.State.{State, world_of, has}
+use Rattle.rs_machine.specs.Checks.{◌>>=◌, unless, found, route_named, table_named, alignment_named, has_table_or_view, span_on, same_kind, some_name_twice, column_names}
+use Rattle.rs_machine.specs.Opening.{names_in, alignments_in, opened, nodes, depth}
 
 -- ---- columns by name
 
@@ -204,6 +204,12 @@ names_known state (name ∷ names) = do
   _ ← unless (has_table_or_view state name) NoSuchName
   names_known state names
 
+abbrev pub alignments_known : State → List Name → Result (Unit {0}) Refusal
+alignments_known state [] = Ok tt
+alignments_known state (name ∷ names) = do
+  _ ← unless (has state.alignments name) NoSuchName
+  alignments_known state names
+
 -- a query whose views are opened, not too large
 abbrev pub fits_limits : QueryTree → Bool
 fits_limits query = nat_le (nodes query) NODES && nat_le (depth query) DEPTH
@@ -244,10 +250,15 @@ nodes_checked state (windowed operand window) = do
   query ← nodes_checked state operand
   located ← window_checked state window
   Ok (window_rows query located)
+nodes_checked state (transformed operand alignment) = do
+  query ← nodes_checked state operand
+  pieces ← alignment_named state alignment
+  Ok (transform_rows query alignment pieces)
 
 -- the query with its names looked up, or the first refusal
 abbrev pub checked : State → QueryTree → Result Query Refusal
 checked state query = do
   _ ← names_known state (names_in query)
+  _ ← alignments_known state (alignments_in query)
   _ ← unless (fits_limits (opened state.views query)) Limit
   nodes_checked state (opened state.views query)

@@ -1,19 +1,19 @@
 -- What is looked at before a command takes effect. The first check that fails is the refusal.
-use Rattle.std.specs.Prelude.{ℕ, ◌+◌, Bool, true, false, ◌||◌, nat_lt, List, [], ◌∷◌, Option, Some, None, Result, Ok, Err, map, if◌then◌else◌}
+use Rattle.std.specs.Prelude.{ℕ, ◌+◌, ◌-◌, Bool, true, false, ◌&&◌, ◌||◌, nat_le, nat_lt, List, [], ◌∷◌, Option, Some, None, Result, Ok, Err, map, if◌then◌else◌}
 use Rattle.std.specs.List.{list_any}
 use Rattle.std.specs.FinMap as names
 use Rattle.rs_measure.specs.declared.refusal.Refusal.{Refusal}
-use Rattle.rs_measure.specs.declared.refusal.Refusal.TheVariants.{NoSuchRoute, NoSuchName, EmptySpan}
+use Rattle.rs_measure.specs.declared.refusal.Refusal.TheVariants.{NoSuchRoute, NoSuchName, OutsideTheRoute, EmptySpan}
 use Rattle.rs_methods.specs.Position.{PositionExpression, start_name, located}
 use Rattle.rs_value.specs.declared.column.Kind.{Kind}
 use Rattle.rs_value.specs.declared.column.Kind.TheVariants.{Point, Line}
 use Rattle.rs_value.specs.declared.column.ColumnType.{ColumnType}
 use Rattle.rs_value.specs.Row.{Row}
 use Rattle.rs_value.specs.Fitting.{misfit}
-use Rattle.rs_facts.specs.Fact.{Name}
+use Rattle.rs_facts.specs.Fact.{Name, Names}
 use Rattle.rs_facts.specs.Insert.{same_name}
-use Rattle.rs_facts.specs.Query.{RouteEnds, Column, Table}
-use Rattle.rs_syntax.specs.Tree.{EventLocationTree, along, at_point, WindowTree, whole_route, part_of_route, QueryTree}
+use Rattle.rs_facts.specs.Query.{RouteEnds, Column, Table, Piece}
+use Rattle.rs_syntax.specs.Tree.{EventLocationTree, along, at_point, WindowTree, whole_route, part_of_route, PieceTree, QueryTree}
 use Rattle.rs_machine.specs.State.{State, has}
 
 -- one check after another, up to the first that fails
@@ -43,6 +43,9 @@ table_named state name = found (names.get state.tables name) NoSuchName
 
 abbrev pub view_named : State → Name → Result QueryTree Refusal
 view_named state name = found (names.get state.views name) NoSuchName
+
+abbrev pub alignment_named : State → Name → Result (List Piece) Refusal
+alignment_named state name = found (names.get state.alignments name) NoSuchName
 
 -- tables and views share their names
 abbrev pub has_table_or_view : State → Name → Bool
@@ -91,6 +94,40 @@ window_span state ends (part_of_route route from to) = span_on state route ends 
 abbrev pub window_route : WindowTree → Name
 window_route (whole_route route) = route
 window_route (part_of_route route from to) = route
+
+-- ---- pieces of alignments
+
+-- from the route's start to its end
+abbrev pub is_on_route : RouteEnds → ℕ → Bool
+is_on_route ends k = nat_le ends.start k && nat_le k ends.finish
+
+abbrev pub piece_of : PieceTree → Piece
+piece_of piece = record { from_route = piece.from_route; from = piece.from; to = piece.to; onto_route = piece.onto_route; onto = piece.onto }
+
+-- The part lies on the first route and all of it on the second; of a part that ends before it begins, the place alone at
+-- which it is put.
+abbrev pub piece_lies : RouteEnds → RouteEnds → PieceTree → Bool
+piece_lies first second piece = is_on_route first piece.from && is_on_route first piece.to
+    && is_on_route second piece.onto && is_on_route second (piece.onto + (piece.to - piece.from))
+
+-- the route that it is of, the route onto which it is carried, its places, and then that some of it is carried
+abbrev pub piece_checked : Names RouteEnds → PieceTree → Result Piece Refusal
+piece_checked routes piece = do
+  first ← found (names.get routes piece.from_route) NoSuchRoute
+  second ← found (names.get routes piece.onto_route) NoSuchRoute
+  _ ← unless (piece_lies first second piece) OutsideTheRoute
+  _ ← unless (nat_lt piece.from piece.to) EmptySpan
+  Ok (piece_of piece)
+
+-- each piece in turn
+abbrev pub pieces_checked : Names RouteEnds → List PieceTree → Result (List Piece) Refusal
+pieces_checked routes [] = Ok []
+pieces_checked routes (piece ∷ pieces) = do
+  first ← piece_checked routes piece
+  others ← pieces_checked routes pieces
+  Ok (first ∷ others)
+
+-- ---- names and columns
 
 abbrev pub some_name_twice : List Name → Bool
 some_name_twice [] = false

@@ -12,13 +12,14 @@ use Rattle.rs_value.specs.declared.column.TheConstants.{COLUMNS}
 use Rattle.rs_value.specs.Row.{Row}
 use Rattle.rs_value.specs.Values.{IsRowOf}
 use Rattle.rs_facts.specs.Fact.{Name, Names, contains}
-use Rattle.rs_facts.specs.Query.{RouteEnds, Column, Table}
+use Rattle.rs_facts.specs.Query.{RouteEnds, Column, Table, Piece}
+use Rattle.rs_facts.specs.WellFormed.{ArePiecesOn}
 use Rattle.rs_syntax.specs.Sound.{IsName, AreColumns, IsQuery}
 use Rattle.rs_syntax.specs.Tree.{WindowTree, whole_route, part_of_route, QueryTree}
-use Rattle.rs_machine.specs.declared.limits.TheConstants.{ROUTES, REFERENTS, TABLES, VIEWS, NODES, DEPTH, CHANGES}
+use Rattle.rs_machine.specs.declared.limits.TheConstants.{ROUTES, REFERENTS, TABLES, VIEWS, ALIGNMENTS, PIECES, NODES, DEPTH, CHANGES}
 use Rattle.rs_machine.specs.State.{State, has}
 use Rattle.rs_machine.specs.Checks.{has_table_or_view, has_referent, column_names, column_types}
-use Rattle.rs_machine.specs.Opening.{names_in, windows_in, opened, nodes, depth, AreInOrder}
+use Rattle.rs_machine.specs.Opening.{names_in, alignments_in, windows_in, opened, nodes, depth, AreInOrder}
 use Rattle.rs_machine.specs.ReferentNames.{AreNamed}
 
 -- what stands under each name is so
@@ -98,15 +99,29 @@ abbrev pub IsWindowOf : State → WindowTree → Type 0
 IsWindowOf state (whole_route route) = IsTrue (has state.routes route)
 IsWindowOf state (part_of_route route from to) = IsTrue (has state.routes route) × HasItsReferent state route from × HasItsReferent state route to
 
+-- each of these is an alignment
+abbrev pub AreAlignments : State → List Name → Type 0
+AreAlignments state names = AllByRecursion (λ name. IsTrue (has state.alignments name)) names
+
 -- A view: its name is no table's, what it names is there, and with its views opened it is not too large.
 pub record IsView (state : State) (name : Name) (query : QueryTree) : Type 0 where
   pub named : IsName name
   pub sound : IsQuery query
   pub no_table : has state.tables name ≡ false
   pub known : AreKnown state (names_in query)
+  pub alignments : AreAlignments state (alignments_in query)
   pub windows : AllByRecursion (IsWindowOf state) (windows_in query)
   pub few_nodes : nodes (opened state.views query) ≤ NODES
   pub not_deep : depth (opened state.views query) ≤ DEPTH
+
+-- ---- alignments
+
+-- from 1 to PIECES pieces, each of a part of a route that is there, carried to a place on a route that is there
+pub record IsAlignment (routes : Names RouteEnds) (name : Name) (pieces : List Piece) : Type 0 where
+  pub named : IsName name
+  pub some : 1 ≤ length pieces
+  pub few : length pieces ≤ PIECES
+  pub lie : ArePiecesOn routes pieces
 
 -- ---- the state
 
@@ -116,6 +131,7 @@ pub record IsWithinLimits (state : State) : Type 0 where
   pub referents : (route : Name) → names.len (state.referents route) ≤ REFERENTS
   pub tables : names.len state.tables ≤ TABLES
   pub views : names.len state.views ≤ VIEWS
+  pub alignments : names.len state.alignments ≤ ALIGNMENTS
   pub changes : state.changes ≤ CHANGES
 
 -- What is so of every state.
@@ -126,4 +142,5 @@ pub record IsLawful (state : State) : Type 0 where
   pub tables : Each state.tables (IsTable state.routes)
   pub views : Each state.views (IsView state)
   pub view_order : AreInOrder state.views
+  pub alignments : Each state.alignments (IsAlignment state.routes)
   pub limits : IsWithinLimits state

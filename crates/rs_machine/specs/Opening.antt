@@ -5,7 +5,8 @@ use Rattle.std.specs.FinMap as names
 use Rattle.rs_methods.specs.Position.{PositionExpression, absolute, beyond, before, interpolative}
 use Rattle.rs_facts.specs.Fact.{Name, Names}
 use Rattle.rs_facts.specs.Insert.{same_name}
-use Rattle.rs_syntax.specs.Tree.{WindowTree, whole_route, part_of_route, QueryTree, named, filtered, dissolved, renamed, overlaid, covered, merged, subtracted, windowed}
+use Rattle.rs_facts.specs.Query.{Piece}
+use Rattle.rs_syntax.specs.Tree.{WindowTree, whole_route, part_of_route, QueryTree, named, filtered, dissolved, renamed, overlaid, covered, merged, subtracted, windowed, transformed}
 use Rattle.rs_machine.specs.State.{State}
 
 -- ---- what a query names
@@ -21,6 +22,20 @@ names_in (covered a b) = names_in a ++ names_in b
 names_in (merged a b) = names_in a ++ names_in b
 names_in (subtracted a b) = names_in a ++ names_in b
 names_in (windowed query window) = names_in query
+names_in (transformed query alignment) = names_in query
+
+-- the alignments, from the left, those inside first
+abbrev pub alignments_in : QueryTree → List Name
+alignments_in (named name) = []
+alignments_in (filtered query condition) = alignments_in query
+alignments_in (dissolved query columns) = alignments_in query
+alignments_in (renamed query from to) = alignments_in query
+alignments_in (overlaid a b) = alignments_in a ++ alignments_in b
+alignments_in (covered a b) = alignments_in a ++ alignments_in b
+alignments_in (merged a b) = alignments_in a ++ alignments_in b
+alignments_in (subtracted a b) = alignments_in a ++ alignments_in b
+alignments_in (windowed query window) = alignments_in query
+alignments_in (transformed query alignment) = alignments_in query ++ alignment ∷ []
 
 -- the windows, from the left, those inside first
 abbrev pub windows_in : QueryTree → List WindowTree
@@ -33,6 +48,7 @@ windows_in (covered a b) = windows_in a ++ windows_in b
 windows_in (merged a b) = windows_in a ++ windows_in b
 windows_in (subtracted a b) = windows_in a ++ windows_in b
 windows_in (windowed query window) = windows_in query ++ window ∷ []
+windows_in (transformed query alignment) = windows_in query
 
 -- ---- opening
 
@@ -47,6 +63,7 @@ opened_once views (covered a b) = covered (opened_once views a) (opened_once vie
 opened_once views (merged a b) = merged (opened_once views a) (opened_once views b)
 opened_once views (subtracted a b) = subtracted (opened_once views a) (opened_once views b)
 opened_once views (windowed query window) = windowed (opened_once views query) window
+opened_once views (transformed query alignment) = transformed (opened_once views query) alignment
 
 abbrev pub opened_times : ℕ → Names QueryTree → QueryTree → QueryTree
 opened_times zero views query = query
@@ -77,6 +94,7 @@ nodes (covered a b) = nodes a + nodes b + 1
 nodes (merged a b) = nodes a + nodes b + 1
 nodes (subtracted a b) = nodes a + nodes b + 1
 nodes (windowed query window) = nodes query + 1
+nodes (transformed query alignment) = nodes query + 1
 
 -- a table has depth 1, an operator one more than its deepest operand
 abbrev pub depth : QueryTree → ℕ
@@ -89,8 +107,9 @@ depth (covered a b) = max (depth a) (depth b) + 1
 depth (merged a b) = max (depth a) (depth b) + 1
 depth (subtracted a b) = max (depth a) (depth b) + 1
 depth (windowed query window) = depth query + 1
+depth (transformed query alignment) = depth query + 1
 
--- ---- what views name
+-- ---- what views and alignments name
 
 -- whether some view's query is so
 abbrev pub some_view : State → (QueryTree → Bool) → Bool
@@ -99,6 +118,10 @@ some_view state test = list_any (λ view. test view.1) (names.entries state.view
 -- whether a table or view of this name is named
 abbrev pub names_query : Name → QueryTree → Bool
 names_query name query = list_any (same_name name) (names_in query)
+
+-- whether the alignment of this name is named
+abbrev pub names_alignment : Name → QueryTree → Bool
+names_alignment name query = list_any (same_name name) (alignments_in query)
 
 abbrev pub window_on : Name → WindowTree → Bool
 window_on name (whole_route route) = same_name name route
@@ -121,3 +144,11 @@ window_by route name (part_of_route other from to) = same_name route other && (p
 -- whether a window on this route names this referent
 abbrev pub names_referent : Name → Name → QueryTree → Bool
 names_referent route name query = list_any (window_by route name) (windows_in query)
+
+-- whether a part of the route is carried, or something onto it
+abbrev pub piece_on : Name → Piece → Bool
+piece_on route piece = same_name route piece.from_route || same_name route piece.onto_route
+
+-- whether some alignment has a piece on the route
+abbrev pub some_piece_on : State → Name → Bool
+some_piece_on state route = list_any (λ alignment. list_any (piece_on route) alignment.1) (names.entries state.alignments)

@@ -1,5 +1,5 @@
 -- The step of the reference machine: one command of one session.
-use Rattle.std.specs.Prelude.{ℕ, ◌+◌, Bool, not, ◌||◌, nat_le, nat_lt, List, [], ◌∷◌, length, Option, Result, Ok, map, flat_map, if◌then◌else◌}
+use Rattle.std.specs.Prelude.{ℕ, ◌+◌, Bool, not, ◌&&◌, ◌||◌, nat_le, nat_lt, List, [], ◌∷◌, length, Option, Result, Ok, map, flat_map, if◌then◌else◌}
 use Rattle.std.specs.List.{list_any}
 use Rattle.std.specs.FinMap as names
 use Rattle.rs_measure.specs.declared.refusal.Refusal.{Refusal}
@@ -13,16 +13,16 @@ use Rattle.rs_facts.specs.Fact.{Name, Names, no_facts, thousandths}
 use Rattle.rs_facts.specs.Insert.{same_name, after_insert, new_facts}
 use Rattle.rs_facts.specs.Remove.{after_remove, removed_facts}
 use Rattle.rs_facts.specs.Operators.{has_none}
-use Rattle.rs_facts.specs.Query.{RouteEnds, Column, Table, Query, rows_at, kind_of}
+use Rattle.rs_facts.specs.Query.{RouteEnds, Column, Table, Piece, Query, rows_at, kind_of}
 use Rattle.rs_facts.specs.Runs.{Stretch, runs_of}
 use Rattle.rs_facts.specs.LineText.{line_of}
 use Rattle.rs_facts.specs.Totals.{Along, totalled}
 use Rattle.rs_facts.specs.TotalText.{total_text}
-use Rattle.rs_syntax.specs.Tree.{EventLocationTree, WindowTree, ConditionTree, QueryTree, CommandTree, define_route, define_table, define_referent, define_view, move_referent, drop_route, drop_table, drop_view, drop_referent, insert, remove, translate, select, total}
-use Rattle.rs_machine.specs.declared.limits.TheConstants.{ROUTES, REFERENTS, TABLES, VIEWS, CHANGES}
+use Rattle.rs_syntax.specs.Tree.{EventLocationTree, WindowTree, PieceTree, ConditionTree, QueryTree, CommandTree, define_route, define_table, define_referent, define_view, define_alignment, move_referent, drop_route, drop_table, drop_view, drop_alignment, drop_referent, insert, remove, translate, select, total}
+use Rattle.rs_machine.specs.declared.limits.TheConstants.{ROUTES, REFERENTS, TABLES, VIEWS, ALIGNMENTS, PIECES, CHANGES}
 use Rattle.rs_machine.specs.State.{State, RowText, world_of, has}
-use Rattle.rs_machine.specs.Checks.{◌>>=◌, unless, route_named, table_named, view_named, has_table_or_view, has_referent, position_on, event_span, location_kind, window_span, window_route, same_kind, some_name_twice, column_names, row_fits}
-use Rattle.rs_machine.specs.Opening.{some_view, names_query, names_route, names_referent}
+use Rattle.rs_machine.specs.Checks.{◌>>=◌, unless, route_named, table_named, view_named, alignment_named, pieces_checked, has_table_or_view, has_referent, position_on, event_span, location_kind, window_span, window_route, same_kind, some_name_twice, column_names, row_fits}
+use Rattle.rs_machine.specs.Opening.{some_view, names_query, names_alignment, names_route, names_referent, some_piece_on}
 use Rattle.rs_machine.specs.Checking.{checked, removal_checked, columns_in, group_checked, summed_checked}
 
 -- what an accepted command answers, and the state after it
@@ -89,6 +89,20 @@ view_defined state name query = do
   _ ← may_change state
   Ok (counted 0 (with_view state name query))
 
+abbrev pub with_alignment : State → Name → List Piece → State
+with_alignment state name pieces = record state {
+  alignments = names.insert state.alignments name pieces;
+  changes = state.changes + 1;
+}
+
+abbrev pub alignment_defined : State → Name → List PieceTree → Result Effect Refusal
+alignment_defined state name written = do
+  _ ← unless (not (has state.alignments name)) NameTaken
+  _ ← unless (nat_lt (names.len state.alignments) ALIGNMENTS && nat_le (length written) PIECES) Limit
+  pieces ← pieces_checked state.routes written
+  _ ← may_change state
+  Ok (counted 0 (with_alignment state name pieces))
+
 -- ---- what is dropped
 
 -- whether the table has a fact on the route
@@ -113,7 +127,7 @@ without_route state name = record state {
 abbrev pub route_dropped : State → Name → Result Effect Refusal
 route_dropped state name = do
   ends ← route_named state name
-  _ ← unless (not (some_table state (has_fact_on name ends) || some_view state (names_route name))) InUse
+  _ ← unless (not (some_table state (has_fact_on name ends) || some_piece_on state name || some_view state (names_route name))) InUse
   _ ← may_change state
   Ok (counted 0 (without_route state name))
 
@@ -136,6 +150,16 @@ view_dropped state name = do
   _ ← unless (not (some_view state (names_query name))) InUse
   _ ← may_change state
   Ok (counted 0 (without_view state name))
+
+abbrev pub without_alignment : State → Name → State
+without_alignment state name = record state { alignments = names.remove state.alignments name; changes = state.changes + 1 }
+
+abbrev pub alignment_dropped : State → Name → Result Effect Refusal
+alignment_dropped state name = do
+  _ ← alignment_named state name
+  _ ← unless (not (some_view state (names_alignment name))) InUse
+  _ ← may_change state
+  Ok (counted 0 (without_alignment state name))
 
 -- ---- referents
 
@@ -250,10 +274,12 @@ outcome state session (define_route name start finish) = route_defined state nam
 outcome state session (define_table kind name columns) = table_defined state kind name columns
 outcome state session (define_referent route name position) = referent_defined state route name position
 outcome state session (define_view name query text) = view_defined state name query
+outcome state session (define_alignment name pieces) = alignment_defined state name pieces
 outcome state session (move_referent route name position) = referent_moved state route name position
 outcome state session (drop_route name) = route_dropped state name
 outcome state session (drop_table name) = table_dropped state name
 outcome state session (drop_view name) = view_dropped state name
+outcome state session (drop_alignment name) = alignment_dropped state name
 outcome state session (drop_referent route name) = referent_dropped state route name
 outcome state session (insert table route place row) = row_inserted state table route place row
 outcome state session (remove table window condition) = rows_removed state table window condition

@@ -1,11 +1,11 @@
-//! The limits of the machine: how many routes, referents, tables, views, changes, sessions and bytes of a line there may
-//! be, and how large a query may be.
+//! The limits of the machine: how many routes, referents, tables, views, alignments, changes, sessions and bytes of a line
+//! there may be, and how large a query may be.
 //!
 //! Each is written here once; code and definitions use the same constant, so they cannot differ. A law says which numbers
 //! they are.
 
 ghost use Rattle.std.specs.Prelude.{◌≡◌, ◌-◌, ◌^◌};
-ghost use Rattle.rs_machine.specs.declared.limits.TheConstants.{ROUTES, REFERENTS, TABLES, VIEWS, NODES, DEPTH, CHANGES, SESSIONS, LINE_BYTES};
+ghost use Rattle.rs_machine.specs.declared.limits.TheConstants.{ROUTES, REFERENTS, TABLES, VIEWS, ALIGNMENTS, PIECES, NODES, DEPTH, CHANGES, SESSIONS, LINE_BYTES};
 
 /// How many routes there may be.
 pub const ROUTES: usize = 4_096;
@@ -18,6 +18,12 @@ pub const TABLES: usize = 128;
 
 /// How many views there may be.
 pub const VIEWS: usize = 128;
+
+/// How many alignments there may be.
+pub const ALIGNMENTS: usize = 64;
+
+/// How many pieces an alignment may have.
+pub const PIECES: usize = 64;
 
 /// How many nodes a query may have once its views are opened: its operators and its tables.
 pub const NODES: usize = 256;
@@ -40,6 +46,8 @@ pub fn limits_are_those()
     ensures referents { REFERENTS ≡ 1000 }
     ensures tables { TABLES ≡ 128 }
     ensures views { VIEWS ≡ 128 }
+    ensures alignments { ALIGNMENTS ≡ 64 }
+    ensures pieces { PIECES ≡ 64 }
     ensures nodes { NODES ≡ 256 }
     ensures depth { DEPTH ≡ 32 }
     ensures changes { CHANGES ≡ 2 ^ 63 - 1 }

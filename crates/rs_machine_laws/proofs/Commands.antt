@@ -1,8 +1,8 @@
 -- Each accepted command leaves a lawful state.
-use Rattle.std.proofs.Common.{◌≡◌, ◌∙◌, ℕ, ◌+◌, ◌≤◌, Bool, true, false, ◌||◌, List, Option, Some, is_some, length, not, Result, Ok, Err, IfOk, refl, sym, ap, subst, arith}
+use Rattle.std.proofs.Common.{◌≡◌, ◌∙◌, ℕ, ◌+◌, ◌≤◌, Bool, true, false, ◌&&◌, ◌||◌, List, Option, Some, is_some, length, not, Result, Ok, Err, IfOk, refl, sym, ap, subst, arith}
 use Rattle.std.specs.Prelude.{if◌then◌else◌, nat_le, nat_lt}
 use Rattle.std.specs.FinMap as names
-use Rattle.std.proofs.lemmas.Bool.{ltb-true, leb-true}
+use Rattle.std.proofs.lemmas.Bool.{ltb-true, leb-true, and_parts}
 use Rattle.rs_measure.specs.declared.refusal.Refusal.{Refusal}
 use Rattle.rs_measure.specs.declared.refusal.Refusal.TheVariants.{InUse, NameTaken, NoSuchRoute, NoSuchName, NoSuchReferent, Limit, EmptySpan, PointOrLineWanted, ColumnTwice}
 use Rattle.rs_value.specs.declared.column.Kind.{Kind}
@@ -13,21 +13,22 @@ use Rattle.rs_facts.specs.Insert.{same_name}
 use Rattle.rs_facts.specs.Totals.{totalled}
 use Rattle.rs_facts.specs.Query.{RouteEnds, Column, Table}
 use Rattle.rs_methods.specs.Position.{PositionExpression, start_name}
-use Rattle.rs_syntax.specs.Tree.{EventLocationTree, WindowTree, ConditionTree, QueryTree, CommandTree, define_route, define_table, define_referent, define_view, move_referent, drop_route, drop_table, drop_view, drop_referent, insert, remove, translate, select, total}
+use Rattle.rs_syntax.specs.Tree.{EventLocationTree, WindowTree, PieceTree, ConditionTree, QueryTree, CommandTree, define_route, define_table, define_referent, define_view, define_alignment, move_referent, drop_route, drop_table, drop_view, drop_alignment, drop_referent, insert, remove, translate, select, total}
 use Rattle.rs_syntax.specs.Sound.{IsName, IsQuery, IsSound}
 use Rattle.rs_machine.specs.State.{State, has}
-use Rattle.rs_machine.specs.Checks.{◌>>=◌, unless, route_named, table_named, view_named, has_table_or_view, has_referent, position_on, event_span, location_kind, window_span, window_route, same_kind, some_name_twice, column_names, row_fits}
-use Rattle.rs_machine.specs.Opening.{some_view, names_query, names_route, names_referent}
+use Rattle.rs_machine.specs.Checks.{◌>>=◌, unless, route_named, table_named, view_named, alignment_named, pieces_checked, has_table_or_view, has_referent, position_on, event_span, location_kind, window_span, window_route, same_kind, some_name_twice, column_names, row_fits}
+use Rattle.rs_machine.specs.Opening.{some_view, names_query, names_alignment, names_route, names_referent, some_piece_on}
 use Rattle.rs_machine.specs.Checking.{checked, removal_checked, columns_in, group_checked, summed_checked}
-use Rattle.rs_machine.specs.declared.limits.TheConstants.{ROUTES, REFERENTS, TABLES, VIEWS, CHANGES}
-use Rattle.rs_machine.specs.Step.{Effect, may_change, with_route, with_table, with_facts_along, without_facts, without_route, empty_table, has_fact_on, some_table, referents_at, with_referents, route_defined, route_dropped, table_defined, table_dropped, view_defined, view_dropped, referent_defined, referent_moved, referent_dropped, row_inserted, rows_removed, rows_along, outcome}
-use Rattle.rs_machine.specs.Lawful.{Each, IsRoute, IsPlaceOf, MayHoldAt, IsReferent, IsTable, IsView, IsLawful}
+use Rattle.rs_machine.specs.declared.limits.TheConstants.{ROUTES, REFERENTS, TABLES, VIEWS, ALIGNMENTS, PIECES, CHANGES}
+use Rattle.rs_machine.specs.Step.{Effect, may_change, with_route, with_table, with_facts_along, without_facts, without_route, empty_table, has_fact_on, some_table, referents_at, with_referents, route_defined, route_dropped, table_defined, table_dropped, view_defined, view_dropped, alignment_defined, alignment_dropped, referent_defined, referent_moved, referent_dropped, row_inserted, rows_removed, rows_along, outcome}
+use Rattle.rs_machine.specs.Lawful.{Each, IsRoute, IsPlaceOf, MayHoldAt, IsReferent, IsTable, IsView, IsAlignment, IsLawful}
 use Rattle.rs_machine_laws.proofs.Names.{either_false, each_empty, each_weaker, each_inserted, each_removed, len_none, len_more, len_same, len_less, same_name-true, same_name-false, same_name-back}
 use Rattle.rs_machine_laws.proofs.Checked.{passed, not_true, was_found, or_right, position-lies, event-lies, same_kind-same, distinct}
 use Rattle.rs_machine_laws.proofs.Rows.{row_fits-row}
 use Rattle.rs_machine_laws.proofs.Facts.{referent-more, table-more, table-empty, row-along, table-less, table-route_gone, referent-route_gone}
 use Rattle.rs_machine_laws.proofs.Windows.{checks-passed}
-use Rattle.rs_machine_laws.proofs.Views.{none_there, table_no_view, views-route_more, views-route_gone, views-table_put, views-table_gone, order-view_more, views-view_more, order-view_gone, views-view_gone, views-referent_put, views-referent_gone}
+use Rattle.rs_machine_laws.proofs.Alignments.{pieces-made, alignments-more, alignments-gone}
+use Rattle.rs_machine_laws.proofs.Views.{none_there, table_no_view, views-route_more, views-route_gone, views-table_put, views-table_gone, order-view_more, views-view_more, order-view_gone, views-view_gone, views-alignment_more, views-alignment_gone, views-referent_put, views-referent_gone}
 
 -- an accepted command leaves a lawful state
 pub record Keeps (result : Result Effect Refusal) : Type 0 where
@@ -54,11 +55,13 @@ route_added state name start finish lawful new is room change =
       tables = each_weaker state.tables (IsTable state.routes) (IsTable (names.insert state.routes name ends)) (table-more state.routes name ends new) lawful.tables;
       views = views-route_more state name start finish lawful;
       view_order = lawful.view_order;
+      alignments = alignments-more state name ends new lawful.alignments;
       limits = record {
         routes = len_more state.routes name ends ROUTES room;
         referents = lawful.limits.referents;
         tables = lawful.limits.tables;
         views = lawful.limits.views;
+        alignments = lawful.limits.alignments;
         changes = change;
       };
     }
@@ -77,21 +80,23 @@ route_defined-lawful state name start finish sound lawful =
     }))))
 
 -- a route without facts on which no view's window is
-route_gone : (state : State) (name : Name) (ends : RouteEnds) → IsLawful state → names.get state.routes name ≡ Some ends → some_table state (has_fact_on name ends) ≡ false → some_view state (names_route name) ≡ false
+route_gone : (state : State) (name : Name) (ends : RouteEnds) → IsLawful state → names.get state.routes name ≡ Some ends → some_table state (has_fact_on name ends) ≡ false → some_piece_on state name ≡ false → some_view state (names_route name) ≡ false
     → state.changes + 1 ≤ CHANGES → IsLawful (without_route state name)
 unfolding referents_at
-route_gone state name ends lawful there no_facts no_window change = record {
+route_gone state name ends lawful there no_facts no_pieces no_window change = record {
   routes = each_removed state.routes IsRoute name lawful.routes;
   referents_named = record { each = λ route. named_at route (same_name route name) };
   referents = λ route. lie_at route (same_name route name) refl;
   tables = λ q table at. table-route_gone state.routes name ends q table there (none_there (has_fact_on name ends) state.tables no_facts q table at) (lawful.tables q table at);
   views = views-route_gone state name lawful no_window;
   view_order = lawful.view_order;
+  alignments = alignments-gone state name no_pieces lawful.alignments;
   limits = record {
     routes = len_less state.routes name ROUTES lawful.limits.routes;
     referents = λ route. few_at route (same_name route name);
     tables = lawful.limits.tables;
     views = lawful.limits.views;
+    alignments = lawful.limits.alignments;
     changes = change;
   };
 }
@@ -111,10 +116,11 @@ route_gone state name ends lawful there no_facts no_window change = record {
 route_dropped-lawful : (state : State) (name : Name) → IsLawful state → Keeps (route_dropped state name)
 route_dropped-lawful state name lawful =
     through (route_named state name) _ (λ ends there.
-    through (unless (not (some_table state (has_fact_on name ends) || some_view state (names_route name))) InUse) _ (λ u unused.
+    through (unless (not (some_table state (has_fact_on name ends) || some_piece_on state name || some_view state (names_route name))) InUse) _ (λ u unused.
     through (may_change state) _ (λ v change.
-    let free = either_false (some_table state (has_fact_on name ends)) (some_view state (names_route name)) (not_true _ (passed _ InUse u unused)) in
-    record { lawful = route_gone state name ends lawful (was_found (names.get state.routes name) NoSuchRoute ends there) free.0 free.1 (one_change state v change) })))
+    let free = either_false (some_table state (has_fact_on name ends) || some_piece_on state name) (some_view state (names_route name)) (not_true _ (passed _ InUse u unused)) in
+    let none = either_false (some_table state (has_fact_on name ends)) (some_piece_on state name) free.0 in
+    record { lawful = route_gone state name ends lawful (was_found (names.get state.routes name) NoSuchRoute ends there) none.0 none.1 free.1 (one_change state v change) })))
 
 -- ---- tables
 
@@ -126,7 +132,8 @@ table_put state name table lawful no_view is few change = record {
   tables = each_inserted state.tables (IsTable state.routes) name table is lawful.tables;
   views = views-table_put state name table lawful no_view;
   view_order = lawful.view_order;
-  limits = record { routes = lawful.limits.routes; referents = lawful.limits.referents; tables = few; views = lawful.limits.views; changes = change };
+  alignments = lawful.alignments;
+  limits = record { routes = lawful.limits.routes; referents = lawful.limits.referents; tables = few; views = lawful.limits.views; alignments = lawful.limits.alignments; changes = change };
 }
 
 table_defined-lawful : (state : State) (kind : Kind) (name : Name) (columns : List Column) → IsSound (define_table kind name columns) → IsLawful state → Keeps (table_defined state kind name columns)
@@ -199,7 +206,8 @@ table_dropped-lawful state name lawful =
         tables = each_removed state.tables (IsTable state.routes) name lawful.tables;
         views = views-table_gone state name lawful (not_true (some_view state (names_query name)) (passed _ InUse u unused));
         view_order = lawful.view_order;
-        limits = record { routes = lawful.limits.routes; referents = lawful.limits.referents; tables = len_less state.tables name TABLES lawful.limits.tables; views = lawful.limits.views; changes = one_change state v change };
+        alignments = lawful.alignments;
+        limits = record { routes = lawful.limits.routes; referents = lawful.limits.referents; tables = len_less state.tables name TABLES lawful.limits.tables; views = lawful.limits.views; alignments = lawful.limits.alignments; changes = one_change state v change };
       };
     })))
 
@@ -219,9 +227,10 @@ view_defined-lawful state name query named sound lawful =
         referents_named = record { each = lawful.referents_named.each };
         referents = lawful.referents;
         tables = lawful.tables;
-        views = views-view_more state name query lawful none is.known named sound is.windows is.few_nodes is.not_deep;
+        views = views-view_more state name query lawful none is.known named sound is.alignments is.windows is.few_nodes is.not_deep;
         view_order = order-view_more state name query lawful none is.known;
-        limits = record { routes = lawful.limits.routes; referents = lawful.limits.referents; tables = lawful.limits.tables; views = len_more state.views name query VIEWS (passed _ Limit v room); changes = one_change state w change };
+        alignments = lawful.alignments;
+        limits = record { routes = lawful.limits.routes; referents = lawful.limits.referents; tables = lawful.limits.tables; views = len_more state.views name query VIEWS (passed _ Limit v room); alignments = lawful.limits.alignments; changes = one_change state w change };
       };
     }))))
 
@@ -240,7 +249,50 @@ view_dropped-lawful state name lawful =
         tables = lawful.tables;
         views = views-view_gone state name dropped lawful is_there free;
         view_order = order-view_gone state name dropped lawful is_there free;
-        limits = record { routes = lawful.limits.routes; referents = lawful.limits.referents; tables = lawful.limits.tables; views = len_less state.views name VIEWS lawful.limits.views; changes = one_change state v change };
+        alignments = lawful.alignments;
+        limits = record { routes = lawful.limits.routes; referents = lawful.limits.referents; tables = lawful.limits.tables; views = len_less state.views name VIEWS lawful.limits.views; alignments = lawful.limits.alignments; changes = one_change state v change };
+      };
+    })))
+
+-- ---- alignments
+
+alignment_defined-lawful : (state : State) (name : Name) (written : List PieceTree) → IsName name → 1 ≤ length written → IsLawful state → Keeps (alignment_defined state name written)
+alignment_defined-lawful state name written named some lawful =
+    through (unless (not (has state.alignments name)) NameTaken) _ (λ u new.
+    through (unless (nat_lt (names.len state.alignments) ALIGNMENTS && nat_le (length written) PIECES) Limit) _ (λ v room.
+    through (pieces_checked state.routes written) _ (λ pieces made.
+    through (may_change state) _ (λ w change.
+    let limits = and_parts (nat_lt (names.len state.alignments) ALIGNMENTS) (nat_le (length written) PIECES) (passed _ Limit v room) in
+    let are = pieces-made state.routes written pieces made in
+    let few = leb-true (length written) PIECES limits.1 in
+    let many = are.many in
+    record {
+      lawful = record {
+        routes = lawful.routes;
+        referents_named = record { each = lawful.referents_named.each };
+        referents = lawful.referents;
+        tables = lawful.tables;
+        views = views-alignment_more state name pieces lawful;
+        view_order = lawful.view_order;
+        alignments = each_inserted state.alignments (IsAlignment state.routes) name pieces (record { named = named; some = omega arith; few = omega arith; lie = are.lie }) lawful.alignments;
+        limits = record { routes = lawful.limits.routes; referents = lawful.limits.referents; tables = lawful.limits.tables; views = lawful.limits.views; alignments = len_more state.alignments name pieces ALIGNMENTS limits.0; changes = one_change state w change };
+      };
+    }))))
+
+alignment_dropped-lawful : (state : State) (name : Name) → IsLawful state → Keeps (alignment_dropped state name)
+alignment_dropped-lawful state name lawful =
+    through (alignment_named state name) _ (λ pieces there.
+    through (unless (not (some_view state (names_alignment name))) InUse) _ (λ u unused.
+    through (may_change state) _ (λ v change. record {
+      lawful = record {
+        routes = lawful.routes;
+        referents_named = record { each = lawful.referents_named.each };
+        referents = lawful.referents;
+        tables = lawful.tables;
+        views = views-alignment_gone state name lawful (not_true (some_view state (names_alignment name)) (passed _ InUse u unused));
+        view_order = lawful.view_order;
+        alignments = each_removed state.alignments (IsAlignment state.routes) name lawful.alignments;
+        limits = record { routes = lawful.limits.routes; referents = lawful.limits.referents; tables = lawful.limits.tables; views = lawful.limits.views; alignments = len_less state.alignments name ALIGNMENTS lawful.limits.alignments; changes = one_change state v change };
       };
     })))
 
@@ -257,11 +309,13 @@ referents_put state route referents lawful named are views few change = record {
   tables = lawful.tables;
   views = views;
   view_order = lawful.view_order;
+  alignments = lawful.alignments;
   limits = record {
     routes = lawful.limits.routes;
     referents = λ r. few_at r (same_name r route);
     tables = lawful.limits.tables;
     views = lawful.limits.views;
+    alignments = lawful.limits.alignments;
     changes = change;
   };
 }
@@ -346,9 +400,11 @@ outcome-lawful state session (define_table kind name columns) sound lawful = tab
 outcome-lawful state session (define_referent route name position) sound lawful = referent_defined-lawful state route name position sound.1 lawful
 outcome-lawful state session (move_referent route name position) sound lawful = referent_moved-lawful state route name position sound.1 lawful
 outcome-lawful state session (define_view name query text) sound lawful = view_defined-lawful state name query sound.0 sound.1 lawful
+outcome-lawful state session (define_alignment name pieces) sound lawful = alignment_defined-lawful state name pieces sound.0 sound.1 lawful
 outcome-lawful state session (drop_route name) sound lawful = route_dropped-lawful state name lawful
 outcome-lawful state session (drop_table name) sound lawful = table_dropped-lawful state name lawful
 outcome-lawful state session (drop_view name) sound lawful = view_dropped-lawful state name lawful
+outcome-lawful state session (drop_alignment name) sound lawful = alignment_dropped-lawful state name lawful
 outcome-lawful state session (drop_referent route name) sound lawful = referent_dropped-lawful state route name lawful
 outcome-lawful state session (insert table route place row) sound lawful = inserted-lawful state table route place row sound lawful
 outcome-lawful state session (remove table window condition) sound lawful = removed-lawful state table window condition lawful

@@ -6,6 +6,7 @@ mod Checked
 mod Windows
 mod Views
 mod Rows
+mod Alignments
 mod Facts
 mod Commands
 mod Lines

@@ -6,11 +6,11 @@ use Rattle.std.specs.FinMap.{get-empty}
 use Rattle.rs_measure.specs.declared.refusal.Refusal.{Refusal}
 use Rattle.rs_value.specs.Values.{is_text}
 use Rattle.rs_facts.specs.Fact.{name_cmp}
-use Rattle.rs_facts.specs.Query.{RouteEnds, Table}
+use Rattle.rs_facts.specs.Query.{RouteEnds, Table, Piece}
 use Rattle.rs_syntax.specs.Tree.{QueryTree, CommandTree}
 use Rattle.rs_syntax.specs.Verdict.{Reads}
 use Rattle.rs_syntax.specs.Sound.{IsSound}
-use Rattle.rs_machine.specs.declared.limits.TheConstants.{ROUTES, REFERENTS, TABLES, VIEWS}
+use Rattle.rs_machine.specs.declared.limits.TheConstants.{ROUTES, REFERENTS, TABLES, VIEWS, ALIGNMENTS}
 use Rattle.rs_machine.specs.State.{fresh}
 use Rattle.rs_machine.specs.Step.{Effect, outcome}
 use Rattle.rs_machine.specs.Served.{Machine, Reply, Answers, Served}
@@ -70,11 +70,13 @@ fresh-lawful = record {
   tables = each_empty _;
   views = each_empty _;
   view_order = none_in_order;
+  alignments = each_empty _;
   limits = record {
     routes = len_none RouteEnds ROUTES;
     referents = λ route. len_none ℕ REFERENTS;
     tables = len_none Table TABLES;
     views = len_none QueryTree VIEWS;
+    alignments = len_none (List Piece) ALIGNMENTS;
     changes = omega arith;
   };
 }

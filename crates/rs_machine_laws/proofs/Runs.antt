@@ -1,5 +1,5 @@
 -- What a well-formed query has in a lawful state lies on the routes, so its printed runs are the maximal ones.
-use Rattle.std.proofs.Common.{◌≡◌, ◌∙◌, ℕ, ◌+◌, ◌<◌, ◌≤◌, Bool, true, false, not, ◌&&◌, ◌||◌, List, ◌++◌, Option, Some, None, inl, inr, refl, sym, subst, arith}
+use Rattle.std.proofs.Common.{◌≡◌, ◌∙◌, ℕ, ◌+◌, ◌<◌, ◌≤◌, Bool, true, false, not, ◌&&◌, ◌||◌, List, ◌++◌, Option, Some, None, inl, inr, refl, sym, ap, subst, arith}
 use Rattle.std.specs.Prelude.{if◌then◌else◌}
 use Rattle.std.specs.List.{list_any}
 use Rattle.std.specs.FinMap as names
@@ -11,8 +11,9 @@ use Rattle.rs_facts.specs.Fact.{Name, Names, RowSet, none, contains, items}
 use Rattle.rs_facts.specs.Insert.{same_name, within}
 use Rattle.rs_facts.specs.Condition.{meets}
 use Rattle.rs_facts.specs.Operators as operators
-use Rattle.rs_facts.specs.Query.{RouteEnds, Table, Window, on_route, between, Query, table_rows, where_rows, dissolve_rows, rename_column, overlay_rows, cover_rows, merge_rows, minus_rows, window_rows, facts_of, table_kind, seen_through, overlaid_kind, rows_at, kind_of}
-use Rattle.rs_facts.specs.WellFormed.{IsWellFormed}
+use Rattle.rs_facts.specs.Query.{RouteEnds, Table, Window, on_route, between, Query, table_rows, where_rows, dissolve_rows, rename_column, overlay_rows, cover_rows, merge_rows, minus_rows, window_rows, transform_rows, facts_of, table_kind, seen_through, overlaid_kind, rows_at, kind_of}
+use Rattle.rs_facts.specs.WellFormed.{IsPieceOn, IsWellFormed}
+use Rattle.rs_facts.proofs.Transforming.{transformed-rows}
 use Rattle.rs_facts.specs.Runs.{AreRunsOf}
 use Rattle.rs_facts.specs.Laws.{GoingAlongGivesTheRuns}
 use Rattle.rs_facts.proofs.Rows.{same_row}
@@ -22,6 +23,7 @@ use Rattle.rs_machine.specs.State.{State, world_of}
 use Rattle.rs_machine.specs.Step.{printed_runs}
 use Rattle.rs_machine.specs.Lawful.{OnRoute, MayHoldAt, IsLawful}
 use Rattle.rs_machine_laws.proofs.Names.{false_true, some_same}
+use Rattle.rs_machine_laws.proofs.Lists.{of_each}
 use Rattle.rs_machine_laws.proofs.Facts.{upto_end}
 
 -- ---- where the operators' rows come from
@@ -77,6 +79,11 @@ overlaid_place Line Point k ends h = (h.0, omega (arith, h.1))
 overlaid_place Point Line k ends h = h
 overlaid_place Point Point k ends h = h
 
+-- below the end of a route both lines and points may hold
+inside_place : (kind : Kind) (k : ℕ) (ends : RouteEnds) → ends.start ≤ k → k < ends.finish → MayHoldAt kind k ends
+inside_place Line k ends low high = (low, high)
+inside_place Point k ends low high = (low, omega arith)
+
 table_rows-lie : (state : State) (name : Name) (found : Option Table) → names.get state.tables name ≡ found → IsLawful state → (route : Name) (k : ℕ) (row : Row)
     → contains (facts_of found route k) row ≡ true → OnRoute state.routes route (MayHoldAt (table_kind found) k)
 table_rows-lie state name (Some table) there lawful route k row held = ((lawful.tables name table there).facts route k row held).lies
@@ -109,6 +116,16 @@ module _ (state : State) (lawful : IsLawful state) (route : Name) (k : ℕ) wher
   ]
   lie (minus_rows a b) row is held = lie a row is.0 (and_parts (contains (here a) row) (not (contains (here b) row)) (sym (contains-without (here a) (here b) row) ∙ held)).0
   lie (window_rows a window) row is held = lie a row is (from_seen window route k (here a) row held)
+  lie (transform_rows a name pieces) row is held =
+      let one = (transformed-rows pieces (rows_at (world_of state) a) route k row).0 held in
+      let on = of_each (IsPieceOn state.routes) pieces one.piece is.1 one.of_pieces in
+      let from = one.is_carried.after in let upto = one.is_carried.before in let there = one.is_carried.there in
+      let start = on.onto_start in let finish = on.onto_finish in
+      record {
+        ends = on.second;
+        there = ap (names.get state.routes) (sym one.onto_route) ∙ on.second_there;
+        is_so = inside_place (kind_of (world_of state) a) k on.second (omega arith) (omega arith);
+      }
 
 pub rows-lie : (state : State) (query : Query) (route : Name) (k : ℕ) (row : Row) → IsLawful state → IsWellFormed (world_of state) query → contains (rows_at (world_of state) query route k) row ≡ true
     → OnRoute state.routes route (MayHoldAt (kind_of (world_of state) query) k)

@@ -8,15 +8,15 @@ use Rattle.std.specs.FinMap.{find, get-entries, get-remove}
 use Rattle.rs_methods.specs.Position.{PositionExpression, absolute, beyond, before, interpolative, start_name}
 use Rattle.rs_facts.specs.Fact.{Name, Names, name_cmp}
 use Rattle.rs_facts.specs.Insert.{same_name}
-use Rattle.rs_facts.specs.Query.{Table}
+use Rattle.rs_facts.specs.Query.{Table, Piece}
 use Rattle.rs_syntax.specs.Sound.{IsName, IsQuery}
 use Rattle.rs_syntax.specs.Tree.{WindowTree, whole_route, part_of_route, QueryTree}
 use Rattle.rs_machine.specs.declared.limits.TheConstants.{NODES, DEPTH}
 use Rattle.rs_machine.specs.State.{State, has}
 use Rattle.rs_machine.specs.Checks.{has_table_or_view, has_referent}
-use Rattle.rs_machine.specs.Opening.{names_in, windows_in, opened, nodes, depth, some_view, names_query, window_on, names_route, position_by, window_by, names_referent, AreInOrder}
-use Rattle.rs_machine.specs.Step.{referents_at, with_route, with_table, with_view, without_route, without_table, without_view, with_referents}
-use Rattle.rs_machine.specs.Lawful.{Each, AreKnown, HasItsReferent, IsWindowOf, IsView, IsLawful}
+use Rattle.rs_machine.specs.Opening.{names_in, alignments_in, windows_in, opened, nodes, depth, some_view, names_query, names_alignment, window_on, names_route, position_by, window_by, names_referent, AreInOrder}
+use Rattle.rs_machine.specs.Step.{referents_at, with_route, with_table, with_view, with_alignment, without_route, without_table, without_view, without_alignment, with_referents}
+use Rattle.rs_machine.specs.Lawful.{Each, AreKnown, AreAlignments, HasItsReferent, IsWindowOf, IsView, IsLawful}
 use Rattle.rs_machine.proofs.NameOrder.{name_cmp-total}
 use Rattle.rs_machine_laws.proofs.Names.{false_true, none_some, some_same, either_false, same_name-true, same_name-back, each_removed, at_inserted, AtInserted, inserted_other, at_removed, removed_other, has_inserted}
 use Rattle.rs_machine_laws.proofs.Lists.{all_weaker, all_both, none_pass}
@@ -40,13 +40,15 @@ none_there test things none name thing there = in_entries test (names.entries th
 
 -- ---- what makes a view
 
-view_kept : (old new : State) (name : Name) (query : QueryTree) → IsView old name query → has new.tables name ≡ false → AreKnown new (names_in query) → AllByRecursion (IsWindowOf new) (windows_in query)
+view_kept : (old new : State) (name : Name) (query : QueryTree) → IsView old name query → has new.tables name ≡ false → AreKnown new (names_in query) → AreAlignments new (alignments_in query)
+    → AllByRecursion (IsWindowOf new) (windows_in query)
     → opened new.views query ≡ opened old.views query → IsView new name query
-view_kept old new name query is no_table known windows opens = record {
+view_kept old new name query is no_table known alignments windows opens = record {
   named = is.named;
   sound = is.sound;
   no_table = no_table;
   known = known;
+  alignments = alignments;
   windows = windows;
   few_nodes = subst (λ q. nodes q ≤ NODES) (sym opens) is.few_nodes;
   not_deep = subst (λ q. depth q ≤ DEPTH) (sym opens) is.not_deep;
@@ -83,7 +85,7 @@ or_more_right false b c more is = more is
 pub views-route_more : (state : State) (name : Name) (start finish : ℕ) → IsLawful state → Each state.views (IsView (with_route state name start finish))
 views-route_more state name start finish lawful q query there =
     let is = lawful.views q query there in
-    view_kept state (with_route state name start finish) q query is is.no_table is.known
+    view_kept state (with_route state name start finish) q query is is.no_table is.known is.alignments
     (windows_kept state (with_route state name start finish) (λ route has_it. has_inserted state.routes name (record { start = start; finish = finish }) route has_it) (λ route referent has_it. has_it) query is.windows)
     refl
 
@@ -113,6 +115,7 @@ views-table_put state name table lawful no_view q query there =
     (ap is_some (inserted_other state.tables name table q (other_name state.views name q query no_view there)) ∙ is.no_table)
     (all_weaker (λ n. IsTrue (has_table_or_view state n)) (λ n. IsTrue (has_table_or_view new n))
     (λ n known. or_more (has state.tables n) (has (names.insert state.tables name table) n) (has state.views n) (has_inserted state.tables name table n) known) (names_in query) is.known)
+    is.alignments
     (windows_kept state new (λ route has_it. has_it) (λ route referent has_it. has_it) query is.windows)
     refl
 
@@ -135,6 +138,7 @@ views-table_gone state name lawful unused q query there =
     (all_both (λ n. IsTrue (has_table_or_view state n)) (λ n. same_name name n ≡ false) (λ n. IsTrue (has_table_or_view new n))
     (λ n known other. or_more (has state.tables n) (has (names.remove state.tables name) n) (has state.views n) (has_removed state.tables name n other) known)
     (names_in query) is.known (none_pass (same_name name) (names_in query) (none_there (names_query name) state.views unused q query there)))
+    is.alignments
     (windows_kept state new (λ route has_it. has_it) (λ route referent has_it. has_it) query is.windows)
     refl
 
@@ -178,16 +182,17 @@ module _ (state : State) (name : Name) (query : QueryTree) (lawful : IsLawful st
   at_view new q other (inl here) = subst (λ n. IsView more n other) (sym (same_name-true q name here.0)) (subst (IsView more name) here.1 new)
   at_view new q other (inr there) =
       let is = lawful.views q other there.1 in
-      view_kept state more q other is is.no_table (known_more other is.known) (windows_more other is.windows) (opens other (others q other there.1))
+      view_kept state more q other is is.no_table (known_more other is.known) is.alignments (windows_more other is.windows) (opens other (others q other there.1))
 
-  pub views-view_more : IsName name → IsQuery query → AllByRecursion (IsWindowOf state) (windows_in query) → nodes (opened state.views query) ≤ NODES → depth (opened state.views query) ≤ DEPTH
+  pub views-view_more : IsName name → IsQuery query → AreAlignments state (alignments_in query) → AllByRecursion (IsWindowOf state) (windows_in query) → nodes (opened state.views query) ≤ NODES → depth (opened state.views query) ≤ DEPTH
       → Each (names.insert state.views name query) (IsView more)
-  views-view_more named sound windows few_nodes not_deep q other there =
+  views-view_more named sound alignments windows few_nodes not_deep q other there =
       at_view (record {
         named = named;
         sound = sound;
         no_table = (either_false (has state.tables name) (has state.views name) none).0;
         known = known_more query known;
+        alignments = alignments;
         windows = windows_more query windows;
         few_nodes = subst (λ t. nodes t ≤ NODES) (sym (opens query (known_avoids state name query none known))) few_nodes;
         not_deep = subst (λ t. depth t ≤ DEPTH) (sym (opens query (known_avoids state name query none known))) not_deep;
@@ -213,8 +218,30 @@ module _ (state : State) (name : Name) (dropped : QueryTree) (lawful : IsLawful 
       (all_both (λ n. IsTrue (has_table_or_view state n)) (λ n. same_name name n ≡ false) (λ n. IsTrue (has_table_or_view less n))
       (λ n known other. or_more_right (has state.tables n) (has state.views n) (has (names.remove state.views name) n) (has_removed state.views name n other) known)
       (names_in query) is.known (unnamed q query old))
+      is.alignments
       (windows_kept state less (λ route has_it. has_it) (λ route referent has_it. has_it) query is.windows)
       (opened_less state.views name dropped there lawful.view_order (each_removed state.views (λ n q. Avoids name q) name unnamed) query (unnamed q query old))
+
+-- ---- one alignment more, and one less
+
+pub views-alignment_more : (state : State) (name : Name) (pieces : List Piece) → IsLawful state → Each state.views (IsView (with_alignment state name pieces))
+views-alignment_more state name pieces lawful q query there =
+    let is = lawful.views q query there in
+    let new = with_alignment state name pieces in
+    view_kept state new q query is is.no_table is.known
+    (all_weaker (λ n. IsTrue (has state.alignments n)) (λ n. IsTrue (has new.alignments n)) (λ n has_it. has_inserted state.alignments name pieces n has_it) (alignments_in query) is.alignments)
+    (windows_kept state new (λ route has_it. has_it) (λ route referent has_it. has_it) query is.windows)
+    refl
+
+pub views-alignment_gone : (state : State) (name : Name) → IsLawful state → some_view state (names_alignment name) ≡ false → Each state.views (IsView (without_alignment state name))
+views-alignment_gone state name lawful unused q query there =
+    let is = lawful.views q query there in
+    let new = without_alignment state name in
+    view_kept state new q query is is.no_table is.known
+    (all_both (λ n. IsTrue (has state.alignments n)) (λ n. same_name name n ≡ false) (λ n. IsTrue (has new.alignments n)) (λ n has_it other. has_removed state.alignments name n other has_it)
+    (alignments_in query) is.alignments (none_pass (same_name name) (alignments_in query) (none_there (names_alignment name) state.views unused q query there)))
+    (windows_kept state new (λ route has_it. has_it) (λ route referent has_it. has_it) query is.windows)
+    refl
 
 -- ---- one route less
 
@@ -237,7 +264,7 @@ module _ (state : State) (name : Name) where
   pub views-route_gone : IsLawful state → some_view state (names_route name) ≡ false → Each state.views (IsView fewer)
   views-route_gone lawful unused q query there =
       let is = lawful.views q query there in
-      view_kept state fewer q query is is.no_table is.known
+      view_kept state fewer q query is is.no_table is.known is.alignments
       (all_both (IsWindowOf state) (λ window. window_on name window ≡ false) (IsWindowOf fewer) window_stays (windows_in query) is.windows
       (none_pass (window_on name) (windows_in query) (none_there (names_route name) state.views unused q query there)))
       refl
@@ -260,7 +287,7 @@ module _ (state : State) (route name : Name) (measure : ℕ) where
   pub views-referent_put : IsLawful state → Each state.views (IsView put)
   views-referent_put lawful q query there =
       let is = lawful.views q query there in
-      view_kept state put q query is is.no_table is.known (windows_kept state put (λ r has_it. has_it) referent_put query is.windows) refl
+      view_kept state put q query is is.no_table is.known is.alignments (windows_kept state put (λ r has_it. has_it) referent_put query is.windows) refl
 
 module _ (state : State) (route name : Name) where
   abbrev gone : State
@@ -298,7 +325,7 @@ module _ (state : State) (route name : Name) where
   pub views-referent_gone : IsLawful state → some_view state (names_referent route name) ≡ false → Each state.views (IsView gone)
   views-referent_gone lawful unused q query there =
       let is = lawful.views q query there in
-      view_kept state gone q query is is.no_table is.known
+      view_kept state gone q query is is.no_table is.known is.alignments
       (all_both (IsWindowOf state) (λ window. window_by route name window ≡ false) (IsWindowOf gone) window_without (windows_in query) is.windows
       (none_pass (window_by route name) (windows_in query) (none_there (names_referent route name) state.views unused q query there)))
       refl

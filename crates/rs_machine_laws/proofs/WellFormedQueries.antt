@@ -9,11 +9,11 @@ use Rattle.rs_measure.specs.declared.refusal.Refusal.TheVariants.{NoSuchName, Li
 use Rattle.rs_value.specs.declared.column.TheConstants.{COLUMNS}
 use Rattle.rs_facts.specs.Fact.{Name}
 use Rattle.rs_facts.specs.Insert.{same_name}
-use Rattle.rs_facts.specs.Query.{Column, Table, column_at, World, Query, table_rows, where_rows, dissolve_rows, rename_column, overlay_rows, cover_rows, merge_rows, minus_rows, window_rows, table_columns, kind_of, columns_of}
+use Rattle.rs_facts.specs.Query.{Column, Table, column_at, World, Query, table_rows, where_rows, dissolve_rows, rename_column, overlay_rows, cover_rows, merge_rows, minus_rows, window_rows, transform_rows, table_columns, kind_of, columns_of}
 use Rattle.rs_facts.specs.WellFormed.{width_of, IsWellFormed}
-use Rattle.rs_syntax.specs.Tree.{QueryTree, named, filtered, dissolved, renamed, overlaid, covered, merged, subtracted, windowed}
+use Rattle.rs_syntax.specs.Tree.{QueryTree, named, filtered, dissolved, renamed, overlaid, covered, merged, subtracted, windowed, transformed}
 use Rattle.rs_machine.specs.State.{State, world_of}
-use Rattle.rs_machine.specs.Checks.{unless, table_named, same_kind, some_name_twice, column_names}
+use Rattle.rs_machine.specs.Checks.{unless, table_named, alignment_named, same_kind, some_name_twice, column_names}
 use Rattle.rs_machine.specs.Opening.{opened}
 use Rattle.rs_machine.specs.Checking.{column_place, column_places, share_a_name, condition_checked, may_stand_together, same_columns, kinds_agree, columns_in, dissolve_checked, rename_checked, overlay_checked, cover_checked, alike, window_checked, nodes_checked, checked}
 use Rattle.rs_machine.specs.Lawful.{AreDistinct, IsLawful}
@@ -34,6 +34,7 @@ few_columns world (cover_rows m n a b) is = omega (arith, is.2, is.3, is.4, leng
 few_columns world (merge_rows a b) is = few_columns world a is.0
 few_columns world (minus_rows a b) is = few_columns world a is.0
 few_columns world (window_rows a window) is = few_columns world a is
+few_columns world (transform_rows a name pieces) is = few_columns world a is.0
 
 -- ---- what a checked query keeps to
 
@@ -173,6 +174,12 @@ nodes-sound state (windowed a window) query lawful e =
     let is = nodes-sound state a x.0 lawful x.1 in
     let located = then_ok (window_checked state window) _ query x.2 in
     subst (IsSoundQuery state) (ok_same (window_rows x.0 located.0) query located.2) (record { well_formed = is.well_formed; distinct = is.distinct })
+nodes-sound state (transformed a name) query lawful e =
+    let x = then_ok (nodes_checked state a) _ query e in
+    let is = nodes-sound state a x.0 lawful x.1 in
+    let pieces = then_ok (alignment_named state name) _ query x.2 in
+    let lie = (lawful.alignments name pieces.0 (was_found (names.get state.alignments name) NoSuchName pieces.0 pieces.1)).lie in
+    subst (IsSoundQuery state) (ok_same (transform_rows x.0 name pieces.0) query pieces.2) (record { well_formed = (is.well_formed, lie); distinct = is.distinct })
 
 pub checked-sound : (state : State) (tree : QueryTree) (query : Query) → IsLawful state → checked state tree ≡ Ok query → IsSoundQuery state query
 checked-sound state tree query lawful e = nodes-sound state (opened state.views tree) query lawful (checks-passed state tree query e).passes

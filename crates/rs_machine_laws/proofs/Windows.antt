@@ -13,13 +13,13 @@ use Rattle.rs_methods.specs.Position.{PositionExpression, absolute, beyond, befo
 use Rattle.rs_facts.specs.Fact.{Name, name_cmp}
 use Rattle.rs_facts.specs.Insert.{same_name}
 use Rattle.rs_facts.specs.Query.{RouteEnds, Query, Window}
-use Rattle.rs_syntax.specs.Tree.{WindowTree, whole_route, part_of_route, QueryTree, named, filtered, dissolved, renamed, overlaid, covered, merged, subtracted, windowed}
+use Rattle.rs_syntax.specs.Tree.{WindowTree, whole_route, part_of_route, QueryTree, named, filtered, dissolved, renamed, overlaid, covered, merged, subtracted, windowed, transformed}
 use Rattle.rs_machine.specs.declared.limits.TheConstants.{NODES, DEPTH}
 use Rattle.rs_machine.specs.State.{State, has}
 use Rattle.rs_machine.specs.Checks.{unless, route_named, has_table_or_view, has_referent, position_on, span_on}
-use Rattle.rs_machine.specs.Opening.{names_in, windows_in, opened, nodes, depth}
-use Rattle.rs_machine.specs.Checking.{window_checked, names_known, fits_limits, nodes_checked, checked}
-use Rattle.rs_machine.specs.Lawful.{AreKnown, HasItsReferent, IsWindowOf}
+use Rattle.rs_machine.specs.Opening.{names_in, alignments_in, windows_in, opened, nodes, depth}
+use Rattle.rs_machine.specs.Checking.{window_checked, names_known, alignments_known, fits_limits, nodes_checked, checked}
+use Rattle.rs_machine.specs.Lawful.{AreKnown, AreAlignments, HasItsReferent, IsWindowOf}
 use Rattle.rs_machine_laws.proofs.Names.{same_name-back}
 use Rattle.rs_machine_laws.proofs.Checked.{err_ok, passed, was_found, then_ok}
 use Rattle.rs_machine_laws.proofs.Lists.{all_append}
@@ -87,6 +87,7 @@ nodes_windows state (named name) query e = tt
 nodes_windows state (filtered a condition) query e = let x = then_ok (nodes_checked state a) _ query e in nodes_windows state a x.0 x.1
 nodes_windows state (dissolved a columns) query e = let x = then_ok (nodes_checked state a) _ query e in nodes_windows state a x.0 x.1
 nodes_windows state (renamed a from to) query e = let x = then_ok (nodes_checked state a) _ query e in nodes_windows state a x.0 x.1
+nodes_windows state (transformed a alignment) query e = let x = then_ok (nodes_checked state a) _ query e in nodes_windows state a x.0 x.1
 nodes_windows state (overlaid a b) query e =
     let x = then_ok (nodes_checked state a) _ query e in let y = then_ok (nodes_checked state b) _ query x.2 in both_windows state a b (nodes_windows state a x.0 x.1) (nodes_windows state b y.0 y.1)
 nodes_windows state (covered a b) query e =
@@ -106,9 +107,14 @@ known : (state : State) (list : List Name) (u : Unit {0}) → names_known state 
 known state [] u e = tt
 known state (name ∷ more) u e = let here = then_ok (unless (has_table_or_view state name) NoSuchName) _ u e in (passed (has_table_or_view state name) NoSuchName here.0 here.1, known state more u here.2)
 
+aligned : (state : State) (list : List Name) (u : Unit {0}) → alignments_known state list ≡ Ok u → AreAlignments state list
+aligned state [] u e = tt
+aligned state (name ∷ more) u e = let here = then_ok (unless (has state.alignments name) NoSuchName) _ u e in (passed (has state.alignments name) NoSuchName here.0 here.1, aligned state more u here.2)
+
 -- what the passes found
 pub record IsChecked (state : State) (tree : QueryTree) (query : Query) : Type 0 where
   pub known : AreKnown state (names_in tree)
+  pub alignments : AreAlignments state (alignments_in tree)
   pub windows : AllByRecursion (IsWindowOf state) (windows_in tree)
   pub few_nodes : nodes (opened state.views tree) ≤ NODES
   pub not_deep : depth (opened state.views tree) ≤ DEPTH
@@ -121,10 +127,12 @@ own_windows state tree all = opened_windows (IsWindowOf state) state.views (name
 pub checks-passed : (state : State) (tree : QueryTree) (query : Query) → checked state tree ≡ Ok query → IsChecked state tree query
 checks-passed state tree query e =
     let first = then_ok (names_known state (names_in tree)) _ query e in
-    let second = then_ok (unless (fits_limits (opened state.views tree)) Limit) _ query first.2 in
+    let others = then_ok (alignments_known state (alignments_in tree)) _ query first.2 in
+    let second = then_ok (unless (fits_limits (opened state.views tree)) Limit) _ query others.2 in
     let fits = and_parts (nat_le (nodes (opened state.views tree)) NODES) (nat_le (depth (opened state.views tree)) DEPTH) (passed (fits_limits (opened state.views tree)) Limit second.0 second.1) in
     record {
       known = known state (names_in tree) first.0 first.1;
+      alignments = aligned state (alignments_in tree) others.0 others.1;
       windows = own_windows state tree (nodes_windows state (opened state.views tree) query second.2);
       few_nodes = leb-true (nodes (opened state.views tree)) NODES fits.0;
       not_deep = leb-true (depth (opened state.views tree)) DEPTH fits.1;

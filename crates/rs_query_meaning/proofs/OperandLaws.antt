@@ -12,9 +12,9 @@ use Rattle.rs_syntax.specs.declared.written.WrittenQuery.TheVariants as queries
 use Rattle.rs_syntax.specs.declared.written.WrittenWindow.{WrittenWindow}
 use Rattle.rs_measure.specs.declared.refusal.Refusal.{Refusal}
 use Rattle.rs_syntax.specs.Tree.{QueryTree}
-use Rattle.rs_syntax.specs.Written.{Lexeme, mark, told, operator_lexemes, pair_kind, window_lexemes, bracketed_names_lexemes, condition_lexemes, query_lexemes, QuerySyntax, written_where, written_dissolve, written_rename, written_pair, written_window, SaysQuery, AreToldOf}
+use Rattle.rs_syntax.specs.Written.{Lexeme, mark, told, operator_lexemes, pair_kind, window_lexemes, name_lexemes, bracketed_names_lexemes, condition_lexemes, query_lexemes, QuerySyntax, written_where, written_dissolve, written_rename, written_pair, written_window, written_transform, SaysQuery, AreToldOf}
 use Rattle.rs_syntax.specs.WrittenView.{condition_syntax, query_syntax}
-use Rattle.rs_syntax.proofs.ChainLaws.{where_written, dissolve_written, rename_written, pair_written, window_written}
+use Rattle.rs_syntax.proofs.ChainLaws.{where_written, dissolve_written, rename_written, pair_written, window_written, transform_written}
 use Rattle.rs_syntax.proofs.ToldLaws.{AreToldOf-append}
 use Rattle.rs_query_meaning.specs.Saying.{NothingSaid}
 use Rattle.rs_query_meaning.proofs.SayingLaws.{nothing-said}
@@ -79,6 +79,14 @@ module _ (query : WrittenQuery) (operand : Box WrittenQuery Global) (inside : Wr
         ∙ ap (λ q. operator_lexemes kinds.Window (query_lexemes (query_syntax q)) (window_lexemes window)) (sym same);
   }
 
+  pub transform-whole : (alignment : Token) → query ≡ queries.Transform operand alignment
+      → IsOperator (query_lexemes (query_syntax query)) kinds.Transform (query_lexemes (query_syntax inside)) (name_lexemes alignment)
+  transform-whole alignment is = record {
+    spelled =
+        ap (λ q. query_lexemes (query_syntax q)) is ∙ ap query_lexemes (transform_written operand alignment)
+        ∙ ap (λ q. operator_lexemes kinds.Transform (query_lexemes (query_syntax q)) (name_lexemes alignment)) (sym same);
+  }
+
   pub pair-whole : (operator : PairOperator) (second : Box WrittenQuery Global) (other : WrittenQuery) → query ≡ queries.Pair operator operand second → other ≡ second.value
       → IsOperator (query_lexemes (query_syntax query)) (pair_kind operator) (query_lexemes (query_syntax inside)) (query_lexemes (query_syntax other))
   pair-whole operator second other is also = record {
@@ -104,6 +112,9 @@ module _ (query : WrittenQuery) (operand : Box WrittenQuery Global) (inside : Wr
 
   pub window-is : (window : WrittenWindow) → query ≡ queries.Window operand window → query_syntax query ≡ written_window (query_syntax inside) window
   window-is window is = ap query_syntax is ∙ window_written operand window ∙ ap (λ q. written_window (query_syntax q) window) (sym same)
+
+  pub transform-is : (alignment : Token) → query ≡ queries.Transform operand alignment → query_syntax query ≡ written_transform (query_syntax inside) alignment
+  transform-is alignment is = ap query_syntax is ∙ transform_written operand alignment ∙ ap (λ q. written_transform (query_syntax q) alignment) (sym same)
 
   pub pair-is : (operator : PairOperator) (second : Box WrittenQuery Global) (other : WrittenQuery) → query ≡ queries.Pair operator operand second → other ≡ second.value
       → query_syntax query ≡ written_pair operator (query_syntax inside) (query_syntax other)

@@ -99,5 +99,9 @@ pub fn query_said(alloc: Global, line: &str, written: &WrittenQuery) -> Result<Q
             let window = window_said(line, *place)?;
             Ok(Query::Window(query, window))
         }
+        WrittenQuery::Transform(operand, alignment) => {
+            let query = operand_query_said(alloc, line, operand)?;
+            Ok(Query::Transform(query, name(line, *alignment)))
+        }
     }
 }

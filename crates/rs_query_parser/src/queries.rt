@@ -5,7 +5,7 @@
 
 ghost use Rattle.std.specs.Prelude.{◌≡◌, ◌<◌, ◌∷◌, ◌++◌, length, IfOk, MatchResult};
 ghost use Rattle.rs_grammar.specs.declared.kind.TokenKind.TheVariants as kinds;
-ghost use Rattle.rs_grammar.specs.Grammar.{query_form, operand_query_form, where_form, dissolve_form, rename_form, pair_form, window_query_form};
+ghost use Rattle.rs_grammar.specs.Grammar.{query_form, operand_query_form, where_form, dissolve_form, rename_form, pair_form, window_query_form, transform_form};
 ghost use Rattle.rs_syntax.specs.Written.{mark, told, pair_kind, query_lexemes, lexemes_of};
 ghost use Rattle.rs_syntax.specs.WrittenView.{query_syntax};
 ghost use Rattle.rs_query_parser.specs.Reading.{RunsTo, Begins, renaming_form, closing_form};
@@ -142,6 +142,21 @@ fn window_query(alloc: Global, tokens: &[Token]) -> Result<(WrittenQuery, &[Toke
     closed(WrittenQuery::Window(query, window), rest)
 }
 
+// after TRANSFORM: "(" query "," name ")"
+#[cycle(reading)]
+fn transform_query(alloc: Global, tokens: &[Token]) -> Result<(WrittenQuery, &[Token]), Stop<'_>>
+    ensures runs { RunsTo transform_form tokens.now result }
+    ensures spelled { IfOk result (λ found. mark kinds.Transform ∷ lexemes_of tokens.now
+        ≡ query_lexemes (query_syntax found.0) ++ lexemes_of found.1.now) }
+    ensures shorter { IfOk result (λ found. length found.1.now < length tokens.now) }
+{
+    let (query, rest) = operand_query(alloc, tokens)?;
+    match text(rest, TokenKind::Name) {
+        Some((alignment, behind)) => closed(WrittenQuery::Transform(query, alignment), behind),
+        None => Err(Stop::At(rest)),
+    }
+}
+
 /// Reads the syntax of a query from the front, and returns the tokens after it.
 #[cycle(reading)]
 pub fn query(alloc: Global, tokens: &[Token]) -> Result<(WrittenQuery, &[Token]), Stop<'_>>
@@ -173,6 +188,9 @@ pub fn query(alloc: Global, tokens: &[Token]) -> Result<(WrittenQuery, &[Token])
     }
     if let Some(rest) = mark(tokens, TokenKind::Window) {
         return window_query(alloc, rest);
+    }
+    if let Some(rest) = mark(tokens, TokenKind::Transform) {
+        return transform_query(alloc, rest);
     }
     match text(tokens, TokenKind::Name) {
         Some((name, rest)) => Ok((WrittenQuery::Named(name), rest)),

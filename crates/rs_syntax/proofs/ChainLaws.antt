@@ -16,7 +16,7 @@ use Rattle.rs_syntax.specs.declared.written.WrittenQuery.{WrittenQuery, fold-rol
 use Rattle.rs_syntax.specs.declared.written.WrittenQuery.TheOpen.{WrittenQuery-F}
 use Rattle.rs_syntax.specs.declared.written.WrittenQuery.TheVariants as queries
 use Rattle.rs_syntax.specs.WrittenParts.{mark, list_lexemes}
-use Rattle.rs_syntax.specs.WrittenQueries.{AtomSyntax, written_comparison, written_null, written_not_null, written_negation, written_bracket, QuerySyntax, written_name, written_where, written_dissolve, written_rename, written_pair, written_window, atom_lexemes, conjunction_lexemes, condition_lexemes}
+use Rattle.rs_syntax.specs.WrittenQueries.{AtomSyntax, written_comparison, written_null, written_not_null, written_negation, written_bracket, QuerySyntax, written_name, written_where, written_dissolve, written_rename, written_pair, written_window, written_transform, atom_lexemes, conjunction_lexemes, condition_lexemes}
 use Rattle.rs_syntax.specs.WrittenView.{conjunction_of, condition_of, atom_syntax_step, atom_syntax, conjunction_syntax, condition_syntax, query_syntax_step, query_syntax}
 
 -- Parts of a condition, each variant.
@@ -63,6 +63,9 @@ pair_written operator left right = ap query_syntax (sym (queries.rolls-Pair oper
 
 pub window_written : (query : Box WrittenQuery Global) (window : WrittenWindow) → query_syntax (queries.Window query window) ≡ written_window (query_syntax query.value) window
 window_written query window = ap query_syntax (sym (queries.rolls-Window query window)) ∙ fold-roll-WrittenQuery QuerySyntax query_syntax_step (WrittenQuery-F.Window query window)
+
+pub transform_written : (query : Box WrittenQuery Global) (alignment : Token) → query_syntax (queries.Transform query alignment) ≡ written_transform (query_syntax query.value) alignment
+transform_written query alignment = ap query_syntax (sym (queries.rolls-Transform query alignment)) ∙ fold-roll-WrittenQuery QuerySyntax query_syntax_step (WrittenQuery-F.Transform query alignment)
 
 -- Chains that have a part, as lists with a mark before each further one.
 pub conjunction_spelled : (parts : List WrittenAtom) → 0 < length parts → conjunction_lexemes (conjunction_syntax parts) ≡ list_lexemes kinds.And (λ part. atom_lexemes (atom_syntax part)) parts

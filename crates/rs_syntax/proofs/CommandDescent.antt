@@ -2,15 +2,15 @@
 use Rattle.std.proofs.Common.{◌≡◌, ◌<◌, List, [], ◌∷◌, ◌++◌, length, Option, Some, None, refl, sym, ap, ◌∙◌, append_assoc, append-nil, arith}
 use Rattle.rs_grammar.specs.declared.kind.TokenKind.TheVariants as kinds
 use Rattle.rs_grammar.specs.Grammar as g
-use Rattle.rs_grammar.specs.Grammar.{Form, done, pick, sub, need, rules, wanted_form, command_form, define_form, define_route_form, define_referent_form, define_view_form, define_table_form, drop_name_form, drop_referent_form, drop_form, move_form, insert_form, removal_form, remove_form, translate_form, select_form, summed_form, total_form}
+use Rattle.rs_grammar.specs.Grammar.{Form, done, pick, sub, need, rules, wanted_form, command_form, define_form, define_route_form, define_referent_form, define_view_form, define_table_form, define_alignment_form, drop_name_form, drop_referent_form, drop_form, move_form, insert_form, removal_form, remove_form, translate_form, select_form, summed_form, total_form}
 use Rattle.rs_value.specs.declared.column.Kind.{Kind}
 use Rattle.rs_value.specs.declared.column.Kind.TheVariants as table_kinds
 use Rattle.rs_lexer.specs.declared.token.Token.{Token}
 use Rattle.rs_syntax.specs.declared.written.WrittenWindow.{WrittenWindow}
-use Rattle.rs_syntax.specs.WrittenParts.{mark, told, measure_lexemes, position_lexemes, location_lexemes, method_lexemes, table_kind, column_lexemes, value_lexemes, summed_lexemes, lexemes_of}
+use Rattle.rs_syntax.specs.WrittenParts.{mark, told, measure_lexemes, position_lexemes, location_lexemes, method_lexemes, table_kind, column_lexemes, value_lexemes, summed_lexemes, piece_lexemes, lexemes_of}
 use Rattle.rs_syntax.specs.WrittenQueries.{QuerySyntax, window_lexemes, condition_lexemes, bracketed_names_lexemes, query_lexemes}
-use Rattle.rs_syntax.specs.Written.{Written, written_route, written_table, written_referent, written_view, written_move, written_drop_route, written_drop_table, written_drop_view, written_drop_referent, written_insert, written_remove, written_translate, written_select, written_total, spelling, IsFull}
-use Rattle.rs_syntax.proofs.Descent.{Spelled, read_done, read_mark, need_mark, need_text, read_part, read_measure, read_position, read_method, read_place, read_window, Items, read_columns, read_values}
+use Rattle.rs_syntax.specs.Written.{Written, written_route, written_table, written_referent, written_view, written_alignment, written_move, written_drop_route, written_drop_table, written_drop_view, written_drop_alignment, written_drop_referent, written_insert, written_remove, written_translate, written_select, written_total, spelling, IsFull}
+use Rattle.rs_syntax.proofs.Descent.{Spelled, read_done, read_mark, need_mark, need_text, read_part, read_measure, read_position, read_method, read_place, read_window, Items, read_columns, read_values, read_pieces}
 use Rattle.rs_syntax.proofs.QueryDescent.{read_condition, bracketed_ruled, read_query}
 pub use Rattle.rs_syntax.proofs.Descent.{Reading}
 
@@ -79,31 +79,51 @@ module _ (tokens : List Token) where
         tt,
       ))))
 
+  read_alignment : (a : List Token) → length a < length tokens → lexemes_of tokens ≡ mark kinds.Define ∷ mark kinds.Alignment ∷ lexemes_of a → Reading define_alignment_form a Known
+  read_alignment a la ha =
+      need_text kinds.Name (need kinds.LeftParen (sub g.pieces (need kinds.RightParen done))) a Known refl (λ name b lb ib hb.
+      need_mark kinds.LeftParen (sub g.pieces (need kinds.RightParen done)) b Known refl (λ c lc hc.
+      read_part (Items piece_lexemes) g.pieces (need kinds.RightParen done) c Known (read_pieces c) (λ d pieces ld hd.
+      need_mark kinds.RightParen done d Known refl (λ e le he.
+      read_done e Known (
+        written_alignment name (pieces.0 ∷ pieces.1),
+        record {
+          spelled = ha ∙ ap (λ ps. mark kinds.Define ∷ mark kinds.Alignment ∷ ps) (hb ∙ ap (λ ps. told kinds.Name name ∷ ps) (hc ∙ ap (λ ps. mark kinds.LeftParen ∷ ps)
+              (hd ∙ ap (λ ps. Items piece_lexemes pieces ++ ps) he ∙ sym (append_assoc (Items piece_lexemes pieces) (mark kinds.RightParen ∷ []) (lexemes_of e)))));
+          shorter = omega arith;
+        },
+        omega arith,
+      )))))
+
   read_define : (a : List Token) → length a < length tokens → lexemes_of tokens ≡ mark kinds.Define ∷ lexemes_of a → Reading define_form a Known
   read_define a la ha =
-      read_mark kinds.Route define_route_form (pick kinds.Referent define_referent_form (pick kinds.View define_view_form (pick kinds.Line define_table_form (need kinds.Point define_table_form)))) a Known refl
+      read_mark kinds.Route define_route_form (pick kinds.Referent define_referent_form (pick kinds.View define_view_form (pick kinds.Alignment define_alignment_form (pick kinds.Line define_table_form (need kinds.Point define_table_form))))) a Known refl
       (λ b lb hb. read_route b (omega arith) (ha ∙ ap (λ ps. mark kinds.Define ∷ ps) hb))
-      (read_mark kinds.Referent define_referent_form (pick kinds.View define_view_form (pick kinds.Line define_table_form (need kinds.Point define_table_form))) a Known refl
+      (read_mark kinds.Referent define_referent_form (pick kinds.View define_view_form (pick kinds.Alignment define_alignment_form (pick kinds.Line define_table_form (need kinds.Point define_table_form)))) a Known refl
       (λ b lb hb. read_referent b (omega arith) (ha ∙ ap (λ ps. mark kinds.Define ∷ ps) hb))
-      (read_mark kinds.View define_view_form (pick kinds.Line define_table_form (need kinds.Point define_table_form)) a Known refl
+      (read_mark kinds.View define_view_form (pick kinds.Alignment define_alignment_form (pick kinds.Line define_table_form (need kinds.Point define_table_form))) a Known refl
       (λ b lb hb. read_view b (omega arith) (ha ∙ ap (λ ps. mark kinds.Define ∷ ps) hb))
+      (read_mark kinds.Alignment define_alignment_form (pick kinds.Line define_table_form (need kinds.Point define_table_form)) a Known refl
+      (λ b lb hb. read_alignment b (omega arith) (ha ∙ ap (λ ps. mark kinds.Define ∷ ps) hb))
       (read_mark kinds.Line define_table_form (need kinds.Point define_table_form) a Known refl
       (λ b lb hb. read_table table_kinds.Line b (omega arith) (ha ∙ ap (λ ps. mark kinds.Define ∷ ps) hb))
       (need_mark kinds.Point define_table_form a Known refl
-      (λ b lb hb. read_table table_kinds.Point b (omega arith) (ha ∙ ap (λ ps. mark kinds.Define ∷ ps) hb))))))
+      (λ b lb hb. read_table table_kinds.Point b (omega arith) (ha ∙ ap (λ ps. mark kinds.Define ∷ ps) hb)))))))
 
   read_drop : (a : List Token) → length a < length tokens → lexemes_of tokens ≡ mark kinds.Drop ∷ lexemes_of a → Reading drop_form a Known
   read_drop a la ha =
-      read_mark kinds.Route drop_name_form (pick kinds.Table drop_name_form (pick kinds.View drop_name_form (need kinds.Referent drop_referent_form))) a Known refl
+      read_mark kinds.Route drop_name_form (pick kinds.Table drop_name_form (pick kinds.View drop_name_form (pick kinds.Alignment drop_name_form (need kinds.Referent drop_referent_form)))) a Known refl
       (λ b lb hb. need_text kinds.Name done b Known refl (λ name c lc ic hc. read_done c Known (written_drop_route name, record { spelled = cc; shorter = omega arith }, tt)))
-      (read_mark kinds.Table drop_name_form (pick kinds.View drop_name_form (need kinds.Referent drop_referent_form)) a Known refl
+      (read_mark kinds.Table drop_name_form (pick kinds.View drop_name_form (pick kinds.Alignment drop_name_form (need kinds.Referent drop_referent_form))) a Known refl
       (λ b lb hb. need_text kinds.Name done b Known refl (λ name c lc ic hc. read_done c Known (written_drop_table name, record { spelled = cc; shorter = omega arith }, tt)))
-      (read_mark kinds.View drop_name_form (need kinds.Referent drop_referent_form) a Known refl
+      (read_mark kinds.View drop_name_form (pick kinds.Alignment drop_name_form (need kinds.Referent drop_referent_form)) a Known refl
       (λ b lb hb. need_text kinds.Name done b Known refl (λ name c lc ic hc. read_done c Known (written_drop_view name, record { spelled = cc; shorter = omega arith }, tt)))
+      (read_mark kinds.Alignment drop_name_form (need kinds.Referent drop_referent_form) a Known refl
+      (λ b lb hb. need_text kinds.Name done b Known refl (λ name c lc ic hc. read_done c Known (written_drop_alignment name, record { spelled = cc; shorter = omega arith }, tt)))
       (need_mark kinds.Referent drop_referent_form a Known refl (λ b lb hb.
       need_text kinds.Name (need kinds.Name done) b Known refl (λ route c lc ic hc.
       need_text kinds.Name done c Known refl (λ name d ld id hd.
-      read_done d Known (written_drop_referent route name, record { spelled = cc; shorter = omega arith }, tt)))))))
+      read_done d Known (written_drop_referent route name, record { spelled = cc; shorter = omega arith }, tt))))))))
 
   read_move : (a : List Token) → length a < length tokens → lexemes_of tokens ≡ mark kinds.Move ∷ lexemes_of a → Reading move_form a Known
   unfolding rules

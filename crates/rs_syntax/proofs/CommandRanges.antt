@@ -16,14 +16,15 @@ use Rattle.rs_syntax.specs.declared.written.WrittenPosition.{WrittenPosition}
 use Rattle.rs_syntax.specs.declared.written.WrittenLocation.{WrittenLocation}
 use Rattle.rs_syntax.specs.declared.written.WrittenWindow.{WrittenWindow}
 use Rattle.rs_syntax.specs.declared.written.WrittenWindow.TheVariants as written_windows
+use Rattle.rs_syntax.specs.declared.written.WrittenPiece.{WrittenPiece}
 use Rattle.rs_syntax.specs.declared.written.WrittenOperand.{WrittenOperand}
 use Rattle.rs_syntax.specs.declared.written.WrittenOperand.TheVariants as written_operands
 use Rattle.rs_syntax.specs.declared.written.PairOperator.{PairOperator}
-use Rattle.rs_syntax.specs.Tree.{whole_route, part_of_route, column_named, written_value, compare, is_null, is_not_null, negated, bracketed, both, either, named, filtered, dissolved, renamed, windowed, define_route, define_table, define_referent, define_view, move_referent, drop_route, drop_table, drop_view, drop_referent, insert, remove, translate, select, total}
-use Rattle.rs_syntax.specs.WrittenParts.{SaysColumns, SaysDatum, SaysRow, SaysPosition, SaysLocation, summed_name}
-use Rattle.rs_syntax.specs.WrittenQueries.{AtomSyntax, written_comparison, written_null, written_not_null, written_negation, written_bracket, ConjunctionSyntax, last_atom, and_then, ConditionSyntax, last_conjunction, or_else, QuerySyntax, written_name, written_where, written_dissolve, written_rename, written_pair, written_window, SaysWindow, SaysOperand, SaysAtom, SaysConjunction, SaysCondition, paired, SaysQuery, SaysRemoval}
-use Rattle.rs_syntax.specs.Written.{Written, written_route, written_table, written_referent, written_view, written_move, written_drop_route, written_drop_table, written_drop_view, written_drop_referent, written_insert, written_remove, written_translate, written_select, written_total, view_text, Says}
-use Rattle.rs_syntax.proofs.Ranges.{position_cases, location_cases, columns_cases, datum_cases, row_cases}
+use Rattle.rs_syntax.specs.Tree.{whole_route, part_of_route, column_named, written_value, compare, is_null, is_not_null, negated, bracketed, both, either, named, filtered, dissolved, renamed, windowed, transformed, define_route, define_table, define_referent, define_view, define_alignment, move_referent, drop_route, drop_table, drop_view, drop_alignment, drop_referent, insert, remove, translate, select, total}
+use Rattle.rs_syntax.specs.WrittenParts.{SaysColumns, SaysDatum, SaysRow, SaysPosition, SaysLocation, SaysPieces, summed_name}
+use Rattle.rs_syntax.specs.WrittenQueries.{AtomSyntax, written_comparison, written_null, written_not_null, written_negation, written_bracket, ConjunctionSyntax, last_atom, and_then, ConditionSyntax, last_conjunction, or_else, QuerySyntax, written_name, written_where, written_dissolve, written_rename, written_pair, written_window, written_transform, SaysWindow, SaysOperand, SaysAtom, SaysConjunction, SaysCondition, paired, SaysQuery, SaysRemoval}
+use Rattle.rs_syntax.specs.Written.{Written, written_route, written_table, written_referent, written_view, written_alignment, written_move, written_drop_route, written_drop_table, written_drop_view, written_drop_alignment, written_drop_referent, written_insert, written_remove, written_translate, written_select, written_total, view_text, Says}
+use Rattle.rs_syntax.proofs.Ranges.{position_cases, location_cases, columns_cases, datum_cases, row_cases, pieces_cases}
 
 -- Windows and conditions.
 part_of : (line : List ℕ) (r : Token) (from to : WrittenPosition) → Cases (SaysPosition line from) → Cases (SaysPosition line to) → Cases (SaysWindow line (written_windows.Part r from to))
@@ -110,6 +111,10 @@ window_of line w c (inl a) (inl b) = inl (windowed a.0 b.0, (a.0, b.0, a.1, b.1,
 window_of line w c (inl a) (inr none) = inr (λ tree says. none says.1 says.3)
 window_of line w c (inr none) b = inr (λ tree says. none says.0 says.2)
 
+transform_of : (line : List ℕ) (w : QuerySyntax) (alignment : Token) → Cases (SaysQuery line w) → Cases (SaysQuery line (written_transform w alignment))
+transform_of line w alignment (inl said) = inl (transformed said.0 (token_text line alignment), (said.0, said.1, refl))
+transform_of line w alignment (inr none) = inr (λ tree says. none says.0 says.1)
+
 query_cases : (line : List ℕ) (w : QuerySyntax) → Cases (SaysQuery line w)
 query_cases line (written_name name) = inl (named (token_text line name), refl)
 query_cases line (written_where w c) = where_of line w c (query_cases line w) (condition_cases line c)
@@ -117,6 +122,7 @@ query_cases line (written_dissolve w names) = dissolve_of line w names (query_ca
 query_cases line (written_rename w from to) = rename_of line w from to (query_cases line w)
 query_cases line (written_pair o v w) = pair_of line o v w (query_cases line v) (query_cases line w)
 query_cases line (written_window w c) = window_of line w c (query_cases line w) (window_cases line c)
+query_cases line (written_transform w alignment) = transform_of line w alignment (query_cases line w)
 
 some_removal : (line : List ℕ) (w : ConditionSyntax) → Cases (SaysCondition line w) → Cases (SaysRemoval line (Some w))
 some_removal line w (inl said) = inl (Some said.0, (said.0, said.1, refl))
@@ -143,6 +149,10 @@ referent_of line tokens r n w (inr none) = inr (λ tree says. none says.0 says.1
 view_of : (line : List ℕ) (tokens : List Token) (n : Token) (w : QuerySyntax) → Cases (SaysQuery line w) → Cases (Says line tokens (written_view n w))
 view_of line tokens n w (inl query) = inl (define_view (token_text line n) query.0 (view_text line tokens), (query.0, query.1, refl))
 view_of line tokens n w (inr none) = inr (λ tree says. none says.0 says.1)
+
+alignment_of : (line : List ℕ) (tokens : List Token) (n : Token) (ws : List WrittenPiece) → Cases (SaysPieces line ws) → Cases (Says line tokens (written_alignment n ws))
+alignment_of line tokens n ws (inl pieces) = inl (define_alignment (token_text line n) pieces.0, (pieces.0, pieces.1, refl))
+alignment_of line tokens n ws (inr none) = inr (λ tree says. none says.0 says.1)
 
 move_of : (line : List ℕ) (tokens : List Token) (r n : Token) (w : WrittenPosition) → Cases (SaysPosition line w) → Cases (Says line tokens (written_move r n w))
 move_of line tokens r n w (inl position) = inl (move_referent (token_text line r) (token_text line n) position.0, (position.0, position.1, refl))
@@ -175,10 +185,12 @@ says_cases line tokens (written_route n s f) = route_of line tokens n s f (measu
 says_cases line tokens (written_table k n ws) = table_of line tokens k n ws (columns_cases line ws)
 says_cases line tokens (written_referent r n w) = referent_of line tokens r n w (position_cases line w)
 says_cases line tokens (written_view n w) = view_of line tokens n w (query_cases line w)
+says_cases line tokens (written_alignment n ws) = alignment_of line tokens n ws (pieces_cases line ws)
 says_cases line tokens (written_move r n w) = move_of line tokens r n w (position_cases line w)
 says_cases line tokens (written_drop_route n) = inl (drop_route (token_text line n), refl)
 says_cases line tokens (written_drop_table n) = inl (drop_table (token_text line n), refl)
 says_cases line tokens (written_drop_view n) = inl (drop_view (token_text line n), refl)
+says_cases line tokens (written_drop_alignment n) = inl (drop_alignment (token_text line n), refl)
 says_cases line tokens (written_drop_referent r n) = inl (drop_referent (token_text line r) (token_text line n), refl)
 says_cases line tokens (written_insert t r w ws) = insert_of line tokens t r w ws (location_cases line w) (row_cases line ws)
 says_cases line tokens (written_remove t w c) = remove_of line tokens t w c (window_cases line w) (removal_cases line c)

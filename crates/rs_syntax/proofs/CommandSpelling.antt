@@ -12,10 +12,11 @@ use Rattle.rs_syntax.specs.declared.written.WrittenValue.{WrittenValue}
 use Rattle.rs_syntax.specs.declared.written.WrittenPosition.{WrittenPosition}
 use Rattle.rs_syntax.specs.declared.written.WrittenLocation.{WrittenLocation}
 use Rattle.rs_syntax.specs.declared.written.WrittenWindow.{WrittenWindow}
-use Rattle.rs_syntax.specs.WrittenParts.{mark, position_lexemes, location_lexemes, method_kind, method_lexemes, wanted_lexemes, table_kind, column_lexemes, value_lexemes, name_lexemes, summed_lexemes, list_lexemes}
+use Rattle.rs_syntax.specs.declared.written.WrittenPiece.{WrittenPiece}
+use Rattle.rs_syntax.specs.WrittenParts.{mark, position_lexemes, location_lexemes, method_kind, method_lexemes, wanted_lexemes, table_kind, column_lexemes, value_lexemes, name_lexemes, summed_lexemes, piece_lexemes, list_lexemes}
 use Rattle.rs_syntax.specs.WrittenQueries.{ConditionSyntax, QuerySyntax, window_lexemes, bracketed_names_lexemes, query_lexemes, removal_lexemes}
-use Rattle.rs_syntax.specs.Written.{Written, written_route, written_table, written_referent, written_view, written_move, written_drop_route, written_drop_table, written_drop_view, written_drop_referent, written_insert, written_remove, written_translate, written_select, written_total, spelling}
-use Rattle.rs_syntax.proofs.SpellingLaws.{begins_with_sign, columns_same, values_same, last_position, position_same, location_same, method_same, wanted_same, names_same}
+use Rattle.rs_syntax.specs.Written.{Written, written_route, written_table, written_referent, written_view, written_alignment, written_move, written_drop_route, written_drop_table, written_drop_view, written_drop_alignment, written_drop_referent, written_insert, written_remove, written_translate, written_select, written_total, spelling}
+use Rattle.rs_syntax.proofs.SpellingLaws.{begins_with_sign, columns_same, values_same, pieces_same, last_position, position_same, location_same, method_same, wanted_same, names_same}
 use Rattle.rs_syntax.proofs.QuerySpelling.{Ends, window_same, query_same, removal_same}
 
 -- The words of a table's kind are no others.
@@ -40,6 +41,10 @@ no_referent k e = false≢true (sym (ap is_table_kind e) ∙ is_one k)
 no_view : (k : Kind) → table_kind k ≡ kinds.View → ⊥
 unfolding is_table_kind
 no_view k e = false≢true (sym (ap is_table_kind e) ∙ is_one k)
+
+no_alignment : (k : Kind) → table_kind k ≡ kinds.Alignment → ⊥
+unfolding is_table_kind
+no_alignment k e = false≢true (sym (ap is_table_kind e) ∙ is_one k)
 
 kind_same : (k l : Kind) → table_kind k ≡ table_kind l → k ≡ l
 kind_same table_kinds.Point table_kinds.Point e = refl
@@ -71,6 +76,13 @@ view_same a b x y e =
     let rest : query_lexemes x ≡ query_lexemes y = cc in
     let queries = query_same x y [] [] (append-nil (query_lexemes x) ∙ rest ∙ sym (append-nil (query_lexemes y))) in
     ap (λ z. written_view z x) names ∙ ap (written_view b) queries.0
+
+alignment_same : (a b : Token) (xs ys : List WrittenPiece) → spelling (written_alignment a xs) ≡ spelling (written_alignment b ys) → written_alignment a xs ≡ written_alignment b ys
+alignment_same a b xs ys e =
+    let names : a ≡ b = cc in
+    let rest : list_lexemes kinds.Comma piece_lexemes xs ++ mark kinds.RightParen ∷ [] ≡ list_lexemes kinds.Comma piece_lexemes ys ++ mark kinds.RightParen ∷ [] = cc in
+    let pieces = pieces_same xs ys [] [] rest in
+    ap (λ z. written_alignment z xs) names ∙ ap (written_alignment b) pieces.0
 
 move_same : (a b c d : Token) (x y : WrittenPosition) → spelling (written_move a b x) ≡ spelling (written_move c d y) → written_move a b x ≡ written_move c d y
 move_same a b c d x y e =
@@ -159,6 +171,7 @@ table_told k a xs (written_route d e f) same = let words : table_kind k ≡ kind
 table_told k a xs (written_table l b ys) same = table_same k l a b xs ys same
 table_told k a xs (written_referent d e y) same = let words : table_kind k ≡ kinds.Referent = cc in absurd (no_referent k words)
 table_told k a xs (written_view d y) same = let words : table_kind k ≡ kinds.View = cc in absurd (no_view k words)
+table_told k a xs (written_alignment d ys) same = let words : table_kind k ≡ kinds.Alignment = cc in absurd (no_alignment k words)
 table_told k a xs _ same = absurd cc
 
 referent_told : (a b : Token) (x : WrittenPosition) (w : Written) → spelling (written_referent a b x) ≡ spelling w → written_referent a b x ≡ w
@@ -170,6 +183,11 @@ view_told : (a : Token) (x : QuerySyntax) (w : Written) → spelling (written_vi
 view_told a x (written_view b y) same = view_same a b x y same
 view_told a x (written_table k d xs) same = let words : table_kind k ≡ kinds.View = cc in absurd (no_view k words)
 view_told a x _ same = absurd cc
+
+alignment_told : (a : Token) (xs : List WrittenPiece) (w : Written) → spelling (written_alignment a xs) ≡ spelling w → written_alignment a xs ≡ w
+alignment_told a xs (written_alignment b ys) same = alignment_same a b xs ys same
+alignment_told a xs (written_table k d ys) same = let words : table_kind k ≡ kinds.Alignment = cc in absurd (no_alignment k words)
+alignment_told a xs _ same = absurd cc
 
 move_told : (a b : Token) (x : WrittenPosition) (w : Written) → spelling (written_move a b x) ≡ spelling w → written_move a b x ≡ w
 move_told a b x (written_move c d y) same = move_same a b c d x y same
@@ -186,6 +204,10 @@ drop_table_told a _ same = absurd cc
 drop_view_told : (a : Token) (w : Written) → spelling (written_drop_view a) ≡ spelling w → written_drop_view a ≡ w
 drop_view_told a (written_drop_view b) same = cc
 drop_view_told a _ same = absurd cc
+
+drop_alignment_told : (a : Token) (w : Written) → spelling (written_drop_alignment a) ≡ spelling w → written_drop_alignment a ≡ w
+drop_alignment_told a (written_drop_alignment b) same = cc
+drop_alignment_told a _ same = absurd cc
 
 drop_referent_told : (a b : Token) (w : Written) → spelling (written_drop_referent a b) ≡ spelling w → written_drop_referent a b ≡ w
 drop_referent_told a b (written_drop_referent c d) same = cc
@@ -217,10 +239,12 @@ written_same (written_route a b c) w same = route_told a b c w same
 written_same (written_table k a xs) w same = table_told k a xs w same
 written_same (written_referent a b x) w same = referent_told a b x w same
 written_same (written_view a x) w same = view_told a x w same
+written_same (written_alignment a xs) w same = alignment_told a xs w same
 written_same (written_move a b x) w same = move_told a b x w same
 written_same (written_drop_route a) w same = drop_route_told a w same
 written_same (written_drop_table a) w same = drop_table_told a w same
 written_same (written_drop_view a) w same = drop_view_told a w same
+written_same (written_drop_alignment a) w same = drop_alignment_told a w same
 written_same (written_drop_referent a b) w same = drop_referent_told a b w same
 written_same (written_insert a b x xs) w same = insert_told a b x xs w same
 written_same (written_remove a v x) w same = remove_told a v x w same

@@ -8,7 +8,7 @@ use Rattle.rs_grammar.specs.contracts.kind.TokenKind.{the_type}
 use Rattle.rs_grammar.specs.declared.kind.TokenKind.{TokenKind}
 use Rattle.rs_grammar.specs.declared.kind.TokenKind.TheVariants as kinds
 use Rattle.rs_grammar.specs.Grammar as g
-use Rattle.rs_grammar.specs.Grammar.{Part, Form, done, fail, pick, sub, need, rules, type_form, column_form, literal_form, value_form, measure_form, offset_form, position_form, span_form, place_form, method_form, column_name_form, bracketed_names_form, window_form}
+use Rattle.rs_grammar.specs.Grammar.{Part, Form, done, fail, pick, sub, need, rules, type_form, column_form, literal_form, value_form, measure_form, offset_form, position_form, span_form, place_form, method_form, column_name_form, bracketed_names_form, window_form, piece_form}
 use Rattle.rs_methods.specs.declared.position.Method.TheVariants as methods
 use Rattle.rs_lexer.specs.declared.token.Token.{Token}
 use Rattle.rs_lexer.specs.Lexis.{kinds_of}
@@ -18,7 +18,7 @@ use Rattle.rs_syntax.specs.declared.written.WrittenPosition.{WrittenPosition}
 use Rattle.rs_syntax.specs.declared.written.WrittenPosition.TheVariants as written_positions
 use Rattle.rs_syntax.specs.declared.written.WrittenLocation.TheVariants as written_locations
 use Rattle.rs_syntax.specs.declared.written.WrittenWindow.TheVariants as written_windows
-use Rattle.rs_syntax.specs.WrittenParts.{Lexeme, mark, told, has_text, lexeme_of, measure_lexemes, position_lexemes, span_lexemes, location_lexemes, method_lexemes, type_lexemes, column_lexemes, value_lexemes, name_lexemes, list_lexemes, lexemes_of}
+use Rattle.rs_syntax.specs.WrittenParts.{Lexeme, mark, told, has_text, lexeme_of, measure_lexemes, position_lexemes, span_lexemes, location_lexemes, method_lexemes, type_lexemes, column_lexemes, value_lexemes, name_lexemes, piece_lexemes, list_lexemes, lexemes_of}
 use Rattle.rs_syntax.specs.WrittenQueries.{bracketed_names_lexemes, window_lexemes}
 use Rattle.rs_grammar.specs.Reading.{Lacks, Runs, is_done, is_fail, takes, skips, through, stops_in}
 
@@ -227,6 +227,29 @@ read_window tokens =
     (written_windows.Part route span.0 span.1, record { spelled = ha ∙ ap (λ ps. told kinds.Name route ∷ ps) (hb ∙ ap (λ ps. mark kinds.From ∷ ps) hc); shorter = omega arith })))
     (read_done a (Whole window_lexemes tokens) (written_windows.Whole route, record { spelled = ha; shorter = la })))
 
+-- a piece of an alignment
+read_piece : (tokens : List Token) → Reading piece_form tokens (Whole piece_lexemes tokens)
+unfolding rules
+read_piece tokens =
+    need_text kinds.Name (need kinds.From (sub g.measure (need kinds.To (sub g.measure (need kinds.Into (need kinds.Name (need kinds.At (sub g.measure done)))))))) tokens (Whole piece_lexemes tokens) refl (λ from_route a la ia ha.
+    need_mark kinds.From (sub g.measure (need kinds.To (sub g.measure (need kinds.Into (need kinds.Name (need kinds.At (sub g.measure done))))))) a (Whole piece_lexemes tokens) refl (λ b lb hb.
+    read_part measure_lexemes g.measure (need kinds.To (sub g.measure (need kinds.Into (need kinds.Name (need kinds.At (sub g.measure done)))))) b (Whole piece_lexemes tokens) (read_measure b) (λ c from lc hc.
+    need_mark kinds.To (sub g.measure (need kinds.Into (need kinds.Name (need kinds.At (sub g.measure done))))) c (Whole piece_lexemes tokens) refl (λ d ld hd.
+    read_part measure_lexemes g.measure (need kinds.Into (need kinds.Name (need kinds.At (sub g.measure done)))) d (Whole piece_lexemes tokens) (read_measure d) (λ e to le he.
+    need_mark kinds.Into (need kinds.Name (need kinds.At (sub g.measure done))) e (Whole piece_lexemes tokens) refl (λ f lf hf.
+    need_text kinds.Name (need kinds.At (sub g.measure done)) f (Whole piece_lexemes tokens) refl (λ onto_route i li ii hi.
+    need_mark kinds.At (sub g.measure done) i (Whole piece_lexemes tokens) refl (λ j lj hj.
+    read_part measure_lexemes g.measure done j (Whole piece_lexemes tokens) (read_measure j) (λ k onto lk hk.
+    read_done k (Whole piece_lexemes tokens) (
+      record { from_route = from_route; from = from; to = to; onto_route = onto_route; onto = onto },
+      record {
+        spelled = ha ∙ ap (λ ps. told kinds.Name from_route ∷ ps) (hb ∙ ap (λ ps. mark kinds.From ∷ ps) (hc ∙ ap (λ ps. measure_lexemes from ++ ps)
+            (hd ∙ ap (λ ps. mark kinds.To ∷ ps) (he ∙ ap (λ ps. measure_lexemes to ++ ps) (hf ∙ ap (λ ps. mark kinds.Into ∷ ps)
+            (hi ∙ ap (λ ps. told kinds.Name onto_route ∷ ps) (hj ∙ ap (λ ps. mark kinds.At ∷ ps) hk)))))));
+        shorter = omega arith;
+      },
+    ))))))))))
+
 -- A chain: an item, and after its mark the others.
 module _ {A B : Type 0} (p q : Part) (kind : TokenKind) (one : A → List Lexeme) (many : B → List Lexeme) (last : A → B) (more : A → B → B)
     (is_mark : has_text kind ≡ false) (is_last : (item : A) → many (last item) ≡ one item) (is_more : (item : A) (others : B) → many (more item others) ≡ one item ++ mark kind ∷ many others)
@@ -285,6 +308,17 @@ value_ruled tokens = read_value tokens
 
 pub read_values : (tokens : List Token) → Reading (rules g.values) tokens (Whole (Items value_lexemes) tokens)
 read_values tokens = read_list g.value g.values value_lexemes values_are value_ruled tokens
+
+pieces_are : rules g.pieces ≡ sub g.piece (pick kinds.Comma (sub g.pieces done) done)
+unfolding rules
+pieces_are = refl
+
+piece_ruled : (tokens : List Token) → Reading (rules g.piece) tokens (Whole piece_lexemes tokens)
+unfolding rules
+piece_ruled tokens = read_piece tokens
+
+pub read_pieces : (tokens : List Token) → Reading (rules g.pieces) tokens (Whole (Items piece_lexemes) tokens)
+read_pieces tokens = read_list g.piece g.pieces piece_lexemes pieces_are piece_ruled tokens
 
 names_are : rules g.names ≡ sub g.column_name (pick kinds.Comma (sub g.names done) done)
 unfolding rules

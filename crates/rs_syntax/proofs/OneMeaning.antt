@@ -19,12 +19,13 @@ use Rattle.rs_syntax.specs.declared.written.WrittenLocation.{WrittenLocation}
 use Rattle.rs_syntax.specs.declared.written.WrittenLocation.TheVariants as written_locations
 use Rattle.rs_syntax.specs.declared.written.WrittenWindow.{WrittenWindow}
 use Rattle.rs_syntax.specs.declared.written.WrittenWindow.TheVariants as written_windows
+use Rattle.rs_syntax.specs.declared.written.WrittenPiece.{WrittenPiece}
 use Rattle.rs_syntax.specs.declared.written.WrittenOperand.{WrittenOperand}
 use Rattle.rs_syntax.specs.declared.written.WrittenOperand.TheVariants as written_operands
-use Rattle.rs_syntax.specs.Tree.{EventLocationTree, along, at_point, WindowTree, part_of_route, OperandTree, written_value, ConditionTree, compare, negated, bracketed, both, either, QueryTree, filtered, dissolved, renamed, windowed, CommandTree, define_route, define_table, define_referent, define_view, move_referent, insert, remove, translate, select, total}
-use Rattle.rs_syntax.specs.WrittenParts.{SaysType, SaysColumns, SaysDatum, SaysRow, SaysPosition, SaysLocation, summed_name}
-use Rattle.rs_syntax.specs.WrittenQueries.{AtomSyntax, written_comparison, written_null, written_not_null, written_negation, written_bracket, ConjunctionSyntax, last_atom, and_then, ConditionSyntax, last_conjunction, or_else, QuerySyntax, written_name, written_where, written_dissolve, written_rename, written_pair, written_window, SaysWindow, SaysOperand, SaysAtom, SaysConjunction, SaysCondition, paired, SaysQuery, SaysRemoval}
-use Rattle.rs_syntax.specs.Written.{Written, written_route, written_table, written_referent, written_view, written_move, written_drop_route, written_drop_table, written_drop_view, written_drop_referent, written_insert, written_remove, written_translate, written_select, written_total, view_text, Says}
+use Rattle.rs_syntax.specs.Tree.{EventLocationTree, along, at_point, WindowTree, part_of_route, PieceTree, OperandTree, written_value, ConditionTree, compare, negated, bracketed, both, either, QueryTree, filtered, dissolved, renamed, windowed, transformed, CommandTree, define_route, define_table, define_referent, define_view, define_alignment, move_referent, insert, remove, translate, select, total}
+use Rattle.rs_syntax.specs.WrittenParts.{SaysType, SaysColumns, SaysDatum, SaysRow, SaysPosition, SaysLocation, SaysPiece, SaysPieces, summed_name}
+use Rattle.rs_syntax.specs.WrittenQueries.{AtomSyntax, written_comparison, written_null, written_not_null, written_negation, written_bracket, ConjunctionSyntax, last_atom, and_then, ConditionSyntax, last_conjunction, or_else, QuerySyntax, written_name, written_where, written_dissolve, written_rename, written_pair, written_window, written_transform, SaysWindow, SaysOperand, SaysAtom, SaysConjunction, SaysCondition, paired, SaysQuery, SaysRemoval}
+use Rattle.rs_syntax.specs.Written.{Written, written_route, written_table, written_referent, written_view, written_alignment, written_move, written_drop_route, written_drop_table, written_drop_view, written_drop_alignment, written_drop_referent, written_insert, written_remove, written_translate, written_select, written_total, view_text, Says}
 use Rattle.std.specs.Prelude.{map, unwrap_or}
 use Rattle.rs_methods.specs.declared.position.Method.TheVariants as methods
 
@@ -95,6 +96,32 @@ says_location_same one line (written_locations.At w) (along a b) c p q = absurd 
 says_location_same one line (written_locations.At w) (at_point a) (along b c) p q = absurd q
 says_location_same one line (written_locations.At w) (at_point a) (at_point b) p q = ap at_point (says_position_same one line w a b p q)
 
+piece_from : (x y : PieceTree) → x.from_route ≡ y.from_route → x.from ≡ y.from → x.to ≡ y.to → x.onto_route ≡ y.onto_route → x.onto ≡ y.onto → x ≡ y
+piece_from x y from_route from to onto_route onto =
+    ap (λ z. record { from_route = z; from = x.from; to = x.to; onto_route = x.onto_route; onto = x.onto }) from_route
+    ∙ ap (λ z. record { from_route = y.from_route; from = z; to = x.to; onto_route = x.onto_route; onto = x.onto }) from
+    ∙ ap (λ z. record { from_route = y.from_route; from = y.from; to = z; onto_route = x.onto_route; onto = x.onto }) to
+    ∙ ap (λ z. record { from_route = y.from_route; from = y.from; to = y.to; onto_route = z; onto = x.onto }) onto_route
+    ∙ ap (λ z. record { from_route = y.from_route; from = y.from; to = y.to; onto_route = y.onto_route; onto = z }) onto
+
+says_piece_same : Readings → (line : List ℕ) (w : WrittenPiece) (a b : PieceTree) → SaysPiece line w a → SaysPiece line w b → a ≡ b
+says_piece_same one line w a b p q =
+    piece_from a b
+    (p.from_route ∙ sym q.from_route)
+    (one.measures (token_text line w.from) a.from b.from p.from q.from)
+    (one.measures (token_text line w.to) a.to b.to p.to q.to)
+    (p.onto_route ∙ sym q.onto_route)
+    (one.measures (token_text line w.onto) a.onto b.onto p.onto q.onto)
+
+says_pieces_same : Readings → (line : List ℕ) (ws : List WrittenPiece) (a b : List PieceTree) → SaysPieces line ws a → SaysPieces line ws b → a ≡ b
+says_pieces_same one line [] [] [] p q = refl
+says_pieces_same one line [] [] (y ∷ ys) p q = absurd q
+says_pieces_same one line [] (x ∷ xs) b p q = absurd p
+says_pieces_same one line (w ∷ ws) [] b p q = absurd p
+says_pieces_same one line (w ∷ ws) (x ∷ xs) [] p q = absurd q
+says_pieces_same one line (w ∷ ws) (x ∷ xs) (y ∷ ys) p q =
+    ap (λ piece. piece ∷ xs) (says_piece_same one line w x y p.0 q.0) ∙ ap (λ zs. y ∷ zs) (says_pieces_same one line ws xs ys p.1 q.1)
+
 -- Queries and conditions.
 says_window_same : Readings → (line : List ℕ) (w : WrittenWindow) (a b : WindowTree) → SaysWindow line w a → SaysWindow line w b → a ≡ b
 says_window_same one line (written_windows.Whole route) a b p q = p ∙ sym q
@@ -140,6 +167,8 @@ says_query_same one line (written_pair operator v w) a b p q =
     p.4 ∙ ap (λ x. paired operator x p.1) (says_query_same one line v p.0 q.0 p.2 q.2) ∙ ap (paired operator q.0) (says_query_same one line w p.1 q.1 p.3 q.3) ∙ sym q.4
 says_query_same one line (written_window w window) a b p q =
     p.4 ∙ ap (λ x. windowed x p.1) (says_query_same one line w p.0 q.0 p.2 q.2) ∙ ap (windowed q.0) (says_window_same one line window p.1 q.1 p.3 q.3) ∙ sym q.4
+says_query_same one line (written_transform w alignment) a b p q =
+    p.2 ∙ ap (λ x. transformed x (token_text line alignment)) (says_query_same one line w p.0 q.0 p.1 q.1) ∙ sym q.2
 
 says_removal_same : (line : List ℕ) (w : Option ConditionSyntax) (a b : Option ConditionTree) → SaysRemoval line w a → SaysRemoval line w b → a ≡ b
 says_removal_same line None a b p q = p ∙ sym q
@@ -157,11 +186,13 @@ says_same one line tokens (written_referent r n w) a b p q =
     p.2 ∙ ap (define_referent (token_text line r) (token_text line n)) (says_position_same one line w p.0 q.0 p.1 q.1) ∙ sym q.2
 says_same one line tokens (written_view n w) a b p q =
     p.2 ∙ ap (λ query. define_view (token_text line n) query (view_text line tokens)) (says_query_same one line w p.0 q.0 p.1 q.1) ∙ sym q.2
+says_same one line tokens (written_alignment n ws) a b p q = p.2 ∙ ap (define_alignment (token_text line n)) (says_pieces_same one line ws p.0 q.0 p.1 q.1) ∙ sym q.2
 says_same one line tokens (written_move r n w) a b p q =
     p.2 ∙ ap (move_referent (token_text line r) (token_text line n)) (says_position_same one line w p.0 q.0 p.1 q.1) ∙ sym q.2
 says_same one line tokens (written_drop_route n) a b p q = p ∙ sym q
 says_same one line tokens (written_drop_table n) a b p q = p ∙ sym q
 says_same one line tokens (written_drop_view n) a b p q = p ∙ sym q
+says_same one line tokens (written_drop_alignment n) a b p q = p ∙ sym q
 says_same one line tokens (written_drop_referent r n) a b p q = p ∙ sym q
 says_same one line tokens (written_insert t r w vs) a b p q =
     p.4

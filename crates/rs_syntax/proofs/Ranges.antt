@@ -22,8 +22,9 @@ use Rattle.rs_syntax.specs.declared.written.WrittenPosition.{WrittenPosition}
 use Rattle.rs_syntax.specs.declared.written.WrittenPosition.TheVariants as written_positions
 use Rattle.rs_syntax.specs.declared.written.WrittenLocation.{WrittenLocation}
 use Rattle.rs_syntax.specs.declared.written.WrittenLocation.TheVariants as written_locations
-use Rattle.rs_syntax.specs.Tree.{EventLocationTree, along, at_point}
-use Rattle.rs_syntax.specs.WrittenParts.{unquoted, signed, SaysType, SaysColumns, SaysDatum, SaysRow, SaysPosition, SaysLocation}
+use Rattle.rs_syntax.specs.declared.written.WrittenPiece.{WrittenPiece}
+use Rattle.rs_syntax.specs.Tree.{EventLocationTree, along, at_point, PieceTree}
+use Rattle.rs_syntax.specs.WrittenParts.{unquoted, signed, SaysType, SaysColumns, SaysDatum, SaysRow, SaysPosition, SaysLocation, SaysPiece, SaysPieces}
 
 -- A position.
 measure_position : (line : List ℕ) (token : Token) → Cases (SaysMeasure (token_text line token)) → Cases (SaysPosition line (written_positions.Measure token))
@@ -128,3 +129,27 @@ more_row line w ws (inr none) others = inr (no_row line w ws (λ d others p q. n
 pub row_cases : (line : List ℕ) (ws : List WrittenValue) → Cases (SaysRow line ws)
 row_cases line [] = inl ([], tt)
 row_cases line (w ∷ ws) = more_row line w ws (datum_cases line w) (row_cases line ws)
+
+-- The pieces of an alignment.
+piece_of : (line : List ℕ) (w : WrittenPiece) → Cases (SaysMeasure (token_text line w.from)) → Cases (SaysMeasure (token_text line w.to)) → Cases (SaysMeasure (token_text line w.onto)) → Cases (SaysPiece line w)
+piece_of line w (inl a) (inl b) (inl c) = inl (
+  record { from_route = token_text line w.from_route; from = a.0; to = b.0; onto_route = token_text line w.onto_route; onto = c.0 },
+  record { from_route = refl; from = a.1; to = b.1; onto_route = refl; onto = c.1 },
+)
+piece_of line w (inl a) (inl b) (inr none) = inr (λ piece says. none piece.onto says.onto)
+piece_of line w (inl a) (inr none) c = inr (λ piece says. none piece.to says.to)
+piece_of line w (inr none) b c = inr (λ piece says. none piece.from says.from)
+
+no_pieces : (line : List ℕ) (w : WrittenPiece) (ws : List WrittenPiece) → ((piece : PieceTree) (others : List PieceTree) → SaysPiece line w piece → SaysPieces line ws others → ⊥) → (pieces : List PieceTree) → SaysPieces line (w ∷ ws) pieces → ⊥
+no_pieces line w ws none [] says = says
+no_pieces line w ws none (piece ∷ pieces) says = none piece pieces says.0 says.1
+
+more_pieces : (line : List ℕ) (w : WrittenPiece) (ws : List WrittenPiece) → Cases (SaysPiece line w) → Cases (SaysPieces line ws) → Cases (SaysPieces line (w ∷ ws))
+more_pieces line w ws (inl piece) (inl others) = inl (piece.0 ∷ others.0, (piece.1, others.1))
+more_pieces line w ws (inl piece) (inr none) = inr (no_pieces line w ws (λ p others says said. none others said))
+more_pieces line w ws (inr none) others = inr (no_pieces line w ws (λ p others says said. none p says))
+
+pub pieces_cases : (line : List ℕ) (ws : List WrittenPiece) → Cases (SaysPieces line ws)
+pieces_cases line [] = inl ([], tt)
+pieces_cases line (w ∷ ws) =
+    more_pieces line w ws (piece_of line w (measure_cases (token_text line w.from)) (measure_cases (token_text line w.to)) (measure_cases (token_text line w.onto))) (pieces_cases line ws)

@@ -6,12 +6,12 @@ use Rattle.rs_lexer.specs.declared.token.Token.{Token}
 use Rattle.rs_lexer.specs.Lexis.{token_text}
 use Rattle.rs_value.specs.Values.{is_text}
 use Rattle.rs_syntax.specs.Tree.{CommandTree}
-use Rattle.rs_syntax.specs.WrittenParts.{column_lexemes, position_lexemes, location_lexemes, value_lexemes, summed_lexemes, list_lexemes, AreToldOf, summed_name}
+use Rattle.rs_syntax.specs.WrittenParts.{column_lexemes, position_lexemes, location_lexemes, value_lexemes, summed_lexemes, piece_lexemes, list_lexemes, AreToldOf, summed_name}
 use Rattle.rs_syntax.specs.WrittenQueries.{window_lexemes, bracketed_names_lexemes, query_lexemes}
-use Rattle.rs_syntax.specs.Written.{Written, written_route, written_table, written_referent, written_view, written_move, written_drop_route, written_drop_table, written_drop_view, written_drop_referent, written_insert, written_remove, written_translate, written_select, written_total, spelling, Says, IsFull}
+use Rattle.rs_syntax.specs.Written.{Written, written_route, written_table, written_referent, written_view, written_alignment, written_move, written_drop_route, written_drop_table, written_drop_view, written_drop_alignment, written_drop_referent, written_insert, written_remove, written_translate, written_select, written_total, spelling, Says, IsFull}
 use Rattle.rs_syntax.specs.Sound.{IsSummedColumn, IsSound}
 use Rattle.rs_syntax.proofs.ToldLaws.{AreToldOf-append}
-use Rattle.rs_syntax.proofs.SoundParts.{name_sound, each_told, columns_sound, columns_length, row_sound, row_length, measure_sound, position_sound, location_sound}
+use Rattle.rs_syntax.proofs.SoundParts.{name_sound, each_told, columns_sound, columns_length, row_sound, row_length, measure_sound, pieces_sound, pieces_length, position_sound, location_sound}
 use Rattle.rs_syntax.proofs.SoundQueries.{window_sound, bracketed_sound, query_sound, removal_sound}
 
 summed_sound : (line : List ℕ) (summed : Option Token) → AreToldOf line (summed_lexemes summed) → IsSummedColumn (summed_name line summed)
@@ -41,6 +41,13 @@ sound line tokens (written_referent r n p) tree clean full all says =
     )
 sound line tokens (written_view n w) tree clean full all says =
     subst IsSound (sym says.2) (name_sound line n (token_text line n) all.1.1.0 refl, query_sound line w says.0 clean all.1.1.1.1 says.1)
+sound line tokens (written_alignment n ps) tree clean full all says =
+    let same = pieces_length line ps says.0 says.1 in
+    subst IsSound (sym says.2) (
+      name_sound line n (token_text line n) all.1.1.0 refl,
+      omega arith,
+      pieces_sound line ps says.0 (each_told line piece_lexemes ps (AreToldOf-append line (list_lexemes kinds.Comma piece_lexemes ps) _ all.1.1.1.1).0) says.1,
+    )
 sound line tokens (written_move r n p) tree clean full all says =
     subst IsSound (sym says.2) (
       name_sound line r (token_text line r) all.1.1.0 refl,
@@ -50,6 +57,7 @@ sound line tokens (written_move r n p) tree clean full all says =
 sound line tokens (written_drop_route n) tree clean full all says = subst IsSound (sym says) (name_sound line n (token_text line n) all.1.1.0 refl)
 sound line tokens (written_drop_table n) tree clean full all says = subst IsSound (sym says) (name_sound line n (token_text line n) all.1.1.0 refl)
 sound line tokens (written_drop_view n) tree clean full all says = subst IsSound (sym says) (name_sound line n (token_text line n) all.1.1.0 refl)
+sound line tokens (written_drop_alignment n) tree clean full all says = subst IsSound (sym says) (name_sound line n (token_text line n) all.1.1.0 refl)
 sound line tokens (written_drop_referent r n) tree clean full all says =
     subst IsSound (sym says) (name_sound line r (token_text line r) all.1.1.0 refl, name_sound line n (token_text line n) all.1.1.1.0 refl)
 sound line tokens (written_insert t r w vs) tree clean full all says =

@@ -2,7 +2,7 @@
 use Rattle.std.proofs.Common.{◌≡◌, ℕ, zero, suc, ◌≤◌, ◌^◌, Bool, true, false, List, [], ◌∷◌, length, refl, sym, ap, ◌∙◌, subst, arith, pos, neg_ℤ}
 use Rattle.std.specs.Prelude.{nat_abs, IsTrue}
 use Rattle.std.specs.Char.{is_ascii_alphabetic}
-use Rattle.std.specs.List.{list_all}
+use Rattle.std.specs.List.{list_all, AllByRecursion}
 use Rattle.std.proofs.lemmas.Bool.{false≢true, and_parts}
 use Rattle.rs_methods.specs.PositionText.{IsWord}
 use Rattle.rs_measure.specs.FixedPoint.{number_of_digits}
@@ -25,10 +25,11 @@ use Rattle.rs_syntax.specs.declared.written.WrittenPosition.{WrittenPosition}
 use Rattle.rs_syntax.specs.declared.written.WrittenPosition.TheVariants as written_positions
 use Rattle.rs_syntax.specs.declared.written.WrittenLocation.{WrittenLocation}
 use Rattle.rs_syntax.specs.declared.written.WrittenLocation.TheVariants as written_locations
-use Rattle.rs_syntax.specs.Tree.{EventLocationTree, along, at_point}
-use Rattle.rs_syntax.specs.WrittenParts.{Lexeme, mark, column_lexemes, position_lexemes, span_lexemes, location_lexemes, value_lexemes, further_lexemes, list_lexemes, signed, SaysType, SaysColumns, SaysDatum, SaysRow, SaysPosition, SaysLocation, AreToldOf}
+use Rattle.rs_syntax.specs.declared.written.WrittenPiece.{WrittenPiece}
+use Rattle.rs_syntax.specs.Tree.{EventLocationTree, along, at_point, PieceTree}
+use Rattle.rs_syntax.specs.WrittenParts.{Lexeme, mark, column_lexemes, position_lexemes, span_lexemes, location_lexemes, value_lexemes, piece_lexemes, further_lexemes, list_lexemes, signed, SaysType, SaysColumns, SaysDatum, SaysRow, SaysPosition, SaysLocation, SaysPiece, SaysPieces, AreToldOf}
 use Rattle.rs_value.specs.Values.{is_text, IsValue, AreValues}
-use Rattle.rs_syntax.specs.Sound.{IsName, IsColumnType, AreColumns, IsMeasure, IsPosition, IsEventLocation}
+use Rattle.rs_syntax.specs.Sound.{IsName, IsColumnType, AreColumns, IsMeasure, IsPosition, IsEventLocation, IsPiece}
 use Rattle.rs_lexer.proofs.TokenLaws.{is_word, IsNameText, name_tells}
 use Rattle.rs_syntax.proofs.ToldLaws.{AreToldOf-append}
 use Rattle.rs_syntax.proofs.CleanTexts.{quoted_is_text}
@@ -108,6 +109,26 @@ row_length line (w ∷ ws) (datum ∷ row) says = ap suc (row_length line ws row
 
 pub measure_sound : (bytes : List ℕ) (measure : ℕ) → SaysMeasure bytes measure → IsMeasure measure
 measure_sound bytes measure says = let below = said_in_range 6 3 bytes measure says in omega (arith, below)
+
+piece_sound : (line : List ℕ) (w : WrittenPiece) (piece : PieceTree) → AreToldOf line (piece_lexemes w) → SaysPiece line w piece → IsPiece piece
+piece_sound line w piece all says = record {
+  from_route = name_sound line w.from_route piece.from_route all.0 says.from_route;
+  from = measure_sound (token_text line w.from) piece.from says.from;
+  to = measure_sound (token_text line w.to) piece.to says.to;
+  onto_route = name_sound line w.onto_route piece.onto_route all.1.1.1.1.1.1.0 says.onto_route;
+  onto = measure_sound (token_text line w.onto) piece.onto says.onto;
+}
+
+pub pieces_sound : (line : List ℕ) (ws : List WrittenPiece) (pieces : List PieceTree) → EachTold line piece_lexemes ws → SaysPieces line ws pieces → AllByRecursion IsPiece pieces
+pieces_sound line ws [] each says = tt
+pieces_sound line [] (piece ∷ pieces) each says = absurd says
+pieces_sound line (w ∷ ws) (piece ∷ pieces) each says = (piece_sound line w piece each.0 says.0, pieces_sound line ws pieces each.1 says.1)
+
+pub pieces_length : (line : List ℕ) (ws : List WrittenPiece) (pieces : List PieceTree) → SaysPieces line ws pieces → length pieces ≡ length ws
+pieces_length line [] [] says = refl
+pieces_length line [] (piece ∷ pieces) says = absurd says
+pieces_length line (w ∷ ws) [] says = absurd says
+pieces_length line (w ∷ ws) (piece ∷ pieces) says = ap suc (pieces_length line ws pieces says.1)
 
 pub position_sound : (line : List ℕ) (w : WrittenPosition) (p : PositionExpression) → AreToldOf line (position_lexemes w) → SaysPosition line w p → IsPosition p
 position_sound line (written_positions.Measure token) p all says = subst IsPosition (sym says.2) (measure_sound (token_text line token) says.0 says.1)

@@ -15,7 +15,8 @@ use Rattle.rs_syntax.specs.declared.written.WrittenPosition.{WrittenPosition}
 use Rattle.rs_syntax.specs.declared.written.WrittenPosition.TheVariants as written_positions
 use Rattle.rs_syntax.specs.declared.written.WrittenLocation.{WrittenLocation}
 use Rattle.rs_syntax.specs.declared.written.WrittenLocation.TheVariants as written_locations
-use Rattle.rs_syntax.specs.WrittenParts.{Lexeme, mark, told, measure_lexemes, position_lexemes, span_lexemes, location_lexemes, method_kind, wanted_lexemes, type_lexemes, column_lexemes, value_lexemes, name_lexemes, further_lexemes, list_lexemes}
+use Rattle.rs_syntax.specs.declared.written.WrittenPiece.{WrittenPiece}
+use Rattle.rs_syntax.specs.WrittenParts.{Lexeme, mark, told, measure_lexemes, position_lexemes, span_lexemes, location_lexemes, method_kind, wanted_lexemes, type_lexemes, column_lexemes, value_lexemes, name_lexemes, piece_lexemes, further_lexemes, list_lexemes}
 
 -- The items are the same, and what follows them.
 abbrev pub Same : {A : Type 0} → (A → List Lexeme) → A → A → List Lexeme → List Lexeme → Type 0
@@ -70,6 +71,26 @@ name_same x y m n e = (cc, cc)
 name_is_no_end : (x : Token) (m n : List Lexeme) → mark kinds.RightParen ∷ m ≡ name_lexemes x ++ n → ⊥
 name_is_no_end x m n e = cc
 
+piece_from : (x y : WrittenPiece) → x.from_route ≡ y.from_route → x.from ≡ y.from → x.to ≡ y.to → x.onto_route ≡ y.onto_route → x.onto ≡ y.onto → x ≡ y
+piece_from x y from_route from to onto_route onto =
+    ap (λ t. record { from_route = t; from = x.from; to = x.to; onto_route = x.onto_route; onto = x.onto }) from_route
+    ∙ ap (λ t. record { from_route = y.from_route; from = t; to = x.to; onto_route = x.onto_route; onto = x.onto }) from
+    ∙ ap (λ t. record { from_route = y.from_route; from = y.from; to = t; onto_route = x.onto_route; onto = x.onto }) to
+    ∙ ap (λ t. record { from_route = y.from_route; from = y.from; to = y.to; onto_route = t; onto = x.onto }) onto_route
+    ∙ ap (λ t. record { from_route = y.from_route; from = y.from; to = y.to; onto_route = y.onto_route; onto = t }) onto
+
+piece_same : (x y : WrittenPiece) (m n : List Lexeme) → Same piece_lexemes x y m n
+piece_same x y m n e =
+    let from_route : x.from_route ≡ y.from_route = cc in
+    let from : x.from ≡ y.from = cc in
+    let to : x.to ≡ y.to = cc in
+    let onto_route : x.onto_route ≡ y.onto_route = cc in
+    let onto : x.onto ≡ y.onto = cc in
+    (piece_from x y from_route from to onto_route onto, cc)
+
+piece_is_no_end : (x : WrittenPiece) (m n : List Lexeme) → mark kinds.RightParen ∷ m ≡ piece_lexemes x ++ n → ⊥
+piece_is_no_end x m n e = cc
+
 -- A list with its commas, up to a closing bracket.
 module _ {A : Type 0} (lexemes : A → List Lexeme) (same : (x y : A) (m n : List Lexeme) → Same lexemes x y m n)
     (is_no_end : (x : A) (m n : List Lexeme) → mark kinds.RightParen ∷ m ≡ lexemes x ++ n → ⊥) where
@@ -108,6 +129,9 @@ values_same xs ys m n e = list_same value_lexemes value_same value_is_no_end xs 
 
 pub names_same : (xs ys : List Token) (m n : List Lexeme) → list_lexemes kinds.Comma name_lexemes xs ++ mark kinds.RightParen ∷ m ≡ list_lexemes kinds.Comma name_lexemes ys ++ mark kinds.RightParen ∷ n → (xs ≡ ys) × (m ≡ n)
 names_same xs ys m n e = list_same name_lexemes name_same name_is_no_end xs ys m n e
+
+pub pieces_same : (xs ys : List WrittenPiece) (m n : List Lexeme) → list_lexemes kinds.Comma piece_lexemes xs ++ mark kinds.RightParen ∷ m ≡ list_lexemes kinds.Comma piece_lexemes ys ++ mark kinds.RightParen ∷ n → (xs ≡ ys) × (m ≡ n)
+pieces_same xs ys m n e = list_same piece_lexemes piece_same piece_is_no_end xs ys m n e
 
 -- What follows a position goes on with none of its signs.
 abbrev pub is_sign : TokenKind → Bool

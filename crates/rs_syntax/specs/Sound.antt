@@ -12,7 +12,7 @@ use Rattle.rs_grammar.specs.declared.kind.TheConstants.{NAME_BYTES}
 use Rattle.rs_lexer.specs.Lexis.{reserved, kind_in}
 use Rattle.rs_methods.specs.Position.{PositionExpression, absolute, beyond, before, interpolative}
 use Rattle.rs_methods.specs.PositionText.{IsWord}
-use Rattle.rs_syntax.specs.Tree.{EventLocationTree, along, at_point, WindowTree, whole_route, part_of_route, OperandTree, column_named, written_value, ConditionTree, compare, is_null, is_not_null, negated, bracketed, both, either, QueryTree, named, filtered, dissolved, renamed, overlaid, covered, merged, subtracted, windowed, CommandTree, define_route, define_table, define_referent, define_view, move_referent, drop_route, drop_table, drop_view, drop_referent, insert, remove, translate, select, total}
+use Rattle.rs_syntax.specs.Tree.{EventLocationTree, along, at_point, WindowTree, whole_route, part_of_route, PieceTree, OperandTree, column_named, written_value, ConditionTree, compare, is_null, is_not_null, negated, bracketed, both, either, QueryTree, named, filtered, dissolved, renamed, overlaid, covered, merged, subtracted, windowed, transformed, CommandTree, define_route, define_table, define_referent, define_view, define_alignment, move_referent, drop_route, drop_table, drop_view, drop_alignment, drop_referent, insert, remove, translate, select, total}
 
 -- A name: a word of at most NAME_BYTES bytes that is not reserved.
 pub record IsName (name : List ℕ) : Type 0 where
@@ -61,6 +61,14 @@ IsCondition (bracketed condition) = IsCondition condition
 IsCondition (both a b) = IsCondition a × IsCondition b
 IsCondition (either a b) = IsCondition a × IsCondition b
 
+-- its routes have names, and its places are measures
+pub record IsPiece (piece : PieceTree) : Type 0 where
+  pub from_route : IsName piece.from_route
+  pub from : IsMeasure piece.from
+  pub to : IsMeasure piece.to
+  pub onto_route : IsName piece.onto_route
+  pub onto : IsMeasure piece.onto
+
 -- all rows where no condition is written
 abbrev pub IsRemovalCondition : Option ConditionTree → Type 0
 IsRemovalCondition None = Unit {0}
@@ -76,6 +84,7 @@ IsQuery (covered a b) = IsQuery a × IsQuery b
 IsQuery (merged a b) = IsQuery a × IsQuery b
 IsQuery (subtracted a b) = IsQuery a × IsQuery b
 IsQuery (windowed query window) = IsQuery query × IsWindow window
+IsQuery (transformed query alignment) = IsQuery query × IsName alignment
 
 -- none where no column is summed
 abbrev pub IsSummedColumn : Option (List ℕ) → Type 0
@@ -88,10 +97,12 @@ IsSound (define_route name start finish) = IsName name × IsMeasure start × IsM
 IsSound (define_table kind name columns) = IsName name × (1 ≤ length columns) × AreColumns columns
 IsSound (define_referent route name position) = IsName route × IsName name × IsPosition position
 IsSound (define_view name query text) = IsName name × IsQuery query
+IsSound (define_alignment name pieces) = IsName name × (1 ≤ length pieces) × AllByRecursion IsPiece pieces
 IsSound (move_referent route name position) = IsName route × IsName name × IsPosition position
 IsSound (drop_route name) = IsName name
 IsSound (drop_table name) = IsName name
 IsSound (drop_view name) = IsName name
+IsSound (drop_alignment name) = IsName name
 IsSound (drop_referent route name) = IsName route × IsName name
 IsSound (insert table route place row) = IsName table × IsName route × IsEventLocation place × (1 ≤ length row) × AreValues row
 IsSound (remove table window condition) = IsName table × IsWindow window × IsRemovalCondition condition

@@ -17,6 +17,15 @@ pub data WindowTree : Type 0 where
   whole_route : List ℕ → WindowTree  -- route
   part_of_route : List ℕ → PositionExpression → PositionExpression → WindowTree  -- route, from, to
 
+-- a piece of an alignment: the part of a route from one measure on and below another, and from which measure on it is
+-- carried onto a route
+pub record PieceTree : Type 0 where
+  pub from_route : List ℕ
+  pub from : ℕ
+  pub to : ℕ
+  pub onto_route : List ℕ
+  pub onto : ℕ
+
 -- what a column is compared with: a column by its name, or a value written out
 pub data OperandTree : Type 0 where
   column_named : List ℕ → OperandTree
@@ -32,7 +41,7 @@ pub data ConditionTree : Type 0 where
   both : ConditionTree → ConditionTree → ConditionTree
   either : ConditionTree → ConditionTree → ConditionTree
 
--- a query, its tables, views and columns by name
+-- a query, its tables, views, columns and alignments by name
 pub data QueryTree : Type 0 where
   named : List ℕ → QueryTree
   filtered : QueryTree → ConditionTree → QueryTree
@@ -43,16 +52,19 @@ pub data QueryTree : Type 0 where
   merged : QueryTree → QueryTree → QueryTree
   subtracted : QueryTree → QueryTree → QueryTree
   windowed : QueryTree → WindowTree → QueryTree
+  transformed : QueryTree → List ℕ → QueryTree  -- the alignment's name
 
 pub data CommandTree : Type 0 where
   define_route : List ℕ → ℕ → ℕ → CommandTree  -- name, start, finish
   define_table : Kind → List ℕ → List (List ℕ × ColumnType) → CommandTree  -- kind, name, columns
   define_referent : List ℕ → List ℕ → PositionExpression → CommandTree  -- route, name, position
   define_view : List ℕ → QueryTree → List ℕ → CommandTree  -- name, query, the query's text as written
+  define_alignment : List ℕ → List PieceTree → CommandTree  -- name, pieces
   move_referent : List ℕ → List ℕ → PositionExpression → CommandTree  -- route, name, position
   drop_route : List ℕ → CommandTree  -- name
   drop_table : List ℕ → CommandTree  -- name
   drop_view : List ℕ → CommandTree  -- name
+  drop_alignment : List ℕ → CommandTree  -- name
   drop_referent : List ℕ → List ℕ → CommandTree  -- route, name
   insert : List ℕ → List ℕ → EventLocationTree → Row → CommandTree  -- table, route, place, values
   remove : List ℕ → WindowTree → Option ConditionTree → CommandTree  -- table, where, which rows

@@ -7,16 +7,17 @@ use Rattle.rs_value.specs.declared.column.ColumnType.{ColumnType}
 use Rattle.rs_value.specs.View.{literal_row}
 use Rattle.rs_syntax.specs.declared.commands.ColumnDefinition.{ColumnDefinition}
 use Rattle.rs_syntax.specs.declared.commands.EventLocation.{EventLocation}
+use Rattle.rs_syntax.specs.declared.commands.Piece.{Piece}
 use Rattle.rs_syntax.specs.declared.commands.EventLocation.TheVariants as locations
 use Rattle.rs_syntax.specs.declared.commands.Command.{Command}
 use Rattle.rs_syntax.specs.declared.commands.Command.TheVariants as commands
 use Rattle.rs_syntax.specs.declared.written.WrittenCommand.{WrittenCommand}
 use Rattle.rs_syntax.specs.declared.written.WrittenCommand.TheVariants as forms
-use Rattle.rs_syntax.specs.Written.{Written, written_route, written_table, written_referent, written_view, written_move, written_drop_route, written_drop_table, written_drop_view, written_drop_referent, written_insert, written_remove, written_translate, written_select, written_total}
+use Rattle.rs_syntax.specs.Written.{Written, written_route, written_table, written_referent, written_view, written_alignment, written_move, written_drop_route, written_drop_table, written_drop_view, written_drop_alignment, written_drop_referent, written_insert, written_remove, written_translate, written_select, written_total}
 use Rattle.rs_syntax.specs.WrittenView.{query_syntax, removal_syntax}
 use Rattle.rs_syntax.specs.declared.queries.Atom.{Atom}
 use Rattle.rs_syntax.specs.QueryView.{window_tree, condition_tree, query_tree}
-use Rattle.rs_syntax.specs.Tree.{EventLocationTree, along, at_point, ConditionTree, CommandTree, define_route, define_table, define_referent, define_view, move_referent, drop_route, drop_table, drop_view, drop_referent, insert, remove, translate, select, total}
+use Rattle.rs_syntax.specs.Tree.{EventLocationTree, along, at_point, PieceTree, ConditionTree, CommandTree, define_route, define_table, define_referent, define_view, define_alignment, move_referent, drop_route, drop_table, drop_view, drop_alignment, drop_referent, insert, remove, translate, select, total}
 
 -- a column's name and type
 abbrev pub column_tree : ColumnDefinition → List ℕ × ColumnType
@@ -26,6 +27,10 @@ column_tree definition = (definition.name.bytes, definition.column_type)
 abbrev pub location_tree : EventLocation → EventLocationTree
 location_tree (locations.Along from to) = along (expression_of from) (expression_of to)
 location_tree (locations.At position) = at_point (expression_of position)
+
+-- a piece of an alignment
+abbrev pub piece_tree : Piece → PieceTree
+piece_tree piece = record { from_route = piece.from_route.bytes; from = piece.from; to = piece.to; onto_route = piece.onto_route.bytes; onto = piece.onto }
 
 -- which rows REMOVE takes, where the line says it
 abbrev pub removal_tree : Option (Vec (Vec Atom Global) Global) → Option ConditionTree
@@ -43,10 +48,12 @@ tree_of (commands.DefineRoute name start finish) = define_route name.bytes start
 tree_of (commands.DefineTable kind name columns) = define_table kind name.bytes (map column_tree columns.items)
 tree_of (commands.DefineReferent route name position) = define_referent route.bytes name.bytes (expression_of position)
 tree_of (commands.DefineView name query text) = define_view name.bytes (query_tree query) (string_bytes text)
+tree_of (commands.DefineAlignment name pieces) = define_alignment name.bytes (map piece_tree pieces.items)
 tree_of (commands.MoveReferent route name position) = move_referent route.bytes name.bytes (expression_of position)
 tree_of (commands.DropRoute name) = drop_route name.bytes
 tree_of (commands.DropTable name) = drop_table name.bytes
 tree_of (commands.DropView name) = drop_view name.bytes
+tree_of (commands.DropAlignment name) = drop_alignment name.bytes
 tree_of (commands.DropReferent route name) = drop_referent route.bytes name.bytes
 tree_of (commands.Insert table route place values) = insert table.bytes route.bytes (location_tree place) (literal_row values.items)
 tree_of (commands.Remove table window condition) = remove table.bytes (window_tree window) (removal_tree condition)
@@ -60,10 +67,12 @@ written_of (forms.DefineRoute name start finish) = written_route name start fini
 written_of (forms.DefineTable kind name columns) = written_table kind name columns.items
 written_of (forms.DefineReferent route name position) = written_referent route name position
 written_of (forms.DefineView name query) = written_view name (query_syntax query)
+written_of (forms.DefineAlignment name pieces) = written_alignment name pieces.items
 written_of (forms.MoveReferent route name position) = written_move route name position
 written_of (forms.DropRoute name) = written_drop_route name
 written_of (forms.DropTable name) = written_drop_table name
 written_of (forms.DropView name) = written_drop_view name
+written_of (forms.DropAlignment name) = written_drop_alignment name
 written_of (forms.DropReferent route name) = written_drop_referent route name
 written_of (forms.Insert table route place values) = written_insert table route place values.items
 written_of (forms.Remove table window condition) = written_remove table window (removal_syntax condition)

@@ -15,10 +15,11 @@ use Rattle.rs_syntax.specs.declared.written.WrittenValue.{WrittenValue}
 use Rattle.rs_syntax.specs.declared.written.WrittenPosition.{WrittenPosition}
 use Rattle.rs_syntax.specs.declared.written.WrittenLocation.{WrittenLocation}
 use Rattle.rs_syntax.specs.declared.written.WrittenWindow.{WrittenWindow}
-use Rattle.rs_syntax.specs.Tree.{EventLocationTree, WindowTree, ConditionTree, QueryTree, CommandTree, define_route, define_table, define_referent, define_view, move_referent, drop_route, drop_table, drop_view, drop_referent, insert, remove, translate, select, total}
+use Rattle.rs_syntax.specs.declared.written.WrittenPiece.{WrittenPiece}
+use Rattle.rs_syntax.specs.Tree.{EventLocationTree, WindowTree, PieceTree, ConditionTree, QueryTree, CommandTree, define_route, define_table, define_referent, define_view, define_alignment, move_referent, drop_route, drop_table, drop_view, drop_alignment, drop_referent, insert, remove, translate, select, total}
 -- the parts that a command is made of
-pub use Rattle.rs_syntax.specs.WrittenParts.{Lexeme, mark, told, has_text, lexeme_of, lexemes_of, measure_lexemes, position_lexemes, span_lexemes, location_lexemes, method_kind, method_lexemes, wanted_lexemes, table_kind, type_lexemes, column_lexemes, value_lexemes, name_lexemes, summed_lexemes, further_lexemes, list_lexemes, IsToldOf, AreToldOf, SaysType, SaysColumns, unquoted_rest, unquoted, signed, SaysDatum, SaysRow, SaysPosition, SaysLocation, summed_name}
-pub use Rattle.rs_syntax.specs.WrittenQueries.{AtomSyntax, written_comparison, written_null, written_not_null, written_negation, written_bracket, ConjunctionSyntax, last_atom, and_then, ConditionSyntax, last_conjunction, or_else, QuerySyntax, written_name, written_where, written_dissolve, written_rename, written_pair, written_window, window_lexemes, comparison_kind, comparison_lexemes, operand_lexemes, atom_lexemes, conjunction_lexemes, condition_lexemes, bracketed_names_lexemes, pair_kind, operator_lexemes, query_lexemes, removal_lexemes, SaysWindow, SaysOperand, SaysAtom, SaysConjunction, SaysCondition, paired, SaysQuery, SaysRemoval}
+pub use Rattle.rs_syntax.specs.WrittenParts.{Lexeme, mark, told, has_text, lexeme_of, lexemes_of, measure_lexemes, position_lexemes, span_lexemes, location_lexemes, method_kind, method_lexemes, wanted_lexemes, table_kind, type_lexemes, column_lexemes, value_lexemes, name_lexemes, summed_lexemes, piece_lexemes, further_lexemes, list_lexemes, IsToldOf, AreToldOf, SaysType, SaysColumns, unquoted_rest, unquoted, signed, SaysDatum, SaysRow, SaysPosition, SaysLocation, SaysPiece, SaysPieces, summed_name}
+pub use Rattle.rs_syntax.specs.WrittenQueries.{AtomSyntax, written_comparison, written_null, written_not_null, written_negation, written_bracket, ConjunctionSyntax, last_atom, and_then, ConditionSyntax, last_conjunction, or_else, QuerySyntax, written_name, written_where, written_dissolve, written_rename, written_pair, written_window, written_transform, window_lexemes, comparison_kind, comparison_lexemes, operand_lexemes, atom_lexemes, conjunction_lexemes, condition_lexemes, bracketed_names_lexemes, pair_kind, operator_lexemes, query_lexemes, removal_lexemes, SaysWindow, SaysOperand, SaysAtom, SaysConjunction, SaysCondition, paired, SaysQuery, SaysRemoval}
 
 -- a command whose names, numbers and texts are still tokens of the line
 pub data Written : Type 0 where
@@ -26,10 +27,12 @@ pub data Written : Type 0 where
   written_table : Kind → Token → List WrittenColumn → Written  -- kind, name, columns
   written_referent : Token → Token → WrittenPosition → Written  -- route, name, position
   written_view : Token → QuerySyntax → Written  -- name, query
+  written_alignment : Token → List WrittenPiece → Written  -- name, pieces
   written_move : Token → Token → WrittenPosition → Written  -- route, name, position
   written_drop_route : Token → Written  -- name
   written_drop_table : Token → Written  -- name
   written_drop_view : Token → Written  -- name
+  written_drop_alignment : Token → Written  -- name
   written_drop_referent : Token → Token → Written  -- route, name
   written_insert : Token → Token → WrittenLocation → List WrittenValue → Written  -- table, route, place, values
   written_remove : Token → WrittenWindow → Option ConditionSyntax → Written  -- table, where, which rows
@@ -48,11 +51,15 @@ spelling (written_table kind name columns) =
 spelling (written_referent route name position) =
     mark kinds.Define ∷ mark kinds.Referent ∷ told kinds.Name route ∷ told kinds.Name name ∷ mark kinds.At ∷ position_lexemes position
 spelling (written_view name query) = mark kinds.Define ∷ mark kinds.View ∷ told kinds.Name name ∷ mark kinds.As ∷ query_lexemes query
+spelling (written_alignment name pieces) =
+    mark kinds.Define ∷ mark kinds.Alignment ∷ told kinds.Name name
+    ∷ mark kinds.LeftParen ∷ (list_lexemes kinds.Comma piece_lexemes pieces ++ mark kinds.RightParen ∷ [])
 spelling (written_move route name position) =
     mark kinds.Move ∷ mark kinds.Referent ∷ told kinds.Name route ∷ told kinds.Name name ∷ mark kinds.To ∷ position_lexemes position
 spelling (written_drop_route name) = mark kinds.Drop ∷ mark kinds.Route ∷ told kinds.Name name ∷ []
 spelling (written_drop_table name) = mark kinds.Drop ∷ mark kinds.Table ∷ told kinds.Name name ∷ []
 spelling (written_drop_view name) = mark kinds.Drop ∷ mark kinds.View ∷ told kinds.Name name ∷ []
+spelling (written_drop_alignment name) = mark kinds.Drop ∷ mark kinds.Alignment ∷ told kinds.Name name ∷ []
 spelling (written_drop_referent route name) = mark kinds.Drop ∷ mark kinds.Referent ∷ told kinds.Name route ∷ told kinds.Name name ∷ []
 spelling (written_insert table route place values) =
     mark kinds.Insert ∷ mark kinds.Into ∷ told kinds.Name table ∷ mark kinds.On ∷ told kinds.Name route
@@ -68,6 +75,7 @@ spelling (written_total query by summed) =
 -- a list of the command has an item at least
 abbrev pub IsFull : Written → Type 0
 IsFull (written_table kind name columns) = 0 < length columns
+IsFull (written_alignment name pieces) = 0 < length pieces
 IsFull (written_insert table route place values) = 0 < length values
 IsFull _ = Unit {0}
 
@@ -98,11 +106,14 @@ Says line tokens (written_referent route name written) tree =
     (position : PositionExpression) × SaysPosition line written position × (tree ≡ define_referent (token_text line route) (token_text line name) position)
 Says line tokens (written_view name written) tree =
     (query : QueryTree) × SaysQuery line written query × (tree ≡ define_view (token_text line name) query (view_text line tokens))
+Says line tokens (written_alignment name written) tree =
+    (pieces : List PieceTree) × SaysPieces line written pieces × (tree ≡ define_alignment (token_text line name) pieces)
 Says line tokens (written_move route name written) tree =
     (position : PositionExpression) × SaysPosition line written position × (tree ≡ move_referent (token_text line route) (token_text line name) position)
 Says line tokens (written_drop_route name) tree = tree ≡ drop_route (token_text line name)
 Says line tokens (written_drop_table name) tree = tree ≡ drop_table (token_text line name)
 Says line tokens (written_drop_view name) tree = tree ≡ drop_view (token_text line name)
+Says line tokens (written_drop_alignment name) tree = tree ≡ drop_alignment (token_text line name)
 Says line tokens (written_drop_referent route name) tree = tree ≡ drop_referent (token_text line route) (token_text line name)
 Says line tokens (written_insert table route written values) tree =
     (place : EventLocationTree) × (row : Row) × SaysLocation line written place × SaysRow line values row

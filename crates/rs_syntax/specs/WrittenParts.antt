@@ -25,7 +25,8 @@ use Rattle.rs_syntax.specs.declared.written.WrittenPosition.{WrittenPosition}
 use Rattle.rs_syntax.specs.declared.written.WrittenPosition.TheVariants as written_positions
 use Rattle.rs_syntax.specs.declared.written.WrittenLocation.{WrittenLocation}
 use Rattle.rs_syntax.specs.declared.written.WrittenLocation.TheVariants as written_locations
-use Rattle.rs_syntax.specs.Tree.{EventLocationTree, along, at_point}
+use Rattle.rs_syntax.specs.declared.written.WrittenPiece.{WrittenPiece}
+use Rattle.rs_syntax.specs.Tree.{EventLocationTree, along, at_point, PieceTree}
 
 -- A token as a spelling shows it: a mark, or a token whose text counts.
 pub data Lexeme : Type 0 where
@@ -106,6 +107,11 @@ abbrev pub summed_lexemes : Option Token → List Lexeme
 summed_lexemes None = []
 summed_lexemes (Some name) = mark kinds.Sum ∷ name_lexemes name
 
+abbrev pub piece_lexemes : WrittenPiece → List Lexeme
+piece_lexemes piece =
+    told kinds.Name piece.from_route ∷ mark kinds.From ∷ (measure_lexemes piece.from ++ mark kinds.To ∷ (measure_lexemes piece.to
+    ++ mark kinds.Into ∷ told kinds.Name piece.onto_route ∷ mark kinds.At ∷ measure_lexemes piece.onto))
+
 -- the items, with a mark before each
 abbrev pub further_lexemes : {A : Type 0} → TokenKind → (A → List Lexeme) → List A → List Lexeme
 further_lexemes kind lexemes [] = []
@@ -180,6 +186,18 @@ abbrev pub SaysLocation : List ℕ → WrittenLocation → EventLocationTree →
 SaysLocation line (written_locations.Along from to) (along first second) = SaysPosition line from first × SaysPosition line to second
 SaysLocation line (written_locations.At written) (at_point position) = SaysPosition line written position
 SaysLocation line _ _ = ⊥
+
+pub record SaysPiece (line : List ℕ) (written : WrittenPiece) (piece : PieceTree) : Type 0 where
+  pub from_route : piece.from_route ≡ token_text line written.from_route
+  pub from : SaysMeasure (token_text line written.from) piece.from
+  pub to : SaysMeasure (token_text line written.to) piece.to
+  pub onto_route : piece.onto_route ≡ token_text line written.onto_route
+  pub onto : SaysMeasure (token_text line written.onto) piece.onto
+
+abbrev pub SaysPieces : List ℕ → List WrittenPiece → List PieceTree → Type 0
+SaysPieces line [] [] = Unit {0}
+SaysPieces line (written ∷ more) (piece ∷ pieces) = SaysPiece line written piece × SaysPieces line more pieces
+SaysPieces line _ _ = ⊥
 
 -- the name of the column that is summed, if one is named
 abbrev pub summed_name : List ℕ → Option Token → Option (List ℕ)

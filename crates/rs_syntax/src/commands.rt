@@ -33,6 +33,21 @@ pub enum EventLocation {
     },
 }
 
+/// A piece of an alignment: a part of a route, carried onto a route without stretching.
+#[derive(Clone, Copy)]
+pub struct Piece {
+    /// The route of which a part is carried.
+    pub from_route: Name,
+    /// Where the part begins, in thousandths.
+    pub from: Measure,
+    /// Where it ends, in thousandths; it may be written below the beginning.
+    pub to: Measure,
+    /// The route onto which it is carried.
+    pub onto_route: Name,
+    /// Where its beginning is put there, in thousandths.
+    pub onto: Measure,
+}
+
 /// A command of a line.
 #[derive(Drop)]
 pub enum Command {
@@ -72,6 +87,13 @@ pub enum Command {
         /// The query's text as the line writes it, from its first token to its last.
         text: String,
     },
+    /// Pieces of routes that are carried onto routes, under a name.
+    DefineAlignment {
+        /// The alignment's name.
+        name: Name,
+        /// Its pieces, as they are written.
+        pieces: Vec<Piece>,
+    },
     /// Another position for a referent of a route.
     MoveReferent {
         /// The route's name.
@@ -94,6 +116,11 @@ pub enum Command {
     /// A view, to be dropped.
     DropView {
         /// The view's name.
+        name: Name,
+    },
+    /// An alignment, to be dropped.
+    DropAlignment {
+        /// The alignment's name.
         name: Name,
     },
     /// A referent of a route, to be dropped.

@@ -25,9 +25,9 @@ pub fn line_has_an_answer()
 {}
 
 /// A command that the text of a line says keeps to what `IsSound` says: its names are names, the lists of a
-/// table's columns and of a row's values have items, its measures, its parts, the numbers of its rows and the
-/// lengths of its columns are in their ranges, and its texts are UTF-8 without control bytes, as the line's
-/// text is.
+/// table's columns, of a row's values and of an alignment's pieces have items, its measures, its parts, the
+/// numbers of its rows and the lengths of its columns are in their ranges, and its texts are UTF-8 without
+/// control bytes, as the line's text is.
 pub fn command_of_a_line_is_sound()
     ensures { (line : List ℕ) (from : ℕ) (tree : CommandTree) → IsTrue (is_text line) → Reads line from (Ok tree) → IsSound tree }
 {

@@ -8,7 +8,7 @@ pub mod laws;
 pub mod queries;
 pub mod written;
 
-pub use commands::{ColumnDefinition, Command, EventLocation};
+pub use commands::{ColumnDefinition, Command, EventLocation, Piece};
 pub use laws::{command_of_a_line_is_sound, line_has_an_answer, line_has_one_answer};
 pub use queries::{Atom, Operand, Query, Window};
 pub use rs_methods::{Method, Name, Position, Sign};

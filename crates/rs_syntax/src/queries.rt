@@ -1,4 +1,4 @@
-//! The syntax tree of a query and of a condition: tables, views and columns by name.
+//! The syntax tree of a query and of a condition: tables, views, columns and alignments by name.
 //!
 //! Names have 1 to `NAME_BYTES` bytes, and each list but that of DISSOLVE's columns has one item at least.
 
@@ -69,4 +69,7 @@ pub enum Query {
     Minus(Box<Query>, Box<Query>),
     /// The rows inside a window.
     Window(Box<Query>, Window),
+    /// The rows carried by the pieces of an alignment, by its name (ArcGIS's Transform Route Events, without
+    /// stretching).
+    Transform(Box<Query>, Name),
 }

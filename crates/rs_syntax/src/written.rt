@@ -86,6 +86,21 @@ pub enum WrittenWindow {
     },
 }
 
+/// A piece of an alignment as written.
+#[derive(Clone, Copy)]
+pub struct WrittenPiece {
+    /// The name of the route of which a part is carried.
+    pub from_route: Token,
+    /// The measure at which the part begins.
+    pub from: Token,
+    /// The measure at which it ends.
+    pub to: Token,
+    /// The name of the route onto which it is carried.
+    pub onto_route: Token,
+    /// The measure at which its beginning is put there.
+    pub onto: Token,
+}
+
 /// What a column is compared with, as written.
 #[derive(Clone, Copy)]
 pub enum WrittenOperand {
@@ -140,6 +155,8 @@ pub enum WrittenQuery {
     Pair(PairOperator, Box<WrittenQuery>, Box<WrittenQuery>),
     /// `WINDOW`: a query and a window.
     Window(Box<WrittenQuery>, WrittenWindow),
+    /// `TRANSFORM`: a query and an alignment's name.
+    Transform(Box<WrittenQuery>, Token),
 }
 
 /// A command as written.
@@ -179,6 +196,13 @@ pub enum WrittenCommand {
         /// Its query.
         query: WrittenQuery,
     },
+    /// `DEFINE ALIGNMENT`.
+    DefineAlignment {
+        /// The alignment's name.
+        name: Token,
+        /// Its pieces.
+        pieces: Vec<WrittenPiece>,
+    },
     /// `MOVE REFERENT`.
     MoveReferent {
         /// The route's name.
@@ -201,6 +225,11 @@ pub enum WrittenCommand {
     /// `DROP VIEW`.
     DropView {
         /// The view's name.
+        name: Token,
+    },
+    /// `DROP ALIGNMENT`.
+    DropAlignment {
+        /// The alignment's name.
         name: Token,
     },
     /// `DROP REFERENT`.

@@ -19,9 +19,9 @@ use Rattle.rs_syntax.specs.declared.written.WrittenWindow.{WrittenWindow}
 use Rattle.rs_syntax.specs.declared.written.WrittenWindow.TheVariants as written_windows
 use Rattle.rs_syntax.specs.declared.written.WrittenOperand.{WrittenOperand}
 use Rattle.rs_syntax.specs.declared.written.WrittenOperand.TheVariants as written_operands
-use Rattle.rs_syntax.specs.Tree.{part_of_route, whole_route, column_named, compare, is_null, is_not_null, named, dissolved, renamed}
+use Rattle.rs_syntax.specs.Tree.{part_of_route, whole_route, column_named, compare, is_null, is_not_null, named, dissolved, renamed, transformed}
 use Rattle.rs_syntax.specs.WrittenParts.{Lexeme, mark, told, has_text, lexeme_of, lexemes_of, position_lexemes, name_lexemes, further_lexemes, list_lexemes, unquoted, signed, SaysDatum, SaysPosition}
-use Rattle.rs_syntax.specs.WrittenQueries.{AtomSyntax, written_comparison, written_null, written_not_null, written_negation, written_bracket, ConjunctionSyntax, last_atom, and_then, ConditionSyntax, last_conjunction, or_else, QuerySyntax, written_name, written_where, written_dissolve, written_rename, written_pair, written_window, window_lexemes, comparison_kind, operand_lexemes, atom_lexemes, conjunction_lexemes, condition_lexemes, bracketed_names_lexemes, pair_kind, operator_lexemes, query_lexemes, SaysWindow, SaysOperand, SaysAtom, SaysConjunction, SaysCondition, SaysQuery}
+use Rattle.rs_syntax.specs.WrittenQueries.{AtomSyntax, written_comparison, written_null, written_not_null, written_negation, written_bracket, ConjunctionSyntax, last_atom, and_then, ConditionSyntax, last_conjunction, or_else, QuerySyntax, written_name, written_where, written_dissolve, written_rename, written_pair, written_window, written_transform, window_lexemes, comparison_kind, operand_lexemes, atom_lexemes, conjunction_lexemes, condition_lexemes, bracketed_names_lexemes, pair_kind, operator_lexemes, query_lexemes, SaysWindow, SaysOperand, SaysAtom, SaysConjunction, SaysCondition, SaysQuery}
 use Rattle.rs_syntax_laws.proofs.MovedTexts.{moved, HasSameText}
 
 module _ (line other : List ℕ) (move : ℕ → ℕ) where
@@ -249,4 +249,11 @@ module _ (line other : List ℕ) (move : ℕ → ℕ) where
         written_window q.0 w.0,
         operator_spelled kinds.Window (query_lexemes query) (window_lexemes window) (query_lexemes q.0) (window_lexemes w.0) q.1 w.1,
         λ tree says. (says.0, says.1, q.2 says.0 says.2, w.2 says.1 says.3, says.4),
+      )
+  query_moved (written_transform query alignment) kept =
+      let k = operator_kept kinds.Transform (query_lexemes query) (name_lexemes alignment) kept in
+      let q = query_moved query k.0 in (
+        written_transform q.0 (moved move alignment),
+        operator_spelled kinds.Transform (query_lexemes query) (name_lexemes alignment) (query_lexemes q.0) (name_lexemes (moved move alignment)) q.1 refl,
+        λ tree says. (says.0, q.2 says.0 says.1, says.2 ∙ ap (transformed says.0) (sym k.1.0)),
       )

@@ -12,6 +12,9 @@ returns-in-DefineReferent-clause-err c = rw c.in-DefineReferent.is c.referent_sa
 pub returns-in-DefineView-clause-err : goal.returns-in-DefineView-clause-err
 returns-in-DefineView-clause-err c = rw c.in-DefineView.is c.view_said.ensures.err
 
+pub returns-in-DefineAlignment-clause-err : goal.returns-in-DefineAlignment-clause-err
+returns-in-DefineAlignment-clause-err c = rw (c.in-DefineAlignment.is, ← c.deref-in-DefineAlignment.ensures.value) c.alignment_said.ensures.err
+
 pub returns-in-DefineRoute-clause-ok : goal.returns-in-DefineRoute-clause-ok
 returns-in-DefineRoute-clause-ok c = rw c.in-DefineRoute.is c.route_said.ensures.ok
 
@@ -23,3 +26,6 @@ returns-in-DefineReferent-clause-ok c = rw c.in-DefineReferent.is c.referent_sai
 
 pub returns-in-DefineView-clause-ok : goal.returns-in-DefineView-clause-ok
 returns-in-DefineView-clause-ok c = rw c.in-DefineView.is c.view_said.ensures.ok
+
+pub returns-in-DefineAlignment-clause-ok : goal.returns-in-DefineAlignment-clause-ok
+returns-in-DefineAlignment-clause-ok c = rw (c.in-DefineAlignment.is, ← c.deref-in-DefineAlignment.ensures.value) c.alignment_said.ensures.ok

@@ -48,10 +48,12 @@ definition_said-requires-clause-defines c =
       | forms.DefineTable kind name columns ↦ λ is. refl
       | forms.DefineReferent route name position ↦ λ is. refl
       | forms.DefineView name query ↦ λ is. refl
+      | forms.DefineAlignment name pieces ↦ λ is. refl
       | forms.MoveReferent route name position ↦ λ is. absurd (no.not-MoveReferent route name position is)
       | forms.DropRoute name ↦ λ is. absurd (no.not-DropRoute name is)
       | forms.DropTable name ↦ λ is. absurd (no.not-DropTable name is)
       | forms.DropView name ↦ λ is. absurd (no.not-DropView name is)
+      | forms.DropAlignment name ↦ λ is. absurd (no.not-DropAlignment name is)
       | forms.DropReferent route name ↦ λ is. absurd (no.not-DropReferent route name is)
       | forms.Insert table route place values ↦ λ is. absurd (no.not-Insert table route place values is)
       | forms.Remove table window condition ↦ λ is. absurd (no.not-Remove table window condition is)

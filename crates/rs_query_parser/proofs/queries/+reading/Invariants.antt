@@ -25,3 +25,6 @@ decreases-pair_query l = 3 * length l.tokens.now + 2
 
 abbrev pub decreases-window_query : goal.decreases-window_query
 decreases-window_query l = 3 * length l.tokens.now + 2
+
+abbrev pub decreases-transform_query : goal.decreases-transform_query
+decreases-transform_query l = 3 * length l.tokens.now + 2
