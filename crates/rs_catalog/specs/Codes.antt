@@ -7,7 +7,7 @@ use Rattle.rs_value.specs.declared.column.Kind.TheVariants.{Point, Line}
 use Rattle.rs_value.specs.declared.column.ColumnType.{ColumnType}
 use Rattle.rs_value.specs.declared.column.ColumnType.TheVariants.{Int, Text}
 use Rattle.rs_facts.specs.Fact.{Name, Names}
-use Rattle.rs_facts.specs.Query.{RouteEnds, Column}
+use Rattle.rs_facts.specs.Query.{RouteEnds, Column, Piece}
 use Rattle.rs_syntax.specs.contracts.queries.Query as query
 use Rattle.rs_syntax.specs.declared.queries.Query.{Query}
 use Rattle.rs_catalog.specs.Definitions.{Numbered, RouteItem, TableItem, ViewItem, Definitions}
@@ -64,6 +64,14 @@ table_code = code_by (ℕ × (Kind × List Column)) (coded× coded_ℕ (coded× 
 abbrev pub view_code : Coded ViewItem
 view_code = code_by (Query × List ℕ) (coded× query.the_row.coded (coded_list coded_ℕ)) (λ v. (v.query, v.text)) (λ p. record { query = p.0; text = p.1 }) (λ _. refl)
 
+abbrev pub piece_code : Coded Piece
+piece_code = code_by (Name × (ℕ × (ℕ × (Name × ℕ)))) (coded× name_code (coded× coded_ℕ (coded× coded_ℕ (coded× name_code coded_ℕ))))
+    (λ p. (p.from_route, (p.from, (p.to, (p.onto_route, p.onto))))) (λ t. record { from_route = t.0; from = t.1.0; to = t.1.1.0; onto_route = t.1.1.1.0; onto = t.1.1.1.1 }) (λ _. refl)
+
+abbrev pub pieces_code : Coded (List Piece)
+pieces_code = coded_list piece_code
+
 abbrev pub definitions_code : Coded Definitions
-definitions_code = code_by (Names RouteItem × (Names TableItem × Names ViewItem)) (coded× (names_code route_code) (coded× (names_code table_code) (names_code view_code)))
-    (λ d. (d.routes, (d.tables, d.views))) (λ p. record { routes = p.0; tables = p.1.0; views = p.1.1 }) (λ _. refl)
+definitions_code = code_by (Names RouteItem × (Names TableItem × (Names ViewItem × Names (List Piece))))
+    (coded× (names_code route_code) (coded× (names_code table_code) (coded× (names_code view_code) (names_code pieces_code))))
+    (λ d. (d.routes, (d.tables, (d.views, d.alignments)))) (λ p. record { routes = p.0; tables = p.1.0; views = p.1.1.0; alignments = p.1.1.1 }) (λ _. refl)

@@ -1,18 +1,22 @@
--- What the catalogue keeps: routes, tables and views by name, routes and tables with their numbers.
-use Rattle.std.specs.Prelude.{◌≡◌, ℕ, ◌<◌, ◌≤◌, List, [], length, Option, Some, None}
+-- What the catalogue keeps: routes, tables, views and alignments by name, routes and tables with their numbers.
+use Rattle.std.specs.Prelude.{◌≡◌, ℕ, ◌<◌, ◌≤◌, List, length, map, Option, Some, None}
 use Rattle.std.specs.Ordering.{nat_cmp}
 use Rattle.std.specs.FinMap as names
 use Rattle.rs_measure.specs.declared.measure.TheConstants.{GREATEST_MEASURE}
 use Rattle.rs_value.specs.declared.column.Kind.{Kind}
 use Rattle.rs_value.specs.declared.column.TheConstants.{COLUMNS}
 use Rattle.rs_facts.specs.Fact.{Name, Names, Places, Facts, none}
-use Rattle.rs_facts.specs.Query.{RouteEnds, Column, Table, World}
+use Rattle.rs_facts.specs.Query.{RouteEnds, Column, Table, World, Piece}
+use Rattle.rs_facts.specs.WellFormed.{ArePiecesOn}
 use Rattle.rs_facts.specs.Runs.{Stretch}
 use Rattle.rs_facts.specs.Spans.{places_of}
 use Rattle.rs_syntax.specs.declared.queries.Query.{Query}
 use Rattle.rs_syntax.specs.QueryView.{query_tree}
+use Rattle.rs_syntax.specs.View.{piece_tree}
+use Rattle.rs_syntax.specs.declared.commands.Piece as code
 use Rattle.rs_syntax.specs.Tree.{QueryTree}
 use Rattle.rs_machine.specs.declared.limits.TheConstants.{ROUTES, TABLES}
+use Rattle.rs_machine.specs.Checks.{piece_of}
 use Rattle.rs_machine.specs.State.{State}
 use Rattle.rs_catalog.specs.Names.{map_values}
 
@@ -38,9 +42,17 @@ pub record Definitions : Type 0 where
   pub routes : Names RouteItem
   pub tables : Names TableItem
   pub views : Names ViewItem
+  pub alignments : Names (List Piece)
 
 abbrev pub no_definitions : Definitions
-no_definitions = record { routes = names.empty; tables = names.empty; views = names.empty }
+no_definitions = record { routes = names.empty; tables = names.empty; views = names.empty; alignments = names.empty }
+
+abbrev pub routes_of : Definitions → Names RouteEnds
+routes_of definitions = map_values (λ item. item.ends) definitions.routes
+
+-- pieces of the code
+abbrev pub pieces_of : List code.Piece → List Piece
+pieces_of pieces = map (λ piece. piece_of (piece_tree piece)) pieces
 
 -- ---- numbers
 
@@ -58,7 +70,8 @@ abbrev pub AreNumbered : {X : Type 0} → (X → ℕ) → Names X → Type 0
 AreNumbered {X} number_of items = (a b : Name) (x y : X) → names.get items a ≡ Some x → names.get items b ≡ Some y → number_of x ≡ number_of y → a ≡ b
 
 -- What is so of every catalogue: numbers are distinct and below their limits, each route's ends are measures, the first
--- below the second, and a table has no more columns than a row has room for.
+-- below the second, a table has no more columns than a row has room for, and the pieces of alignments lie on routes that
+-- are there.
 pub record AreDefinitions (definitions : Definitions) : Type 0 where
   pub route_numbers : AreNumbered (λ item. item.number) definitions.routes
   pub table_numbers : AreNumbered (λ item. item.number) definitions.tables
@@ -66,11 +79,9 @@ pub record AreDefinitions (definitions : Definitions) : Type 0 where
       → (item.number < ROUTES) × (item.ends.start < item.ends.finish) × (item.ends.finish ≤ GREATEST_MEASURE)
   pub tables : (name : Name) (item : TableItem) → names.get definitions.tables name ≡ Some item
       → (item.number < TABLES) × (length item.columns ≤ COLUMNS)
+  pub alignments : (name : Name) (pieces : List Piece) → names.get definitions.alignments name ≡ Some pieces → ArePiecesOn (routes_of definitions) pieces
 
 -- ---- the state
-
-abbrev pub routes_of : Definitions → Names RouteEnds
-routes_of definitions = map_values (λ item. item.ends) definitions.routes
 
 abbrev pub views_of : Definitions → Names QueryTree
 views_of definitions = map_values (λ item. query_tree item.query) definitions.views
@@ -104,6 +115,7 @@ state_from definitions referents_on spans_on changes = record {
   referents = referents_from definitions referents_on;
   tables = tables_from definitions spans_on;
   views = views_of definitions;
+  alignments = definitions.alignments;
   changes = changes;
   cursors = λ session. names.empty;
 }

@@ -1,8 +1,8 @@
-//! The catalogue: routes, tables and views by name, each route and each table with a number of its own.
+//! The catalogue: routes, tables, views and alignments by name, each route and each table with a number of its own.
 //!
 //! It promises the finite maps that its definitions say, and for each new route and table the least free number.
 
-ghost use Rattle.std.specs.Prelude.{◌≡◌, ◌<◌, ◌≤◌, ◌||◌, map, length, string_bytes, vec_len, IfOk, OnOk, OnErr};
+ghost use Rattle.std.specs.Prelude.{◌≡◌, ◌<◌, ◌≤◌, ◌||◌, false, map, length, string_bytes, vec_len, IfOk, OnOk, OnErr};
 ghost use Rattle.std.specs.Option.{option_copied};
 ghost use Rattle.std.specs.Result.{result_map_both};
 ghost use Rattle.std.specs.FinMap as names;
@@ -10,27 +10,30 @@ ghost use Rattle.rs_syntax.specs.View.{column_tree};
 ghost use Rattle.rs_machine.specs.Checks.{found};
 ghost use Rattle.rs_machine.specs.State.{has};
 ghost use Rattle.rs_catalog.specs.Names.{entries_by_bytes};
-ghost use Rattle.rs_catalog.specs.Definitions.{AreDefinitions, IsLeastFree, no_definitions};
-ghost use Rattle.rs_catalog.specs.Changes.{with_route, with_table, with_view, without_route, without_table, without_view};
+ghost use Rattle.rs_facts.specs.WellFormed.{ArePiecesOn};
+ghost use Rattle.rs_catalog.specs.Definitions.{AreDefinitions, IsLeastFree, no_definitions, routes_of, pieces_of};
+ghost use Rattle.rs_catalog.specs.Uses.{some_piece_on};
+ghost use Rattle.rs_catalog.specs.Changes.{with_route, with_table, with_view, with_alignment, without_route, without_table, without_view, without_alignment};
 
 use crate::by_name::ByName;
-use crate::entries::{Ends, RouteEntry, TableEntry, ViewEntry};
+use crate::entries::{AlignmentEntry, Ends, RouteEntry, TableEntry, ViewEntry};
 use crate::numbers::Numbers;
 use rs_machine::limits::{ROUTES, TABLES};
 use rs_measure::{Measure, Refusal};
 use rs_methods::Name;
-use rs_syntax::{ColumnDefinition, Query};
+use rs_syntax::{ColumnDefinition, Piece, Query};
 use rs_value::{COLUMNS, Kind};
 use std::alloc::{AllocError, Global};
 use std::collections::btree_map;
 use std::marker::Model;
 
-/// Routes, tables and views by name.
+/// Routes, tables, views and alignments by name.
 #[derive(Drop)]
 pub struct Catalog {
     routes: ByName<RouteEntry>,
     tables: ByName<TableEntry>,
     views: ByName<ViewEntry>,
+    alignments: ByName<AlignmentEntry>,
 }
 
 impl Model for Catalog {
@@ -41,13 +44,13 @@ impl Model for Catalog {
 
     ghost coded = { definitions_code };
 
-    ghost view = { λ c. record { routes = c.routes; tables = c.tables; views = c.views } };
+    ghost view = { λ c. record { routes = c.routes; tables = c.tables; views = c.views; alignments = c.alignments } };
 
-    ghost invariant = { λ c. AreDefinitions (record { routes = c.routes; tables = c.tables; views = c.views }) };
+    ghost invariant = { λ c. AreDefinitions (record { routes = c.routes; tables = c.tables; views = c.views; alignments = c.alignments }) };
 }
 
 impl Catalog {
-    /// No route, no table and no view. It takes no memory.
+    /// No route, no table, no view and no alignment. It takes no memory.
     pub fn new(alloc: Global) -> Self
         ensures { result ≡ no_definitions }
     {
@@ -55,6 +58,7 @@ impl Catalog {
             routes: ByName::new(alloc),
             tables: ByName::new(alloc),
             views: ByName::new(alloc),
+            alignments: ByName::new(alloc),
         }
     }
 
@@ -106,6 +110,23 @@ impl Catalog {
         self.table(name).is_some() || self.view(name).is_some()
     }
 
+    /// The alignment of this name.
+    pub fn alignment(&self, name: &Name) -> Option<&AlignmentEntry>
+        ensures { option_copied result ≡ names.get self.now.alignments name.now.bytes }
+    {
+        self.alignments.get(name)
+    }
+
+    /// The alignment of this name; 21 where there is none.
+    pub fn named_alignment(&self, name: &Name) -> Result<&AlignmentEntry, Refusal>
+        ensures { result_map_both (λ alignment. alignment.now) (λ refusal. refusal) result ≡ found (names.get self.now.alignments name.now.bytes) Refusal.NoSuchName }
+    {
+        match self.alignment(name) {
+            Some(alignment) => Ok(alignment),
+            None => Err(Refusal::NoSuchName),
+        }
+    }
+
     /// How many routes there are.
     pub fn routes_len(&self) -> usize
         ensures { result ≡ names.len self.now.routes }
@@ -125,6 +146,13 @@ impl Catalog {
         ensures { result ≡ names.len self.now.views }
     {
         self.views.len()
+    }
+
+    /// How many alignments there are.
+    pub fn alignments_len(&self) -> usize
+        ensures { result ≡ names.len self.now.alignments }
+    {
+        self.alignments.len()
     }
 
     /// The routes, in the order of their names.
@@ -148,6 +176,13 @@ impl Catalog {
         self.views.iter()
     }
 
+    /// The alignments, in the order of their names.
+    pub fn alignments(&self) -> btree_map::Iter<'_, Name, AlignmentEntry>
+        ensures { entries_by_bytes (λ alignment. alignment) result ≡ names.entries self.now.alignments }
+    {
+        self.alignments.iter()
+    }
+
     /// Defines a route under the least number that no route has, which is the answer. For want of memory it changes
     /// nothing.
     pub fn define_route(
@@ -156,6 +191,7 @@ impl Catalog {
         start: Measure,
         finish: Measure,
     ) -> Result<u32, AllocError>
+        requires new { has self.old.routes name.bytes ≡ false }
         requires ordered { start < finish }
         requires room { names.len self.old.routes < ROUTES }
         ensures least { IfOk result (λ number. IsLeastFree (λ item. item.number) self.old.routes number) }
@@ -196,8 +232,18 @@ impl Catalog {
         self.views.define(name, ViewEntry::new(query, text))
     }
 
+    /// Defines an alignment by its pieces. For want of memory it changes nothing.
+    pub fn define_alignment(&mut self, name: Name, pieces: Vec<Piece>) -> Result<(), AllocError>
+        requires { ArePiecesOn (routes_of self.old) (pieces_of pieces.items) }
+        ensures ok { OnOk result (self.new ≡ with_alignment self.old name.bytes (pieces_of pieces.items)) }
+        ensures err { OnErr result (self.new ≡ self.old) }
+    {
+        self.alignments.define(name, AlignmentEntry::new(pieces))
+    }
+
     /// Takes a route out, if it is there. It takes no memory.
     pub fn drop_route(&mut self, name: &Name)
+        requires unused { some_piece_on self.old name.now.bytes ≡ false }
         ensures { self.new ≡ without_route self.old name.now.bytes }
     {
         self.routes.remove(name);
@@ -215,6 +261,13 @@ impl Catalog {
         ensures { self.new ≡ without_view self.old name.now.bytes }
     {
         self.views.remove(name);
+    }
+
+    /// Takes an alignment out, if it is there. It takes no memory.
+    pub fn drop_alignment(&mut self, name: &Name)
+        ensures { self.new ≡ without_alignment self.old name.now.bytes }
+    {
+        self.alignments.remove(name);
     }
 
     /// The least number that no route has.

@@ -1,15 +1,16 @@
-//! What the catalogue keeps under a name: a route's number and ends, a table's number, kind and columns, and a view's
-//! query and text.
+//! What the catalogue keeps under a name: a route's number and ends, a table's number, kind and columns, a view's query
+//! and text, and an alignment's pieces.
 //!
 //! It promises that a route starts below its finish.
 
 ghost use Rattle.std.specs.Prelude.{◌≡◌, ◌<◌, ◌≤◌, map, string_bytes};
 ghost use Rattle.rs_measure.specs.declared.measure.TheConstants.{GREATEST_MEASURE};
 ghost use Rattle.rs_syntax.specs.View.{column_tree};
+ghost use Rattle.rs_catalog.specs.Definitions.{pieces_of};
 
 use rs_measure::Measure;
 use rs_methods::Route;
-use rs_syntax::{ColumnDefinition, Query};
+use rs_syntax::{ColumnDefinition, Piece, Query};
 use rs_value::Kind;
 use std::marker::Model;
 
@@ -209,5 +210,40 @@ impl ViewEntry {
         ensures { result.now ≡ self.now.text }
     {
         self.text.as_str()
+    }
+}
+
+/// An alignment: its pieces, as they were written.
+#[derive(Drop)]
+pub struct AlignmentEntry {
+    pieces: Vec<Piece>,
+}
+
+impl Model for AlignmentEntry {
+    ghost use Rattle.std.specs.Prelude.{List};
+    ghost use Rattle.rs_facts.specs.Query.{Piece};
+    ghost use Rattle.rs_catalog.specs.Codes.{pieces_code};
+    ghost use Rattle.rs_catalog.specs.Definitions.{pieces_of};
+
+    ghost Value = { List Piece };
+
+    ghost coded = { pieces_code };
+
+    ghost view = { λ a. pieces_of a.pieces.items };
+}
+
+impl AlignmentEntry {
+    /// An alignment of these pieces.
+    pub fn new(pieces: Vec<Piece>) -> Self
+        ensures { result ≡ pieces_of pieces.items }
+    {
+        AlignmentEntry { pieces }
+    }
+
+    /// Its pieces, as they were written.
+    pub fn pieces(&self) -> &[Piece]
+        ensures { pieces_of result.now ≡ self.now }
+    {
+        &self.pieces
     }
 }

@@ -1,4 +1,4 @@
-//! The catalogue: routes, tables and views by name, and the referents of each route.
+//! The catalogue: routes, tables, views and alignments by name, and the referents of each route.
 //!
 //! It promises the finite maps that its definitions say, and for each new route and table the least free number.
 #![tactic(auto)]
@@ -12,5 +12,5 @@ mod uses;
 
 pub use by_name::ByName;
 pub use catalog::Catalog;
-pub use entries::{Ends, RouteEntry, TableEntry, ViewEntry};
+pub use entries::{AlignmentEntry, Ends, RouteEntry, TableEntry, ViewEntry};
 pub use referents::RouteReferents;

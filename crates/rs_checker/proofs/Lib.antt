@@ -8,3 +8,4 @@ pub mod StepLaws
 pub mod NodeLaws
 pub mod TableLaws
 pub mod PassLaws
+mod AlignmentLaws

@@ -7,12 +7,12 @@ use Rattle.rs_measure.specs.declared.refusal.Refusal.{Refusal}
 use Rattle.rs_measure.specs.declared.refusal.Refusal.TheVariants.{NoSuchName, NoSuchRoute, EmptySpan}
 use Rattle.rs_methods.specs.Position.{located}
 use Rattle.rs_facts.specs.Fact.{Name, Names}
-use Rattle.rs_facts.specs.Query.{on_route, between, Query, merge_rows, minus_rows, window_rows}
+use Rattle.rs_facts.specs.Query.{on_route, between, Query, merge_rows, minus_rows, window_rows, transform_rows}
 use Rattle.rs_facts.specs.Runs.{Stretch}
 use Rattle.rs_syntax.specs.QueryView.{condition_tree, window_tree}
 use Rattle.rs_syntax.specs.Tree.{WindowTree, whole_route, part_of_route, QueryTree}
 use Rattle.rs_machine.specs.State.{State, has, world_of}
-use Rattle.rs_machine.specs.Checks.{◌>>=◌, unless, found, span_on}
+use Rattle.rs_machine.specs.Checks.{◌>>=◌, unless, found, alignment_named, span_on}
 use Rattle.rs_machine.specs.Checking as machine
 use Rattle.rs_machine.specs.Checking.{nodes_checked}
 use Rattle.rs_catalog.specs.Definitions.{Definitions, state_from, referents_from, on_numbered}
@@ -25,7 +25,7 @@ use Rattle.rs_checker.specs.declared.node.BinaryOperator.TheVariants as binary
 use Rattle.rs_checker.specs.CheckedView.{query_of}
 use Rattle.rs_checker.specs.NodeView.{unary_tree, binary_tree}
 use Rattle.rs_checker.specs.Steps.{IsStep, Stands, seen_columns, filter_step, dissolve_step, rename_step, overlay_step, cover_step, merge_step, minus_step, binary_step}
-use Rattle.rs_checker.specs.Nodes.{names_there, located_window, unary_step, AreNodes, AreRefused}
+use Rattle.rs_checker.specs.Nodes.{names_there, located_window, unary_step, StandsAmong, AreNodes, AreRefused}
 
 -- ---- names
 
@@ -83,12 +83,14 @@ module _ (definitions : Definitions) (on : ℕ → Names ℕ) where
   asks_one state (unary.Dissolve columns) query = machine.dissolve_checked state query (map (λ name. name.bytes) columns.now)
   asks_one state (unary.Rename from to) query = machine.rename_checked state query from.now.bytes to.now.bytes
   asks_one state (unary.Window window) query = machine.window_checked state (window_tree window.now) >>= (λ located. Ok (window_rows query located))
+  asks_one state (unary.Transform name) query = alignment_named state name.now.bytes >>= (λ pieces. Ok (transform_rows query name.now.bytes pieces))
 
   one_checked : (state : State) (operator : UnaryOperator) (a : QueryTree) → nodes_checked state (unary_tree operator a) ≡ (nodes_checked state a >>= asks_one state operator)
   one_checked state (unary.Where condition) a = refl
   one_checked state (unary.Dissolve columns) a = refl
   one_checked state (unary.Rename from to) a = refl
   one_checked state (unary.Window window) a = refl
+  one_checked state (unary.Transform name) a = refl
 
   one_asked : (spans_on : ℕ → ℕ → List Stretch) (changes : ℕ) (operator : UnaryOperator) (operand : Checked) → Stands (world_of (state_from definitions on spans_on changes)) operand
       → asks_one (state_from definitions on spans_on changes) operator (query_of operand.query) ≡ unary_step definitions on operator (seen_columns operand) (query_of operand.query)
@@ -96,6 +98,7 @@ module _ (definitions : Definitions) (on : ℕ → Names ℕ) where
   one_asked s c (unary.Dissolve names) operand h = ap (λ columns. dissolve_step columns (query_of operand.query) (map (λ name. name.bytes) names.now)) (sym h.columns)
   one_asked s c (unary.Rename from to) operand h = ap (λ columns. rename_step columns (query_of operand.query) from.now.bytes to.now.bytes) (sym h.columns)
   one_asked s c (unary.Window window) operand h = ap (λ r. r >>= (λ located. Ok (window_rows (query_of operand.query) located))) (window_same definitions on s c (window_tree window.now))
+  one_asked s c (unary.Transform name) operand h = refl
 
   module _ (node a : QueryTree) (operator : UnaryOperator) (is : node ≡ unary_tree operator a) where
     pub unary_inside : (refusal : Refusal) → AreRefused definitions on a refusal → AreRefused definitions on node refusal
@@ -114,8 +117,10 @@ module _ (definitions : Definitions) (on : ℕ → Names ℕ) where
           let state = state_from definitions on s c in
           ap (nodes_checked state) is ∙ one_checked state operator a ∙ ap (λ r. r >>= asks_one state operator) ((at.each s c).is) ∙ one_asked s c operator operand ((at.each s c).stands)
 
-      pub unary_made : (made : Checked) → IsStep expected (λ world. Stands world operand) made → AreNodes definitions on node made
-      unary_made made step = record { each = λ s c. record { is = asked s c ∙ step.query; stands = step.stands (world_of (state_from definitions on s c)) ((at.each s c).stands) } }
+      pub unary_made : (made : Checked) → IsStep expected (λ world. StandsAmong definitions world operand) made → AreNodes definitions on node made
+      unary_made made step = record {
+        each = λ s c. record { is = asked s c ∙ step.query; stands = step.stands (world_of (state_from definitions on s c)) (record { routes = refl; stands = (at.each s c).stands }) };
+      }
 
       pub unary_refused : (refusal : Refusal) → expected ≡ Err refusal → AreRefused definitions on node refusal
       unary_refused refusal e = record { each = λ s c. asked s c ∙ e }

@@ -4,36 +4,52 @@ use Rattle.std.specs.FinMap as names
 use Rattle.rs_measure.specs.declared.refusal.Refusal.{Refusal}
 use Rattle.rs_measure.specs.declared.refusal.Refusal.TheVariants.{Limit}
 use Rattle.rs_facts.specs.Fact.{Names}
+use Rattle.rs_facts.specs.Query.{Query}
 use Rattle.rs_facts.specs.Runs.{Stretch}
 use Rattle.rs_syntax.specs.Tree.{QueryTree}
 use Rattle.rs_machine.specs.Checks.{◌>>=◌, unless}
 use Rattle.rs_machine.specs.Checking as machine
 use Rattle.rs_machine.specs.Checking.{fits_limits, nodes_checked}
-use Rattle.rs_machine.specs.Opening.{names_in, opened, opened_times}
+use Rattle.rs_machine.specs.Opening.{names_in, alignments_in, opened, opened_times}
 use Rattle.rs_catalog.specs.Definitions.{Definitions, state_from, views_of}
 use Rattle.rs_catalog.proofs.StateLaws.{len-views_of}
 use Rattle.rs_checker.specs.declared.checked.Checked.{Checked}
 use Rattle.rs_checker.specs.Checks.{IsChecked}
-use Rattle.rs_checker.specs.Nodes.{names_there, AreNodes, AreRefused}
+use Rattle.rs_checker.specs.Nodes.{names_there, alignments_there, AreNodes, AreRefused}
+use Rattle.rs_checker.proofs.AlignmentLaws.{aligned_there}
 use Rattle.rs_checker.proofs.NodeLaws.{known_there}
 
 module _ (definitions : Definitions) (on : ℕ → Names ℕ) (tree : QueryTree) where
+  -- what is checked once the names of tables and views are known
+  abbrev after_names : (spans_on : ℕ → ℕ → List Stretch) (changes : ℕ) → Result (Unit {0}) Refusal → Result Query Refusal
+  after_names spans_on changes r = r >>= (λ _. unless (fits_limits (opened (views_of definitions) tree)) Limit >>= (λ _. nodes_checked (state_from definitions on spans_on changes) (opened (views_of definitions) tree)))
+
   by_names : (spans_on : ℕ → ℕ → List Stretch) (changes : ℕ) (r : Result (Unit {0}) Refusal) → r ≡ names_there definitions (names_in tree)
-      → machine.checked (state_from definitions on spans_on changes) tree ≡ (r >>= (λ _. unless (fits_limits (opened (views_of definitions) tree)) Limit >>= (λ _. nodes_checked (state_from definitions on spans_on changes) (opened (views_of definitions) tree))))
+      → machine.checked (state_from definitions on spans_on changes) tree ≡ (r >>= (λ _. after_names spans_on changes (alignments_there definitions (alignments_in tree))))
   by_names spans_on changes r e =
-      ap (λ r. r >>= (λ _. unless (fits_limits (opened (views_of definitions) tree)) Limit >>= (λ _. nodes_checked (state_from definitions on spans_on changes) (opened (views_of definitions) tree)))) (known_there definitions on spans_on changes (names_in tree) ∙ sym e)
+      (λ i. known_there definitions on spans_on changes (names_in tree) i >>= (λ _. after_names spans_on changes (aligned_there definitions on spans_on changes (alignments_in tree) i)))
+      ∙ ap (λ r. r >>= (λ _. after_names spans_on changes (alignments_there definitions (alignments_in tree)))) (sym e)
 
   pub names_refused : (refusal : Refusal) → Err refusal ≡ names_there definitions (names_in tree) → (spans_on : ℕ → ℕ → List Stretch) (changes : ℕ) → machine.checked (state_from definitions on spans_on changes) tree ≡ Err refusal
   names_refused refusal e spans_on changes = by_names spans_on changes (Err refusal) e
 
-  pub limit_refused : Ok tt ≡ names_there definitions (names_in tree) → fits_limits (opened (views_of definitions) tree) ≡ false → (spans_on : ℕ → ℕ → List Stretch) (changes : ℕ) → machine.checked (state_from definitions on spans_on changes) tree ≡ Err Limit
-  limit_refused e large spans_on changes = by_names spans_on changes (Ok tt) e ∙ ap (λ b. unless b Limit >>= (λ _. nodes_checked (state_from definitions on spans_on changes) (opened (views_of definitions) tree))) large
+  module _ (names_are : Ok tt ≡ names_there definitions (names_in tree)) where
+    by_alignments : (spans_on : ℕ → ℕ → List Stretch) (changes : ℕ) (r : Result (Unit {0}) Refusal) → r ≡ alignments_there definitions (alignments_in tree)
+        → machine.checked (state_from definitions on spans_on changes) tree ≡ after_names spans_on changes r
+    by_alignments spans_on changes r e = by_names spans_on changes (Ok tt) names_are ∙ ap (after_names spans_on changes) (sym e)
 
-  module _ (n : ℕ) (count : n ≡ names.len definitions.views) (e : Ok tt ≡ names_there definitions (names_in tree)) (fits : fits_limits (opened (views_of definitions) tree) ≡ true) where
+    pub alignments_refused : (refusal : Refusal) → Err refusal ≡ alignments_there definitions (alignments_in tree) → (spans_on : ℕ → ℕ → List Stretch) (changes : ℕ) → machine.checked (state_from definitions on spans_on changes) tree ≡ Err refusal
+    alignments_refused refusal e spans_on changes = by_alignments spans_on changes (Err refusal) e
+
+    pub limit_refused : Ok tt ≡ alignments_there definitions (alignments_in tree) → fits_limits (opened (views_of definitions) tree) ≡ false → (spans_on : ℕ → ℕ → List Stretch) (changes : ℕ) → machine.checked (state_from definitions on spans_on changes) tree ≡ Err Limit
+    limit_refused e large spans_on changes = by_alignments spans_on changes (Ok tt) e ∙ ap (λ b. unless b Limit >>= (λ _. nodes_checked (state_from definitions on spans_on changes) (opened (views_of definitions) tree))) large
+
+  module _ (n : ℕ) (count : n ≡ names.len definitions.views) (names_are : Ok tt ≡ names_there definitions (names_in tree)) (alignments_are : Ok tt ≡ alignments_there definitions (alignments_in tree))
+      (fits : fits_limits (opened (views_of definitions) tree) ≡ true) where
     by_nodes : (spans_on : ℕ → ℕ → List Stretch) (changes : ℕ) → machine.checked (state_from definitions on spans_on changes) tree ≡ nodes_checked (state_from definitions on spans_on changes) (opened_times n (views_of definitions) tree)
     unfolding opened
     by_nodes spans_on changes =
-        by_names spans_on changes (Ok tt) e ∙ ap (λ b. unless b Limit >>= (λ _. nodes_checked (state_from definitions on spans_on changes) (opened (views_of definitions) tree))) fits
+        by_alignments names_are spans_on changes (Ok tt) alignments_are ∙ ap (λ b. unless b Limit >>= (λ _. nodes_checked (state_from definitions on spans_on changes) (opened (views_of definitions) tree))) fits
         ∙ ap (λ m. nodes_checked (state_from definitions on spans_on changes) (opened_times m (views_of definitions) tree)) (len-views_of definitions ∙ sym count)
 
     pub all_checked : (made : Checked) → AreNodes definitions on (opened_times n (views_of definitions) tree) made → (spans_on : ℕ → ℕ → List Stretch) (changes : ℕ) → IsChecked (state_from definitions on spans_on changes) tree made

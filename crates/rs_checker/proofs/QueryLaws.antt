@@ -7,7 +7,7 @@ use Rattle.rs_facts.specs.Fact.{Names, Name}
 use Rattle.rs_syntax.specs.declared.queries.Query.{Query}
 use Rattle.rs_syntax.specs.QueryView.{query_tree}
 use Rattle.rs_syntax.specs.Tree.{QueryTree, named}
-use Rattle.rs_machine.specs.Opening.{names_in, opened_once, opened_times, nodes, depth}
+use Rattle.rs_machine.specs.Opening.{names_in, alignments_in, opened_once, opened_times, nodes, depth}
 use Rattle.rs_checker.specs.declared.node.UnaryOperator.{UnaryOperator}
 use Rattle.rs_checker.specs.declared.node.UnaryOperator.TheVariants as unary
 use Rattle.rs_checker.specs.declared.node.BinaryOperator.{BinaryOperator}
@@ -23,6 +23,7 @@ names_unary (unary.Where condition) a = refl
 names_unary (unary.Dissolve columns) a = refl
 names_unary (unary.Rename from to) a = refl
 names_unary (unary.Window window) a = refl
+names_unary (unary.Transform name) a = refl
 
 pub names_binary : (operator : BinaryOperator) (a b : QueryTree) → names_in (binary_tree operator a b) ≡ names_in a ++ names_in b
 names_binary binary.Overlay a b = refl
@@ -30,11 +31,18 @@ names_binary binary.Cover a b = refl
 names_binary binary.Merge a b = refl
 names_binary binary.Minus a b = refl
 
+pub alignments_binary : (operator : BinaryOperator) (a b : QueryTree) → alignments_in (binary_tree operator a b) ≡ alignments_in a ++ alignments_in b
+alignments_binary binary.Overlay a b = refl
+alignments_binary binary.Cover a b = refl
+alignments_binary binary.Merge a b = refl
+alignments_binary binary.Minus a b = refl
+
 pub nodes_unary : (operator : UnaryOperator) (a : QueryTree) → nodes (unary_tree operator a) ≡ nodes a + 1
 nodes_unary (unary.Where condition) a = refl
 nodes_unary (unary.Dissolve columns) a = refl
 nodes_unary (unary.Rename from to) a = refl
 nodes_unary (unary.Window window) a = refl
+nodes_unary (unary.Transform name) a = refl
 
 pub nodes_binary : (operator : BinaryOperator) (a b : QueryTree) → nodes (binary_tree operator a b) ≡ nodes a + nodes b + 1
 nodes_binary binary.Overlay a b = refl
@@ -47,6 +55,7 @@ depth_unary (unary.Where condition) a = refl
 depth_unary (unary.Dissolve columns) a = refl
 depth_unary (unary.Rename from to) a = refl
 depth_unary (unary.Window window) a = refl
+depth_unary (unary.Transform name) a = refl
 
 pub depth_binary : (operator : BinaryOperator) (a b : QueryTree) → depth (binary_tree operator a b) ≡ max (depth a) (depth b) + 1
 depth_binary binary.Overlay a b = refl
@@ -62,6 +71,7 @@ opened_unary (suc n) views (unary.Where condition) a = opened_unary n views (una
 opened_unary (suc n) views (unary.Dissolve columns) a = opened_unary n views (unary.Dissolve columns) (opened_once views a)
 opened_unary (suc n) views (unary.Rename from to) a = opened_unary n views (unary.Rename from to) (opened_once views a)
 opened_unary (suc n) views (unary.Window window) a = opened_unary n views (unary.Window window) (opened_once views a)
+opened_unary (suc n) views (unary.Transform name) a = opened_unary n views (unary.Transform name) (opened_once views a)
 
 pub opened_binary : (n : ℕ) (views : Names QueryTree) (operator : BinaryOperator) (a b : QueryTree) → opened_times n views (binary_tree operator a b) ≡ binary_tree operator (opened_times n views a) (opened_times n views b)
 opened_binary zero views operator a b = refl

@@ -1,6 +1,7 @@
 -- The value of a checked query of the code.
 use Rattle.rs_facts.specs.ConditionView.{condition_of}
 use Rattle.rs_facts.specs.Query as queries
+use Rattle.rs_catalog.specs.Definitions.{pieces_of}
 use Rattle.rs_checker.specs.declared.checked.LocatedWindow.{LocatedWindow}
 use Rattle.rs_checker.specs.declared.checked.LocatedWindow.TheVariants as windows
 use Rattle.rs_checker.specs.declared.checked.CheckedQuery.{CheckedQuery, fold-CheckedQuery}
@@ -21,6 +22,7 @@ query_step (CheckedQuery-F.Cover left_width right_width left right) = queries.co
 query_step (CheckedQuery-F.Merge left right) = queries.merge_rows left.value right.value
 query_step (CheckedQuery-F.Minus left right) = queries.minus_rows left.value right.value
 query_step (CheckedQuery-F.Window query window) = queries.window_rows query.value (window_of window)
+query_step (CheckedQuery-F.Transform query name pieces) = queries.transform_rows query.value name.bytes (pieces_of pieces.items)
 
 abbrev pub query_of : CheckedQuery → queries.Query
 query_of = fold-CheckedQuery queries.Query query_step

@@ -5,18 +5,18 @@ use Rattle.rs_measure.specs.declared.refusal.Refusal.{Refusal}
 use Rattle.rs_measure.specs.declared.refusal.Refusal.TheVariants.{NoSuchRoute, NoSuchName, EmptySpan}
 use Rattle.rs_methods.specs.Position.{located}
 use Rattle.rs_facts.specs.Fact.{Name, Names}
-use Rattle.rs_facts.specs.Query.{Column, Window, on_route, between, Query, window_rows}
+use Rattle.rs_facts.specs.Query.{Column, World, Window, on_route, between, Query, window_rows, transform_rows}
 use Rattle.rs_facts.specs.Runs.{Stretch}
 use Rattle.rs_syntax.specs.QueryView.{condition_tree, window_tree}
 use Rattle.rs_syntax.specs.Tree.{WindowTree, whole_route, part_of_route, QueryTree}
 use Rattle.rs_machine.specs.State.{has}
 use Rattle.rs_machine.specs.Checks.{◌>>=◌, unless, found}
 use Rattle.rs_machine.specs.Checking.{nodes_checked}
-use Rattle.rs_catalog.specs.Definitions.{Definitions, state_from}
+use Rattle.rs_catalog.specs.Definitions.{Definitions, routes_of, state_from}
 use Rattle.rs_checker.specs.declared.checked.Checked.{Checked}
 use Rattle.rs_checker.specs.declared.node.UnaryOperator.{UnaryOperator}
 use Rattle.rs_checker.specs.declared.node.UnaryOperator.TheVariants as unary
-use Rattle.rs_checker.specs.Steps.{IsNode, filter_step, dissolve_step, rename_step}
+use Rattle.rs_checker.specs.Steps.{IsNode, Stands, filter_step, dissolve_step, rename_step}
 
 -- each is the name of a table or a view
 abbrev pub names_there : Definitions → List Name → Result (Unit {0}) Refusal
@@ -42,12 +42,30 @@ window_step definitions on query window = do
   place ← located_window definitions on window
   Ok (window_rows query place)
 
+-- each is the name of an alignment
+abbrev pub alignments_there : Definitions → List Name → Result (Unit {0}) Refusal
+alignments_there definitions [] = Ok tt
+alignments_there definitions (name ∷ more) = do
+  _ ← unless (has definitions.alignments name) NoSuchName
+  alignments_there definitions more
+
+abbrev pub transform_step : Definitions → Query → Name → Result Query Refusal
+transform_step definitions query name = do
+  pieces ← found (names.get definitions.alignments name) NoSuchName
+  Ok (transform_rows query name pieces)
+
+-- It stands in the world, whose routes are those that are defined.
+pub record StandsAmong (definitions : Definitions) (world : World) (checked : Checked) : Type 0 where
+  pub routes : world.routes ≡ routes_of definitions
+  pub stands : Stands world checked
+
 -- any operator over one operand of these columns
 abbrev pub unary_step : Definitions → (ℕ → Names ℕ) → UnaryOperator → List Column → Query → Result Query Refusal
 unary_step definitions on (unary.Where condition) columns query = filter_step columns query (condition_tree condition.now)
 unary_step definitions on (unary.Dissolve names) columns query = dissolve_step columns query (map (λ name. name.bytes) names.now)
 unary_step definitions on (unary.Rename from to) columns query = rename_step columns query from.now.bytes to.now.bytes
 unary_step definitions on (unary.Window window) columns query = window_step definitions on query (window_tree window.now)
+unary_step definitions on (unary.Transform name) columns query = transform_step definitions query name.now.bytes
 
 -- in every such state it is what the machine makes of the query, its views opened
 pub record AreNodes (definitions : Definitions) (on : ℕ → Names ℕ) (query : QueryTree) (made : Checked) : Type 0 where

@@ -2,7 +2,7 @@
 
 use arrayvec::ArrayVec;
 use rs_facts::Condition;
-use rs_syntax::{ColumnDefinition, Name};
+use rs_syntax::{ColumnDefinition, Name, Piece};
 use rs_value::{COLUMNS, Kind};
 
 /// A whole route, or the part of it between two thousandths.
@@ -45,6 +45,8 @@ pub enum CheckedQuery {
     Minus(Box<CheckedQuery>, Box<CheckedQuery>),
     /// The rows inside a window.
     Window(Box<CheckedQuery>, LocatedWindow),
+    /// The rows carried by the pieces of the alignment of this name.
+    Transform(Box<CheckedQuery>, Name, Vec<Piece>),
 }
 
 /// The columns of a query, from the left.

@@ -1,4 +1,5 @@
-//! The check of a query: its names, its size with its views opened, and then its nodes, operands first.
+//! The check of a query: its names, those of alignments too, its size with its views opened, and then its nodes,
+//! operands first.
 //!
 //! It promises what the machine makes of the query in every state of these definitions and referents.
 
@@ -8,14 +9,15 @@ ghost use Rattle.rs_facts.specs.Runs.{Stretch};
 ghost use Rattle.rs_syntax.specs.QueryView.{query_tree};
 ghost use Rattle.rs_syntax.specs.Tree.{named};
 ghost use Rattle.rs_machine.specs.Checking as machine;
-ghost use Rattle.rs_machine.specs.Opening.{names_in, opened_times};
+ghost use Rattle.rs_machine.specs.Opening.{names_in, alignments_in, opened_times};
 ghost use Rattle.rs_catalog.specs.Definitions.{state_from, views_of};
 ghost use Rattle.rs_catalog.specs.Referents.{referents_on};
 ghost use Rattle.rs_checker.specs.Checks.{IsChecked};
 ghost use Rattle.rs_checker.specs.CheckedView.{query_of};
 ghost use Rattle.rs_checker.specs.Steps.{IsStep, Stands, checked_of, seen_columns, binary_step};
-ghost use Rattle.rs_checker.specs.Nodes.{names_there, unary_step, AreNodes, AreRefused};
+ghost use Rattle.rs_checker.specs.Nodes.{names_there, alignments_there, unary_step, StandsAmong, AreNodes, AreRefused};
 
+use crate::alignments::transform;
 use crate::checked::{Checked, CheckedQuery, Columns};
 use crate::columns::joined;
 use crate::node::{BinaryOperator, Node, UnaryOperator, top_node};
@@ -29,9 +31,10 @@ use rs_measure::Refusal;
 use rs_syntax::{Name, Query};
 use std::alloc::Global;
 
-/// The checked query, in three passes: 21 for each name that is no table's and no view's, from the left; 27 where the
-/// query with its views opened is too large; then what each node asks for, operands first and from the left, a view as
-/// its query in its place. Positions of windows are located by the referents given. Only memory may be wanting beside.
+/// The checked query, in three passes: 21 for each name that is no table's and no view's, and then for each name after
+/// TRANSFORM that is no alignment's, both from the left; 27 where the query with its views opened is too large; then what
+/// each node asks for, operands first and from the left, a view as its query in its place. Positions of windows are
+/// located by the referents given. Only memory may be wanting beside.
 pub fn check(
     alloc: Global,
     catalog: &Catalog,
@@ -44,6 +47,7 @@ pub fn check(
         → machine.checked (state_from catalog.now (referents_on referents.now) spans_on changes) (query_tree query.now) ≡ Err refusal)) }
 {
     names_known(catalog, query)?;
+    alignments_known(catalog, query)?;
     if !fits_limits(catalog, query) {
         return Err(Refusal::Limit);
     }
@@ -61,6 +65,35 @@ fn names_known(catalog: &Catalog, query: &Query) -> Result<(), Refusal>
             names_known(catalog, left)?;
             names_known(catalog, right)
         }
+    }
+}
+
+// Whether each name of an alignment is one, from the left.
+fn alignments_known(catalog: &Catalog, query: &Query) -> Result<(), Refusal>
+    ensures { result ≡ alignments_there catalog.now (alignments_in (query_tree query.now)) }
+{
+    match top_node(query) {
+        Node::Named(_) => Ok(()),
+        Node::Unary(UnaryOperator::Transform(name), operand) => {
+            alignments_known(catalog, operand)?;
+            alignment_known(catalog, name)
+        }
+        Node::Unary(_, operand) => alignments_known(catalog, operand),
+        Node::Binary(_, left, right) => {
+            alignments_known(catalog, left)?;
+            alignments_known(catalog, right)
+        }
+    }
+}
+
+// Whether a name is an alignment's.
+fn alignment_known(catalog: &Catalog, name: &Name) -> Result<(), Refusal>
+    ensures { result ≡ alignments_there catalog.now (name.now.bytes ∷ []) }
+{
+    if catalog.alignment(name).is_some() {
+        Ok(())
+    } else {
+        Err(Refusal::NoSuchName)
     }
 }
 
@@ -127,7 +160,7 @@ fn apply_unary(
     operand: CheckedOperand,
 ) -> Result<Checked, Refusal>
     ensures ok { IfOk result (λ made. IsStep (unary_step catalog.now (referents_on referents.now) operator.entry (seen_columns (checked_of operand)) (query_of operand.query.value))
-        (λ world. Stands world (checked_of operand)) made) }
+        (λ world. StandsAmong catalog.now world (checked_of operand)) made) }
     ensures refused { IfErr result (λ refusal. (refusal ≡ Refusal.OutOfMemory)
         ⊎ (unary_step catalog.now (referents_on referents.now) operator.entry (seen_columns (checked_of operand)) (query_of operand.query.value) ≡ Err refusal)) }
 {
@@ -136,6 +169,7 @@ fn apply_unary(
         UnaryOperator::Dissolve(names) => dissolve(alloc, operand, names),
         UnaryOperator::Rename(from, to) => rename(operand, from, to),
         UnaryOperator::Window(part) => window(catalog, referents, operand, part),
+        UnaryOperator::Transform(name) => transform(alloc, catalog, operand, name),
     }
 }
 

@@ -1,6 +1,7 @@
 //! The checker: a query with its names looked up, its views opened and its windows located, or the first refusal.
 #![tactic(auto)]
 
+pub mod alignments;
 pub mod checked;
 pub mod checking;
 pub mod columns;
@@ -13,6 +14,7 @@ pub mod totals;
 mod views;
 mod windows;
 
+pub use alignments::check_pieces;
 pub use checked::{Checked, CheckedQuery, Columns, LocatedWindow};
 pub use checking::check;
 pub use conditions::check_condition;

@@ -17,6 +17,8 @@ pub enum UnaryOperator<'a> {
     Rename(&'a Name, &'a Name),
     /// The rows inside a window.
     Window(&'a Window),
+    /// The rows carried by the pieces of the alignment of this name.
+    Transform(&'a Name),
 }
 
 /// An operator over two operands.
@@ -59,6 +61,7 @@ pub fn top_node(query: &Query) -> Node<'_>
         ),
         Query::Rename(operand, from, to) => Node::Unary(UnaryOperator::Rename(from, to), operand),
         Query::Window(operand, window) => Node::Unary(UnaryOperator::Window(window), operand),
+        Query::Transform(operand, name) => Node::Unary(UnaryOperator::Transform(name), operand),
         Query::Overlay(left, right) => Node::Binary(BinaryOperator::Overlay, left, right),
         Query::Cover(left, right) => Node::Binary(BinaryOperator::Cover, left, right),
         Query::Merge(left, right) => Node::Binary(BinaryOperator::Merge, left, right),

@@ -14,6 +14,6 @@ invariant_of-self-2 c =
     let free : IsFree (λ (item : TableItem). item.number) c.self.inside.tables c.free_table_number-number.result =
     subst (λ (d : Definitions). IsFree (λ (item : TableItem). item.number) d.tables c.free_table_number-number.result) (sym c.self.view_is) c.free_table_number-number.ensures.least.free in
     let few : length (map column_tree c.args.columns.items) ≤ COLUMNS = subst (λ n. n ≤ COLUMNS) (sym (length-map c.args.columns.items column_tree)) (search (rules, c.args.columns.ok)) in
-    subst (λ (tables : Names TableItem). AreDefinitions (record { routes = c.self.inside.routes; tables = tables; views = c.self.inside.views }))
+    subst (λ (tables : Names TableItem). AreDefinitions (record { routes = c.self.inside.routes; tables = tables; views = c.self.inside.views; alignments = c.self.inside.alignments }))
     (sym (c.in_ok-define.ensures.ok ∙ ap (names.insert c.self.inside.tables c.args.name.bytes) c.new-entry.ensures))
     (are_definitions-table _ c.args.name.bytes item c.self.invariant free (c.free_table_number-number.ensures.below, few))
