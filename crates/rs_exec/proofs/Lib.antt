@@ -1,3 +1,5 @@
+mod CarriedSpans
+mod Gathering
 mod Variants
 mod Steps
 mod Operands

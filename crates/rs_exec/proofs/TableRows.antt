@@ -43,7 +43,7 @@ module _ (definitions : Definitions) (spans_on : ℕ → ℕ → List Stretch) (
             (subst (AreWide (length table.columns)) (sym same) kept.wide);
       }
 
-none_some : {X : Type 0} (o : Option X) (x : X) → o ≡ None → o ≡ Some x → ⊥
+pub none_some : {X : Type 0} (o : Option X) (x : X) → o ≡ None → o ≡ Some x → ⊥
 none_some o x none some = cc
 
 -- a well-formed query has its table

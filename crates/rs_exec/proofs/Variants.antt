@@ -9,7 +9,9 @@ use Rattle.rs_facts.specs.Fact.{Name}
 use Rattle.rs_facts.specs.Runs.{Stretch}
 use Rattle.rs_facts.specs.WellFormed.{IsWellFormed}
 use Rattle.rs_exec.specs.Evaluated.{AreRowsOf}
-use Rattle.rs_facts.specs.Query.{World, Query, table_rows, where_rows, dissolve_rows, rename_column, overlay_rows, cover_rows, merge_rows, minus_rows, window_rows}
+use Rattle.rs_facts.specs.Query.{World, Query, table_rows, where_rows, dissolve_rows, rename_column, overlay_rows, cover_rows, merge_rows, minus_rows, window_rows, transform_rows}
+use Rattle.rs_syntax.specs.declared.commands.Piece.{Piece}
+use Rattle.rs_catalog.specs.Definitions.{pieces_of}
 use Rattle.rs_checker.specs.declared.checked.LocatedWindow.{LocatedWindow}
 use Rattle.rs_checker.specs.declared.checked.CheckedQuery.{CheckedQuery, fold-roll-CheckedQuery}
 use Rattle.rs_checker.specs.declared.checked.CheckedQuery.TheOpen.{CheckedQuery-F}
@@ -42,6 +44,9 @@ minus_is left right = ap query_of (sym (queries.rolls-Minus left right)) ∙ fol
 
 pub window_is : (operand : Box CheckedQuery Global) (window : LocatedWindow) → query_of (queries.Window operand window) ≡ window_rows (query_of operand.value) (window_of window)
 window_is operand window = ap query_of (sym (queries.rolls-Window operand window)) ∙ fold-roll-CheckedQuery Query query_step (CheckedQuery-F.Window operand window)
+
+pub transform_is : (operand : Box CheckedQuery Global) (name : ArrayString) (pieces : Vec Piece Global) → query_of (queries.Transform operand name pieces) ≡ transform_rows (query_of operand.value) name.bytes (pieces_of pieces.items)
+transform_is operand name pieces = ap query_of (sym (queries.rolls-Transform operand name pieces)) ∙ fold-roll-CheckedQuery Query query_step (CheckedQuery-F.Transform operand name pieces)
 
 -- ---- well-formed queries and rows of queries, said of the variant that a query is
 

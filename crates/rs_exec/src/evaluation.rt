@@ -15,6 +15,7 @@ ghost use Rattle.rs_checker.specs.CheckedView.{window_of, query_of};
 ghost use Rattle.rs_exec.specs.Evaluated.{AreRowsOf, route_of, seen_inside};
 ghost use Rattle.rs_exec.specs.Rows.{HoldsRows};
 
+use crate::carrying::carried_rows;
 use crate::rows::{Rows, lent_rows, own_rows};
 use rs_catalog::{Catalog, RouteEntry};
 use rs_checker::{CheckedQuery, LocatedWindow};
@@ -27,7 +28,7 @@ use std::alloc::{AllocError, Global};
 /// What a query is evaluated over, and on which route.
 #[derive(Clone, Copy)]
 pub struct Site<'a> {
-    /// Routes, tables and views.
+    /// Routes, tables, views and alignments.
     pub catalog: &'a Catalog,
     /// The spans by the numbers of tables and routes.
     pub events: &'a EventLists,
@@ -39,7 +40,11 @@ pub struct Site<'a> {
 
 /// The spans of a query on one route, by where they begin. Operands that a window leaves nothing of are not evaluated.
 /// The only refusal is for want of memory.
-pub fn eval(alloc: Global, site: &Site<'_>, query: &CheckedQuery) -> Result<Vec<Span>, AllocError>
+pub fn eval<'a>(
+    alloc: Global,
+    site: &Site<'a>,
+    query: &'a CheckedQuery,
+) -> Result<Vec<Span>, AllocError>
     requires there { names.get site.now.catalog.now.routes site.now.name.now.bytes ≡ Some site.now.route }
     requires stored { AreEventsOf site.now.catalog.now (spans_on site.now.events.now) }
     requires well_formed { IsWellFormed (world_from site.now.catalog.now (spans_on site.now.events.now)) (query_of query.now) }
@@ -57,7 +62,12 @@ pub fn eval(alloc: Global, site: &Site<'_>, query: &CheckedQuery) -> Result<Vec<
 }
 
 /// The same, of a table lent. So are the spans of tables to operators that make rows anew.
-fn rows_of<'a>(alloc: Global, site: &Site<'a>, query: &CheckedQuery) -> Result<Rows<'a>, AllocError>
+#[cycle(rows)]
+pub(crate) fn rows_of<'a>(
+    alloc: Global,
+    site: &Site<'a>,
+    query: &'a CheckedQuery,
+) -> Result<Rows<'a>, AllocError>
     requires there { names.get site.now.catalog.now.routes site.now.name.now.bytes ≡ Some site.now.route }
     requires stored { AreEventsOf site.now.catalog.now (spans_on site.now.events.now) }
     requires well_formed { IsWellFormed (world_from site.now.catalog.now (spans_on site.now.events.now)) (query_of query.now) }
@@ -116,6 +126,10 @@ fn rows_of<'a>(alloc: Global, site: &Site<'a>, query: &CheckedQuery) -> Result<R
             cut(&mut spans, *window);
             Ok(Rows::Made(spans))
         }
+        CheckedQuery::Transform(operand, _, pieces) => {
+            let spans = carried_rows(alloc, site, operand, pieces)?;
+            Ok(Rows::Made(spans))
+        }
     }
 }
 
@@ -144,7 +158,7 @@ fn is_on(window: LocatedWindow, name: &Name) -> bool
 }
 
 /// Whether the names have the same bytes.
-fn is_same(name: &Name, other: &Name) -> bool
+pub(crate) fn is_same(name: &Name, other: &Name) -> bool
     ensures { result ≡ same_name name.now.bytes other.now.bytes }
 {
     other.as_str() == name.as_str()

@@ -52,3 +52,13 @@ pub(crate) fn own_rows(alloc: Global, rows: Rows<'_>) -> Result<Vec<Span>, Alloc
         Rows::Made(spans) => Ok(spans),
     }
 }
+
+/// The spans, in no order of place.
+pub(crate) fn spans_in<'a>(rows: &'a Rows<'_>) -> &'a [Span]
+    ensures { map seen result.now ≡ spans_of rows.now }
+{
+    match rows {
+        Rows::Kept(spans) => spans,
+        Rows::Made(spans) => spans,
+    }
+}

@@ -14,10 +14,9 @@ use rs_facts::Span;
 pub fn shift(spans: &mut Vec<Span>, from: u32, to: u32, onto: u32)
     requires not_backwards { from ≤ to }
     requires room { onto + (to - from) < 2 ^ 32 }
-    requires sorted { AreSorted (map seen spans.old.items) }
     ensures means { (k : ℕ) → places_of (map seen spans.new.items) k
         ≡ carried from to onto (places_of (map seen spans.old.items)) k }
-    ensures sorted { AreSorted (map seen spans.new.items) }
+    ensures sorted { AreSorted (map seen spans.old.items) → AreSorted (map seen spans.new.items) }
     ensures placed { (kind : Kind) → ArePlaced kind (map seen spans.old.items)
         → ArePlaced kind (map seen spans.new.items) }
     ensures width { (width : ℕ) → AreWide width (map seen spans.old.items)

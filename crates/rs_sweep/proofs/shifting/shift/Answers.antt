@@ -15,7 +15,7 @@ pub returns-clause-means : goal.returns-clause-means
 returns-clause-means c = λ k. ap (λ zs. places_of zs k) (is c) ∙ shifted-means c.args.from c.args.to c.args.onto c.requires.not_backwards (map seen c.args.spans.now.items) k
 
 pub returns-clause-sorted : goal.returns-clause-sorted
-returns-clause-sorted c = subst AreSorted (sym (is c)) (shifted-sorted c.args.from c.args.to c.args.onto (map seen c.args.spans.now.items) c.requires.sorted)
+returns-clause-sorted c = λ h. subst AreSorted (sym (is c)) (shifted-sorted c.args.from c.args.to c.args.onto (map seen c.args.spans.now.items) h)
 
 pub returns-clause-placed : goal.returns-clause-placed
 returns-clause-placed c = λ kind h. subst (ArePlaced kind) (sym (is c)) (shifted-placed kind c.args.from c.args.to c.args.onto c.requires.not_backwards (map seen c.args.spans.now.items) h)
