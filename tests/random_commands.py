@@ -1,5 +1,7 @@
 """Pseudo-random commands: each gives its tokens, and what is known once it is accepted."""
 
+from typing import NamedTuple
+
 from random_parts import (
     COLUMNS,
     GREATEST_MEASURE,
@@ -16,6 +18,22 @@ from random_queries import Queries
 
 # Tables that are dropped in no flawless line.
 KEPT = (b"pave", b"crash")
+
+MOST_PIECES = 64
+
+
+class KnownPiece(NamedTuple):
+    route: bytes
+    start: int
+    finish: int
+    new_route: bytes
+    new_start: int
+
+    def meets(self, other):
+        """Whether both carry something to one place."""
+        new_finish, other_finish = (one.new_start + one.finish - one.start for one in (self, other))
+        is_near = self.new_start < other_finish and other.new_start < new_finish
+        return is_near and self.new_route == other.new_route
 
 
 class Commands(Queries):
@@ -69,6 +87,67 @@ class Commands(Queries):
         if len(self.views) < 128:
             self.views[name] = self.known_view(query)
 
+    def define_alignment(self):
+        """Pieces of routes that are there, at times as many as an alignment may have, or one more."""
+        name = self.new_name(self.alignments)
+        if self.chance(0.2):
+            name = self.pick([one for one in [*self.tables, *self.views] if one not in self.alignments] or [name])
+        count = self.pick([1, 1, 1, 2, 2, 3, 4, 7])
+        if self.chance(0.06):
+            count = self.pick([MOST_PIECES, MOST_PIECES, MOST_PIECES + 1])
+            self.is_flawed = self.is_flawed or count > MOST_PIECES
+        self.marks.add("%d pieces" % count)
+        self.rate *= 2 / (1 + count)
+        written, pieces = zip(*[self.some_piece() for _ in range(count)])
+        self.mark_pieces(pieces)
+        routes = [route for piece in pieces for route in (piece.route, piece.new_route)]
+        tokens = [b"DEFINE", b"ALIGNMENT", name, b"("] + listed(written) + [b")"]
+        return tokens, lambda: self.know_alignment(name, routes)
+
+    def mark_pieces(self, pieces):
+        if any(piece.route == piece.new_route for piece in pieces):
+            self.marks.add("onto its own route")
+        if any(one.meets(other) for place, one in enumerate(pieces) for other in pieces[:place]):
+            self.marks.add("overlapping pieces")
+        if any(piece.finish < piece.start for piece in pieces):
+            self.marks.add("backwards")
+
+    def some_piece(self):
+        """The tokens of a piece, and what they say: at times of one route alone, outside its routes or empty."""
+        route, route_name = self.some_route()
+        new_route, new_name = (route, route_name) if self.chance(0.25) else self.some_route()
+        known, new = self.routes[route], self.routes[new_route]
+        start, finish = self.part_of_route(route, new.finish - new.start)
+        last = new.finish - (finish - start)
+        between = [self.random.randint(new.start, last) for _ in range(2)]
+        new_start = self.pick([new.start, last, *between])
+        if self.flaw(4):
+            start, finish, new_start = self.pick([
+                (start, start, new_start), (finish, start, new_start),
+                (finish, start, new.finish), (finish, start, new.finish + 1),
+                (start, known.finish + 1, new_start), (finish, known.start - 1, new_start),
+                (known.start - 1, finish, new_start), (known.finish + 1, finish, new_start),
+                (start, finish, new.start - 1), (start, finish, last + 1), (start, finish, new.finish),
+            ])  # fmt: skip
+        start, finish, new_start = (min(max(place, 0), GREATEST_MEASURE) for place in (start, finish, new_start))
+        tokens = [route_name, b"FROM", self.measure(start), b"TO", self.measure(finish)]
+        tokens += [b"INTO", new_name, b"AT", self.measure(new_start)]
+        return tokens, KnownPiece(route, start, finish, new_route, new_start)
+
+    def part_of_route(self, name, longest):
+        """Two places of a route no further apart than this, mostly round events on it."""
+        route = self.routes[name]
+        spans = [span for key, own in self.spans.items() if key[1] == name for span in own]
+        start = self.random.randint(route.start, route.finish - 1)
+        finish = self.random.randint(start + 1, route.finish)
+        if spans and self.chance(0.6):
+            lo, hi = self.pick(spans)
+            start = min(max(lo + self.random.randint(-9, 2), route.start), route.finish - 1)
+            finish = max(min(hi + self.random.randint(-2, 9), route.finish), start + 1)
+        elif self.chance(0.3):
+            start, finish = route.start, route.finish
+        return start, min(finish, start + longest)
+
     def define_referent(self):
         route, route_name = self.some_route()
         if self.kind == "crowded" and self.chance(0.5):
@@ -84,14 +163,19 @@ class Commands(Queries):
         return tokens, lambda: self.know_referent(route, name, place)
 
     def drop_route(self):
-        """A route, mostly one that has no events and is in no window."""
+        """A route, mostly one that has no events and is in no window and no alignment."""
         names = list(self.routes)
         with_events = {route for _, route, _ in self.spans}
         in_windows = {route for view in self.views.values() for route in view.routes}
-        held = sorted(in_windows - with_events)
-        name = self.pick(names[-6:]) if self.chance(0.8) else self.pick(names)
+        in_alignments = {route for routes in self.alignments.values() for route in routes}
+        in_use = with_events | in_windows | in_alignments
+        free = [name for name in names[-9:] if name not in in_use] or names[-6:]
+        held = sorted(in_windows - with_events) + sorted(in_alignments - with_events - in_windows)
+        name = self.pick(free) if self.chance(0.8) else self.pick(names)
         name = self.pick(held) if held and self.chance(0.3) else name
-        self.is_flawed = self.is_flawed or name in with_events | in_windows or name in self.first_routes()
+        if name in in_alignments - with_events - in_windows:
+            self.marks.add("in an alignment")
+        self.is_flawed = self.is_flawed or name in in_use or name in self.first_routes()
         return [b"DROP", b"ROUTE", self.pick(UNKNOWN) if self.flaw(2) else name], lambda: self.routes.pop(name)
 
     def first_routes(self):
@@ -116,6 +200,15 @@ class Commands(Queries):
         self.is_flawed = self.is_flawed or self.is_named(name) or name not in self.views
         written = self.pick(UNKNOWN + tuple(self.tables)) if self.flaw(2) else name
         return [b"DROP", b"VIEW", written], lambda: self.views.pop(name)
+
+    def drop_alignment(self):
+        """An alignment, mostly one that no view names."""
+        in_views = {name for view in self.views.values() for name in view.alignments}
+        names = [name for name in self.alignments if name not in in_views]
+        name = self.pick(names) if names and self.chance(0.6) else self.pick(list(self.alignments) or UNKNOWN)
+        self.is_flawed = self.is_flawed or name in in_views or name not in self.alignments
+        written = self.pick(UNKNOWN + tuple(self.tables)) if self.flaw(2) else name
+        return [b"DROP", b"ALIGNMENT", written], lambda: self.alignments.pop(name)
 
     def is_named(self, name):
         """Whether a view names it."""

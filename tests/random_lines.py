@@ -1,26 +1,26 @@
 """Pseudo-random lines of many sessions by a seed, refused ones of every sort among them.
 
 RandomLines remembers what its flawless lines have made (routes, referents, tables, views,
-spans), so that most of its lines speak of things that are there. Each part of a line
+alignments, spans), so that most of its lines speak of things that are there. Each part of a line
 is now and then written with a flaw; in one line of six nearly half of the parts are,
 so that of two refusals the right one has to come. A few lines are no commands at all.
 There are three kinds of rounds:
 
 - `short`: routes of a few thousandths at several scales, full of events, with many queries;
 - `long`: routes of up to 999,999,999 thousandths, with short spans and all positions;
-- `crowded`: routes, tables, views and referents up to their limits.
+- `crowded`: routes, tables, views, alignments and referents up to their limits.
 """
 
 from typing import NamedTuple
 
-from random_commands import Commands
+from random_commands import KEPT, Commands
 from random_parts import TABLES
 
 STRAYS = (
     b"@", b"%", b"+", b"-", b"(", b")", b",", b"<>", b"<=", b"=", b"AS", b"AT", b"TO", b"FROM", b"LINE", b"POINT",
     b"ROUTE", b"REFERENT", b"VALUES", b"RELATIVE", b"NULL", b"1", b"0.5", b"K0", b"START", b"'x'", b"''",
     b"WHERE", b"OVERLAY", b"NOT", b"AND", b"OR", b"IS", b"VIEW", b"GAPS", b"TRANSFORM", b"<", b">=", b"()",
-    b"BY", b"SUM", b"x23456789012345678901234567890123", b";", b"'", b"1.", b".5", b"_x", b"x_",
+    b"BY", b"SUM", b"INTO", b"ALIGNMENT", b"x23456789012345678901234567890123", b";", b"'", b"1.", b".5", b"_x", b"x_",
 )  # fmt: skip
 
 # Commands that are none, some of them none today.
@@ -31,6 +31,10 @@ BROKEN = (
     b"MOVE ROUTE A TO 0.01", b"DEFINE", b"DEFINE TABLE x (n INT)", b"TRANSLATE A -1 AS ABSOLUTE", b"0 SELECT pave",
     b"INSERT INTO pave ON A FROM 0 TO 0.01 VALUES ('AC'", b"DEFINE ROUTE A FROM 0 TO 100%", b"SELECT ((((pave))))",
     b"DEFINE ROUTE A FROM @START TO 1", b"((((((((((((((((((((((((((((((((((", b"'' '' ''", b"@ % + - <> <= >= < > =",
+    b"DEFINE ALIGNMENT re ()", b"DEFINE ALIGNMENT re (A FROM 0 TO 0.01)", b"SELECT TRANSFORM(pave, (re))",
+    b"DEFINE ALIGNMENT re (A FROM 0 TO 0.01 INTO A AT 50%)", b"DEFINE ALIGNMENT re (A FROM @K0 TO 0.01 INTO A AT 0)",
+    b"DEFINE ALIGNMENT re (A FROM 0 TO 0.01 INTO A AT 0,)", b"DEFINE ALIGNMENT re AS pave", b"SELECT TRANSFORM(pave)",
+    b"SELECT TRANSFORM(pave, re, re)", b"SELECT TRANSFORM(pave, TRANSFORM(pave, re))", b"DROP ALIGNMENT",
     b"TOTAL pave", b"TOTAL pave BY surf", b"TOTAL pave SUM surf BY ()", b"TOTAL pave BY () SUM", b"TOTAL BY ()",
     b"TOTAL speed BY () SUM (kph)", b"TOTAL speed BY () SUM kph, kph", b"TOTAL speed BY (kph) AS RELATIVE",
 )  # fmt: skip
@@ -52,11 +56,13 @@ WEIGHTS = {
     "define_route": {"short": 4, "long": 1, "crowded": 16},
     "define_table": {"short": 4, "long": 1, "crowded": 16},
     "define_view": {"short": 10, "long": 5, "crowded": 16},
+    "define_alignment": {"short": 10, "long": 7, "crowded": 12},
     "define_referent": {"short": 9, "long": 9, "crowded": 20},
     "move_referent": {"short": 8, "long": 9, "crowded": 8},
     "drop_route": {"short": 3, "long": 1, "crowded": 6},
     "drop_table": {"short": 3, "long": 2, "crowded": 1},
     "drop_view": {"short": 6, "long": 3, "crowded": 1},
+    "drop_alignment": {"short": 3, "long": 2, "crowded": 2},
     "drop_referent": {"short": 3, "long": 3, "crowded": 10},
     "insert": {"short": 36, "long": 22, "crowded": 8},
     "remove": {"short": 9, "long": 5, "crowded": 3},
@@ -98,6 +104,7 @@ class RandomLines(Commands):
             yield self.flawless(self.table_tokens(name, is_line, columns))
             self.know_table(name, is_line, columns)
         yield from self.first_events()
+        yield from self.first_alignments()
         if self.kind == "crowded":
             yield from self.crowd()
 
@@ -116,8 +123,18 @@ class RandomLines(Commands):
             yield self.flawless(tokens)
             effect()
 
+    def first_alignments(self):
+        """Some alignments, so that the first queries have rows that were carried."""
+        for _ in range(3):
+            tokens, effect = self.define_alignment()
+            yield self.flawless(tokens)
+            effect()
+
     def ending(self):
         """What shows the state that is left: all that is known is asked for."""
+        for name in list(self.alignments)[:30]:
+            for table in KEPT:
+                yield b"0 SELECT TRANSFORM(%s, %s)" % (table, name)
         for name in list(self.tables)[:30] + list(self.views)[:30]:
             yield b"0 SELECT %s" % name
         for name, route in list(self.routes.items())[:30]:
@@ -126,7 +143,7 @@ class RandomLines(Commands):
             yield b"0 TRANSLATE %s 100%% AS RELATIVE" % name
 
     def crowd(self):
-        """Routes, tables and the referents of one route nearly up to their limits."""
+        """Routes, tables, alignments and the referents of one route nearly up to their limits."""
         for number in range(len(self.routes), 4094):
             name = b"r%d" % number
             yield self.flawless(self.route_tokens(name, number, number + 9))
@@ -138,6 +155,12 @@ class RandomLines(Commands):
             query = self.named(None)
             yield self.flawless([b"DEFINE", b"VIEW", b"w%d" % number, b"AS"] + query.tokens)
             self.know_view(b"w%d" % number, query)
+        for number in range(len(self.alignments), 62):
+            name = b"r%d" % (4000 + number)
+            tokens = [name, b"FROM", self.measure(4000 + number), b"TO", self.measure(4005 + number)]
+            tokens += [b"INTO", b"A", b"AT", self.measure(number % 45)]
+            yield self.flawless([b"DEFINE", b"ALIGNMENT", b"l%d" % number, b"("] + tokens + [b")"])
+            self.know_alignment(b"l%d" % number, [name, b"A"])
         for number in range(998):
             place = number % 51
             yield b"0 DEFINE REFERENT A c%d AT 0.%03d" % (number, place)

@@ -72,6 +72,7 @@ class Parts:
         self.routes = {}
         self.tables = {}
         self.views = {}
+        self.alignments = {}
         self.spans = {}
         self.rate = 0.0
         self.is_flawed = False
@@ -102,6 +103,11 @@ class Parts:
             rows = [self.row(columns) for _ in range(self.random.randint(1, 3))]
             self.tables[name] = KnownTable(is_line, columns, rows)
 
+    def know_alignment(self, name, routes):
+        """An alignment, and the routes that its pieces name."""
+        if len(self.alignments) < 64:
+            self.alignments[name] = frozenset(routes)
+
     def know_referent(self, route, name, place):
         if len(self.routes[route].referents) < 1001:
             self.routes[route].referents[name] = place
@@ -123,7 +129,7 @@ class Parts:
 
     def new_name(self, taken):
         if self.flaw(11):
-            taken = list(taken)
+            taken = list(taken) or list(RESERVED)
             return self.pick([self.pick(taken), self.pick(taken), self.pick(taken[-6:]), b"x" * 33, self.pick(RESERVED)])
         number = len(taken)
         names = [name for name in NEW_NAMES if name not in taken]

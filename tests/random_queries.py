@@ -19,7 +19,13 @@ SIGNS = (b"=", b"=", b"<>", b"<", b"<=", b">", b">=")
 NEW_COLUMNS = COLUMNS + (b"x", b"y", b"z", b"m1", b"m2", b"m3", b"w_", b"Q", b"r9", b"t1", b"t2", b"t3", b"t4")
 
 # How often each operator is chosen.
-OPERATORS = {"where": 5, "dissolve": 3, "rename": 2, "window": 3, "overlay": 5, "cover": 4, "merge": 3, "minus": 4}
+OPERATORS = {
+    "where": 5, "dissolve": 3, "rename": 2, "window": 3, "transform": 4,
+    "overlay": 5, "cover": 4, "merge": 3, "minus": 4,
+}  # fmt: skip
+
+# How many TRANSFORMs stand one in another at the most, since each may have what its pieces carry several times.
+MOST_TRANSFORMS = 3
 
 
 class KnownColumn(NamedTuple):
@@ -34,6 +40,7 @@ class Query(NamedTuple):
     columns: list
     nodes: int
     depth: int
+    transforms: int = 0  # how many of them stand one in another, those in views among them
 
     def names(self):
         return [column.name for column in self.columns]
@@ -44,6 +51,7 @@ class KnownView(NamedTuple):
     names: frozenset  # of the tables and views that it names
     routes: frozenset
     referents: frozenset
+    alignments: frozenset
 
 
 class Queries(Parts):
@@ -66,8 +74,7 @@ class Queries(Parts):
         if views and self.chance(0.2):
             name = self.pick(views[:12])
             self.marks.add("view")
-            view = self.views[name].query
-            return Query([self.name_or_flaw(name)], view.is_line, view.columns, view.nodes, view.depth)
+            return self.views[name].query._replace(tokens=[self.name_or_flaw(name)])
         tables = [name for name in self.tables if self.tables[name].is_line == is_line or is_line is None]
         name = self.pick(tables[: len(TABLES)]) if self.chance(0.95) else self.pick(tables[-3:])
         return self.table_query(name)._replace(tokens=[self.name_or_flaw(name)])
@@ -86,7 +93,8 @@ class Queries(Parts):
     def over(self, word, operand, rest, columns=None):
         """An operator with one operand, and what stands after its comma."""
         tokens = [word, b"("] + operand.tokens + [b","] + rest + [b")"]
-        return Query(tokens, operand.is_line, columns or operand.columns, operand.nodes + 1, operand.depth + 1)
+        columns = columns or operand.columns
+        return operand._replace(tokens=tokens, columns=columns, nodes=operand.nodes + 1, depth=operand.depth + 1)
 
     def where(self, depth, is_line):
         return self.filtered(self.query(depth, is_line))
@@ -149,12 +157,25 @@ class Queries(Parts):
             rest += [b"FROM"] + self.position(route, ends[0], how) + [b"TO"] + self.position(route, ends[1], how)
         return self.over(b"WINDOW", operand, rest)
 
+    def transform(self, depth, is_line):
+        return self.transformed(self.query(depth, is_line))
+
+    def transformed(self, operand):
+        """An operand carried along an alignment, if there is one; at times no alignment has the name that is written."""
+        if not self.alignments or operand.transforms == MOST_TRANSFORMS:
+            return operand
+        name = self.pick(list(self.alignments)[-12:])
+        if self.flaw(1.2):
+            name = self.pick(UNKNOWN + tuple(self.tables)[:6] + tuple(self.routes)[:3])
+        return self.over(b"TRANSFORM", operand, [name])._replace(transforms=operand.transforms + 1)
+
     # Operators with two operands.
 
     def pair(self, word, left, right, columns):
         tokens = [word, b"("] + left.tokens + [b","] + right.tokens + [b")"]
         is_line = left.is_line and right.is_line
-        return Query(tokens, is_line, columns, left.nodes + right.nodes + 1, max(left.depth, right.depth) + 1)
+        nodes, depth = left.nodes + right.nodes + 1, max(left.depth, right.depth) + 1
+        return Query(tokens, is_line, columns, nodes, depth, max(left.transforms, right.transforms))
 
     def overlay(self, depth, is_line):
         kinds = [is_line, is_line]
@@ -277,6 +298,8 @@ class Queries(Parts):
         for _ in range(self.about_as_many_brackets()):
             if self.chance(0.7):
                 query = self.over(b"WINDOW", query, [b"A"])
+            elif self.chance(0.3):
+                query = self.transformed(query)
             else:
                 query = self.pair(b"MERGE", query, table, query.columns)
         return query
@@ -313,7 +336,8 @@ class Queries(Parts):
         """What is known of a view with this query: the names in it, of columns too."""
         words = frozenset(query.tokens)
         referents = frozenset(after for at, after in zip(query.tokens, query.tokens[1:]) if at == b"@")
-        return KnownView(query, words & (self.tables.keys() | self.views.keys()), words & self.routes.keys(), referents)
+        names = words & (self.tables.keys() | self.views.keys())
+        return KnownView(query, names, words & self.routes.keys(), referents, words & self.alignments.keys())
 
 
 def joined(word, parts):

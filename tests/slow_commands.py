@@ -103,6 +103,11 @@ class Window(NamedTuple):
     ends: tuple | None  # the positions of its span; None where it is the whole route
 
 
+class Transform(NamedTuple):
+    operand: tuple
+    alignment: bytes
+
+
 class Overlay(NamedTuple):
     left: tuple
     right: tuple
@@ -128,7 +133,7 @@ def operands_of(query):
     match query:
         case Named():
             return []
-        case Where() | Dissolve() | Rename() | Window():
+        case Where() | Dissolve() | Rename() | Window() | Transform():
             return [query.operand]
         case _:
             return [query.left, query.right]
@@ -172,6 +177,21 @@ class DefineView(NamedTuple):
     query: tuple
 
 
+class Piece(NamedTuple):
+    """The places of a route from a measure on and below another, and the place to which the first of them goes."""
+
+    route: bytes
+    start: int
+    finish: int
+    new_route: bytes
+    new_start: int
+
+
+class DefineAlignment(NamedTuple):
+    name: bytes
+    pieces: list
+
+
 class DropRoute(NamedTuple):
     name: bytes
 
@@ -181,6 +201,10 @@ class DropTable(NamedTuple):
 
 
 class DropView(NamedTuple):
+    name: bytes
+
+
+class DropAlignment(NamedTuple):
     name: bytes
 
 

@@ -19,10 +19,12 @@ import sys
 
 from slow_commands import (
     Absolute,
+    DefineAlignment,
     DefineReferent,
     DefineRoute,
     DefineTable,
     DefineView,
+    DropAlignment,
     DropReferent,
     DropRoute,
     DropTable,
@@ -36,6 +38,7 @@ from slow_commands import (
     Remove,
     Select,
     Total,
+    Transform,
     Translate,
     Window,
     parts_of,
@@ -47,6 +50,8 @@ from slow_reader import WHOLE_PART, command_of, session_of, text_of_line
 MOST_ROUTES = 4096
 MOST_TABLES = 128
 MOST_VIEWS = 128
+MOST_ALIGNMENTS = 64
+MOST_PIECES = 64
 MOST_REFERENTS = 1000
 MOST_CHANGES = 2**63 - 1
 GREATEST_TOTAL = 10**21
@@ -98,8 +103,11 @@ class Route:
                 place = self.referents[name] + offset
             case Interpolative(part):
                 place = self.start + part * (self.finish - self.start) // WHOLE_PART
-        refuse_if(not self.start <= place <= self.finish, 30)
+        self.check_place(place)
         return place
+
+    def check_place(self, place):
+        refuse_if(not self.start <= place <= self.finish, 30)
 
     def places_of(self, ends):
         """Where positions lie: the first is looked at first, then the second, then 31 where they are no span."""
@@ -176,6 +184,7 @@ class Machine:
         self.routes = {}
         self.tables = {}
         self.views = {}
+        self.alignments = {}
         self.changes = 0
 
     # Lines and replies.
@@ -200,6 +209,8 @@ class Machine:
                 return self.define_table(command)
             case DefineView():
                 return self.define_view(command)
+            case DefineAlignment():
+                return self.define_alignment(command)
             case DefineReferent():
                 return self.define_referent(command)
             case DropRoute(name):
@@ -208,6 +219,8 @@ class Machine:
                 return self.drop_table(name)
             case DropView(name):
                 return self.drop_view(name)
+            case DropAlignment(name):
+                return self.drop_alignment(name)
             case DropReferent():
                 return self.drop_referent(command)
             case MoveReferent():
@@ -250,6 +263,10 @@ class Machine:
         """The windows on a route in the queries of all views."""
         return [part for part in self.parts_of_views() if isinstance(part, Window) and part.route == route]
 
+    def is_in_an_alignment(self, route):
+        """Whether a piece of an alignment is of the route or goes to it."""
+        return any(route in (piece.route, piece.new_route) for pieces in self.alignments.values() for piece in pieces)
+
     def own_referents(self, route, name):
         """The referents of a route, of which this one may be changed: refused 20, 25, 23."""
         referents = self.route(route).referents
@@ -290,6 +307,26 @@ class Machine:
         self.views[command.name] = View(command.query, *size_of(self, command.query))
         return [], 0
 
+    def define_alignment(self, command):
+        refuse_if(command.name in self.alignments, 24)
+        refuse_if(len(self.alignments) == MOST_ALIGNMENTS or len(command.pieces) > MOST_PIECES, 27)
+        for piece in command.pieces:
+            self.check_piece(piece)
+        self.count_change()
+        self.alignments[command.name] = command.pieces
+        return [], 0
+
+    def check_piece(self, piece):
+        """Refused 20 for its route, 20 for its new route, 30, 31."""
+        route = self.route(piece.route)
+        new_route = self.route(piece.new_route)
+        length = max(piece.finish - piece.start, 0)
+        route.check_place(piece.start)
+        route.check_place(piece.finish)
+        new_route.check_place(piece.new_start)
+        new_route.check_place(piece.new_start + length)
+        refuse_if(piece.start >= piece.finish, 31)
+
     def define_referent(self, command):
         route = self.route(command.route)
         place = route.locate(command.position)
@@ -309,6 +346,7 @@ class Machine:
     def drop_route(self, name):
         self.route(name)
         refuse_if(any(table.places(name) for table in self.tables.values()), 23)
+        refuse_if(self.is_in_an_alignment(name), 23)
         refuse_if(self.windows_of_views(name), 23)
         self.count_change()
         del self.routes[name]
@@ -326,6 +364,14 @@ class Machine:
         refuse_if(self.is_in_a_view(name), 23)
         self.count_change()
         del self.views[name]
+        return [], 0
+
+    def drop_alignment(self, name):
+        refuse_if(name not in self.alignments, 21)
+        named = [part.alignment for part in self.parts_of_views() if isinstance(part, Transform)]
+        refuse_if(name in named, 23)
+        self.count_change()
+        del self.alignments[name]
         return [], 0
 
     def drop_referent(self, command):

@@ -6,6 +6,7 @@ the set of its rows at one thousandth of a route, and at all thousandths outside
 same members, and a condition is a function of a row.
 """
 
+from functools import cached_property
 from typing import NamedTuple
 
 from slow_commands import (
@@ -22,6 +23,7 @@ from slow_commands import (
     Not,
     Overlay,
     Rename,
+    Transform,
     Where,
     Window,
     operands_of,
@@ -49,6 +51,7 @@ def opened(machine, query):
     """The query with each view opened and each window located: refused by the first check that fails."""
     for part in parts_of(query):
         refuse_if(isinstance(part, Named) and not machine.has_rows(part.name), 21)
+        refuse_if(isinstance(part, Transform) and part.alignment not in machine.alignments, 21)
     nodes, depth = size_of(machine, query)
     refuse_if(nodes > MOST_NODES or depth > DEEPEST, 27)
     return node(machine, query)
@@ -79,6 +82,8 @@ def node(machine, query):
             return RenameNode(*operands, name, new_name)
         case Window(_, route, ends):
             return WindowNode(machine, *operands, route, ends)
+        case Transform(_, alignment):
+            return TransformNode(*operands, machine.alignments[alignment])
         case Overlay():
             return OverlayNode(*operands)
         case Cover():
@@ -225,6 +230,32 @@ class WindowNode(OneOperand):
         if route == self.route and place in self.within:
             return self.operand.rows_at(route, place)
         return set()
+
+
+class TransformNode(OneOperand):
+    """It has no check of its own. Rows of the operand that no piece carries are none of its rows."""
+
+    def __init__(self, operand, pieces):
+        super().__init__(operand, operand.columns)
+        self.pieces = pieces
+
+    @cached_property
+    def rows(self):
+        """For each route, for each thousandth to which a piece carries one of the operand's, the rows of all these."""
+        rows = {}
+        for piece in self.pieces:
+            new_rows = rows.setdefault(piece.new_route, {})
+            for place in self.operand.places(piece.route):
+                if piece.start <= place < piece.finish:
+                    new_place = piece.new_start + (place - piece.start)
+                    new_rows.setdefault(new_place, set()).update(self.operand.rows_at(piece.route, place))
+        return rows
+
+    def places(self, route):
+        return self.rows.get(route, {}).keys()
+
+    def rows_at(self, route, place):
+        return self.rows.get(route, {}).get(place, set())
 
 
 # Operators on the rows of two operands.

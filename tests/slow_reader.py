@@ -18,11 +18,13 @@ from slow_commands import (
     ColumnName,
     Comparison,
     Cover,
+    DefineAlignment,
     DefineReferent,
     DefineRoute,
     DefineTable,
     DefineView,
     Dissolve,
+    DropAlignment,
     DropReferent,
     DropRoute,
     DropTable,
@@ -36,12 +38,14 @@ from slow_commands import (
     Named,
     Not,
     Overlay,
+    Piece,
     Refused,
     Relative,
     Remove,
     Rename,
     Select,
     Total,
+    Transform,
     Translate,
     Where,
     Window,
@@ -64,6 +68,7 @@ RESERVED = frozenset(
 
 METHODS = (b"ABSOLUTE", b"RELATIVE", b"INTERPOLATIVE")
 SIGNS = (b"=", b"<>", b"<", b"<=", b">", b">=")
+DROPPED = {b"ROUTE": DropRoute, b"TABLE": DropTable, b"VIEW": DropView, b"ALIGNMENT": DropAlignment}
 PAIRED = {b"OVERLAY": Overlay, b"COVER": Cover, b"MERGE": Merge, b"MINUS": Minus}
 
 
@@ -310,6 +315,7 @@ class Reader:
         yield b"DISSOLVE", lambda operand: Dissolve(operand, self.column_names())
         yield b"RENAME", self.rename
         yield b"WINDOW", lambda operand: Window(operand, self.name(), self.span())
+        yield b"TRANSFORM", lambda operand: Transform(operand, self.name())
         for word, operator in PAIRED.items():
             yield word, lambda left, operator=operator: operator(left, self.query())
 
@@ -395,6 +401,8 @@ class Reader:
             return self.define_referent()
         if self.takes(b"VIEW"):
             return self.define_view()
+        if self.takes(b"ALIGNMENT"):
+            return self.define_alignment()
         if self.takes(b"POINT"):
             return self.define_table(is_line=False)
         self.take(b"LINE")
@@ -403,7 +411,7 @@ class Reader:
     def drop(self):
         if self.takes(b"REFERENT"):
             return DropReferent(self.name(), self.name())
-        for word, command in ((b"ROUTE", DropRoute), (b"TABLE", DropTable), (b"VIEW", DropView)):
+        for word, command in DROPPED.items():
             if self.takes(word):
                 return command(self.name())
         raise self.fault()
@@ -430,6 +438,21 @@ class Reader:
         name = self.name()
         self.take(b"AS")
         return DefineView(name, self.query())
+
+    def define_alignment(self):
+        name = self.name()
+        return DefineAlignment(name, self.bracketed_list_of(self.piece))
+
+    def piece(self):
+        route = self.name()
+        self.take(b"FROM")
+        start = self.measure()
+        self.take(b"TO")
+        finish = self.measure()
+        self.take(b"INTO")
+        new_route = self.name()
+        self.take(b"AT")
+        return Piece(route, start, finish, new_route, self.measure())
 
     def move_referent(self):
         self.take(b"REFERENT")

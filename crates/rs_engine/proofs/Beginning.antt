@@ -39,5 +39,5 @@ module _ (definitions : Definitions) (referents : Numbered HeldReferents) (event
       sym (
       ap (λ (d : Definitions). machine_of (record { definitions = d; referents = referents; events = events; changes = 0 })) none
       ∙ ap (λ (state : State). record { state = state; failures = 0; full_refusals = 0 }) (same_state (state_of (record { definitions = no_definitions; referents = referents; events = events; changes = 0 })) fresh
-      routes_of-none (referents_from-none (referents_on referents)) (tables_from-none (spans_on events)) views_of-none refl refl)
+      routes_of-none (referents_from-none (referents_on referents)) (tables_from-none (spans_on events)) views_of-none refl refl refl)
       )

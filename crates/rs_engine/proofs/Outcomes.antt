@@ -9,17 +9,17 @@ use Rattle.rs_measure.specs.declared.refusal.Refusal.TheVariants.{NoSuchRoute, N
 use Rattle.rs_value.specs.declared.column.Kind.{Kind}
 use Rattle.rs_value.specs.declared.column.TheConstants.{COLUMNS}
 use Rattle.rs_facts.specs.Fact.{Name}
-use Rattle.rs_facts.specs.Query.{Column, Query}
+use Rattle.rs_facts.specs.Query.{Column, Piece, Query}
 use Rattle.rs_syntax.specs.QueryView.{query_tree}
-use Rattle.rs_syntax.specs.Tree.{QueryTree}
+use Rattle.rs_syntax.specs.Tree.{QueryTree, PieceTree}
 use Rattle.rs_machine.specs.Checking.{checked}
-use Rattle.rs_machine.specs.declared.limits.TheConstants.{ROUTES, TABLES, VIEWS}
-use Rattle.rs_machine.specs.Checks.{◌>>=◌, unless, found, some_name_twice, column_names}
-use Rattle.rs_machine.specs.Opening.{names_query, names_route}
+use Rattle.rs_machine.specs.declared.limits.TheConstants.{ROUTES, TABLES, VIEWS, ALIGNMENTS, PIECES}
+use Rattle.rs_machine.specs.Checks.{◌>>=◌, unless, found, some_name_twice, column_names, pieces_checked}
+use Rattle.rs_machine.specs.Opening.{names_query, names_route, names_alignment}
 use Rattle.rs_machine.specs.State.{has}
-use Rattle.rs_machine.specs.Step.{Effect, counted, may_change, route_defined, table_defined, route_dropped, table_dropped, view_dropped, some_table, has_fact_on, with_route, with_table, empty_table, with_view, view_defined, without_route, without_table, without_view}
-use Rattle.rs_catalog.specs.Definitions.{RouteItem, TableItem, ViewItem, table_from}
-use Rattle.rs_catalog.specs.Uses.{some_view_query}
+use Rattle.rs_machine.specs.Step.{Effect, counted, may_change, route_defined, table_defined, route_dropped, table_dropped, view_dropped, some_table, has_fact_on, with_route, with_table, empty_table, with_view, view_defined, without_route, without_table, without_view, alignment_defined, alignment_dropped, with_alignment, without_alignment}
+use Rattle.rs_catalog.specs.Definitions.{RouteItem, TableItem, ViewItem, routes_of, table_from}
+use Rattle.rs_catalog.specs.Uses.{some_view_query, some_piece_on}
 use Rattle.rs_catalog.proofs.StateLaws.{get-routes_of, get-views_of, get-tables_from, len-routes_of, len-views_of, len-tables_from}
 use Rattle.rs_event_lists.specs.Held.{spans_on}
 use Rattle.rs_engine.specs.Held.{Held, state_of}
@@ -148,12 +148,15 @@ module _ (held : Held) (name : Name) where
     pub drops_used_route : some_table (state_of held) (has_fact_on name item.ends) ≡ true → route_dropped (state_of held) name ≡ Err InUse
     drops_used_route e = rw (route_at held name item there, e)
 
-    pub drops_seen_route : some_table (state_of held) (has_fact_on name item.ends) ≡ false → some_view_query held.definitions (names_route name) ≡ true → route_dropped (state_of held) name ≡ Err InUse
-    drops_seen_route e f = rw (route_at held name item there, e, f)
+    pub drops_aligned_route : some_table (state_of held) (has_fact_on name item.ends) ≡ false → some_piece_on held.definitions name ≡ true → route_dropped (state_of held) name ≡ Err InUse
+    drops_aligned_route e f = rw (route_at held name item there, e, f)
 
-    pub drops_route : some_table (state_of held) (has_fact_on name item.ends) ≡ false → some_view_query held.definitions (names_route name) ≡ false
+    pub drops_seen_route : some_table (state_of held) (has_fact_on name item.ends) ≡ false → some_piece_on held.definitions name ≡ false → some_view_query held.definitions (names_route name) ≡ true → route_dropped (state_of held) name ≡ Err InUse
+    drops_seen_route e g f = rw (route_at held name item there, e, g, f)
+
+    pub drops_route : some_table (state_of held) (has_fact_on name item.ends) ≡ false → some_piece_on held.definitions name ≡ false → some_view_query held.definitions (names_route name) ≡ false
         → route_dropped (state_of held) name ≡ (may_change (state_of held) >>= λ _. Ok (counted 0 (without_route (state_of held) name)))
-    drops_route e f = rw (route_at held name item there, e, f)
+    drops_route e g f = rw (route_at held name item there, e, g, f)
 
   pub drops_no_table : names.get held.definitions.tables name ≡ None → table_dropped (state_of held) name ≡ Err NoSuchName
   drops_no_table none = rw (no_table held name none)
@@ -174,6 +177,16 @@ module _ (held : Held) (name : Name) where
 
     pub drops_view : some_view_query held.definitions (names_query name) ≡ false → view_dropped (state_of held) name ≡ (may_change (state_of held) >>= λ _. Ok (counted 0 (without_view (state_of held) name)))
     drops_view e = rw (view_at held name item there, e)
+
+  pub drops_no_alignment : names.get held.definitions.alignments name ≡ None → alignment_dropped (state_of held) name ≡ Err NoSuchName
+  drops_no_alignment none = rw none
+
+  module _ (pieces : List Piece) (there : names.get held.definitions.alignments name ≡ Some pieces) where
+    pub drops_seen_alignment : some_view_query held.definitions (names_alignment name) ≡ true → alignment_dropped (state_of held) name ≡ Err InUse
+    drops_seen_alignment e = rw (there, e)
+
+    pub drops_alignment : some_view_query held.definitions (names_alignment name) ≡ false → alignment_dropped (state_of held) name ≡ (may_change (state_of held) >>= λ _. Ok (counted 0 (without_alignment (state_of held) name)))
+    drops_alignment e = rw (there, e)
 
 -- ---- the check of the changes comes last
 
@@ -222,3 +235,27 @@ lent_there lent there none b same is e = ap is_some (sym same) ∙ is_some-map (
 pub some_of : {X : Type 0} (o : Option X) → is_some o ≡ true → (x : X) × (o ≡ Some x)
 some_of None e = cc
 some_of (Some x) e = (x, refl)
+
+-- ---- an alignment's definition
+
+module _ (held : Held) (name : Name) (written : List PieceTree) where
+  abbrev Aligned : Result Effect Refusal → Type 0
+  Aligned answer = alignment_defined (state_of held) name written ≡ answer
+
+  pub alignment_taken : is_some (names.get held.definitions.alignments name) ≡ true → Aligned (Err NameTaken)
+  alignment_taken e = rw e
+
+  module _ (new : is_some (names.get held.definitions.alignments name) ≡ false) where
+    pub alignment_too_many : ALIGNMENTS ≤ names.len held.definitions.alignments → Aligned (Err Limit)
+    alignment_too_many e = rw (new, below-false (names.len held.definitions.alignments) ALIGNMENTS e)
+
+    module _ (room : names.len held.definitions.alignments < ALIGNMENTS) where
+      pub alignment_too_long : PIECES < length written → Aligned (Err Limit)
+      alignment_too_long e = rw (new, below-true (names.len held.definitions.alignments) ALIGNMENTS room, upto-false (length written) PIECES e)
+
+      pub alignment_off : length written ≤ PIECES → (refusal : Refusal) → pieces_checked (routes_of held.definitions) written ≡ Err refusal → Aligned (Err refusal)
+      alignment_off e refusal off = rw (new, below-true (names.len held.definitions.alignments) ALIGNMENTS room, upto-true (length written) PIECES e, off)
+
+      pub alignment_checked : length written ≤ PIECES → (pieces : List Piece) → pieces_checked (routes_of held.definitions) written ≡ Ok pieces
+          → Aligned (may_change (state_of held) >>= λ _. Ok (counted 0 (with_alignment (state_of held) name pieces)))
+      alignment_checked e pieces is = rw (new, below-true (names.len held.definitions.alignments) ALIGNMENTS room, upto-true (length written) PIECES e, is)

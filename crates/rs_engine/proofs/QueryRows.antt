@@ -1,5 +1,5 @@
 -- The rows of a well-formed query lie on their route, as those of its tables do.
-use Rattle.std.proofs.Common.{◌≡◌, ℕ, ◌<◌, ◌≤◌, Bool, true, false, not, ◌&&◌, ◌||◌, ◌⊎◌, ⊎_elim, List, [], ◌∷◌, ◌++◌, map, flat_map, Some, None, refl, sym, ap, subst, ◌∙◌, arith}
+use Rattle.std.proofs.Common.{◌≡◌, ℕ, ◌+◌, ◌-◌, ◌<◌, ◌≤◌, Bool, true, false, not, ◌&&◌, ◌||◌, ◌⊎◌, ⊎_elim, List, [], ◌∷◌, ◌++◌, map, flat_map, Some, None, refl, sym, ap, subst, ◌∙◌, arith}
 use Rattle.std.specs.Prelude.{if◌then◌else◌}
 use Rattle.std.specs.List.{list_any}
 use Rattle.std.specs.Option.{option_map}
@@ -7,16 +7,17 @@ use Rattle.std.specs.FinMap as names
 use Rattle.rs_value.specs.declared.column.Kind.{Kind}
 use Rattle.rs_value.specs.declared.column.Kind.TheVariants.{Point, Line}
 use Rattle.rs_value.specs.Row.{Row}
-use Rattle.rs_facts.specs.Fact.{Name, Places, RowSet, none, contains, items, keep}
+use Rattle.rs_facts.specs.Fact.{Name, Places, Facts, RowSet, none, contains, items, keep}
 use Rattle.rs_facts.specs.Insert.{within, same_name}
 use Rattle.rs_facts.specs.Condition.{meets}
-use Rattle.rs_facts.specs.Operators.{from_rows, mapped, nulls, chosen, dissolved, are_none, overlaid, covered, merged, without, windowed}
-use Rattle.rs_facts.specs.Query.{RouteEnds, World, Query, Window, on_route, between, table_rows, where_rows, dissolve_rows, rename_column, overlay_rows, cover_rows, merge_rows, minus_rows, window_rows, seen_through, rows_at, kind_of, facts_of, table_kind, overlaid_kind}
-use Rattle.rs_facts.specs.WellFormed.{IsWellFormed}
+use Rattle.rs_facts.specs.Operators.{from_rows, mapped, nulls, chosen, dissolved, are_none, overlaid, covered, merged, without, windowed, carried}
+use Rattle.rs_facts.specs.Query.{RouteEnds, World, Piece, Query, Window, on_route, between, table_rows, where_rows, dissolve_rows, rename_column, overlay_rows, cover_rows, merge_rows, minus_rows, window_rows, transform_rows, carried_by, transformed, seen_through, rows_at, kind_of, facts_of, table_kind, overlaid_kind}
+use Rattle.rs_facts.specs.WellFormed.{IsPieceOn, ArePiecesOn, IsWellFormed}
 use Rattle.rs_facts.specs.Spans.{places_of}
-use Rattle.rs_facts.proofs.Placing.{within-true, cases_within}
+use Rattle.rs_facts.proofs.Placing.{within-true, within-bounds, cases_within}
 use Rattle.rs_facts.proofs.Rows.{same_row, same_row-refl}
 use Rattle.rs_facts.proofs.Sets.{contains-none, same_rows}
+use Rattle.rs_facts.proofs.Carrying.{contains-carried}
 use Rattle.rs_facts.proofs.RowSets.{contains-items, contains-keep, contains-without}
 use Rattle.rs_machine.specs.State.{world_of}
 use Rattle.rs_catalog.specs.Definitions.{RouteItem, TableItem, facts_from, table_from}
@@ -24,6 +25,8 @@ use Rattle.rs_catalog.specs.Events.{behind, LieOn}
 use Rattle.rs_event_lists.specs.Held.{spans_on}
 use Rattle.rs_engine.specs.Held.{Held, state_of, IsHeld}
 use Rattle.rs_engine.proofs.StateLaws.{facts_at, get_table}
+use Rattle.rs_catalog.proofs.MapLaws.{same_name-true}
+use Rattle.rs_engine.proofs.Outcomes.{route_at}
 use Rattle.rs_engine.proofs.RouteSteps.{false_true}
 
 -- ---- what operators make of no rows
@@ -86,6 +89,10 @@ outside-less from upto to k less off = ⊎_elim
     (λ (outside : (within from upto k ≡ false) × ((k < from) ⊎ (upto ≤ k))). outside.0)
     (cases_within from upto k)
 
+finish-behind : (kind : Kind) (ends : RouteEnds) → ends.finish ≤ behind kind ends
+finish-behind Line ends = omega arith
+finish-behind Point ends = omega arith
+
 behind-left : (p q : Kind) (ends : RouteEnds) → (q ≡ q) → behind p ends ≤ behind (overlaid_kind p q) ends
 behind-left Line Line ends e = omega arith
 behind-left Line Point ends e = omega arith
@@ -124,6 +131,35 @@ module _ (held : Held) (is : IsHeld held) (route : Name) (on : RouteItem) (there
   overlay_off a b k Line q left right off = ap (λ rows. overlaid rows (rows_at world b route k)) (left (outside-less on.ends.start (behind Line on.ends) (behind (overlaid_kind Line q) on.ends) k (behind-left Line q on.ends refl) off)) ∙ overlaid-none_left _
   overlay_off a b k Point q left right off = ap (λ rows. overlaid rows (rows_at world b route k)) (left (outside-less on.ends.start (behind Point on.ends) (behind (overlaid_kind Point q) on.ends) k (behind-left Point q on.ends refl) off)) ∙ overlaid-none_left _
 
+  -- a piece puts nothing beside the route that it is carried onto
+  piece_off : (kind : Kind) (piece : Piece) (facts : Facts) (k : ℕ) → IsPieceOn world.routes piece → IsOff kind k → carried_by piece facts route k ≡ none
+  piece_off kind piece facts k lies off = elim (same_name piece.onto_route route) as (λ b. same_name piece.onto_route route ≡ b → (if b then carried piece.from piece.to piece.onto (facts piece.from_route) k else none) ≡ none) [
+    | true ↦ λ e. same_rows _ none (λ row.
+        contains-carried piece.from piece.to piece.onto (facts piece.from_route) k row
+        ∙ ap (λ b. b && contains (facts piece.from_route (piece.from + (k - piece.onto))) row) (outside e)
+        ∙ sym (contains-none row))
+    | false ↦ λ e. refl
+  ] refl
+    where
+      ends : same_name piece.onto_route route ≡ true → lies.second ≡ on.ends
+      ends e = let two = sym lies.second_there ∙ ap (names.get world.routes) (same_name-true piece.onto_route route e) ∙ route_at held route on there in cc
+
+      outside : same_name piece.onto_route route ≡ true → within piece.onto (piece.onto + (piece.to - piece.from)) k ≡ false
+      outside e = elim (within piece.onto (piece.onto + (piece.to - piece.from)) k) as (λ b. within piece.onto (piece.onto + (piece.to - piece.from)) k ≡ b → b ≡ false) [
+        | true ↦ λ inside.
+            let bounds = within-bounds piece.onto (piece.onto + (piece.to - piece.from)) k inside in
+            let a = bounds.0 in let b = bounds.1 in
+            let start : on.ends.start ≤ piece.onto = subst (λ (r : RouteEnds). r.start ≤ piece.onto) (ends e) lies.onto_start in
+            let finish : piece.onto + (piece.to - piece.from) ≤ on.ends.finish = subst (λ (r : RouteEnds). piece.onto + (piece.to - piece.from) ≤ r.finish) (ends e) lies.onto_finish in
+            let upto = finish-behind kind on.ends in
+            false_true (sym off ∙ within-true on.ends.start (behind kind on.ends) k (omega (arith, start, a)) (omega (arith, b, finish, upto)))
+        | false ↦ λ beside. refl
+      ] refl
+
+  pieces_off : (kind : Kind) (pieces : List Piece) (facts : Facts) (k : ℕ) → ArePiecesOn world.routes pieces → IsOff kind k → transformed pieces facts route k ≡ none
+  pieces_off kind [] facts k lie off = refl
+  pieces_off kind (piece ∷ pieces) facts k lie off = (λ i. merged (piece_off kind piece facts k lie.0 off i) (pieces_off kind pieces facts k lie.1 off i)) ∙ merged-none
+
   rows_off : (query : Query) (k : ℕ) → IsWellFormed world query → IsOff (kind_of world query) k → rows_at world query route k ≡ none
   rows_off (table_rows name) k formed off = named_off name k off
   rows_off (where_rows query condition) k formed off = ap (keep (meets condition)) (rows_off query k formed off) ∙ keep-none (meets condition)
@@ -136,6 +172,7 @@ module _ (held : Held) (is : IsHeld held) (route : Name) (on : RouteItem) (there
       (λ i. merged (rows_off a k formed.0 off i) (rows_off b k formed.1 (subst (λ kind. IsOff kind k) formed.2 off) i)) ∙ merged-none
   rows_off (minus_rows a b) k formed off = ap (λ rows. without rows (rows_at world b route k)) (rows_off a k formed.0 off) ∙ without-none _
   rows_off (window_rows query window) k formed off = ap (seen_through window route k) (rows_off query k formed off) ∙ through-none window route k
+  rows_off (transform_rows query name pieces) k formed off = pieces_off (kind_of world query) pieces (rows_at world query) k formed.1 off
 
   -- wherever a row of the query holds, it lies on the route
   pub query_lies : (query : Query) → IsWellFormed world query → LieOn (kind_of world query) on.ends (rows_at world query route)

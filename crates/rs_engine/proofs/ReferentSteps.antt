@@ -43,7 +43,7 @@ module _ (held : Held) (route : Name) (item : RouteItem) (there : names.get held
     with_other_referents = record held { referents = referents; changes = held.changes + 1 }
 
     pub state_other_referents : state_of with_other_referents ≡ with_referents (state_of held) route after
-    state_other_referents = same_state _ _ refl (ap (referents_from held.definitions) changed ∙ referents_from-at held.definitions (referents_on held.referents) route item after is.definitions.route_numbers there) refl refl refl refl
+    state_other_referents = same_state _ _ refl (ap (referents_from held.definitions) changed ∙ referents_from-at held.definitions (referents_on held.referents) route item after is.definitions.route_numbers there) refl refl refl refl refl
 
     pub held_other_referents : IsHeld with_other_referents
     unfolding at_number

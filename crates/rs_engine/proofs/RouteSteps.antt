@@ -62,7 +62,7 @@ module _ (definitions : Definitions) (name : Name) (item : RouteItem) (new : nam
       (map_values-insert (λ item. item.ends) definitions.routes name item)
       (referents_with_route referents no_referents)
       (same_tables definitions (with_route definitions name item) spans spans refl (λ q table there. facts_with_route (spans table.number) (no_spans table.number)))
-      refl refl refl
+      refl refl refl refl
 
   events_with_route : (spans : ℕ → ℕ → List Stretch) → AreEventsOf definitions spans → AreEventsOf (with_route definitions name item) spans
   events_with_route spans are = record {
@@ -154,7 +154,7 @@ module _ (definitions : Definitions) (name : Name) (item : RouteItem) (there : n
       (map_values-remove (λ item. item.ends) definitions.routes name)
       (referents_without_route are referents)
       (same_tables definitions (without_route definitions name) spans spans refl (λ q table at. facts_without_route (spans table.number) (no_spans table.number)))
-      refl refl refl
+      refl refl refl refl
 
   events_without_route : (spans : ℕ → ℕ → List Stretch) → ((table : ℕ) → spans table item.number ≡ []) → AreEventsOf definitions spans → AreEventsOf (without_route definitions name) spans
   events_without_route spans none are = record {

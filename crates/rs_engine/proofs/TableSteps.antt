@@ -5,7 +5,7 @@ use Rattle.std.specs.Ordering.{eq_by_cmp}
 use Rattle.std.specs.FinMap as names
 use Rattle.std.specs.FinMap.{get-insert, get-remove, same_map}
 use Rattle.rs_facts.specs.Fact.{Name, Names, name_cmp}
-use Rattle.rs_facts.specs.Query.{Table}
+use Rattle.rs_facts.specs.Query.{Table, Piece}
 use Rattle.rs_facts.specs.Runs.{Stretch}
 use Rattle.rs_syntax.specs.QueryView.{query_tree}
 use Rattle.rs_machine.specs.Step as machine
@@ -54,7 +54,7 @@ module _ (old : Held) (name : Name) (item : TableItem) (events : HeldLists) (is 
 
   pub state_defined_table : state_of with_defined_table ≡ machine.with_table (state_of old) name (empty_table item.kind item.columns)
   unfolding referents_from
-  state_defined_table = same_state _ _ refl refl tables_defined refl refl refl
+  state_defined_table = same_state _ _ refl refl tables_defined refl refl refl refl
 
   events_defined : AreEventsOf (with_table old.definitions name item) (spans_on events)
   events_defined = record {
@@ -111,7 +111,7 @@ module _ (old : Held) (name : Name) (item : TableItem) (events : HeldLists) (is 
 
   pub state_dropped_table : state_of with_dropped_table ≡ machine.without_table (state_of old) name
   unfolding referents_from
-  state_dropped_table = same_state _ _ refl refl tables_dropped refl refl refl
+  state_dropped_table = same_state _ _ refl refl tables_dropped refl refl refl refl
 
   -- a table that is still there is another
   still_other : (q : Name) (table : TableItem) → names.get (names.remove old.definitions.tables name) q ≡ Some table → nat_eq table.number item.number ≡ false
@@ -162,15 +162,34 @@ module _ (old : Held) (is : IsHeld old) (views : Names ViewItem) where
 module _ (old : Held) (name : Name) where
   pub state_defined_view : (item : ViewItem) → state_of (record old { definitions = with_view old.definitions name item; changes = old.changes + 1 }) ≡ machine.with_view (state_of old) name (query_tree item.query)
   unfolding referents_from
-  state_defined_view item = same_state _ _ refl refl (same_tables old.definitions _ (spans_on old.events) (spans_on old.events) refl (λ q table at. refl)) (map_values-insert (λ v. query_tree v.query) old.definitions.views name item) refl refl
+  state_defined_view item = same_state _ _ refl refl (same_tables old.definitions _ (spans_on old.events) (spans_on old.events) refl (λ q table at. refl)) (map_values-insert (λ v. query_tree v.query) old.definitions.views name item) refl refl refl
 
   pub state_dropped_view : state_of (record old { definitions = without_view old.definitions name; changes = old.changes + 1 }) ≡ machine.without_view (state_of old) name
   unfolding referents_from
-  state_dropped_view = same_state _ _ refl refl (same_tables old.definitions _ (spans_on old.events) (spans_on old.events) refl (λ q table at. refl)) (map_values-remove (λ v. query_tree v.query) old.definitions.views name) refl refl
+  state_dropped_view = same_state _ _ refl refl (same_tables old.definitions _ (spans_on old.events) (spans_on old.events) refl (λ q table at. refl)) (map_values-remove (λ v. query_tree v.query) old.definitions.views name) refl refl refl
+
+-- ---- alignments
+
+-- where alignments alone are others, and lie on their routes, no list changes
+module _ (old : Held) (is : IsHeld old) (alignments : Names (List Piece)) where
+  abbrev with_other_alignments : Held
+  with_other_alignments = record old { definitions = record old.definitions { alignments = alignments }; changes = old.changes + 1 }
+
+  pub held_other_alignments : AreDefinitions (record old.definitions { alignments = alignments }) → IsHeld with_other_alignments
+  held_other_alignments are = record {
+    definitions = are;
+    events = record { spans = is.events.spans; on_routes = is.events.on_routes; no_table = is.events.no_table; no_route = is.events.no_route };
+    kinds = is.kinds;
+    referents = is.referents;
+  }
+
+  pub state_other_alignments : state_of with_other_alignments ≡ record (state_of old) { alignments = alignments; changes = old.changes + 1 }
+  unfolding referents_from
+  state_other_alignments = same_state _ _ refl refl (same_tables old.definitions _ (spans_on old.events) (spans_on old.events) refl (λ q table at. refl)) refl refl refl refl
 
 -- a table that was added and taken out again
 pub taken_back : (old added : Definitions) (name : Name) (item : TableItem) → names.get old.tables name ≡ None → added ≡ with_table old name item → without_table added name ≡ old
-taken_back old added name item new is = ap (λ (d : Definitions). without_table d name) is ∙ ap (λ (tables : Names TableItem). record { routes = old.routes; tables = tables; views = old.views }) back
+taken_back old added name item new is = ap (λ (d : Definitions). without_table d name) is ∙ ap (λ (tables : Names TableItem). record { routes = old.routes; tables = tables; views = old.views; alignments = old.alignments }) back
   where
     back : names.remove (names.insert old.tables name item) name ≡ old.tables
     back = same_map name_cmp-total name_cmp-antisymmetric _ _ (λ q.

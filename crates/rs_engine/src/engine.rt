@@ -8,6 +8,7 @@ ghost use Rattle.rs_machine.specs.Step.{may_change};
 ghost use Rattle.rs_serve.specs.ReplyView.{reply_of, StandsAlone};
 ghost use Rattle.rs_engine.specs.Replied.{count_reply_of, rows_reply_of};
 
+mod alignment_commands;
 mod definitions;
 mod drops;
 mod events;
@@ -26,7 +27,7 @@ use rs_syntax::Command;
 use std::alloc::Global;
 use std::marker::Model;
 
-/// Routes, tables and views, the referents of routes, the spans of tables, and how many changes were accepted.
+/// Routes, tables, views and alignments, the referents of routes, the spans of tables, and how many changes were accepted.
 #[derive(Drop)]
 pub struct Engine {
     pub(crate) alloc: Global,
@@ -56,7 +57,7 @@ impl Engine {
     ghost use Rattle.rs_engine.specs.Held.{state_of};
     ghost use Rattle.rs_engine.specs.View.{machine_of};
 
-    /// An engine with no routes, no tables and no views. It takes no memory.
+    /// An engine with no routes, no tables, no views and no alignments. It takes no memory.
     pub fn fresh(alloc: Global) -> Self
         ensures { ⟦<Engine as Serve>⟧.is result fresh_machine }
     {
@@ -96,6 +97,10 @@ impl Engine {
                 alloc,
                 self.define_view(name, query, text),
             ),
+            Command::DefineAlignment { name, pieces } => count_reply(
+                alloc,
+                self.define_alignment(name, pieces),
+            ),
             Command::MoveReferent {
                 route,
                 name,
@@ -104,6 +109,7 @@ impl Engine {
             Command::DropRoute { name } => count_reply(alloc, self.drop_route(&name)),
             Command::DropTable { name } => count_reply(alloc, self.drop_table(&name)),
             Command::DropView { name } => count_reply(alloc, self.drop_view(&name)),
+            Command::DropAlignment { name } => count_reply(alloc, self.drop_alignment(&name)),
             Command::DropReferent { route, name } => count_reply(
                 alloc,
                 self.drop_referent(&route, &name),

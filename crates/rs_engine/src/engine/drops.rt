@@ -2,10 +2,11 @@
 //!
 //! It promises the machine's checks in their order, and that a refusal changes nothing. Neither takes memory.
 
-ghost use Rattle.std.specs.Prelude.{◌≡◌, ◌<◌, Some, Ok, Err, IfOk, IfErr, OnOk, OnErr};
+ghost use Rattle.std.specs.Prelude.{◌≡◌, ◌<◌, false, Some, Ok, Err, IfOk, IfErr, OnOk, OnErr};
 ghost use Rattle.std.specs.FinMap as names;
 ghost use Rattle.rs_machine.specs.Step.{counted, route_dropped, table_dropped, without_route, without_table};
 ghost use Rattle.rs_machine.specs.declared.limits.TheConstants.{CHANGES};
+ghost use Rattle.rs_catalog.specs.Uses.{some_piece_on};
 ghost use Rattle.rs_event_lists.specs.Changed.{HasNoSpansOn};
 ghost use Rattle.rs_engine.specs.Tables.{HasTable};
 
@@ -17,8 +18,8 @@ use rs_methods::Name;
 impl Engine {
     ghost use Rattle.rs_engine.specs.Held.{state_of};
 
-    /// Drops a route with its referents. Checks, in order: 20; a table has a fact on it or a view's window is on it (23);
-    /// 27.
+    /// Drops a route with its referents. Checks, in order: 20; a table has a fact on it, an alignment has a piece on it or
+    /// a view's window is on it (23); 27.
     pub(crate) fn drop_route(&mut self, name: &Name) -> Result<u128, Refusal>
         ensures done { IfOk result (λ count. route_dropped (state_of self.old) name.now.bytes ≡ Ok (counted count (state_of self.new))) }
         ensures refused { IfErr result (λ refusal. route_dropped (state_of self.old) name.now.bytes ≡ Err refusal) }
@@ -35,10 +36,14 @@ impl Engine {
         ensures refused { IfErr result (λ refusal. route_dropped (state_of self.now) name.now.bytes ≡ Err refusal) }
         ensures there { IfOk result (λ route. names.get self.now.definitions.routes name.now.bytes ≡ Some route) }
         ensures no_spans { IfOk result (λ route. HasNoSpansOn self.now.events route.number) }
+        ensures unused { OnOk result (some_piece_on self.now.definitions name.now.bytes ≡ false) }
         ensures may_change { OnOk result (self.now.changes < CHANGES) }
     {
         let route = self.catalog.named_route(name)?;
         if self.events.has_events_on(route.number()) {
+            return Err(Refusal::InUse);
+        }
+        if self.catalog.is_route_aligned(name) {
             return Err(Refusal::InUse);
         }
         if self.catalog.is_route_named(name) {
@@ -48,10 +53,11 @@ impl Engine {
         Ok(route)
     }
 
-    /// Takes a route on which no table has a span out with its referents, and counts the change.
+    /// Takes a route on which no table has a span and no alignment a piece out with its referents, and counts the change.
     fn take_route(&mut self, name: &Name, route: RouteEntry)
         requires there { names.get self.old.definitions.routes name.now.bytes ≡ Some route }
         requires no_spans { HasNoSpansOn self.old.events route.number }
+        requires unused { some_piece_on self.old.definitions name.now.bytes ≡ false }
         requires may_change { self.old.changes < CHANGES }
         ensures { state_of self.new ≡ without_route (state_of self.old) name.now.bytes }
     {
