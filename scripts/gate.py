@@ -2,12 +2,17 @@
 """Runs `rt ci`, but tries a must-fail edit only on the functions that its lines `only:` name.
 
     gate.py                                 at the top of the repository, in place of `rt ci`
-    gate.py --edits [CRATE ..] [--jobs N]   tries the edits of these crates alone, or of all, N at a time
+    gate.py --edits [CRATE ..] [--jobs N]   tries the edits of these crates alone, or of all, N checks at a time
 
 A line `only: PATH` of an edit names a function, a type or a module with a contract that refuses the edit; an edit may
 have several. `rattle check --only PATH` then checks these functions and those that they call, from nothing, and one of
 them must not be proved. A crate is proved only if each of its functions is, so the whole crate would be refused too.
 An edit without such a line is tried on its whole crate.
+
+Edits of one crate whose changes all lie in the bodies of the functions that they name, and in no function of another
+such edit, are tried together: a proof of a function rests on the contracts of those that it calls and on no other body.
+Each is refused only where the prover refuses the function that it names, by itself and not for one that it calls. An
+edit that is not refused so, or whose text can't be read, is tried again alone, and that is its verdict.
 
 `rt ci` and `rt must-fail` pass over these lines and try each edit on its whole crate.
 
@@ -25,9 +30,15 @@ import re
 import resource
 import shutil
 import sys
+from typing import NamedTuple
 
 ONLY_LINE = re.compile(r"^only:(.*)$", re.MULTILINE)
 ONLY_VERDICT = re.compile(r"^only=(?P<asked>\d+) proved=(?P<proved>\d+)\n*\Z", re.MULTILINE)
+PAIR_LINE = re.compile(r"^(file|old|new): ?(.*)$", re.MULTILINE)
+FUNCTION = re.compile(r"( *)(?:pub(?:\([^)]*\))? )?(?:const )?fn (\w+)\b")
+PLACE = re.compile(r"(?:note: )?(?:\./)?(?P<file>(?:src|proofs)/[^:]+):(?P<line>\d+):\d+:")
+# a proof file that names what the edit took away, and what cites that proof
+LOST_NAME = re.compile(r"(\./)?proofs/.*(has no field|is not in scope|has no `|was not admitted)")
 ONE_PROCESS = ["--jobs", "1"]
 
 
@@ -45,10 +56,18 @@ rt = load_rt()
 whole_checked, whole_must_fail_all = rt.checked, rt.must_fail_all
 
 
+def text_of(file):
+    with open(file, encoding="utf-8", errors="replace") as opened:
+        return opened.read()
+
+
+def named_in(edit):
+    """The paths of the functions named in an edit."""
+    return [path.strip() for path in ONLY_LINE.findall(text_of(edit))]
+
+
 def only_flags(edit):
-    """The flags that ask for the functions named in an edit."""
-    with open(edit, encoding="utf-8", errors="replace") as file:
-        return ["--only=" + path.strip() for path in ONLY_LINE.findall(file.read())]
+    return ["--only=" + path for path in named_in(edit)]
 
 
 def checked(crate, texts, flags, kept):
@@ -66,11 +85,130 @@ def must_fail_named(crate, edit, flags):
     return refused, said.replace("the crate is still proved", "what its lines `only:` name is still proved")
 
 
+class Body(NamedTuple):
+    """The body of a function: its file, the function's name, and the lines from the function's first to its last."""
+
+    file: str
+    name: str
+    first: int
+    last: int
+
+
+def body_around(file, text, at):
+    """The body that the character at this place lies in; None where it lies in none."""
+    lines = text.split("\n")
+    line = text.count("\n", 0, at)
+    for first in range(line, -1, -1):
+        head = FUNCTION.match(lines[first])
+        if head:
+            break
+    else:
+        return None
+    indent = head[1]
+    opens = next((it for it in range(first, len(lines)) if re.match(indent + r"(\S.*)?\{$", lines[it])), line)
+    closes = next((it for it in range(opens + 1, len(lines)) if lines[it] == indent + "}"), line)
+    return Body(file, head[2], first, closes) if opens < line < closes else None
+
+
+class Change(NamedTuple):
+    """An edit whose changes lie in bodies of functions that it names: its pairs, and these bodies."""
+
+    edit: str
+    pairs: list
+    bodies: set
+
+
+def change_of(crate, edit):
+    """The change of an edit that may be tried with others; None for one that is tried alone."""
+    names = [path.rsplit("::", 1)[-1] for path in named_in(edit)]
+    file, old, pairs, bodies = "", "", [], set()
+    for kind, value in PAIR_LINE.findall(text_of(edit)):
+        if kind == "file":
+            file = value.strip()
+        elif kind == "old":
+            old = value
+        else:
+            text = text_of(f"{crate.folder}/{file}") if file.startswith("src/") else ""
+            body = body_around(file, text, text.index(old)) if old and text.count(old) == 1 else None
+            if body is None or body.name not in names:
+                return None
+            pairs.append((file, old, value))
+            bodies.add(body)
+    return Change(edit, pairs, bodies) if pairs and {body.name for body in bodies} == set(names) else None
+
+
+def together(crate, edits):
+    """The edits, in lists of those that may be tried together."""
+    groups, alone = [], []
+    for edit in edits:
+        change = change_of(crate, edit)
+        if change is None:
+            alone.append([edit])
+            continue
+        free = (it for it in groups if not any(change.bodies & other.bodies for other in it))
+        group = next(free, None)
+        if group is None:
+            groups.append([change])
+        else:
+            group.append(change)
+    return [[change.edit for change in group] for group in groups] + alone
+
+
+def edited_together(crate, changes):
+    """The texts of the files with all the changes made; None where an old text is no longer there once."""
+    texts = {}
+    for change in changes:
+        for file, old, new in change.pairs:
+            text = texts.get(file) or text_of(f"{crate.folder}/{file}")
+            if text.count(old) != 1:
+                return None
+            texts[file] = text.replace(old, new)
+    return texts
+
+
+def says_of(change, line):
+    """Whether a line of the prover speaks of a function that the edit changes. No line of a body is added or taken away by an
+    edit, so the lines of a file stay where they are."""
+    place = PLACE.match(line)
+    if not place or not (": error" in line or line.startswith("note: ")):
+        return False
+    if place["file"].startswith("src/"):
+        return any(it.file == place["file"] and it.first < int(place["line"]) <= it.last + 1 for it in change.bodies)
+    return any(place["file"].startswith("proofs/%s/" % path.replace("::", "/")) for path in named_in(change.edit))
+
+
+def refusal_of(crate, change, lines):
+    """What to say of an edit that was refused among others; None where it must be tried alone."""
+    refused = {line.split(": ", 1)[0] for line in lines if line.startswith("fn ") and ": not proved" in line}
+    if not any(f"fn {crate.name}::{path}" in refused for path in named_in(change.edit)):
+        return None
+    told = next((it for it in lines if says_of(change, it) and not LOST_NAME.match(it)), None)
+    if told is None:
+        return None
+    return f"must-fail {crate.name}/{os.path.basename(change.edit)}: refused, as it must be: {told[:160]}"
+
+
+def must_fail_together(crate, edits, flags):
+    """Tries edits in one check, and again alone those whose refusal isn't plain from it."""
+    changes = [change_of(crate, edit) for edit in edits]
+    texts = edited_together(crate, changes) if len(edits) > 1 else None
+    lines = []
+    if texts:
+        ran = rt.checked(crate, texts, [*flags, *(flag for edit in edits for flag in only_flags(edit))], None)
+        lines = ran.stdout.rstrip("\n").split("\n")
+        if any(rt.unread(line, texts) for line in lines) or not lines[-1].startswith("logic=not-proved"):
+            lines = []
+    said = [refusal_of(crate, change, lines) if lines else None for change in changes]
+    return [(True, it) if it else must_fail_named(crate, edit, flags) for edit, it in zip(edits, said)]
+
+
 def must_fail_all(crate, edits, flags):
     """As rt's own, but an edit that names functions is tried on these alone."""
     whole = [edit for edit in edits if not only_flags(edit)]
     tried = dict(zip(whole, whole_must_fail_all(crate, whole, flags)))
-    return [tried[edit] if edit in tried else must_fail_named(crate, edit, flags) for edit in edits]
+    for group in together(crate, [edit for edit in edits if only_flags(edit)]):
+        tried.update(zip(group, must_fail_together(crate, group, flags)))
+    return [tried[edit] for edit in edits]
 
 
 rt.checked, rt.must_fail_all = checked, must_fail_all
@@ -85,11 +223,11 @@ def children_seconds():
     return used.ru_utime + used.ru_stime
 
 
-def try_edit(name, edit):
-    """Whether an edit of the crate of this name is refused, what to say, and the processor seconds it took."""
+def try_edits(name, edits):
+    """Of each of these edits of the crate of this name whether it is refused and what to say; and the processor seconds."""
     before = children_seconds()
-    refused, said = rt.must_fail_all(crates()[name], [edit], ONE_PROCESS)[0]
-    return refused, said, children_seconds() - before
+    tried = rt.must_fail_all(crates()[name], edits, ONE_PROCESS)
+    return tried, children_seconds() - before
 
 
 def edits_alone(names, jobs):
@@ -101,17 +239,20 @@ def edits_alone(names, jobs):
     below = [library for crate in chosen if edits[crate.name][0] for library in crate.below()]
     if any(library.build_rlib(ONE_PROCESS, anew=False) for library in below):
         return 1
-    # each worker has the edit it tries as its only child, so that its processor seconds are that edit's
+    groups = [(name, group) for name, (good, _bad) in edits.items() for group in together(known[name], good)]
+    # each worker has one check at a time as its only child, so that its processor seconds are that check's
     with concurrent.futures.ProcessPoolExecutor(jobs, multiprocessing.get_context("fork")) as pool:
-        tries = {pool.submit(try_edit, name, edit): name for name, (good, _bad) in edits.items() for edit in good}
+        tries = {pool.submit(try_edits, name, group): name for name, group in groups}
         failed, seconds = sum(len(bad) for _good, bad in edits.values()), dict.fromkeys(tries.values(), 0.0)
         for done in concurrent.futures.as_completed(tries):
-            refused, said, taken = done.result()
-            rt.say("%5.1f s %s" % (taken, said))
-            failed, seconds[tries[done]] = failed + (not refused), seconds[tries[done]] + taken
+            tried, taken = done.result()
+            failed, seconds[tries[done]] = failed + sum(not it[0] for it in tried), seconds[tries[done]] + taken
+            for number, (_refused, said) in enumerate(tried):
+                rt.say("%s %s" % (" " * 7 if number else "%5.1f s" % taken, said))
     for name in sorted(seconds, key=lambda it: -seconds[it]):
         print("%s: %.0f processor seconds, %d edits" % (name, seconds[name], len(edits[name][0])))
-    print("%d tried, %d failed, %.1f processor minutes" % (len(tries), failed, sum(seconds.values()) / 60))
+    count = sum(len(group) for _name, group in groups)
+    print("%d tried, %d failed, %.1f processor minutes" % (count, failed, sum(seconds.values()) / 60))
     return 1 if failed else 0
 
 
