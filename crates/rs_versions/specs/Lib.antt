@@ -1,0 +1,5 @@
+pub mod Changes
+pub mod DeadCells
+pub mod Inner
+pub mod Version
+pub mod Versioned

@@ -1,0 +1,69 @@
+//! The versions in a cell's bytes.
+//!
+//! The last 20 bytes of a cell are the version from which on it is seen, in eight bytes, four bytes of its own, and the
+//! version from which on it is seen no more, in eight. The highest byte of a number comes first.
+
+ghost use Rattle.std.specs.Prelude.{◌≡◌, ◌≤◌, ◌++◌, ℕ, length};
+ghost use Rattle.rs_versions.specs.Version.{born_of, died_of, ended, is_clearable, is_living, sees};
+
+use byteorder::{BigEndian, ByteOrder};
+
+/// The bytes of a cell's versions, and of what is between them.
+pub const VERSION_BYTES: usize = 20;
+
+/// The bytes of the version of a cell's end.
+pub const END_BYTES: usize = 8;
+
+/// What stands in a living cell in place of the version of its end.
+pub const LIVING: u64 = u64::MAX;
+
+/// The version from which on the cell is seen.
+#[tactic(auto, unfolding(crate::specs::Version::born_of))]
+pub fn born_of(cell: &[u8]) -> u64
+    requires width { VERSION_BYTES ≤ length cell.now }
+    ensures { result ≡ born_of cell.now }
+{
+    BigEndian::read_u64(&cell[cell.len() - VERSION_BYTES..])
+}
+
+/// The version from which on the cell is seen no more; `LIVING` where there is none.
+#[tactic(auto, unfolding(crate::specs::Version::died_of))]
+pub fn died_of(cell: &[u8]) -> u64
+    requires width { VERSION_BYTES ≤ length cell.now }
+    ensures { result ≡ died_of cell.now }
+{
+    BigEndian::read_u64(&cell[cell.len() - END_BYTES..])
+}
+
+/// Whether no version has ended the cell.
+pub fn is_living(cell: &[u8]) -> bool
+    requires width { VERSION_BYTES ≤ length cell.now }
+    ensures { result ≡ is_living cell.now }
+{
+    died_of(cell) == LIVING
+}
+
+/// Whether the version sees the cell.
+pub fn sees(version: u64, cell: &[u8]) -> bool
+    requires width { VERSION_BYTES ≤ length cell.now }
+    ensures { result ≡ sees version cell.now }
+{
+    born_of(cell) <= version && version < died_of(cell)
+}
+
+/// Whether the cell is dead and no version from `oldest` on sees it.
+pub(crate) fn is_clearable(oldest: u64, cell: &[u8]) -> bool
+    requires width { VERSION_BYTES ≤ length cell.now }
+    ensures { result ≡ is_clearable oldest cell.now }
+{
+    !is_living(cell) && died_of(cell) <= oldest
+}
+
+/// Writes the version of its end into a cell.
+pub(crate) fn end_at(cell: &mut [u8], version: u64)
+    requires width { VERSION_BYTES ≤ length cell.old }
+    ensures ended { cell.new ≡ ended version cell.old }
+{
+    let at = cell.len() - END_BYTES;
+    BigEndian::write_u64(&mut cell[at..], version);
+}
