@@ -23,8 +23,11 @@ use Rattle.rs_exec.specs.Carried.{AreGathered, Gathers}
 use Rattle.rs_exec.proofs.CarriedSpans.{merged-none, none-merged, merged-assoc, runs-sorted, runs-wide}
 
 -- a piece at a place of a list, and those after it
+pub piece-first : (xs : List code.Piece) (i : ℕ) (x : code.Piece) → i < length xs → x ≡ get_or xs i x → drop i xs ≡ x ∷ drop (i + 1) xs
+piece-first xs i x below is = drop_more xs i x below ∙ ap (λ p. p ∷ drop (i + 1) xs) (sym is)
+
 pub pieces-more : (xs : List code.Piece) (i : ℕ) (x : code.Piece) → i < length xs → x ≡ get_or xs i x → pieces_of (drop i xs) ≡ piece_of (piece_tree x) ∷ pieces_of (drop (i + 1) xs)
-pieces-more xs i x below is = ap pieces_of (drop_more xs i x below ∙ ap (λ p. p ∷ drop (i + 1) xs) (sym is))
+pieces-more xs i x below is = ap pieces_of (piece-first xs i x below is)
 
 pub pieces-end : (xs : List code.Piece) (i : ℕ) → length xs ≤ i → pieces_of (drop i xs) ≡ []
 pieces-end xs i done = ap pieces_of (drop_all i xs done)

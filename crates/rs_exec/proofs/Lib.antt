@@ -4,3 +4,8 @@ mod Variants
 mod Steps
 mod Operands
 mod TableRows
+mod Lists
+mod OnRoutes
+mod Changing
+mod Pairing
+mod Leading

@@ -1,5 +1,5 @@
--- The rows of an operand, said of the box that holds the operand and of a list of them in order, its own or lent.
-use Rattle.std.proofs.Common.{◌≡◌, ℕ, ◌+◌, ◌≤◌, Bor, List, map, length, sym, ap, ◌∙◌, subst}
+-- The rows of an operand in a list of them in order, and those that an operator made.
+use Rattle.std.proofs.Common.{◌≡◌, ℕ, ◌+◌, ◌≤◌, List, map, length, sym, ap, ◌∙◌, subst}
 use Rattle.std.proofs.lemmas.List.Elements.{All-from_recursion, recursion_from_All}
 use Rattle.std.proofs.lemmas.List.Sorted.{All-permutation}
 use Rattle.std.specs.List.{AllByRecursion}
@@ -16,10 +16,7 @@ use Rattle.rs_facts.specs.WellFormed.{width_of}
 use Rattle.rs_facts.specs.Runs.{Stretch}
 use Rattle.rs_facts.specs.Spans.{seen, places_of, IsPlaced, ArePlaced}
 use Rattle.rs_facts.proofs.SpanLaws.{places_of-permutation}
-use Rattle.rs_coalesce.specs.Lent.{seen_lent}
 use Rattle.rs_sweep.specs.Lists.{AreSorted, AreWide, Fit}
-use Rattle.rs_checker.specs.declared.checked.CheckedQuery.{CheckedQuery}
-use Rattle.rs_checker.specs.CheckedView.{query_of}
 use Rattle.rs_exec.specs.Evaluated.{AreRowsOf}
 use Rattle.rs_exec.specs.Rows.{spans_of, HoldsRows}
 use Rattle.rs_exec.specs.declared.rows.Rows.{Rows}
@@ -30,9 +27,6 @@ every-moved : (P : Stretch → Type 0) (xs ys : List Stretch) → IsPermutation 
 every-moved P xs ys h all = recursion_from_All P ys (All-permutation P xs ys h (All-from_recursion P xs all))
 
 module _ (world : World) (route : Name) where
-  pub held-rows : (held value : CheckedQuery) (rows : Rows) → held ≡ value → HoldsRows world (query_of held) route rows → HoldsRows world (query_of value) route rows
-  held-rows held value rows same holds = subst (λ q. HoldsRows world (query_of q) route rows) same holds
-
   -- the spans in another order
   pub moved-rows : (query : Query) (rows : Rows) (spans : List Stretch) → HoldsRows world query route rows → IsPermutation (spans_of rows) spans → AreSorted spans → AreRowsOf world query route spans
   moved-rows query rows spans holds moved sorted = record {
@@ -41,14 +35,6 @@ module _ (world : World) (route : Name) where
     placed = every-moved (IsPlaced (kind_of world query)) (spans_of rows) spans moved holds.placed;
     wide = every-moved (λ span. length span.row ≡ width_of world query) (spans_of rows) spans moved holds.wide;
   }
-
-  -- the spans of an operand, said of the box that holds its query
-  pub operand-rows : (held value : CheckedQuery) (rows : Rows) (spans : List Stretch) → held ≡ value → HoldsRows world (query_of held) route rows → IsPermutation (spans_of rows) spans → AreSorted spans → AreRowsOf world (query_of value) route spans
-  operand-rows held value rows spans same holds moved sorted = moved-rows (query_of value) rows spans (held-rows held value rows same holds) moved sorted
-
-  -- the same of a list of them that is lent
-  pub lent-rows : (held value : CheckedQuery) (rows : Rows) (spans lent : List (Bor Span)) → held ≡ value → HoldsRows world (query_of held) route rows → IsPermutation (spans_of rows) (map seen_lent spans) → AreSorted (map seen_lent spans) → lent ≡ spans → AreRowsOf world (query_of value) route (map seen_lent lent)
-  lent-rows held value rows spans lent same holds moved sorted is = subst (λ list. AreRowsOf world (query_of value) route (map seen_lent list)) (sym is) (operand-rows held value rows (map seen_lent spans) same holds moved sorted)
 
   pub made-rows : (query : Query) (spans : Vec Span Global) → AreRowsOf world query route (map seen spans.items) → HoldsRows world query route (Made spans)
   made-rows query spans rows = record {

@@ -3,9 +3,9 @@ use Rattle.std.proofs.Common.{◌≡◌, ℕ, List, [], ◌∷◌, length, Optio
 use Rattle.std.specs.Option.{option_map}
 use Rattle.std.specs.FinMap as names
 use Rattle.rs_value.specs.declared.column.Kind.{Kind}
-use Rattle.rs_facts.specs.Fact.{Name}
-use Rattle.rs_facts.specs.Query.{table_rows, facts_of, table_kind, table_columns}
-use Rattle.rs_facts.specs.WellFormed.{IsWellFormed}
+use Rattle.rs_facts.specs.Fact.{Name, none}
+use Rattle.rs_facts.specs.Query.{table_rows, facts_of, table_kind, table_columns, kind_of}
+use Rattle.rs_facts.specs.WellFormed.{width_of, IsWellFormed}
 use Rattle.rs_facts.specs.Runs.{Stretch}
 use Rattle.rs_facts.specs.Spans.{places_of, ArePlaced, AreKept}
 use Rattle.rs_sweep.specs.Lists.{AreWide}
@@ -43,10 +43,26 @@ module _ (definitions : Definitions) (spans_on : ℕ → ℕ → List Stretch) (
             (subst (AreWide (length table.columns)) (sym same) kept.wide);
       }
 
+-- no spans, where no route has the name
+module _ (definitions : Definitions) (spans_on : ℕ → ℕ → List Stretch) (name route : Name) (table : TableItem) where
+  facts-elsewhere : names.get definitions.routes route ≡ None → (k : ℕ) → facts_from definitions.routes (spans_on table.number) route k ≡ none
+  unfolding facts_from
+  facts-elsewhere absent k = ap (λ (item : Option RouteItem). on_numbered no_places (λ number. places_of (spans_on table.number number)) item k) absent
+
+  pub table-elsewhere : names.get definitions.tables name ≡ Some table → names.get definitions.routes route ≡ None → (rows : Rows) → spans_of rows ≡ [] → IsInOrder rows → HoldsRows (world_from definitions spans_on) (table_rows name) route rows
+  table-elsewhere named absent rows same ordered =
+      let found = get-tables_from definitions spans_on name ∙ ap (option_map (table_from definitions.routes spans_on)) named in
+      record {
+        means = λ k. ap (λ spans. places_of spans k) same ∙ sym (ap (λ o. facts_of o route k) found ∙ facts-elsewhere absent k);
+        ordered = ordered;
+        placed = subst (ArePlaced (kind_of (world_from definitions spans_on) (table_rows name))) (sym same) tt;
+        wide = subst (AreWide (width_of (world_from definitions spans_on) (table_rows name))) (sym same) tt;
+      }
+
 pub none_some : {X : Type 0} (o : Option X) (x : X) → o ≡ None → o ≡ Some x → ⊥
-none_some o x none some = cc
+none_some o x absent there = cc
 
 -- a well-formed query has its table
 pub table-absent : (definitions : Definitions) (spans_on : ℕ → ℕ → List Stretch) (name : Name) → names.get definitions.tables name ≡ None → IsWellFormed (world_from definitions spans_on) (table_rows name) → ⊥
-table-absent definitions spans_on name none formed =
-    none_some (names.get (tables_from definitions spans_on) name) formed.0 (get-tables_from definitions spans_on name ∙ ap (option_map (table_from definitions.routes spans_on)) none) formed.1
+table-absent definitions spans_on name absent formed =
+    none_some (names.get (tables_from definitions spans_on) name) formed.0 (get-tables_from definitions spans_on name ∙ ap (option_map (table_from definitions.routes spans_on)) absent) formed.1

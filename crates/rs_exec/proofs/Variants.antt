@@ -1,22 +1,16 @@
 -- What a checked query of the code is, each variant.
-use Rattle.std.proofs.Common.{◌≡◌, ℕ, List, sym, ap, ◌∙◌, subst}
+use Rattle.std.proofs.Common.{◌≡◌, ℕ, sym, ap, ◌∙◌, subst}
 use Rattle.std.specs.Prelude.{Box, Vec}
 use Rattle.std.specs.declared.alloc.Global.{Global}
 use Rattle.arrayvec.specs.ArrayString.{ArrayString}
 use Rattle.rs_facts.specs.declared.condition.Condition.{Condition}
 use Rattle.rs_facts.specs.ConditionView.{condition_of}
-use Rattle.rs_facts.specs.Fact.{Name}
-use Rattle.rs_facts.specs.Runs.{Stretch}
 use Rattle.rs_facts.specs.WellFormed.{IsWellFormed}
-use Rattle.rs_exec.specs.Evaluated.{AreRowsOf}
-use Rattle.rs_facts.specs.Query.{World, Query, table_rows, where_rows, dissolve_rows, rename_column, overlay_rows, cover_rows, merge_rows, minus_rows, window_rows, transform_rows}
-use Rattle.rs_syntax.specs.declared.commands.Piece.{Piece}
-use Rattle.rs_catalog.specs.Definitions.{pieces_of}
-use Rattle.rs_checker.specs.declared.checked.LocatedWindow.{LocatedWindow}
+use Rattle.rs_facts.specs.Query.{World, Query, table_rows, where_rows, dissolve_rows, rename_column, overlay_rows, cover_rows, merge_rows, minus_rows}
 use Rattle.rs_checker.specs.declared.checked.CheckedQuery.{CheckedQuery, fold-roll-CheckedQuery}
 use Rattle.rs_checker.specs.declared.checked.CheckedQuery.TheOpen.{CheckedQuery-F}
 use Rattle.rs_checker.specs.declared.checked.CheckedQuery.TheVariants as queries
-use Rattle.rs_checker.specs.CheckedView.{window_of, query_step, query_of}
+use Rattle.rs_checker.specs.CheckedView.{query_step, query_of}
 
 pub table_is : (name : ArrayString) → query_of (queries.Table name) ≡ table_rows name.bytes
 table_is name = ap query_of (sym (queries.rolls-Table name)) ∙ fold-roll-CheckedQuery Query query_step (CheckedQuery-F.Table name)
@@ -42,17 +36,8 @@ merge_is left right = ap query_of (sym (queries.rolls-Merge left right)) ∙ fol
 pub minus_is : (left right : Box CheckedQuery Global) → query_of (queries.Minus left right) ≡ minus_rows (query_of left.value) (query_of right.value)
 minus_is left right = ap query_of (sym (queries.rolls-Minus left right)) ∙ fold-roll-CheckedQuery Query query_step (CheckedQuery-F.Minus left right)
 
-pub window_is : (operand : Box CheckedQuery Global) (window : LocatedWindow) → query_of (queries.Window operand window) ≡ window_rows (query_of operand.value) (window_of window)
-window_is operand window = ap query_of (sym (queries.rolls-Window operand window)) ∙ fold-roll-CheckedQuery Query query_step (CheckedQuery-F.Window operand window)
-
-pub transform_is : (operand : Box CheckedQuery Global) (name : ArrayString) (pieces : Vec Piece Global) → query_of (queries.Transform operand name pieces) ≡ transform_rows (query_of operand.value) name.bytes (pieces_of pieces.items)
-transform_is operand name pieces = ap query_of (sym (queries.rolls-Transform operand name pieces)) ∙ fold-roll-CheckedQuery Query query_step (CheckedQuery-F.Transform operand name pieces)
-
--- ---- well-formed queries and rows of queries, said of the variant that a query is
+-- ---- well-formed queries, said of the variant that a query is
 
 module _ (world : World) (query : CheckedQuery) where
   pub formed_as : (value : CheckedQuery) (is : Query) → query ≡ value → query_of value ≡ is → IsWellFormed world (query_of query) → IsWellFormed world is
   formed_as value is same made formed = subst (IsWellFormed world) (ap query_of same ∙ made) formed
-
-  pub rows_as : (route : Name) (spans : List Stretch) (value : CheckedQuery) (is : Query) → query ≡ value → query_of value ≡ is → AreRowsOf world is route spans → AreRowsOf world (query_of query) route spans
-  rows_as route spans value is same made rows = subst (λ q. AreRowsOf world q route spans) (sym (ap query_of same ∙ made)) rows

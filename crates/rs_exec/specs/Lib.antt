@@ -1,3 +1,7 @@
 pub mod Carried
+pub mod Changes
 pub mod Evaluated
+pub mod Pairs
+pub mod Routes
 pub mod Rows
+pub mod Windows

@@ -1,30 +1,28 @@
-//! TRANSFORM on one route: rows of its operand, carried onto the route by the pieces of an alignment.
+//! TRANSFORM: rows of its operand on some routes, carried onto others by the pieces of an alignment.
 //!
-//! It promises what the pieces carry there, joined into runs. The operand is evaluated on the route of a piece, and anew
-//! only for a piece of another route than the one carried before it.
+//! It promises what the pieces carry there, joined into runs.
 
-ghost use Rattle.std.specs.Prelude.{◌≡◌, ◌≤◌, ℕ, List, Some, filter, map, IfOk, OnOk};
-ghost use Rattle.std.specs.FinMap as names;
+ghost use Rattle.std.specs.Prelude.{◌≡◌, ◌≤◌, ℕ, true, List, filter, map, IfOk, OnOk};
+ghost use Rattle.std.specs.List.{AllZip, AllByRecursion, list_any};
 ghost use Rattle.rs_value.specs.declared.column.Kind.{Kind};
+ghost use Rattle.rs_facts.specs.Insert.{same_name};
 ghost use Rattle.rs_facts.specs.Operators.{carried, merged};
-ghost use Rattle.rs_facts.specs.Query.{carried_by, rows_at, transform_rows};
-ghost use Rattle.rs_facts.specs.WellFormed.{IsPieceOn, ArePiecesOn, IsWellFormed};
+ghost use Rattle.rs_facts.specs.Query.{transform_rows, carried_by, rows_at};
+ghost use Rattle.rs_facts.specs.WellFormed.{IsPieceOn};
 ghost use Rattle.rs_facts.specs.Spans.{seen, places_of, ArePlaced};
 ghost use Rattle.rs_syntax.specs.View.{piece_tree};
 ghost use Rattle.rs_machine.specs.Checks.{piece_of};
 ghost use Rattle.rs_sweep.specs.Lists.{AreWide};
-ghost use Rattle.rs_event_lists.specs.Held.{spans_on};
-ghost use Rattle.rs_catalog.specs.Definitions.{routes_of, pieces_of, world_from};
-ghost use Rattle.rs_catalog.specs.Events.{AreEventsOf};
+ghost use Rattle.rs_catalog.specs.Definitions.{routes_of, pieces_of};
 ghost use Rattle.rs_checker.specs.CheckedView.{query_of};
-ghost use Rattle.rs_exec.specs.Evaluated.{AreRowsOf};
-ghost use Rattle.rs_exec.specs.Rows.{HoldsRows};
-ghost use Rattle.rs_exec.specs.Carried.{meets, AreGathered, IsLast};
+ghost use Rattle.rs_exec.specs.Rows.{HoldsRows, AreHeld};
+ghost use Rattle.rs_exec.specs.Routes.{base_world, names_in, names_of, list_of};
+ghost use Rattle.rs_exec.specs.Carried.{meets, AreGathered, IsLed, AreLed, AreSourcesOf, AreApart, AreHeldSources, IsCarried};
 
-use crate::evaluation::{Site, is_same, rows_of};
+use crate::evaluation::Base;
 use crate::kinds::kind_of;
+use crate::routes::{Routes, RowsOn, is_among, is_in, is_same};
 use crate::rows::{Rows, spans_in};
-use rs_catalog::RouteEntry;
 use rs_checker::CheckedQuery;
 use rs_coalesce::runs;
 use rs_facts::Span;
@@ -33,108 +31,140 @@ use rs_sweep::shift;
 use rs_syntax::Piece;
 use std::alloc::{AllocError, Global};
 
-/// The rows of an operand on a route.
-#[derive(Drop)]
-pub(crate) struct Source<'a> {
-    /// The route's name.
-    pub(crate) route: &'a Name,
-    /// The rows.
-    pub(crate) rows: Rows<'a>,
+/// What pieces carry: the rows of an operand on the routes that the pieces are of.
+#[derive(Clone, Copy)]
+pub(crate) struct Sources<'a> {
+    /// What the operand is evaluated over.
+    pub(crate) base: Base<'a>,
+    /// The operand.
+    pub(crate) operand: &'a CheckedQuery,
+    /// The pieces.
+    pub(crate) pieces: &'a [Piece],
+    /// The routes from which the pieces carry.
+    pub(crate) routes: Routes<'a>,
+    /// The rows of the operand on each of them.
+    pub(crate) rows: &'a RowsOn<'a>,
 }
 
-/// What the pieces carry onto the site's route of the operand's rows, each run once. The only refusal is for want of
-/// memory.
-#[cycle(rows)]
-pub(crate) fn carried_rows<'a>(
+/// The routes from which a piece leads onto one of the routes, each once. The only refusal is for want of memory.
+pub(crate) fn sources_of<'a>(
     alloc: Global,
-    site: &Site<'a>,
-    operand: &'a CheckedQuery,
     pieces: &'a [Piece],
-) -> Result<Vec<Span>, AllocError>
-    requires stored { AreEventsOf site.now.catalog.now (spans_on site.now.events.now) }
-    requires well_formed { IsWellFormed (world_from site.now.catalog.now (spans_on site.now.events.now)) (query_of operand.now) }
-    requires lie { ArePiecesOn (routes_of site.now.catalog.now) (pieces_of pieces.now) }
-    ensures { IfOk result (λ spans. (alignment : List ℕ) → AreRowsOf (world_from site.now.catalog.now (spans_on site.now.events.now))
-        (transform_rows (query_of operand.now) alignment (pieces_of pieces.now)) site.now.name.now.bytes (map seen spans.items)) }
+    routes: Routes<'_>,
+) -> Result<Vec<&'a Name>, AllocError>
+    ensures led { IfOk result (λ sources. AreSourcesOf (names_of routes.entry) (names_in sources.items) pieces.now) }
+    ensures once { IfOk result (λ sources. AreApart (names_in sources.items)) }
 {
-    let mut gathered = Vec::new(alloc);
-    let mut last = None;
+    let mut sources = Vec::new(alloc);
     for piece in pieces {
-        last = carry_piece(alloc, site, operand, piece, last, &mut gathered)?;
-    }
-    Ok(runs(kind_of(site.catalog, operand), gathered))
-}
-
-/// Adds what a piece carries onto the site's route, and answers the rows of the last piece that was carried.
-#[cycle(rows)]
-fn carry_piece<'a>(
-    alloc: Global,
-    site: &Site<'a>,
-    operand: &'a CheckedQuery,
-    piece: &'a Piece,
-    last: Option<Source<'a>>,
-    gathered: &mut Vec<Span>,
-) -> Result<Option<Source<'a>>, AllocError>
-    requires stored { AreEventsOf site.now.catalog.now (spans_on site.now.events.now) }
-    requires well_formed { IsWellFormed (world_from site.now.catalog.now (spans_on site.now.events.now)) (query_of operand.now) }
-    requires lies { IsPieceOn (routes_of site.now.catalog.now) (piece_of (piece_tree piece.now)) }
-    requires last { IsLast (world_from site.now.catalog.now (spans_on site.now.events.now)) (query_of operand.now) last }
-    ensures last { IfOk result (IsLast (world_from site.now.catalog.now (spans_on site.now.events.now)) (query_of operand.now)) }
-    ensures gathered { OnOk result (AreGathered (world_from site.now.catalog.now (spans_on site.now.events.now)) (query_of operand.now)
-        (carried_by (piece_of (piece_tree piece.now)) (rows_at (world_from site.now.catalog.now (spans_on site.now.events.now)) (query_of operand.now)) site.now.name.now.bytes)
-        (map seen gathered.old.items) (map seen gathered.new.items)) }
-{
-    if !is_same(&piece.onto_route, site.name) {
-        return Ok(last);
-    }
-    let source = source_of(alloc, site, operand, piece, last)?;
-    carry(alloc, spans_in(&source.rows), piece, gathered)?;
-    Ok(Some(source))
-}
-
-/// The rows of the operand on the route that a piece is of: the last ones, if they are on it.
-#[cycle(rows)]
-fn source_of<'a>(
-    alloc: Global,
-    site: &Site<'a>,
-    operand: &'a CheckedQuery,
-    piece: &'a Piece,
-    last: Option<Source<'a>>,
-) -> Result<Source<'a>, AllocError>
-    requires stored { AreEventsOf site.now.catalog.now (spans_on site.now.events.now) }
-    requires well_formed { IsWellFormed (world_from site.now.catalog.now (spans_on site.now.events.now)) (query_of operand.now) }
-    requires lies { IsPieceOn (routes_of site.now.catalog.now) (piece_of (piece_tree piece.now)) }
-    requires last { IsLast (world_from site.now.catalog.now (spans_on site.now.events.now)) (query_of operand.now) last }
-    ensures rows { IfOk result (λ source. HoldsRows (world_from site.now.catalog.now (spans_on site.now.events.now)) (query_of operand.now) piece.now.from_route.bytes source.rows) }
-    ensures route { IfOk result (λ source. source.route.now.bytes ≡ piece.now.from_route.bytes) }
-{
-    if let Some(source) = last {
-        if is_same(source.route, &piece.from_route) {
-            return Ok(source);
+        if is_among(&piece.onto_route, routes) {
+            add_source(&mut sources, &piece.from_route)?;
         }
     }
-    let there = Site {
-        catalog: site.catalog,
-        events: site.events,
-        name: &piece.from_route,
-        route: first_route(site, piece),
-    };
-    let rows = rows_of(alloc, &there, operand)?;
-    Ok(Source {
-        route: &piece.from_route,
-        rows,
-    })
+    Ok(sources)
 }
 
-/// The route that a piece is of.
-fn first_route(site: &Site<'_>, piece: &Piece) -> RouteEntry
-    requires lies { IsPieceOn (routes_of site.now.catalog.now) (piece_of (piece_tree piece.now)) }
-    ensures { names.get site.now.catalog.now.routes piece.now.from_route.bytes ≡ Some result }
+/// Adds a name, unless it is there.
+fn add_source<'a>(sources: &mut Vec<&'a Name>, name: &'a Name) -> Result<(), AllocError>
+    ensures there { OnOk result (list_any (same_name name.now.bytes) (names_in sources.new.items) ≡ true) }
+    ensures stay { OnOk result ((other : List ℕ) → list_any (same_name other) (names_in sources.old.items) ≡ true
+        → list_any (same_name other) (names_in sources.new.items) ≡ true) }
+    ensures once { OnOk result (AreApart (names_in sources.old.items) → AreApart (names_in sources.new.items)) }
 {
-    match site.catalog.route(&piece.from_route) {
-        Some(route) => route,
-        None => site.route,
+    if is_in(name, sources.as_slice()) {
+        return Ok(());
     }
+    sources.push(name)?;
+    Ok(())
+}
+
+/// What the pieces carry onto each of the routes, each run once. The only refusal is for want of memory.
+pub(crate) fn carried_on<'a>(
+    alloc: Global,
+    sources: &Sources<'_>,
+    routes: Routes<'_>,
+) -> Result<RowsOn<'a>, AllocError>
+    requires held { AreHeldSources sources.now }
+    requires led { AllByRecursion (AreLed sources.now) (names_of routes) }
+    ensures { IfOk result (λ rows. (alignment : List ℕ) → AreHeld (base_world sources.now.base)
+        (transform_rows (query_of sources.now.operand.now) alignment (pieces_of sources.now.pieces.now)) (names_of routes.entry) (list_of rows)) }
+{
+    let first = carried_to(alloc, sources, routes.first)?;
+    let others = carried_each(alloc, sources, routes.others)?;
+    Ok(RowsOn { first, others })
+}
+
+/// What the pieces carry onto the route of each name.
+fn carried_each<'a>(
+    alloc: Global,
+    sources: &Sources<'_>,
+    names: &[&Name],
+) -> Result<Vec<Rows<'a>>, AllocError>
+    requires held { AreHeldSources sources.now }
+    requires led { AllByRecursion (AreLed sources.now) (names_in names.now) }
+    ensures { IfOk result (λ rows. AllZip (IsCarried sources.now) (names_in names.now) rows.items) }
+{
+    let mut rows = Vec::new(alloc);
+    for name in names {
+        rows.push(carried_to(alloc, sources, name)?)?;
+    }
+    Ok(rows)
+}
+
+/// What the pieces carry onto the route of this name.
+fn carried_to<'a>(alloc: Global, sources: &Sources<'_>, name: &Name) -> Result<Rows<'a>, AllocError>
+    requires held { AreHeldSources sources.now }
+    requires led { AreLed sources.now name.now.bytes }
+    ensures { IfOk result (IsCarried sources.now name.now.bytes) }
+{
+    let mut gathered = Vec::new(alloc);
+    let pieces = sources.pieces;
+    for piece in pieces {
+        carry_piece(alloc, sources, piece, name, &mut gathered)?;
+    }
+    let kind = kind_of(sources.base.catalog, sources.operand);
+    Ok(Rows::Made(runs(kind, gathered)))
+}
+
+/// Adds what a piece carries onto the route of this name.
+fn carry_piece(
+    alloc: Global,
+    sources: &Sources<'_>,
+    piece: &Piece,
+    name: &Name,
+    gathered: &mut Vec<Span>,
+) -> Result<(), AllocError>
+    requires held { AreHeldSources sources.now }
+    requires lies { IsPieceOn (routes_of sources.now.base.catalog.now) (piece_of (piece_tree piece.now)) }
+    requires led { IsLed (names_of sources.now.routes) name.now.bytes piece.now }
+    ensures { OnOk result (AreGathered (base_world sources.now.base) (query_of sources.now.operand.now)
+        (carried_by (piece_of (piece_tree piece.now)) (rows_at (base_world sources.now.base) (query_of sources.now.operand.now)) name.now.bytes)
+        (map seen gathered.old.items) (map seen gathered.new.items)) }
+{
+    if !is_same(&piece.onto_route, name) {
+        return Ok(());
+    }
+    let spans = spans_from(sources, &piece.from_route);
+    carry(alloc, spans, piece, gathered)?;
+    Ok(())
+}
+
+/// The operand's rows on the route of this name, which is one of those that pieces carry from.
+fn spans_from<'b>(sources: &'b Sources<'_>, name: &Name) -> &'b [Span]
+    requires held { AreHeldSources sources.now }
+    requires among { list_any (same_name name.now.bytes) (names_of sources.now.routes) ≡ true }
+    ensures { HoldsRows (base_world sources.now.base) (query_of sources.now.operand.now) name.now.bytes (Rows.Kept result) }
+{
+    if is_same(name, sources.routes.first) {
+        return spans_in(&sources.rows.first);
+    }
+    let others = sources.routes.others;
+    for (place, other) in others.iter().enumerate() {
+        if is_same(name, other) {
+            return spans_in(&sources.rows.others[place]);
+        }
+    }
+    &[]
 }
 
 /// Adds what a piece carries of the rows on the route that it is of. The only refusal is for want of memory.

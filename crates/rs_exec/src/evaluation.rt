@@ -1,28 +1,35 @@
-//! Evaluation of a checked query on one route, operands before the operator.
+//! Evaluation of a checked query, operands before the operator: each node once, on a list of routes.
+//!
+//! A query is evaluated on one route. Only the operand of a TRANSFORM is evaluated on others: on each route from which a
+//! piece leads onto a route that is asked for, and there are no more of these than pieces. So the cost of a query grows
+//! with its nodes and with pieces, however deep TRANSFORMs are nested.
 
-ghost use Rattle.std.specs.Prelude.{◌≡◌, ℕ, Some, map, IfOk};
+ghost use Rattle.std.specs.Prelude.{◌≡◌, ℕ, List, Some, map, IfOk};
 ghost use Rattle.std.specs.FinMap as names;
-ghost use Rattle.rs_value.specs.declared.column.Kind.{Kind};
-ghost use Rattle.rs_facts.specs.Insert.{same_name};
-ghost use Rattle.rs_facts.specs.Query.{table_rows};
-ghost use Rattle.rs_facts.specs.WellFormed.{IsWellFormed};
-ghost use Rattle.rs_facts.specs.Spans.{seen, places_of, ArePlaced};
-ghost use Rattle.rs_sweep.specs.Lists.{AreSorted, AreWide};
+ghost use Rattle.rs_facts.specs.Query.{window_rows, transform_rows};
+ghost use Rattle.rs_facts.specs.WellFormed.{ArePiecesOn, IsWellFormed};
+ghost use Rattle.rs_facts.specs.Spans.{seen};
 ghost use Rattle.rs_event_lists.specs.Held.{spans_on};
-ghost use Rattle.rs_catalog.specs.Definitions.{world_from};
+ghost use Rattle.rs_catalog.specs.Definitions.{routes_of, pieces_of, world_from};
 ghost use Rattle.rs_catalog.specs.Events.{AreEventsOf};
 ghost use Rattle.rs_checker.specs.CheckedView.{window_of, query_of};
-ghost use Rattle.rs_exec.specs.Evaluated.{AreRowsOf, route_of, seen_inside};
-ghost use Rattle.rs_exec.specs.Rows.{HoldsRows};
+ghost use Rattle.rs_exec.specs.Evaluated.{AreRowsOf};
+ghost use Rattle.rs_exec.specs.Rows.{AreHeld};
+ghost use Rattle.rs_exec.specs.Routes.{base_world, names_of, list_of};
 
-use crate::carrying::carried_rows;
-use crate::rows::{Rows, lent_rows, own_rows};
+use crate::carrying::{Sources, carried_on, sources_of};
+use crate::changes::{Change, changed_on};
+use crate::pairs::{Pairing, paired_on};
+use crate::routes::{Routes, RowsOn, is_among, none_on};
+use crate::rows::own_rows;
+use crate::tables::kept_on;
+use crate::windows::{is_on, route_of, seen_through, spread_on};
 use rs_catalog::{Catalog, RouteEntry};
 use rs_checker::{CheckedQuery, LocatedWindow};
 use rs_event_lists::EventLists;
 use rs_facts::Span;
 use rs_methods::Name;
-use rs_sweep::{cover, dissolve, merge, minus, overlay, select, window};
+use rs_syntax::Piece;
 use std::alloc::{AllocError, Global};
 
 /// What a query is evaluated over, and on which route.
@@ -36,6 +43,15 @@ pub struct Site<'a> {
     pub name: &'a Name,
     /// The route's number and its ends.
     pub route: RouteEntry,
+}
+
+/// What a query is evaluated over.
+#[derive(Clone, Copy)]
+pub(crate) struct Base<'a> {
+    /// Routes, tables, views and alignments.
+    pub(crate) catalog: &'a Catalog,
+    /// The spans by the numbers of tables and routes.
+    pub(crate) events: &'a EventLists,
 }
 
 /// The spans of a query on one route, by where they begin. Operands that a window leaves nothing of are not evaluated.
@@ -56,126 +72,130 @@ pub fn eval<'a>(
             return Ok(Vec::new(alloc));
         }
     }
-    let rows = rows_of(alloc, site, query)?;
-    let spans = own_rows(alloc, rows)?;
+    let base = Base {
+        catalog: site.catalog,
+        events: site.events,
+    };
+    let alone = Routes {
+        first: site.name,
+        others: &[],
+    };
+    let rows = rows_on(alloc, &base, alone, query)?;
+    let spans = own_rows(alloc, rows.first)?;
     Ok(spans)
 }
 
-/// The same, of a table lent. So are the spans of tables to operators that make rows anew.
+/// The rows of a query on each of the routes. Those of a table are lent, also to operators that make rows anew. The only
+/// refusal is for want of memory.
 #[cycle(rows)]
-pub(crate) fn rows_of<'a>(
+fn rows_on<'a>(
     alloc: Global,
-    site: &Site<'a>,
+    base: &Base<'a>,
+    routes: Routes<'_>,
     query: &'a CheckedQuery,
-) -> Result<Rows<'a>, AllocError>
-    requires there { names.get site.now.catalog.now.routes site.now.name.now.bytes ≡ Some site.now.route }
-    requires stored { AreEventsOf site.now.catalog.now (spans_on site.now.events.now) }
-    requires well_formed { IsWellFormed (world_from site.now.catalog.now (spans_on site.now.events.now)) (query_of query.now) }
-    ensures { IfOk result (λ rows. HoldsRows (world_from site.now.catalog.now (spans_on site.now.events.now))
-        (query_of query.now) site.now.name.now.bytes rows) }
+) -> Result<RowsOn<'a>, AllocError>
+    requires stored { AreEventsOf base.now.catalog.now (spans_on base.now.events.now) }
+    requires well_formed { IsWellFormed (base_world base.now) (query_of query.now) }
+    ensures { IfOk result (λ rows. AreHeld (base_world base.now) (query_of query.now) (names_of routes.entry) (list_of rows)) }
 {
     match query {
-        CheckedQuery::Table(name) => Ok(Rows::Kept(kept_spans(site, name))),
+        CheckedQuery::Table(name) => kept_on(alloc, base, routes, name),
         CheckedQuery::Where(operand, condition) => {
-            let rows = rows_of(alloc, site, operand)?;
-            let mut spans = own_rows(alloc, rows)?;
-            select(&mut spans, condition);
-            Ok(Rows::Made(spans))
+            let rows = rows_on(alloc, base, routes, operand)?;
+            changed_on(alloc, Change::Where(condition), rows)
         }
         CheckedQuery::Dissolve(operand, columns) => {
-            let rows = rows_of(alloc, site, operand)?;
-            let mut spans = own_rows(alloc, rows)?;
-            dissolve(&mut spans, columns);
-            Ok(Rows::Made(spans))
+            let rows = rows_on(alloc, base, routes, operand)?;
+            changed_on(alloc, Change::Dissolve(columns), rows)
         }
-        CheckedQuery::Rename(operand, _, _) => rows_of(alloc, site, operand),
+        CheckedQuery::Rename(operand, _, _) => rows_on(alloc, base, routes, operand),
         CheckedQuery::Overlay(left, right) => {
-            let left = rows_of(alloc, site, left)?;
-            let right = rows_of(alloc, site, right)?;
-            let (left, right) = (lent_rows(alloc, &left)?, lent_rows(alloc, &right)?);
-            let (spans, _) = overlay(alloc, &left, &right)?;
-            Ok(Rows::Made(spans))
+            let left_rows = rows_on(alloc, base, routes, left)?;
+            let right_rows = rows_on(alloc, base, routes, right)?;
+            paired_on(alloc, Pairing::Overlay, left_rows, right_rows)
         }
         CheckedQuery::Cover(left_width, right_width, left, right) => {
-            let left = rows_of(alloc, site, left)?;
-            let right = rows_of(alloc, site, right)?;
-            let (left, right) = (lent_rows(alloc, &left)?, lent_rows(alloc, &right)?);
-            let (left_width, right_width) = (usize::from(*left_width), usize::from(*right_width));
-            let spans = cover(alloc, &left, &right, left_width, right_width)?;
-            Ok(Rows::Made(spans))
+            let left_rows = rows_on(alloc, base, routes, left)?;
+            let right_rows = rows_on(alloc, base, routes, right)?;
+            let pairing = Pairing::Cover(*left_width, *right_width);
+            paired_on(alloc, pairing, left_rows, right_rows)
         }
         CheckedQuery::Merge(left, right) => {
-            let left = rows_of(alloc, site, left)?;
-            let right = rows_of(alloc, site, right)?;
-            let spans = merge(own_rows(alloc, left)?, own_rows(alloc, right)?)?;
-            Ok(Rows::Made(spans))
+            let left_rows = rows_on(alloc, base, routes, left)?;
+            let right_rows = rows_on(alloc, base, routes, right)?;
+            paired_on(alloc, Pairing::Merge, left_rows, right_rows)
         }
         CheckedQuery::Minus(left, right) => {
-            let left = rows_of(alloc, site, left)?;
-            let right = rows_of(alloc, site, right)?;
-            let right = lent_rows(alloc, &right)?;
-            let spans = minus(alloc, own_rows(alloc, left)?, &right)?;
-            Ok(Rows::Made(spans))
+            let left_rows = rows_on(alloc, base, routes, left)?;
+            let right_rows = rows_on(alloc, base, routes, right)?;
+            paired_on(alloc, Pairing::Minus, left_rows, right_rows)
         }
-        CheckedQuery::Window(operand, window) => {
-            if !is_on(*window, site.name) {
-                return Ok(Rows::Made(Vec::new(alloc)));
-            }
-            let rows = rows_of(alloc, site, operand)?;
-            let mut spans = own_rows(alloc, rows)?;
-            cut(&mut spans, *window);
-            Ok(Rows::Made(spans))
-        }
+        CheckedQuery::Window(operand, window) => seen_rows(alloc, base, routes, operand, window),
         CheckedQuery::Transform(operand, _, pieces) => {
-            let spans = carried_rows(alloc, site, operand, pieces)?;
-            Ok(Rows::Made(spans))
+            carried_rows(alloc, base, routes, operand, pieces)
         }
     }
 }
 
-/// The spans that are kept of a table on a route.
-fn kept_spans<'a>(site: &Site<'a>, name: &Name) -> &'a [Span]
-    requires there { names.get site.now.catalog.now.routes site.now.name.now.bytes ≡ Some site.now.route }
-    requires stored { AreEventsOf site.now.catalog.now (spans_on site.now.events.now) }
-    requires table { IsWellFormed (world_from site.now.catalog.now (spans_on site.now.events.now)) (table_rows name.now.bytes) }
-    ensures { HoldsRows (world_from site.now.catalog.now (spans_on site.now.events.now))
-        (table_rows name.now.bytes) site.now.name.now.bytes (Rows.Kept result) }
+/// What is seen of a query through a window, on each of the routes. The query is evaluated on the window's route alone,
+/// and not at all if that is none of the routes.
+#[cycle(rows)]
+fn seen_rows<'a>(
+    alloc: Global,
+    base: &Base<'a>,
+    routes: Routes<'_>,
+    operand: &'a CheckedQuery,
+    window: &'a LocatedWindow,
+) -> Result<RowsOn<'a>, AllocError>
+    requires stored { AreEventsOf base.now.catalog.now (spans_on base.now.events.now) }
+    requires well_formed { IsWellFormed (base_world base.now) (query_of operand.now) }
+    ensures { IfOk result (λ rows. AreHeld (base_world base.now) (window_rows (query_of operand.now) (window_of window.now))
+        (names_of routes.entry) (list_of rows)) }
 {
-    let Some(table) = site.catalog.table(name) else {
-        return &[];
+    let inside = route_of(window);
+    if !is_among(inside, routes) {
+        return none_on(alloc, routes);
+    }
+    let alone = Routes {
+        first: inside,
+        others: &[],
     };
-    site.events.spans(table.number(), site.route.number())
+    let rows = rows_on(alloc, base, alone, operand)?;
+    let spans = seen_through(alloc, rows.first, *window)?;
+    spread_on(alloc, routes, window, spans)
 }
 
-/// Whether a window is on the route of this name.
-fn is_on(window: LocatedWindow, name: &Name) -> bool
-    ensures { result ≡ same_name (route_of (window_of window)) name.now.bytes }
+/// What pieces carry of a query, on each of the routes. The query is evaluated once on each route from which a piece
+/// leads onto one of the routes, and not at all if none does.
+#[cycle(rows)]
+fn carried_rows<'a>(
+    alloc: Global,
+    base: &Base<'a>,
+    routes: Routes<'_>,
+    operand: &'a CheckedQuery,
+    pieces: &'a [Piece],
+) -> Result<RowsOn<'a>, AllocError>
+    requires stored { AreEventsOf base.now.catalog.now (spans_on base.now.events.now) }
+    requires well_formed { IsWellFormed (base_world base.now) (query_of operand.now) }
+    requires lie { ArePiecesOn (routes_of base.now.catalog.now) (pieces_of pieces.now) }
+    ensures { IfOk result (λ rows. (alignment : List ℕ) → AreHeld (base_world base.now)
+        (transform_rows (query_of operand.now) alignment (pieces_of pieces.now)) (names_of routes.entry) (list_of rows)) }
 {
-    match window {
-        LocatedWindow::Whole { route } => is_same(&route, name),
-        LocatedWindow::Part { route, .. } => is_same(&route, name),
-    }
-}
-
-/// Whether the names have the same bytes.
-pub(crate) fn is_same(name: &Name, other: &Name) -> bool
-    ensures { result ≡ same_name name.now.bytes other.now.bytes }
-{
-    other.as_str() == name.as_str()
-}
-
-/// Keeps what lies inside a window, of spans on the window's route.
-fn cut(spans: &mut Vec<Span>, inside: LocatedWindow)
-    requires sorted { AreSorted (map seen spans.old.items) }
-    ensures means { (k : ℕ) → places_of (map seen spans.new.items) k
-        ≡ seen_inside (window_of inside) k (places_of (map seen spans.old.items) k) }
-    ensures sorted { AreSorted (map seen spans.new.items) }
-    ensures placed { (kind : Kind) → ArePlaced kind (map seen spans.old.items)
-        → ArePlaced kind (map seen spans.new.items) }
-    ensures width { (width : ℕ) → AreWide width (map seen spans.old.items)
-        → AreWide width (map seen spans.new.items) }
-{
-    if let LocatedWindow::Part { from, to, .. } = inside {
-        window(spans, from, to);
-    }
+    let names = sources_of(alloc, pieces, routes)?;
+    let Some((first, others)) = names.split_first() else {
+        return none_on(alloc, routes);
+    };
+    let from = Routes {
+        first: *first,
+        others,
+    };
+    let rows = rows_on(alloc, base, from, operand)?;
+    let sources = Sources {
+        base: *base,
+        operand,
+        pieces,
+        routes: from,
+        rows: &rows,
+    };
+    carried_on(alloc, &sources, routes)
 }

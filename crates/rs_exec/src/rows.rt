@@ -4,7 +4,7 @@ ghost use Rattle.std.specs.Prelude.{◌≡◌, IsPermutation, map, IfOk};
 ghost use Rattle.rs_coalesce.specs.Lent.{seen_lent};
 ghost use Rattle.rs_facts.specs.Spans.{seen};
 ghost use Rattle.rs_sweep.specs.Lists.{AreSorted};
-ghost use Rattle.rs_exec.specs.Rows.{spans_of, IsInOrder};
+ghost use Rattle.rs_exec.specs.Rows.{spans_of, IsInOrder, HasNone};
 
 use rs_coalesce::lent;
 use rs_facts::Span;
@@ -61,4 +61,11 @@ pub(crate) fn spans_in<'a>(rows: &'a Rows<'_>) -> &'a [Span]
         Rows::Kept(spans) => spans,
         Rows::Made(spans) => spans,
     }
+}
+
+/// No spans.
+pub(crate) fn no_rows<'a>() -> Rows<'a>
+    ensures { HasNone result }
+{
+    Rows::Kept(&[])
 }

@@ -6,5 +6,8 @@ use Rattle.rs_checker.specs.CheckedView.{query_of}
 use Rattle.rs_exec.proofs.Operands.{moved-rows}
 use Rattle.rs_exec.proofs.evaluation.eval.Goals as goal
 
+pub own_rows-requires : goal.own_rows-requires
+own_rows-requires c = record { ordered = c.in_ok-rows.ensures.0.ordered }
+
 pub returns : goal.returns
-returns c = moved-rows (world_from c.args.site.now.catalog.now (spans_on c.args.site.now.events.now)) c.args.site.now.name.now.bytes (query_of c.args.query.now) c.in_ok-rows.rows (map seen c.in_ok-spans.spans.items) c.in_ok-rows.ensures c.in_ok-spans.ensures.same c.in_ok-spans.ensures.sorted
+returns c = moved-rows (world_from c.args.site.now.catalog.now (spans_on c.args.site.now.events.now)) c.args.site.now.name.now.bytes (query_of c.args.query.now) c.in_ok-rows.rows.first (map seen c.in_ok-spans.spans.items) c.in_ok-rows.ensures.0 c.in_ok-spans.ensures.same c.in_ok-spans.ensures.sorted

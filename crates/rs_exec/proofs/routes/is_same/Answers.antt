@@ -1,7 +1,7 @@
 use Rattle.std.proofs.Common.{sym, ap, ◌∙◌}
 use Rattle.std.specs.Str.{bytes_eq}
 use Rattle.rs_catalog.proofs.ReferentLaws.{same_bytes}
-use Rattle.rs_exec.proofs.evaluation.is_same.Goals as goal
+use Rattle.rs_exec.proofs.routes.is_same.Goals as goal
 
 pub returns : goal.returns
 returns c =
