@@ -1,0 +1,10 @@
+pub mod Bytes
+pub mod Chains
+pub mod Counting
+pub mod Directories
+pub mod Moving
+pub mod Parts
+pub mod Pieces
+pub mod Resting
+pub mod Working
+pub mod Writing

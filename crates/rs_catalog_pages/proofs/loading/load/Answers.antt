@@ -1,0 +1,15 @@
+-- What was read says no catalogue, and no other bytes are there.
+use Rattle.std.proofs.Common.{◌≡◌, sym, subst}
+use Rattle.std.proofs.lemmas.Result.{err_from_is_err_and}
+use Rattle.rs_measure.specs.declared.refusal.Refusal.TheVariants as refusal
+use Rattle.rs_reached.specs.Marks.{taken}
+use Rattle.rs_catalog_pages.specs.Items.{SaysCatalogue}
+use Rattle.rs_catalog_pages.proofs.Chains.{not_said-no_catalogue}
+use Rattle.rs_catalog_pages.proofs.loading.load.Goals as goal
+
+pub returns-in_err-catalogue-clause-damaged : goal.returns-in_err-catalogue-clause-damaged
+returns-in_err-catalogue-clause-damaged g c = λ tied is.
+    let p = err_from_is_err_and c.from_residual-in_err-catalogue.result c.from_residual-in_err-catalogue.ensures.1 in
+    let why : c.in_err-catalogue.field-0.0 ≡ refusal.DamagedFile = cc (p.1, p.2, is) in
+    not_said-no_catalogue (g.P.Pages.store c.args.pages.now).map (taken c.args.reached.now) (taken c.read_bytes.new.reached) c.in_ok-numbers.numbers.items c.in_ok-numbers.bytes.items (c.in_ok-numbers.ensures.reads tied)
+    (λ catalogue says. c.in_err-catalogue.ensures.damaged why catalogue (subst (λ b. SaysCatalogue b catalogue) (sym c.as_slice.ensures.value) says))

@@ -1,0 +1,16 @@
+-- The pages so far are in use where those before were.
+use Rattle.std.proofs.Common.{◌≤◌, Ok, length}
+use Rattle.rs_owners.specs.Changes.{WorksAfter}
+use Rattle.rs_catalog_pages.specs.Storing.{MovesPages}
+use Rattle.rs_catalog_pages.proofs.placing.shrink.Given as goal
+
+abbrev pub invariant-loop-pages : goal.invariant-loop-pages
+invariant-loop-pages g l = record {
+  keeps : g.P.Pages.keeps l.fn.pages l.pages;
+  works : WorksAfter {T = Unit {0}} ⊥ (Ok tt) (g.P.Pages.store l.fn.pages) (g.P.Pages.store l.pages);
+  moves : g.P.Pages.is_tied l.fn.pages → MovesPages (g.P.Pages.store l.fn.pages).map (g.P.Pages.store l.pages).map l.fn.numbers.items l.numbers.items;
+  enough : l.count ≤ length l.numbers.items;
+}
+
+abbrev pub decreases-loop-pages : goal.decreases-loop-pages
+decreases-loop-pages g l = length l.numbers.items

@@ -1,0 +1,10 @@
+pub mod Chain
+pub mod Directory
+pub mod Fitting
+pub mod Items
+pub mod Laws
+pub mod Loading
+pub mod Parts
+pub mod Places
+pub mod Said
+pub mod Storing

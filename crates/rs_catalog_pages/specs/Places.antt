@@ -1,0 +1,14 @@
+-- The places of the catalogue's bytes in its pages.
+use Rattle.std.specs.Prelude.{◌*◌, ℕ, List, take, drop, slice_index_or}
+
+-- the page at a place of the list; 0 past the last
+abbrev pub number_from : List ℕ → ℕ → ℕ
+number_from numbers index = slice_index_or numbers index 0
+
+-- the bytes for the page at a place of the list
+unfoldable pub part_at : List ℕ → ℕ → List ℕ
+part_at bytes index = take 4080 (drop (index * 4080) bytes)
+
+-- the bytes for this page and those after it
+unfoldable pub parts_from : List ℕ → ℕ → List ℕ
+parts_from bytes index = drop (index * 4080) bytes

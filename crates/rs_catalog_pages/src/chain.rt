@@ -1,0 +1,80 @@
+//! The bytes of the catalogue, read page by page.
+//!
+//! Each page is marked before it is read, so that none is read twice and reading ends on pages that are no catalogue.
+
+ghost use Rattle.std.specs.Prelude.{◌≡◌, ◌⊎◌, ◌≤◌, ◌+◌, ℕ, IfOk, IfErr, OnOk, Err, length};
+ghost use Rattle.rs_owners.specs.Counts.{◌&◌, one_at};
+ghost use Rattle.rs_pages.specs.Lending.{RestsAfter};
+ghost use Rattle.rs_reached.specs.Marks.{taken};
+ghost use Rattle.rs_catalog_pages.specs.Chain.{HoldsNoFreshBytes};
+ghost use Rattle.rs_catalog_pages.specs.Loading.{ReadsBytes};
+ghost use Rattle.rs_catalog_pages.specs.Parts.{ReadsPart, HasNoFreshPart};
+
+use crate::part::append_part;
+use rs_measure::Refusal;
+use rs_page::PageNumber;
+use rs_pages::Pages;
+use rs_reached::Reached;
+use std::alloc::Global;
+
+/// Marks the pages of the catalogue, and reads its bytes: the pages in their order, and the bytes. It is refused with 94
+/// where no pages that weren't reached before hold as many bytes as page 0 says, with 90 and 91. No page changes. What is
+/// marked after a refusal is open.
+pub fn read_bytes<P: Pages>(
+    alloc: Global,
+    pages: &mut P,
+    reached: &mut Reached,
+) -> Result<(Vec<PageNumber>, Vec<u8>), Refusal>
+    ensures rests { RestsAfter P.is_tied P.store P.keeps result pages.old pages.new }
+    ensures size { length reached.new ≡ length reached.old }
+    ensures reads { P.is_tied pages.old → IfOk result (λ read. ReadsBytes (P.store pages.old).map (taken reached.old)
+        (taken reached.new) read.0.items read.1.items) }
+    ensures refused { IfErr result (λ why. (why ≡ Refusal.OutOfMemory) ⊎ (why ≡ Refusal.Disk) ⊎ (why ≡ Refusal.DamagedFile)) }
+    ensures damaged { P.is_tied pages.old → result ≡ Err Refusal.DamagedFile
+        → HoldsNoFreshBytes (P.store pages.old).map (taken reached.old) }
+{
+    let (first, total) = pages.catalogue();
+    let size = total as usize;
+    let mut numbers = Vec::new(alloc);
+    let mut bytes = Vec::new(alloc);
+    let mut next = first;
+    while next.number() != 0 {
+        let following = read_part(pages, next, size - bytes.len(), reached, &mut bytes)?;
+        numbers.push(next)?;
+        next = following;
+    }
+    if bytes.len() != size {
+        return Err(Refusal::DamagedFile);
+    }
+    Ok((numbers, bytes))
+}
+
+/// Marks the page with this number, and appends the bytes of the catalogue that it holds. Answers the page that follows. It
+/// is refused with 94 where the page was reached before, is none of the catalogue, or has more than so many bytes.
+fn read_part<P: Pages>(
+    pages: &mut P,
+    number: PageNumber,
+    left: usize,
+    reached: &mut Reached,
+    bytes: &mut Vec<u8>,
+) -> Result<PageNumber, Refusal>
+    ensures rests { RestsAfter P.is_tied P.store P.keeps result pages.old pages.new }
+    ensures size { length reached.new ≡ length reached.old }
+    ensures reads { IfOk result (λ next. P.is_tied pages.old → ReadsPart (P.store pages.old).map number next left
+        bytes.old.items bytes.new.items) }
+    ensures within { OnOk result (length bytes.new.items ≤ length bytes.old.items + left) }
+    ensures fresh { OnOk result (taken reached.old number ≡ 0) }
+    ensures reaches { OnOk result ((n : ℕ) → taken reached.new n ≡ (taken reached.old & one_at number) n) }
+    ensures refused { IfErr result (λ why. (why ≡ Refusal.OutOfMemory) ⊎ (why ≡ Refusal.Disk) ⊎ (why ≡ Refusal.DamagedFile)) }
+    ensures damaged { P.is_tied pages.old → result ≡ Err Refusal.DamagedFile
+        → HasNoFreshPart (P.store pages.old).map number left (taken reached.old) }
+{
+    let count = pages.count();
+    if !reached.reach(number) {
+        return Err(Refusal::DamagedFile);
+    }
+    match pages.page(number) {
+        Ok(page) => append_part(page, number, count, left, bytes),
+        Err(refusal) => Err(refusal),
+    }
+}

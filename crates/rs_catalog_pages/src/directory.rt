@@ -1,0 +1,106 @@
+//! The directory of a file, read from page 1 and written to it.
+
+ghost use Rattle.std.specs.Prelude.{◌≡◌, ◌⊎◌, ◌≤◌, ◌↔◌, ◌-◌, ◌++◌, true, ℕ, List, IsTrue, EachIndex, slice_index, IfOk, IfErr, OnOk, Err, length, drop, replicate};
+ghost use Rattle.rs_disk.specs.declared.disk.TheConstants.{PAGE_SIZE};
+ghost use Rattle.rs_owners.specs.Changes.{WorksAfter};
+ghost use Rattle.rs_page.specs.Header.{IsHeader};
+ghost use Rattle.rs_page.specs.PageBytes.{empty_header};
+ghost use Rattle.rs_page.specs.declared.header.PageKind.TheVariants as kinds;
+ghost use Rattle.rs_pages.specs.Lending.{RestsAfter};
+ghost use Rattle.rs_pages.specs.PageMap.{HasNoFit};
+ghost use Rattle.rs_catalog_pages.specs.Directory.{DirectoryItems, IsDirectory, HasDirectory, HasNoDirectory, StoresDirectory, SaysDirectory};
+ghost use Rattle.rs_catalog_pages.specs.Fitting.{FitsDirectory};
+ghost use Rattle.rs_catalog_pages.specs.Parts.{content};
+ghost use Rattle.rs_catalog_pages.specs.Said.{said_directory};
+
+use crate::directory_items::StoredDirectory;
+use crate::part::{content, put_content};
+use rs_bytes::{Item, read_whole};
+use rs_measure::Refusal;
+use rs_page::{Page, PageKind, PageNumber};
+use rs_pages::Pages;
+use std::alloc::Global;
+
+/// The bytes of a directory. Zeros follow them in the page.
+pub const DIRECTORY_SIZE: usize = 2844;
+
+/// Reads the directory. It is refused with 94 exactly where page 1 is none, with 90 and 91. No page changes.
+pub fn load_directory<P: Pages>(alloc: Global, pages: &mut P) -> Result<StoredDirectory, Refusal>
+    ensures rests { RestsAfter P.is_tied P.store P.keeps result pages.old pages.new }
+    ensures loads { P.is_tied pages.old → IfOk result (λ directory. HasDirectory (P.store pages.old).map
+        (said_directory directory)) }
+    ensures refused { IfErr result (λ why. (why ≡ Refusal.OutOfMemory) ⊎ (why ≡ Refusal.Disk) ⊎ (why ≡ Refusal.DamagedFile)) }
+    ensures damaged { P.is_tied pages.old → result ≡ Err Refusal.DamagedFile → HasNoDirectory (P.store pages.old).map }
+{
+    match pages.page(PageNumber::new(1)) {
+        Ok(page) => directory_of(alloc, page),
+        Err(refusal) => Err(refusal),
+    }
+}
+
+/// The directory that this page is. It is refused with 94 where it is none, and with 90.
+fn directory_of(alloc: Global, page: &Page) -> Result<StoredDirectory, Refusal>
+    ensures read { IfOk result (λ directory. IsDirectory page.now.bytes (said_directory directory)) }
+    ensures damaged { result ≡ Err Refusal.DamagedFile
+        → (directory : DirectoryItems) → IsDirectory page.now.bytes directory → ⊥ }
+    ensures refused { IfErr result (λ why. (why ≡ Refusal.OutOfMemory) ⊎ (why ≡ Refusal.DamagedFile)) }
+{
+    let (said, rest) = content(page).split_at(DIRECTORY_SIZE);
+    if !begins_directory(page) || !are_zeros(rest) {
+        return Err(Refusal::DamagedFile);
+    }
+    read_whole::<StoredDirectory>(alloc, said)
+}
+
+/// Whether the page begins with the header of a directory.
+fn begins_directory(page: &Page) -> bool
+    ensures { IsTrue result ↔ IsHeader page.now.bytes (empty_header kinds.Directory 1 0) }
+{
+    match page.header() {
+        Some(header) => header.kind == PageKind::Directory
+            && header.count == 0
+            && header.number.number() == 1
+            && header.next.number() == 0,
+        None => false,
+    }
+}
+
+/// Whether the bytes are zeros alone.
+fn are_zeros(bytes: &[u8]) -> bool
+    ensures { IsTrue result ↔ EachIndex bytes.now (λ k. slice_index bytes.now k ≡ 0) }
+{
+    bytes.iter().all(|byte| *byte == 0)
+}
+
+/// Writes the directory to page 1. It is refused with 90, with 91, and with 94 only where page 1 is none; nothing has changed
+/// then.
+pub fn store_directory<P: Pages>(
+    alloc: Global,
+    pages: &mut P,
+    directory: &StoredDirectory,
+) -> Result<(), Refusal>
+    requires begun { (P.store pages.old).is_begun ≡ true }
+    requires fits { FitsDirectory (said_directory directory.now) }
+    ensures keeps { P.keeps pages.old pages.new }
+    ensures works { WorksAfter (P.is_tied pages.old → HasNoFit (P.store pages.old).map 1) result
+        (P.store pages.old) (P.store pages.new) }
+    ensures stores { P.is_tied pages.old → OnOk result (StoresDirectory (P.store pages.old).map (P.store pages.new).map
+        (said_directory directory.now)) }
+{
+    let mut bytes = Vec::new(alloc);
+    directory.write(&mut bytes)?;
+    let page = pages.page_mut(PageNumber::new(1))?;
+    put_directory(page, bytes.as_slice());
+    Ok(())
+}
+
+/// Makes a page the directory of these bytes.
+fn put_directory(page: &mut Page, bytes: &[u8])
+    requires { length bytes.now ≤ 4080 }
+    ensures header { IsHeader page.new.bytes (empty_header kinds.Directory 1 0) }
+    ensures size { length page.new.bytes ≡ PAGE_SIZE }
+    ensures bytes { content page.new.bytes ≡ bytes.now ++ replicate (4080 - length bytes.now) 0 }
+{
+    *page = Page::blank(PageKind::Directory, PageNumber::new(1), PageNumber::new(0));
+    put_content(&mut page.bytes, bytes);
+}

@@ -1,0 +1,44 @@
+//! What follows of the catalogue and the directory: pages hold one of each at the most, and both stay where their pages do.
+
+ghost use Rattle.std.specs.Prelude.{◌≡◌, ◌<◌, ℕ, List};
+ghost use Rattle.rs_owners.specs.Counts.{times};
+ghost use Rattle.rs_owners.specs.Owners.{Keeps};
+ghost use Rattle.rs_pages.specs.PageMap.{PageMap};
+ghost use Rattle.rs_catalog_pages.specs.Chain.{HoldsBytes};
+ghost use Rattle.rs_catalog_pages.specs.Directory.{DirectoryItems, HasDirectory};
+ghost use Rattle.rs_catalog_pages.specs.Items.{CatalogueItems, SaysCatalogue};
+
+/// The pages of the catalogue are one list.
+pub fn catalogue_has_its_pages()
+    ensures { (map : PageMap) (one other bytes said : List ℕ) → HoldsBytes map one bytes → HoldsBytes map other said
+        → one ≡ other }
+{}
+
+/// The bytes of the catalogue are one list.
+pub fn catalogue_has_its_bytes()
+    ensures { (map : PageMap) (one other bytes said : List ℕ) → HoldsBytes map one bytes → HoldsBytes map other said
+        → bytes ≡ said }
+{}
+
+/// Bytes say one catalogue at the most.
+pub fn bytes_say_one_catalogue()
+    ensures { (bytes : List ℕ) (one other : CatalogueItems) → SaysCatalogue bytes one → SaysCatalogue bytes other
+        → one ≡ other }
+{}
+
+/// A file has one directory at the most.
+pub fn directory_is_one()
+    ensures { (map : PageMap) (one other : DirectoryItems) → HasDirectory map one → HasDirectory map other → one ≡ other }
+{}
+
+/// Where an owner's pages are kept, the catalogue in them stays as it is.
+pub fn kept_catalogue_stays()
+    ensures { (old new : PageMap) (numbers bytes : List ℕ) → Keeps (times numbers) old new → HoldsBytes old numbers bytes
+        → HoldsBytes new numbers bytes }
+{}
+
+/// Where page 1 is kept, the directory stays as it is.
+pub fn kept_directory_stays()
+    ensures { (old new : PageMap) (directory : DirectoryItems) → new.page 1 ≡ old.page 1 → HasDirectory old directory
+        → HasDirectory new directory }
+{}

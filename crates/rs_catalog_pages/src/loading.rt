@@ -1,0 +1,37 @@
+//! The catalogue, read from its pages.
+
+ghost use Rattle.std.specs.Prelude.{◌≡◌, ◌⊎◌, IfOk, IfErr, Err, length};
+ghost use Rattle.rs_pages.specs.Lending.{RestsAfter};
+ghost use Rattle.rs_reached.specs.Marks.{taken};
+ghost use Rattle.rs_catalog_pages.specs.Loading.{LoadsCatalogue, HasNoFreshCatalogue};
+ghost use Rattle.rs_catalog_pages.specs.Said.{said_catalogue};
+
+use crate::chain::read_bytes;
+use crate::items::StoredCatalogue;
+use rs_bytes::read_whole;
+use rs_measure::Refusal;
+use rs_page::PageNumber;
+use rs_pages::Pages;
+use rs_reached::Reached;
+use std::alloc::Global;
+
+/// Marks the pages of the catalogue and reads it: its pages in their order, and the definitions. It is refused with 94
+/// exactly where no pages that weren't reached before hold bytes that say a catalogue, with 90 and 91. No page changes.
+/// What is marked after a refusal is open.
+pub fn load<P: Pages>(
+    alloc: Global,
+    pages: &mut P,
+    reached: &mut Reached,
+) -> Result<(Vec<PageNumber>, StoredCatalogue), Refusal>
+    ensures rests { RestsAfter P.is_tied P.store P.keeps result pages.old pages.new }
+    ensures size { length reached.new ≡ length reached.old }
+    ensures loads { P.is_tied pages.old → IfOk result (λ loaded. LoadsCatalogue (P.store pages.old).map (taken reached.old)
+        (taken reached.new) loaded.0.items (said_catalogue loaded.1)) }
+    ensures refused { IfErr result (λ why. (why ≡ Refusal.OutOfMemory) ⊎ (why ≡ Refusal.Disk) ⊎ (why ≡ Refusal.DamagedFile)) }
+    ensures damaged { P.is_tied pages.old → result ≡ Err Refusal.DamagedFile
+        → HasNoFreshCatalogue (P.store pages.old).map (taken reached.old) }
+{
+    let (numbers, bytes) = read_bytes(alloc, pages, reached)?;
+    let catalogue = read_whole::<StoredCatalogue>(alloc, bytes.as_slice())?;
+    Ok((numbers, catalogue))
+}

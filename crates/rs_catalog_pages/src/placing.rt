@@ -1,0 +1,67 @@
+//! The pages of the catalogue: as many as its bytes need.
+
+ghost use Rattle.std.specs.Prelude.{◌≡◌, ◌≤◌, ◌-◌, true, OnOk, length};
+ghost use Rattle.rs_owners.specs.Changes.{WorksAfter};
+ghost use Rattle.rs_catalog_pages.specs.Storing.{MovesPages, AreNotOwn};
+
+use rs_measure::Refusal;
+use rs_page::{ContentKind, PageNumber};
+use rs_pages::Pages;
+
+/// Brings pages into use until there are so many. It is refused as `allocate` is, and for want of memory.
+pub fn grow<P: Pages>(
+    pages: &mut P,
+    numbers: &mut Vec<PageNumber>,
+    count: usize,
+) -> Result<(), Refusal>
+    requires begun { (P.store pages.old).is_begun ≡ true }
+    ensures keeps { P.keeps pages.old pages.new }
+    ensures works { WorksAfter (P.is_tied pages.old → AreNotOwn (P.store pages.old).map numbers.old.items) result
+        (P.store pages.old) (P.store pages.new) }
+    ensures moves { P.is_tied pages.old → OnOk result (MovesPages (P.store pages.old).map (P.store pages.new).map
+        numbers.old.items numbers.new.items) }
+    ensures enough { OnOk result (count ≤ length numbers.new.items) }
+{
+    while numbers.len() < count {
+        let number = pages.allocate(ContentKind::Catalogue)?;
+        numbers.push(number)?;
+    }
+    Ok(())
+}
+
+/// Releases pages until there are no more than so many, the last first. It is refused as `release` is.
+pub fn shrink<P: Pages>(
+    pages: &mut P,
+    numbers: &mut Vec<PageNumber>,
+    count: usize,
+) -> Result<(), Refusal>
+    requires begun { (P.store pages.old).is_begun ≡ true }
+    requires enough { count ≤ length numbers.old.items }
+    ensures keeps { P.keeps pages.old pages.new }
+    ensures works { WorksAfter (P.is_tied pages.old → AreNotOwn (P.store pages.old).map numbers.old.items) result
+        (P.store pages.old) (P.store pages.new) }
+    ensures moves { P.is_tied pages.old → OnOk result (MovesPages (P.store pages.old).map (P.store pages.new).map
+        numbers.old.items numbers.new.items) }
+    ensures enough { OnOk result (length numbers.new.items ≡ count) }
+{
+    while numbers.len() > count {
+        release_last(pages, numbers)?;
+    }
+    Ok(())
+}
+
+/// Releases the last page of the list.
+fn release_last<P: Pages>(pages: &mut P, numbers: &mut Vec<PageNumber>) -> Result<(), Refusal>
+    requires begun { (P.store pages.old).is_begun ≡ true }
+    ensures keeps { P.keeps pages.old pages.new }
+    ensures works { WorksAfter (P.is_tied pages.old → AreNotOwn (P.store pages.old).map numbers.old.items) result
+        (P.store pages.old) (P.store pages.new) }
+    ensures moves { P.is_tied pages.old → OnOk result (MovesPages (P.store pages.old).map (P.store pages.new).map
+        numbers.old.items numbers.new.items) }
+    ensures fewer { OnOk result (length numbers.new.items ≡ length numbers.old.items - 1) }
+{
+    match numbers.pop() {
+        Some(number) => pages.release(number),
+        None => Ok(()),
+    }
+}

@@ -1,0 +1,137 @@
+//! The catalogue, written into its pages.
+//!
+//! It keeps the pages that it has, and takes or gives back those that are missing or too many.
+
+ghost use Rattle.std.specs.Prelude.{◌≡◌, ◌≤◌, ◌<◌, ◌*◌, ◌^◌, true, OnOk, OnErr, length};
+ghost use Rattle.rs_owners.specs.Changes.{WorksAfter};
+ghost use Rattle.rs_pages.specs.PageMap.{HasNoFit};
+ghost use Rattle.rs_catalog_pages.specs.Fitting.{FitsCatalogue, IsShort};
+ghost use Rattle.rs_catalog_pages.specs.Said.{said_catalogue};
+ghost use Rattle.rs_catalog_pages.specs.Parts.{WritesPart};
+ghost use Rattle.rs_catalog_pages.specs.Storing.{AreNotOwn, WritesParts, HasNoOwnBytes, StoresAfter, StoresCatalogue};
+ghost use Rattle.rs_catalog_pages.specs.Places.{number_from, part_at};
+
+use crate::items::StoredCatalogue;
+use crate::part::put_part;
+use crate::placing::{grow, shrink};
+use rs_bytes::Item;
+use rs_measure::Refusal;
+use rs_page::PageNumber;
+use rs_pages::Pages;
+use std::alloc::Global;
+
+/// The bytes of the catalogue that a page holds at the most.
+pub const PART_SIZE: usize = 4080;
+
+/// Stores the catalogue in place of the one in these pages, and sets which pages it has. It is refused with 90, with 91,
+/// with 92 where the file is full, and with 94 only where these pages, each one owner's, hold no bytes of a catalogue; the
+/// list of pages is as it was then, and the working pages are to be abandoned.
+pub fn store<P: Pages>(
+    alloc: Global,
+    pages: &mut P,
+    numbers: &mut Vec<PageNumber>,
+    catalogue: &StoredCatalogue,
+) -> Result<(), Refusal>
+    requires begun { (P.store pages.old).is_begun ≡ true }
+    requires fits { FitsCatalogue (said_catalogue catalogue.now) }
+    requires short { IsShort (said_catalogue catalogue.now) }
+    ensures keeps { P.keeps pages.old pages.new }
+    ensures works { StoresAfter (P.is_tied pages.old → HasNoOwnBytes (P.store pages.old).map numbers.old.items) result
+        (P.store pages.old) (P.store pages.new) }
+    ensures stores { P.is_tied pages.old → OnOk result (StoresCatalogue (P.store pages.old).map (P.store pages.new).map
+        numbers.old.items numbers.new.items (said_catalogue catalogue.now)) }
+    ensures stays { OnErr result (numbers.new.items ≡ numbers.old.items) }
+{
+    let mut bytes = Vec::new(alloc);
+    catalogue.write(&mut bytes)?;
+    let mut after = Vec::new(alloc);
+    after.extend_from_slice(numbers.as_slice())?;
+    let count = parts_of(bytes.len());
+    grow(pages, &mut after, count)?;
+    shrink(pages, &mut after, count)?;
+    write_parts(pages, after.as_slice(), bytes.as_slice())?;
+    pages.set_catalogue(number_from(after.as_slice(), 0), bytes.len() as u32);
+    *numbers = after;
+    Ok(())
+}
+
+/// How many pages so many bytes need.
+fn parts_of(length: usize) -> usize
+    ensures room { length ≤ result * 4080 }
+    ensures few { result ≤ length }
+{
+    let full = length / PART_SIZE;
+    if length % PART_SIZE == 0 {
+        full
+    } else {
+        full + 1
+    }
+}
+
+/// Writes the bytes into these pages, the last first, each with the number of the next. It is refused as `page_mut` is.
+fn write_parts<P: Pages>(pages: &mut P, numbers: &[PageNumber], bytes: &[u8]) -> Result<(), Refusal>
+    requires begun { (P.store pages.old).is_begun ≡ true }
+    requires few { length numbers.now < 2 ^ 40 }
+    requires room { length bytes.now ≤ length numbers.now * 4080 }
+    ensures keeps { P.keeps pages.old pages.new }
+    ensures works { WorksAfter (P.is_tied pages.old → AreNotOwn (P.store pages.old).map numbers.now) result
+        (P.store pages.old) (P.store pages.new) }
+    ensures writes { P.is_tied pages.old → OnOk result (WritesParts (P.store pages.old).map (P.store pages.new).map
+        numbers.now bytes.now (number_from numbers.now 0)) }
+{
+    let mut index = numbers.len();
+    while index > 0 {
+        let next = number_from(numbers, index);
+        index -= 1;
+        write_part(pages, numbers[index], next, part_at(bytes, index))?;
+    }
+    Ok(())
+}
+
+/// The page at a place of the list; 0 past the last.
+fn number_from(numbers: &[PageNumber], index: usize) -> PageNumber
+    ensures { result ≡ number_from numbers.now index }
+{
+    match numbers.get(index) {
+        Some(number) => *number,
+        None => PageNumber::new(0),
+    }
+}
+
+/// The bytes for the page at a place of the list.
+fn part_at(bytes: &[u8], index: usize) -> &[u8]
+    requires { index < 2 ^ 40 }
+    ensures { result.now ≡ part_at bytes.now index }
+{
+    let start = index * PART_SIZE;
+    if start >= bytes.len() {
+        return &[];
+    }
+    let (_, rest) = bytes.split_at(start);
+    if rest.len() <= PART_SIZE {
+        return rest;
+    }
+    let (part, _) = rest.split_at(PART_SIZE);
+    part
+}
+
+/// Writes a part of the catalogue into the page with this number, which is in use. It is refused as `page_mut` is; nothing
+/// has changed then.
+fn write_part<P: Pages>(
+    pages: &mut P,
+    number: PageNumber,
+    next: PageNumber,
+    part: &[u8],
+) -> Result<(), Refusal>
+    requires begun { (P.store pages.old).is_begun ≡ true }
+    requires fits { length part.now ≤ 4080 }
+    ensures keeps { P.keeps pages.old pages.new }
+    ensures works { WorksAfter (P.is_tied pages.old → HasNoFit (P.store pages.old).map number) result
+        (P.store pages.old) (P.store pages.new) }
+    ensures written { P.is_tied pages.old → OnOk result (WritesPart (P.store pages.old).map (P.store pages.new).map number
+        next part.now) }
+{
+    let page = pages.page_mut(number)?;
+    put_part(page, number, next, part);
+    Ok(())
+}
