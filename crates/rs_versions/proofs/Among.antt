@@ -4,7 +4,7 @@ use Rattle.std.proofs.lemmas.Bool.{false≢true}
 use Rattle.std.proofs.lemmas.List.Elements.{filter-append}
 use Rattle.std.proofs.lemmas.List.Sorted.{IsPermutation-middle}
 use Rattle.std.proofs.lemmas.List.Sums.{sum_by-append, sum_by-cons}
-use Rattle.std.specs.List.{Contains, count_by}
+use Rattle.std.specs.List.{AllByRecursion, Contains, count_by}
 use Rattle.std.specs.List.Sorted.{IsPermutation}
 use Rattle.rs_records.specs.Order.{is_below, Ascends}
 use Rattle.rs_records.proofs.Orders.{is_below-self, is_below-cases}
@@ -19,7 +19,7 @@ not_above_itself cell (c ∷ cs) all (zero, inside, is) = false≢true (sym (is_
 not_above_itself cell (c ∷ cs) all (suc k, inside, is) = not_above_itself cell cs all.1 (k, omega arith, is)
 
 -- the cell is the first or among the rest
-first_or_rest : (cell c : List ℕ) (cs : List (List ℕ)) → Contains (c ∷ cs) cell → (c ≡ cell) ⊎ Contains cs cell
+pub first_or_rest : (cell c : List ℕ) (cs : List (List ℕ)) → Contains (c ∷ cs) cell → (c ≡ cell) ⊎ Contains cs cell
 first_or_rest cell c cs (zero, inside, is) = inl is
 first_or_rest cell c cs (suc k, inside, is) = inr (k, omega arith, is)
 
@@ -105,3 +105,15 @@ filtered test (c ∷ cs) cell has = by_test (test c) refl (λ rest. filtered tes
         | inl same ↦ (ap test (sym same) ∙ e, (0, omega arith, same))
         | inr rest ↦ more (later rest)
       ]
+
+-- what holds of each holds of one of them
+pub all_at : (P : List ℕ → Type 0) (cs : List (List ℕ)) (cell : List ℕ) → AllByRecursion P cs → Contains cs cell → P cell
+all_at P [] cell all has = absurd (omega (arith, has.1))
+all_at P (c ∷ cs) cell all has = elim (first_or_rest cell c cs has) [ inl same ↦ subst P same all.0 | inr rest ↦ all_at P cs cell all.1 rest ]
+
+-- tests that agree about each keep the same
+pub filter_same : (p q : List ℕ → Bool) (cs : List (List ℕ)) → ((c : List ℕ) → Contains cs c → p c ≡ q c) → filter p cs ≡ filter q cs
+filter_same p q [] same = refl
+filter_same p q (c ∷ cs) same =
+    ap (λ b. cond b (c ∷ filter p cs) (filter p cs)) (same c (0, omega arith, refl))
+    ∙ ap (λ xs. cond (q c) (c ∷ xs) xs) (filter_same p q cs (λ d has. same d (suc has.0, omega (arith, has.1), has.2)))

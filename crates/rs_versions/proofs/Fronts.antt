@@ -15,56 +15,56 @@ use Rattle.rs_versions.specs.Versioned.{AreInOrder}
 less_times : (n m w : ℕ) → m ≤ n → (n - m) * w ≡ n * w - m * w
 less_times n m w h = let e : n * w ≡ ((n - m) + m) * w = ap (λ i. i * w) (let f : n ≡ (n - m) + m = omega arith in f) in omega arith
 
-pub length-part : (first count width : ℕ) (bytes : List ℕ) → length (part first count width bytes) ≡ count - first
+pub length-part : (first end width : ℕ) (bytes : List ℕ) → length (part first end width bytes) ≡ end - first
 unfolding part
-length-part first count width bytes = omega (arith, length-drop first (records count width bytes), length-records count width bytes)
+length-part first end width bytes = omega (arith, length-drop first (records end width bytes), length-records end width bytes)
 
 -- bytes after its last cell are nothing to a part
-pub part-front : (first count width k : ℕ) (bytes more : List ℕ) → count * width ≤ k → k ≤ length bytes → part first count width (take k bytes ++ more) ≡ part first count width bytes
+pub part-front : (first end width k : ℕ) (bytes more : List ℕ) → end * width ≤ k → k ≤ length bytes → part first end width (take k bytes ++ more) ≡ part first end width bytes
 unfolding part
-part-front first count width k bytes more inside long =
+part-front first end width k bytes more inside long =
     let size = length-take-le k bytes long in
-    ap (drop first) (records-front count width (take k bytes) more (omega arith) ∙ records-take count width k bytes inside)
+    ap (drop first) (records-front end width (take k bytes) more (omega arith) ∙ records-take end width k bytes inside)
 
-pub part-take : (first count width k : ℕ) (bytes : List ℕ) → count * width ≤ k → part first count width (take k bytes) ≡ part first count width bytes
+pub part-take : (first end width k : ℕ) (bytes : List ℕ) → end * width ≤ k → part first end width (take k bytes) ≡ part first end width bytes
 unfolding part
-part-take first count width k bytes inside = ap (drop first) (records-take count width k bytes inside)
+part-take first end width k bytes inside = ap (drop first) (records-take end width k bytes inside)
 
 -- one more cell
-pub part-more : (first count width : ℕ) (bytes : List ℕ) → first ≤ count → length (drop (count * width) bytes) ≡ width
-    → part first (count + 1) width bytes ≡ part first count width bytes ++ drop (count * width) bytes ∷ []
+pub part-more : (first end width : ℕ) (bytes : List ℕ) → first ≤ end → length (drop (end * width) bytes) ≡ width
+    → part first (end + 1) width bytes ≡ part first end width bytes ++ drop (end * width) bytes ∷ []
 unfolding part
-part-more first count width bytes begins size =
-    let last : List ℕ = drop (count * width) bytes in
+part-more first end width bytes begins size =
+    let last : List ℕ = drop (end * width) bytes in
     let one : records 1 width last ≡ last ∷ [] =
     records_more 0 width last ∙ ap (λ x. x ∷ records 0 width (drop width last)) (take_all width last (omega arith)) ∙ ap (λ rs. last ∷ rs) (records_none width (drop width last)) in
-    let within : first ≤ length (records count width bytes) = omega (arith, length-records count width bytes) in
-    ap (drop first) (records-append count 1 width bytes ∙ ap (λ rs. records count width bytes ++ rs) one) ∙ drop-append-le first (records count width bytes) (last ∷ []) within
+    let within : first ≤ length (records end width bytes) = omega (arith, length-records end width bytes) in
+    ap (drop first) (records-append end 1 width bytes ∙ ap (λ rs. records end width bytes ++ rs) one) ∙ drop-append-le first (records end width bytes) (last ∷ []) within
 
 -- fewer cells from the front
-pub part-later : (first more count width : ℕ) (bytes : List ℕ) → part (first + more) count width bytes ≡ drop more (part first count width bytes)
+pub part-later : (first more end width : ℕ) (bytes : List ℕ) → part (first + more) end width bytes ≡ drop more (part first end width bytes)
 unfolding part
-part-later first more count width bytes = sym (drop-drop more first (records count width bytes))
+part-later first more end width bytes = sym (drop-drop more first (records end width bytes))
 
-pub part-none : (count width : ℕ) (bytes : List ℕ) → part count count width bytes ≡ []
+pub part-none : (end width : ℕ) (bytes : List ℕ) → part end end width bytes ≡ []
 unfolding part
-part-none count width bytes = drop_all count (records count width bytes) (omega (arith, length-records count width bytes))
+part-none end width bytes = drop_all end (records end width bytes) (omega (arith, length-records end width bytes))
 
 -- the part alone, from the first byte on
-pub part-moved : (first count width : ℕ) (bytes : List ℕ) → first ≤ count → count * width ≤ length bytes
-    → part 0 (count - first) width (take (count * width - first * width) (drop (first * width) bytes)) ≡ part first count width bytes
+pub part-moved : (first end width : ℕ) (bytes : List ℕ) → first ≤ end → end * width ≤ length bytes
+    → part 0 (end - first) width (take (end * width - first * width) (drop (first * width) bytes)) ≡ part first end width bytes
 unfolding part
-part-moved first count width bytes begins fits =
-    ap (records (count - first) width) (sym (append-nil (take (count * width - first * width) (drop (first * width) bytes))))
-    ∙ copied_records width count first (count * width - first * width) bytes [] begins fits refl
+part-moved first end width bytes begins fits =
+    ap (records (end - first) width) (sym (append-nil (take (end * width - first * width) (drop (first * width) bytes))))
+    ∙ copied_records width end first (end * width - first * width) bytes [] begins fits refl
 
 -- a cell of a part
-pub part-at : (first count width index : ℕ) (bytes cell : List ℕ) → first ≤ index → slice_get (records count width bytes) index ≡ Some cell
-    → slice_get (part first count width bytes) (index - first) ≡ Some cell
+pub part-at : (first end width index : ℕ) (bytes cell : List ℕ) → first ≤ index → slice_get (records end width bytes) index ≡ Some cell
+    → slice_get (part first end width bytes) (index - first) ≡ Some cell
 unfolding part
-part-at first count width index bytes cell after there =
+part-at first end width index bytes cell after there =
     let place : first + (index - first) ≡ index = omega arith in
-    drop_at_place (records count width bytes) first (index - first) ∙ ap (slice_get (records count width bytes)) place ∙ there
+    drop_at_place (records end width bytes) first (index - first) ∙ ap (slice_get (records end width bytes)) place ∙ there
 
 -- lists in order
 pub in_order-push : (cells : List (List ℕ)) (cell : List ℕ) → AreInOrder cells → AllByRecursion (λ other. died_of other ≤ died_of cell) cells → AreInOrder (cells ++ cell ∷ [])
@@ -84,44 +84,44 @@ all_push P [] cell all last = (last, tt)
 all_push P (c ∷ cs) cell all last = (all.0, all_push P cs cell all.1 last)
 
 -- what a buffer holds after one cell more, fewer from the front, or cells written after the last
-pub holds-more : (width first count kept_first kept_count : ℕ) (bytes : List ℕ) → HoldsDead width first count kept_first kept_count bytes → length (drop (count * width) bytes) ≡ width
-    → AllByRecursion (λ other. died_of other ≤ died_of (drop (count * width) bytes)) (part first count width bytes) → HoldsDead width first (count + 1) kept_first kept_count bytes
-holds-more width first count kept_first kept_count bytes holds size last =
-    let long = length-drop (count * width) bytes in
+pub holds-more : (width first end kept_first kept_end : ℕ) (bytes : List ℕ) → HoldsDead width first end kept_first kept_end bytes → length (drop (end * width) bytes) ≡ width
+    → AllByRecursion (λ other. died_of other ≤ died_of (drop (end * width) bytes)) (part first end width bytes) → HoldsDead width first (end + 1) kept_first kept_end bytes
+holds-more width first end kept_first kept_end bytes holds size last =
+    let long = length-drop (end * width) bytes in
     record {
       wide = holds.wide;
       fits = omega (arith, holds.wide, holds.fits);
       begins = omega (arith, holds.begins);
       kept_begins = holds.kept_begins;
       within = omega (arith, holds.within);
-      in_order = subst AreInOrder (sym (part-more first count width bytes holds.begins size)) (in_order-push (part first count width bytes) (drop (count * width) bytes) holds.in_order last);
+      in_order = subst AreInOrder (sym (part-more first end width bytes holds.begins size)) (in_order-push (part first end width bytes) (drop (end * width) bytes) holds.in_order last);
       kept_in_order = holds.kept_in_order;
     }
 
-pub holds-later : (width first more count kept_first kept_count : ℕ) (bytes : List ℕ) → HoldsDead width first count kept_first kept_count bytes → first + more ≤ count
-    → HoldsDead width (first + more) count kept_first kept_count bytes
-holds-later width first more count kept_first kept_count bytes holds inside = record {
+pub holds-later : (width first more end kept_first kept_end : ℕ) (bytes : List ℕ) → HoldsDead width first end kept_first kept_end bytes → first + more ≤ end
+    → HoldsDead width (first + more) end kept_first kept_end bytes
+holds-later width first more end kept_first kept_end bytes holds inside = record {
   wide = holds.wide;
   fits = holds.fits;
   begins = inside;
   kept_begins = holds.kept_begins;
   within = holds.within;
-  in_order = subst AreInOrder (sym (part-later first more count width bytes)) (in_order-drop more (part first count width bytes) holds.in_order);
+  in_order = subst AreInOrder (sym (part-later first more end width bytes)) (in_order-drop more (part first end width bytes) holds.in_order);
   kept_in_order = holds.kept_in_order;
 }
 
-pub holds-written : (width first count kept_first kept_count : ℕ) (bytes more : List ℕ) → HoldsDead width first count kept_first kept_count bytes
-    → HoldsDead width first count kept_first kept_count (take (count * width) bytes ++ more)
-holds-written width first count kept_first kept_count bytes more holds =
-    let kept = times_upto kept_count count width holds.within in
+pub holds-written : (width first end kept_first kept_end : ℕ) (bytes more : List ℕ) → HoldsDead width first end kept_first kept_end bytes
+    → HoldsDead width first end kept_first kept_end (take (end * width) bytes ++ more)
+holds-written width first end kept_first kept_end bytes more holds =
+    let kept = times_upto kept_end end width holds.within in
     record {
       wide = holds.wide;
-      fits = omega (arith, length-append (take (count * width) bytes) more, length-take-le (count * width) bytes holds.fits);
+      fits = omega (arith, length-append (take (end * width) bytes) more, length-take-le (end * width) bytes holds.fits);
       begins = holds.begins;
       kept_begins = holds.kept_begins;
       within = holds.within;
-      in_order = subst AreInOrder (sym (part-front first count width (count * width) bytes more (omega arith) holds.fits)) holds.in_order;
-      kept_in_order = subst AreInOrder (sym (part-front kept_first kept_count width (count * width) bytes more kept holds.fits)) holds.kept_in_order;
+      in_order = subst AreInOrder (sym (part-front first end width (end * width) bytes more (omega arith) holds.fits)) holds.in_order;
+      kept_in_order = subst AreInOrder (sym (part-front kept_first kept_end width (end * width) bytes more kept holds.fits)) holds.kept_in_order;
     }
 
 pub holds-none : (width : ℕ) (bytes : List ℕ) → 20 ≤ width → HoldsDead width 0 0 0 0 bytes
@@ -136,8 +136,8 @@ holds-none width bytes wide = record {
 }
 
 -- the working part is the committed one too, in place or at the front
-pub holds-kept : (width first count kept_first kept_count : ℕ) (bytes : List ℕ) → HoldsDead width first count kept_first kept_count bytes → HoldsDead width first count first count bytes
-holds-kept width first count kept_first kept_count bytes holds = record {
+pub holds-kept : (width first end kept_first kept_end : ℕ) (bytes : List ℕ) → HoldsDead width first end kept_first kept_end bytes → HoldsDead width first end first end bytes
+holds-kept width first end kept_first kept_end bytes holds = record {
   wide = holds.wide;
   fits = holds.fits;
   begins = holds.begins;
@@ -147,16 +147,16 @@ holds-kept width first count kept_first kept_count bytes holds = record {
   kept_in_order = holds.in_order;
 }
 
-pub holds-moved : (width first count kept_first kept_count : ℕ) (bytes : List ℕ) → HoldsDead width first count kept_first kept_count bytes
-    → HoldsDead width 0 (count - first) 0 (count - first) (take (count * width - first * width) (drop (first * width) bytes))
-holds-moved width first count kept_first kept_count bytes holds =
-    let order : AreInOrder (part 0 (count - first) width (take (count * width - first * width) (drop (first * width) bytes))) =
-    subst AreInOrder (sym (part-moved first count width bytes holds.begins holds.fits)) holds.in_order in
-    let below = times_upto first count width holds.begins in
-    let less : (count - first) * width ≡ count * width - first * width = less_times count first width holds.begins in
+pub holds-moved : (width first end kept_first kept_end : ℕ) (bytes : List ℕ) → HoldsDead width first end kept_first kept_end bytes
+    → HoldsDead width 0 (end - first) 0 (end - first) (take (end * width - first * width) (drop (first * width) bytes))
+holds-moved width first end kept_first kept_end bytes holds =
+    let order : AreInOrder (part 0 (end - first) width (take (end * width - first * width) (drop (first * width) bytes))) =
+    subst AreInOrder (sym (part-moved first end width bytes holds.begins holds.fits)) holds.in_order in
+    let below = times_upto first end width holds.begins in
+    let less : (end - first) * width ≡ end * width - first * width = less_times end first width holds.begins in
     record {
       wide = holds.wide;
-      fits = omega (arith, less, holds.fits, length-take-le (count * width - first * width) (drop (first * width) bytes) (omega (arith, length-drop (first * width) bytes, holds.fits)));
+      fits = omega (arith, less, holds.fits, length-take-le (end * width - first * width) (drop (first * width) bytes) (omega (arith, length-drop (first * width) bytes, holds.fits)));
       begins = omega arith;
       kept_begins = omega arith;
       within = omega arith;

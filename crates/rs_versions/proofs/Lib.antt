@@ -1,7 +1,12 @@
 pub mod Among
+pub mod Dated
 pub mod Ending
 pub mod Fronts
+pub mod Lasting
 pub mod Permutations
+pub mod Places
 pub mod Seen
 pub mod Sizes
+pub mod Staying
 pub mod Steps
+pub mod Widths

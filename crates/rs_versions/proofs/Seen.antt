@@ -75,15 +75,15 @@ without-ascends cell cs up = elim (among cell cs) [
 ]
 
 -- a living cell is seen from its birth on
-living_seen : (version : ℕ) (cell : List ℕ) → version < 2 ^ 64 - 1 → IsTrue (is_living cell) → born_of cell ≤ version → sees version cell ≡ true
+pub living_seen : (version : ℕ) (cell : List ℕ) → version < 2 ^ 64 - 1 → IsTrue (is_living cell) → born_of cell ≤ version → sees version cell ≡ true
 living_seen version cell before lives born =
     let died : died_of cell ≡ 2 ^ 64 - 1 = eqb-true (died_of cell) (2 ^ 64 - 1) lives in
     and_from (leb (born_of cell) version) (ltb version (died_of cell)) (le-leb (born_of cell) version born) (lt-ltb version (died_of cell) (omega arith))
 
-unborn : (version : ℕ) (cell : List ℕ) → version < born_of cell → sees version cell ≡ false
+pub unborn : (version : ℕ) (cell : List ℕ) → version < born_of cell → sees version cell ≡ false
 unborn version cell early = and_left (leb (born_of cell) version) (ltb version (died_of cell)) (lt-leb (born_of cell) version early)
 
-over : (version : ℕ) (cell : List ℕ) → died_of cell ≤ version → sees version cell ≡ false
+pub over : (version : ℕ) (cell : List ℕ) → died_of cell ≤ version → sees version cell ≡ false
 over version cell late = and_right (leb (born_of cell) version) (ltb version (died_of cell)) (le-ltb version (died_of cell) late)
 
 pub added_seen : (version : ℕ) (cell : List ℕ) (cells : List (List ℕ)) → version < 2 ^ 64 - 1 → IsTrue (is_living cell) → born_of cell ≤ version
@@ -94,16 +94,16 @@ pub added_unseen : (version : ℕ) (cell : List ℕ) (cells : List (List ℕ)) �
 added_unseen version cell cells up early = unseen-with (sees version) cell cells up (unborn version cell early)
 
 -- what is left of cells is some of them
-still_there : (cell one : List ℕ) (cs : List (List ℕ)) → Contains (without_cell cell cs) one → Contains cs one
+pub still_there : (cell one : List ℕ) (cs : List (List ℕ)) → Contains (without_cell cell cs) one → Contains cs one
 still_there cell one cs inside = elim (Contains-append_cases (cells_below cell cs) (cells_above cell cs) one inside) [
   | inl first ↦ (filtered (λ other. is_below other cell) cs one first).1
   | inr last ↦ (filtered (λ other. is_below cell other) cs one last).1
 ]
 
-ended_early : (version : ℕ) (cell : List ℕ) (cells : List (List ℕ)) → version ≤ born_of cell → with_end version cell cells ≡ without_cell cell cells
+pub ended_early : (version : ℕ) (cell : List ℕ) (cells : List (List ℕ)) → version ≤ born_of cell → with_end version cell cells ≡ without_cell cell cells
 ended_early version cell cells late = ap (λ b. cond b (with_cell (ended version cell) (without_cell cell cells)) (without_cell cell cells)) (le-ltb (born_of cell) version late)
 
-ended_late : (version : ℕ) (cell : List ℕ) (cells : List (List ℕ)) → born_of cell < version → with_end version cell cells ≡ with_cell (ended version cell) (without_cell cell cells)
+pub ended_late : (version : ℕ) (cell : List ℕ) (cells : List (List ℕ)) → born_of cell < version → with_end version cell cells ≡ with_cell (ended version cell) (without_cell cell cells)
 ended_late version cell cells early = ap (λ b. cond b (with_cell (ended version cell) (without_cell cell cells)) (without_cell cell cells)) (lt-ltb (born_of cell) version early)
 
 -- an ended cell before its end

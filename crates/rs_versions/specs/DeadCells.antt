@@ -11,16 +11,16 @@ pub record DeadCells : Type 0 where
   pub committed : List (List ℕ)
   pub written : List ℕ
 
--- the cells from the first one on, up to a count of all in the buffer
+-- the cells of the buffer from the first index on, below the end index
 unfoldable pub part : ℕ → ℕ → ℕ → List ℕ → List (List ℕ)
-part first count width bytes = drop first (records count width bytes)
+part first end width bytes = drop first (records end width bytes)
 
 -- the parts lie in the buffer, and each is in the order of death
-pub record HoldsDead (width first count kept_first kept_count : ℕ) (bytes : List ℕ) : Type 0 where
+pub record HoldsDead (width first end kept_first kept_end : ℕ) (bytes : List ℕ) : Type 0 where
   pub wide : 20 ≤ width
-  pub fits : count * width ≤ length bytes
-  pub begins : first ≤ count
-  pub kept_begins : kept_first ≤ kept_count
-  pub within : kept_count ≤ count
-  pub in_order : AreInOrder (part first count width bytes)
-  pub kept_in_order : AreInOrder (part kept_first kept_count width bytes)
+  pub fits : end * width ≤ length bytes
+  pub begins : first ≤ end
+  pub kept_begins : kept_first ≤ kept_end
+  pub within : kept_end ≤ end
+  pub in_order : AreInOrder (part first end width bytes)
+  pub kept_in_order : AreInOrder (part kept_first kept_end width bytes)

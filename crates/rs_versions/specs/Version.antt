@@ -1,5 +1,5 @@
 -- Which versions see a cell.
-use Rattle.std.specs.Prelude.{◌-◌, ◌==◌, ◌&&◌, ◌++◌, ℕ, Bool, not, nat_le, nat_lt, List, take, drop, length}
+use Rattle.std.specs.Prelude.{◌≡◌, ◌⊎◌, ◌<◌, ◌≤◌, ◌-◌, ◌==◌, ◌&&◌, ◌++◌, ℕ, Bool, IsTrue, not, nat_le, nat_lt, List, Contains, take, drop, length}
 use Rattle.std.specs.Int.{w64, to_be_bytes}
 use Rattle.byteorder.specs.Endian.{big_number}
 use Rattle.rs_versions.specs.declared.cell.TheConstants.{END_BYTES, LIVING, VERSION_BYTES}
@@ -34,3 +34,11 @@ lasting cell = take (length cell - END_BYTES) cell
 -- the same cell, ended at this version
 unfoldable pub ended : ℕ → List ℕ → List ℕ
 ended version cell = lasting cell ++ to_be_bytes w64 version
+
+-- the cell was born at this version or before it, and lives, or died after its birth at this version or before it
+abbrev pub IsDated : ℕ → List ℕ → Type 0
+IsDated accepted cell = (born_of cell ≤ accepted) × (IsTrue (is_living cell) ⊎ ((born_of cell < died_of cell) × (died_of cell ≤ accepted)))
+
+-- no two of the cells are the same but for their ends
+pub record LastsOnce (cells : List (List ℕ)) : Type 0 where
+  pub once : (one other : List ℕ) → Contains cells one → Contains cells other → lasting one ≡ lasting other → one ≡ other

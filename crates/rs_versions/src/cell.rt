@@ -59,8 +59,8 @@ pub(crate) fn is_clearable(oldest: u64, cell: &[u8]) -> bool
     !is_living(cell) && died_of(cell) <= oldest
 }
 
-/// Writes the version of its end into a cell.
-pub(crate) fn end_at(cell: &mut [u8], version: u64)
+/// Writes the version of its end into a cell: `Versions::kill` leaves the cell so, and an index over it writes the same.
+pub fn end_at(cell: &mut [u8], version: u64)
     requires width { VERSION_BYTES ≤ length cell.old }
     ensures ended { cell.new ≡ ended version cell.old }
 {

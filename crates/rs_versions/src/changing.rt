@@ -2,10 +2,11 @@
 //!
 //! A step that is refused may have changed pages, and the tree.
 
-ghost use Rattle.std.specs.Prelude.{◌≡◌, ◌<◌, ◌↔◌, ℕ, List, [], ◌∷◌, Contains, IsTrue, IfOk, OnOk, OnErr, true, length};
+ghost use Rattle.std.specs.Prelude.{◌≡◌, ◌<◌, ◌↔◌, ℕ, List, [], ◌∷◌, Contains, IsTrue, IfOk, OnOk, OnErr, true, false, length};
 ghost use Rattle.rs_owners.specs.Changes.{WorksAfter};
 ghost use Rattle.rs_owners.specs.Counts.{◌&◌};
 ghost use Rattle.rs_owners.specs.Owners.{Shares};
+ghost use Rattle.rs_pages.specs.PageMap.{SamePages};
 ghost use Rattle.rs_records.specs.Listed.{listed};
 ghost use Rattle.rs_tree.specs.Calls.{IsNotShared};
 ghost use Rattle.rs_tree.specs.Form.{form_of};
@@ -27,8 +28,8 @@ pub(crate) struct Ended {
     pub living: u64,
     /// It was there.
     pub found: bool,
-    /// It is dead now, and no cell that was the same before it.
-    pub new: bool,
+    /// It is dead now and to be listed: the same dead cell was not there before.
+    pub listed: bool,
 }
 
 /// The same tree.
@@ -61,6 +62,8 @@ pub(crate) fn put<P: Pages, S: Summary>(
     ensures found { P.is_tied pages.old → IfOk result (λ answer. (cells : List (List ℕ)) (used : ℕ → ℕ)
         → IsTree (form_of S.says S.unit S.join S.of S.WIDTH tree.old.width) (P.store pages.old).map tree.old.root cells used
         → (IsTrue answer.0 ↔ (Contains cells cell.now → ⊥))) }
+    ensures rests { P.is_tied pages.old → IfOk result (λ answer. answer.0 ≡ false
+        → SamePages (P.store pages.new).map (P.store pages.old).map) }
     ensures width { tree.new.width ≡ tree.old.width }
     ensures stays { OnErr result (tree.new ≡ tree.old) }
 {
@@ -94,7 +97,7 @@ pub(crate) fn end<P: Pages, S: Summary>(
         result (P.store pages.old) (P.store pages.new) }
     ensures ended { P.is_tied pages.old → IfOk result (λ answer. EndsOne
         (form_of S.says S.unit S.join S.of S.WIDTH tree.old.width) (P.store pages.old).map (P.store pages.new).map
-        tree.old.root living tree.new.root answer.living answer.new version cell.now) }
+        tree.old.root living tree.new.root answer.living answer.listed version cell.now) }
     ensures found { P.is_tied pages.old → IfOk result (λ answer. (cells : List (List ℕ)) (used others : ℕ → ℕ)
         → IsTree (form_of S.says S.unit S.join S.of S.WIDTH tree.old.width) (P.store pages.old).map tree.old.root cells used
         → Shares (P.store pages.old).map (used & others) → (IsTrue answer.found ↔ Contains cells cell.now)) }
@@ -105,7 +108,7 @@ pub(crate) fn end<P: Pages, S: Summary>(
         return Ok(Ended {
             living,
             found,
-            new: false,
+            listed: false,
         });
     }
     let living = living.saturating_sub(1);
@@ -113,11 +116,15 @@ pub(crate) fn end<P: Pages, S: Summary>(
         return Ok(Ended {
             living,
             found,
-            new: false,
+            listed: false,
         });
     }
     let new = tree.insert(pages, last)?;
-    Ok(Ended { living, found, new })
+    Ok(Ended {
+        living,
+        found,
+        listed: new,
+    })
 }
 
 /// Takes out cells, which are the first of the dead. It is refused with 94 too where one of them isn't there.

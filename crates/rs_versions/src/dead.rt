@@ -21,9 +21,9 @@ pub struct Dead {
     /// The cells, and after the last of them one that is written and not listed yet.
     bytes: Vec<u8>,
     first: usize,
-    count: usize,
+    end: usize,
     kept_first: usize,
-    kept_count: usize,
+    kept_end: usize,
 }
 
 impl Model for Dead {
@@ -34,12 +34,12 @@ impl Model for Dead {
 
     ghost view = { λ dead. record {
       width = dead.width;
-      working = part dead.first dead.count dead.width dead.bytes.items;
-      committed = part dead.kept_first dead.kept_count dead.width dead.bytes.items;
-      written = drop (dead.count * dead.width) dead.bytes.items;
+      working = part dead.first dead.end dead.width dead.bytes.items;
+      committed = part dead.kept_first dead.kept_end dead.width dead.bytes.items;
+      written = drop (dead.end * dead.width) dead.bytes.items;
     } };
 
-    ghost invariant = { λ dead. HoldsDead dead.width dead.first dead.count dead.kept_first dead.kept_count dead.bytes.items };
+    ghost invariant = { λ dead. HoldsDead dead.width dead.first dead.end dead.kept_first dead.kept_end dead.bytes.items };
 }
 
 impl Dead {
@@ -54,9 +54,9 @@ impl Dead {
             width,
             bytes: Vec::new(alloc),
             first: 0,
-            count: 0,
+            end: 0,
             kept_first: 0,
-            kept_count: 0,
+            kept_end: 0,
         }
     }
 
@@ -72,7 +72,7 @@ impl Dead {
     pub fn len(&self) -> usize
         ensures { result ≡ length self.now.working }
     {
-        self.count - self.first
+        self.end - self.first
     }
 
     /// Writes a cell, ended at this version, to be listed.
@@ -83,7 +83,7 @@ impl Dead {
         ensures working { self.new.working ≡ self.old.working }
         ensures committed { self.new.committed ≡ self.old.committed }
     {
-        self.bytes.truncate(self.count * self.width);
+        self.bytes.truncate(self.end * self.width);
         append_ended(&mut self.bytes, cell, version)
     }
 
@@ -91,7 +91,7 @@ impl Dead {
     pub fn written(&self) -> &[u8]
         ensures { result.now ≡ self.now.written }
     {
-        &self.bytes[self.count * self.width..]
+        &self.bytes[self.end * self.width..]
     }
 
     /// Lists the cell that is written as the one that died last.
@@ -102,7 +102,7 @@ impl Dead {
         ensures width { self.new.width ≡ self.old.width }
         ensures committed { self.new.committed ≡ self.old.committed }
     {
-        self.count += 1;
+        self.end += 1;
     }
 
     /// The first cells that no version from `oldest` on sees, at most so many.
@@ -112,7 +112,7 @@ impl Dead {
         ensures width { IfOk result (λ found. record_width found ≡ self.now.width) }
     {
         let mut found = Cells::new(alloc, self.width);
-        for index in self.first..self.count {
+        for index in self.first..self.end {
             if found.len() == most {
                 return Ok(found);
             }
@@ -141,7 +141,7 @@ impl Dead {
         ensures width { self.new.width ≡ self.old.width }
         ensures committed { self.new.committed ≡ self.old.committed }
     {
-        self.first = self.count;
+        self.first = self.end;
     }
 
     /// Keeps the list. Cells move to the front where at least as many were taken off it.
@@ -150,18 +150,18 @@ impl Dead {
         ensures committed { self.new.committed ≡ self.old.working }
         ensures width { self.new.width ≡ self.old.width }
     {
-        if self.first < self.count - self.first {
+        if self.first < self.end - self.first {
             self.kept_first = self.first;
-            self.kept_count = self.count;
+            self.kept_end = self.end;
             return;
         }
         let start = self.first * self.width;
-        let end = self.count * self.width;
-        move_to_front(&mut self.bytes, start, end);
-        self.count -= self.first;
+        let stop = self.end * self.width;
+        move_to_front(&mut self.bytes, start, stop);
+        self.end -= self.first;
         self.first = 0;
         self.kept_first = 0;
-        self.kept_count = self.count;
+        self.kept_end = self.end;
     }
 
     /// Takes the list back to that of the last commit.
@@ -171,7 +171,7 @@ impl Dead {
         ensures width { self.new.width ≡ self.old.width }
     {
         self.first = self.kept_first;
-        self.count = self.kept_count;
+        self.end = self.kept_end;
     }
 }
 

@@ -9,5 +9,5 @@ mod dead;
 pub mod laws;
 pub mod versions;
 
-pub use cell::{LIVING, born_of, died_of, is_living, sees};
+pub use cell::{LIVING, born_of, died_of, end_at, is_living, sees};
 pub use versions::Versions;

@@ -3,12 +3,12 @@
 //! Changes are made together or not at all: `commit` keeps them, `abandon` takes them back, and neither takes memory. The
 //! pages are to be committed or abandoned with them.
 
-ghost use Rattle.std.specs.Prelude.{◌≡◌, ◌<◌, ◌≤◌, ◌↔◌, ◌*◌, ◌+◌, ℕ, List, [], ◌∷◌, Contains, IsTrue, IfOk, OnOk, OnErr, true, drop, length};
+ghost use Rattle.std.specs.Prelude.{◌≡◌, ◌<◌, ◌≤◌, ◌↔◌, ◌*◌, ◌+◌, ℕ, List, [], ◌∷◌, Contains, IsTrue, IfOk, OnOk, OnErr, true, false, drop, length};
 ghost use Rattle.std.specs.List.{AllByRecursion};
 ghost use Rattle.rs_owners.specs.Changes.{WorksAfter};
 ghost use Rattle.rs_owners.specs.Counts.{◌&◌, no_pages};
 ghost use Rattle.rs_owners.specs.Owners.{Shares};
-ghost use Rattle.rs_pages.specs.PageMap.{PageMap};
+ghost use Rattle.rs_pages.specs.PageMap.{PageMap, SamePages};
 ghost use Rattle.rs_records.specs.Listed.{listed, record_width};
 ghost use Rattle.rs_tree.specs.Cells.{with_cell};
 ghost use Rattle.rs_tree.specs.Form.{form_of};
@@ -121,18 +121,25 @@ impl<S: Summary> Versions<S> {
         ensures found { P.is_tied pages.old → IfOk result (λ new. (cells : List (List ℕ)) (used others : ℕ → ℕ)
             → HoldsCells (form_of S.says S.unit S.join S.of S.WIDTH self.old.width) (P.store pages.old).map self.old.working cells used
             → Shares (P.store pages.old).map (used & others) → (IsTrue new ↔ (Contains cells cell.now → ⊥))) }
+        ensures rests { P.is_tied pages.old → IfOk result (λ new. new ≡ false
+            → SamePages (P.store pages.new).map (P.store pages.old).map × (self.new ≡ self.old)) }
         ensures width { self.new.width ≡ self.old.width }
         ensures committed { self.new.committed ≡ self.old.committed }
         ensures dead { self.new.working.dead ≡ self.old.working.dead }
         ensures stays { OnErr result (self.new ≡ self.old) }
     {
-        let (new, living) = put::<P, S>(pages, &mut self.tree, self.living, cell)?;
-        self.living = living;
+        let mut tree = copy_of(&self.tree, self.dead.width());
+        let (new, living) = put::<P, S>(pages, &mut tree, self.living, cell)?;
+        if new {
+            self.tree = tree;
+            self.living = living;
+        }
         Ok(new)
     }
 
     /// Ends a living cell at a version, and answers whether it was there: versions before this one see it as they did, and
-    /// no other does. A cell that no version saw before this one is taken out. It is refused as `add` is.
+    /// no other does. A cell that no version saw before this one is taken out: where `version <= born_of(cell)`, the caller
+    /// knows that it was taken out, and otherwise that it was ended. It is refused as `add` is.
     pub fn kill<P: Pages>(
         &mut self,
         pages: &mut P,
@@ -167,14 +174,14 @@ impl<S: Summary> Versions<S> {
         let ended = end::<P, S>(pages, &mut tree, self.living, version, cell, written)?;
         self.tree = tree;
         self.living = ended.living;
-        if ended.new {
+        if ended.listed {
             self.dead.list_written();
         }
         Ok(ended.found)
     }
 
     /// Takes out cells that no version from `oldest` on sees, those that died first before the others, at most so many, and
-    /// answers them. It is refused as `add` is, but for 92.
+    /// answers them. It is refused as `add` is.
     pub fn vacuum<P: Pages>(
         &mut self,
         alloc: Global,
@@ -208,7 +215,7 @@ impl<S: Summary> Versions<S> {
         Ok(taken)
     }
 
-    /// Takes out all cells and frees their pages. It is refused as `add` is, but for 92.
+    /// Takes out all cells and frees their pages. It is refused as `add` is.
     pub fn clear<P: Pages>(&mut self, pages: &mut P) -> Result<(), Refusal>
         requires begun { (P.store pages.old).is_begun ≡ true }
         ensures keeps { P.keeps pages.old pages.new }

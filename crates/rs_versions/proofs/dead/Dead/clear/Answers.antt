@@ -14,7 +14,7 @@ invariant_of-self c =
       begins = omega arith;
       kept_begins = c.self.invariant.kept_begins;
       within = c.self.invariant.within;
-      in_order = subst AreInOrder (sym (part-none d.count d.width d.bytes.items)) tt;
+      in_order = subst AreInOrder (sym (part-none d.end d.width d.bytes.items)) tt;
       kept_in_order = c.self.invariant.kept_in_order;
     }
 
@@ -22,7 +22,7 @@ pub returns : goal.returns
 returns c =
     let d = c.self.inside in
     record {
-      working = part-none d.count d.width d.bytes.items;
+      working = part-none d.end d.width d.bytes.items;
       width = ap (λ (v : DeadCells). v.width) c.self.view_is;
       committed = ap (λ (v : DeadCells). v.committed) c.self.view_is;
     }

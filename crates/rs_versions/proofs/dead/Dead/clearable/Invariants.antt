@@ -9,6 +9,6 @@ abbrev pub invariant-loop-index : goal.invariant-loop-index
 invariant-loop-index l = record {
   width : record_width l.found ≡ l.self-inside.width;
   few : l.index - l.self-inside.first ≤ l.most;
-  found : listed l.found ≡ take (l.index - l.self-inside.first) (part l.self-inside.first l.self-inside.count l.self-inside.width l.self-inside.bytes.items);
-  clearable : AreClearable l.oldest (l.index - l.self-inside.first) (part l.self-inside.first l.self-inside.count l.self-inside.width l.self-inside.bytes.items);
+  found : listed l.found ≡ take (l.index - l.self-inside.first) (part l.self-inside.first l.self-inside.end l.self-inside.width l.self-inside.bytes.items);
+  clearable : AreClearable l.oldest (l.index - l.self-inside.first) (part l.self-inside.first l.self-inside.end l.self-inside.width l.self-inside.bytes.items);
 }

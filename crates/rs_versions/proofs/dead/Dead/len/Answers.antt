@@ -7,4 +7,4 @@ use Rattle.rs_versions.proofs.dead.Dead.len.Goals as goal
 pub returns : goal.returns
 returns c =
     let d = c.self.inside in
-    sym (length-part d.first d.count d.width d.bytes.items) ∙ ap (λ (v : DeadCells). length v.working) c.self.view_is
+    sym (length-part d.first d.end d.width d.bytes.items) ∙ ap (λ (v : DeadCells). length v.working) c.self.view_is

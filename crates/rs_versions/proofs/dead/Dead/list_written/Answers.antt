@@ -9,14 +9,14 @@ use Rattle.rs_versions.proofs.dead.Dead.list_written.Goals as goal
 pub invariant_of-self : goal.invariant_of-self
 invariant_of-self c =
     let d = c.self.inside in
-    let size : length (drop (d.count * d.width) d.bytes.items) ≡ d.width =
+    let size : length (drop (d.end * d.width) d.bytes.items) ≡ d.width =
     ap (λ (v : DeadCells). length v.written) c.self.view_is ∙ c.requires.whole ∙ sym (ap (λ (v : DeadCells). v.width) c.self.view_is) in
-    holds-more d.width d.first d.count d.kept_first d.kept_count d.bytes.items c.self.invariant size
+    holds-more d.width d.first d.end d.kept_first d.kept_end d.bytes.items c.self.invariant size
     (subst (λ (v : DeadCells). AllByRecursion (λ dead. died_of dead ≤ died_of v.written) v.working) (sym c.self.view_is) c.requires.order)
 
 pub returns-clause-working : goal.returns-clause-working
 returns-clause-working c =
     let d = c.self.inside in
-    let size : length (drop (d.count * d.width) d.bytes.items) ≡ d.width =
+    let size : length (drop (d.end * d.width) d.bytes.items) ≡ d.width =
     ap (λ (v : DeadCells). length v.written) c.self.view_is ∙ c.requires.whole ∙ sym (ap (λ (v : DeadCells). v.width) c.self.view_is) in
-    part-more d.first d.count d.width d.bytes.items c.self.invariant.begins size ∙ ap (λ (v : DeadCells). v.working ++ v.written ∷ []) c.self.view_is
+    part-more d.first d.end d.width d.bytes.items c.self.invariant.begins size ∙ ap (λ (v : DeadCells). v.working ++ v.written ∷ []) c.self.view_is

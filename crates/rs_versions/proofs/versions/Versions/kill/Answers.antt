@@ -61,10 +61,10 @@ returns-then-ended-clause-killed g c = λ tied.
     let old = (g.P.Pages.store c.args.pages.now).map in
     let new = (g.P.Pages.store c.end.new.pages).map in
     let written : c.write.new.self.written ≡ ended c.args.version c.args.cell.now = search rules in
-    let last : c.list_written.new.self.working ≡ with_last c.in_ok-ended.ended.new (ended c.args.version c.args.cell.now) d.dead.working =
+    let last : c.list_written.new.self.working ≡ with_last c.in_ok-ended.ended.listed (ended c.args.version c.args.cell.now) d.dead.working =
     c.list_written.ensures.working ∙ ap (λ xs. xs ++ c.write.new.self.written ∷ []) c.write.ensures.working ∙ ap (λ x. d.dead.working ++ x ∷ []) written
     ∙ ap (λ (b : Bool). with_last b (ended c.args.version c.args.cell.now) d.dead.working) (sym c.if-ended.true) in
-    let ends = subst (λ (t : Rooted). EndsOne (form_of g.S.Summary.says g.S.Summary.unit g.S.Summary.join g.S.Summary.of g.S.Summary.WIDTH t.width) old new t.root d.living c.end.new.tree.root c.in_ok-ended.ended.living c.in_ok-ended.ended.new c.args.version c.args.cell.now) c.copy_of-tree.ensures
+    let ends = subst (λ (t : Rooted). EndsOne (form_of g.S.Summary.says g.S.Summary.unit g.S.Summary.join g.S.Summary.of g.S.Summary.WIDTH t.width) old new t.root d.living c.end.new.tree.root c.in_ok-ended.ended.living c.in_ok-ended.ended.listed c.args.version c.args.cell.now) c.copy_of-tree.ensures
     (c.in_ok-ended.ensures.ended tied) in
     subst (λ (v : Versioned). Ends (form_of g.S.Summary.says g.S.Summary.unit g.S.Summary.join g.S.Summary.of g.S.Summary.WIDTH v.width) old new v.working (standing c.end.new.tree.root c.in_ok-ended.ended.living c.list_written.new.self.working) c.args.version c.args.cell.now) c.self.view_is
     (subst (λ (dead : List (List ℕ)). Ends (form_of g.S.Summary.says g.S.Summary.unit g.S.Summary.join g.S.Summary.of g.S.Summary.WIDTH d.tree.width) old new (standing d.tree.root d.living d.dead.working) (standing c.end.new.tree.root c.in_ok-ended.ended.living dead) c.args.version c.args.cell.now) (sym last)
@@ -84,9 +84,9 @@ returns-else-ended-clause-killed g c = λ tied.
     let d = c.self.inside in
     let old = (g.P.Pages.store c.args.pages.now).map in
     let new = (g.P.Pages.store c.end.new.pages).map in
-    let last : c.write.new.self.working ≡ with_last c.in_ok-ended.ended.new (ended c.args.version c.args.cell.now) d.dead.working =
+    let last : c.write.new.self.working ≡ with_last c.in_ok-ended.ended.listed (ended c.args.version c.args.cell.now) d.dead.working =
     c.write.ensures.working ∙ ap (λ (b : Bool). with_last b (ended c.args.version c.args.cell.now) d.dead.working) (sym c.if-ended.false) in
-    let ends = subst (λ (t : Rooted). EndsOne (form_of g.S.Summary.says g.S.Summary.unit g.S.Summary.join g.S.Summary.of g.S.Summary.WIDTH t.width) old new t.root d.living c.end.new.tree.root c.in_ok-ended.ended.living c.in_ok-ended.ended.new c.args.version c.args.cell.now) c.copy_of-tree.ensures
+    let ends = subst (λ (t : Rooted). EndsOne (form_of g.S.Summary.says g.S.Summary.unit g.S.Summary.join g.S.Summary.of g.S.Summary.WIDTH t.width) old new t.root d.living c.end.new.tree.root c.in_ok-ended.ended.living c.in_ok-ended.ended.listed c.args.version c.args.cell.now) c.copy_of-tree.ensures
     (c.in_ok-ended.ensures.ended tied) in
     subst (λ (v : Versioned). Ends (form_of g.S.Summary.says g.S.Summary.unit g.S.Summary.join g.S.Summary.of g.S.Summary.WIDTH v.width) old new v.working (standing c.end.new.tree.root c.in_ok-ended.ended.living c.write.new.self.working) c.args.version c.args.cell.now) c.self.view_is
     (subst (λ (dead : List (List ℕ)). Ends (form_of g.S.Summary.says g.S.Summary.unit g.S.Summary.join g.S.Summary.of g.S.Summary.WIDTH d.tree.width) old new (standing d.tree.root d.living d.dead.working) (standing c.end.new.tree.root c.in_ok-ended.ended.living dead) c.args.version c.args.cell.now) (sym last)
