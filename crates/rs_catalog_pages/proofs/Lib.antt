@@ -2,6 +2,7 @@ pub mod Bytes
 pub mod Chains
 pub mod Counting
 pub mod Directories
+pub mod Fronts
 pub mod Moving
 pub mod Parts
 pub mod Pieces

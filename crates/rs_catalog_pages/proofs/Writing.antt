@@ -141,14 +141,16 @@ not_own-no_bytes map numbers none = record { none = λ bytes others holds shares
 
 -- the place of the catalogue is set
 pub stores : (tied : Type 0) → tied → (old mid : PageMap) (written new : Store) (before after bytes : List ℕ) (catalogue : CatalogueItems) → SaysCatalogue bytes catalogue
-    → MovesPages old mid before after → WritesParts mid written.map after bytes (number_from after 0) → SetsCatalogue tied (number_from after 0) (length bytes) written new
+    → length after * 4080 < length bytes + 4080 → take (length before) after ≡ take (length after) before → MovesPages old mid before after → WritesParts mid written.map after bytes (number_from after 0) → SetsCatalogue tied (number_from after 0) (length bytes) written new
     → StoresCatalogue old new.map before after catalogue
-stores tied is old mid written new before after bytes catalogue says moves writes sets = record {
+stores tied is old mid written new before after bytes catalogue says few kept moves writes sets = record {
+  kept = kept;
   each = λ was holds.
-      let own = moves.used (holds_in_use old before was holds) in (
-        bytes,
-        says,
-        record {
+      let own = moves.used (holds_in_use old before was holds) in record {
+        bytes = bytes;
+        says = says;
+        few = few;
+        stores = record {
           holds = record {
             chain = subst (λ first. HoldsFrom new.map first after bytes) (sym first)
                 (from_kept written.map new.map (number_from after 0) after bytes (omega (arith, count)) (λ n own_page. sets.pages is n) (writes.holds own));
@@ -164,10 +166,13 @@ stores tied is old mid written new before after bytes catalogue says moves write
                   within = λ n h. two.shares.within n (omega (arith, h, count));
                   beyond = λ n h. two.shares.beyond n (omega (arith, h, count));
                 },
-                record { pages = λ n theirs. sets.pages is n ∙ two.keeps.pages n theirs ∙ one.keeps.pages n theirs },
+                record {
+                  pages = λ n theirs. sets.pages is n ∙ two.keeps.pages n theirs ∙ one.keeps.pages n theirs;
+                  no_fewer = omega (arith, one.keeps.no_fewer, two.keeps.no_fewer, count);
+                },
               );
-        },
-      );
+        };
+      };
 } where
   first : new.map.fields.catalogue ≡ number_from after 0
   first = ap (λ (f : FileHeader). f.catalogue) sets.fields

@@ -41,11 +41,12 @@ pub record HoldsBytes (map : PageMap) (numbers bytes : List ℕ) : Type 0 where
 pub record HoldsNoFreshBytes (map : PageMap) (before : ℕ → ℕ) : Type 0 where
   pub none : (numbers bytes : List ℕ) → HoldsBytes map numbers bytes → ((number : ℕ) → (before & times numbers) number ≤ 1) → ⊥
 
--- the owner's pages have the bytes that they had
-pub record KeepsBeside (used : ℕ → ℕ) (old new : PageMap) : Type 0 where
+-- the owner's pages have the bytes that they had, and there are no fewer pages
+pub record KeepsPages (used : ℕ → ℕ) (old new : PageMap) : Type 0 where
   pub pages : (number : ℕ) → 0 < used number → new.page number ≡ old.page number
+  pub no_fewer : old.fields.pages ≤ new.fields.pages
 
 -- The catalogue has these bytes now, in these pages; whoever else has pages keeps them, and each page has one owner again.
 pub record StoresBytes (old new : PageMap) (before after bytes : List ℕ) : Type 0 where
   pub holds : HoldsBytes new after bytes
-  pub shares : (others : ℕ → ℕ) → Shares old (times before & others) → Shares new (times after & others) × KeepsBeside others old new
+  pub shares : (others : ℕ → ℕ) → Shares old (times before & others) → Shares new (times after & others) × KeepsPages others old new

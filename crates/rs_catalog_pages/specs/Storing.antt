@@ -1,5 +1,5 @@
 -- What storing the catalogue does to the pages that it has.
-use Rattle.std.specs.Prelude.{◌≡◌, ◌≤◌, ◌<◌, ℕ, Some, List, Result, MatchResult}
+use Rattle.std.specs.Prelude.{◌≡◌, ◌≤◌, ◌<◌, ◌+◌, ◌*◌, ℕ, Some, List, length, take, Result, MatchResult}
 use Rattle.rs_measure.specs.declared.refusal.Refusal.{Refusal}
 use Rattle.rs_owners.specs.Changes.{EndsFull, CountsNothing}
 use Rattle.rs_owners.specs.Counts.{◌&◌, times}
@@ -48,7 +48,14 @@ pub record StoresAfter {T : Type 0} (damaged : Type 0) (result : Result T Refusa
   pub no_fewer : old.map.fields.pages ≤ new.map.fields.pages
   pub ends : MatchResult result (λ _. CountsNothing old new) (λ why. Wants damaged (EndsFull old new) why old new)
 
--- the catalogue is in these pages now
+-- these bytes say the catalogue, and these pages, no more than they need, hold them
+pub record StoresSaid (old new : PageMap) (before after : List ℕ) (catalogue : CatalogueItems) : Type 0 where
+  pub bytes : List ℕ
+  pub says : SaysCatalogue bytes catalogue
+  pub few : length after * 4080 < length bytes + 4080
+  pub stores : StoresBytes old new before after bytes
+
+-- the catalogue is in these pages now: those that there were, as far as they are needed, come first
 pub record StoresCatalogue (old new : PageMap) (before after : List ℕ) (catalogue : CatalogueItems) : Type 0 where
-  pub each : (was : List ℕ) → HoldsBytes old before was
-      → (bytes : List ℕ) × SaysCatalogue bytes catalogue × StoresBytes old new before after bytes
+  pub kept : take (length before) after ≡ take (length after) before
+  pub each : (was : List ℕ) → HoldsBytes old before was → StoresSaid old new before after catalogue

@@ -20,7 +20,7 @@ use std::alloc::Global;
 /// Marks the pages of the catalogue, and reads its bytes: the pages in their order, and the bytes. It is refused with 94
 /// where no pages that weren't reached before hold as many bytes as page 0 says, with 90 and 91. No page changes. What is
 /// marked after a refusal is open.
-pub fn read_bytes<P: Pages>(
+pub(crate) fn read_bytes<P: Pages>(
     alloc: Global,
     pages: &mut P,
     reached: &mut Reached,

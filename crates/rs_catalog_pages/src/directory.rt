@@ -1,6 +1,6 @@
 //! The directory of a file, read from page 1 and written to it.
 
-ghost use Rattle.std.specs.Prelude.{◌≡◌, ◌⊎◌, ◌≤◌, ◌↔◌, ◌-◌, ◌++◌, true, ℕ, List, IsTrue, EachIndex, slice_index, IfOk, IfErr, OnOk, Err, length, drop, replicate};
+ghost use Rattle.std.specs.Prelude.{◌≡◌, ◌⊎◌, ◌≤◌, ◌↔◌, ◌-◌, ◌++◌, true, ℕ, List, IsTrue, EachIndex, slice_index, IfOk, IfErr, OnOk, OnErr, Err, length, drop, replicate};
 ghost use Rattle.rs_disk.specs.declared.disk.TheConstants.{PAGE_SIZE};
 ghost use Rattle.rs_owners.specs.Changes.{WorksAfter};
 ghost use Rattle.rs_page.specs.Header.{IsHeader};
@@ -8,6 +8,7 @@ ghost use Rattle.rs_page.specs.PageBytes.{empty_header};
 ghost use Rattle.rs_page.specs.declared.header.PageKind.TheVariants as kinds;
 ghost use Rattle.rs_pages.specs.Lending.{RestsAfter};
 ghost use Rattle.rs_pages.specs.PageMap.{HasNoFit};
+ghost use Rattle.rs_pages.specs.Store.{Rests};
 ghost use Rattle.rs_catalog_pages.specs.Directory.{DirectoryItems, IsDirectory, HasDirectory, HasNoDirectory, StoresDirectory, SaysDirectory};
 ghost use Rattle.rs_catalog_pages.specs.Fitting.{FitsDirectory};
 ghost use Rattle.rs_catalog_pages.specs.Parts.{content};
@@ -86,6 +87,7 @@ pub fn store_directory<P: Pages>(
         (P.store pages.old) (P.store pages.new) }
     ensures stores { P.is_tied pages.old → OnOk result (StoresDirectory (P.store pages.old).map (P.store pages.new).map
         (said_directory directory.now)) }
+    ensures stays { OnErr result (Rests (P.is_tied pages.old) (P.store pages.old) (P.store pages.new)) }
 {
     let mut bytes = Vec::new(alloc);
     directory.write(&mut bytes)?;

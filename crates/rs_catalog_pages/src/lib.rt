@@ -3,18 +3,17 @@
 //! It promises that what is read is what the pages say, or that they say nothing; and that what was stored is read again.
 #![tactic(auto)]
 
-pub mod chain;
+mod chain;
 pub mod directory;
 pub mod directory_items;
 pub mod items;
 pub mod laws;
 pub mod limits;
 pub mod loading;
-pub mod part;
-pub mod placing;
+mod part;
+mod placing;
 pub mod storing;
 
-pub use chain::read_bytes;
 pub use directory::{load_directory, store_directory};
 pub use directory_items::{FixedList, INDEXES, StoredDirectory, StoredRoot, StoredTree, TABLES};
 pub use items::{

@@ -13,7 +13,7 @@ use rs_measure::Refusal;
 use rs_page::{HEADER_SIZE, Page, PageHeader, PageKind, PageNumber};
 
 /// What follows the header of a page.
-pub fn content(page: &Page) -> &[u8]
+pub(crate) fn content(page: &Page) -> &[u8]
     ensures bytes { result.now ≡ content page.now.bytes }
     ensures size { length result.now ≡ 4080 }
     ensures page { length page.now.bytes ≡ PAGE_SIZE }
@@ -31,7 +31,7 @@ fn after_header(bytes: &[u8]) -> &[u8]
 
 /// The page that follows this one of the catalogue, and its bytes; none where it is no such page with this number in a
 /// file of so many pages.
-pub fn part_of(page: &Page, number: PageNumber, pages: u32) -> Option<(PageNumber, &[u8])>
+pub(crate) fn part_of(page: &Page, number: PageNumber, pages: u32) -> Option<(PageNumber, &[u8])>
     ensures found { IfSome result (λ part. IsPart page.now.bytes number part.0 pages part.1.now) }
     ensures none { IfNone result ((next : ℕ) (part : List ℕ) → IsPart page.now.bytes number next pages part → ⊥) }
 {
@@ -45,7 +45,7 @@ pub fn part_of(page: &Page, number: PageNumber, pages: u32) -> Option<(PageNumbe
 
 /// Appends the bytes of this page of the catalogue, and answers the page that follows. It is refused with 94 where this is
 /// no such page, or has more than so many bytes; with 90 for want of memory.
-pub fn append_part(
+pub(crate) fn append_part(
     page: &Page,
     number: PageNumber,
     pages: u32,
@@ -66,7 +66,7 @@ pub fn append_part(
 }
 
 /// Fills a page of the catalogue. The bytes past these stay.
-pub fn put_part(page: &mut Page, number: PageNumber, next: PageNumber, part: &[u8])
+pub(crate) fn put_part(page: &mut Page, number: PageNumber, next: PageNumber, part: &[u8])
     requires { length part.now ≤ 4080 }
     ensures header { IsHeader page.new.bytes (catalogue_header (length part.now) number next) }
     ensures size { length page.new.bytes ≡ PAGE_SIZE }
@@ -82,7 +82,7 @@ pub fn put_part(page: &mut Page, number: PageNumber, next: PageNumber, part: &[u
 }
 
 /// Puts bytes after the header. The header stays.
-pub fn put_content(bytes: &mut [u8], part: &[u8])
+pub(crate) fn put_content(bytes: &mut [u8], part: &[u8])
     requires size { length bytes.old ≡ PAGE_SIZE }
     requires fits { length part.now ≤ 4080 }
     ensures before { (k n : ℕ) → k + n ≤ HEADER_SIZE → number_at k n bytes.new ≡ number_at k n bytes.old }

@@ -1,6 +1,6 @@
 //! The pages of the catalogue: as many as its bytes need.
 
-ghost use Rattle.std.specs.Prelude.{◌≡◌, ◌≤◌, ◌-◌, true, OnOk, length};
+ghost use Rattle.std.specs.Prelude.{◌≡◌, ◌≤◌, ◌-◌, true, OnOk, length, take};
 ghost use Rattle.rs_owners.specs.Changes.{WorksAfter};
 ghost use Rattle.rs_catalog_pages.specs.Storing.{MovesPages, AreNotOwn};
 
@@ -9,7 +9,7 @@ use rs_page::{ContentKind, PageNumber};
 use rs_pages::Pages;
 
 /// Brings pages into use until there are so many. It is refused as `allocate` is, and for want of memory.
-pub fn grow<P: Pages>(
+pub(crate) fn grow<P: Pages>(
     pages: &mut P,
     numbers: &mut Vec<PageNumber>,
     count: usize,
@@ -21,6 +21,7 @@ pub fn grow<P: Pages>(
     ensures moves { P.is_tied pages.old → OnOk result (MovesPages (P.store pages.old).map (P.store pages.new).map
         numbers.old.items numbers.new.items) }
     ensures enough { OnOk result (count ≤ length numbers.new.items) }
+    ensures kept { OnOk result (take (length numbers.old.items) numbers.new.items ≡ numbers.old.items) }
 {
     while numbers.len() < count {
         let number = pages.allocate(ContentKind::Catalogue)?;
@@ -30,7 +31,7 @@ pub fn grow<P: Pages>(
 }
 
 /// Releases pages until there are no more than so many, the last first. It is refused as `release` is.
-pub fn shrink<P: Pages>(
+pub(crate) fn shrink<P: Pages>(
     pages: &mut P,
     numbers: &mut Vec<PageNumber>,
     count: usize,
@@ -43,6 +44,7 @@ pub fn shrink<P: Pages>(
     ensures moves { P.is_tied pages.old → OnOk result (MovesPages (P.store pages.old).map (P.store pages.new).map
         numbers.old.items numbers.new.items) }
     ensures enough { OnOk result (length numbers.new.items ≡ count) }
+    ensures kept { OnOk result (numbers.new.items ≡ take (length numbers.new.items) numbers.old.items) }
 {
     while numbers.len() > count {
         release_last(pages, numbers)?;
@@ -59,6 +61,7 @@ fn release_last<P: Pages>(pages: &mut P, numbers: &mut Vec<PageNumber>) -> Resul
     ensures moves { P.is_tied pages.old → OnOk result (MovesPages (P.store pages.old).map (P.store pages.new).map
         numbers.old.items numbers.new.items) }
     ensures fewer { OnOk result (length numbers.new.items ≡ length numbers.old.items - 1) }
+    ensures kept { OnOk result (numbers.new.items ≡ take (length numbers.new.items) numbers.old.items) }
 {
     match numbers.pop() {
         Some(number) => pages.release(number),

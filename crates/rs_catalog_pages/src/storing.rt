@@ -2,9 +2,10 @@
 //!
 //! It keeps the pages that it has, and takes or gives back those that are missing or too many.
 
-ghost use Rattle.std.specs.Prelude.{◌≡◌, ◌≤◌, ◌<◌, ◌*◌, ◌^◌, true, OnOk, OnErr, length};
+ghost use Rattle.std.specs.Prelude.{◌≡◌, ◌≤◌, ◌<◌, ◌+◌, ◌*◌, ◌^◌, true, IfOk, OnOk, OnErr, length};
 ghost use Rattle.rs_owners.specs.Changes.{WorksAfter};
 ghost use Rattle.rs_pages.specs.PageMap.{HasNoFit};
+ghost use Rattle.rs_pages.specs.Store.{Rests};
 ghost use Rattle.rs_catalog_pages.specs.Fitting.{FitsCatalogue, IsShort};
 ghost use Rattle.rs_catalog_pages.specs.Said.{said_catalogue};
 ghost use Rattle.rs_catalog_pages.specs.Parts.{WritesPart};
@@ -23,42 +24,41 @@ use std::alloc::Global;
 /// The bytes of the catalogue that a page holds at the most.
 pub const PART_SIZE: usize = 4080;
 
-/// Stores the catalogue in place of the one in these pages, and sets which pages it has. It is refused with 90, with 91,
+/// Stores the catalogue in place of the one in these pages, and answers which pages it has now: those that it had, then
+/// new ones, and no more than it needs. The caller keeps the old list until it commits. It is refused with 90, with 91,
 /// with 92 where the file is full, and with 94 only where these pages, each one owner's, hold no bytes of a catalogue; the
-/// list of pages is as it was then, and the working pages are to be abandoned.
+/// working pages are to be abandoned then.
 pub fn store<P: Pages>(
     alloc: Global,
     pages: &mut P,
-    numbers: &mut Vec<PageNumber>,
+    numbers: &[PageNumber],
     catalogue: &StoredCatalogue,
-) -> Result<(), Refusal>
+) -> Result<Vec<PageNumber>, Refusal>
     requires begun { (P.store pages.old).is_begun ≡ true }
     requires fits { FitsCatalogue (said_catalogue catalogue.now) }
     requires short { IsShort (said_catalogue catalogue.now) }
     ensures keeps { P.keeps pages.old pages.new }
-    ensures works { StoresAfter (P.is_tied pages.old → HasNoOwnBytes (P.store pages.old).map numbers.old.items) result
+    ensures works { StoresAfter (P.is_tied pages.old → HasNoOwnBytes (P.store pages.old).map numbers.now) result
         (P.store pages.old) (P.store pages.new) }
-    ensures stores { P.is_tied pages.old → OnOk result (StoresCatalogue (P.store pages.old).map (P.store pages.new).map
-        numbers.old.items numbers.new.items (said_catalogue catalogue.now)) }
-    ensures stays { OnErr result (numbers.new.items ≡ numbers.old.items) }
+    ensures stores { P.is_tied pages.old → IfOk result (λ after. StoresCatalogue (P.store pages.old).map
+        (P.store pages.new).map numbers.now after.items (said_catalogue catalogue.now)) }
 {
     let mut bytes = Vec::new(alloc);
     catalogue.write(&mut bytes)?;
     let mut after = Vec::new(alloc);
-    after.extend_from_slice(numbers.as_slice())?;
+    after.extend_from_slice(numbers)?;
     let count = parts_of(bytes.len());
     grow(pages, &mut after, count)?;
     shrink(pages, &mut after, count)?;
     write_parts(pages, after.as_slice(), bytes.as_slice())?;
     pages.set_catalogue(number_from(after.as_slice(), 0), bytes.len() as u32);
-    *numbers = after;
-    Ok(())
+    Ok(after)
 }
 
 /// How many pages so many bytes need.
 fn parts_of(length: usize) -> usize
     ensures room { length ≤ result * 4080 }
-    ensures few { result ≤ length }
+    ensures few { result * 4080 < length + 4080 }
 {
     let full = length / PART_SIZE;
     if length % PART_SIZE == 0 {
@@ -130,6 +130,7 @@ fn write_part<P: Pages>(
         (P.store pages.old) (P.store pages.new) }
     ensures written { P.is_tied pages.old → OnOk result (WritesPart (P.store pages.old).map (P.store pages.new).map number
         next part.now) }
+    ensures stays { OnErr result (Rests (P.is_tied pages.old) (P.store pages.old) (P.store pages.new)) }
 {
     let page = pages.page_mut(number)?;
     put_part(page, number, next, part);

@@ -1,8 +1,10 @@
 -- Each page that came into use is one more.
-use Rattle.std.proofs.Common.{Ok, Err, refl}
+use Rattle.std.proofs.Common.{Ok, Err, [], ◌∷◌, length, refl, ap, arith}
+use Rattle.std.proofs.lemmas.List.{length-append}
 use Rattle.std.proofs.lemmas.Result.{err_from_is_err_and}
 use Rattle.rs_page.specs.declared.header.PageKind.TheVariants.{Catalogue}
 use Rattle.rs_catalog_pages.specs.Storing.{AreNotOwn}
+use Rattle.rs_catalog_pages.proofs.Fronts.{kept_pushed}
 use Rattle.rs_catalog_pages.proofs.Moving.{MovesPages-trans, not_own_before, allocated, no_list-not_own}
 use Rattle.rs_catalog_pages.proofs.Working.{NoFreeList, allocate-works, works_then, works_err, works_ok}
 use Rattle.rs_catalog_pages.proofs.placing.grow.Goals as goal
@@ -37,4 +39,6 @@ loop-pages-preserved g c =
           (c.loop-pages.invariant.moves tied)
           (allocated (g.P.Pages.store c.loop-pages.pages).map (g.P.Pages.store c.allocate.new.self).map c.in_ok-number.number c.loop-pages.numbers.items c.push.new.self.items
           (allocates.allocates later) (allocates.fresh later) allocates.after allocates.below allocates.no_fewer c.in_ok-push.ensures.items);
+      longer = omega (arith, c.loop-pages.invariant.longer, ap length c.in_ok-push.ensures.items, length-append c.loop-pages.numbers.items (c.in_ok-number.number ∷ []));
+      kept = kept_pushed c.in_ok-number.number c.args.numbers.now.items c.loop-pages.numbers.items c.push.new.self.items c.loop-pages.invariant.longer c.loop-pages.invariant.kept c.in_ok-push.ensures.items;
     }

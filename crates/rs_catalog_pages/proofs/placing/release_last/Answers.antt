@@ -1,6 +1,7 @@
 -- The last page is released, or why it isn't.
 use Rattle.std.proofs.lemmas.Result.{on_ok_weaker}
 use Rattle.rs_catalog_pages.specs.Storing.{AreNotOwn}
+use Rattle.rs_catalog_pages.proofs.Fronts.{kept_popped}
 use Rattle.rs_catalog_pages.proofs.Moving.{released, not_released-not_own}
 use Rattle.rs_catalog_pages.proofs.Working.{release-works}
 use Rattle.rs_catalog_pages.proofs.placing.release_last.Goals as goal
@@ -17,3 +18,6 @@ returns-in-Some-clause-moves g c = λ tied.
     on_ok_weaker c.release.result
     (λ releases. released (g.P.Pages.is_tied c.args.pages.now) tied (g.P.Pages.store c.args.pages.now) (g.P.Pages.store c.release.new.self) c.in-Some.number c.pop.new.self.items c.args.numbers.now.items c.in-Some.ensures.items releases)
     c.release.ensures.releases
+
+pub returns-in-Some-clause-kept : goal.returns-in-Some-clause-kept
+returns-in-Some-clause-kept g c = on_ok_weaker c.release.result (λ releases. kept_popped c.in-Some.number c.pop.new.self.items c.args.numbers.now.items c.in-Some.ensures.items) c.release.ensures.releases

@@ -2,6 +2,7 @@
 use Rattle.std.proofs.Common.{Ok, Err, arith}
 use Rattle.std.proofs.lemmas.Result.{err_from_is_err_and}
 use Rattle.rs_catalog_pages.specs.Storing.{AreNotOwn}
+use Rattle.rs_catalog_pages.proofs.Fronts.{kept_fewer}
 use Rattle.rs_catalog_pages.proofs.Moving.{MovesPages-trans, not_own_before}
 use Rattle.rs_catalog_pages.proofs.Working.{works_then, works_ok}
 use Rattle.rs_catalog_pages.proofs.placing.shrink.Goals as goal
@@ -27,4 +28,5 @@ loop-pages-preserved g c = record {
       MovesPages-trans (g.P.Pages.store c.args.pages.now).map (g.P.Pages.store c.loop-pages.pages).map (g.P.Pages.store c.release_last.new.pages).map c.args.numbers.now.items c.loop-pages.numbers.items c.release_last.new.numbers.items
       (c.loop-pages.invariant.moves tied) (c.in_ok-release_last.ensures.moves later);
   enough = omega (arith, c.in_ok-release_last.ensures.fewer, c.len.ensures, c.loop-pages-test.true);
+  kept = kept_fewer c.args.numbers.now.items c.loop-pages.numbers.items c.release_last.new.numbers.items (omega (arith, c.in_ok-release_last.ensures.fewer)) c.loop-pages.invariant.kept c.in_ok-release_last.ensures.kept;
 }

@@ -1,5 +1,5 @@
 -- The pages so far are in use where those before were.
-use Rattle.std.proofs.Common.{◌≤◌, Ok, length}
+use Rattle.std.proofs.Common.{◌≡◌, ◌≤◌, Ok, length, take}
 use Rattle.rs_owners.specs.Changes.{WorksAfter}
 use Rattle.rs_catalog_pages.specs.Storing.{MovesPages}
 use Rattle.rs_catalog_pages.proofs.placing.shrink.Given as goal
@@ -10,6 +10,7 @@ invariant-loop-pages g l = record {
   works : WorksAfter {T = Unit {0}} ⊥ (Ok tt) (g.P.Pages.store l.fn.pages) (g.P.Pages.store l.pages);
   moves : g.P.Pages.is_tied l.fn.pages → MovesPages (g.P.Pages.store l.fn.pages).map (g.P.Pages.store l.pages).map l.fn.numbers.items l.numbers.items;
   enough : l.count ≤ length l.numbers.items;
+  kept : l.numbers.items ≡ take (length l.numbers.items) l.fn.numbers.items;
 }
 
 abbrev pub decreases-loop-pages : goal.decreases-loop-pages
