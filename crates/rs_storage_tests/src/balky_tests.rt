@@ -2,59 +2,84 @@
 //! system a page takes.
 
 use crate::balky::BalkyFile;
+use crate::disk_steps::{Step, Taken, expect_all, take_all};
 use crate::expect::expect;
 use crate::fresh_path::fresh_path;
-use rs_disk::{Disk, DiskFault, FileDisk, PAGE_SIZE};
+use rs_disk::{Disk, FileDisk, PAGE_SIZE};
 use std::cell::Cell;
 use std::fs::File;
 use std::test::Fail;
 use std::{fs, io};
 
-/// Calls that may be made again after a fault, and what they read.
-fn write_cut_and_read<D: Disk>(disk: &mut D) -> Result<[u8; 10], DiskFault> {
-    disk.write(4_090, b"abcdefghijkl")?;
-    disk.sync()?;
-    disk.write(4_092, b"CDE")?;
-    disk.cut(1)?;
-    let mut bytes = [0xee; 10];
-    disk.read(4_089, &mut bytes)?;
-    Ok(bytes)
+/// Calls that may be made again after a fault: the bytes are read as written.
+static CALLS: [Step; 5] = [
+    Step::Write(4_090, b"abcdefghijkl"),
+    Step::Sync,
+    Step::Write(4_092, b"CDE"),
+    Step::Cut(1),
+    Step::Read(4_089, b"\0abCDEf\0\0\0"),
+];
+
+/// How many bytes a call of the system moves at the most, and how one call fails.
+static WAYS: [(usize, io::ErrorKind); 4] = [
+    (1, io::ErrorKind::Other),
+    (5, io::ErrorKind::Other),
+    (5, io::ErrorKind::Interrupted),
+    (100, io::ErrorKind::Interrupted),
+];
+
+fn calls() -> &'static [Step] {
+    &CALLS
+}
+
+fn ways() -> &'static [(usize, io::ErrorKind)] {
+    &WAYS
 }
 
 /// Makes the calls on a fresh file, once more where one has failed; answers whether one has.
 fn fails_once(file: BalkyFile<'_>) -> Result<bool, Fail> {
     let mut disk = FileDisk::over(file);
-    let (is_fault, bytes) = match write_cut_and_read(&mut disk) {
-        Ok(bytes) => (false, bytes),
-        Err(_) => (true, write_cut_and_read(&mut disk)?),
-    };
-    expect(
-        disk.failures() == u64::from(is_fault),
-        "each failure is counted",
-    )?;
-    expect(bytes == *b"\0abCDEf\0\0\0", "the bytes are read as written")?;
+    let mut taken = take_all(&mut disk, calls());
+    let is_fault = matches!(taken, Taken::Fault(_));
+    if is_fault {
+        taken = take_all(&mut disk, calls());
+    }
+    expect_all(taken)?;
+    let is_counted = disk.failures() == u64::from(is_fault);
+    expect(is_counted, "each failure is counted")?;
     Ok(is_fault)
+}
+
+/// Whether a call of a disk over a fresh file fails, where a call of the system does.
+fn fails_with(
+    rt: &HostRuntime,
+    path: &str,
+    (most, error): (usize, io::ErrorKind),
+    failing_call: u64,
+) -> Result<bool, Fail> {
+    let file = File::create_new(rt, path)?;
+    let calls = Cell::new(0);
+    let is_fault = fails_once(BalkyFile::new(file, most, failing_call, error, &calls))?;
+    fs::remove_file(rt, path)?;
+    Ok(is_fault)
+}
+
+/// Of how many calls of the system the failure is one of the disk, of the first 39 and none.
+fn faults(rt: &HostRuntime, path: &str, way: (usize, io::ErrorKind)) -> Result<u64, Fail> {
+    let mut faults = 0u64;
+    for failing_call in 0..40 {
+        let is_fault = fails_with(rt, path, way, failing_call)?;
+        faults = faults.saturating_add(u64::from(is_fault));
+    }
+    Ok(faults)
 }
 
 #[test]
 fn the_system_moves_few_bytes_and_fails_once(rt: HostRuntime) -> Result<(), Fail> {
     let path = fresh_path(&rt, "balky")?;
-    let ways = [
-        (1, io::ErrorKind::Other),
-        (5, io::ErrorKind::Other),
-        (5, io::ErrorKind::Interrupted),
-        (100, io::ErrorKind::Interrupted),
-    ];
-    for (most, error) in ways {
-        let mut faults = 0u64;
-        for failing_call in 0..40 {
-            let file = File::create_new(&rt, path.as_str())?;
-            let calls = Cell::new(0);
-            let is_fault = fails_once(BalkyFile::new(file, most, failing_call, error, &calls))?;
-            faults = faults.saturating_add(u64::from(is_fault));
-            fs::remove_file(&rt, path.as_str())?;
-        }
-        expect(faults > 3 && faults < 39, "some calls fail and some don't")?;
+    for way in ways() {
+        let count = faults(&rt, path.as_str(), *way)?;
+        expect(count > 3 && count < 39, "some calls fail and some don't")?;
     }
     Ok(())
 }

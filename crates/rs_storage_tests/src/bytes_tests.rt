@@ -5,6 +5,7 @@
 use crate::expect::expect;
 use crate::image::{Field, disk_of, image, made};
 use rs_disk::{Disk, PAGE_SIZE};
+use rs_measure::Refusal;
 use rs_page::{ContentKind, FileHeader, PageNumber};
 use rs_pager_judge::{Driver, TestDisk};
 use std::alloc::Global;
@@ -46,50 +47,123 @@ static FIVE_PAGES: [Field; 15] = [
     (16384, &[5, 0, 0, 0, 0, 0, 0, 4, 0, 0, 0, 2]),
 ];
 
-/// Makes of an empty file, which is closed, the one of five pages.
-fn make_five_pages(driver: &mut Driver) -> Result<(), Fail> {
-    expect(driver.open_flag() == Ok(0), "a new file is closed")?;
-    driver.set_open_flag(true)?;
-    for _ in 2..5 {
-        let _ = driver.allocate(ContentKind::Leaf)?;
-    }
-    driver.write(1, 16, b"roots")?;
-    driver.write(2, 16, b"gone")?;
-    driver.write(3, 2, &[0, 1])?;
-    driver.write(3, 16, b"leaf")?;
-    driver.write(3, 4095, b"!")?;
-    driver.release(2)?;
-    driver.set_catalogue(3, 66_052)?;
-    driver.end(true);
-    driver.write(4, 16, b"gone too")?;
-    driver.release(4)?;
-    driver.end(true);
-    driver.flush()?;
-    Ok(())
+/// A call of the pager's driver.
+#[derive(Clone, Copy)]
+enum Step {
+    Allocate(ContentKind),
+    Release(u32),
+    Write(u32, usize, &'static [u8]),
+    SetCatalogue(u32, u32),
+    /// Ends the changes, and keeps or abandons them.
+    End(bool),
+    Flush,
+    SetOpenFlag(bool),
+    /// What the open flag is.
+    OpenFlag(u8),
+    /// The pages, the first free one, how many are free, the catalogue's first page and its bytes.
+    Fields(u32, u32, u32, u32, u32),
 }
 
+/// Makes of an empty file, which is closed, the one of five pages.
+static MAKING: [Step; 17] = [
+    Step::OpenFlag(0),
+    Step::SetOpenFlag(true),
+    Step::Allocate(ContentKind::Leaf),
+    Step::Allocate(ContentKind::Leaf),
+    Step::Allocate(ContentKind::Leaf),
+    Step::Write(1, 16, b"roots"),
+    Step::Write(2, 16, b"gone"),
+    Step::Write(3, 2, &[0, 1]),
+    Step::Write(3, 16, b"leaf"),
+    Step::Write(3, 4095, b"!"),
+    Step::Release(2),
+    Step::SetCatalogue(3, 66_052),
+    Step::End(true),
+    Step::Write(4, 16, b"gone too"),
+    Step::Release(4),
+    Step::End(true),
+    Step::Flush,
+];
+
 /// Changes pages and fields, and abandons all of it; closes the file, and opens it again.
-fn change_and_abandon(driver: &mut Driver) -> Result<(), Fail> {
-    driver.write(3, 16, b"other")?;
-    driver.release(3)?;
-    driver.set_catalogue(2, 5)?;
-    for _ in 0..3 {
-        let _ = driver.allocate(ContentKind::Inner)?;
+static ABANDONING: [Step; 13] = [
+    Step::Write(3, 16, b"other"),
+    Step::Release(3),
+    Step::SetCatalogue(2, 5),
+    Step::Allocate(ContentKind::Inner),
+    Step::Allocate(ContentKind::Inner),
+    Step::Allocate(ContentKind::Inner),
+    Step::End(false),
+    Step::Flush,
+    Step::Fields(5, 4, 2, 3, 66_052),
+    Step::SetOpenFlag(false),
+    Step::OpenFlag(0),
+    Step::SetOpenFlag(true),
+    Step::OpenFlag(1),
+];
+
+fn making() -> &'static [Step] {
+    &MAKING
+}
+
+fn abandoning() -> &'static [Step] {
+    &ABANDONING
+}
+
+fn empty() -> &'static [Field] {
+    &EMPTY
+}
+
+fn five_pages() -> &'static [Field] {
+    &FIVE_PAGES
+}
+
+/// The fields of page 0.
+fn fields(
+    pages: u32,
+    first_free: u32,
+    free_pages: u32,
+    catalogue: u32,
+    catalogue_length: u32,
+) -> FileHeader {
+    FileHeader {
+        pages,
+        first_free: PageNumber::new(first_free),
+        free_pages,
+        catalogue: PageNumber::new(catalogue),
+        catalogue_length,
     }
-    driver.end(false);
-    driver.flush()?;
-    let wanted = FileHeader {
-        pages: 5,
-        first_free: PageNumber::new(4),
-        free_pages: 2,
-        catalogue: PageNumber::new(3),
-        catalogue_length: 66_052,
-    };
-    expect(driver.fields() == wanted, "the fields of page 0")?;
-    driver.set_open_flag(false)?;
-    expect(driver.open_flag() == Ok(0), "the file is closed")?;
-    driver.set_open_flag(true)?;
-    expect(driver.open_flag() == Ok(1), "the file is open")
+}
+
+/// Makes a call, and answers whether what it answers is as wanted.
+fn take(driver: &mut Driver, step: Step) -> Result<bool, Refusal> {
+    match step {
+        Step::Allocate(kind) => {
+            let _ = driver.allocate(kind)?;
+        }
+        Step::Release(number) => driver.release(number)?,
+        Step::Write(number, at, bytes) => driver.write(number, at, bytes)?,
+        Step::SetCatalogue(first, length) => driver.set_catalogue(first, length)?,
+        Step::End(is_kept) => driver.end(is_kept),
+        Step::Flush => driver.flush()?,
+        Step::SetOpenFlag(is_open) => driver.set_open_flag(is_open)?,
+        Step::OpenFlag(wanted) => return Ok(driver.open_flag()? == wanted),
+        Step::Fields(pages, first_free, free, catalogue, length) => {
+            return Ok(driver.fields() == fields(pages, first_free, free, catalogue, length));
+        }
+    }
+    Ok(true)
+}
+
+/// Makes the calls in the file on a disk, one after the other, and gives the disk back.
+fn taken(alloc: Global, disk: TestDisk, steps: &[Step]) -> Result<TestDisk, Fail> {
+    let mut driver = made(Driver::open(alloc, disk, LIMIT))?;
+    for (k, step) in steps.iter().enumerate() {
+        if take(&mut driver, *step) != Ok(true) {
+            return Err(Fail::new(format_args!("not as wanted: step {k}, from 0")));
+        }
+    }
+    Ok(driver.into_disk())
 }
 
 /// Asserts that the disk holds these bytes and nothing more.
@@ -105,16 +179,13 @@ fn expect_image(alloc: Global, disk: &mut TestDisk, fields: &[Field]) -> Result<
 
 #[test]
 fn each_byte_of_a_file_is_as_stated(rt: HostRuntime) -> Result<(), Fail> {
-    let old = vec![in rt.alloc(); 0xee_u8; 20_580]?;
-    let disk = disk_of(rt.alloc(), old.as_slice(), 0)?;
-    let mut disk = made(Driver::create(rt.alloc(), disk, LIMIT))?.into_disk();
-    expect_image(rt.alloc(), &mut disk, &EMPTY)?;
-    let mut driver = made(Driver::open(rt.alloc(), disk, LIMIT))?;
-    make_five_pages(&mut driver)?;
-    let mut disk = driver.into_disk();
-    expect_image(rt.alloc(), &mut disk, &FIVE_PAGES)?;
-    let mut driver = made(Driver::open(rt.alloc(), disk, LIMIT))?;
-    change_and_abandon(&mut driver)?;
-    let mut disk = driver.into_disk();
-    expect_image(rt.alloc(), &mut disk, &FIVE_PAGES)
+    let alloc = rt.alloc();
+    let old = vec![in alloc; 0xee_u8; 20_580]?;
+    let disk = disk_of(alloc, old.as_slice(), 0)?;
+    let mut disk = made(Driver::create(alloc, disk, LIMIT))?.into_disk();
+    expect_image(alloc, &mut disk, empty())?;
+    let mut disk = taken(alloc, disk, making())?;
+    expect_image(alloc, &mut disk, five_pages())?;
+    let mut disk = taken(alloc, disk, abandoning())?;
+    expect_image(alloc, &mut disk, five_pages())
 }

@@ -3,7 +3,6 @@
 //! One byte of a stated file is changed at a time. Page 0 is refused at the opening, another page where it is asked for, and the
 //! free list where a page is wanted.
 
-use crate::expect::expect;
 use crate::image::{Field, disk_of, image, made, put};
 use rs_measure::Refusal;
 use rs_page::ContentKind;
@@ -31,77 +30,139 @@ static FILE: [Field; 12] = [
     (20480, &[5, 0, 0, 0, 0, 0, 0, 5]),
 ];
 
-/// A page, a byte in it, the value that is put there, and why it doesn't fit.
-type Damage = (u32, usize, u8, &'static str);
+/// A page, a byte in it, and the value that is put there, which doesn't fit.
+type Damage = (u32, usize, u8);
 
 /// Bytes of page 0 with which it is no header of this file.
 static NO_FILE_HEADER: [Damage; 22] = [
-    (0, 0, 0, "no kind"),
-    (0, 0, 2, "a leaf"),
-    (0, 0, 7, "no kind has this number"),
-    (0, 1, 1, "a spare byte"),
-    (0, 3, 1, "a count"),
-    (0, 7, 1, "another page's number"),
-    (0, 11, 2, "a next page"),
-    (0, 12, 1, "a spare byte"),
-    (0, 15, 1, "a spare byte"),
-    (0, 16, b'r', "no such mark"),
-    (0, 23, b'2', "no such mark"),
-    (0, 24, 1, "no such format"),
-    (0, 27, 0, "no such format"),
-    (0, 27, 2, "no such format yet"),
-    (0, 29, 1, "a spare byte"),
-    (0, 31, 1, "a spare byte"),
-    (0, 35, 0, "no page at all"),
-    (0, 35, 1, "no directory"),
-    (0, 35, 7, "more pages than there are"),
-    (0, 32, 1, "more pages than there may be"),
-    (0, 52, 1, "bytes after the fields"),
-    (0, 4095, 1, "bytes after the fields"),
+    // no kind
+    (0, 0, 0),
+    // a leaf
+    (0, 0, 2),
+    // no kind has this number
+    (0, 0, 7),
+    // a spare byte
+    (0, 1, 1),
+    // a count
+    (0, 3, 1),
+    // another page's number
+    (0, 7, 1),
+    // a next page
+    (0, 11, 2),
+    // a spare byte
+    (0, 12, 1),
+    // a spare byte
+    (0, 15, 1),
+    // no such mark
+    (0, 16, b'r'),
+    // no such mark
+    (0, 23, b'2'),
+    // no such format
+    (0, 24, 1),
+    // no such format
+    (0, 27, 0),
+    // no such format yet
+    (0, 27, 2),
+    // a spare byte
+    (0, 29, 1),
+    // a spare byte
+    (0, 31, 1),
+    // no page at all
+    (0, 35, 0),
+    // no directory
+    (0, 35, 1),
+    // more pages than there are
+    (0, 35, 7),
+    // more pages than there may be
+    (0, 32, 1),
+    // bytes after the fields
+    (0, 52, 1),
+    // bytes after the fields
+    (0, 4095, 1),
 ];
 
 /// Bytes with which a page doesn't fit its kind and number, or the free list is none.
 static DAMAGED_PAGES: [Damage; 40] = [
-    (1, 0, 4, "no directory"),
-    (1, 0, 1, "a header that isn't page 0"),
-    (1, 3, 1, "a count"),
-    (1, 7, 2, "another page's number"),
-    (1, 11, 2, "a next page"),
-    (1, 1, 1, "a spare byte"),
-    (2, 0, 0, "no kind"),
-    (2, 0, 7, "no kind has this number"),
-    (2, 0, 255, "no kind has this number"),
-    (2, 0, 1, "a header that isn't page 0"),
-    (2, 0, 6, "a directory that isn't page 1"),
-    (2, 3, 0xf1, "more bytes than a page has room for"),
-    (2, 2, 0x10, "more bytes than a page has room for"),
-    (2, 4, 1, "another page's number"),
-    (2, 7, 3, "another page's number"),
-    (2, 11, 1, "the directory as a next page"),
-    (2, 11, 6, "a next page past the count"),
-    (2, 8, 1, "a next page past the count"),
-    (2, 13, 1, "a spare byte"),
-    (3, 0, 3, "an inner page of one entry"),
-    (3, 3, 0, "a leaf of no cell"),
-    (3, 7, 0, "another page's number"),
-    (3, 11, 2, "a next page of a leaf"),
-    (3, 1, 255, "a spare byte"),
-    (3, 12, 1, "a spare byte"),
-    (3, 15, 1, "a spare byte"),
-    (4, 3, 1, "an inner page of one entry"),
-    (4, 3, 0, "an inner page of no entry"),
-    (4, 10, 1, "a next page of an inner page"),
-    (4, 7, 5, "another page's number"),
-    (4, 0, 5, "a free page with a count"),
-    (4, 14, 1, "a spare byte"),
-    (5, 0, 4, "a page in use"),
-    (5, 3, 1, "a count"),
-    (5, 7, 4, "another page's number"),
-    (5, 11, 1, "the directory as a next page"),
-    (5, 11, 6, "a next page past the count"),
-    (5, 12, 1, "a spare byte"),
-    (0, 39, 6, "a first free page past the count"),
-    (0, 39, 2, "a first free page that is in use"),
+    // no directory
+    (1, 0, 4),
+    // a header that isn't page 0
+    (1, 0, 1),
+    // a count
+    (1, 3, 1),
+    // another page's number
+    (1, 7, 2),
+    // a next page
+    (1, 11, 2),
+    // a spare byte
+    (1, 1, 1),
+    // no kind
+    (2, 0, 0),
+    // no kind has this number
+    (2, 0, 7),
+    // no kind has this number
+    (2, 0, 255),
+    // a header that isn't page 0
+    (2, 0, 1),
+    // a directory that isn't page 1
+    (2, 0, 6),
+    // more bytes than a page has room for
+    (2, 3, 0xf1),
+    // more bytes than a page has room for
+    (2, 2, 0x10),
+    // another page's number
+    (2, 4, 1),
+    // another page's number
+    (2, 7, 3),
+    // the directory as a next page
+    (2, 11, 1),
+    // a next page past the count
+    (2, 11, 6),
+    // a next page past the count
+    (2, 8, 1),
+    // a spare byte
+    (2, 13, 1),
+    // an inner page of one entry
+    (3, 0, 3),
+    // a leaf of no cell
+    (3, 3, 0),
+    // another page's number
+    (3, 7, 0),
+    // a next page of a leaf
+    (3, 11, 2),
+    // a spare byte
+    (3, 1, 255),
+    // a spare byte
+    (3, 12, 1),
+    // a spare byte
+    (3, 15, 1),
+    // an inner page of one entry
+    (4, 3, 1),
+    // an inner page of no entry
+    (4, 3, 0),
+    // a next page of an inner page
+    (4, 10, 1),
+    // another page's number
+    (4, 7, 5),
+    // a free page with a count
+    (4, 0, 5),
+    // a spare byte
+    (4, 14, 1),
+    // a page in use
+    (5, 0, 4),
+    // a count
+    (5, 3, 1),
+    // another page's number
+    (5, 7, 4),
+    // the directory as a next page
+    (5, 11, 1),
+    // a next page past the count
+    (5, 11, 6),
+    // a spare byte
+    (5, 12, 1),
+    // a first free page past the count
+    (0, 39, 6),
+    // a first free page that is in use
+    (0, 39, 2),
 ];
 
 fn no_file_header() -> &'static [Damage] {
@@ -119,33 +180,56 @@ fn file(alloc: Global) -> Result<Vec<u8>, AllocError> {
 
 /// The bytes of the file with one of them changed.
 fn damaged(alloc: Global, damage: &Damage) -> Result<Vec<u8>, Fail> {
-    let (page, offset, value, _) = *damage;
+    let (page, offset, value) = *damage;
     let mut bytes = file(alloc)?;
     let at = (page as usize).saturating_mul(4096).saturating_add(offset);
     put(&mut bytes, at, &[value]);
     Ok(bytes)
 }
 
-/// Asserts that these bytes are no file of at most `limit` pages.
-fn expect_no_file(alloc: Global, bytes: &[u8], limit: u32, why: &str) -> Result<(), Fail> {
-    let answer = Driver::open(alloc, disk_of(alloc, bytes, 0)?, limit);
-    expect(matches!(answer, Err((_, Refusal::DamagedFile))), why)
+/// Whether these bytes are no file of at most `limit` pages.
+fn is_no_file(alloc: Global, bytes: &[u8], limit: u32) -> Result<bool, Fail> {
+    match Driver::open(alloc, disk_of(alloc, bytes, 0)?, limit) {
+        Ok(_) => Ok(false),
+        Err((_, Refusal::DamagedFile)) => Ok(true),
+        Err(_) => Err("refused, but not as damaged".into()),
+    }
+}
+
+/// Expects what a row of a table says.
+fn expect_row(is_right: bool, row: usize) -> Result<(), Fail> {
+    if is_right {
+        Ok(())
+    } else {
+        Err(Fail::new(format_args!("not so: row {row}, from 0")))
+    }
 }
 
 #[test]
 fn a_disk_that_holds_no_file_is_refused(rt: HostRuntime) -> Result<(), Fail> {
-    for damage in no_file_header() {
+    for (row, damage) in no_file_header().iter().enumerate() {
         let bytes = damaged(rt.alloc(), damage)?;
-        expect_no_file(rt.alloc(), bytes.as_slice(), 8, damage.3)?;
+        expect_row(is_no_file(rt.alloc(), bytes.as_slice(), 8)?, row)?;
     }
+    Ok(())
+}
+
+/// How many bytes of the file a disk has, how many pages there may be, and whether it is refused.
+static LENGTHS: [(usize, u32, bool); 4] = [
+    (24_576, 5, true),
+    (24_575, 8, true),
+    (0, 8, true),
+    (24_576, 6, false),
+];
+
+#[test]
+fn a_disk_that_is_too_short_or_too_long_is_refused(rt: HostRuntime) -> Result<(), Fail> {
     let bytes = file(rt.alloc())?;
-    expect_no_file(rt.alloc(), bytes.as_slice(), 5, "a lower limit")?;
-    let cut = bytes.get(..24_575).unwrap_or(&[]);
-    expect_no_file(rt.alloc(), cut, 8, "a byte is missing")?;
-    expect_no_file(rt.alloc(), &[], 8, "an empty disk")?;
-    let disk = disk_of(rt.alloc(), bytes.as_slice(), 0)?;
-    let answer = Driver::open(rt.alloc(), disk, 6);
-    expect(answer.is_ok(), "a limit that is enough")
+    for (row, (length, limit, is_refused)) in LENGTHS.iter().enumerate() {
+        let bytes = bytes.get(..*length).ok_or("bytes of the file")?;
+        expect_row(is_no_file(rt.alloc(), bytes, *limit)? == *is_refused, row)?;
+    }
+    Ok(())
 }
 
 /// Whether a page that is asked for is as stated.
@@ -159,33 +243,34 @@ fn is_as_stated(driver: &mut Driver, bytes: &[u8], number: u32) -> Result<bool, 
     Ok(wanted == Some(page.bytes.as_slice()))
 }
 
-/// Asserts that the damaged page is refused, and that each other page is as stated. Page 5 is the free one, which comes into
+/// Whether the damaged page is refused, and each other page is as stated. Page 5 is the free one, which comes into
 /// use where neither it nor page 0 is damaged.
-fn expect_one_damaged(driver: &mut Driver, bytes: &[u8], damage: &Damage) -> Result<(), Fail> {
-    let (damaged, _, _, why) = *damage;
+fn is_one_damaged(driver: &mut Driver, bytes: &[u8], damaged: u32) -> bool {
+    let mut is_right = true;
     for number in 1..6 {
         let wanted = if number == damaged {
             Err(Refusal::DamagedFile)
         } else {
             Ok(true)
         };
-        expect(is_as_stated(driver, bytes, number) == wanted, why)?;
+        is_right = is_right && is_as_stated(driver, bytes, number) == wanted;
     }
     let wanted = if damaged == 0 || damaged == 5 {
         Err(Refusal::DamagedFile)
     } else {
         Ok(5)
     };
-    expect(driver.allocate(ContentKind::Leaf) == wanted, why)
+    is_right && driver.allocate(ContentKind::Leaf) == wanted
 }
 
 #[test]
 fn a_damaged_page_is_refused(rt: HostRuntime) -> Result<(), Fail> {
-    for damage in damaged_pages() {
+    for (row, damage) in damaged_pages().iter().enumerate() {
         let bytes = damaged(rt.alloc(), damage)?;
         let disk = disk_of(rt.alloc(), bytes.as_slice(), 0)?;
         let mut driver = made(Driver::open(rt.alloc(), disk, 8))?;
-        expect_one_damaged(&mut driver, bytes.as_slice(), damage)?;
+        let is_right = is_one_damaged(&mut driver, bytes.as_slice(), damage.0);
+        expect_row(is_right, row)?;
     }
     Ok(())
 }

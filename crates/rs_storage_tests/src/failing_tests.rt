@@ -3,7 +3,7 @@
 
 use crate::expect::expect;
 use crate::image::disk_of;
-use rs_disk::{Disk, FailedCut, FailingDisk, MemoryDisk, PAGE_SIZE};
+use rs_disk::{Disk, DiskFault, FailedCut, FailingDisk, MemoryDisk, PAGE_SIZE};
 use rs_pager_judge::{AfterRefusal, Judge, TestDisk, script_calls};
 use std::alloc::Global;
 use std::test::Fail;
@@ -55,14 +55,22 @@ fn pages_after_a_failed_cut(alloc: Global, failed_cut: FailedCut) -> Result<u32,
 }
 
 #[test]
-fn what_a_failed_call_leaves(rt: HostRuntime) -> Result<(), Fail> {
-    let alloc = rt.alloc();
-    let mut disk = two_pages(alloc, FailedCut::Done)?;
-    expect(disk.write(1, b"wxyz").is_err(), "the write fails")?;
+fn a_failed_cut_is_done_or_not_as_was_said(rt: HostRuntime) -> Result<(), Fail> {
+    let done = pages_after_a_failed_cut(rt.alloc(), FailedCut::Done)?;
+    let not_done = pages_after_a_failed_cut(rt.alloc(), FailedCut::NotDone)?;
+    expect(done == 1 && not_done == 2, "one page is left, or two")
+}
+
+/// The first six bytes of a disk.
+fn start(disk: &mut TestDisk) -> Result<[u8; 6], DiskFault> {
     let mut start = [0; 6];
     disk.read(0, &mut start)?;
-    expect(start == *b"awxaaa", "half the range is written")?;
-    let done = pages_after_a_failed_cut(alloc, FailedCut::Done)?;
-    let not_done = pages_after_a_failed_cut(alloc, FailedCut::NotDone)?;
-    expect(done == 1 && not_done == 2, "it is done or not, as was said")
+    Ok(start)
+}
+
+#[test]
+fn a_failed_write_leaves_half_its_range(rt: HostRuntime) -> Result<(), Fail> {
+    let mut disk = two_pages(rt.alloc(), FailedCut::Done)?;
+    expect(disk.write(1, b"wxyz").is_err(), "the write fails")?;
+    expect(start(&mut disk)? == *b"awxaaa", "half the range is written")
 }

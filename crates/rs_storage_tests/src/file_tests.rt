@@ -2,121 +2,116 @@
 //!
 //! What a disk in memory does with its bytes is proved; that a file does the same is tested.
 
+use crate::disk_steps::{Step, expect_all, take_all};
 use crate::expect::expect;
 use crate::fresh_path::fresh_path;
 use rs_disk::{Disk, DiskFault, FileDisk, PAGE_SIZE};
-use std::alloc::Global;
 use std::fs;
 use std::test::Fail;
 
-/// Six bytes of a disk from an offset on.
-fn six_bytes(disk: &mut FileDisk, at: u64) -> Result<[u8; 6], DiskFault> {
-    let mut bytes = [0xee; 6];
-    disk.read(at, &mut bytes)?;
-    Ok(bytes)
+/// Calls of an empty disk, which is two pages and a byte long then.
+static MADE: [Step; 20] = [
+    Step::Pages(0),
+    // zeros before and past the end, and of the second page there are two bytes
+    Step::Write(4_095, b"abc"),
+    Step::Read(4_094, b"\0abc\0\0\0\0\0\0"),
+    Step::Pages(1),
+    // a write of no bytes makes nothing longer
+    Step::Write(1 << 40, b""),
+    Step::Pages(1),
+    // the last write shows, and the first one
+    Step::Write(10_001, b"xyz"),
+    Step::Write(10_002, b"Y"),
+    Step::Sync,
+    Step::Read(10_000, b"\0xYz\0\0\0\0\0\0"),
+    Step::Read(4_094, b"\0abc\0\0\0\0\0\0"),
+    // a cut makes nothing longer, nor drops a part of a page
+    Step::Cut(7),
+    Step::Pages(2),
+    Step::Read(10_000, b"\0xYz\0\0\0\0\0\0"),
+    Step::Cut(1),
+    Step::Pages(1),
+    // what was cut is gone
+    Step::Write(8_192, b"!"),
+    Step::Sync,
+    Step::Read(4_094, b"\0a\0\0\0\0\0\0\0\0"),
+    Step::Failures(0),
+];
+
+/// Calls of the same disk, opened again: the bytes are kept, all are cut, and no file reaches as far as the last write.
+static KEPT: [Step; 5] = [
+    Step::Pages(2),
+    Step::Read(8_192, b"!\0\0\0\0\0\0\0\0\0"),
+    Step::Cut(0),
+    Step::NoWrite(u64::MAX, b"ab"),
+    Step::Failures(1),
+];
+
+/// Calls of a disk over a file of 100 bytes: no page is whole, and zeros follow the bytes.
+static SHORT: [Step; 2] = [
+    Step::Pages(0),
+    Step::Read(97, b"\x07\x07\x07\0\0\0\0\0\0\0"),
+];
+
+fn made() -> &'static [Step] {
+    &MADE
 }
 
-/// Writes and reads on an empty disk, which has two pages and a part of a third then.
-fn write_and_read(disk: &mut FileDisk) -> Result<(), Fail> {
-    expect(disk.pages() == 0, "an empty disk has no page")?;
-    disk.write(4095, b"abc")?;
-    expect(
-        six_bytes(disk, 4094)? == *b"\0abc\0\0",
-        "zeros before and past the end",
-    )?;
-    expect(disk.pages() == 1, "of the second page there are two bytes")?;
-    disk.write(1 << 40, b"")?;
-    expect(
-        disk.pages() == 1,
-        "a write of no bytes makes nothing longer",
-    )?;
-    disk.write(10_001, b"xyz")?;
-    disk.write(10_002, b"Y")?;
-    disk.sync()?;
-    expect(
-        six_bytes(disk, 10_000)? == *b"\0xYz\0\0",
-        "the last write shows",
-    )?;
-    expect(six_bytes(disk, 4094)? == *b"\0abc\0\0", "and the first one")
+fn kept() -> &'static [Step] {
+    &KEPT
 }
 
-/// Cuts the disk of `write_and_read`, and makes it three pages long again.
-fn cut_and_read(disk: &mut FileDisk) -> Result<(), Fail> {
-    disk.cut(7)?;
-    expect(disk.pages() == 2, "a cut makes nothing longer")?;
-    expect(
-        six_bytes(disk, 10_000)? == *b"\0xYz\0\0",
-        "nor drops a part of a page",
-    )?;
-    disk.cut(1)?;
-    expect(disk.pages() == 1, "a cut to one page")?;
-    disk.write(8_192, b"!")?;
-    disk.sync()?;
-    expect(
-        six_bytes(disk, 4094)? == *b"\0a\0\0\0\0",
-        "what was cut is gone",
-    )?;
-    expect(disk.failures() == 0, "nothing has failed")
+fn short() -> &'static [Step] {
+    &SHORT
 }
 
-/// Cuts all of a disk that was opened again, and writes where no file reaches.
-fn read_and_cut_all(disk: &mut FileDisk) -> Result<(), Fail> {
-    expect(disk.pages() == 2, "as many pages as before")?;
-    expect(
-        six_bytes(disk, 8_192)? == *b"!\0\0\0\0\0",
-        "the bytes are kept",
-    )?;
-    disk.cut(0)?;
-    expect(disk.write(u64::MAX, b"ab").is_err(), "no file is so long")?;
-    expect(disk.failures() == 1, "the write has failed")
+/// Makes the calls, one after the other, and closes the file.
+fn take(mut disk: FileDisk, steps: &[Step]) -> Result<(), Fail> {
+    expect_all(take_all(&mut disk, steps))
 }
 
 #[test]
 fn a_file_keeps_its_bytes(rt: HostRuntime) -> Result<(), Fail> {
     let path = fresh_path(&rt, "kept")?;
-    let mut disk = FileDisk::create(&rt, path.as_str())?;
-    write_and_read(&mut disk)?;
-    cut_and_read(&mut disk)?;
-    drop(disk);
-    let mut disk = FileDisk::open(&rt, path.as_str())?;
-    read_and_cut_all(&mut disk)?;
-    drop(disk);
-    expect(fs::metadata(&rt, path.as_str())?.len() == 0, "all was cut")?;
-    fs::write(&rt, path.as_str(), [7u8; 100].as_slice())?;
-    let mut disk = FileDisk::open(&rt, path.as_str())?;
-    expect(disk.pages() == 0, "no page of 100 bytes is whole")?;
-    expect(
-        six_bytes(&mut disk, 97)? == *b"\x07\x07\x07\0\0\0",
-        "zeros follow",
-    )?;
-    fs::remove_file(&rt, path.as_str())?;
+    let path = path.as_str();
+    take(FileDisk::create(&rt, path)?, made())?;
+    take(FileDisk::open(&rt, path)?, kept())?;
+    expect(fs::metadata(&rt, path)?.len() == 0, "all was cut")?;
+    fs::write(&rt, path, [7u8; 100].as_slice())?;
+    take(FileDisk::open(&rt, path)?, short())?;
+    fs::remove_file(&rt, path)?;
     Ok(())
 }
 
-/// Writes 40 pages, the last one first, and then reads each.
-fn write_whole_pages(alloc: Global, disk: &mut FileDisk) -> Result<(), Fail> {
-    let mut page = vec![in alloc; 0u8; PAGE_SIZE]?;
+/// Writes 40 pages, the last one first.
+fn write_whole_pages(disk: &mut FileDisk, page: &mut [u8]) -> Result<(), DiskFault> {
     for number in (0..40u8).rev() {
         page.fill(number);
-        disk.write(u64::from(number) * 4_096, page.as_slice())?;
+        disk.write(u64::from(number) * 4_096, page)?;
     }
-    let mut wanted = vec![in alloc; 0u8; PAGE_SIZE]?;
+    Ok(())
+}
+
+/// Whether each of 40 pages is read as it was written.
+fn are_whole_pages(disk: &mut FileDisk, page: &mut [u8]) -> Result<bool, DiskFault> {
     for number in 0..40u8 {
-        wanted.fill(number);
-        disk.read(u64::from(number) * 4_096, page.as_mut_slice())?;
-        expect(
-            page.as_slice() == wanted.as_slice(),
-            "a page is read as written",
-        )?;
+        page.fill(0xee);
+        disk.read(u64::from(number) * 4_096, page)?;
+        if page.iter().any(|byte| *byte != number) {
+            return Ok(false);
+        }
     }
-    expect(disk.pages() == 40, "as many pages as were written")
+    Ok(disk.pages() == 40)
 }
 
 #[test]
 fn a_file_is_written_and_read_by_whole_pages(rt: HostRuntime) -> Result<(), Fail> {
     let path = fresh_path(&rt, "pages")?;
     let mut disk = FileDisk::create(&rt, path.as_str())?;
-    write_whole_pages(rt.alloc(), &mut disk)?;
+    let mut page = vec![in rt.alloc(); 0u8; PAGE_SIZE]?;
+    write_whole_pages(&mut disk, page.as_mut_slice())?;
+    let are_read = are_whole_pages(&mut disk, page.as_mut_slice())?;
+    expect(are_read, "pages are read as written")?;
     fs::remove_file(&rt, path.as_str())?;
     Ok(())
 }

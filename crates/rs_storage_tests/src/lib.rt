@@ -13,6 +13,8 @@ mod bytes_tests;
 #[cfg(test)]
 mod damage_tests;
 #[cfg(test)]
+mod disk_steps;
+#[cfg(test)]
 mod expect;
 #[cfg(test)]
 mod failing_tests;

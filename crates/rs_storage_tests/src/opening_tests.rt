@@ -22,6 +22,11 @@ fn expect_unmade(rt: &HostRuntime, path: &str, why: OpenError) -> Result<(), Fai
     }
 }
 
+/// Whether the file at a path has this text.
+fn is_text(rt: &HostRuntime, path: &str, wanted: &str) -> Result<bool, Fail> {
+    Ok(fs::read_to_string(rt, path)?.as_str() == wanted)
+}
+
 #[test]
 fn opening_says_what_is_there(rt: HostRuntime) -> Result<(), Fail> {
     let path = fresh_path(&rt, "opened")?;
@@ -29,14 +34,24 @@ fn opening_says_what_is_there(rt: HostRuntime) -> Result<(), Fail> {
     expect_unopened(&rt, path, OpenError::Missing)?;
     fs::write(&rt, path, "kept")?;
     expect_unmade(&rt, path, OpenError::Exists)?;
-    expect(
-        fs::read_to_string(&rt, path)?.as_str() == "kept",
-        "what is there is left",
-    )?;
-    let below = format!(in rt.alloc(); "{path}/below")?;
+    expect(is_text(&rt, path, "kept")?, "what is there is left")?;
+    fs::remove_file(&rt, path)?;
+    Ok(())
+}
+
+#[test]
+fn no_file_is_below_a_file(rt: HostRuntime) -> Result<(), Fail> {
+    let path = fresh_path(&rt, "above")?;
+    fs::write(&rt, path.as_str(), "kept")?;
+    let below = format!(in rt.alloc(); "{}/below", path.as_str())?;
     expect_unmade(&rt, below.as_str(), OpenError::CannotOpen)?;
     expect_unopened(&rt, below.as_str(), OpenError::CannotOpen)?;
-    fs::remove_file(&rt, path)?;
+    fs::remove_file(&rt, path.as_str())?;
+    Ok(())
+}
+
+#[test]
+fn a_folder_is_no_file(rt: HostRuntime) -> Result<(), Fail> {
     let folder = env::temp_dir(&rt)?;
     expect_unopened(&rt, folder.as_str(), OpenError::CannotOpen)?;
     expect_unmade(&rt, folder.as_str(), OpenError::Exists)
@@ -53,10 +68,7 @@ fn a_file_has_one_disk_at_a_time(rt: HostRuntime) -> Result<(), Fail> {
     let second = FileDisk::open(&rt, path)?;
     expect_unopened(&rt, path, OpenError::InUse)?;
     drop(second);
-    expect(
-        fs::read_to_string(&rt, path)?.as_str() == "first",
-        "and the bytes stay",
-    )?;
+    expect(is_text(&rt, path, "first")?, "and the bytes stay")?;
     fs::remove_file(&rt, path)?;
     Ok(())
 }

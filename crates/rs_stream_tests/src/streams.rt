@@ -1,6 +1,5 @@
 //! A reader and a writer of a test: they move bytes in pieces of one size, and may fail.
 
-use std::alloc::Global;
 use std::io;
 use std::io::{ErrorKind, Read, Write};
 
@@ -57,25 +56,5 @@ impl Write for Narrow {
     fn flush(&mut self) -> io::Result<()> {
         self.written.clear();
         Ok(())
-    }
-}
-
-/// A reader that does not fail.
-pub fn reader_of(rest: &[u8], size: usize) -> Pieces<'_> {
-    Pieces {
-        rest,
-        size,
-        reads_before_fault: usize::MAX,
-        kind: ErrorKind::Other,
-    }
-}
-
-/// A writer that does not fail.
-pub fn writer_of(alloc: Global, size: usize) -> Narrow {
-    Narrow {
-        written: Vec::new(alloc),
-        size,
-        room: usize::MAX,
-        fault: None,
     }
 }

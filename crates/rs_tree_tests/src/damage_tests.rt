@@ -1,6 +1,7 @@
 //! Each byte of a small tree's pages changed in turn: what is there then is found to be a tree still, or none, and each
 //! call of the tree is answered, or refused as damaged where there is none.
 
+use crate::expect::expect;
 use crate::one_tree::OneTree;
 use rs_measure::Refusal;
 use std::alloc::Global;
@@ -110,38 +111,37 @@ fn may_be(at: usize, is_tree: bool) -> bool {
     (at >= HEADER || !is_tree) && (at < HELD || is_tree)
 }
 
+/// Changes a byte, and answers whether it is found to matter.
+fn matters(alloc: Global, tree: &mut OneTree, damage: Damage) -> Result<bool, Fail> {
+    let answer = answer_with(alloc, tree, damage, Call::Validate);
+    let is_tree = answer.is_ok();
+    let is_right = is_tree || answer == Err(Refusal::DamagedFile);
+    let is_right = is_right && may_be(damage.at, is_tree);
+    expect(is_right, "what is found at byte", damage.at)?;
+    let are_held = are_held(alloc, tree, damage, is_tree);
+    expect(are_held, "calls at byte", damage.at)?;
+    Ok(!is_tree)
+}
+
 /// Changes each byte of a page, and answers how many are found to matter.
-fn change_each(
-    rt: &impl std::process::Abort,
-    alloc: Global,
-    tree: &mut OneTree,
-    page: u32,
-) -> Result<u32, Fail> {
+fn change_each(alloc: Global, tree: &mut OneTree, page: u32) -> Result<u32, Fail> {
     let mut told = 0u32;
     for at in 0..4_096usize {
         let mask = 1u8 << (at % 8);
-        let damage = Damage { page, at, mask };
-        let answer = answer_with(alloc, tree, damage, Call::Validate);
-        let is_tree = answer.is_ok();
-        let is_right = is_tree || answer == Err(Refusal::DamagedFile);
-        assert!(rt; is_right && may_be(at, is_tree), "page {page}, byte {at}");
-        assert!(rt;
-            are_held(alloc, tree, damage, is_tree),
-            "calls at page {page}, byte {at}"
-        );
-        told = told.saturating_add(u32::from(!is_tree));
+        let is_told = matters(alloc, tree, Damage { page, at, mask })?;
+        told = told.saturating_add(u32::from(is_told));
     }
     Ok(told)
 }
 
 #[test]
 fn a_changed_byte_leaves_a_tree_or_none(rt: HostRuntime) -> Result<(), Fail> {
-    let mut tree = small_tree(rt.alloc())?;
-    assert_eq!(rt; tree.driver.pages(), (9, 0));
+    let alloc = rt.alloc();
+    let mut tree = small_tree(alloc)?;
+    expect(tree.driver.pages() == (9, 0), "pages", 9)?;
     for page in 2..9 {
-        let told = change_each(&rt, rt.alloc(), &mut tree, page)?;
-        assert!(rt; told > 1_000, "page {page}: {told}");
+        let told = change_each(alloc, &mut tree, page)?;
+        expect(told > 1_000, "bytes that matter in page", page as usize)?;
     }
-    assert_eq!(rt; tree.lost_pages(rt.alloc())?, 0);
-    Ok(())
+    expect(tree.lost_pages(alloc)? == 0, "lost pages", 0)
 }

@@ -3,6 +3,7 @@
 
 ghost use Rattle.std.specs.Prelude.{◌≡◌};
 
+use crate::expect::expect;
 use rs_btree::Tree;
 use rs_interval::{GreatestEnd, overlapping};
 use rs_measure::Refusal;
@@ -82,22 +83,36 @@ static WINDOWS: [(u32, u32, u32, &[usize], u32); 8] = [
     (1, 500, 1_000, &[], 2),
 ];
 
-/// A page, an offset in it, the byte that is put there, and why there is no tree then.
-static DAMAGES: [(u32, usize, u8, &str); 14] = [
-    (4, 23, 0xb7, "a greatest end that is too low"),
-    (4, 23, 0xb9, "a greatest end that is too high"),
-    (4, 60, 254, "a least cell that the leaf doesn't have"),
-    (4, 19, 3, "one leaf twice"),
-    (4, 64, 2, "one leaf twice"),
-    (4, 19, 4, "a page below itself"),
-    (4, 19, 1, "the directory as a leaf"),
-    (4, 19, 5, "a page that isn't there"),
-    (4, 3, 1, "an inner page of one entry"),
-    (4, 3, 3, "an entry of zeros"),
-    (3, 0, 3, "cells as entries"),
-    (2, 3, 2, "a leaf without its greatest end"),
-    (2, 59, 9, "two cells that don't ascend"),
-    (3, 22, 12, "a leaf with another least cell"),
+/// A page, an offset in it, and the byte that is put there. There is no tree then.
+static DAMAGES: [(u32, usize, u8); 14] = [
+    // a greatest end that is too low
+    (4, 23, 0xb7),
+    // a greatest end that is too high
+    (4, 23, 0xb9),
+    // a least cell that the leaf doesn't have
+    (4, 60, 254),
+    // one leaf twice
+    (4, 19, 3),
+    // one leaf twice
+    (4, 64, 2),
+    // a page below itself
+    (4, 19, 4),
+    // the directory as a leaf
+    (4, 19, 1),
+    // a page that isn't there
+    (4, 19, 5),
+    // an inner page of one entry
+    (4, 3, 1),
+    // an entry of zeros
+    (4, 3, 3),
+    // cells as entries
+    (3, 0, 3),
+    // a leaf without its greatest end
+    (2, 3, 2),
+    // two cells that don't ascend
+    (2, 59, 9),
+    // a leaf with another least cell
+    (3, 22, 12),
 ];
 
 /// Bytes of which any is one of a tree: when a record was removed, and bytes after the last cell and the last entry.
@@ -119,7 +134,7 @@ fn windows() -> &'static [(u32, u32, u32, &'static [usize], u32)] {
     &WINDOWS
 }
 
-fn damages() -> &'static [(u32, usize, u8, &'static str)] {
+fn damages() -> &'static [(u32, usize, u8)] {
     &DAMAGES
 }
 
@@ -143,11 +158,17 @@ fn put(pages: &mut PlainPages, number: u32, at: usize, bytes: &[u8]) -> Result<(
     Ok(())
 }
 
+/// An empty file.
+fn no_pages(alloc: Global) -> Result<PlainPages, Refusal> {
+    match PlainPages::new(alloc, 10) {
+        Ok(pages) => Ok(pages),
+        Err(_) => Err(Refusal::OutOfMemory),
+    }
+}
+
 /// The three pages.
 fn by_hand(alloc: Global) -> Result<PlainPages, Refusal> {
-    let Ok(mut pages) = PlainPages::new(alloc, 10) else {
-        return Err(Refusal::OutOfMemory);
-    };
+    let mut pages = no_pages(alloc)?;
     write_by_hand(&mut pages)?;
     Ok(pages)
 }
@@ -167,10 +188,10 @@ fn write_by_hand(pages: &mut PlainPages) -> Result<(), Refusal> {
 }
 
 /// The tree with this root.
-fn tree_at(root: u32) -> Tree<GreatestEnd>
+fn tree_at(root: PageNumber) -> Tree<GreatestEnd>
     ensures { result.width ≡ WIDTH }
 {
-    Tree::at(WIDTH, PageNumber::new(root))
+    Tree::at(WIDTH, root)
 }
 
 /// How many of the five pages a tree leaves.
@@ -178,7 +199,7 @@ fn pages_left(alloc: Global, pages: &mut PlainPages, root: u32) -> Result<u32, R
     let Ok(mut reached) = Reached::new(alloc, 5) else {
         return Err(Refusal::OutOfMemory);
     };
-    tree_at(root).validate(pages, &mut reached)?;
+    tree_at(PageNumber::new(root)).validate(pages, &mut reached)?;
     Ok(reached.left())
 }
 
@@ -209,57 +230,70 @@ fn finds(
 #[test]
 fn pages_written_by_hand_are_searched(rt: HostRuntime) -> Result<(), Fail> {
     let mut pages = by_hand(rt.alloc())?;
-    for (route, a, b, wanted, reads) in windows() {
+    for (k, (route, a, b, wanted, reads)) in windows().iter().enumerate() {
         let is_found = finds(rt.alloc(), &mut pages, (*route, *a, *b), wanted, *reads)?;
-        assert!(rt; is_found, "route {route} from {a} to {b}");
+        expect(is_found, "what is found in window", k)?;
     }
     Ok(())
+}
+
+/// Expects that a tree leaves so many of the five pages.
+fn expect_left(alloc: Global, pages: &mut PlainPages, root: u32, left: u32) -> Result<(), Fail> {
+    let is_right = pages_left(alloc, pages, root) == Ok(left);
+    expect(is_right, "pages left by the tree at", root as usize)
+}
+
+/// Expects that there is no tree with this byte in a page.
+fn expect_no_tree(alloc: Global, page: u32, at: usize, byte: u8) -> Result<(), Fail> {
+    let mut pages = by_hand(alloc)?;
+    put(&mut pages, page, at, &[byte])?;
+    let is_refused = pages_left(alloc, &mut pages, 4) == Err(Refusal::DamagedFile);
+    expect(is_refused, "damaged at byte", at)
 }
 
 #[test]
 fn pages_written_by_hand_are_a_tree(rt: HostRuntime) -> Result<(), Fail> {
     let mut pages = by_hand(rt.alloc())?;
-    assert_eq!(rt; pages_left(rt.alloc(), &mut pages, 4)?, 2);
-    assert_eq!(rt; pages_left(rt.alloc(), &mut pages, 2)?, 4);
+    expect_left(rt.alloc(), &mut pages, 4, 2)?;
+    expect_left(rt.alloc(), &mut pages, 2, 4)?;
     for (page, at) in any_bytes() {
         put(&mut pages, *page, *at, &[9])?;
-        assert_eq!(rt; pages_left(rt.alloc(), &mut pages, 4)?, 2);
+        expect_left(rt.alloc(), &mut pages, 4, 2)?;
     }
-    for (page, at, byte, why) in damages() {
-        let mut pages = by_hand(rt.alloc())?;
-        put(&mut pages, *page, *at, &[*byte])?;
-        let answer = pages_left(rt.alloc(), &mut pages, 4);
-        assert_eq!(rt; answer, Err(Refusal::DamagedFile), "{why}");
+    for (page, at, byte) in damages() {
+        expect_no_tree(rt.alloc(), *page, *at, *byte)?;
     }
     Ok(())
 }
 
-/// Whether the first leaf is as it was written by hand, up to the last byte that it counts.
-fn is_first_leaf(pages: &mut PlainPages, wanted: &mut PlainPages) -> Result<bool, Refusal> {
-    let number = PageNumber::new(2);
-    let page = pages.page(number)?;
-    let wanted = wanted.page(number)?;
-    Ok(page.bytes[..127] == wanted.bytes[..127])
+/// The first leaf up to the last byte that it counts.
+fn first_leaf(pages: &mut PlainPages) -> Result<[u8; 127], Refusal> {
+    let page = pages.page(PageNumber::new(2))?;
+    let mut bytes = [0; 127];
+    bytes.copy_from_slice(&page.bytes[..127]);
+    Ok(bytes)
 }
 
-/// Puts three cells into an empty tree, the last one first, and answers the root. None: a cell was there.
-fn insert_three(pages: &mut PlainPages) -> Result<Option<PageNumber>, Refusal> {
-    let mut tree = Tree::<GreatestEnd>::new(WIDTH);
-    let third = tree.insert(pages, &cell(2))?;
-    let first = tree.insert(pages, &cell(0))?;
-    let second = tree.insert(pages, &cell(1))?;
-    let are_new = first && second && third;
-    Ok(if are_new { Some(tree.root()) } else { None })
+/// Puts a cell into the tree with this root, and answers its new root. None: the cell was there.
+fn inserted(
+    pages: &mut PlainPages,
+    root: PageNumber,
+    index: usize,
+) -> Result<Option<PageNumber>, Refusal> {
+    let mut tree = tree_at(root);
+    let is_new = tree.insert(pages, &cell(index))?;
+    Ok(if is_new { Some(tree.root()) } else { None })
 }
 
 #[test]
 fn cells_are_written_as_by_hand(rt: HostRuntime) -> Result<(), Fail> {
-    let Ok(mut pages) = PlainPages::new(rt.alloc(), 10) else {
-        return Err("no pages".into());
-    };
-    let root = insert_three(&mut pages)?;
-    assert_eq!(rt; root, Some(PageNumber::new(2)));
+    let mut pages = no_pages(rt.alloc())?;
+    let mut root = Tree::<GreatestEnd>::new(WIDTH).root();
+    for index in [2, 0, 1] {
+        root = inserted(&mut pages, root, index)?.ok_or("a cell that is new")?;
+    }
+    expect(root == PageNumber::new(2), "the root", 2)?;
     let mut wanted = by_hand(rt.alloc())?;
-    assert!(rt; is_first_leaf(&mut pages, &mut wanted)?);
-    Ok(())
+    let is_same = first_leaf(&mut pages)? == first_leaf(&mut wanted)?;
+    expect(is_same, "the leaf at page", 2)
 }

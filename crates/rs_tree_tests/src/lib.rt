@@ -6,6 +6,8 @@
 #[cfg(test)]
 mod damage_tests;
 #[cfg(test)]
+mod expect;
+#[cfg(test)]
 mod format_tests;
 #[cfg(test)]
 mod many_tests;

@@ -1,5 +1,6 @@
 //! A tree of 100,000 narrow cells: filled in no order, read whole, thinned out and emptied.
 
+use crate::expect::expect;
 use crate::one_tree::OneTree;
 use rs_measure::Refusal;
 use rs_tree_judge::are_cells;
@@ -49,24 +50,29 @@ fn remove_some(tree: &mut OneTree, is_tenth: bool) -> Result<u32, Refusal> {
     Ok(removed)
 }
 
-/// Whether the tree has the cells of the keys that are asked for, and no page is lost.
-fn holds<F: Fn(u32) -> bool>(alloc: Global, tree: &mut OneTree, wanted: &F) -> Result<bool, Refusal>
-    requires { F.IsAlwaysCallable wanted.now }
-{
+/// Expects that the tree has the cells of the keys that `divisor` divides (0: none), and that no page is lost.
+fn expect_cells(alloc: Global, tree: &mut OneTree, divisor: u32) -> Result<(), Fail> {
+    let wanted = |key: u32| divisor > 0 && key % divisor == 0;
     let cells = tree.driver.range(alloc, tree.at, 0, CELLS)?;
-    let lost = tree.lost_pages(alloc)?;
-    Ok(lost == 0 && are_cells(&cells, 0, CELLS, wanted))
+    let are_right = are_cells(&cells, 0, CELLS, &wanted);
+    expect(
+        are_right,
+        "the cells of the keys divided by",
+        divisor as usize,
+    )?;
+    expect(tree.lost_pages(alloc)? == 0, "lost pages", 0)
 }
 
 #[test]
 fn many_cells_come_and_go(rt: HostRuntime) -> Result<(), Fail> {
     let alloc = rt.alloc();
     let mut tree = OneTree::new(alloc, 28)?;
-    assert_eq!(rt; fill(&mut tree)?, CELLS);
-    assert!(rt; holds(alloc, &mut tree, &|_: u32| true)?);
-    assert_eq!(rt; remove_some(&mut tree, false)?, 90_000);
-    assert!(rt; holds(alloc, &mut tree, &|key: u32| key % 10 == 0)?);
-    assert_eq!(rt; remove_some(&mut tree, true)?, 10_000);
-    assert!(rt; holds(alloc, &mut tree, &|_: u32| false)?);
-    Ok(())
+    expect(fill(&mut tree)? == CELLS, "new cells", 100_000)?;
+    expect_cells(alloc, &mut tree, 1)?;
+    let removed = remove_some(&mut tree, false)?;
+    expect(removed == 90_000, "removed cells", 90_000)?;
+    expect_cells(alloc, &mut tree, 10)?;
+    let removed = remove_some(&mut tree, true)?;
+    expect(removed == 10_000, "removed cells", 10_000)?;
+    expect_cells(alloc, &mut tree, 0)
 }

@@ -3,6 +3,7 @@
 
 ghost use Rattle.std.specs.Prelude.{◌≤◌};
 
+use crate::expect::expect;
 use rs_disk::{FailedCut, FailingDisk, MemoryDisk};
 use rs_tree_judge::{Call, Judge, KEYS, RandomCalls, TreeAt};
 use std::alloc::Global;
@@ -47,7 +48,7 @@ fn made(alloc: Global, run: &Run) -> Option<(u64, u64, u64)> {
 static WHOLE: [(u64, u32); 3] = [(1, 1_000), (2, 1_000), (3, 60)];
 
 #[test]
-fn trees_hold_what_plain_keys_hold(rt: HostRuntime) {
+fn trees_hold_what_plain_keys_hold(rt: HostRuntime) -> Result<(), Fail> {
     for (seed, limit) in WHOLE {
         let run = Run {
             seed,
@@ -56,34 +57,44 @@ fn trees_hold_what_plain_keys_hold(rt: HostRuntime) {
             failing_call: 0,
             width: 100,
         };
-        match made(rt.alloc(), &run) {
-            Some((failures, refusals, full)) => {
-                assert_eq!(rt; (failures, refusals), (0, 0));
-                assert_eq!(rt; full > 0, limit < 1_000, "a small file is full at times");
-            }
-            None => assert!(rt; false, "seed {seed}: an answer was wrong"),
-        }
+        let (failures, refusals, full) = made(rt.alloc(), &run).ok_or("an answer was wrong")?;
+        let at = seed as usize;
+        expect(failures == 0 && refusals == 0, "no fault with seed", at)?;
+        let is_small = limit < 1_000;
+        expect(
+            (full > 0) == is_small,
+            "full at times, if small, with seed",
+            at,
+        )?;
     }
+    Ok(())
+}
+
+/// Fails a call of the disk, and answers how many have failed: 1, or 0 where there is no such call.
+fn failed(alloc: Global, failing_call: u64) -> Result<u64, Fail> {
+    let run = Run {
+        seed: 8,
+        calls: 400,
+        limit: 1_000,
+        failing_call,
+        width: 28,
+    };
+    let (failures, refusals, _) = made(alloc, &run).ok_or("an answer was wrong")?;
+    let at = failing_call as usize;
+    expect(
+        failures == refusals,
+        "each failure is told once at call",
+        at,
+    )?;
+    Ok(failures)
 }
 
 #[test]
-fn a_fault_of_the_disk_leaves_the_trees(rt: HostRuntime) {
-    let mut failed = 0u64;
+fn a_fault_of_the_disk_leaves_the_trees(rt: HostRuntime) -> Result<(), Fail> {
+    let mut failures = 0u64;
     for turn in 0..40u64 {
-        let run = Run {
-            seed: 8,
-            calls: 400,
-            limit: 1_000,
-            failing_call: turn.saturating_mul(5).saturating_add(1),
-            width: 28,
-        };
-        match made(rt.alloc(), &run) {
-            Some((failures, refusals, _)) => {
-                assert_eq!(rt; failures, refusals, "each failure is told once");
-                failed = failed.saturating_add(failures);
-            }
-            None => assert!(rt; false, "call {turn}: an answer was wrong"),
-        }
+        let call = turn.saturating_mul(5).saturating_add(1);
+        failures = failures.saturating_add(failed(rt.alloc(), call)?);
     }
-    assert!(rt; failed > 10, "{failed} calls of the disk failed");
+    expect(failures > 10, "more failures than", 10)
 }
