@@ -1,7 +1,7 @@
 #!/usr/bin/env python3
 """Times trees of event records beside sqlite3 on the same records.
 
-    bench/trees.py [--sizes 25000,50000,100000] [--rounds 5] [--folder FOLDER] [--unproved]
+    bench/trees.py [--sizes 25000,50000,100000] [--rounds 5] [--folder FOLDER] [--unproved] [--instructions]
 
 It makes a repository of its own, of copies of the crates that `bench/trees/` stands on and of that program, builds it there with
 `rt run`, and builds `bench/trees/beside.c` with `cc -O2` and sqlite3's library (on Debian `apt-get install gcc
@@ -14,7 +14,9 @@ load is one transaction, and a record is a key of 40 bytes. sqlite3 searches for
 the faster of both counts; its rtree has its load before the clock starts. Both sides are to find the same records.
 
 --folder keeps the repository, so that a second run builds what has changed. --unproved runs the program by `rt try`, with
-checks and without a proof: many times slower, so that only its growth says anything.
+checks and without a proof: many times slower, so that only its growth says anything. --instructions counts the
+instructions of both sides instead (`valgrind --tool=callgrind`), of all loads together, which are the same in each run
+whatever is in the caches and runs beside it.
 """
 
 import argparse
@@ -33,6 +35,7 @@ FILES = ["main.rt", "records.rt", "table.rt"]
 LOADS = ["ordered", "shuffled", "searches", "intervals"]
 COUNTS = ["found", "hits"]
 FIELD = re.compile(r"(\w+)=(\d+)")
+COLLECTED = re.compile(r"Collected : (\d+)")
 
 
 def needed(below):
@@ -124,14 +127,35 @@ def measure(sides, folder, sizes, rounds):
     return best
 
 
+def instructions_of(command, folder, size):
+    """How many instructions all loads of this size take."""
+    counted = ["valgrind", "--tool=callgrind", "--callgrind-out-file=/dev/null", *command, str(size)]
+    _status, output = output_of(counted, folder)
+    found = COLLECTED.search(output)
+    if not found:
+        sys.exit("%s\nno count of instructions for %d records" % (output[-4000:], size))
+    return int(found[1])
+
+
+def tell_instructions(sides, folder, sizes):
+    for side, command in sides.items():
+        counts = [instructions_of(command, folder, size) for size in sizes]
+        for size, count in zip(sizes, counts):
+            print("%-9s %7d records %9.1f million instructions" % (side, size, count / 1e6))
+        if len(sizes) > 1:
+            growth = math.log(counts[-1] / counts[0]) / math.log(sizes[-1] / sizes[0])
+            print("%-9s growth exponent %.2f" % (side, growth), flush=True)
+
+
 def tell(best, sizes):
     for load in LOADS:
         for size in sizes:
             ours, theirs = best["trees", load, size], best["sqlite3", load, size]
             print("%-9s %7d records %9.1f ms, sqlite3 %9.1f ms, ratio %.2f" % (load, size, ours / 1e6, theirs / 1e6, ours / theirs))
         if len(sizes) > 1:
-            growth = best["trees", load, sizes[-1]] / best["trees", load, sizes[0]]
-            print("%-9s growth exponent %.2f" % (load, math.log(growth) / math.log(sizes[-1] / sizes[0])), flush=True)
+            growth = [best[side, load, sizes[-1]] / best[side, load, sizes[0]] for side in ("trees", "sqlite3")]
+            exponents = [math.log(times) / math.log(sizes[-1] / sizes[0]) for times in growth]
+            print("%-9s growth exponent %.2f, sqlite3's %.2f" % (load, *exponents), flush=True)
 
 
 def main():
@@ -140,13 +164,17 @@ def main():
     parser.add_argument("--rounds", type=int, default=5)
     parser.add_argument("--folder")
     parser.add_argument("--unproved", action="store_true")
+    parser.add_argument("--instructions", action="store_true")
     words = parser.parse_args()
     sizes = [int(size) for size in words.sizes.split(",")]
     folder = words.folder or tempfile.mkdtemp(prefix="trees-bench-")
     try:
         program = make_repository(folder)
         sides = {"sqlite3": build_beside(folder), "trees": command_of(program, not words.unproved)}
-        tell(measure(sides, program, sizes, words.rounds), sizes)
+        if words.instructions:
+            tell_instructions(sides, program, sizes)
+        else:
+            tell(measure(sides, program, sizes, words.rounds), sizes)
     finally:
         if not words.folder:
             shutil.rmtree(folder, ignore_errors=True)
