@@ -1,9 +1,17 @@
-//! The program called with words and streams of a test: its status, and what it says of a fault.
+//! What no line shows of the language side: the program's words, streams that are short or fail, and calls below the engine.
 //!
-//! No line shows these; the program's words and a whole session are shown by `crates/roadseg` too.
+//! A crate of tests takes about a minute of a processor before its first test, so these are one.
 #![tactic(auto)]
 
 #[cfg(test)]
+mod pieces;
+#[cfg(test)]
 mod program_tests;
 #[cfg(test)]
+mod refusal_tests;
+#[cfg(test)]
+mod stream_tests;
+#[cfg(test)]
 mod streams;
+#[cfg(test)]
+mod sweep_tests;

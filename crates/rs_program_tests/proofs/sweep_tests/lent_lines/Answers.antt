@@ -3,7 +3,7 @@ use Rattle.std.proofs.lemmas.Result.{IfOk-weaker}
 use Rattle.rs_value.specs.declared.column.Kind.TheVariants.{Line}
 use Rattle.rs_facts.specs.Spans.{ArePlaced}
 use Rattle.rs_sweep.specs.Lists.{AreSorted, AreWide}
-use Rattle.rs_call_tests.proofs.sweep_tests.lent_lines.Goals as goal
+use Rattle.rs_program_tests.proofs.sweep_tests.lent_lines.Goals as goal
 
 pub returns-clause-placed : goal.returns-clause-placed
 returns-clause-placed c = IfOk-weaker c.lent.result _ _ (λ lent same. subst (ArePlaced Line) (sym same) c.requires.placed) c.lent.ensures

@@ -1,7 +1,7 @@
 use Rattle.std.proofs.Common.{length, map, ap, ◌∙◌}
 use Rattle.rs_value.specs.View.{datum_of, row_of}
-use Rattle.rs_call_tests.proofs.Growing.{one-value}
-use Rattle.rs_call_tests.proofs.sweep_tests.span.Goals as goal
+use Rattle.rs_program_tests.proofs.Growing.{one-value}
+use Rattle.rs_program_tests.proofs.sweep_tests.span.Goals as goal
 
 pub returns-clause-width : goal.returns-clause-width
 unfolding row_of

@@ -3,7 +3,7 @@ use Rattle.std.specs.Prelude.{unwrap_or}
 use Rattle.rs_value.specs.declared.column.Kind.TheVariants.{Line}
 use Rattle.rs_facts.specs.Spans.{seen, IsPlaced}
 use Rattle.rs_event_lists.specs.Held.{kind_on}
-use Rattle.rs_call_tests.proofs.sweep_tests.put.Goals as goal
+use Rattle.rs_program_tests.proofs.sweep_tests.put.Goals as goal
 
 pub insert-requires-clause-placed : goal.insert-requires-clause-placed
 unfolding kind_on

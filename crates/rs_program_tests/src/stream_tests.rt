@@ -2,7 +2,7 @@
 //!
 //! The replies are written by hand. Where a read or a write fails, what was answered before stays as it was.
 
-use crate::streams::{Narrow, Pieces};
+use crate::pieces::{Narrow, Pieces};
 use rs_engine::Engine;
 use rs_protocol::{End, Fault, answer, run};
 use rs_serve::Session;

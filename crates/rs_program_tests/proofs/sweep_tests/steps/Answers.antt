@@ -1,8 +1,8 @@
 use Rattle.std.proofs.Common.{◌+◌, [], ◌∷◌, map, sym, ap, ◌∙◌, subst, arith}
 use Rattle.std.proofs.lemmas.List.{map-append}
 use Rattle.rs_facts.specs.Spans.{seen}
-use Rattle.rs_call_tests.proofs.Growing.{AreGrown, grown-next}
-use Rattle.rs_call_tests.proofs.sweep_tests.steps.Goals as goal
+use Rattle.rs_program_tests.proofs.Growing.{AreGrown, grown-next}
+use Rattle.rs_program_tests.proofs.sweep_tests.steps.Goals as goal
 
 pub loop-i-preserved : goal.loop-i-preserved
 loop-i-preserved c =
