@@ -47,14 +47,14 @@ dated_listed form pages standing cells used version holds all =
 
 -- what holds of each cell holds of those with one more and of those with fewer
 module _ (P : List ℕ → Type 0) where
-  all_kept : (test : List ℕ → Bool) (cells : List (List ℕ)) → AllByRecursion P cells → AllByRecursion P (filter test cells)
+  pub all_kept : (test : List ℕ → Bool) (cells : List (List ℕ)) → AllByRecursion P cells → AllByRecursion P (filter test cells)
   all_kept test [] all = tt
   all_kept test (c ∷ cs) all = by_test (test c) all.0 (all_kept test cs all.1) where
     by_test : (b : Bool) → P c → AllByRecursion P (filter test cs) → AllByRecursion P (cond b (c ∷ filter test cs) (filter test cs))
     by_test true first rest = (first, rest)
     by_test false first rest = rest
 
-  all_both : (xs ys : List (List ℕ)) → AllByRecursion P xs → AllByRecursion P ys → AllByRecursion P (xs ++ ys)
+  pub all_both : (xs ys : List (List ℕ)) → AllByRecursion P xs → AllByRecursion P ys → AllByRecursion P (xs ++ ys)
   all_both [] ys first last = last
   all_both (x ∷ xs) ys first last = (first.0, all_both xs ys first.1 last)
 

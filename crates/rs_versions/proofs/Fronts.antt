@@ -1,7 +1,7 @@
 -- The parts of a buffer of dead cells, and the front of a list in the order of death that no version from the oldest on sees.
 use Rattle.std.proofs.Common.{◌≡◌, ◌≤◌, ◌+◌, ◌-◌, ◌*◌, ◌^◌, ℕ, zero, suc, true, false, cond, not, eqb, leb, ◌&&◌, Some, List, [], ◌∷◌, ◌++◌, length, take, drop, filter, slice_get, Result, Ok, Err, OnOk, OnErr, refl, sym, ap, ◌∙◌, subst, arith}
 use Rattle.std.proofs.lemmas.Bool.Decides.{nat_tests}
-use Rattle.std.proofs.lemmas.List.{append-nil, drop-drop, drop_all, drop-append-le, length-append, length-drop, length-take-le, take_all, take_at, take-append-drop}
+use Rattle.std.proofs.lemmas.List.{append-nil, drop-drop, drop_all, drop_at, drop-append-le, length-append, length-drop, length-take-le, take_all, take_at, take-append-drop}
 use Rattle.std.proofs.lemmas.List.Elements.{filter-append}
 use Rattle.std.specs.List.{AllByRecursion}
 use Rattle.rs_records.specs.Records.{records}
@@ -123,6 +123,24 @@ holds-written width first end kept_first kept_end bytes more holds =
       in_order = subst AreInOrder (sym (part-front first end width (end * width) bytes more (omega arith) holds.fits)) holds.in_order;
       kept_in_order = subst AreInOrder (sym (part-front kept_first kept_end width (end * width) bytes more kept holds.fits)) holds.kept_in_order;
     }
+
+-- what a buffer holds after one cell more, written after the last and listed at once
+pub holds-pushed : (width first end kept_first kept_end : ℕ) (bytes cell : List ℕ) → HoldsDead width first end kept_first kept_end bytes → length cell ≡ width
+    → AllByRecursion (λ other. died_of other ≤ died_of cell) (part first end width bytes) → HoldsDead width first (end + 1) kept_first kept_end (take (end * width) bytes ++ cell)
+holds-pushed width first end kept_first kept_end bytes cell holds size last =
+    let front : length (take (end * width) bytes) ≡ end * width = length-take-le (end * width) bytes holds.fits in
+    let written : drop (end * width) (take (end * width) bytes ++ cell) ≡ cell = drop_at (take (end * width) bytes) cell (end * width) front in
+    holds-more width first end kept_first kept_end (take (end * width) bytes ++ cell) (holds-written width first end kept_first kept_end bytes cell holds) (ap length written ∙ size)
+    (subst (λ (c : List ℕ). AllByRecursion (λ other. died_of other ≤ died_of c) (part first end width (take (end * width) bytes ++ cell))) (sym written)
+    (subst (AllByRecursion (λ other. died_of other ≤ died_of cell)) (sym (part-front first end width (end * width) bytes cell (omega arith) holds.fits)) last))
+
+pub part-pushed : (width first end kept_first kept_end : ℕ) (bytes cell : List ℕ) → HoldsDead width first end kept_first kept_end bytes → length cell ≡ width
+    → part first (end + 1) width (take (end * width) bytes ++ cell) ≡ part first end width bytes ++ cell ∷ []
+part-pushed width first end kept_first kept_end bytes cell holds size =
+    let front : length (take (end * width) bytes) ≡ end * width = length-take-le (end * width) bytes holds.fits in
+    let written : drop (end * width) (take (end * width) bytes ++ cell) ≡ cell = drop_at (take (end * width) bytes) cell (end * width) front in
+    part-more first end width (take (end * width) bytes ++ cell) holds.begins (ap length written ∙ size) ∙ ap (λ c. part first end width (take (end * width) bytes ++ cell) ++ c ∷ []) written
+    ∙ ap (λ cells. cells ++ cell ∷ []) (part-front first end width (end * width) bytes cell (omega arith) holds.fits)
 
 pub holds-none : (width : ℕ) (bytes : List ℕ) → 20 ≤ width → HoldsDead width 0 0 0 0 bytes
 holds-none width bytes wide = record {

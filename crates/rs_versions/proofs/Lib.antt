@@ -1,12 +1,17 @@
 pub mod Among
 pub mod Dated
+pub mod Deaths
 pub mod Ending
 pub mod Fronts
+pub mod LastCells
 pub mod Lasting
+pub mod Looks
 pub mod Permutations
 pub mod Places
+pub mod Refusing
 pub mod Seen
 pub mod Sizes
 pub mod Staying
 pub mod Steps
+pub mod Tallying
 pub mod Widths

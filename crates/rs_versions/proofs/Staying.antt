@@ -22,7 +22,7 @@ module _ (form : Form) (old new : PageMap) (same : SamePages new old) where
     owns = stands.owns;
   }
 
-  tree_same : (root : ℕ) (cells : List (List ℕ)) (used : ℕ → ℕ) → IsTree form old root cells used → IsTree form new root cells used
+  pub tree_same : (root : ℕ) (cells : List (List ℕ)) (used : ℕ → ℕ) → IsTree form old root cells used → IsTree form new root cells used
   tree_same root cells used tree = record {
     height = tree.height;
     stands = stands_same tree.height root cells used tree.stands;

@@ -1,5 +1,9 @@
 pub mod Changes
 pub mod DeadCells
+pub mod Dying
 pub mod Inner
+pub mod Looking
+pub mod Opening
+pub mod Tallies
 pub mod Version
 pub mod Versioned

@@ -3,8 +3,8 @@
 //! The last 20 bytes of a cell are the version from which on it is seen, in eight bytes, four bytes of its own, and the
 //! version from which on it is seen no more, in eight. The highest byte of a number comes first.
 
-ghost use Rattle.std.specs.Prelude.{◌≡◌, ◌≤◌, ◌++◌, ℕ, length};
-ghost use Rattle.rs_versions.specs.Version.{born_of, died_of, ended, is_clearable, is_living, sees};
+ghost use Rattle.std.specs.Prelude.{◌≡◌, ◌≤◌, ◌↔◌, IsTrue, length};
+ghost use Rattle.rs_versions.specs.Version.{IsDated, born_of, died_of, ended, is_clearable, is_living, sees};
 
 use byteorder::{BigEndian, ByteOrder};
 
@@ -57,6 +57,15 @@ pub(crate) fn is_clearable(oldest: u64, cell: &[u8]) -> bool
     ensures { result ≡ is_clearable oldest cell.now }
 {
     !is_living(cell) && died_of(cell) <= oldest
+}
+
+/// Whether the cell was born at this version or before it, and lives, or died after its birth at this version or before it.
+pub(crate) fn is_dated(accepted: u64, cell: &[u8]) -> bool
+    requires width { VERSION_BYTES ≤ length cell.now }
+    ensures { IsTrue result ↔ IsDated accepted cell.now }
+{
+    let died = died_of(cell);
+    born_of(cell) <= accepted && (died == LIVING || (born_of(cell) < died && died <= accepted))
 }
 
 /// Writes the version of its end into a cell: `Versions::kill` leaves the cell so, and an index over it writes the same.

@@ -105,6 +105,19 @@ impl Dead {
         self.end += 1;
     }
 
+    /// Lists a cell as the one that died last.
+    pub fn push(&mut self, cell: &[u8]) -> Result<(), AllocError>
+        requires width { length cell.now ≡ self.old.width }
+        requires order { AllByRecursion (λ dead. died_of dead ≤ died_of cell.now) self.old.working }
+        ensures working { OnOk result (self.new.working ≡ self.old.working ++ cell.now ∷ []) }
+        ensures width { self.new.width ≡ self.old.width }
+    {
+        self.bytes.truncate(self.end * self.width);
+        self.bytes.extend_from_slice(cell)?;
+        self.end += 1;
+        Ok(())
+    }
+
     /// The first cells that no version from `oldest` on sees, at most so many.
     pub fn clearable(&self, alloc: Global, oldest: u64, most: usize) -> Result<Cells, AllocError>
         ensures cleared { IfOk result (λ found. listed found ≡ cleared oldest most self.now.working) }

@@ -13,6 +13,7 @@ ghost use Rattle.rs_records.specs.Listed.{listed, record_width};
 ghost use Rattle.rs_tree.specs.Cells.{with_cell};
 ghost use Rattle.rs_tree.specs.Form.{form_of};
 ghost use Rattle.rs_versions.specs.Changes.{Ends, cleared, without_cells};
+ghost use Rattle.rs_versions.specs.Inner.{FitsPages, standing};
 ghost use Rattle.rs_versions.specs.Version.{died_of, is_living};
 ghost use Rattle.rs_versions.specs.declared.cell.TheConstants.{LIVING};
 ghost use Rattle.rs_versions.specs.Versioned.{ChangesCells, HoldsCells, HoldsNone, Versioned, nothing_stands};
@@ -71,6 +72,24 @@ impl<S: Summary> Versions<S> {
             dead: Dead::new(alloc, width),
             kept_root: PageNumber::new(0),
             kept_living: 0,
+        }
+    }
+
+    /// The cells of a tree, so many of which live, with the dead ones among them.
+    pub(crate) fn over(tree: Tree<S>, living: u64, dead: Dead) -> Versions<S>
+        requires fits { FitsPages S.WIDTH tree.width }
+        requires width { dead.width ≡ tree.width }
+        ensures width { result.width ≡ tree.width }
+        ensures working { result.working ≡ standing tree.root living dead.working }
+        ensures committed { result.committed ≡ standing tree.root living dead.committed }
+    {
+        let kept_root = tree.root();
+        Versions {
+            tree,
+            living,
+            dead,
+            kept_root,
+            kept_living: living,
         }
     }
 

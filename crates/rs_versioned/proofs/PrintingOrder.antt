@@ -1,0 +1,171 @@
+-- Cells of one route ascend as their events are printed.
+use Rattle.std.proofs.Common.{◌≡◌, ◌<◌, ◌≤◌, ◌+◌, ◌*◌, ◌%◌, ◌^◌, ◌==◌, ℕ, zero, suc, Bool, true, false, cond, List, [], ◌∷◌, ◌++◌, length, map, filter, refl, sym, ap, ◌∙◌, inl, inr, arith, pow-suc, mul_comm}
+use Rattle.std.proofs.Math.Arith.{mod-mul}
+use Rattle.std.proofs.Math.Nat.{add-mul, mod-eq_of_lt, mod-lt, mul-le-mul_right, pow-le-pow_right}
+use Rattle.std.proofs.lemmas.Bool.{and_parts, cases_order, false≢true}
+use Rattle.std.proofs.lemmas.Bool.Decides.{nat_tests}
+use Rattle.std.specs.Cmp.{nat_cmp_is}
+use Rattle.std.specs.Cmp.Lexicographic.{slice_cmp}
+use Rattle.std.specs.Int.{w32, w64, to_be_bytes, byte_at, bytes_high_first}
+use Rattle.std.specs.List.{AllByRecursion, AllZip}
+use Rattle.std.specs.Ordering.{is_lt, nat_cmp, ordering_then}
+use Rattle.std.specs.Prelude.{IsTrue}
+use Rattle.std.specs.declared.cmp.Ordering.{Ordering}
+use Rattle.std.specs.declared.cmp.Ordering.TheVariants.{Less, Equal, Greater}
+use Rattle.rs_facts.specs.Runs.{Stretch, stretch_cmp}
+use Rattle.rs_facts.proofs.StretchOrder.{stretch_cmp-itself, stretch_cmp-one_way, stretch_cmp-tie}
+use Rattle.rs_pages.specs.PageMap.{PageMap}
+use Rattle.rs_records.specs.Order.{Ascends, is_below}
+use Rattle.rs_value.specs.declared.column.ColumnType.{ColumnType}
+use Rattle.rs_value.specs.Row.{row_cmp}
+use Rattle.rs_value.proofs.EncodingOrder.{row_wide, rows_cmp}
+use Rattle.rs_versions.specs.Versioned.{Standing}
+use Rattle.rs_versioned.specs.Events.{AreInPrintingOrder, Event, SaysEvent, is_on, kept_events, sees_event, span_of, spans_at}
+use Rattle.rs_versioned.specs.Records.{HoldsRecords}
+
+less : (x y : ℕ) → x < y → nat_cmp x y ≡ Less
+less x y h = sym (nat_cmp_is x y Less h)
+
+equal : (x y : ℕ) → x ≡ y → nat_cmp x y ≡ Equal
+equal x y h = sym (nat_cmp_is x y Equal h)
+
+greater : (x y : ℕ) → y < x → nat_cmp x y ≡ Greater
+greater x y h = sym (nat_cmp_is x y Greater h)
+
+-- a digit in front decides, where it is another
+beside : (a b unit x y : ℕ) → a < b → x < unit → a * unit + x < b * unit + y
+beside a b unit x y h small =
+    let whole : (a + 1) * unit ≤ b * unit = mul-le-mul_right unit (omega arith) in
+    let apart : (a + 1) * unit ≡ a * unit + 1 * unit = add-mul a 1 unit in
+    omega arith
+
+then_assoc : (one two three : Ordering) → ordering_then one (ordering_then two three) ≡ ordering_then (ordering_then one two) three
+then_assoc Less two three = refl
+then_assoc Equal two three = refl
+then_assoc Greater two three = refl
+
+-- the order by a digit and then by the rest is the order by the whole
+digits_cmp : (a b unit x y u v : ℕ) → x < unit → y < unit → u ≡ a * unit + x → v ≡ b * unit + y → ordering_then (nat_cmp a b) (nat_cmp x y) ≡ nat_cmp u v
+digits_cmp a b unit x y u v small also is at = elim (cases_order a b) [
+  | inl same ↦
+      let units : a * unit ≡ b * unit = ap (λ (n : ℕ). n * unit) same in
+      ap (λ o. ordering_then o (nat_cmp x y)) (equal a b same) ∙ elim (cases_order x y) [
+        | inl level ↦ equal x y level ∙ sym (equal u v (omega arith))
+        | inr apart ↦ elim apart [
+          | inl below ↦ less x y below ∙ sym (less u v (omega arith))
+          | inr above ↦ greater x y above ∙ sym (greater u v (omega arith))
+        ]
+      ]
+  | inr apart ↦ elim apart [
+    | inl below ↦ ap (λ o. ordering_then o (nat_cmp x y)) (less a b below) ∙ sym (less u v (omega (arith, beside a b unit x y below small)))
+    | inr above ↦ ap (λ o. ordering_then o (nat_cmp x y)) (greater a b above) ∙ sym (greater u v (omega (arith, beside b a unit y x above also)))
+  ]
+]
+
+above_none : (k : ℕ) → 0 < 256 ^ k
+above_none k = pow-le-pow_right {n = 256} (omega arith) {i = 0} {j = k} (omega arith)
+
+-- a number below 256 ^ (k + 1) is a byte and a number below 256 ^ k
+digit_more : (k x : ℕ) → x % 256 ^ suc k ≡ byte_at k x * 256 ^ k + x % 256 ^ k
+digit_more zero x = omega arith
+digit_more (suc k) x =
+    let wider : 256 ^ suc (suc k) ≡ 256 * 256 ^ suc k = pow-suc 256 (suc k) ∙ mul_comm (256 ^ suc k) 256 in
+    rw (wider, mod-mul x {m = 256} {c = 256 ^ suc k} (omega arith) (above_none (suc k))) (omega arith)
+
+-- what begins with numbers of as many bytes is ordered by these, and then by the rest
+front_cmp : (k x y : ℕ) (xs ys : List ℕ)
+    → slice_cmp nat_cmp (bytes_high_first k x ++ xs) (bytes_high_first k y ++ ys) ≡ ordering_then (nat_cmp (x % 256 ^ k) (y % 256 ^ k)) (slice_cmp nat_cmp xs ys)
+front_cmp zero x y xs ys = let level : x % 1 ≡ y % 1 = omega arith in ap (λ o. ordering_then o (slice_cmp nat_cmp xs ys)) (sym (equal (x % 1) (y % 1) level))
+front_cmp (suc k) x y xs ys =
+    ap (ordering_then (nat_cmp (byte_at k x) (byte_at k y))) (front_cmp k x y xs ys)
+    ∙ then_assoc (nat_cmp (byte_at k x) (byte_at k y)) (nat_cmp (x % 256 ^ k) (y % 256 ^ k)) (slice_cmp nat_cmp xs ys)
+    ∙ ap (λ o. ordering_then o (slice_cmp nat_cmp xs ys))
+    (digits_cmp (byte_at k x) (byte_at k y) (256 ^ k) (x % 256 ^ k) (y % 256 ^ k) (x % 256 ^ suc k) (y % 256 ^ suc k)
+    (mod-lt x (above_none k)) (mod-lt y (above_none k)) (digit_more k x) (digit_more k y))
+
+-- of four bytes
+word_cmp : (x y : ℕ) (xs ys : List ℕ) → x < 2 ^ 32 → y < 2 ^ 32
+    → slice_cmp nat_cmp (to_be_bytes w32 x ++ xs) (to_be_bytes w32 y ++ ys) ≡ ordering_then (nat_cmp x y) (slice_cmp nat_cmp xs ys)
+word_cmp x y xs ys few small =
+    front_cmp 4 x y xs ys ∙ ap (λ n. ordering_then (nat_cmp n (y % 2 ^ 32)) (slice_cmp nat_cmp xs ys)) (mod-eq_of_lt few)
+    ∙ ap (λ n. ordering_then (nat_cmp x n) (slice_cmp nat_cmp xs ys)) (mod-eq_of_lt small)
+
+-- fronts of as many bytes are compared first
+fronts_cmp : (a b xs ys : List ℕ) → length a ≡ length b → slice_cmp nat_cmp (a ++ xs) (b ++ ys) ≡ ordering_then (slice_cmp nat_cmp a b) (slice_cmp nat_cmp xs ys)
+fronts_cmp [] [] xs ys size = refl
+fronts_cmp [] (b ∷ bs) xs ys size = absurd (omega arith)
+fronts_cmp (a ∷ as_) [] xs ys size = absurd (omega arith)
+fronts_cmp (a ∷ as_) (b ∷ bs) xs ys size =
+    ap (ordering_then (nat_cmp a b)) (fronts_cmp as_ bs xs ys (omega arith)) ∙ then_assoc (nat_cmp a b) (slice_cmp nat_cmp as_ bs) (slice_cmp nat_cmp xs ys)
+
+not_more : (o rest : Ordering) → is_lt (ordering_then o rest) ≡ true → o ≡ Greater → ⊥
+not_more o rest below more = false≢true (sym (ap (λ p. is_lt (ordering_then p rest)) more) ∙ below)
+
+-- what ties isn't less
+not_tied : (one two : Stretch) → stretch_cmp one two ≡ Equal → stretch_cmp two one ≡ Less → ⊥
+unfolding stretch_cmp
+not_tied one two tied before =
+    let tie = stretch_cmp-tie one two tied in
+    let same : stretch_cmp two one ≡ stretch_cmp one one = λ i. ordering_then (nat_cmp (sym tie.0 i) one.lo) (row_cmp (sym tie.1 i) one.row) in
+    let wrong : Less ≡ Equal = sym before ∙ same ∙ stretch_cmp-itself one in
+    absurd (false≢true (sym (ap is_lt wrong)))
+
+-- of two cells on one route the lower says what is printed no later
+module _ (types : List ColumnType) (cell other : List ℕ) (one two : Event) (says : SaysEvent types cell one) (tells : SaysEvent types other two) (same : one.route ≡ two.route) where
+  abbrev rest : List ℕ
+  rest = to_be_bytes w64 one.born ++ (to_be_bytes w32 one.hi ++ to_be_bytes w64 one.died)
+
+  abbrev left : List ℕ
+  left = to_be_bytes w64 two.born ++ (to_be_bytes w32 two.hi ++ to_be_bytes w64 two.died)
+
+  -- how the cells compare: as the events are printed, and then by what follows
+  cells_cmp : slice_cmp nat_cmp cell other ≡ ordering_then (stretch_cmp (span_of one) (span_of two)) (slice_cmp nat_cmp rest left)
+  unfolding stretch_cmp
+  cells_cmp =
+      let rows : slice_cmp nat_cmp (says.bytes ++ rest) (tells.bytes ++ left) ≡ ordering_then (row_cmp one.row two.row) (slice_cmp nat_cmp rest left) =
+      fronts_cmp says.bytes tells.bytes rest left (row_wide types says.bytes one.row says.row ∙ sym (row_wide types tells.bytes two.row tells.row))
+      ∙ ap (λ o. ordering_then o (slice_cmp nat_cmp rest left)) (rows_cmp types says.bytes tells.bytes one.row two.row says.row tells.row) in
+      (λ i. slice_cmp nat_cmp (says.fields.bytes i) (tells.fields.bytes i))
+      ∙ word_cmp one.route two.route (to_be_bytes w32 one.lo ++ (says.bytes ++ rest)) (to_be_bytes w32 two.lo ++ (tells.bytes ++ left)) says.fields.route_fits tells.fields.route_fits
+      ∙ ap (λ o. ordering_then o (slice_cmp nat_cmp (to_be_bytes w32 one.lo ++ (says.bytes ++ rest)) (to_be_bytes w32 two.lo ++ (tells.bytes ++ left)))) (equal one.route two.route same)
+      ∙ word_cmp one.lo two.lo (says.bytes ++ rest) (tells.bytes ++ left) says.fields.from_fits tells.fields.from_fits
+      ∙ ap (ordering_then (nat_cmp one.lo two.lo)) rows
+      ∙ then_assoc (nat_cmp one.lo two.lo) (row_cmp one.row two.row) (slice_cmp nat_cmp rest left)
+
+  not_before : IsTrue (is_below cell other) → stretch_cmp (span_of two) (span_of one) ≡ Less → ⊥
+  unfolding is_below
+  not_before below before = by_order (stretch_cmp (span_of one) (span_of two)) refl (sym (ap is_lt cells_cmp) ∙ below) where
+    by_order : (o : Ordering) → stretch_cmp (span_of one) (span_of two) ≡ o → is_lt (ordering_then (stretch_cmp (span_of one) (span_of two)) (slice_cmp nat_cmp rest left)) ≡ true → ⊥
+    by_order Less e lower = stretch_cmp-one_way (span_of one) (span_of two) e before
+    by_order Equal e lower = not_tied (span_of one) (span_of two) e before
+    by_order Greater e lower = not_more (stretch_cmp (span_of one) (span_of two)) (slice_cmp nat_cmp rest left) lower e
+
+module _ (types : List ColumnType) (version route : ℕ) where
+  on_route : (one : Event) → is_on version route one ≡ true → one.route ≡ route
+  on_route one on = let parts = and_parts (one.route == route) (sees_event version one) on in grind (arith, nat_tests)
+
+  -- those after one that is seen are printed no earlier
+  later_printed : (cell : List ℕ) (one : Event) (cells : List (List ℕ)) (events : List Event) → SaysEvent types cell one → one.route ≡ route → AllZip (SaysEvent types) cells events
+      → AllByRecursion (λ other. IsTrue (is_below cell other)) cells → AllByRecursion (λ later. stretch_cmp later (span_of one) ≡ Less → ⊥) (spans_at version route events)
+  later_printed cell one [] [] says on all above = tt
+  later_printed cell one [] (e ∷ es) says on all above = absurd all
+  later_printed cell one (c ∷ cs) [] says on all above = absurd all
+  later_printed cell one (c ∷ cs) (e ∷ es) says on all above = by_test (is_on version route e) refl (later_printed cell one cs es says on all.1 above.1) where
+    by_test : (b : Bool) → is_on version route e ≡ b → AllByRecursion (λ later. stretch_cmp later (span_of one) ≡ Less → ⊥) (spans_at version route es)
+        → AllByRecursion (λ later. stretch_cmp later (span_of one) ≡ Less → ⊥) (map span_of (cond b (e ∷ filter (is_on version route) es) (filter (is_on version route) es)))
+    by_test true is others = (not_before types cell c one e says all.0 (on ∙ sym (on_route e is)) above.0, others)
+    by_test false is others = others
+
+  in_order : (cells : List (List ℕ)) (events : List Event) → AllZip (SaysEvent types) cells events → Ascends cells → AreInPrintingOrder (spans_at version route events)
+  in_order [] [] all up = tt
+  in_order [] (e ∷ es) all up = absurd all
+  in_order (c ∷ cs) [] all up = absurd all
+  in_order (c ∷ cs) (e ∷ es) all up = by_test (is_on version route e) refl (in_order cs es all.1 up.1) where
+    by_test : (b : Bool) → is_on version route e ≡ b → AreInPrintingOrder (spans_at version route es)
+        → AreInPrintingOrder (map span_of (cond b (e ∷ filter (is_on version route) es) (filter (is_on version route) es)))
+    by_test true is others = (later_printed c e cs es all.0 (on_route e is) all.1 up.0, others)
+    by_test false is others = others
+
+pub held_in_order : (types : List ColumnType) (pages : PageMap) (standing : Standing) (accepted version route : ℕ) (events : List Event) (used : ℕ → ℕ)
+    → HoldsRecords (kept_events types) pages standing accepted events used → AreInPrintingOrder (spans_at version route events)
+held_in_order types pages standing accepted version route events used holds = in_order types version route holds.cells events holds.say holds.holds.tree.ascends

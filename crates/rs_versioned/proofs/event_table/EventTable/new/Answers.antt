@@ -1,0 +1,17 @@
+-- No events are in a tree of no cells.
+use Rattle.std.proofs.Common.{◌≡◌, ◌+◌, ℕ, [], subst, rules}
+use Rattle.rs_interval.specs.Finding.{event_form}
+use Rattle.rs_owners.specs.Counts.{no_pages}
+use Rattle.rs_versions.specs.Versioned.{HoldsCells}
+use Rattle.rs_versioned.specs.Events.{event_width}
+use Rattle.rs_versioned.proofs.event_table.EventTable.new.Goals as goal
+
+pub returns-clause-empty : goal.returns-clause-empty
+returns-clause-empty c = λ pages accepted.
+    let wide : c.row_width-width.result + 28 ≡ event_width c.args.schema.items = search rules in
+    record {
+      cells = [];
+      holds = subst (λ (w : ℕ). HoldsCells (event_form w) pages c.new.result.working [] no_pages) wide (c.new.ensures.empty pages);
+      say = tt;
+      dated = tt;
+    }

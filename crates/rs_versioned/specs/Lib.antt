@@ -1,0 +1,4 @@
+pub mod Events
+pub mod Referents
+pub mod Records
+pub mod Tables

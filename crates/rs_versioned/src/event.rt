@@ -1,0 +1,97 @@
+//! The cell of an event record.
+//!
+//! It is the route in four bytes, the first thousandth in four, the row as it is encoded, the version of its birth in eight,
+//! the first thousandth after it in four, and the version of its end in eight.
+
+ghost use Rattle.std.specs.Prelude.{◌≡◌, ◌⊎◌, ◌+◌, ◌≤◌, ◌++◌, ◌↔◌, ℕ, List, IfOk, IfErr, OnOk, IsTrue, length};
+ghost use Rattle.rs_facts.specs.Spans.{seen};
+ghost use Rattle.rs_measure.specs.declared.refusal.Refusal.TheVariants as refusals;
+ghost use Rattle.rs_value.specs.declared.column.ColumnType.{ColumnType};
+ghost use Rattle.rs_value.specs.Encoding.{SaysRow, row_width};
+ghost use Rattle.rs_value.specs.Values.{IsRowOf};
+ghost use Rattle.rs_value.specs.View.{row_of};
+ghost use Rattle.rs_versioned.specs.Events.{Event, SaysEvent, event_width, span_of};
+ghost use Rattle.rs_versions.specs.declared.cell.TheConstants.{LIVING};
+
+use byteorder::{BigEndian, ByteOrder};
+use rs_facts::fact::Span;
+use rs_measure::Refusal;
+use rs_value::{Schema, Tuple, decode, encode, row_width};
+use rs_versions::LIVING;
+use std::alloc::{AllocError, Global};
+
+/// The bytes of an event's cell beside those of its row.
+pub const EVENT_BYTES: usize = 28;
+
+/// The bytes before the row.
+const FRONT_BYTES: usize = 8;
+
+/// The cell of a living event.
+pub fn cell_of(
+    alloc: Global,
+    schema: &Schema,
+    route: u32,
+    span: &Span,
+    born: u64,
+) -> Result<Vec<u8>, AllocError>
+    requires row { IsRowOf schema.now.items (row_of span.now.tuple.value) }
+    ensures says { IfOk result (λ cell. SaysEvent schema.now.items cell.items
+        (record { route = route; lo = span.now.lo; hi = span.now.hi; row = row_of span.now.tuple.value; born = born; died = LIVING })) }
+{
+    let mut cell = Vec::new(alloc);
+    cell.extend_from_slice(&route.to_be_bytes())?;
+    cell.extend_from_slice(&span.lo.to_be_bytes())?;
+    push_row(&mut cell, schema, &span.tuple)?;
+    cell.extend_from_slice(&born.to_be_bytes())?;
+    cell.extend_from_slice(&span.hi.to_be_bytes())?;
+    cell.extend_from_slice(&LIVING.to_be_bytes())?;
+    Ok(cell)
+}
+
+/// Puts a row after the bytes, as it is encoded.
+fn push_row(bytes: &mut Vec<u8>, schema: &Schema, tuple: &Tuple) -> Result<(), AllocError>
+    requires row { IsRowOf schema.now.items (row_of tuple.now) }
+    ensures { OnOk result ((row : List ℕ) × SaysRow schema.now.items row (row_of tuple.now) × (bytes.new.items ≡ bytes.old.items ++ row)) }
+{
+    let start = bytes.len();
+    bytes.resize(start.saturating_add(row_width(schema)), 0)?;
+    encode(schema, tuple, &mut bytes[start..]);
+    Ok(())
+}
+
+/// The number of the route that an event is on.
+pub fn route_of(cell: &[u8]) -> u32
+    requires width { EVENT_BYTES ≤ length cell.now }
+    ensures { (types : List ColumnType) (event : Event) → SaysEvent types cell.now event → result ≡ event.route }
+{
+    BigEndian::read_u32(cell)
+}
+
+/// Whether the cell says an event with a row of these columns. Takes no memory.
+pub fn says_event(schema: &Schema, cell: &[u8]) -> bool
+    requires width { length cell.now ≡ event_width schema.now.items }
+    ensures { IsTrue result ↔ ((event : Event) × SaysEvent schema.now.items cell.now event) }
+{
+    let end = FRONT_BYTES + row_width(schema);
+    decode(schema, &cell[FRONT_BYTES..end]).is_some()
+}
+
+/// The span of an event. It is refused with 90, and with 94 where the cell says no event with a row of these columns.
+pub fn span_of(alloc: Global, schema: &Schema, cell: &[u8]) -> Result<Span, Refusal>
+    requires width { length cell.now ≡ event_width schema.now.items }
+    ensures said { OnOk result ((event : Event) × SaysEvent schema.now.items cell.now event) }
+    ensures span { IfOk result (λ span. (event : Event) → SaysEvent schema.now.items cell.now event → seen span ≡ span_of event) }
+    ensures refused { IfErr result (λ why. (why ≡ refusals.OutOfMemory)
+        ⊎ ((why ≡ refusals.DamagedFile) × ((event : Event) → SaysEvent schema.now.items cell.now event → ⊥))) }
+{
+    let end = FRONT_BYTES + row_width(schema);
+    let Some(tuple) = decode(schema, &cell[FRONT_BYTES..end]) else {
+        return Err(Refusal::DamagedFile);
+    };
+    let lo = BigEndian::read_u32(&cell[4..]);
+    let hi = BigEndian::read_u32(&cell[end + 8..]);
+    match Box::new(alloc, tuple) {
+        Ok(tuple) => Ok(Span { lo, hi, tuple }),
+        Err(_) => Err(Refusal::OutOfMemory),
+    }
+}

@@ -1,0 +1,301 @@
+//! The event records of a table, by version.
+//!
+//! Changes are made together or not at all: `commit` keeps them, `abandon` takes them back, and neither takes memory. The
+//! pages are to be committed or abandoned with them.
+
+ghost use Rattle.std.specs.Prelude.{◌≡◌, ◌<◌, ◌≤◌, ◌↔◌, ◌*◌, ◌+◌, ℕ, List, [], Contains, IsTrue, IfOk, IfErr, OnOk, OnErr, count_by, false, filter, length, min, nat_le, true};
+ghost use Rattle.std.specs.List.{AllByRecursion, AllZip};
+ghost use Rattle.rs_owners.specs.Changes.{WorksAfter};
+ghost use Rattle.rs_owners.specs.Counts.{◌&◌, no_pages};
+ghost use Rattle.rs_owners.specs.Owners.{Shares};
+ghost use Rattle.rs_pages.specs.Lending.{RestsAfter};
+ghost use Rattle.rs_pages.specs.PageMap.{PageMap, SamePages};
+ghost use Rattle.rs_records.specs.Listed.{listed, record_width};
+ghost use Rattle.rs_tree.specs.Calls.{RefusesToRead};
+ghost use Rattle.rs_tree.specs.Cells.{with_cell};
+ghost use Rattle.rs_value.specs.Values.{IsRowOf};
+ghost use Rattle.rs_value.specs.View.{row_of};
+ghost use Rattle.rs_interval.specs.Finding.{event_form};
+ghost use Rattle.rs_versioned.specs.Events.{Event, SaysEvent, event_width, is_visible, kept_events};
+ghost use Rattle.rs_versioned.specs.Records.{ChangesRecords, HasEnded, HasNone, HasOneMore, HasCleared, HoldsRecords};
+ghost use Rattle.rs_versions.specs.Changes.{Ends, cleared, without_cells};
+ghost use Rattle.rs_versions.specs.Version.{died_of, is_living};
+ghost use Rattle.rs_versions.specs.declared.cell.TheConstants.{LIVING};
+ghost use Rattle.rs_versions.specs.Versioned.{ChangesCells, HoldsNone, nothing_stands};
+
+use crate::event::{EVENT_BYTES, cell_of};
+use crate::seeing::seen_by;
+use rs_facts::fact::Span;
+use rs_interval::{GreatestEnd, overlapping};
+use rs_measure::Refusal;
+use rs_page::PageNumber;
+use rs_pages::Pages;
+use rs_records::Cells;
+use rs_tree_page::Layout;
+use rs_value::{Schema, row_width};
+use rs_versions::Versions;
+use std::alloc::Global;
+use std::marker::Model;
+
+/// The event records of a table.
+#[derive(Drop)]
+pub struct EventTable {
+    schema: Schema,
+    versions: Versions<GreatestEnd>,
+}
+
+impl Model for EventTable {
+    ghost use Rattle.std.specs.Prelude.{◌≡◌};
+    ghost use Rattle.rs_versioned.specs.Events.{event_width};
+    ghost use Rattle.rs_versioned.specs.Tables.{EventTableState};
+
+    ghost Value = { EventTableState };
+
+    ghost view = { λ table. record {
+      types = table.schema.items;
+      working = table.versions.working;
+      committed = table.versions.committed;
+    } };
+
+    ghost invariant = { λ table. table.versions.width ≡ event_width table.schema.items };
+}
+
+impl EventTable {
+    /// No events, with rows of these columns. Three entries of an inner page fit it at least.
+    pub fn new(alloc: Global, schema: Schema) -> EventTable
+        requires fits { 3 * (8 + event_width schema.items) ≤ 4080 }
+        ensures types { result.types ≡ schema.items }
+        ensures working { result.working ≡ nothing_stands }
+        ensures committed { result.committed ≡ nothing_stands }
+        ensures empty { (pages : PageMap) (accepted : ℕ)
+            → HoldsRecords (kept_events schema.items) pages result.working accepted [] no_pages }
+    {
+        let width = row_width(&schema) + EVENT_BYTES;
+        EventTable {
+            schema,
+            versions: Versions::new(alloc, width),
+        }
+    }
+
+    /// The events of these cells, with rows of these columns.
+    pub fn with(schema: Schema, versions: Versions<GreatestEnd>) -> EventTable
+        requires width { versions.width ≡ event_width schema.items }
+        ensures types { result.types ≡ schema.items }
+        ensures working { result.working ≡ versions.working }
+        ensures committed { result.committed ≡ versions.committed }
+    {
+        EventTable { schema, versions }
+    }
+
+    /// The page at the top of the tree; 0 where there are no records.
+    pub fn root(&self) -> PageNumber
+        ensures { result ≡ self.now.working.root }
+    {
+        self.versions.root()
+    }
+
+    /// How many records live.
+    pub fn living(&self) -> u64
+        ensures { result ≡ self.now.working.living }
+    {
+        self.versions.living()
+    }
+
+    /// How many records are dead and not cleared yet.
+    pub fn garbage(&self) -> u64
+        ensures { result ≡ length self.now.working.dead }
+    {
+        self.versions.garbage()
+    }
+
+    /// The columns of the rows.
+    pub fn schema(&self) -> &Schema
+        ensures { result.now.items ≡ self.now.types }
+    {
+        &self.schema
+    }
+
+    /// Puts the row on the route along the span, as versions from this one on see it, and answers whether the record was not
+    /// there before; where it was, nothing changes. It is refused with 90, with 91, with 92 where the file is full, and with
+    /// 94 only where no such records lie there with pages of their own; the table is as it was then, and the working pages are
+    /// to be abandoned.
+    pub fn add<P: Pages>(
+        &mut self,
+        alloc: Global,
+        pages: &mut P,
+        version: u64,
+        route: u32,
+        span: &Span,
+    ) -> Result<bool, Refusal>
+        requires begun { (P.store pages.old).is_begun ≡ true }
+        requires row { IsRowOf self.old.types (row_of span.now.tuple.value) }
+        ensures keeps { P.keeps pages.old pages.new }
+        ensures works { WorksAfter (P.is_tied pages.old → HoldsNone
+            (event_form (event_width self.old.types)) (P.store pages.old).map self.old.working)
+            result (P.store pages.old) (P.store pages.new) }
+        ensures added { P.is_tied pages.old → OnOk result ((accepted : ℕ) → accepted ≤ version → ChangesRecords
+            (kept_events self.old.types) (P.store pages.old).map (P.store pages.new).map
+            self.old.working self.new.working accepted version (HasOneMore
+            (record { route = route; lo = span.now.lo; hi = span.now.hi; row = row_of span.now.tuple.value; born = version; died = LIVING }))) }
+        ensures inserted { P.is_tied pages.old → OnOk result ((cell : List ℕ)
+            → SaysEvent self.old.types cell (record { route = route; lo = span.now.lo; hi = span.now.hi; row = row_of span.now.tuple.value; born = version; died = LIVING })
+            → ChangesCells (event_form (event_width self.old.types)) (P.store pages.old).map (P.store pages.new).map
+            self.old.working self.new.working (with_cell cell)) }
+        ensures found { P.is_tied pages.old → IfOk result (λ new. (events : List Event) (used others : ℕ → ℕ) (accepted : ℕ)
+            → HoldsRecords (kept_events self.old.types) (P.store pages.old).map self.old.working accepted events used
+            → Shares (P.store pages.old).map (used & others) → (IsTrue new ↔ (Contains events
+            (record { route = route; lo = span.now.lo; hi = span.now.hi; row = row_of span.now.tuple.value; born = version; died = LIVING }) → ⊥))) }
+        ensures rests { P.is_tied pages.old → IfOk result (λ new. new ≡ false
+            → SamePages (P.store pages.new).map (P.store pages.old).map × (self.new ≡ self.old)) }
+        ensures types { self.new.types ≡ self.old.types }
+        ensures committed { self.new.committed ≡ self.old.committed }
+        ensures dead { self.new.working.dead ≡ self.old.working.dead }
+        ensures stays { OnErr result (self.new ≡ self.old) }
+    {
+        let cell = cell_of(alloc, &self.schema, route, span, version).map_err(
+            |_| Refusal::OutOfMemory,
+        )?;
+        self.versions.add(pages, &cell)
+    }
+
+    /// Ends a living event at a version, and answers whether it was there: versions before this one see it as they did, and
+    /// no other does. An event that no version saw before this one is taken out. It is refused with 90, with 91, with 92
+    /// where the file is full, and with 94 only where no such records lie there with pages of their own; the table is as it was
+    /// then.
+    pub fn kill<P: Pages>(
+        &mut self,
+        pages: &mut P,
+        version: u64,
+        cell: &[u8],
+    ) -> Result<bool, Refusal>
+        requires begun { (P.store pages.old).is_begun ≡ true }
+        requires width { length cell.now ≡ event_width self.old.types }
+        requires living { IsTrue (is_living cell.now) }
+        requires version { version < LIVING }
+        requires order { AllByRecursion (λ dead. died_of dead ≤ version) self.old.working.dead }
+        ensures keeps { P.keeps pages.old pages.new }
+        ensures works { WorksAfter (P.is_tied pages.old → HoldsNone
+            (event_form (event_width self.old.types)) (P.store pages.old).map self.old.working)
+            result (P.store pages.old) (P.store pages.new) }
+        ensures killed { P.is_tied pages.old → OnOk result ((accepted : ℕ) (event : Event) → accepted ≤ version
+            → SaysEvent self.old.types cell.now event → ChangesRecords
+            (kept_events self.old.types) (P.store pages.old).map (P.store pages.new).map
+            self.old.working self.new.working accepted version (HasEnded (kept_events self.old.types) version event)) }
+        ensures ended { P.is_tied pages.old → OnOk result (Ends
+            (event_form (event_width self.old.types)) (P.store pages.old).map (P.store pages.new).map
+            self.old.working self.new.working version cell.now) }
+        ensures found { P.is_tied pages.old → IfOk result (λ found. (events : List Event) (used others : ℕ → ℕ) (accepted : ℕ)
+            → HoldsRecords (kept_events self.old.types) (P.store pages.old).map self.old.working accepted events used
+            → Shares (P.store pages.old).map (used & others)
+            → (event : Event) → SaysEvent self.old.types cell.now event → (IsTrue found ↔ Contains events event)) }
+        ensures order { AllByRecursion (λ dead. died_of dead ≤ version) self.new.working.dead }
+        ensures types { self.new.types ≡ self.old.types }
+        ensures committed { self.new.committed ≡ self.old.committed }
+        ensures stays { OnErr result (self.new ≡ self.old) }
+    {
+        self.versions.kill(pages, version, cell)
+    }
+
+    /// The cells of the events on the route that begin before `b` and end after `a`, in thousandths, and that the version sees:
+    /// as they are printed. It is refused with 90, with 91, and with 94 only where no tree
+    /// stands there. No page changes.
+    pub fn visible<P: Pages>(
+        &self,
+        alloc: Global,
+        pages: &mut P,
+        version: u64,
+        route: u32,
+        a: u32,
+        b: u32,
+    ) -> Result<Cells, Refusal>
+        ensures rests { RestsAfter P.is_tied P.store P.keeps result pages.old pages.new }
+        ensures width { IfOk result (λ found. record_width found ≡ event_width self.now.types) }
+        ensures found { P.is_tied pages.old → IfOk result (λ found. (events : List Event) (used : ℕ → ℕ) (accepted : ℕ)
+            → HoldsRecords (kept_events self.now.types) (P.store pages.old).map self.now.working accepted events used
+            → AllZip (SaysEvent self.now.types) (listed found) (filter (is_visible version route a b) events)) }
+        ensures refused { IfErr result (λ why. RefusesToRead (P.is_tied pages.old) (event_form (event_width self.now.types))
+            self.now.working.root why (P.store pages.old) (P.store pages.new)) }
+    {
+        let layout = Layout::new(self.versions.width(), 4);
+        let (found, _reads) = overlapping(alloc, pages, layout, self.root(), route, a, b)?;
+        match seen_by(alloc, version, &found) {
+            Ok(seen) => Ok(seen),
+            Err(_) => Err(Refusal::OutOfMemory),
+        }
+    }
+
+    /// Takes out events that no version from `oldest` on sees, those that died first before the others, at most so many, and
+    /// answers their cells. It is refused with 90, with 91, with 92 where the file is full, and with 94 only where no such
+    /// records lie there with pages of their own; the table is as it was then.
+    pub fn vacuum<P: Pages>(
+        &mut self,
+        alloc: Global,
+        pages: &mut P,
+        oldest: u64,
+        most: usize,
+    ) -> Result<Cells, Refusal>
+        requires begun { (P.store pages.old).is_begun ≡ true }
+        ensures keeps { P.keeps pages.old pages.new }
+        ensures works { WorksAfter (P.is_tied pages.old → HoldsNone
+            (event_form (event_width self.old.types)) (P.store pages.old).map self.old.working)
+            result (P.store pages.old) (P.store pages.new) }
+        ensures taken { IfOk result (λ taken. listed taken ≡ cleared oldest most self.old.working.dead) }
+        ensures taken_width { IfOk result (λ taken. record_width taken ≡ event_width self.old.types) }
+        ensures vacuumed { P.is_tied pages.old → IfOk result (λ taken. (accepted : ℕ) → ChangesRecords
+            (kept_events self.old.types) (P.store pages.old).map (P.store pages.new).map
+            self.old.working self.new.working accepted accepted (HasCleared (kept_events self.old.types) oldest (listed taken))) }
+        ensures cleared_cells { P.is_tied pages.old → OnOk result (ChangesCells
+            (event_form (event_width self.old.types)) (P.store pages.old).map (P.store pages.new).map
+            self.old.working self.new.working (without_cells (cleared oldest most self.old.working.dead))) }
+        ensures as_many { P.is_tied pages.old → IfOk result (λ taken. (events : List Event) (used : ℕ → ℕ) (accepted : ℕ)
+            → HoldsRecords (kept_events self.old.types) (P.store pages.old).map self.old.working accepted events used
+            → oldest < LIVING → length (listed taken) ≡ min most (count_by (λ event. nat_le event.died oldest) events)) }
+        ensures order { (version : ℕ) → AllByRecursion (λ dead. died_of dead ≤ version) self.old.working.dead
+            → AllByRecursion (λ dead. died_of dead ≤ version) self.new.working.dead }
+        ensures types { self.new.types ≡ self.old.types }
+        ensures committed { self.new.committed ≡ self.old.committed }
+        ensures stays { OnErr result (self.new ≡ self.old) }
+    {
+        self.versions.vacuum(alloc, pages, oldest, most)
+    }
+
+    /// Takes out all events and frees their pages. It is refused with 90, with 91, with 92 where the file is full, and with 94
+    /// only where no such records lie there with pages of their own; the table is as it was then.
+    pub fn clear<P: Pages>(&mut self, pages: &mut P) -> Result<(), Refusal>
+        requires begun { (P.store pages.old).is_begun ≡ true }
+        ensures keeps { P.keeps pages.old pages.new }
+        ensures works { WorksAfter (P.is_tied pages.old → HoldsNone
+            (event_form (event_width self.old.types)) (P.store pages.old).map self.old.working)
+            result (P.store pages.old) (P.store pages.new) }
+        ensures cleared { P.is_tied pages.old → OnOk result ((accepted : ℕ) → ChangesRecords
+            (kept_events self.old.types) (P.store pages.old).map (P.store pages.new).map
+            self.old.working self.new.working accepted accepted HasNone) }
+        ensures emptied { P.is_tied pages.old → OnOk result (ChangesCells
+            (event_form (event_width self.old.types)) (P.store pages.old).map (P.store pages.new).map
+            self.old.working self.new.working (λ _. [])) }
+        ensures working { OnOk result (self.new.working ≡ nothing_stands) }
+        ensures types { self.new.types ≡ self.old.types }
+        ensures committed { self.new.committed ≡ self.old.committed }
+        ensures stays { OnErr result (self.new ≡ self.old) }
+    {
+        self.versions.clear(pages)
+    }
+
+    /// Keeps what was changed. Takes no memory.
+    pub fn commit(&mut self)
+        ensures working { self.new.working ≡ self.old.working }
+        ensures committed { self.new.committed ≡ self.old.working }
+        ensures types { self.new.types ≡ self.old.types }
+    {
+        self.versions.commit();
+    }
+
+    /// Takes back what was changed since the last commit. Takes no memory.
+    pub fn abandon(&mut self)
+        ensures working { self.new.working ≡ self.old.committed }
+        ensures committed { self.new.committed ≡ self.old.committed }
+        ensures types { self.new.types ≡ self.old.types }
+    {
+        self.versions.abandon();
+    }
+}

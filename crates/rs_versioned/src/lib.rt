@@ -1,0 +1,14 @@
+//! The events and referents of a file by version: who sees which record.
+//!
+//! A record is seen by the versions from its birth on, up to its end. Each table's records lie in a tree of pages of its own.
+#![tactic(auto)]
+
+pub mod event;
+pub mod event_table;
+pub mod laws;
+pub mod referent;
+pub mod referent_table;
+mod seeing;
+
+pub use event_table::EventTable;
+pub use referent_table::ReferentTable;
