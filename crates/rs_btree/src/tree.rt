@@ -130,14 +130,17 @@ impl<S: Summary> Tree<S> {
         descend::<P, S, F>(alloc, pages, self.layout, self.root, low, high, keep)
     }
 
-    /// Marks the tree's pages. Ok exactly where a well formed tree stands there none of whose pages was reached before; 94
-    /// where none does; 91 where a page couldn't be read. What is marked after a refusal is open.
-    pub fn validate<P: Pages>(&self, pages: &mut P, reached: &mut Reached) -> Result<(), Refusal>
+    /// Marks the tree's pages, and answers how many cells it has, exactly where a well formed tree stands there none of whose
+    /// pages was reached before; 94 where none does; 91 where a page couldn't be read. What is marked after a refusal is open.
+    pub fn validate<P: Pages>(&self, pages: &mut P, reached: &mut Reached) -> Result<u64, Refusal>
         ensures rests { RestsAfter P.is_tied P.store P.keeps result pages.old pages.new }
         ensures size { length reached.new ≡ length reached.old }
         ensures validates { P.is_tied pages.old → OnOk result (Validates
             (form_of S.says S.unit S.join S.of S.WIDTH self.now.width) (P.store pages.old).map self.now.root
             (taken reached.old) (taken reached.new)) }
+        ensures counted { P.is_tied pages.old → IfOk result (λ count. (cells : List (List ℕ)) (used : ℕ → ℕ)
+            → IsTree (form_of S.says S.unit S.join S.of S.WIDTH self.now.width) (P.store pages.old).map self.now.root cells used
+            → count ≡ length cells) }
         ensures refused { IfErr result (λ why. (why ≡ Refusal.Disk) ⊎ (why ≡ Refusal.DamagedFile)) }
         ensures damaged { P.is_tied pages.old → result ≡ Err Refusal.DamagedFile → HasNoFreshTree
             (form_of S.says S.unit S.join S.of S.WIDTH self.now.width) (P.store pages.old).map self.now.root

@@ -17,7 +17,7 @@ use Rattle.rs_tree.specs.Form.{Form, least_from, child_bytes}
 use Rattle.rs_page.specs.declared.header.PageKind.TheVariants as kind
 use Rattle.rs_tree.specs.Content.{Child, SaysChild, HasRecords, content}
 use Rattle.rs_tree.specs.Shape.{Shape, Lies, page_of, cells_of, uses, child_of}
-use Rattle.rs_tree.specs.Tree.{Stands}
+use Rattle.rs_tree.specs.Tree.{IsTree, Stands}
 use Rattle.rs_tree.proofs.Bounds.{size-le, size-ge}
 use Rattle.rs_tree.proofs.Lists.{zip_lengths}
 use Rattle.rs_tree.proofs.Shapes.{lies_same, entries_leasts}
@@ -62,7 +62,7 @@ module _ {S : Type 0} (sum : List (List ℕ) → S) (says : List ℕ → List (L
     -- a leaf whose cells are in order
     pub reaches_leaf : (before after : ℕ → ℕ) (summary : S) → 1 < number → number < pages.fields.pages → IsNode page number layout (Leaf count)
         → IsInOrder least bound (records count layout.width (content page)) → ((n : ℕ) → after n ≡ (before & one_at number) n) → summary ≡ sum (records count layout.width (content page))
-        → Reaches sum form pages number least bound before after 0 summary
+        → Reaches sum form pages number least bound before after 0 count summary
     reaches_leaf before after summary past inside node order reached sums = record {
       shape = record { page = number; cells = records count layout.width (content page) };
       part = record {
@@ -81,6 +81,7 @@ module _ {S : Type 0} (sum : List (List ℕ) → S) (says : List ℕ → List (L
       };
       order = order;
       reached = reached;
+      counts = λ few. sym (length-records count layout.width (content page));
       sums = sums;
     }
 
@@ -92,12 +93,12 @@ module _ {S : Type 0} (sum : List (List ℕ) → S) (says : List ℕ → List (L
     }
 
     -- an inner page whose entries say sound parts
-    pub reaches_inner : (before mid after : ℕ → ℕ) (later : PageMap) (height : ℕ) (summary : S) → 1 < number → number < pages.fields.pages → IsNode page number layout (Inner count) → SamePages later pages
+    pub reaches_inner : (before mid after : ℕ → ℕ) (later : PageMap) (height total : ℕ) (summary : S) → 1 < number → number < pages.fields.pages → IsNode page number layout (Inner count) → SamePages later pages
         → BeginsWith least (keys (least_from layout.summary) (records count (entry_bytes layout) (content page)))
-        → ((n : ℕ) → mid n ≡ (before & one_at number) n) → ReachesEntries form later page count count bound mid after height
+        → ((n : ℕ) → mid n ≡ (before & one_at number) n) → ReachesEntries form later page count count bound mid after height total
         → ((children : List Child) → AllZip (SaysChild form) (records count (entry_bytes layout) (content page)) children → summary ≡ sum (flat_map (λ child. child.cells) children))
-        → Reaches sum form pages number least bound before after (suc height) summary
-    reaches_inner before mid after later height summary past inside node same begins entered some sums = record {
+        → Reaches sum form pages number least bound before after (suc height) total summary
+    reaches_inner before mid after later height total summary past inside node same begins entered some sums = record {
       shape = record { page = number; parts = some.parts };
       part = record {
         lies = (
@@ -123,6 +124,7 @@ module _ {S : Type 0} (sum : List (List ℕ) → S) (says : List ℕ → List (L
             (slice_get_past (keys (least_from layout.summary) (records count (entry_bytes layout) (content page))) count (omega (arith, length-keys (least_from layout.summary) count (entry_bytes layout) (content page)))) some.ends;
       };
       reached = λ n. omega (arith, some.reached n, entered n);
+      counts = some.counts;
       sums = sums (map (child_of height) some.parts) whole ∙ ap sum (cells_below some.parts);
     } where
       whole : AllZip (SaysChild form) (records count (entry_bytes layout) (content page)) (map (child_of height) some.parts)
@@ -192,10 +194,10 @@ module _ (form : Form) (pages : PageMap) (entry : List ℕ) (bound : Option (Lis
   least = Some (drop (least_from form.summary) entry)
 
   -- the part that an entry says, with the summary that it should say
-  pub reaches_entry : {S : Type 0} (sum : List (List ℕ) → S) (before after : ℕ → ℕ) (height : ℕ) (summary : S) (number : ℕ) → number ≡ number_at 0 4 entry
+  pub reaches_entry : {S : Type 0} (sum : List (List ℕ) → S) (before after : ℕ → ℕ) (height total : ℕ) (summary : S) (number : ℕ) → number ≡ number_at 0 4 entry
       → ((cells : List (List ℕ)) → summary ≡ sum cells → form.says (take form.summary (drop child_bytes entry)) cells)
-      → Reaches sum form pages number least bound before after height summary → ReachesEntry form pages entry bound before after height
-  reaches_entry sum before after height summary number here told found = record {
+      → Reaches sum form pages number least bound before after height total summary → ReachesEntry form pages entry bound before after height total
+  reaches_entry sum before after height total summary number here told found = record {
     part = found.shape;
     is = record {
       says = record {
@@ -208,6 +210,7 @@ module _ (form : Form) (pages : PageMap) (entry : List ℕ) (bound : Option (Lis
     ascends = found.order.ascends;
     ends = found.order.ends;
     reached = found.reached;
+    counts = found.counts;
   }
 
   -- where its page is the top of no sound part the entry says none
@@ -219,10 +222,10 @@ module _ (form : Form) (pages : PageMap) (entry : List ℕ) (bound : Option (Lis
   }
 
   -- nor where the summary is another
-  pub none_said : {S : Type 0} (sum : List (List ℕ) → S) (levels : ℕ) (before after : ℕ → ℕ) (height : ℕ) (summary : S) (number : ℕ) → number ≡ number_at 0 4 entry → ((n : ℕ) → after n ≤ 1)
+  pub none_said : {S : Type 0} (sum : List (List ℕ) → S) (levels : ℕ) (before after : ℕ → ℕ) (height total : ℕ) (summary : S) (number : ℕ) → number ≡ number_at 0 4 entry → ((n : ℕ) → after n ≤ 1)
       → ((cells : List (List ℕ)) → summary ≡ sum cells → form.says (take form.summary (drop child_bytes entry)) cells → ⊥)
-      → Reaches sum form pages number least bound before after height summary → HasNoSoundEntry form pages entry bound levels before
-  none_said sum levels before after height summary number here few apart found = record {
+      → Reaches sum form pages number least bound before after height total summary → HasNoSoundEntry form pages entry bound levels before
+  none_said sum levels before after height total summary number here few apart found = record {
     none = λ level part is up under high once.
         let same = same_cells form pages height found.shape level part found.part.lies is.lies (found.part.top ∙ here ∙ is.says.page) found.order.ascends up
         (λ n. omega (arith, few n, found.reached n)) (λ n. omega (arith, once n)) in
@@ -231,26 +234,28 @@ module _ (form : Form) (pages : PageMap) (entry : List ℕ) (bound : Option (Lis
 
 module _ (form : Form) (pages : PageMap) (root : ℕ) where
   -- the empty tree
+  pub tree_none : root ≡ 0 → IsTree form pages root [] (λ _. 0)
+  tree_none none = record { height = 0; stands = record { none = none; no_cells = refl; no_pages = λ n. refl }; ascends = tt; once = λ n. omega arith }
+
   pub validates_none : (before : ℕ → ℕ) → root ≡ 0 → Validates form pages root before before
-  validates_none before none = record {
-    cells = [];
-    used = λ _. 0;
-    tree = record { height = 0; stands = record { none = none; no_cells = refl; no_pages = λ n. refl }; ascends = tt; once = λ n. omega arith };
-    reached = λ n. omega arith;
-  }
+  validates_none before none = record { cells = []; used = λ _. 0; tree = tree_none none; reached = λ n. omega arith }
 
   -- a sound part at the root is a tree
-  pub validates_root : {S : Type 0} (sum : List (List ℕ) → S) (before after : ℕ → ℕ) (height : ℕ) (summary : S) → ((n : ℕ) → after n ≤ 1) → Reaches sum form pages root None None before after height summary
+  pub tree_root : {S : Type 0} (sum : List (List ℕ) → S) (before after : ℕ → ℕ) (height total : ℕ) (summary : S) → ((n : ℕ) → after n ≤ 1) → (found : Reaches sum form pages root None None before after height total summary)
+      → IsTree form pages root (cells_of height found.shape) (uses height found.shape)
+  tree_root sum before after height total summary few found = record {
+    height = suc height;
+    stands = record { shape = found.shape; lies = found.part.lies; top = found.part.top; lists = refl; owns = λ n. refl };
+    ascends = found.order.ascends;
+    once = λ n. omega (arith, few n, found.reached n);
+  }
+
+  pub validates_root : {S : Type 0} (sum : List (List ℕ) → S) (before after : ℕ → ℕ) (height total : ℕ) (summary : S) → ((n : ℕ) → after n ≤ 1) → Reaches sum form pages root None None before after height total summary
       → Validates form pages root before after
-  validates_root sum before after height summary few found = record {
+  validates_root sum before after height total summary few found = record {
     cells = cells_of height found.shape;
     used = uses height found.shape;
-    tree = record {
-      height = suc height;
-      stands = record { shape = found.shape; lies = found.part.lies; top = found.part.top; lists = refl; owns = λ n. refl };
-      ascends = found.order.ascends;
-      once = λ n. omega (arith, few n, found.reached n);
-    };
+    tree = tree_root sum before after height total summary few found;
     reached = found.reached;
   }
 

@@ -210,7 +210,7 @@ impl TreeDriver {
     }
 
     /// As `Tree::validate`.
-    pub fn validate(&mut self, at: TreeAt, reached: &mut Reached) -> Result<(), Refusal> {
+    pub fn validate(&mut self, at: TreeAt, reached: &mut Reached) -> Result<u64, Refusal> {
         at.tree().validate(&mut self.pager, reached)
     }
 

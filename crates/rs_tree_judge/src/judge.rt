@@ -25,7 +25,7 @@ pub enum Call {
     Descend(u32, u32, u32),
     /// The keys on a route that end after one thousandth and begin before another.
     Overlapping(u32, u32, u32),
-    /// All trees, and whether each page is theirs or free.
+    /// All trees: whether they have as many cells, and each page is theirs or free.
     Validate,
     Commit,
     Abandon,
@@ -35,7 +35,7 @@ pub enum Call {
 /// What a call answers: a number, else 0.
 type Answer = Result<u32, Refusal>;
 
-/// The answer of a search that found others, or of trees whose pages are not all.
+/// The answer of a search that found others, or of trees that have more cells or fewer, or whose pages are not all.
 const WRONG: u32 = 1_000_000;
 
 /// A tree, and what it is to hold.
@@ -233,17 +233,23 @@ impl Judge {
         if are_wanted { Ok(0) } else { Ok(WRONG) }
     }
 
-    /// Marks the pages of both trees. Those that are left are page 0, the directory and the free ones.
+    /// Marks the pages of both trees and counts their cells. Those pages that are left are page 0, the directory and the free
+    /// ones.
     fn validate(&mut self) -> Answer {
         let (pages, free) = self.driver.pages();
         let Ok(mut reached) = Reached::new(self.alloc, pages) else {
             return Err(Refusal::OutOfMemory);
         };
         let PlainTrees { first, second } = self.working;
-        self.driver.validate(first.at, &mut reached)?;
-        self.driver.validate(second.at, &mut reached)?;
+        let cells = self.driver.validate(first.at, &mut reached)?;
+        let others = self.driver.validate(second.at, &mut reached)?;
+        let are_as_many = cells == first.keys.count() && others == second.keys.count();
         let are_all = u64::from(reached.left()) == u64::from(free) + 2;
-        if are_all { Ok(0) } else { Ok(WRONG) }
+        if are_as_many && are_all {
+            Ok(0)
+        } else {
+            Ok(WRONG)
+        }
     }
 
     /// What they are to answer. What they are to hold changes with it.

@@ -29,6 +29,15 @@ impl PlainKeys {
         self.has(key) && end_of(key) > end
     }
 
+    /// How many keys are in the set.
+    pub fn count(&self) -> u64 {
+        let mut count: u64 = 0;
+        for is_there in self.present {
+            count = count.saturating_add(u64::from(is_there));
+        }
+        count
+    }
+
     /// Puts a key into the set or takes it out, and answers whether that changed the set.
     pub fn set(&mut self, key: u32, is_there: bool) -> bool {
         match self.present.get_mut(key as usize) {

@@ -14,6 +14,7 @@ use Rattle.rs_tree.specs.Calls.{Becomes, Changes, IsNotShared}
 use Rattle.rs_tree.specs.Cells.{with_cell, without_cell}
 use Rattle.rs_tree.specs.Form.{Form}
 use Rattle.rs_tree.specs.Tree.{IsTree}
+use Rattle.rs_tree_check.proofs.Sizes.{tree_le}
 use Rattle.rs_versions.specs.Changes.{with_end, without_cells}
 use Rattle.rs_versions.specs.Inner.{Adds, EndsOne, HoldsNoneFirst, TakesOut, standing, with_last}
 use Rattle.rs_versions.specs.Version.{born_of, ended, is_dead, is_living}
@@ -21,7 +22,7 @@ use Rattle.rs_versions.specs.Versioned.{BecomesCells, ChangesCells, HoldsCells, 
 use Rattle.rs_versions.proofs.Among.{among, count-with, filter-with_no, filter-with_yes, filtered, with_present, without_absent}
 use Rattle.rs_versions.proofs.Ending.{ended-dead, living-not_dead, not_living-dead}
 use Rattle.rs_versions.proofs.Permutations.{IsPermutation-rest}
-use Rattle.rs_versions.proofs.Sizes.{no_cells_no_pages, tree_le}
+use Rattle.rs_versions.proofs.Sizes.{no_cells_no_pages}
 
 -- it is told whether the cell is there
 abbrev pub Tells : Form → PageMap → ℕ → List ℕ → Bool → Type 0

@@ -101,7 +101,7 @@ impl<S: Summary> Opening<S> {
             (form_of S.says S.unit S.join S.of S.WIDTH width) (P.store pages.old).map root (taken reached.old) }
     {
         let tree = Tree::at(width, root);
-        tree.validate(pages, reached)?;
+        let _cells = tree.validate(pages, reached)?;
         Ok(Opening {
             tree,
             living,

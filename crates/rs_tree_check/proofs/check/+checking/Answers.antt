@@ -36,8 +36,8 @@ check_part-is_in_order-requires-clause-fit g t c =
     subst (IsNode c.in_ok-loaded.loaded.page.bytes c.args.number c.args.layout) c.in-Leaf.is c.in_ok-loaded.ensures.enters.loaded.node in
     records_fit c.in_ok-loaded.loaded.page.bytes kind.Leaf c.args.number c.in-Leaf.count c.args.layout.width node.0
 
-pub check_part-leaf_summary-requires : goal.check_part-leaf_summary-requires
-check_part-leaf_summary-requires g t c =
+pub check_part-leaf_summary-whole-requires : goal.check_part-leaf_summary-whole-requires
+check_part-leaf_summary-whole-requires g t c =
     let node : IsNode c.in_ok-loaded.loaded.page.bytes c.args.number c.args.layout (Leaf c.in-Leaf.count) =
     subst (IsNode c.in_ok-loaded.loaded.page.bytes c.args.number c.args.layout) c.in-Leaf.is c.in_ok-loaded.ensures.enters.loaded.node in
     records_fit c.in_ok-loaded.loaded.page.bytes kind.Leaf c.args.number c.in-Leaf.count c.args.layout.width node.0
@@ -56,9 +56,9 @@ check_part-returns-else-not-is_in_order-clause-reaches g t c = λ tied.
     subst (IsNode c.in_ok-loaded.loaded.page.bytes c.args.number c.args.layout) c.in-Leaf.is c.in_ok-loaded.ensures.enters.loaded.node in
     reaches_leaf (joined g.S.Summary.unit g.S.Summary.join g.S.Summary.of) (λ bytes cells. g.S.Summary.says bytes (joined g.S.Summary.unit g.S.Summary.join g.S.Summary.of cells)) c.args.layout
     (g.P.Pages.store c.args.pages.now).map c.args.number (option_copied c.args.first) (option_copied c.args.bound) c.in_ok-loaded.loaded.page.bytes c.in-Leaf.count
-    (c.in_ok-loaded.ensures.enters.loaded.bytes tied) (taken c.args.reached.now) (taken c.enter.new.reached) c.leaf_summary.result
+    (c.in_ok-loaded.ensures.enters.loaded.bytes tied) (taken c.args.reached.now) (taken c.enter.new.reached) c.leaf_summary-whole.result
     c.in_ok-loaded.ensures.enters.after c.in_ok-loaded.ensures.enters.below node (c.is_in_order.ensures.0 c.if-not-is_in_order.false)
-    c.in_ok-loaded.ensures.reaches c.leaf_summary.ensures
+    c.in_ok-loaded.ensures.reaches c.leaf_summary-whole.ensures
 
 pub check_part-begins_with-requires-clause-fit : goal.check_part-begins_with-requires-clause-fit
 check_part-begins_with-requires-clause-fit g t c =
@@ -66,8 +66,8 @@ check_part-begins_with-requires-clause-fit g t c =
     subst (IsNode c.in_ok-loaded.loaded.page.bytes c.args.number c.args.layout) c.in-Inner.is c.in_ok-loaded.ensures.enters.loaded.node in
     records_fit c.in_ok-loaded.loaded.page.bytes kind.Inner c.args.number c.in-Inner.count (entry_bytes c.args.layout) node.0
 
-pub check_part-inner_summary-requires-clause-fit : goal.check_part-inner_summary-requires-clause-fit
-check_part-inner_summary-requires-clause-fit g t c =
+pub check_part-inner_summary-whole-requires-clause-fit : goal.check_part-inner_summary-whole-requires-clause-fit
+check_part-inner_summary-whole-requires-clause-fit g t c =
     let node : IsNode c.in_ok-loaded.loaded.page.bytes c.args.number c.args.layout (Inner c.in-Inner.count) =
     subst (IsNode c.in_ok-loaded.loaded.page.bytes c.args.number c.args.layout) c.in-Inner.is c.in_ok-loaded.ensures.enters.loaded.node in
     records_fit c.in_ok-loaded.loaded.page.bytes kind.Inner c.args.number c.in-Inner.count (entry_bytes c.args.layout) node.0
@@ -112,11 +112,11 @@ check_part-returns-in_ok-height-in-Inner-clause-reaches g t c = λ tied.
     let later = g.met.P.Pages.keeps_tied c.args.pages.now c.enter.new.pages c.in_ok-loaded.ensures.rests.below tied in
     let next : suc c.in_ok-height-in-Inner.height ≡ c.in_ok-height-in-Inner.height + 1 = omega arith in
     subst (λ height. Reaches (joined g.S.Summary.unit g.S.Summary.join g.S.Summary.of) (form_of g.S.Summary.says g.S.Summary.unit g.S.Summary.join g.S.Summary.of c.args.layout.summary c.args.layout.width) (g.P.Pages.store c.args.pages.now).map c.args.number (option_copied c.args.first) (option_copied c.args.bound)
-    (taken c.args.reached.now) (taken c.check_entries.new.reached) height c.inner_summary.result) next
+    (taken c.args.reached.now) (taken c.check_entries.new.reached) height c.in_ok-height-in-Inner.total c.inner_summary-whole.result) next
     (reaches_inner (joined g.S.Summary.unit g.S.Summary.join g.S.Summary.of) (λ bytes cells. g.S.Summary.says bytes (joined g.S.Summary.unit g.S.Summary.join g.S.Summary.of cells)) c.args.layout
     (g.P.Pages.store c.args.pages.now).map c.args.number (option_copied c.args.first) (option_copied c.args.bound) c.in_ok-loaded.loaded.page.bytes c.in-Inner.count (c.in_ok-loaded.ensures.enters.loaded.bytes tied) (taken c.args.reached.now) (taken c.enter.new.reached) (taken c.check_entries.new.reached) (g.P.Pages.store c.enter.new.pages).map
-    c.in_ok-height-in-Inner.height c.inner_summary.result c.in_ok-loaded.ensures.enters.after c.in_ok-loaded.ensures.enters.below node (c.in_ok-loaded.ensures.rests.rests.keeps.pages tied)
-    (c.begins_with.ensures.0 c.if-not-begins_with.false) c.in_ok-loaded.ensures.reaches (c.in_ok-height-in-Inner.ensures.reaches later) c.inner_summary.ensures)
+    c.in_ok-height-in-Inner.height c.in_ok-height-in-Inner.total c.inner_summary-whole.result c.in_ok-loaded.ensures.enters.after c.in_ok-loaded.ensures.enters.below node (c.in_ok-loaded.ensures.rests.rests.keeps.pages tied)
+    (c.begins_with.ensures.0 c.if-not-begins_with.false) c.in_ok-loaded.ensures.reaches (c.in_ok-height-in-Inner.ensures.reaches later) c.inner_summary-whole.ensures)
 
 pub check_entries-loop-index-init : goal.check_entries-loop-index-init
 check_entries-loop-index-init g t c = record {
@@ -137,7 +137,7 @@ check_entries-returns-in_err-found-clause-damaged g t c = λ is tied.
     (option_copied c.bound_at-next.result) (option_copied c.args.bound) c.bound_at-next.ensures c.content-bytes.ensures.bytes in
     let later = g.met.P.Pages.keeps_tied c.args.pages.now c.loop-index.pages c.loop-index.invariant.rests.below tied in
     none_next (form_of g.S.Summary.says g.S.Summary.unit g.S.Summary.join g.S.Summary.of c.args.layout.summary c.args.layout.width) (g.P.Pages.store c.args.pages.now).map c.args.page.now.bytes c.args.count (option_copied c.args.bound)
-    c.loop-index.index c.loop-index.height c.args.levels c.record_at-entry.result.now (option_copied c.bound_at-next.result) (g.P.Pages.store c.loop-index.pages).map
+    c.loop-index.index c.loop-index.height c.loop-index.total c.args.levels c.record_at-entry.result.now (option_copied c.bound_at-next.result) (g.P.Pages.store c.loop-index.pages).map
     (taken c.args.reached.now) (taken c.loop-index.reached) (taken-le c.loop-index.reached) there next (c.loop-index.invariant.rests.rests.keeps.pages tied)
     (c.loop-index.invariant.reaches tied) (c.in_err-found.ensures.damaged (ap Err why) later)
 
@@ -149,7 +149,7 @@ check_entries-returns-then-found-height-clause-damaged g t c = λ is tied.
     (option_copied c.bound_at-next.result) (option_copied c.args.bound) c.bound_at-next.ensures c.content-bytes.ensures.bytes in
     let later = g.met.P.Pages.keeps_tied c.args.pages.now c.loop-index.pages c.loop-index.invariant.rests.below tied in
     none_level (form_of g.S.Summary.says g.S.Summary.unit g.S.Summary.join g.S.Summary.of c.args.layout.summary c.args.layout.width) (g.P.Pages.store c.args.pages.now).map c.args.page.now.bytes c.args.count (option_copied c.args.bound)
-    c.loop-index.index c.loop-index.height c.in_ok-found.found c.args.levels c.record_at-entry.result.now (option_copied c.bound_at-next.result) (g.P.Pages.store c.loop-index.pages).map
+    c.loop-index.index c.loop-index.height c.in_ok-found.found c.loop-index.total c.in_ok-found.more c.args.levels c.record_at-entry.result.now (option_copied c.bound_at-next.result) (g.P.Pages.store c.loop-index.pages).map
     (taken c.args.reached.now) (taken c.loop-index.reached) (taken c.check_entry.new.reached) c.if-index-gt0.true c.if-found-height.true there (c.loop-index.invariant.rests.rests.keeps.pages tied)
     (c.loop-index.invariant.reaches tied) (c.in_ok-found.ensures.reaches later)
 
@@ -172,16 +172,16 @@ check_entries-loop-index-preserved g t c =
             | check_entries-else-index-gt0-via-else-index-gt0 w ↦ inl (omega arith)
           ] in
           entries_next (form_of g.S.Summary.says g.S.Summary.unit g.S.Summary.join g.S.Summary.of c.args.layout.summary c.args.layout.width) (g.P.Pages.store c.args.pages.now).map c.args.page.now.bytes c.args.count (option_copied c.args.bound)
-          c.loop-index.index c.loop-index.height c.in_ok-found.found c.record_at-entry.result.now (option_copied c.bound_at-next.result) (g.P.Pages.store c.loop-index.pages).map
-          (taken c.args.reached.now) (taken c.loop-index.reached) (taken c.check_entry.new.reached) there next (c.loop-index.invariant.rests.rests.keeps.pages tied) level
+          c.loop-index.index c.loop-index.height c.in_ok-found.found c.loop-index.total c.in_ok-found.more c.saturating_add-total.result c.record_at-entry.result.now (option_copied c.bound_at-next.result) (g.P.Pages.store c.loop-index.pages).map
+          (taken c.args.reached.now) (taken c.loop-index.reached) (taken c.check_entry.new.reached) there next (c.loop-index.invariant.rests.rests.keeps.pages tied) level c.saturating_add-total.ensures
           (c.loop-index.invariant.reaches tied) (c.in_ok-found.ensures.reaches later);
     }
 
 pub check_entry-returns-then-not-says-clause-damaged : goal.check_entry-returns-then-not-says-clause-damaged
 check_entry-returns-then-not-says-clause-damaged g t c = λ is tied.
     let found = subst (λ least. Reaches (joined g.S.Summary.unit g.S.Summary.join g.S.Summary.of) (form_of g.S.Summary.says g.S.Summary.unit g.S.Summary.join g.S.Summary.of c.args.layout.summary c.args.layout.width) (g.P.Pages.store c.args.pages.now).map c.child-number.result (Some least) (option_copied c.args.bound)
-    (taken c.args.reached.now) (taken c.check_part.new.reached) c.in_ok-height.height c.in_ok-height.whole) c.least.ensures (c.in_ok-height.ensures.reaches tied) in
+    (taken c.args.reached.now) (taken c.check_part.new.reached) c.in_ok-height.height c.in_ok-height.total c.in_ok-height.whole) c.least.ensures (c.in_ok-height.ensures.reaches tied) in
     none_said (form_of g.S.Summary.says g.S.Summary.unit g.S.Summary.join g.S.Summary.of c.args.layout.summary c.args.layout.width) (g.P.Pages.store c.args.pages.now).map c.args.entry.now (option_copied c.args.bound) (joined g.S.Summary.unit g.S.Summary.join g.S.Summary.of)
-    c.args.levels (taken c.args.reached.now) (taken c.check_part.new.reached) c.in_ok-height.height c.in_ok-height.whole c.child-number.result c.child-number.ensures (taken-le c.check_part.new.reached)
+    c.args.levels (taken c.args.reached.now) (taken c.check_part.new.reached) c.in_ok-height.height c.in_ok-height.total c.in_ok-height.whole c.child-number.result c.child-number.ensures (taken-le c.check_part.new.reached)
     (λ cells same said. fails c.says.result c.if-not-says.true c.says.ensures.1
     (subst (λ one. g.S.Summary.says c.summary.result.now one) (sym same) (subst (λ bytes. g.S.Summary.says bytes (joined g.S.Summary.unit g.S.Summary.join g.S.Summary.of cells)) (sym c.summary.ensures.bytes) said))) found

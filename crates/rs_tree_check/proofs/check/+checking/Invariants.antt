@@ -23,5 +23,5 @@ invariant-check_entries-loop-index g l = record {
   height : l.height < l.levels;
   reaches : g.P.Pages.is_tied l.fn.pages
       → ReachesEntries (form_of g.S.Summary.says g.S.Summary.unit g.S.Summary.join g.S.Summary.of l.layout.summary l.layout.width) (g.P.Pages.store l.fn.pages).map l.page.bytes l.count l.index
-      (option_copied l.bound) (taken l.fn.reached) (taken l.reached) l.height;
+      (option_copied l.bound) (taken l.fn.reached) (taken l.reached) l.height l.total;
 }
