@@ -94,6 +94,14 @@ impl EventTable {
         self.versions.root()
     }
 
+    /// How many bytes a cell has.
+    pub fn width(&self) -> usize
+        ensures width { result ≡ event_width self.now.types }
+        ensures fits { 3 * (8 + result) ≤ 4080 }
+    {
+        self.versions.width()
+    }
+
     /// How many records live.
     pub fn living(&self) -> u64
         ensures { result ≡ self.now.working.living }

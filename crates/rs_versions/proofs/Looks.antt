@@ -40,7 +40,7 @@ within_none_low low high (c ∷ cs) none =
     ∙ ap (λ xs. cond (is_below c high) (c ∷ xs) xs) (within_none_low low high cs none.1)
 
 -- what is below a bound is what is below a lower one, and what is between them
-below_parted : (low high : List ℕ) (cells : List (List ℕ)) → Ascends cells → is_below high low ≡ false → cells_below high cells ≡ cells_below low cells ++ cells_within low high cells
+pub below_parted : (low high : List ℕ) (cells : List (List ℕ)) → Ascends cells → is_below high low ≡ false → cells_below high cells ≡ cells_below low cells ++ cells_within low high cells
 below_parted low high [] up order = refl
 below_parted low high (c ∷ cs) up order = by_low (is_below c low) refl (below_parted low high cs up.1 order) where
   by_low : (b : Bool) → is_below c low ≡ b → cells_below high cs ≡ cells_below low cs ++ cells_within low high cs → cells_below high (c ∷ cs) ≡ cells_below low (c ∷ cs) ++ cells_within low high (c ∷ cs)

@@ -1,0 +1,10 @@
+pub mod Above
+pub mod Entering
+pub mod Finding
+pub mod Indexes
+pub mod Parts
+pub mod Placing
+pub mod Tabled
+pub mod Together
+pub mod Values
+pub mod Within

@@ -1,0 +1,64 @@
+-- Each index in turn.
+use Rattle.std.proofs.Common.{refl, sym, length, slice_index_or, arith}
+use Rattle.std.proofs.lemmas.Result.{err_from_is_err_and}
+use Rattle.rs_attr.specs.Entries.{HoldsNoIndex}
+use Rattle.rs_attr.specs.Steps.{HoldNoIndexes}
+use Rattle.rs_attr.proofs.Together.{kept_next, missing_at, partly_at, partly_done, partly_none, wide_at}
+use Rattle.rs_tree.specs.Cells.{without_cell}
+use Rattle.rs_tree_clear.proofs.Working.{CountsNothing-refl, CountsNothing-trans, Works-refl, Works-trans, works_err}
+use Rattle.rs_attr.proofs.table.take_out_of_each.Goals as goal
+
+pub loop-place-init : goal.loop-place-init
+loop-place-init g c = record {
+  keeps = g.met.P.Pages.keeps_refl c.args.pages.now;
+  works = Works-refl (g.P.Pages.store c.args.pages.now);
+  nothing = CountsNothing-refl (g.P.Pages.store c.args.pages.now);
+  kept = refl;
+  taken = λ tied. partly_none (g.P.Pages.store c.args.pages.now).map c.args.indexes.now (length c.args.cell.now) (without_cell c.args.cell.now);
+}
+
+pub take-requires-clause-width : goal.take-requires-clause-width
+take-requires-clause-width g c =
+    sym (wide_at (length c.args.cell.now) c.args.indexes.now c.loop-place.indexes c.loop-place.place c.index-indexes-place.result (omega arith) c.loop-place.invariant.kept c.requires.width)
+
+pub returns-in_err-take-clause-works : goal.returns-in_err-take-clause-works
+returns-in_err-take-clause-works g c =
+    let old = (g.P.Pages.store c.args.pages.now).map in
+    let mid = (g.P.Pages.store c.loop-place.pages).map in
+    let all = c.loop-place.indexes in
+    let place = c.loop-place.place in
+    let other = c.index-indexes-place.result in
+    let width = length c.args.cell.now in
+    let wide = wide_at width c.args.indexes.now all place other (omega arith) c.loop-place.invariant.kept c.requires.width in
+    let p = err_from_is_err_and c.from_residual.result c.from_residual.ensures.1 in
+    rw (p.1, p.2) (works_err (g.P.Pages.is_tied c.args.pages.now → HoldNoIndexes old c.args.indexes.now width)
+    (g.P.Pages.is_tied c.loop-place.pages → HoldsNoIndex (slice_index_or all place other).field mid (slice_index_or all place other).working) c.in_err-take.field-0.0
+    (g.P.Pages.store c.args.pages.now) (g.P.Pages.store c.loop-place.pages) (g.P.Pages.store c.take.new.pages) c.loop-place.invariant.works c.loop-place.invariant.nothing
+    (λ none tied. missing_at old mid c.args.indexes.now all place other width (without_cell c.args.cell.now) (omega arith) wide (c.loop-place.invariant.taken tied)
+    (none (g.met.P.Pages.keeps_tied c.args.pages.now c.loop-place.pages c.loop-place.invariant.keeps tied)))
+    c.in_err-take.ensures.works)
+
+pub loop-place-preserved : goal.loop-place-preserved
+loop-place-preserved g c =
+    let old = (g.P.Pages.store c.args.pages.now).map in
+    let mid = (g.P.Pages.store c.loop-place.pages).map in
+    let new = (g.P.Pages.store c.take.new.pages).map in
+    let all = c.loop-place.indexes in
+    let place = c.loop-place.place in
+    let other = c.index-indexes-place.result in
+    let width = length c.args.cell.now in
+    let wide = wide_at width c.args.indexes.now all place other (omega arith) c.loop-place.invariant.kept c.requires.width in
+    record {
+      keeps = g.met.P.Pages.keeps_trans c.args.pages.now c.loop-place.pages c.take.new.pages c.loop-place.invariant.keeps c.in_ok-take.ensures.keeps;
+      works = Works-trans (g.P.Pages.store c.args.pages.now) (g.P.Pages.store c.loop-place.pages) (g.P.Pages.store c.take.new.pages) c.loop-place.invariant.works c.in_ok-take.ensures.works.works;
+      nothing = CountsNothing-trans (g.P.Pages.store c.args.pages.now) (g.P.Pages.store c.loop-place.pages) (g.P.Pages.store c.take.new.pages) c.loop-place.invariant.nothing c.in_ok-take.ensures.works.ends;
+      kept = kept_next c.args.indexes.now all place c.take.new.self other (omega arith) c.in_ok-take.ensures.field c.in_ok-take.ensures.committed c.loop-place.invariant.kept;
+      taken = λ tied. partly_at old mid c.args.indexes.now all place other width (without_cell c.args.cell.now) (omega arith) wide (c.loop-place.invariant.taken tied) new c.take.new.self c.in_ok-take.ensures.field
+          (c.in_ok-take.ensures.taken (g.met.P.Pages.keeps_tied c.args.pages.now c.loop-place.pages c.loop-place.invariant.keeps tied));
+    }
+
+pub returns-clause-taken : goal.returns-clause-taken
+returns-clause-taken g c = λ tied.
+    let old = (g.P.Pages.store c.args.pages.now).map in
+    let new = (g.P.Pages.store c.loop-place.pages).map in
+    partly_done old new c.args.indexes.now c.loop-place.indexes c.loop-place.place (length c.args.cell.now) (without_cell c.args.cell.now) (omega arith) (c.loop-place.invariant.taken tied)

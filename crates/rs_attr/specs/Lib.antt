@@ -1,0 +1,5 @@
+pub mod Defining
+pub mod Entries
+pub mod Finding
+pub mod Steps
+pub mod Tables

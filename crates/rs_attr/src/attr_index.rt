@@ -1,0 +1,227 @@
+//! An attribute index: the entries of a table's cells in a tree, by the values of one column.
+//!
+//! Changes are made together or not at all: `commit` keeps them, `abandon` takes them back, and neither takes memory. The
+//! pages are to be committed or abandoned with them.
+
+ghost use Rattle.std.specs.Prelude.{◌≡◌, ◌<◌, ◌≤◌, ℕ, List, [], IfOk, IfErr, OnOk, OnErr, length, true};
+ghost use Rattle.rs_attr.specs.Entries.{ChangesIndex, FitsPages, HoldsNoIndex, IsColumn, index_form};
+ghost use Rattle.rs_attr.specs.Finding.{FindsEqual};
+ghost use Rattle.rs_owners.specs.Changes.{WorksAfter};
+ghost use Rattle.rs_pages.specs.Lending.{RestsAfter};
+ghost use Rattle.rs_records.specs.Listed.{listed, record_width};
+ghost use Rattle.rs_tree.specs.Calls.{RefusesToRead};
+ghost use Rattle.rs_tree.specs.Cells.{with_cell, without_cell};
+ghost use Rattle.rs_value.specs.declared.column.ColumnType.{ColumnType};
+ghost use Rattle.rs_value.specs.Encoding.{row_width};
+ghost use Rattle.rs_value.specs.Values.{IsValue};
+ghost use Rattle.rs_value.specs.View.{datum_of};
+
+use crate::entry::{entry_of, is_of_type, value_bytes};
+use crate::equal::{entries_with, seen_cells};
+use rs_btree::Tree;
+use rs_measure::Refusal;
+use rs_page::PageNumber;
+use rs_pages::Pages;
+use rs_records::Cells;
+use rs_tree::NoSummary;
+use rs_value::{ColumnType, Schema, Value, column_width};
+use rs_versioned::event::EVENT_BYTES;
+use std::alloc::Global;
+use std::marker::Model;
+
+/// The bytes of an event's cell before its row.
+const FRONT_BYTES: usize = 8;
+
+/// An index of the event records of a table by the values of one column.
+#[derive(Drop)]
+pub struct AttrIndex {
+    tree: Tree<NoSummary>,
+    column: ColumnType,
+    start: usize,
+    cell_width: usize,
+    committed: PageNumber,
+}
+
+impl Model for AttrIndex {
+    ghost use Rattle.std.specs.Prelude.{◌≡◌, ◌≤◌, ◌+◌, ◌*◌};
+    ghost use Rattle.rs_attr.specs.Entries.{entry_bytes};
+    ghost use Rattle.rs_attr.specs.Tables.{IndexState};
+    ghost use Rattle.rs_value.specs.Encoding.{width};
+
+    ghost Value = { IndexState };
+
+    ghost view = { λ index. record {
+      field = record { column = index.column; start = index.start; cell_width = index.cell_width };
+      working = index.tree.root;
+      committed = index.committed;
+    } };
+
+    ghost invariant = { λ index. (index.tree.width ≡ width index.column + index.cell_width) × (index.start + (width index.column + 20) ≤ index.cell_width)
+        × (3 * (4 + (width index.column + index.cell_width)) ≤ 4080) };
+}
+
+impl AttrIndex {
+    /// The index of the column with this number, whose tree has this root; 0: it has no entries. Three entries of an inner
+    /// page fit it at least.
+    pub fn with(schema: &Schema, column: usize, root: PageNumber) -> AttrIndex
+        requires column { column < length schema.now.items }
+        requires fits { FitsPages schema.now.items column }
+        ensures column { IsColumn schema.now.items column result.field }
+        ensures working { result.working ≡ root }
+        ensures committed { result.committed ≡ root }
+    {
+        let columns = schema.as_slice();
+        let width = column_width(columns[column]);
+        let start = FRONT_BYTES + bytes_of(&columns[..column]);
+        let cell_width = EVENT_BYTES + bytes_of(columns);
+        AttrIndex {
+            tree: Tree::at(width + cell_width, root),
+            column: columns[column],
+            start,
+            cell_width,
+            committed: root,
+        }
+    }
+
+    /// The page at the top of the tree; 0 where there are no entries.
+    pub fn root(&self) -> PageNumber
+        ensures { result ≡ self.now.working }
+    {
+        self.tree.root()
+    }
+
+    /// The cells of the events with this value that the version sees, in the order of cells, and how many pages were read: two
+    /// for each level of the index and as many more for each event with the value, of whatever version, at the most. It is
+    /// refused with 90, with 91, and with 94 only where no tree stands there. No page changes.
+    pub fn equal<P: Pages>(
+        &self,
+        alloc: Global,
+        pages: &mut P,
+        value: &Value,
+        version: u64,
+    ) -> Result<(Cells, u32), Refusal>
+        requires value { IsValue (datum_of value.now) }
+        ensures rests { RestsAfter P.is_tied P.store P.keeps result pages.old pages.new }
+        ensures width { IfOk result (λ found. record_width found.0 ≡ self.now.field.cell_width) }
+        ensures found { P.is_tied pages.old → IfOk result (λ found. (types : List ColumnType) (column : ℕ)
+            → IsColumn types column self.now.field → FindsEqual types column self.now.field (P.store pages.old).map
+            self.now.working (datum_of value.now) version (listed found.0) found.1) }
+        ensures refused { IfErr result (λ why. RefusesToRead (P.is_tied pages.old) (index_form self.now.field)
+            self.now.working why (P.store pages.old) (P.store pages.new)) }
+    {
+        if !is_of_type(self.column, value) {
+            return Ok((Cells::new(alloc, self.cell_width), 0));
+        }
+        let bytes = value_bytes(alloc, self.column, value).map_err(|_| Refusal::OutOfMemory)?;
+        let (entries, reads) = entries_with(alloc, pages, &self.tree, &bytes)?;
+        match seen_cells(alloc, version, &entries, bytes.len()) {
+            Ok(cells) => Ok((cells, reads)),
+            Err(_) => Err(Refusal::OutOfMemory),
+        }
+    }
+
+    /// Puts the entry of a cell into the index. It is refused with 90, with 91, with 92 where the file is full, and with 94 only
+    /// where no tree stands there with pages of its own; the index is as it was then, and the working pages are to be abandoned.
+    pub(crate) fn put<P: Pages>(
+        &mut self,
+        alloc: Global,
+        pages: &mut P,
+        cell: &[u8],
+    ) -> Result<(), Refusal>
+        requires begun { (P.store pages.old).is_begun ≡ true }
+        requires width { length cell.now ≡ self.old.field.cell_width }
+        ensures keeps { P.keeps pages.old pages.new }
+        ensures works { WorksAfter (P.is_tied pages.old
+            → HoldsNoIndex self.old.field (P.store pages.old).map self.old.working)
+            result (P.store pages.old) (P.store pages.new) }
+        ensures put { P.is_tied pages.old → OnOk result (ChangesIndex self.old.field
+            (P.store pages.old).map (P.store pages.new).map self.old.working self.new.working
+            (with_cell cell.now)) }
+        ensures field { self.new.field ≡ self.old.field }
+        ensures committed { self.new.committed ≡ self.old.committed }
+        ensures stays { OnErr result (self.new ≡ self.old) }
+    {
+        let wide = column_width(self.column);
+        let entry = entry_of(alloc, cell, self.start, wide).map_err(|_| Refusal::OutOfMemory)?;
+        self.tree.insert(pages, &entry)?;
+        Ok(())
+    }
+
+    /// Takes the entry of a cell out of the index. It is refused as `put` is, but for 92.
+    pub(crate) fn take<P: Pages>(
+        &mut self,
+        alloc: Global,
+        pages: &mut P,
+        cell: &[u8],
+    ) -> Result<(), Refusal>
+        requires begun { (P.store pages.old).is_begun ≡ true }
+        requires width { length cell.now ≡ self.old.field.cell_width }
+        ensures keeps { P.keeps pages.old pages.new }
+        ensures works { WorksAfter (P.is_tied pages.old
+            → HoldsNoIndex self.old.field (P.store pages.old).map self.old.working)
+            result (P.store pages.old) (P.store pages.new) }
+        ensures taken { P.is_tied pages.old → OnOk result (ChangesIndex self.old.field
+            (P.store pages.old).map (P.store pages.new).map self.old.working self.new.working
+            (without_cell cell.now)) }
+        ensures field { self.new.field ≡ self.old.field }
+        ensures committed { self.new.committed ≡ self.old.committed }
+        ensures stays { OnErr result (self.new ≡ self.old) }
+    {
+        let wide = column_width(self.column);
+        let entry = entry_of(alloc, cell, self.start, wide).map_err(|_| Refusal::OutOfMemory)?;
+        self.tree.remove(pages, &entry)?;
+        Ok(())
+    }
+
+    /// Takes out all entries and frees their pages. It is refused with 90, with 91, and with 94 only where no tree stands there
+    /// with pages of its own; the index is as it was then, and the working pages are to be abandoned.
+    pub fn clear<P: Pages>(&mut self, pages: &mut P) -> Result<(), Refusal>
+        requires begun { (P.store pages.old).is_begun ≡ true }
+        ensures keeps { P.keeps pages.old pages.new }
+        ensures works { WorksAfter (P.is_tied pages.old
+            → HoldsNoIndex self.old.field (P.store pages.old).map self.old.working)
+            result (P.store pages.old) (P.store pages.new) }
+        ensures cleared { P.is_tied pages.old → OnOk result (ChangesIndex self.old.field
+            (P.store pages.old).map (P.store pages.new).map self.old.working self.new.working (λ _. [])) }
+        ensures empty { OnOk result (self.new.working ≡ 0) }
+        ensures field { self.new.field ≡ self.old.field }
+        ensures committed { self.new.committed ≡ self.old.committed }
+        ensures stays { OnErr result (self.new ≡ self.old) }
+    {
+        self.tree.clear(pages)?;
+        let width = column_width(self.column) + self.cell_width;
+        self.tree = Tree::at(width, PageNumber::new(0));
+        Ok(())
+    }
+
+    /// Keeps what was changed. Takes no memory.
+    pub fn commit(&mut self)
+        ensures field { self.new.field ≡ self.old.field }
+        ensures working { self.new.working ≡ self.old.working }
+        ensures committed { self.new.committed ≡ self.old.working }
+    {
+        self.committed = self.tree.root();
+    }
+
+    /// Takes back what was changed since the last commit. Takes no memory.
+    pub fn abandon(&mut self)
+        ensures field { self.new.field ≡ self.old.field }
+        ensures working { self.new.working ≡ self.old.committed }
+        ensures committed { self.new.committed ≡ self.old.committed }
+    {
+        let width = column_width(self.column) + self.cell_width;
+        self.tree = Tree::at(width, self.committed);
+    }
+}
+
+/// How many bytes a value of each of these columns takes together.
+fn bytes_of(columns: &[ColumnType]) -> usize
+    requires few { length columns.now ≤ 12 }
+    ensures { result ≡ row_width columns.now }
+{
+    let mut total = 0;
+    for column in columns {
+        total += column_width(*column);
+    }
+    total
+}

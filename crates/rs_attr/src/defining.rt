@@ -1,0 +1,115 @@
+//! The index of a table that has events already.
+//!
+//! The table's cells are read part by part, so that no more than one part is in memory at a time: a part ends where the next of
+//! the given routes begins. Whatever routes are given, each cell is in one part.
+
+ghost use Rattle.std.specs.Prelude.{◌≡◌, ◌<◌, ℕ, List, IfOk, OnOk, false, length, true};
+ghost use Rattle.rs_attr.specs.Defining.{Appends, AppendsNone, Enters, EntersNone};
+ghost use Rattle.rs_attr.specs.Entries.{BecomesIndex, FitsPages, IsColumn};
+ghost use Rattle.rs_interval.specs.Finding.{event_form};
+ghost use Rattle.rs_owners.specs.Changes.{WorksAfter};
+ghost use Rattle.rs_owners.specs.Counts.{◌&◌, no_pages};
+ghost use Rattle.rs_owners.specs.Owners.{Shares};
+ghost use Rattle.rs_records.specs.Listed.{listed, record_width};
+ghost use Rattle.rs_records.specs.Order.{is_below};
+ghost use Rattle.rs_versioned.specs.Events.{Event, event_width, kept_events};
+ghost use Rattle.rs_versioned.specs.Records.{HoldsRecords};
+ghost use Rattle.rs_versions.specs.Versioned.{HoldsNone};
+
+use crate::attr_index::AttrIndex;
+use crate::equal::ABOVE_CELLS;
+use rs_btree::Tree;
+use rs_interval::GreatestEnd;
+use rs_measure::Refusal;
+use rs_page::PageNumber;
+use rs_pages::Pages;
+use rs_records::{Cells, is_below};
+use rs_versioned::EventTable;
+use std::alloc::Global;
+
+/// The index of a column of the table, with an entry for each of its events, living or dead. It is refused with 90, with 91,
+/// with 92 where the file is full, and with 94 only where no such events lie there with pages of their own; the working pages
+/// are to be abandoned then. Before its first commit the index is that of no entries.
+pub fn define<P: Pages>(
+    alloc: Global,
+    pages: &mut P,
+    table: &EventTable,
+    column: usize,
+    routes: &[u32],
+) -> Result<AttrIndex, Refusal>
+    requires begun { (P.store pages.old).is_begun ≡ true }
+    requires column { column < length table.now.types }
+    requires fits { FitsPages table.now.types column }
+    ensures keeps { P.keeps pages.old pages.new }
+    ensures works { WorksAfter (P.is_tied pages.old → HoldsNone
+        (event_form (event_width table.now.types)) (P.store pages.old).map table.now.working)
+        result (P.store pages.old) (P.store pages.new) }
+    ensures column { IfOk result (λ index. IsColumn table.now.types column index.field) }
+    ensures committed { IfOk result (λ index. index.committed ≡ 0) }
+    ensures defined { P.is_tied pages.old → IfOk result (λ index. (accepted : ℕ) (events : List Event) (used others : ℕ → ℕ)
+        → (records : HoldsRecords (kept_events table.now.types) (P.store pages.old).map table.now.working accepted events used)
+        → Shares (P.store pages.old).map (used & others)
+        → BecomesIndex index.field (P.store pages.old).map (P.store pages.new).map index.working no_pages records.cells) }
+{
+    let cells: Tree<GreatestEnd> = Tree::at(table.width(), table.root());
+    let mut index = AttrIndex::with(table.schema(), column, PageNumber::new(0));
+    let mut low = 0_u32.to_be_bytes();
+    for route in routes {
+        let high = route.to_be_bytes();
+        if is_below(&low, &high) {
+            enter(alloc, pages, &cells, &mut index, &low, &high)?;
+            low = high;
+        }
+    }
+    enter(alloc, pages, &cells, &mut index, &low, &ABOVE_CELLS)?;
+    Ok(index)
+}
+
+/// Enters the cells of a table's tree from `low` on, below `high`, into the index.
+fn enter<P: Pages>(
+    alloc: Global,
+    pages: &mut P,
+    cells: &Tree<GreatestEnd>,
+    index: &mut AttrIndex,
+    low: &[u8],
+    high: &[u8],
+) -> Result<(), Refusal>
+    requires begun { (P.store pages.old).is_begun ≡ true }
+    requires width { cells.now.width ≡ index.old.field.cell_width }
+    requires order { is_below high.now low.now ≡ false }
+    ensures keeps { P.keeps pages.old pages.new }
+    ensures works { WorksAfter (P.is_tied pages.old
+        → EntersNone index.old.field (P.store pages.old).map cells.now.root index.old.working low.now)
+        result (P.store pages.old) (P.store pages.new) }
+    ensures entered { P.is_tied pages.old → OnOk result (Enters index.old.field (P.store pages.old).map (P.store pages.new).map
+        cells.now.root index.old.working index.new.working low.now high.now) }
+    ensures field { index.new.field ≡ index.old.field }
+    ensures committed { index.new.committed ≡ index.old.committed }
+{
+    let part = cells.range(alloc, pages, low, high)?;
+    append(alloc, pages, index, &part)
+}
+
+/// Enters cells that come after those of the index.
+fn append<P: Pages>(
+    alloc: Global,
+    pages: &mut P,
+    index: &mut AttrIndex,
+    cells: &Cells,
+) -> Result<(), Refusal>
+    requires begun { (P.store pages.old).is_begun ≡ true }
+    requires width { record_width cells.now ≡ index.old.field.cell_width }
+    ensures keeps { P.keeps pages.old pages.new }
+    ensures works { WorksAfter (P.is_tied pages.old
+        → AppendsNone index.old.field (P.store pages.old).map index.old.working (listed cells.now))
+        result (P.store pages.old) (P.store pages.new) }
+    ensures appended { P.is_tied pages.old → OnOk result (Appends index.old.field (P.store pages.old).map (P.store pages.new).map
+        index.old.working index.new.working (listed cells.now) (length (listed cells.now))) }
+    ensures field { index.new.field ≡ index.old.field }
+    ensures committed { index.new.committed ≡ index.old.committed }
+{
+    for place in 0..cells.len() {
+        index.put(alloc, pages, cells.get(place))?;
+    }
+    Ok(())
+}

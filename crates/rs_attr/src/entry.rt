@@ -1,0 +1,58 @@
+//! The bytes of an index's entries: those of a value, and then those of a cell.
+
+ghost use Rattle.std.specs.Prelude.{◌≡◌, ◌≤◌, ◌+◌, ◌++◌, ◌↔◌, IfOk, IsTrue, drop, length, take};
+ghost use Rattle.rs_value.specs.Encoding.{SaysDatum, width};
+ghost use Rattle.rs_value.specs.Values.{IsOfType, IsValue};
+ghost use Rattle.rs_value.specs.View.{datum_of};
+
+use rs_value::{ColumnType, Schema, Tuple, Value, column_width, encode};
+use std::alloc::{AllocError, Global};
+
+/// The bytes of a cell from `start` on, so many, and then the cell.
+pub(crate) fn entry_of(
+    alloc: Global,
+    cell: &[u8],
+    start: usize,
+    wide: usize,
+) -> Result<Vec<u8>, AllocError>
+    requires within { start + wide ≤ length cell.now }
+    ensures { IfOk result (λ entry. entry.items ≡ take wide (drop start cell.now) ++ cell.now) }
+{
+    let mut entry = Vec::new(alloc);
+    entry.extend_from_slice(&cell[start..start + wide])?;
+    entry.extend_from_slice(cell)?;
+    Ok(entry)
+}
+
+/// Whether a column of this type may have the value.
+pub(crate) fn is_of_type(column: ColumnType, value: &Value) -> bool
+    requires value { IsValue (datum_of value.now) }
+    ensures { IsTrue result ↔ IsOfType column (datum_of value.now) }
+{
+    match (column, value) {
+        (_, Value::Null) => true,
+        (ColumnType::Int, Value::Int(_)) => true,
+        (ColumnType::Text(most), Value::Text(text)) => text.len() <= usize::from(most),
+        _ => false,
+    }
+}
+
+/// The bytes of a value in a column of its type.
+pub(crate) fn value_bytes(
+    alloc: Global,
+    column: ColumnType,
+    value: &Value,
+) -> Result<Vec<u8>, AllocError>
+    requires of_type { IsOfType column (datum_of value.now) }
+    ensures says { IfOk result (λ bytes. SaysDatum column bytes.items (datum_of value.now)) }
+    ensures width { IfOk result (λ bytes. length bytes.items ≡ width column) }
+{
+    let mut schema = Schema::new();
+    schema.push(column);
+    let mut tuple = Tuple::new();
+    tuple.push(*value);
+    let mut bytes = Vec::new(alloc);
+    bytes.resize(column_width(column), 0)?;
+    encode(&schema, &tuple, &mut bytes);
+    Ok(bytes)
+}

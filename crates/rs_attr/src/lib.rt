@@ -1,0 +1,16 @@
+//! Attribute indexes of tables of events: the records with a value are found without a look at the others.
+//!
+//! An index has an entry for each event record of its table, living or dead, and no other. Events are added, ended and cleared
+//! in a table and its indexes together.
+#![tactic(auto)]
+
+pub mod attr_index;
+pub mod defining;
+mod entry;
+mod equal;
+pub mod laws;
+pub mod table;
+
+pub use attr_index::AttrIndex;
+pub use defining::define;
+pub use table::{add, kill, vacuum};
