@@ -1,8 +1,11 @@
-//! Trees beside plain keys, in pages written by hand, with bytes that are changed, and with many cells.
+//! Trees beside plain keys, in pages written by hand, with bytes that are changed, and with many cells; and records by version
+//! beside plain lists.
 //!
 //! Everything here is for the tests alone.
 #![tactic(auto)]
 
+#[cfg(test)]
+mod cell_tests;
 #[cfg(test)]
 mod damage_tests;
 #[cfg(test)]
@@ -14,4 +17,16 @@ mod many_tests;
 #[cfg(test)]
 mod one_tree;
 #[cfg(test)]
+mod plain_list;
+#[cfg(test)]
+mod plain_records;
+#[cfg(test)]
 mod random_tests;
+#[cfg(test)]
+mod reopening;
+#[cfg(test)]
+mod version_judge;
+#[cfg(test)]
+mod version_tests;
+#[cfg(test)]
+mod versioned_file;

@@ -1,0 +1,75 @@
+//! Cells of records, byte for byte as the format prints them.
+
+ghost use Rattle.std.specs.Prelude.{◌≡◌, ◌<◌, [], ◌∷◌};
+ghost use Rattle.std.specs.List.{AllByRecursion};
+ghost use Rattle.rs_value.specs.declared.column.ColumnType.TheVariants.{Text};
+
+use crate::expect::expect;
+use crate::versioned_file::span_of;
+use arrayvec::ArrayString;
+use rs_measure::Measure;
+use rs_methods::Referent;
+use rs_value::{ColumnType, Schema, Tuple, Value};
+use rs_versioned::{event, referent};
+use std::test::Fail;
+
+/// The event on route 0 from 0.500 to 2.500 with the row 'AC', born 3, which lives.
+static EVENT: [u8; 37] = [
+    0, 0, 0, 0, 0, 0, 0x01, 0xf4, 0x01, 0x41, 0x43, 0, 0, 0, 0, 0, 0, 0, 0, 0, 0, 0, 0, 0, 3, 0, 0,
+    0x09, 0xc4, 255, 255, 255, 255, 255, 255, 255, 255,
+];
+
+/// The referent 'KM-1' at 12.345 on route 7, born 3, which lives.
+static REFERENT: [u8; 56] = [
+    0, 0, 0, 7, b'K', b'M', b'-', b'1', 0, 0, 0, 0, 0, 0, 0, 0, 0, 0, 0, 0, 0, 0, 0, 0, 0, 0, 0, 0,
+    0, 0, 0, 0, 0, 0, 0, 0, 0, 0, 0, 0, 0, 0, 0, 3, 0, 0, 0x30, 0x39, 255, 255, 255, 255, 255, 255,
+    255, 255,
+];
+
+/// A text of at most eight bytes.
+fn one_text() -> Schema
+    ensures { result.items ≡ Text 8 ∷ [] }
+{
+    let mut schema = Schema::new();
+    schema.push(ColumnType::Text(8));
+    schema
+}
+
+/// Whether the row is 'AC'.
+fn is_wanted(tuple: &Tuple) -> bool {
+    match tuple.as_slice() {
+        [Value::Text(text)] => text.as_str() == "AC",
+        _ => false,
+    }
+}
+
+/// The referent.
+fn referent() -> Referent
+    ensures { AllByRecursion (λ byte. 0 < byte) result.name.bytes }
+{
+    let name = match ArrayString::from("KM-1") {
+        Ok(name) => name,
+        Err(_) => ArrayString::new(),
+    };
+    Referent {
+        route: 7,
+        name,
+        measure: Measure::from_thousandths(12_345),
+    }
+}
+
+#[test]
+fn cells_are_as_the_format_prints_them(rt: HostRuntime) -> Result<(), Fail> {
+    let alloc = rt.alloc();
+    let schema = one_text();
+    let span = span_of(alloc, &schema, &EVENT[8..17], 500, 2_500)?;
+    expect(is_wanted(&span.tuple), "the row", 1)?;
+    let cell = event::cell_of(alloc, &schema, 0, &span, 3)?;
+    expect(cell.as_slice() == EVENT.as_slice(), "the event's cell", 37)?;
+    let cell = referent::cell_of(alloc, &referent(), 3)?;
+    expect(
+        cell.as_slice() == REFERENT.as_slice(),
+        "the referent's cell",
+        56,
+    )
+}
