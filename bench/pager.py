@@ -20,66 +20,14 @@ import argparse
 import os
 import re
 import shutil
-import subprocess
 import sys
 import tempfile
 
-ROOT = os.path.dirname(os.path.dirname(os.path.abspath(__file__)))
+from copies import make_repository, output_of
+
 PROGRAM = "pager_bench"
 STANDS_ON = ["rs_pager_judge", "rs_page", "rs_disk", "rs_measure"]
 LINE = re.compile(r"pages=(\d+) scattered=(\d+) in_runs=(\d+)")
-
-
-def dependencies():
-    """What each crate of the repository stands on."""
-    below = {}
-    with open(os.path.join(ROOT, "crates.txt"), encoding="utf-8") as file:
-        for line in file:
-            name, colon, rest = line.partition("#")[0].partition(":")
-            if colon:
-                below[name.split()[0]] = rest.split()
-    return below
-
-
-def needed(below):
-    """The repository's crates that the program stands on, each after those below it."""
-    found = []
-
-    def visit(name):
-        if name in below and name not in found:
-            for other in below[name]:
-                visit(other)
-            found.append(name)
-
-    for name in STANDS_ON:
-        visit(name)
-    return found
-
-
-def make_repository(folder):
-    below = dependencies()
-    crates = needed(below)
-    for name in crates:
-        place = os.path.join(folder, "crates", name)
-        had_work = os.path.isdir(os.path.join(place, "out"))
-        skipped = shutil.ignore_patterns("out", "must-fail") if had_work else shutil.ignore_patterns("must-fail")
-        for part in ["src", "specs", "proofs"]:
-            shutil.rmtree(os.path.join(place, part), ignore_errors=True)
-        shutil.copytree(os.path.join(ROOT, "crates", name), place, ignore=skipped, dirs_exist_ok=True)
-    program = os.path.join(folder, "crates", PROGRAM)
-    os.makedirs(os.path.join(program, "src"), exist_ok=True)
-    shutil.copy(os.path.join(ROOT, "bench", "pager", "main.rt.in"), os.path.join(program, "src", "main.rt"))
-    with open(os.path.join(folder, "crates.txt"), "w", encoding="utf-8") as file:
-        for name in crates:
-            file.write("%s: %s\n" % (name, " ".join(below[name])))
-        file.write("%s: %s\n" % (PROGRAM, " ".join(STANDS_ON)))
-    return program
-
-
-def output_of(command, folder):
-    done = subprocess.run(command, cwd=folder, stdin=subprocess.DEVNULL, stdout=subprocess.PIPE, stderr=subprocess.STDOUT,
-                          text=True, errors="replace")
-    return done.returncode, done.stdout
 
 
 def command_of(program, is_proved):
@@ -111,7 +59,7 @@ def main():
     sizes = [int(size) for size in words.sizes.split(",")]
     folder = words.folder or tempfile.mkdtemp(prefix="pager-bench-")
     try:
-        program = make_repository(folder)
+        program = make_repository(folder, PROGRAM, STANDS_ON, "pager", ["main.rt"])
         command = command_of(program, not words.unproved)
         best = {}
         for _round in range(words.rounds):

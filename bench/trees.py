@@ -27,7 +27,7 @@ import shutil
 import sys
 import tempfile
 
-from pager import ROOT, dependencies, output_of
+from copies import ROOT, make_repository, output_of
 
 PROGRAM = "trees_bench"
 STANDS_ON = ["rs_interval", "rs_tree_insert", "rs_tree_search", "rs_tree_page", "rs_pager", "rs_page", "rs_disk", "rs_measure"]
@@ -36,41 +36,6 @@ LOADS = ["ordered", "shuffled", "searches", "intervals"]
 COUNTS = ["found", "hits"]
 FIELD = re.compile(r"(\w+)=(\d+)")
 COLLECTED = re.compile(r"Collected : (\d+)")
-
-
-def needed(below):
-    """The repository's crates that the program stands on, each after those below it."""
-    found = []
-
-    def visit(name):
-        if name in below and name not in found:
-            for other in below[name]:
-                visit(other)
-            found.append(name)
-
-    for name in STANDS_ON:
-        visit(name)
-    return found
-
-
-def make_repository(folder):
-    below = dependencies()
-    crates = needed(below)
-    for name in crates:
-        place = os.path.join(folder, "crates", name)
-        skipped = shutil.ignore_patterns("must-fail", *(["out"] if os.path.isdir(os.path.join(place, "out")) else []))
-        for part in ["src", "specs", "proofs"]:
-            shutil.rmtree(os.path.join(place, part), ignore_errors=True)
-        shutil.copytree(os.path.join(ROOT, "crates", name), place, ignore=skipped, dirs_exist_ok=True)
-    program = os.path.join(folder, "crates", PROGRAM)
-    os.makedirs(os.path.join(program, "src"), exist_ok=True)
-    for name in FILES:
-        shutil.copy(os.path.join(ROOT, "bench", "trees", name + ".in"), os.path.join(program, "src", name))
-    with open(os.path.join(folder, "crates.txt"), "w", encoding="utf-8") as file:
-        for name in crates:
-            file.write("%s: %s\n" % (name, " ".join(below[name])))
-        file.write("%s: %s\n" % (PROGRAM, " ".join(STANDS_ON)))
-    return program
 
 
 def build_beside(folder):
@@ -169,7 +134,7 @@ def main():
     sizes = [int(size) for size in words.sizes.split(",")]
     folder = words.folder or tempfile.mkdtemp(prefix="trees-bench-")
     try:
-        program = make_repository(folder)
+        program = make_repository(folder, PROGRAM, STANDS_ON, "trees", FILES)
         sides = {"sqlite3": build_beside(folder), "trees": command_of(program, not words.unproved)}
         if words.instructions:
             tell_instructions(sides, program, sizes)
