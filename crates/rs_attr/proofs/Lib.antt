@@ -1,4 +1,5 @@
 pub mod Above
+pub mod Checked
 pub mod Entering
 pub mod Finding
 pub mod Indexes

@@ -3,25 +3,30 @@
 //! Changes are made together or not at all: `commit` keeps them, `abandon` takes them back, and neither takes memory. The
 //! pages are to be committed or abandoned with them.
 
-ghost use Rattle.std.specs.Prelude.{◌≡◌, ◌<◌, ◌≤◌, ℕ, List, [], IfOk, IfErr, OnOk, OnErr, length, true};
-ghost use Rattle.rs_attr.specs.Entries.{ChangesIndex, FitsPages, HoldsNoIndex, IsColumn, index_form};
+ghost use Rattle.std.specs.Prelude.{◌≡◌, ◌⊎◌, ◌↔◌, ◌<◌, ◌≤◌, ℕ, List, [], Contains, Err, IfOk, IfErr, IsTrue, OnOk, OnErr, length, true};
+ghost use Rattle.rs_attr.specs.Entries.{ChangesIndex, FitsPages, HoldsNoIndex, IsColumn, entry_of, index_form};
 ghost use Rattle.rs_attr.specs.Finding.{FindsEqual};
+ghost use Rattle.rs_attr.specs.Opening.{HasSoMany};
 ghost use Rattle.rs_owners.specs.Changes.{WorksAfter};
 ghost use Rattle.rs_pages.specs.Lending.{RestsAfter};
+ghost use Rattle.rs_reached.specs.Marks.{taken};
 ghost use Rattle.rs_records.specs.Listed.{listed, record_width};
 ghost use Rattle.rs_tree.specs.Calls.{RefusesToRead};
 ghost use Rattle.rs_tree.specs.Cells.{with_cell, without_cell};
+ghost use Rattle.rs_tree.specs.Tree.{IsTree};
+ghost use Rattle.rs_tree_check.specs.Validating.{HasNoFreshTree, Validates};
 ghost use Rattle.rs_value.specs.declared.column.ColumnType.{ColumnType};
 ghost use Rattle.rs_value.specs.Encoding.{row_width};
 ghost use Rattle.rs_value.specs.Values.{IsValue};
 ghost use Rattle.rs_value.specs.View.{datum_of};
 
-use crate::entry::{entry_of, is_of_type, value_bytes};
+use crate::entry::{entry_of, is_of_type, one_byte_more, value_bytes};
 use crate::equal::{entries_with, seen_cells};
 use rs_btree::Tree;
 use rs_measure::Refusal;
 use rs_page::PageNumber;
 use rs_pages::Pages;
+use rs_reached::Reached;
 use rs_records::Cells;
 use rs_tree::NoSummary;
 use rs_value::{ColumnType, Schema, Value, column_width};
@@ -118,6 +123,45 @@ impl AttrIndex {
             Ok(cells) => Ok((cells, reads)),
             Err(_) => Err(Refusal::OutOfMemory),
         }
+    }
+
+    /// Checks the tree, marks its pages, and answers how many entries it has. Ok exactly where a well formed tree stands there
+    /// none of whose pages was reached before; 94 where none does; 91 where a page couldn't be read. What is marked after a
+    /// refusal is open.
+    pub fn validate<P: Pages>(&self, pages: &mut P, reached: &mut Reached) -> Result<u64, Refusal>
+        ensures rests { RestsAfter P.is_tied P.store P.keeps result pages.old pages.new }
+        ensures size { length reached.new ≡ length reached.old }
+        ensures validates { P.is_tied pages.old → OnOk result (Validates (index_form self.now.field) (P.store pages.old).map
+            self.now.working (taken reached.old) (taken reached.new)) }
+        ensures counted { P.is_tied pages.old → IfOk result (HasSoMany self.now.field (P.store pages.old).map self.now.working) }
+        ensures refused { IfErr result (λ why. (why ≡ Refusal.Disk) ⊎ (why ≡ Refusal.DamagedFile)) }
+        ensures damaged { P.is_tied pages.old → result ≡ Err Refusal.DamagedFile → HasNoFreshTree
+            (index_form self.now.field) (P.store pages.old).map self.now.working (taken reached.old) }
+    {
+        self.tree.validate(pages, reached)
+    }
+
+    /// Whether the entry of a cell is in the index. It is refused with 90, with 91, and with 94 only where no tree stands there.
+    /// No page changes.
+    pub(crate) fn has_entry<P: Pages>(
+        &self,
+        alloc: Global,
+        pages: &mut P,
+        cell: &[u8],
+    ) -> Result<bool, Refusal>
+        requires width { length cell.now ≡ self.now.field.cell_width }
+        ensures rests { RestsAfter P.is_tied P.store P.keeps result pages.old pages.new }
+        ensures found { P.is_tied pages.old → IfOk result (λ found. (entries : List (List ℕ)) (used : ℕ → ℕ)
+            → IsTree (index_form self.now.field) (P.store pages.old).map self.now.working entries used
+            → (IsTrue found ↔ Contains entries (entry_of self.now.field cell.now))) }
+        ensures refused { IfErr result (λ why. RefusesToRead (P.is_tied pages.old) (index_form self.now.field)
+            self.now.working why (P.store pages.old) (P.store pages.new)) }
+    {
+        let wide = column_width(self.column);
+        let entry = entry_of(alloc, cell, self.start, wide).map_err(|_| Refusal::OutOfMemory)?;
+        let after = one_byte_more(alloc, &entry).map_err(|_| Refusal::OutOfMemory)?;
+        let found = self.tree.range(alloc, pages, &entry, &after)?;
+        Ok(found.len() > 0)
     }
 
     /// Puts the entry of a cell into the index. It is refused with 90, with 91, with 92 where the file is full, and with 94 only

@@ -1,6 +1,6 @@
 //! The bytes of an index's entries: those of a value, and then those of a cell.
 
-ghost use Rattle.std.specs.Prelude.{◌≡◌, ◌≤◌, ◌+◌, ◌++◌, ◌↔◌, IfOk, IsTrue, drop, length, take};
+ghost use Rattle.std.specs.Prelude.{◌≡◌, ◌≤◌, ◌+◌, ◌++◌, ◌∷◌, [], ◌↔◌, IfOk, IsTrue, drop, length, take};
 ghost use Rattle.rs_value.specs.Encoding.{SaysDatum, width};
 ghost use Rattle.rs_value.specs.Values.{IsOfType, IsValue};
 ghost use Rattle.rs_value.specs.View.{datum_of};
@@ -22,6 +22,16 @@ pub(crate) fn entry_of(
     entry.extend_from_slice(&cell[start..start + wide])?;
     entry.extend_from_slice(cell)?;
     Ok(entry)
+}
+
+/// The bytes and a zero after them.
+pub(crate) fn one_byte_more(alloc: Global, bytes: &[u8]) -> Result<Vec<u8>, AllocError>
+    ensures { IfOk result (λ more. more.items ≡ bytes.now ++ 0 ∷ []) }
+{
+    let mut more = Vec::new(alloc);
+    more.extend_from_slice(bytes)?;
+    more.push(0)?;
+    Ok(more)
 }
 
 /// Whether a column of this type may have the value.

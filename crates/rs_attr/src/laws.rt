@@ -1,11 +1,13 @@
 //! What follows of indexes and of tables with their indexes.
 
 ghost use Rattle.std.specs.Prelude.{◌≡◌, ◌≤◌, ◌+◌, ◌++◌, ◌∷◌, [], ℕ, List, length};
-ghost use Rattle.rs_attr.specs.Entries.{Field, HoldsIndex, index_form};
+ghost use Rattle.rs_attr.specs.Entries.{AreCells, Field, HoldsIndex, index_form};
+ghost use Rattle.rs_attr.specs.Opening.{HasEntries, HasSoMany, LacksEntries};
 ghost use Rattle.rs_attr.specs.Tables.{HoldsTable, IndexState, all_of};
 ghost use Rattle.rs_owners.specs.Counts.{◌&◌};
 ghost use Rattle.rs_owners.specs.Owners.{Keeps};
 ghost use Rattle.rs_pages.specs.PageMap.{PageMap};
+ghost use Rattle.rs_tree.specs.Tree.{IsTree};
 ghost use Rattle.rs_value.specs.declared.column.ColumnType.{ColumnType};
 ghost use Rattle.rs_versioned.specs.Events.{Event, kept_events};
 ghost use Rattle.rs_versioned.specs.Records.{HoldsRecords};
@@ -75,4 +77,23 @@ pub fn kept_table_stays()
     ensures { (types : List ColumnType) (old new : PageMap) (standing : Standing) (indexes : List IndexState) (accepted : ℕ) (events : List Event)
         (used : ℕ → ℕ) (uses : List (ℕ → ℕ)) → Keeps (used & all_of uses) old new → HoldsTable types old standing indexes accepted events used uses
         → HoldsTable types new standing indexes accepted events used uses }
+{}
+
+/// A tree with as many entries as there are cells, each of which has its entry in it, is the index of these cells.
+pub fn as_many_entries_are_the_index()
+    ensures { (field : Field) (pages : PageMap) (root count : ℕ) (cells entries : List (List ℕ)) (used : ℕ → ℕ) → AreCells field.cell_width cells
+        → IsTree (index_form field) pages root entries used → HasSoMany field pages root count → count ≡ length cells
+        → HasEntries field pages root cells → HoldsIndex field pages root cells used }
+{}
+
+/// The index of cells has as many entries, and each cell has its entry in it.
+pub fn index_has_as_many_entries()
+    ensures { (field : Field) (pages : PageMap) (root count : ℕ) (cells : List (List ℕ)) (used : ℕ → ℕ) → HoldsIndex field pages root cells used
+        → HasSoMany field pages root count → count ≡ length cells }
+{}
+
+/// No index of these cells is there where one of them has no entry.
+pub fn index_has_each_entry()
+    ensures { (field : Field) (pages : PageMap) (root : ℕ) (cells : List (List ℕ)) (used : ℕ → ℕ) → HoldsIndex field pages root cells used
+        → LacksEntries field pages root cells → ⊥ }
 {}

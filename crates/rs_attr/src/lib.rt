@@ -9,6 +9,7 @@ pub mod defining;
 mod entry;
 mod equal;
 pub mod laws;
+pub mod opening;
 pub mod table;
 
 pub use attr_index::AttrIndex;

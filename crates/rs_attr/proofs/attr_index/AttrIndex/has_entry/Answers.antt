@@ -1,0 +1,33 @@
+-- What is found from the entry on, below the entry and a zero, is the entry.
+use Rattle.std.proofs.Common.{◌≡◌, ◌∙◌, ℕ, List, [], ◌∷◌, ◌++◌, nat_lt, sym, ap, subst, rules}
+use Rattle.std.proofs.lemmas.Result.{err_from_is_err_and}
+use Rattle.rs_attr.specs.Entries.{Field, entry_of, index_form, plain_form}
+use Rattle.rs_attr.proofs.Checked.{Tells, tells_within}
+use Rattle.rs_attr.proofs.Indexes.{in_index}
+use Rattle.rs_records.specs.Listed.{listed}
+use Rattle.rs_tree.specs.Calls.{RefusesToRead}
+use Rattle.rs_attr.proofs.attr_index.AttrIndex.has_entry.Goals as goal
+
+pub returns-in_err-found-clause-refused : goal.returns-in_err-found-clause-refused
+returns-in_err-found-clause-refused g c =
+    let d = c.self.inside in
+    let before = g.P.Pages.store c.args.pages.now in
+    let after = g.P.Pages.store c.range.new.pages in
+    let tied = g.P.Pages.is_tied c.args.pages.now in
+    let p = err_from_is_err_and c.from_residual-in_err-found.result c.from_residual-in_err-found.ensures.1 in
+    rw (p.1, p.2) (in_index (λ (f : Field) (working : ℕ). RefusesToRead tied (index_form f) working c.in_err-found.field-0.0 before after) d.column d.start d.cell_width d.tree.root d.committed c.args.self.now c.self.view_is
+    (subst (λ (w : ℕ). RefusesToRead tied (plain_form w) d.tree.root c.in_err-found.field-0.0 before after) c.self.invariant.0 c.in_err-found.ensures.refused))
+
+pub returns-clause-found : goal.returns-clause-found
+returns-clause-found g c = λ tied.
+    let d = c.self.inside in
+    let pages = (g.P.Pages.store c.args.pages.now).map in
+    let cell = c.args.cell.now in
+    let field : Field = record { column = d.column; start = d.start; cell_width = d.cell_width } in
+    let items : c.in_ok-entry.entry.items ≡ entry_of field cell = search rules in
+    let more : c.in_ok-after.after.items ≡ c.deref.result.now ++ 0 ∷ [] = search rules in
+    let low : c.deref-2.result.now ≡ entry_of field cell = c.deref-2.ensures.value ∙ items in
+    let high : c.deref-3.result.now ≡ c.deref-2.result.now ++ 0 ∷ [] = c.deref-3.ensures.value ∙ more ∙ ap (λ (l : List ℕ). l ++ 0 ∷ []) (c.deref.ensures.value ∙ sym c.deref-2.ensures.value) in
+    in_index (λ (f : Field) (working : ℕ). Tells f pages working cell (nat_lt 0 c.len.result)) d.column d.start d.cell_width d.tree.root d.committed c.args.self.now c.self.view_is
+    (tells_within field pages d.tree.root d.tree.width c.len.result cell c.deref-2.result.now c.deref-3.result.now (listed c.in_ok-found.found) c.self.invariant.0 low high c.len.ensures
+    (c.in_ok-found.ensures.found tied))
