@@ -7,7 +7,7 @@ use Rattle.rs_attr.specs.Entries.{ChangesIndex, Field, HoldsIndex, HoldsNoIndex,
 use Rattle.rs_attr.specs.Tables.{IndexState}
 use Rattle.rs_attr.proofs.Entering.{TellsApart, entered, left}
 use Rattle.rs_owners.specs.Counts.{no_pages}
-use Rattle.rs_owners.specs.Owners.{Keeps}
+use Rattle.rs_owners.specs.Owners.{KeepsPages}
 use Rattle.rs_owners.proofs.Moving.{moves_same}
 use Rattle.rs_pages.specs.PageMap.{PageMap}
 use Rattle.rs_tree.specs.Calls.{Changes, IsNotShared}
@@ -91,7 +91,7 @@ pub none_indexed : (field : Field) (pages : PageMap) (root : ℕ) → IsNotShare
 none_indexed field pages root none = record { none = λ cells used others holds shares. none.none holds.entries used others holds.tree shares }
 
 -- an index stays where its pages do
-pub kept_index : (field : Field) (old new : PageMap) (root : ℕ) (cells : List (List ℕ)) (used : ℕ → ℕ) → Keeps used old new → HoldsIndex field old root cells used
+pub kept_index : (field : Field) (old new : PageMap) (root : ℕ) (cells : List (List ℕ)) (used : ℕ → ℕ) → KeepsPages used old new → HoldsIndex field old root cells used
     → HoldsIndex field new root cells used
 kept_index field old new root cells used keeps holds = record {
   entries = holds.entries;

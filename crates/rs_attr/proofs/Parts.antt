@@ -13,7 +13,7 @@ use Rattle.rs_attr.specs.Entries.{AreCells, BecomesIndex, ChangesIndex, Field, H
 use Rattle.rs_attr.proofs.Above.{cell_below, number_more}
 use Rattle.rs_interval.specs.Finding.{event_form}
 use Rattle.rs_owners.specs.Counts.{◌&◌, no_pages}
-use Rattle.rs_owners.specs.Owners.{Keeps, Shares}
+use Rattle.rs_owners.specs.Owners.{Keeps, KeepsPages, Shares}
 use Rattle.rs_owners.proofs.Moving.{moves_trans, same_pages-moves, shares_same}
 use Rattle.rs_pages.proofs.Stores.{SamePages-refl}
 use Rattle.rs_pages.specs.PageMap.{PageMap, SamePages}
@@ -160,12 +160,10 @@ none_first width (c ∷ cs) wide all =
     let isnt : is_below c (to_be_bytes w32 0) ≡ false = none_below_zeros 4 c (omega (arith, wide, all.0)) in
     rw isnt (none_first width cs wide all.1)
 
-keeps_first : (used others : ℕ → ℕ) (old new : PageMap) → Keeps (used & others) old new → Keeps used old new
+keeps_first : (used others : ℕ → ℕ) (old new : PageMap) → Keeps (used & others) old new → KeepsPages used old new
 keeps_first used others old new keeps = record {
   pages = λ n own. keeps.pages n (omega (arith, own));
   no_fewer = keeps.no_fewer;
-  catalogue = keeps.catalogue;
-  catalogue_length = keeps.catalogue_length;
 }
 
 module _ (field : Field) (old : PageMap) (table : ℕ) where

@@ -6,7 +6,7 @@ use Rattle.rs_attr.specs.Entries.{HoldsIndex}
 use Rattle.rs_attr.specs.Tables.{HoldIndexes, HoldsTable, IndexState, all_of}
 use Rattle.rs_attr.proofs.Indexes.{kept_index}
 use Rattle.rs_owners.specs.Counts.{◌&◌}
-use Rattle.rs_owners.specs.Owners.{Keeps}
+use Rattle.rs_owners.specs.Owners.{KeepsPages}
 use Rattle.rs_pages.specs.PageMap.{PageMap}
 use Rattle.rs_value.specs.declared.column.ColumnType.{ColumnType}
 use Rattle.rs_versioned.specs.Events.{Event, SaysEvent, kept_events}
@@ -26,16 +26,14 @@ pub all_of-middle : (some more : List (ℕ → ℕ)) (first : ℕ → ℕ) (n : 
 all_of-middle some more first n = omega (arith, all_of-append some (first ∷ more) n, all_of-cons first more n, all_of-append some more n)
 
 -- pages that are some of an owner's are kept as all of them are
-pub keeps_part : (part used : ℕ → ℕ) (old new : PageMap) → ((n : ℕ) → 0 < part n → 0 < used n) → Keeps used old new → Keeps part old new
+pub keeps_part : (part used : ℕ → ℕ) (old new : PageMap) → ((n : ℕ) → 0 < part n → 0 < used n) → KeepsPages used old new → KeepsPages part old new
 keeps_part part used old new some keeps = record {
   pages = λ n own. keeps.pages n (some n own);
   no_fewer = keeps.no_fewer;
-  catalogue = keeps.catalogue;
-  catalogue_length = keeps.catalogue_length;
 }
 
 -- indexes whose pages are kept stay
-pub kept_indexes : (old new : PageMap) (indexes : List IndexState) (cells : List (List ℕ)) (uses : List (ℕ → ℕ)) → Keeps (all_of uses) old new → HoldIndexes old indexes cells uses
+pub kept_indexes : (old new : PageMap) (indexes : List IndexState) (cells : List (List ℕ)) (uses : List (ℕ → ℕ)) → KeepsPages (all_of uses) old new → HoldIndexes old indexes cells uses
     → HoldIndexes new indexes cells uses
 kept_indexes old new [] cells [] keeps hold = tt
 kept_indexes old new [] cells (u ∷ us) keeps hold = absurd hold
@@ -115,7 +113,7 @@ later_table types pages standing indexes from to events used uses later table =
     }
 
 pub kept_table : (types : List ColumnType) (old new : PageMap) (standing : Standing) (indexes : List IndexState) (accepted : ℕ) (events : List Event) (used : ℕ → ℕ) (uses : List (ℕ → ℕ))
-    → Keeps (used & all_of uses) old new → HoldsTable types old standing indexes accepted events used uses → HoldsTable types new standing indexes accepted events used uses
+    → KeepsPages (used & all_of uses) old new → HoldsTable types old standing indexes accepted events used uses → HoldsTable types new standing indexes accepted events used uses
 kept_table types old new standing indexes accepted events used uses keeps table =
     let records = held_kept (kept_events types) old new standing accepted events used (keeps_part used (used & all_of uses) old new (λ n own. omega arith) keeps) table.records in
     let entries = kept_indexes old new indexes table.records.cells uses (keeps_part (all_of uses) (used & all_of uses) old new (λ n own. omega arith) keeps) table.entries in

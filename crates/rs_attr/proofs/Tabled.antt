@@ -9,8 +9,8 @@ use Rattle.rs_attr.proofs.Placing.{keeps_part, kept_indexes}
 use Rattle.rs_attr.proofs.Together.{moves_none}
 use Rattle.rs_interval.specs.Finding.{event_form}
 use Rattle.rs_owners.specs.Counts.{◌&◌}
-use Rattle.rs_owners.specs.Owners.{Keeps, Moves, Shares}
-use Rattle.rs_owners.proofs.Moving.{moves_part, moves_same, moves_trans, same_pages-moves, shares_same}
+use Rattle.rs_owners.specs.Owners.{KeepsPages, Moves, Shares}
+use Rattle.rs_owners.proofs.Moving.{moves_part, moves_same, moves_trans, pages_kept, same_pages-moves, shares_same}
 use Rattle.rs_pages.specs.PageMap.{PageMap, SamePages}
 use Rattle.rs_tree.proofs.Framed.{kept_tree_stays}
 use Rattle.rs_tree.proofs.Ones.{tree_has_its_cells}
@@ -62,11 +62,9 @@ module _ (types : List ColumnType) (old new : PageMap) (was : Standing) where
   cells_stay is from same stands = record {
     each = λ events used others records shares.
         let moves = same_pages-moves old new used same in
-        let keeps : Keeps used old new = record {
+        let keeps : KeepsPages used old new = record {
           pages = λ n own. same.pages n;
           no_fewer = (moves.beside others shares).keeps.no_fewer;
-          catalogue = (moves.beside others shares).keeps.catalogue;
-          catalogue_length = (moves.beside others shares).keeps.catalogue_length;
         } in
         let holds : HoldsCells (event_form (event_width types)) new was records.cells used = record {
           tree = kept_tree_stays (event_form (event_width types)) old new was.root records.cells used keeps records.holds.tree;
@@ -179,7 +177,7 @@ module _ (types : List ColumnType) (old : PageMap) (was : Standing) (were : List
         let have = moved.each cells used (all_of uses & others) table.records.holds apart in
         let beside = have.moves.beside (all_of uses & others) apart in
         missing.none cells uses (have.after & others) (held_cells types old was cells used table.records.holds)
-        (kept_indexes old mid were cells uses (keeps_part (all_of uses) (all_of uses & others) old mid (λ n own. omega arith) beside.keeps) table.entries)
+        (kept_indexes old mid were cells uses (keeps_part (all_of uses) (all_of uses & others) old mid (λ n own. omega arith) (pages_kept (all_of uses & others) old mid beside.keeps)) table.entries)
         (shares_same mid (have.after & (all_of uses & others)) (all_of uses & (have.after & others)) (λ n. omega arith) beside.shares);
   }
 
@@ -200,8 +198,9 @@ module _ (types : List ColumnType) (old : PageMap) (was : Standing) (were : List
           let turned : Shares mid (all_of uses & (records.after & others)) =
           shares_same mid (records.after & rest) (all_of uses & (records.after & others)) (λ n. omega arith) beside.shares in
           let indexes = follow.each cells uses (records.after & others) (held_cells types old was cells used table.records.holds)
-          (kept_indexes old mid were cells uses (keeps_part (all_of uses) rest old mid (λ n own. omega arith) beside.keeps) table.entries) turned in
-          let keeps = keeps_part records.after (records.after & others) mid new (λ n own. omega arith) (indexes.moves.beside (records.after & others) turned).keeps in
+          (kept_indexes old mid were cells uses (keeps_part (all_of uses) rest old mid (λ n own. omega arith) (pages_kept rest old mid beside.keeps)) table.entries) turned in
+          let keeps = keeps_part records.after (records.after & others) mid new (λ n own. omega arith)
+          (pages_kept (records.after & others) mid new (indexes.moves.beside (records.after & others) turned).keeps) in
           record {
             events = records.records;
             after = records.after;

@@ -9,7 +9,7 @@ use Rattle.rs_attr.specs.Tables.{HoldIndexes, IndexState, all_of, kept_parts}
 use Rattle.rs_attr.proofs.Placing.{all_of-append, all_of-cons, keeps_part, kept_indexes}
 use Rattle.rs_owners.specs.Counts.{◌&◌}
 use Rattle.rs_owners.specs.Owners.{Moves, Shares}
-use Rattle.rs_owners.proofs.Moving.{moves_part, moves_same, moves_trans, shares_same}
+use Rattle.rs_owners.proofs.Moving.{moves_part, moves_same, moves_trans, pages_kept, shares_same}
 use Rattle.rs_pages.specs.PageMap.{PageMap}
 
 -- where nothing changes, nothing moves
@@ -47,7 +47,7 @@ module _ (old mid : PageMap) (were done left : List IndexState) (index : IndexSt
         let apart : Shares mid (u & (rest & others)) =
         shares_same mid ((all_of firsts & all_of (u ∷ us)) & others) (u & (rest & others)) (λ n. omega (arith, all_of-cons u us n)) shares in
         let becomes = changes.each cells u (rest & others) (subst (λ (w : ℕ). AreCells w cells) (sym wide) are) last.0 apart in
-        let keeps = (becomes.moves.beside (rest & others) apart).keeps in
+        let keeps = pages_kept (rest & others) mid new (becomes.moves.beside (rest & others) apart).keeps in
         record {
           firsts = firsts ++ becomes.after ∷ [];
           lasts = us;

@@ -5,7 +5,7 @@ ghost use Rattle.rs_attr.specs.Entries.{AreCells, Field, HoldsIndex, index_form}
 ghost use Rattle.rs_attr.specs.Opening.{HasEntries, HasSoMany, LacksEntries};
 ghost use Rattle.rs_attr.specs.Tables.{HoldsTable, IndexState, all_of};
 ghost use Rattle.rs_owners.specs.Counts.{◌&◌};
-ghost use Rattle.rs_owners.specs.Owners.{Keeps};
+ghost use Rattle.rs_owners.specs.Owners.{KeepsPages};
 ghost use Rattle.rs_pages.specs.PageMap.{PageMap};
 ghost use Rattle.rs_tree.specs.Tree.{IsTree};
 ghost use Rattle.rs_value.specs.declared.column.ColumnType.{ColumnType};
@@ -69,13 +69,13 @@ pub fn index_has_its_pages()
 /// Where an owner's pages are kept, the index that has them stays as it is.
 pub fn kept_index_stays()
     ensures { (field : Field) (old new : PageMap) (root : ℕ) (cells : List (List ℕ)) (used : ℕ → ℕ)
-        → Keeps used old new → HoldsIndex field old root cells used → HoldsIndex field new root cells used }
+        → KeepsPages used old new → HoldsIndex field old root cells used → HoldsIndex field new root cells used }
 {}
 
 /// Where the pages of a table and its indexes are kept, they stay as they are.
 pub fn kept_table_stays()
     ensures { (types : List ColumnType) (old new : PageMap) (standing : Standing) (indexes : List IndexState) (accepted : ℕ) (events : List Event)
-        (used : ℕ → ℕ) (uses : List (ℕ → ℕ)) → Keeps (used & all_of uses) old new → HoldsTable types old standing indexes accepted events used uses
+        (used : ℕ → ℕ) (uses : List (ℕ → ℕ)) → KeepsPages (used & all_of uses) old new → HoldsTable types old standing indexes accepted events used uses
         → HoldsTable types new standing indexes accepted events used uses }
 {}
 

@@ -2,7 +2,7 @@
 use Rattle.std.specs.Prelude.{◌≡◌, ◌<◌, ◌≤◌, ℕ, Some, List, [], ◌∷◌, ◌++◌, take, drop, length}
 use Rattle.rs_disk.specs.declared.disk.TheConstants.{PAGE_SIZE}
 use Rattle.rs_owners.specs.Counts.{◌&◌, times}
-use Rattle.rs_owners.specs.Owners.{Shares}
+use Rattle.rs_owners.specs.Owners.{KeepsPages, Shares}
 use Rattle.rs_page.specs.Follow.{MayFollow}
 use Rattle.rs_page.specs.Header.{IsHeader}
 use Rattle.rs_page.specs.declared.header.PageHeader.{PageHeader}
@@ -40,11 +40,6 @@ pub record HoldsBytes (map : PageMap) (numbers bytes : List ℕ) : Type 0 where
 -- no pages that weren't reached before hold the bytes of a catalogue
 pub record HoldsNoFreshBytes (map : PageMap) (before : ℕ → ℕ) : Type 0 where
   pub none : (numbers bytes : List ℕ) → HoldsBytes map numbers bytes → ((number : ℕ) → (before & times numbers) number ≤ 1) → ⊥
-
--- the owner's pages have the bytes that they had, and there are no fewer pages
-pub record KeepsPages (used : ℕ → ℕ) (old new : PageMap) : Type 0 where
-  pub pages : (number : ℕ) → 0 < used number → new.page number ≡ old.page number
-  pub no_fewer : old.fields.pages ≤ new.fields.pages
 
 -- The catalogue has these bytes now, in these pages; whoever else has pages keeps them, and each page has one owner again.
 pub record StoresBytes (old new : PageMap) (before after bytes : List ℕ) : Type 0 where

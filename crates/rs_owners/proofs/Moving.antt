@@ -8,7 +8,7 @@ use Rattle.rs_pages.specs.PageMap.{PageMap, SamePages, ReplacesPage, in_use}
 use Rattle.rs_pages.specs.FreeList.{IsFreeList, IsFreePage, Allocates, Releases, TakesFree, TakesLast}
 use Rattle.rs_pages.proofs.FreeLists.{allocating_takes_the_first_free_page, released_page_is_the_first_free, page_in_use_leaves_the_free_list, same_pages_have_one_free_list}
 use Rattle.rs_owners.specs.Counts.{one_at, times, ◌&◌, no_pages}
-use Rattle.rs_owners.specs.Owners.{Shares, Keeps, Moves, MovesBeside}
+use Rattle.rs_owners.specs.Owners.{Shares, Keeps, KeepsPages, Moves, MovesBeside}
 
 pub one_at-same : (page : ℕ) → one_at page page ≡ 1
 unfolding one_at
@@ -47,6 +47,10 @@ shares_same map one other same shares = record {
   within = λ n h. omega (arith, shares.within n h, same n);
   beyond = λ n h. omega (arith, shares.beyond n h, same n);
 }
+
+-- of what an owner keeps, its pages
+pub pages_kept : (used : ℕ → ℕ) (old new : PageMap) → Keeps used old new → KeepsPages used old new
+pages_kept used old new keeps = record { pages = keeps.pages; no_fewer = keeps.no_fewer }
 
 pub keeps_trans : (used : ℕ → ℕ) (first second third : PageMap) → Keeps used first second → Keeps used second third → Keeps used first third
 keeps_trans used first second third a b = record {

@@ -11,7 +11,12 @@ pub record Shares (map : PageMap) (used : ℕ → ℕ) : Type 0 where
   pub within : (number : ℕ) → number < map.fields.pages → one_at 0 number + (used number + times free number) ≡ 1
   pub beyond : (number : ℕ) → map.fields.pages ≤ number → used number + times free number ≡ 0
 
--- the owner's pages have the bytes that they had, and the catalogue is where it was
+-- the owner's pages have the bytes that they had, and there are no fewer pages
+pub record KeepsPages (used : ℕ → ℕ) (old new : PageMap) : Type 0 where
+  pub pages : (number : ℕ) → 0 < used number → new.page number ≡ old.page number
+  pub no_fewer : old.fields.pages ≤ new.fields.pages
+
+-- the same, and the catalogue is where it was
 pub record Keeps (used : ℕ → ℕ) (old new : PageMap) : Type 0 where
   pub pages : (number : ℕ) → 0 < used number → new.page number ≡ old.page number
   pub no_fewer : old.fields.pages ≤ new.fields.pages

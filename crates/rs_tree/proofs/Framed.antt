@@ -3,7 +3,7 @@ use Rattle.std.proofs.Common.{◌≡◌, ◌<◌, ◌≤◌, ℕ, zero, suc, Lis
 use Rattle.std.proofs.lemmas.List.Sums.{sum_by-cons}
 use Rattle.std.specs.List.{AllByRecursion, sum_by}
 use Rattle.rs_pages.specs.PageMap.{PageMap}
-use Rattle.rs_owners.specs.Owners.{Keeps}
+use Rattle.rs_owners.specs.Owners.{KeepsPages}
 use Rattle.rs_owners.proofs.Moving.{one_at-same}
 use Rattle.rs_tree.specs.Form.{Form}
 use Rattle.rs_tree.specs.Shape.{Shape, Lies, uses}
@@ -30,7 +30,7 @@ module _ (form : Form) (old new : PageMap) (count : old.fields.pages ≤ new.fie
         parts_kept height used shape.parts (λ n. omega (arith, within n)) (λ part inside. lies_kept used kept height part inside) lies.1,
       )
 
-pub kept_tree_stays : (form : Form) (old new : PageMap) (root : ℕ) (cells : List (List ℕ)) (used : ℕ → ℕ) → Keeps used old new → IsTree form old root cells used → IsTree form new root cells used
+pub kept_tree_stays : (form : Form) (old new : PageMap) (root : ℕ) (cells : List (List ℕ)) (used : ℕ → ℕ) → KeepsPages used old new → IsTree form old root cells used → IsTree form new root cells used
 kept_tree_stays form old new root cells used keeps tree =
     record { height = tree.height; stands = at tree.height tree.stands; ascends = tree.ascends; once = tree.once } where
       at : (height : ℕ) → Stands form old height root cells used → Stands form new height root cells used

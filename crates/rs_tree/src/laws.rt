@@ -2,7 +2,7 @@
 
 ghost use Rattle.std.specs.Prelude.{◌≡◌, ◌<◌, ℕ, List};
 ghost use Rattle.rs_pages.specs.PageMap.{PageMap};
-ghost use Rattle.rs_owners.specs.Owners.{Keeps};
+ghost use Rattle.rs_owners.specs.Owners.{KeepsPages};
 ghost use Rattle.rs_tree.specs.Form.{form_of};
 ghost use Rattle.rs_tree.specs.Tree.{IsTree};
 
@@ -25,6 +25,6 @@ pub fn tree_has_its_pages<S: Summary>()
 /// Where an owner's pages are kept, the tree that has them stays as it is.
 pub fn kept_tree_stays<S: Summary>()
     ensures { (width : ℕ) (old new : PageMap) (root : ℕ) (cells : List (List ℕ)) (used : ℕ → ℕ)
-        → Keeps used old new → IsTree (form_of S.says S.unit S.join S.of S.WIDTH width) old root cells used
+        → KeepsPages used old new → IsTree (form_of S.says S.unit S.join S.of S.WIDTH width) old root cells used
         → IsTree (form_of S.says S.unit S.join S.of S.WIDTH width) new root cells used }
 {}

@@ -3,7 +3,7 @@ use Rattle.std.proofs.Common.{◌≡◌, ◌≤◌, ◌+◌, ℕ, Bool, true, fa
 use Rattle.std.proofs.lemmas.List.Sorted.{length_permutation}
 use Rattle.std.proofs.lemmas.List.Sums.{length-filter, sum_by-cons}
 use Rattle.std.specs.List.{AllByRecursion, AllZip, count_by}
-use Rattle.rs_owners.specs.Owners.{Keeps}
+use Rattle.rs_owners.specs.Owners.{KeepsPages}
 use Rattle.rs_pages.specs.PageMap.{PageMap}
 use Rattle.rs_tree.proofs.Framed.{kept_tree_stays}
 use Rattle.rs_tree.proofs.Ones.{tree_has_its_cells}
@@ -42,7 +42,7 @@ module _ {R : Type 0} (kept : Kept R) where
   held_later pages standing from to records used later holds =
       record { cells = holds.cells; holds = holds.holds; say = holds.say; dated = dated_later from to holds.cells later holds.dated }
 
-  pub held_kept : (old new : PageMap) (standing : Standing) (accepted : ℕ) (records : List R) (used : ℕ → ℕ) → Keeps used old new → HoldsRecords kept old standing accepted records used
+  pub held_kept : (old new : PageMap) (standing : Standing) (accepted : ℕ) (records : List R) (used : ℕ → ℕ) → KeepsPages used old new → HoldsRecords kept old standing accepted records used
       → HoldsRecords kept new standing accepted records used
   held_kept old new standing accepted records used keeps holds = record {
     cells = holds.cells;

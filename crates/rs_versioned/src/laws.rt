@@ -5,7 +5,7 @@ ghost use Rattle.std.specs.Prelude.{◌≡◌, ◌⊎◌, ◌<◌, ◌≤◌, �
 ghost use Rattle.std.specs.List.{AllByRecursion};
 ghost use Rattle.rs_facts.specs.Runs.{Stretch};
 ghost use Rattle.rs_facts.specs.Spans.{AreAllRunsOf, places_of};
-ghost use Rattle.rs_owners.specs.Owners.{Keeps};
+ghost use Rattle.rs_owners.specs.Owners.{KeepsPages};
 ghost use Rattle.rs_pages.specs.PageMap.{PageMap};
 ghost use Rattle.rs_value.specs.declared.column.ColumnType.{ColumnType};
 ghost use Rattle.rs_value.specs.declared.column.Kind.{Kind};
@@ -70,10 +70,10 @@ pub fn records_stay()
     ensures later_referents { (pages : PageMap) (standing : Standing) (from to : ℕ) (referents : List ReferentRecord) (used : ℕ → ℕ)
         → from ≤ to → HoldsRecords kept_referents pages standing from referents used → HoldsRecords kept_referents pages standing to referents used }
     ensures kept_events { (types : List ColumnType) (old new : PageMap) (standing : Standing) (accepted : ℕ) (events : List Event) (used : ℕ → ℕ)
-        → Keeps used old new → HoldsRecords (kept_events types) old standing accepted events used
+        → KeepsPages used old new → HoldsRecords (kept_events types) old standing accepted events used
         → HoldsRecords (kept_events types) new standing accepted events used }
     ensures kept_referents { (old new : PageMap) (standing : Standing) (accepted : ℕ) (referents : List ReferentRecord) (used : ℕ → ℕ)
-        → Keeps used old new → HoldsRecords kept_referents old standing accepted referents used
+        → KeepsPages used old new → HoldsRecords kept_referents old standing accepted referents used
         → HoldsRecords kept_referents new standing accepted referents used }
     ensures one_list_of_events { (types : List ColumnType) (pages : PageMap) (standing : Standing) (from to : ℕ) (one other : List Event) (used uses : ℕ → ℕ)
         → HoldsRecords (kept_events types) pages standing from one used → HoldsRecords (kept_events types) pages standing to other uses → one ≡ other }
