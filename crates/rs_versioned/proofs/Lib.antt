@@ -12,6 +12,7 @@ pub mod Lifting
 pub mod ReferentCells
 pub mod Numbers
 pub mod OnRoutes
+pub mod Opened
 pub mod Overlapping
 pub mod Present
 pub mod PrintingOrder

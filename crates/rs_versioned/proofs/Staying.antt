@@ -5,6 +5,7 @@ use Rattle.std.proofs.lemmas.List.Sums.{length-filter, sum_by-cons}
 use Rattle.std.specs.List.{AllByRecursion, AllZip, count_by}
 use Rattle.rs_owners.specs.Owners.{KeepsPages}
 use Rattle.rs_pages.specs.PageMap.{PageMap}
+use Rattle.rs_tree.specs.Tree.{IsTree}
 use Rattle.rs_tree.proofs.Framed.{kept_tree_stays}
 use Rattle.rs_tree.proofs.Ones.{tree_has_its_cells}
 use Rattle.rs_versions.specs.Version.{IsDated, is_dead, is_living}
@@ -75,8 +76,8 @@ module _ {R : Type 0} (kept : Kept R) where
     said_same (c ∷ cs) (x ∷ xs) (y ∷ ys) says tells =
         ap (λ (z : R). z ∷ xs) (laws.one c x y says.0 tells.0) ∙ ap (λ (l : List R). y ∷ l) (said_same cs xs ys says.1 tells.1)
 
-    pub held_one : (pages : PageMap) (standing : Standing) (from to : ℕ) (one other : List R) (used uses : ℕ → ℕ) → HoldsRecords kept pages standing from one used
-        → HoldsRecords kept pages standing to other uses → one ≡ other
-    held_one pages standing from to one other used uses holds has =
-        let cells = tree_has_its_cells kept.form pages standing.root holds.cells has.cells used uses holds.holds.tree has.holds.tree in
+    pub held_one : (pages : PageMap) (stands lies : Standing) (from to : ℕ) (one other : List R) (used uses : ℕ → ℕ) → stands.root ≡ lies.root → HoldsRecords kept pages stands from one used
+        → HoldsRecords kept pages lies to other uses → one ≡ other
+    held_one pages stands lies from to one other used uses same holds has =
+        let cells = tree_has_its_cells kept.form pages lies.root holds.cells has.cells used uses (subst (λ root. IsTree kept.form pages root holds.cells used) same holds.holds.tree) has.holds.tree in
         said_same has.cells one other (subst (λ cs. AllZip kept.says cs one) cells holds.say) has.say

@@ -1,4 +1,5 @@
 pub mod Events
+pub mod Opening
 pub mod Referents
 pub mod Records
 pub mod Tables

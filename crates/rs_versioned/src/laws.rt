@@ -75,10 +75,12 @@ pub fn records_stay()
     ensures kept_referents { (old new : PageMap) (standing : Standing) (accepted : ℕ) (referents : List ReferentRecord) (used : ℕ → ℕ)
         → KeepsPages used old new → HoldsRecords kept_referents old standing accepted referents used
         → HoldsRecords kept_referents new standing accepted referents used }
-    ensures one_list_of_events { (types : List ColumnType) (pages : PageMap) (standing : Standing) (from to : ℕ) (one other : List Event) (used uses : ℕ → ℕ)
-        → HoldsRecords (kept_events types) pages standing from one used → HoldsRecords (kept_events types) pages standing to other uses → one ≡ other }
-    ensures one_list_of_referents { (pages : PageMap) (standing : Standing) (from to : ℕ) (one other : List ReferentRecord) (used uses : ℕ → ℕ)
-        → HoldsRecords kept_referents pages standing from one used → HoldsRecords kept_referents pages standing to other uses → one ≡ other }
+    ensures one_list_of_events { (types : List ColumnType) (pages : PageMap) (stands lies : Standing) (from to : ℕ) (one other : List Event) (used uses : ℕ → ℕ)
+        → stands.root ≡ lies.root → HoldsRecords (kept_events types) pages stands from one used
+        → HoldsRecords (kept_events types) pages lies to other uses → one ≡ other }
+    ensures one_list_of_referents { (pages : PageMap) (stands lies : Standing) (from to : ℕ) (one other : List ReferentRecord) (used uses : ℕ → ℕ)
+        → stands.root ≡ lies.root → HoldsRecords kept_referents pages stands from one used
+        → HoldsRecords kept_referents pages lies to other uses → one ≡ other }
     ensures no_events { (types : List ColumnType) (pages : PageMap) (accepted : ℕ) (events : List Event) (used : ℕ → ℕ)
         → HoldsRecords (kept_events types) pages nothing_stands accepted events used → events ≡ [] }
     ensures no_referents { (pages : PageMap) (accepted : ℕ) (referents : List ReferentRecord) (used : ℕ → ℕ)

@@ -6,9 +6,12 @@
 pub mod event;
 pub mod event_table;
 pub mod laws;
+pub mod opening;
 pub mod referent;
 pub mod referent_table;
 mod seeing;
+pub mod told;
 
 pub use event_table::EventTable;
 pub use referent_table::ReferentTable;
+pub use told::ToldRecords;

@@ -111,6 +111,13 @@ impl<S: Summary> Opening<S> {
         })
     }
 
+    /// Whether cells were looked at that are not below the bound.
+    pub fn is_past(&self, bound: &[u8]) -> bool
+        ensures { result ≡ is_below bound.now self.now.low }
+    {
+        is_below(bound, &self.low)
+    }
+
     /// The next cells, from those looked at on, below the bound. They are dated. It is refused with 90, with 91, and with 94
     /// where the cells that stand there are not as they were told; then the look ends.
     pub fn part<P: Pages>(

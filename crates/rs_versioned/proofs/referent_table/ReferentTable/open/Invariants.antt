@@ -1,0 +1,15 @@
+-- The cells so far are dated and were counted, and each says a referent.
+use Rattle.std.proofs.Common.{◌≡◌, Ok}
+use Rattle.rs_pages.specs.Lending.{RestsAfter}
+use Rattle.rs_versions.specs.Opening.{HasPassed}
+use Rattle.rs_versioned.specs.Referents.{SaysReferent, referent_form, referent_width}
+use Rattle.rs_versioned.proofs.Opened.{SaysBelow, told_of}
+use Rattle.rs_versioned.proofs.referent_table.ReferentTable.open.Given as goal
+
+abbrev pub invariant-loop-route : goal.invariant-loop-route
+invariant-loop-route g l = record {
+  rests : RestsAfter {T = Unit {0}} g.P.Pages.is_tied g.P.Pages.store g.P.Pages.keeps (Ok tt) l.fn.pages l.pages;
+  told : l.opening.told ≡ told_of referent_width l.fn.told;
+  passed : g.P.Pages.is_tied l.fn.pages → HasPassed referent_form (g.P.Pages.store l.fn.pages).map l.opening;
+  say : g.P.Pages.is_tied l.fn.pages → SaysBelow SaysReferent referent_form (g.P.Pages.store l.fn.pages).map l.fn.told.root l.opening.low;
+}
