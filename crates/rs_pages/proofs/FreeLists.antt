@@ -22,14 +22,14 @@ pub page_one : (map : PageMap) (n : ℕ) (a b : List ℕ) → map.page n ≡ Som
 page_one map n a b one other = let same : Some a ≡ Some b = sym one ∙ other in cc
 
 -- a free page has one next page
-next_one : (map : PageMap) (n a b : ℕ) → IsFreePage map n a → IsFreePage map n b → a ≡ b
+pub next_one : (map : PageMap) (n a b : ℕ) → IsFreePage map n a → IsFreePage map n b → a ≡ b
 next_one map n a b one other =
     let page : one.page ≡ other.page = page_one map n one.page other.page one.there other.there in
     let header : IsHeader other.page (empty_header Free n a) = subst (λ p. IsHeader p (empty_header Free n a)) page one.link.blank.header in
     ap (λ (h : PageHeader). h.next) (header_is_one other.page (empty_header Free n a) (empty_header Free n b) header other.link.blank.header)
 
 -- a free page has a number past the header and the directory
-free_past : (map : PageMap) (n next : ℕ) → IsFreePage map n next → 1 < n
+pub free_past : (map : PageMap) (n next : ℕ) → IsFreePage map n next → 1 < n
 free_past map n next free = free.link.fits.1.0
 
 not_zero : (n : ℕ) → 1 < n → n ≡ 0 → ⊥

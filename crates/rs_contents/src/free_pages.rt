@@ -1,0 +1,39 @@
+//! The free list, walked once.
+//!
+//! Each page is marked before it is read, so that the walk ends on pages that are no free list.
+
+ghost use Rattle.std.specs.Prelude.{◌≡◌, ◌⊎◌, IfErr, OnOk, Err, length};
+ghost use Rattle.rs_pages.specs.Lending.{RestsAfter};
+ghost use Rattle.rs_contents.specs.FreePages.{HasNoFreshFreeList, ReachesFree};
+ghost use Rattle.rs_reached.specs.Marks.{taken};
+
+use rs_measure::Refusal;
+use rs_pages::Pages;
+use rs_reached::Reached;
+
+/// Marks the free pages. Ok exactly where as many as page 0 says follow one another and none of them was reached before; 94
+/// where none do; 91 where a page couldn't be read. No page changes. What is marked after a refusal is open.
+pub fn reach_free<P: Pages>(pages: &mut P, reached: &mut Reached) -> Result<(), Refusal>
+    ensures rests { RestsAfter P.is_tied P.store P.keeps result pages.old pages.new }
+    ensures size { length reached.new ≡ length reached.old }
+    ensures reaches { P.is_tied pages.old → OnOk result (ReachesFree (P.store pages.old).map (taken reached.old)
+        (taken reached.new)) }
+    ensures refused { IfErr result (λ why. (why ≡ Refusal.Disk) ⊎ (why ≡ Refusal.DamagedFile)) }
+    ensures damaged { P.is_tied pages.old → result ≡ Err Refusal.DamagedFile
+        → HasNoFreshFreeList (P.store pages.old).map (taken reached.old) }
+{
+    let (first, count) = pages.free_list();
+    let mut next = first;
+    let mut left = count;
+    while next.number() != 0 {
+        if left == 0 || !reached.reach(next) {
+            return Err(Refusal::DamagedFile);
+        }
+        next = pages.next_free(next)?;
+        left -= 1;
+    }
+    if left != 0 {
+        return Err(Refusal::DamagedFile);
+    }
+    Ok(())
+}

@@ -1,0 +1,79 @@
+//! What follows of all that stands in a file: a file holds one such thing at the most, and a change of one part of it leaves all
+//! else.
+
+ghost use Rattle.std.specs.Prelude.{◌≡◌, ◌≤◌, ℕ, List, ◌++◌, ◌∷◌};
+ghost use Rattle.rs_catalog_pages.specs.Chain.{StoresBytes};
+ghost use Rattle.rs_catalog_pages.specs.Directory.{DirectoryItems, HasDirectory, StoresDirectory};
+ghost use Rattle.rs_catalog_pages.specs.Items.{CatalogueItems, SaysCatalogue};
+ghost use Rattle.rs_contents.specs.Contents.{Contents, HoldsAll, HoldsParts, LiesTable, ReferentContents, SameContents, TableContents, beside_definitions, beside_referents, beside_table, table_pages};
+ghost use Rattle.rs_owners.specs.Counts.{◌&◌, times};
+ghost use Rattle.rs_owners.specs.Owners.{Moves, Shares};
+ghost use Rattle.rs_pages.specs.PageMap.{PageMap};
+ghost use Rattle.rs_versioned.specs.Records.{HoldsRecords};
+ghost use Rattle.rs_versioned.specs.Referents.{kept_referents};
+
+/// A file holds one thing at the most.
+pub fn file_holds_one_thing()
+    ensures { (map : PageMap) (one other : Contents) → HoldsAll map one → HoldsAll map other → SameContents one other }
+{}
+
+/// Each part of a file has its pages beside those of all others.
+pub fn each_part_has_its_pages()
+    ensures table { (map : PageMap) (accepted : ℕ) (contents : Contents) (before after : List TableContents) (table : TableContents)
+        → contents.tables ≡ before ++ table ∷ after → HoldsParts map accepted contents
+        → Shares map (table_pages table & beside_table contents (before ++ after)) }
+    ensures referents { (map : PageMap) (accepted : ℕ) (contents : Contents) → HoldsParts map accepted contents
+        → Shares map (contents.referents.used & beside_referents contents) }
+    ensures definitions { (map : PageMap) (accepted : ℕ) (contents : Contents) → HoldsParts map accepted contents
+        → Shares map (times contents.pages & beside_definitions contents) }
+{}
+
+/// Where the pages of a table and its indexes have become those of another, all else stays.
+pub fn changed_table_leaves_all_else()
+    ensures parts { (old new : PageMap) (from to : ℕ) (contents : Contents) (before after : List TableContents) (table now : TableContents)
+        → contents.tables ≡ before ++ table ∷ after → from ≤ to → HoldsParts old from contents
+        → LiesTable new to now → Moves old new (table_pages table) (table_pages now)
+        → HoldsParts new to (record contents { tables = before ++ now ∷ after }) }
+    ensures directory { (old new : PageMap) (accepted : ℕ) (contents : Contents) (before after : List TableContents)
+        (table : TableContents) (used : ℕ → ℕ) → contents.tables ≡ before ++ table ∷ after → HoldsParts old accepted contents
+        → Moves old new (table_pages table) used → new.page 1 ≡ old.page 1 }
+{}
+
+/// Where the pages of the referents have become those of others, all else stays.
+pub fn changed_referents_leave_all_else()
+    ensures parts { (old new : PageMap) (from to : ℕ) (contents : Contents) (now : ReferentContents)
+        → from ≤ to → HoldsParts old from contents
+        → HoldsRecords kept_referents new now.standing to now.referents now.used → Moves old new contents.referents.used now.used
+        → HoldsParts new to (record contents { referents = now }) }
+    ensures directory { (old new : PageMap) (accepted : ℕ) (contents : Contents) (used : ℕ → ℕ) → HoldsParts old accepted contents
+        → Moves old new contents.referents.used used → new.page 1 ≡ old.page 1 }
+{}
+
+/// Where other definitions were stored, all else stays.
+pub fn changed_definitions_leave_all_else()
+    ensures parts { (old new : PageMap) (from to : ℕ) (contents : Contents) (pages bytes : List ℕ) (definitions : CatalogueItems)
+        → from ≤ to → HoldsParts old from contents → SaysCatalogue bytes definitions
+        → StoresBytes old new contents.pages pages bytes
+        → HoldsParts new to (record contents { definitions = definitions; pages = pages }) }
+    ensures directory { (old new : PageMap) (accepted : ℕ) (contents : Contents) (pages bytes : List ℕ)
+        → HoldsParts old accepted contents → StoresBytes old new contents.pages pages bytes → new.page 1 ≡ old.page 1 }
+{}
+
+/// Where another directory was stored in the place of one, all else stays.
+pub fn changed_directory_leaves_all_else()
+    ensures { (old new : PageMap) (from to : ℕ) (contents : Contents) (was now : DirectoryItems)
+        → from ≤ to → HasDirectory old was → HoldsParts old from contents → StoresDirectory old new now
+        → HoldsParts new to (record contents { directory = now }) }
+{}
+
+/// A table that has no pages comes to the others and goes from them, and all else stays.
+pub fn table_without_pages_comes_and_goes()
+    ensures comes { (map : PageMap) (accepted : ℕ) (contents : Contents) (before after : List TableContents) (table : TableContents)
+        → contents.tables ≡ before ++ after → HoldsParts map accepted contents
+        → LiesTable map accepted table → ((number : ℕ) → table_pages table number ≡ 0)
+        → HoldsParts map accepted (record contents { tables = before ++ table ∷ after }) }
+    ensures goes { (map : PageMap) (accepted : ℕ) (contents : Contents) (before after : List TableContents) (table : TableContents)
+        → contents.tables ≡ before ++ table ∷ after → HoldsParts map accepted contents
+        → ((number : ℕ) → table_pages table number ≡ 0)
+        → HoldsParts map accepted (record contents { tables = before ++ after }) }
+{}
