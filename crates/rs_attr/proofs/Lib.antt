@@ -1,9 +1,12 @@
 pub mod Above
 pub mod Checked
+pub mod Counted
 pub mod Entering
 pub mod Finding
 pub mod Indexes
+pub mod Opened
 pub mod Parts
+pub mod PartsChecked
 pub mod Placing
 pub mod Tabled
 pub mod Together

@@ -14,4 +14,5 @@ pub mod table;
 
 pub use attr_index::AttrIndex;
 pub use defining::define;
+pub use opening::open;
 pub use table::{add, kill, vacuum};

@@ -1,18 +1,148 @@
-//! An index that is there already, checked against the cells of its table.
+//! A table with its indexes that lies in a file already, checked against what the file says of it.
 //!
-//! The tree is checked first, its pages are marked and its entries counted. Then the cells of the table are given part by part.
-//! Where each cell has its entry, and there are as many entries as cells, the index is that of just these cells.
+//! The trees are checked first: their pages are marked and the entries of the indexes counted. Then the cells of the table are
+//! read part by part, so that no more than one part is in memory at a time: a part ends where the next of the given routes
+//! begins. Where each cell has its entry in an index, and there are as many entries as cells, the index is that of just these
+//! cells.
 
-ghost use Rattle.std.specs.Prelude.{◌≡◌, ◌⊎◌, Err, IfErr, OnOk};
-ghost use Rattle.rs_attr.specs.Opening.{HasEntries, LacksEntries};
+ghost use Rattle.std.specs.Prelude.{◌≡◌, ◌⊎◌, ◌≤◌, ◌+◌, ◌*◌, Err, IfErr, IfOk, IsOkUnless, OnErr, OnOk, length};
+ghost use Rattle.std.specs.List.{AllByRecursion};
+ghost use Rattle.rs_attr.specs.Opening.{AreNoPart, ArePart, HasEntries, LacksEntries, OpensNoTable, OpensTable, ReachesIndexes, ReachesNoIndexes};
+ghost use Rattle.rs_attr.specs.Tables.{AreOn};
 ghost use Rattle.rs_pages.specs.Lending.{RestsAfter};
+ghost use Rattle.rs_reached.specs.Marks.{taken};
 ghost use Rattle.rs_records.specs.Listed.{listed, record_width};
+ghost use Rattle.rs_versioned.specs.Events.{Event, SaysEvent, event_width};
+ghost use Rattle.rs_versions.specs.Version.{died_of};
 
 use crate::attr_index::AttrIndex;
+use rs_interval::GreatestEnd;
 use rs_measure::Refusal;
 use rs_pages::Pages;
+use rs_reached::Reached;
 use rs_records::Cells;
+use rs_value::{Schema, row_width};
+use rs_versioned::event::{EVENT_BYTES, says_event};
+use rs_versioned::{EventTable, ToldRecords};
+use rs_versions::Opening;
 use std::alloc::Global;
+
+/// The table that lies in a file already, with rows of these columns, beside its indexes; their pages are marked. Ok exactly
+/// where it lies there as it was told, with the indexes of its cells, in pages none of which was reached before; 94 where no
+/// such table does; 90 and 91. Whatever routes are given, each cell is looked at. No page changes. What is marked after a
+/// refusal is open.
+pub fn open<P: Pages>(
+    alloc: Global,
+    pages: &mut P,
+    schema: Schema,
+    told: ToldRecords,
+    indexes: &[AttrIndex],
+    routes: &[u32],
+    reached: &mut Reached,
+) -> Result<EventTable, Refusal>
+    requires fits { 3 * (8 + event_width schema.items) ≤ 4080 }
+    requires indexes { AreOn schema.items indexes.now }
+    ensures rests { RestsAfter P.is_tied P.store P.keeps result pages.old pages.new }
+    ensures size { length reached.new ≡ length reached.old }
+    ensures types { IfOk result (λ table. table.types ≡ schema.items) }
+    ensures committed { IfOk result (λ table. table.committed ≡ table.working) }
+    ensures order { IfOk result (λ table. AllByRecursion (λ dead. died_of dead ≤ told.accepted) table.working.dead) }
+    ensures opens { P.is_tied pages.old → IfOk result (λ table. OpensTable schema.items (P.store pages.old).map told
+        table.working indexes.now (taken reached.old) (taken reached.new)) }
+    ensures refused { IfErr result (λ why. (why ≡ Refusal.OutOfMemory) ⊎ (why ≡ Refusal.Disk) ⊎ (why ≡ Refusal.DamagedFile)) }
+    ensures damaged { P.is_tied pages.old → result ≡ Err Refusal.DamagedFile → OpensNoTable schema.items
+        (P.store pages.old).map told indexes.now (taken reached.old) }
+{
+    let width = row_width(&schema) + EVENT_BYTES;
+    let mut opening = Opening::<GreatestEnd>::begin(
+        alloc,
+        pages,
+        width,
+        told.root,
+        told.living,
+        told.garbage,
+        told.accepted,
+        reached,
+    )?;
+    reach_indexes(pages, indexes, told, reached)?;
+    for route in routes {
+        let high = route.to_be_bytes();
+        if !opening.is_past(&high) {
+            let cells = opening.part(alloc, pages, &high)?;
+            check_part(alloc, pages, &schema, indexes, &cells)?;
+        }
+    }
+    let (versions, left) = opening.finish(alloc, pages)?;
+    check_part(alloc, pages, &schema, indexes, &left)?;
+    Ok(EventTable::with(schema, versions))
+}
+
+/// Checks the trees of the indexes, marks their pages, and counts their entries: as many as there are living and dead records.
+/// It is refused with 91, and with 94 where no such trees stand there none of whose pages was reached before.
+fn reach_indexes<P: Pages>(
+    pages: &mut P,
+    indexes: &[AttrIndex],
+    told: ToldRecords,
+    reached: &mut Reached,
+) -> Result<(), Refusal>
+    ensures rests { RestsAfter P.is_tied P.store P.keeps result pages.old pages.new }
+    ensures size { length reached.new ≡ length reached.old }
+    ensures reaches { P.is_tied pages.old → OnOk result (ReachesIndexes (P.store pages.old).map indexes.now
+        (told.living + told.garbage) (taken reached.old) (taken reached.new)) }
+    ensures refused { IfErr result (λ why. (why ≡ Refusal.Disk) ⊎ (why ≡ Refusal.DamagedFile)) }
+    ensures damaged { P.is_tied pages.old → result ≡ Err Refusal.DamagedFile → ReachesNoIndexes (P.store pages.old).map
+        indexes.now (told.living + told.garbage) (taken reached.old) }
+{
+    for index in indexes {
+        let entries = index.validate(pages, reached)?;
+        if told.living.checked_add(told.garbage) != Some(entries) {
+            return Err(Refusal::DamagedFile);
+        }
+    }
+    Ok(())
+}
+
+/// Ok where each of the cells says an event with a row of these columns and has its entry in each index. It is refused with 90,
+/// with 91, and with 94 only where one doesn't. No page changes.
+fn check_part<P: Pages>(
+    alloc: Global,
+    pages: &mut P,
+    schema: &Schema,
+    indexes: &[AttrIndex],
+    cells: &Cells,
+) -> Result<(), Refusal>
+    requires width { record_width cells.now ≡ event_width schema.now.items }
+    requires indexes { AreOn schema.now.items indexes.now }
+    ensures rests { RestsAfter P.is_tied P.store P.keeps result pages.old pages.new }
+    ensures part { P.is_tied pages.old → OnOk result (ArePart schema.now.items (P.store pages.old).map indexes.now
+        (listed cells.now)) }
+    ensures refused { IfErr result (λ why. (why ≡ Refusal.OutOfMemory) ⊎ (why ≡ Refusal.Disk) ⊎ (why ≡ Refusal.DamagedFile)) }
+    ensures damaged { P.is_tied pages.old → result ≡ Err Refusal.DamagedFile → AreNoPart schema.now.items
+        (P.store pages.old).map indexes.now (listed cells.now) }
+{
+    check_events(schema, cells)?;
+    for index in indexes {
+        index.check_entries(alloc, pages, cells)?;
+    }
+    Ok(())
+}
+
+/// Ok where each of the cells says an event with a row of these columns; 94 where one doesn't.
+fn check_events(schema: &Schema, cells: &Cells) -> Result<(), Refusal>
+    requires width { record_width cells.now ≡ event_width schema.now.items }
+    ensures say { OnOk result (AllByRecursion (λ cell. (event : Event) × SaysEvent schema.now.items cell event)
+        (listed cells.now)) }
+    ensures none { OnErr result (AllByRecursion (λ cell. (event : Event) × SaysEvent schema.now.items cell event)
+        (listed cells.now) → ⊥) }
+    ensures refused { IsOkUnless result Refusal.DamagedFile }
+{
+    for place in 0..cells.len() {
+        if !says_event(schema, cells.get(place)) {
+            return Err(Refusal::DamagedFile);
+        }
+    }
+    Ok(())
+}
 
 impl AttrIndex {
     /// Ok where each of the cells has its entry in the index. It is refused with 90, with 91, and with 94 only where one has

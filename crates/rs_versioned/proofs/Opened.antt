@@ -19,7 +19,7 @@ use Rattle.rs_versions.proofs.Looks.{FindsWithin, below_parted, cells_from, none
 use Rattle.rs_versions.proofs.Staying.{tree_same}
 
 -- what holds of those that pass a test, and of those that don't, holds of all
-all_of_parts : (P : List ℕ → Type 0) (test : List ℕ → Bool) (cells : List (List ℕ)) → AllByRecursion P (filter test cells) → AllByRecursion P (filter (λ cell. not (test cell)) cells)
+pub all_of_parts : (P : List ℕ → Type 0) (test : List ℕ → Bool) (cells : List (List ℕ)) → AllByRecursion P (filter test cells) → AllByRecursion P (filter (λ cell. not (test cell)) cells)
     → AllByRecursion P cells
 all_of_parts P test [] some others = tt
 all_of_parts P test (c ∷ cs) some others = by_test (test c) some others (all_of_parts P test cs) where
@@ -40,13 +40,13 @@ module _ {R : Type 0} (says : List ℕ → R → Type 0) where
       subst SayEach (sym (take_next cells k cell there) ∙ ap (λ n. take n cells) next) (all_push (λ c. (one : R) × says c one) (take k cells) cell say one)
 
   -- they say a list of records, and those of a list say each of them
-  listed_records : (cells : List (List ℕ)) → SayEach cells → (records : List R) × AllZip says cells records
+  pub listed_records : (cells : List (List ℕ)) → SayEach cells → (records : List R) × AllZip says cells records
   listed_records [] say = ([], tt)
   listed_records (c ∷ cs) say =
       let rest = listed_records cs say.1 in
       (say.0.0 ∷ rest.0, (say.0.1, rest.1))
 
-  each_of_listed : (cells : List (List ℕ)) (records : List R) → AllZip says cells records → SayEach cells
+  pub each_of_listed : (cells : List (List ℕ)) (records : List R) → AllZip says cells records → SayEach cells
   each_of_listed [] [] all = tt
   each_of_listed [] (r ∷ rs) all = absurd all
   each_of_listed (c ∷ cs) [] all = absurd all

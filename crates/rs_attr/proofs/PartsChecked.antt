@@ -1,0 +1,115 @@
+-- Parts of a table's cells that were checked against its indexes.
+use Rattle.std.proofs.Common.{◌≡◌, ◌<◌, ℕ, suc, Bool, true, false, not, cond, Some, List, [], ◌∷◌, ◌++◌, length, take, slice_get, map, filter, sym, ap, subst, inl, inr, arith}
+use Rattle.std.proofs.lemmas.List.Sorted.{Contains-permutation, IsPermutation-sym}
+use Rattle.std.specs.List.{AllByRecursion, Contains}
+use Rattle.std.specs.List.Sorted.{IsPermutation}
+use Rattle.rs_attr.specs.Entries.{Field, HoldsIndex, entry_of, index_form}
+use Rattle.rs_attr.specs.Opening.{AreNoPart, ArePart, HasEntries, HaveAllEntries, HaveEntries, LacksEntries}
+use Rattle.rs_attr.specs.Tables.{HoldIndexes, IndexState}
+use Rattle.rs_pages.specs.PageMap.{PageMap, SamePages}
+use Rattle.rs_tree.proofs.Lists.{has_inside, inside_has, take_next, zip_at, zip_lengths}
+use Rattle.rs_tree_check.proofs.Joins.{all_push}
+use Rattle.rs_value.specs.declared.column.ColumnType.{ColumnType}
+use Rattle.rs_versioned.specs.Events.{Event, SaysEvent}
+use Rattle.rs_versioned.proofs.Opened.{all_of_parts}
+use Rattle.rs_versions.proofs.Among.{first_or_rest}
+use Rattle.rs_versions.proofs.Dated.{all_both}
+use Rattle.rs_versions.proofs.Staying.{tree_same}
+
+-- what an index of all has of some of them
+contains_map : (image : List ℕ → List ℕ) (xs : List (List ℕ)) (x : List ℕ) → Contains xs x → Contains (map image xs) (image x)
+contains_map image [] x has = absurd (omega (arith, has.1))
+contains_map image (y ∷ ys) x has = elim (first_or_rest x y ys has) [
+  | inl same ↦ (0, omega arith, ap image same)
+  | inr rest ↦ let more = contains_map image ys x rest in (suc more.0, omega (arith, more.1), more.2)
+]
+
+each_among : (field : Field) (entries all cells : List (List ℕ)) → IsPermutation entries (map (entry_of field) all) → AllByRecursion (Contains all) cells → HaveEntries field entries cells
+each_among field entries all [] are have = tt
+each_among field entries all (c ∷ cs) are have = (
+  Contains-permutation (map (entry_of field) all) entries (entry_of field c) (IsPermutation-sym entries (map (entry_of field) all) are) (contains_map (entry_of field) all c have.0),
+  each_among field entries all cs are have.1,
+)
+
+module _ (old mid : PageMap) (same : SamePages mid old) where
+  -- on the same pages the same is there
+  entries_back : (field : Field) (root : ℕ) (cells : List (List ℕ)) → HasEntries field mid root cells → HasEntries field old root cells
+  entries_back field root cells have = record { each = λ entries used tree. have.each entries used (tree_same (index_form field) old mid same root entries used tree) }
+
+  all_entries_back : (indexes : List IndexState) (cells : List (List ℕ)) → HaveAllEntries mid indexes cells → HaveAllEntries old indexes cells
+  all_entries_back [] cells have = tt
+  all_entries_back (x ∷ xs) cells have = (entries_back x.field x.working cells have.0, all_entries_back xs cells have.1)
+
+  hold_same : (indexes : List IndexState) (cells : List (List ℕ)) (uses : List (ℕ → ℕ)) → HoldIndexes old indexes cells uses → HoldIndexes mid indexes cells uses
+  hold_same [] cells [] hold = tt
+  hold_same [] cells (u ∷ us) hold = absurd hold
+  hold_same (x ∷ xs) cells [] hold = absurd hold
+  hold_same (x ∷ xs) cells (u ∷ us) hold = (
+    record { entries = hold.0.entries; tree = tree_same (index_form x.field) old mid same x.working hold.0.entries u hold.0.tree; are = hold.0.are },
+    hold_same xs cells us hold.1,
+  )
+
+  module _ (types : List ColumnType) (indexes : List IndexState) (cells : List (List ℕ)) where
+    pub part_back : ArePart types mid indexes cells → ArePart types old indexes cells
+    part_back part = record { say = part.say; entered = all_entries_back indexes cells part.entered }
+
+    pub no_part_back : AreNoPart types mid indexes cells → AreNoPart types old indexes cells
+    no_part_back missing = record { none = λ uses all say hold have. missing.none uses all say (hold_same indexes all uses hold) have }
+
+  module _ (indexes : List IndexState) (k : ℕ) (index : IndexState) (there : slice_get indexes k ≡ Some index) (cells : List (List ℕ)) where
+    -- the cells have their entries in one index more
+    pub entered_next : HaveAllEntries old (take k indexes) cells → HasEntries index.field mid index.working cells → HaveAllEntries old (take (suc k) indexes) cells
+    entered_next so have =
+        subst (λ (xs : List IndexState). HaveAllEntries old xs cells) (sym (take_next indexes k index there))
+        (all_push (λ (x : IndexState). HasEntries x.field old x.working cells) (take k indexes) index so (entries_back index.field index.working cells have))
+
+    -- where one has none in the next index, they are no part of a table
+    pub no_part_at : (types : List ColumnType) → LacksEntries index.field mid index.working cells → AreNoPart types old indexes cells
+    no_part_at types lacks = record {
+      none = λ uses all say hold have.
+          let within : k < length uses =
+          omega (arith, has_inside indexes k index there, zip_lengths (λ (x : IndexState) (u : ℕ → ℕ). HoldsIndex x.field old x.working all u) indexes uses hold) in
+          let one = inside_has uses k within in
+          let holds : HoldsIndex index.field old index.working all one.0 =
+          zip_at (λ (x : IndexState) (u : ℕ → ℕ). HoldsIndex x.field old x.working all u) indexes uses k index one.0 hold there one.1 in
+          lacks.none holds.entries one.0 (tree_same (index_form index.field) old mid same index.working holds.entries one.0 holds.tree) (each_among index.field holds.entries all cells holds.are have);
+    }
+
+-- no cells are part of any table
+none_entered : (pages : PageMap) (indexes : List IndexState) → HaveAllEntries pages indexes []
+none_entered pages [] = tt
+none_entered pages (x ∷ xs) = (record { each = λ entries used tree. tt }, none_entered pages xs)
+
+pub part_none : (types : List ColumnType) (pages : PageMap) (indexes : List IndexState) → ArePart types pages indexes []
+part_none types pages indexes = record { say = tt; entered = none_entered pages indexes }
+
+-- two parts are one
+both_entered : (pages : PageMap) (indexes : List IndexState) (xs ys : List (List ℕ)) → HaveAllEntries pages indexes xs → HaveAllEntries pages indexes ys → HaveAllEntries pages indexes (xs ++ ys)
+both_entered pages [] xs ys one other = tt
+both_entered pages (i ∷ is) xs ys one other = (
+  record { each = λ entries used tree. all_both (λ (cell : List ℕ). Contains entries (entry_of i.field cell)) xs ys (one.0.each entries used tree) (other.0.each entries used tree) },
+  both_entered pages is xs ys one.1 other.1,
+)
+
+pub part_both : (types : List ColumnType) (pages : PageMap) (indexes : List IndexState) (xs ys : List (List ℕ)) → ArePart types pages indexes xs → ArePart types pages indexes ys
+    → ArePart types pages indexes (xs ++ ys)
+part_both types pages indexes xs ys one other = record {
+  say = all_both (λ (cell : List ℕ). (event : Event) × SaysEvent types cell event) xs ys one.say other.say;
+  entered = both_entered pages indexes xs ys one.entered other.entered;
+}
+
+-- what passes a test, and what doesn't
+either_entered : (pages : PageMap) (test : List ℕ → Bool) (indexes : List IndexState) (xs : List (List ℕ)) → HaveAllEntries pages indexes (filter test xs)
+    → HaveAllEntries pages indexes (filter (λ x. not (test x)) xs) → HaveAllEntries pages indexes xs
+either_entered pages test [] xs one other = tt
+either_entered pages test (i ∷ is) xs one other = (
+  record { each = λ entries used tree. all_of_parts (λ (cell : List ℕ). Contains entries (entry_of i.field cell)) test xs (one.0.each entries used tree) (other.0.each entries used tree) },
+  either_entered pages test is xs one.1 other.1,
+)
+
+pub part_either : (types : List ColumnType) (pages : PageMap) (indexes : List IndexState) (test : List ℕ → Bool) (xs : List (List ℕ)) → ArePart types pages indexes (filter test xs)
+    → ArePart types pages indexes (filter (λ x. not (test x)) xs) → ArePart types pages indexes xs
+part_either types pages indexes test xs one other = record {
+  say = all_of_parts (λ (cell : List ℕ). (event : Event) × SaysEvent types cell event) test xs one.say other.say;
+  entered = either_entered pages test indexes xs one.entered other.entered;
+}
