@@ -1,1 +1,2 @@
 mod Dying
+mod Indexed

@@ -1,5 +1,5 @@
 //! Trees beside plain keys, in pages written by hand, with bytes that are changed, and with many cells; and records by version
-//! beside plain lists.
+//! and their indexes beside plain lists.
 //!
 //! Everything here is for the tests alone.
 #![tactic(auto)]
@@ -12,6 +12,12 @@ mod damage_tests;
 mod expect;
 #[cfg(test)]
 mod format_tests;
+#[cfg(test)]
+mod index_judge;
+#[cfg(test)]
+mod index_tests;
+#[cfg(test)]
+mod indexes;
 #[cfg(test)]
 mod many_tests;
 #[cfg(test)]

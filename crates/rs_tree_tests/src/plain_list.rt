@@ -101,6 +101,12 @@ impl PlainList {
         Ok(taken)
     }
 
+    /// How many records have the value in the column, living or dead and not cleared.
+    pub fn having(&self, column: usize, value: u32) -> u64 {
+        let dead = self.dead.get(self.cleared..).unwrap_or(&[]);
+        count_having(&self.alive, column, value).saturating_add(count_having(dead, column, value))
+    }
+
     /// What the version sees, in the order of cells.
     pub fn seen(&self, alloc: Global, version: u64) -> Result<Vec<PlainRecord>, AllocError> {
         let mut seen = Vec::new(alloc);
@@ -111,6 +117,17 @@ impl PlainList {
         seen.sort_unstable();
         Ok(seen)
     }
+}
+
+/// How many of the records have the value in the column.
+fn count_having(records: &[PlainRecord], column: usize, value: u32) -> u64 {
+    let mut count = 0u64;
+    for record in records {
+        if record.has(column, value) {
+            count = count.saturating_add(1);
+        }
+    }
+    count
 }
 
 /// Puts the records that the version sees after others.

@@ -69,10 +69,29 @@ pub fn name_text(index: u32) -> &'static str
     }
 }
 
+/// The row of an event with these of `NUMBERS` and `TEXTS`.
+pub fn row_of(alloc: Global, number: u32, text: u32) -> Result<Vec<u8>, AllocError> {
+    let number = numbers().get(number as usize).copied();
+    let text = texts().get(text as usize).copied();
+    let mut row = Vec::new(alloc);
+    row.extend_from_slice(&number.unwrap_or([0; 9]))?;
+    row.extend_from_slice(&text.unwrap_or([0; 9]))?;
+    Ok(row)
+}
+
 impl PlainRecord {
     /// Whether the version sees the record.
     pub fn is_seen(&self, version: u64) -> bool {
         self.born <= version && version < self.died
+    }
+
+    /// Whether the row has the value in the column: of `NUMBERS` in the first, and of `TEXTS` in the second.
+    pub fn has(&self, column: usize, value: u32) -> bool {
+        if column == 0 {
+            self.number == value
+        } else {
+            self.text == value
+        }
     }
 
     /// The same record, as it is while it lives.
@@ -84,12 +103,7 @@ impl PlainRecord {
 
     /// The row of an event.
     pub fn row(&self, alloc: Global) -> Result<Vec<u8>, AllocError> {
-        let number = numbers().get(self.number as usize).copied();
-        let text = texts().get(self.text as usize).copied();
-        let mut row = Vec::new(alloc);
-        row.extend_from_slice(&number.unwrap_or([0; 9]))?;
-        row.extend_from_slice(&text.unwrap_or([0; 9]))?;
-        Ok(row)
+        row_of(alloc, self.number, self.text)
     }
 
     /// The bytes of the record's cell.

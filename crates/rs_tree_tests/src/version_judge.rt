@@ -61,9 +61,9 @@ fn list_of<'x>(events: &'x PlainList, referents: &'x PlainList, kind: Kind) -> &
 /// A file and plain lists of what is in its tables.
 #[derive(Drop)]
 pub struct VersionJudge {
-    alloc: Global,
+    pub(crate) alloc: Global,
     pub file: VersionedFile,
-    events: PlainList,
+    pub(crate) events: PlainList,
     referents: PlainList,
     held: Vec<Held>,
     words: Pcg32,
@@ -127,6 +127,19 @@ impl VersionJudge {
         oldest
     }
 
+    /// How many versions are held open.
+    pub fn held(&self) -> usize {
+        self.held.len()
+    }
+
+    /// The version with this place among those that are held open.
+    pub fn held_version(&self, place: usize) -> Option<u64> {
+        match self.held.get(place) {
+            Some(held) => Some(held.version),
+            None => None,
+        }
+    }
+
     /// A record that is born now; now and then the same as one before it.
     pub fn new_record(&mut self, kind: Kind) -> PlainRecord {
         let born = self.file.version();
@@ -177,7 +190,7 @@ impl VersionJudge {
             }
             Change::Kill(record) => {
                 let cell = record.cell(alloc, kind)?;
-                self.file.kill(kind, &cell)? == self.list(kind).kill(version, record)?
+                self.file.kill(alloc, kind, &cell)? == self.list(kind).kill(version, record)?
             }
             Change::Vacuum(most) => self.are_cleared(kind, most)?,
             Change::Clear => {

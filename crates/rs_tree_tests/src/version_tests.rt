@@ -22,7 +22,7 @@ static FALSE: [(u64, u64, u64); 5] = [
 ];
 
 /// Makes a change of a table, which is kept, and compares what versions see then.
-fn keep(judge: &mut VersionJudge, kind: Kind, change: Change) -> Result<(), Fail> {
+pub(crate) fn keep(judge: &mut VersionJudge, kind: Kind, change: Change) -> Result<(), Fail> {
     judge.file.begin()?;
     judge.make(kind, change)?;
     judge.file.end(true);

@@ -1,19 +1,22 @@
-//! A table of events and one of referents in pages of one file, over a disk in memory.
+//! A table of events with its indexes and one of referents in pages of one file, over a disk in memory.
 //!
 //! Changes are begun, made, and then kept or abandoned. A call that is not in its turn is refused as wrong values.
 
 ghost use Rattle.std.specs.Prelude.{◌≡◌, ◌<◌, ◌≤◌, [], ◌∷◌, IfOk};
 ghost use Rattle.std.specs.List.{AllByRecursion};
 ghost use Rattle.std.proofs.Props.{props};
+ghost use Rattle.rs_attr.specs.Tables.{AreOn};
 ghost use Rattle.rs_value.specs.declared.column.ColumnType.TheVariants.{Int, Text};
-ghost use Rattle.rs_value.specs.Values.{IsRowOf};
-ghost use Rattle.rs_value.specs.View.{row_of};
+ghost use Rattle.rs_value.specs.Values.{IsRowOf, IsValue};
+ghost use Rattle.rs_value.specs.View.{datum_of, row_of};
 ghost use Rattle.rs_versions.specs.Version.{died_of};
 
+use crate::indexes::{clear_each, end_each, reopen_each, value_of};
 use crate::plain_list::Search;
-use crate::plain_records::{Kind, LIVES, PlainRecord, name_text};
+use crate::plain_records::{Kind, LIVES, PlainRecord, name_text, row_of};
 use crate::reopening::{Told, opened};
 use arrayvec::ArrayString;
+use rs_attr::{AttrIndex, define};
 use rs_disk::MemoryDisk;
 use rs_facts::fact::Span;
 use rs_interval::GreatestEnd;
@@ -21,9 +24,11 @@ use rs_measure::{Measure, Refusal};
 use rs_methods::Referent;
 use rs_page::PageNumber;
 use rs_pager::Pager;
+use rs_pages::Pages;
+use rs_reached::Reached;
 use rs_records::Cells;
 use rs_tree::NoSummary;
-use rs_value::{ColumnType, Schema, Tuple, decode, said_row_is_of_its_columns};
+use rs_value::{ColumnType, Schema, Tuple, Value, decode, said_row_is_of_its_columns};
 use rs_versioned::{EventTable, ReferentTable};
 use rs_versions::is_living;
 use std::alloc::Global;
@@ -40,12 +45,17 @@ pub struct VersionedFile {
     pager: Pager<MemoryDisk>,
     events: EventTable,
     referents: ReferentTable,
+    /// The index of the first column, and then that of the second, as far as they are defined.
+    indexes: Vec<AttrIndex>,
+    /// How many indexes were kept last.
+    kept_indexes: usize,
     version: u64,
     /// The version that was kept last.
     kept: u64,
     is_begun: bool,
     ghost begun: { is_begun ≡ pager.is_begun },
     ghost columns: { events.types ≡ Int ∷ Text 8 ∷ [] },
+    ghost indexed: { AreOn (Int ∷ Text 8 ∷ []) indexes.items } by { Prim.hlevel props },
     ghost events_died: { AllByRecursion (λ dead. died_of dead ≤ version) events.working.dead } by { Prim.hlevel props },
     ghost events_kept: { AllByRecursion (λ dead. died_of dead ≤ kept) events.committed.dead } by { Prim.hlevel props },
     ghost referents_died: { AllByRecursion (λ dead. died_of dead ≤ version) referents.working.dead } by { Prim.hlevel props },
@@ -53,7 +63,7 @@ pub struct VersionedFile {
 }
 
 /// A number, and a text of at most eight bytes.
-fn columns() -> Schema
+pub(crate) fn columns() -> Schema
     ensures { result.items ≡ Int ∷ Text 8 ∷ [] }
 {
     let mut schema = Schema::new();
@@ -105,6 +115,8 @@ impl VersionedFile {
                 pager,
                 events: EventTable::new(alloc, columns()),
                 referents: ReferentTable::new(alloc),
+                indexes: Vec::new(alloc),
+                kept_indexes: 0,
                 version: 0,
                 kept: 0,
                 is_begun: false,
@@ -131,6 +143,7 @@ impl VersionedFile {
     }
 
     /// Keeps what was changed, or takes it back, its version too.
+    #[tactic(auto, using(crate::proofs::Indexed::first_of))]
     pub fn end(&mut self, is_kept: bool) {
         if !self.is_begun {
             return;
@@ -140,16 +153,33 @@ impl VersionedFile {
             self.pager.commit();
             self.events.commit();
             self.referents.commit();
+            self.kept_indexes = self.indexes.len();
             self.kept = self.version;
         } else {
             self.pager.abandon();
             self.events.abandon();
             self.referents.abandon();
+            self.indexes.truncate(self.kept_indexes);
             self.version = self.kept;
+        }
+        end_each(&mut self.indexes, is_kept);
+    }
+
+    /// Defines the index of the next column. It reads the events in parts, which begin on these routes.
+    #[tactic(auto, using(crate::proofs::Indexed::more_of, crate::proofs::Indexed::columns_fit))]
+    pub fn define(&mut self, alloc: Global, routes: &[u32]) -> Result<(), Refusal> {
+        let column = self.indexes.len();
+        if !self.is_begun || column > 1 {
+            return Err(Refusal::WrongValues);
+        }
+        let index = define(alloc, &mut self.pager, &self.events, column, routes)?;
+        match self.indexes.push(index) {
+            Ok(()) => Ok(()),
+            Err(_) => Err(Refusal::OutOfMemory),
         }
     }
 
-    /// As `add` of the table.
+    /// As `add` of the table, and of events in their indexes too.
     pub fn add(
         &mut self,
         alloc: Global,
@@ -167,12 +197,19 @@ impl VersionedFile {
         }
         let row = record.row(alloc).map_err(|_| Refusal::OutOfMemory)?;
         let span = span_of(alloc, self.events.schema(), &row, record.low, record.value)?;
-        self.events
-            .add(alloc, &mut self.pager, self.version, record.route, &span)
+        rs_attr::add(
+            alloc,
+            &mut self.pager,
+            &mut self.events,
+            &mut self.indexes,
+            self.version,
+            record.route,
+            &span,
+        )
     }
 
-    /// As `kill` of the table.
-    pub fn kill(&mut self, kind: Kind, cell: &[u8]) -> Result<bool, Refusal> {
+    /// As `kill` of the table, and of events in their indexes too.
+    pub fn kill(&mut self, alloc: Global, kind: Kind, cell: &[u8]) -> Result<bool, Refusal> {
         let width = if kind == Kind::Events {
             EVENT_WIDTH
         } else {
@@ -182,13 +219,20 @@ impl VersionedFile {
             return Err(Refusal::WrongValues);
         }
         if kind == Kind::Events {
-            self.events.kill(&mut self.pager, self.version, cell)
+            rs_attr::kill(
+                alloc,
+                &mut self.pager,
+                &mut self.events,
+                &mut self.indexes,
+                self.version,
+                cell,
+            )
         } else {
             self.referents.kill(&mut self.pager, self.version, cell)
         }
     }
 
-    /// As `vacuum` of the table.
+    /// As `vacuum` of the table, and of events in their indexes too.
     pub fn vacuum(
         &mut self,
         alloc: Global,
@@ -200,19 +244,28 @@ impl VersionedFile {
             return Err(Refusal::WrongValues);
         }
         if kind == Kind::Events {
-            self.events.vacuum(alloc, &mut self.pager, oldest, most)
+            rs_attr::vacuum(
+                alloc,
+                &mut self.pager,
+                &mut self.events,
+                &mut self.indexes,
+                oldest,
+                most,
+            )
         } else {
             self.referents.vacuum(alloc, &mut self.pager, oldest, most)
         }
     }
 
-    /// As `clear` of the table.
+    /// As `clear` of the table, and of events in their indexes too.
+    #[tactic(auto, using(crate::proofs::Indexed::written))]
     pub fn clear(&mut self, kind: Kind) -> Result<(), Refusal> {
         if !self.is_begun {
             return Err(Refusal::WrongValues);
         }
         if kind == Kind::Events {
-            self.events.clear(&mut self.pager)
+            self.events.clear(&mut self.pager)?;
+            clear_each(&mut self.pager, &mut self.indexes)
         } else {
             self.referents.clear(&mut self.pager)
         }
@@ -236,6 +289,47 @@ impl VersionedFile {
             .visible(alloc, &mut self.pager, version, route.min(1_000))
     }
 
+    /// As `equal` of the column's index, for this one of the values that plain records have in the column.
+    pub fn equal(
+        &mut self,
+        alloc: Global,
+        column: usize,
+        value: u32,
+        version: u64,
+    ) -> Result<(Cells, u32), Refusal> {
+        let row = row_of(alloc, value, value).map_err(|_| Refusal::OutOfMemory)?;
+        let span = span_of(alloc, self.events.schema(), &row, 0, 1)?;
+        let value = value_of(&span.tuple, column)?;
+        self.equal_to(alloc, column, &value, version)
+    }
+
+    /// As `equal` of the column's index.
+    pub fn equal_to(
+        &mut self,
+        alloc: Global,
+        column: usize,
+        value: &Value,
+        version: u64,
+    ) -> Result<(Cells, u32), Refusal>
+        requires { IsValue (datum_of value.now) }
+    {
+        match self.indexes.get(column) {
+            Some(index) => index.equal(alloc, &mut self.pager, value, version),
+            None => Err(Refusal::WrongValues),
+        }
+    }
+
+    /// How many entries the column's index has, as `validate` counts them.
+    pub fn entries(&mut self, alloc: Global, column: usize) -> Result<u64, Refusal> {
+        let Ok(mut reached) = Reached::new(alloc, self.pager.count()) else {
+            return Err(Refusal::OutOfMemory);
+        };
+        match self.indexes.get(column) {
+            Some(index) => index.validate(&mut self.pager, &mut reached),
+            None => Err(Refusal::WrongValues),
+        }
+    }
+
     /// How many records of the table live, and how many are dead and not cleared.
     pub fn counts(&self, kind: Kind) -> (u64, u64) {
         if kind == Kind::Events {
@@ -245,7 +339,7 @@ impl VersionedFile {
         }
     }
 
-    /// Looks at a table anew, which is as it is told then. Nothing may be begun.
+    /// Looks at a table anew, and at its indexes, which is as it is told then. Nothing may be begun.
     pub fn reopen(&mut self, alloc: Global, kind: Kind, told: Told) -> Result<(), Refusal> {
         if told.version > self.version || told.version > self.kept {
             return Err(Refusal::WrongValues);
@@ -253,6 +347,7 @@ impl VersionedFile {
         if kind == Kind::Events {
             let root = self.events.root();
             self.events = reopened_events(alloc, &mut self.pager, root, told)?;
+            reopen_each(&mut self.indexes);
         } else {
             let root = self.referents.root();
             self.referents = reopened_referents(alloc, &mut self.pager, root, told)?;
