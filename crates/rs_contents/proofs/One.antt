@@ -1,5 +1,5 @@
 -- A file holds one thing at the most.
-use Rattle.std.proofs.Common.{◌≡◌, ◌+◌, ℕ, Option, Some, None, List, [], ◌∷◌, ◌==◌, filter, map, refl, sym, ap, subst, ◌∙◌, arith}
+use Rattle.std.proofs.Common.{◌≡◌, ℕ, Option, Some, None, List, [], ◌∷◌, ◌==◌, filter, refl, sym, ap, subst, ◌∙◌, arith}
 use Rattle.std.specs.List.{AllByRecursion, AllZip}
 use Rattle.rs_attr.specs.Entries.{Field, HoldsIndex, IsColumn}
 use Rattle.rs_attr.specs.Tables.{HoldIndexes, IndexState, all_of}

@@ -1,10 +1,10 @@
 -- The parts of a file: their pages, and that a change of one leaves all others.
-use Rattle.std.proofs.Common.{◌≡◌, ◌<◌, ◌≤◌, ◌+◌, ℕ, Bool, true, false, IsTrue, Some, List, [], ◌∷◌, ◌++◌, map, refl, sym, ap, subst, ◌∙◌, inl, inr, arith}
+use Rattle.std.proofs.Common.{◌≡◌, ◌<◌, ◌≤◌, ◌+◌, ℕ, true, false, Some, List, [], ◌∷◌, ◌++◌, map, refl, ap, subst, inl, inr, arith}
 use Rattle.std.proofs.lemmas.Bool.{cases_lt}
 use Rattle.std.specs.List.{AllByRecursion}
-use Rattle.rs_attr.specs.Tables.{HoldsTable, all_of}
+use Rattle.rs_attr.specs.Tables.{all_of}
 use Rattle.rs_attr.proofs.Placing.{all_of-cons, keeps_part, kept_table, later_table}
-use Rattle.rs_catalog_pages.specs.Chain.{HoldsBytes, StoresBytes}
+use Rattle.rs_catalog_pages.specs.Chain.{StoresBytes}
 use Rattle.rs_catalog_pages.specs.Directory.{DirectoryItems, HasDirectory, StoresDirectory}
 use Rattle.rs_catalog_pages.specs.Items.{CatalogueItems, SaysCatalogue}
 use Rattle.rs_catalog_pages.proofs.Chains.{catalogue_kept}

@@ -2,7 +2,11 @@
 //! indexes, the referents, and the free pages.
 #![tactic(auto)]
 
+pub mod definitions;
 pub mod free_pages;
 pub mod laws;
+pub mod numbers;
 
+pub use definitions::{indexes_of, schema_of};
 pub use free_pages::reach_free;
+pub use numbers::check_numbers;

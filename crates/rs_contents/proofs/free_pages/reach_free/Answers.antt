@@ -1,5 +1,5 @@
 -- One page after the other, each reached once; the rest of any free list begins at the next one.
-use Rattle.std.proofs.Common.{◌≡◌, ◌-◌, ◌+◌, ℕ, [], Ok, Err, true≢false, sym, ap, subst, refl, ◌∙◌, arith}
+use Rattle.std.proofs.Common.{◌≡◌, ◌-◌, [], Ok, Err, true≢false, sym, ap, subst, refl, ◌∙◌, arith}
 use Rattle.std.proofs.lemmas.Result.{err_from_is_err_and}
 use Rattle.rs_catalog_pages.proofs.Counting.{times-cons, times-none}
 use Rattle.rs_catalog_pages.proofs.Resting.{rests_none, rests_then, rests_ok}

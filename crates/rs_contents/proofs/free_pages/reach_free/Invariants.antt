@@ -1,5 +1,5 @@
 -- The free pages so far, each reached once more.
-use Rattle.std.proofs.Common.{◌≡◌, ℕ, Ok, length}
+use Rattle.std.proofs.Common.{◌≡◌, Ok, length}
 use Rattle.rs_contents.proofs.Walked.{HasWalked}
 use Rattle.rs_pages.specs.Lending.{RestsAfter}
 use Rattle.rs_reached.specs.Marks.{taken}
