@@ -7,5 +7,6 @@ pub mod Moving
 pub mod Parts
 pub mod Pieces
 pub mod Resting
+pub mod Short
 pub mod Working
 pub mod Writing

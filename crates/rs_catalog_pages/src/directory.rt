@@ -30,6 +30,7 @@ pub fn load_directory<P: Pages>(alloc: Global, pages: &mut P) -> Result<StoredDi
     ensures rests { RestsAfter P.is_tied P.store P.keeps result pages.old pages.new }
     ensures loads { P.is_tied pages.old → IfOk result (λ directory. HasDirectory (P.store pages.old).map
         (said_directory directory)) }
+    ensures fits { IfOk result (λ directory. FitsDirectory (said_directory directory)) }
     ensures refused { IfErr result (λ why. (why ≡ Refusal.OutOfMemory) ⊎ (why ≡ Refusal.Disk) ⊎ (why ≡ Refusal.DamagedFile)) }
     ensures damaged { P.is_tied pages.old → result ≡ Err Refusal.DamagedFile → HasNoDirectory (P.store pages.old).map }
 {
@@ -42,6 +43,7 @@ pub fn load_directory<P: Pages>(alloc: Global, pages: &mut P) -> Result<StoredDi
 /// The directory that this page is. It is refused with 94 where it is none, and with 90.
 fn directory_of(alloc: Global, page: &Page) -> Result<StoredDirectory, Refusal>
     ensures read { IfOk result (λ directory. IsDirectory page.now.bytes (said_directory directory)) }
+    ensures fits { IfOk result (λ directory. FitsDirectory (said_directory directory)) }
     ensures damaged { result ≡ Err Refusal.DamagedFile
         → (directory : DirectoryItems) → IsDirectory page.now.bytes directory → ⊥ }
     ensures refused { IfErr result (λ why. (why ≡ Refusal.OutOfMemory) ⊎ (why ≡ Refusal.DamagedFile)) }

@@ -1,11 +1,13 @@
-//! What follows of the catalogue and the directory: pages hold one of each at the most, and both stay where their pages do.
+//! What follows of the catalogue and the directory: pages hold one of each at the most, and both stay where their pages do; few
+//! definitions can be stored.
 
-ghost use Rattle.std.specs.Prelude.{◌≡◌, ◌<◌, ℕ, List};
+ghost use Rattle.std.specs.Prelude.{◌≡◌, ◌≤◌, ◌<◌, ℕ, List, length};
 ghost use Rattle.rs_owners.specs.Counts.{times};
 ghost use Rattle.rs_owners.specs.Owners.{Keeps};
 ghost use Rattle.rs_pages.specs.PageMap.{PageMap};
 ghost use Rattle.rs_catalog_pages.specs.Chain.{HoldsBytes};
 ghost use Rattle.rs_catalog_pages.specs.Directory.{DirectoryItems, HasDirectory};
+ghost use Rattle.rs_catalog_pages.specs.Fitting.{IsShort};
 ghost use Rattle.rs_catalog_pages.specs.Items.{CatalogueItems, SaysCatalogue};
 
 /// The pages of the catalogue are one list.
@@ -41,4 +43,11 @@ pub fn kept_catalogue_stays()
 pub fn kept_directory_stays()
     ensures { (old new : PageMap) (directory : DirectoryItems) → new.page 1 ≡ old.page 1 → HasDirectory old directory
         → HasDirectory new directory }
+{}
+
+/// The bytes of definitions can be counted in page 0 where no list of them has more than 4,096.
+pub fn few_definitions_are_short()
+    ensures { (catalogue : CatalogueItems) → length catalogue.routes ≤ 4096 → length catalogue.tables ≤ 4096
+        → length catalogue.indexes ≤ 4096 → length catalogue.views ≤ 4096 → length catalogue.alignments ≤ 4096
+        → IsShort catalogue }
 {}

@@ -3,6 +3,7 @@
 ghost use Rattle.std.specs.Prelude.{◌≡◌, ◌⊎◌, IfOk, IfErr, Err, length};
 ghost use Rattle.rs_pages.specs.Lending.{RestsAfter};
 ghost use Rattle.rs_reached.specs.Marks.{taken};
+ghost use Rattle.rs_catalog_pages.specs.Fitting.{FitsCatalogue};
 ghost use Rattle.rs_catalog_pages.specs.Loading.{LoadsCatalogue, HasNoFreshCatalogue};
 ghost use Rattle.rs_catalog_pages.specs.Said.{said_catalogue};
 
@@ -27,6 +28,7 @@ pub fn load<P: Pages>(
     ensures size { length reached.new ≡ length reached.old }
     ensures loads { P.is_tied pages.old → IfOk result (λ loaded. LoadsCatalogue (P.store pages.old).map (taken reached.old)
         (taken reached.new) loaded.0.items (said_catalogue loaded.1)) }
+    ensures fits { IfOk result (λ loaded. FitsCatalogue (said_catalogue loaded.1)) }
     ensures refused { IfErr result (λ why. (why ≡ Refusal.OutOfMemory) ⊎ (why ≡ Refusal.Disk) ⊎ (why ≡ Refusal.DamagedFile)) }
     ensures damaged { P.is_tied pages.old → result ≡ Err Refusal.DamagedFile
         → HasNoFreshCatalogue (P.store pages.old).map (taken reached.old) }

@@ -1,6 +1,9 @@
+pub mod Loaded
 pub mod Numbered
 pub mod Numbering
 pub mod One
+pub mod OneOpened
 pub mod Parts
 pub mod Selected
+pub mod TablesOpened
 pub mod Walked

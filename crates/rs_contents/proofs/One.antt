@@ -24,12 +24,12 @@ use Rattle.rs_versioned.proofs.Staying.{held_one}
 use Rattle.rs_versions.specs.Versioned.{Standing}
 
 -- what is there, where it is known that something is
-abbrev or_else : {A : Type 0} → A → Option A → A
+abbrev pub or_else : {A : Type 0} → A → Option A → A
 or_else other None = other
 or_else other (Some one) = one
 
 -- records at one root have the same pages
-records_pages : {R : Type 0} (kept : Kept R) (file : PageMap) (stands lies : Standing) (accepted : ℕ) (one other : List R) (used uses : ℕ → ℕ) → stands.root ≡ lies.root
+pub records_pages : {R : Type 0} (kept : Kept R) (file : PageMap) (stands lies : Standing) (accepted : ℕ) (one other : List R) (used uses : ℕ → ℕ) → stands.root ≡ lies.root
     → HoldsRecords kept file stands accepted one used → HoldsRecords kept file lies accepted other uses → (n : ℕ) → used n ≡ uses n
 records_pages kept file stands lies accepted one other used uses root holds has =
     tree_has_its_pages kept.form file lies.root holds.cells has.cells used uses (subst (λ (r : ℕ). IsTree kept.form file r holds.cells used) root holds.holds.tree) has.holds.tree
@@ -39,7 +39,7 @@ make_field column start width = record { column = column; start = start; cell_wi
 
 module _ (file : PageMap) (accepted : ℕ) (directory : DirectoryItems) where
   -- the index of a column has one field and one root
-  field_one : (columns : List ColumnType) (column : ℕ) (f g : Field) → IsColumn columns column f → IsColumn columns column g → f ≡ g
+  pub field_one : (columns : List ColumnType) (column : ℕ) (f g : Field) → IsColumn columns column f → IsColumn columns column g → f ≡ g
   unfolding make_field
   field_one columns column f g a b =
       let same : f.column ≡ g.column = ap (or_else types.Int) (sym a.type ∙ b.type) in
@@ -76,7 +76,7 @@ module _ (file : PageMap) (accepted : ℕ) (directory : DirectoryItems) where
       }
 
   -- tables of the same definition are the same
-  table_one : (items : List IndexItem) (item : TableItem) (one other : TableContents) → IsTable directory items item one → IsTable directory items item other
+  pub table_one : (items : List IndexItem) (item : TableItem) (one other : TableContents) → IsTable directory items item one → IsTable directory items item other
       → LiesTable file accepted one → LiesTable file accepted other → SameTable one other
   table_one items item one other is are lies lie =
       let same : one.types ≡ other.types = is.types ∙ sym are.types in
@@ -93,7 +93,7 @@ module _ (file : PageMap) (accepted : ℕ) (directory : DirectoryItems) where
         pages = λ n. omega (arith, records_pages (kept_events other.types) file one.standing other.standing accepted one.events other.events one.used other.used root records lie.records n, indexes.pages n);
       }
 
-  tables_one : (items : List IndexItem) (definitions : List TableItem) (one other : List TableContents) → AllZip (IsTable directory items) definitions one → AllZip (IsTable directory items) definitions other
+  pub tables_one : (items : List IndexItem) (definitions : List TableItem) (one other : List TableContents) → AllZip (IsTable directory items) definitions one → AllZip (IsTable directory items) definitions other
       → AllByRecursion (LiesTable file accepted) one → AllByRecursion (LiesTable file accepted) other → AllZip SameTable one other
   tables_one items [] [] [] is are lies lie = tt
   tables_one items [] [] (p ∷ ps) is are lies lie = absurd are

@@ -5,8 +5,13 @@
 pub mod definitions;
 pub mod free_pages;
 pub mod laws;
+pub mod loading;
 pub mod numbers;
+pub mod opened;
+mod opening;
 
 pub use definitions::{indexes_of, schema_of};
 pub use free_pages::reach_free;
+pub use loading::load;
 pub use numbers::check_numbers;
+pub use opened::{OpenedFile, OpenedTable};

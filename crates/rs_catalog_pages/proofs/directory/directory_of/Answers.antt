@@ -5,6 +5,8 @@ use Rattle.std.proofs.lemmas.Result.{IfOk-weaker, IfErr-at_err}
 use Rattle.rs_disk.specs.declared.disk.TheConstants.{PAGE_SIZE}
 use Rattle.rs_measure.specs.declared.refusal.Refusal.TheVariants as refusal
 use Rattle.rs_catalog_pages.specs.Directory.{DirectoryItems, SaysDirectory, IsDirectory}
+use Rattle.rs_catalog_pages.specs.Fitting.{FitsDirectory}
+use Rattle.rs_catalog_pages.specs.Laws.{directory_fits}
 use Rattle.rs_catalog_pages.specs.Parts.{content}
 use Rattle.rs_catalog_pages.specs.Said.{said_directory}
 use Rattle.rs_catalog_pages.proofs.Directories.{directory_there, directory_parts, each_zeros, zeros_each}
@@ -29,6 +31,11 @@ returns-clause-read c =
     directory_there c.args.page.now.bytes c.split_at.result.0.now c.split_at.result.1.now (said_directory directory) c.content.ensures.page (c.begins_directory.ensures.0 c.if-not-begins_directory.false) says whole
     (each_zeros c.split_at.result.1.now (c.are_zeros.ensures.0 c.if-not-are_zeros.false)))
     c.read_whole.ensures.read
+
+pub returns-clause-fits : goal.returns-clause-fits
+returns-clause-fits c =
+    IfOk-weaker c.read_whole.result (λ directory. SaysDirectory c.split_at.result.0.now (said_directory directory)) (λ directory. FitsDirectory (said_directory directory))
+    (λ directory says. directory_fits c.split_at.result.0.now (said_directory directory) says) c.read_whole.ensures.read
 
 pub returns-clause-damaged : goal.returns-clause-damaged
 returns-clause-damaged c = λ is directory there.

@@ -4,6 +4,8 @@ use Rattle.std.proofs.lemmas.Result.{err_from_is_err_and}
 use Rattle.rs_measure.specs.declared.refusal.Refusal.TheVariants as refusal
 use Rattle.rs_reached.specs.Marks.{taken}
 use Rattle.rs_catalog_pages.specs.Items.{SaysCatalogue}
+use Rattle.rs_catalog_pages.specs.Laws.{catalogue_fits}
+use Rattle.rs_catalog_pages.specs.Said.{said_catalogue}
 use Rattle.rs_catalog_pages.proofs.Chains.{not_said-no_catalogue}
 use Rattle.rs_catalog_pages.proofs.loading.load.Goals as goal
 
@@ -13,3 +15,6 @@ returns-in_err-catalogue-clause-damaged g c = λ tied is.
     let why : c.in_err-catalogue.field-0.0 ≡ refusal.DamagedFile = cc (p.1, p.2, is) in
     not_said-no_catalogue (g.P.Pages.store c.args.pages.now).map (taken c.args.reached.now) (taken c.read_bytes.new.reached) c.in_ok-numbers.numbers.items c.in_ok-numbers.bytes.items (c.in_ok-numbers.ensures.reads tied)
     (λ catalogue says. c.in_err-catalogue.ensures.damaged why catalogue (subst (λ b. SaysCatalogue b catalogue) (sym c.as_slice.ensures.value) says))
+
+pub returns-clause-fits : goal.returns-clause-fits
+returns-clause-fits g c = catalogue_fits c.as_slice.result.now (said_catalogue c.in_ok-catalogue.catalogue) c.in_ok-catalogue.ensures.read

@@ -1,0 +1,113 @@
+//! A file, read and checked as a whole.
+
+ghost use Rattle.std.specs.Prelude.{◌≡◌, ◌≤◌, ◌<◌, ◌^◌, ◌⊎◌, Err, IfErr, IfOk, IsOkUnless, IsPermutation, OnErr, OnOk, ℕ, false, map, replicate};
+ghost use Rattle.std.specs.List.{AllByRecursion};
+ghost use Rattle.std.specs.List.Sorted.{IsNonDecreasing};
+ghost use Rattle.rs_catalog_pages.specs.Said.{said_catalogue, said_directory};
+ghost use Rattle.rs_contents.specs.Opening.{AreSound, HoldsNothing, IsFile, LoadsContents, LoadsNothingSaid, LoadsSaid};
+ghost use Rattle.rs_owners.specs.Counts.{◌&◌, one_at};
+ghost use Rattle.rs_pages.specs.Lending.{RestsAfter};
+ghost use Rattle.rs_reached.specs.Marks.{taken};
+
+use crate::numbers::check_numbers;
+use crate::opened::OpenedFile;
+use crate::opening::open_parts;
+use rs_catalog_pages::{StoredCatalogue, StoredDirectory, StoredRoute, load_directory};
+use rs_measure::Refusal;
+use rs_page::PageNumber;
+use rs_pages::Pages;
+use rs_reached::Reached;
+use std::alloc::{AllocError, Global};
+
+/// The versions of a file are below this.
+const VERSIONS: u64 = 0x8000_0000_0000_0000;
+
+/// Opens what stands in a file and checks all of it: each page has one owner. Ok only where the file holds contents, and these are
+/// they; 94 only where it holds none; 90 and 91. No page changes.
+pub fn load<P: Pages>(alloc: Global, pages: &mut P) -> Result<OpenedFile, Refusal>
+    ensures rests { RestsAfter P.is_tied P.store P.keeps result pages.old pages.new }
+    ensures loads { P.is_tied pages.old → IfOk result (LoadsContents (P.store pages.old).map) }
+    ensures is { IfOk result IsFile }
+    ensures refused { IfErr result (λ why. (why ≡ Refusal.OutOfMemory) ⊎ (why ≡ Refusal.Disk) ⊎ (why ≡ Refusal.DamagedFile)) }
+    ensures damaged { P.is_tied pages.old → result ≡ Err Refusal.DamagedFile → HoldsNothing (P.store pages.old).map }
+{
+    let mut reached = first_two(alloc, pages.count())?;
+    let (numbers, definitions, directory) = load_said(alloc, pages, &mut reached)?;
+    let routes = route_numbers(alloc, definitions.routes.as_slice())?;
+    let (tables, referents) = open_parts(
+        alloc,
+        pages,
+        &definitions,
+        &directory,
+        routes.as_slice(),
+        &mut reached,
+    )?;
+    Ok(OpenedFile {
+        definitions,
+        pages: numbers,
+        tables,
+        referents,
+        accepted: directory.accepted,
+    })
+}
+
+/// Of so many pages the first two are reached.
+fn first_two(alloc: Global, count: u32) -> Result<Reached, AllocError>
+    requires { 2 ≤ count }
+    ensures reached { IfOk result (λ reached. (number : ℕ) → taken reached number
+        ≡ (taken (replicate count false) & (one_at 0 & one_at 1)) number) }
+{
+    let mut reached = Reached::new(alloc, count)?;
+    reached.reach(PageNumber::new(0));
+    reached.reach(PageNumber::new(1));
+    Ok(reached)
+}
+
+/// Reads the definitions and the directory, and checks the numbers and the versions in them; the pages of the definitions are
+/// marked. It is refused with 90, with 91, and with 94 only where no contents are there whose definitions lie in pages that
+/// weren't reached before. No page changes. What is marked after a refusal is open.
+fn load_said<P: Pages>(
+    alloc: Global,
+    pages: &mut P,
+    reached: &mut Reached,
+) -> Result<(Vec<PageNumber>, StoredCatalogue, StoredDirectory), Refusal>
+    ensures rests { RestsAfter P.is_tied P.store P.keeps result pages.old pages.new }
+    ensures loads { P.is_tied pages.old → IfOk result (λ said. LoadsSaid (P.store pages.old).map said.0.items
+        (said_catalogue said.1) (said_directory said.2) (taken reached.old) (taken reached.new)) }
+    ensures sound { IfOk result (λ said. AreSound (said_catalogue said.1) (said_directory said.2)) }
+    ensures refused { IfErr result (λ why. (why ≡ Refusal.OutOfMemory) ⊎ (why ≡ Refusal.Disk) ⊎ (why ≡ Refusal.DamagedFile)) }
+    ensures damaged { P.is_tied pages.old → result ≡ Err Refusal.DamagedFile → LoadsNothingSaid (P.store pages.old).map
+        (taken reached.old) }
+{
+    let directory = load_directory(alloc, pages)?;
+    let (numbers, definitions) = rs_catalog_pages::load(alloc, pages, reached)?;
+    check_numbers(&definitions, &directory)?;
+    check_versions(definitions.routes.as_slice(), directory.accepted)?;
+    Ok((numbers, definitions, directory))
+}
+
+/// Ok exactly where the version is one that a file may have, and no route was born after it; 94 where not.
+fn check_versions(routes: &[StoredRoute], accepted: u64) -> Result<(), Refusal>
+    ensures within { OnOk result ((accepted < 2 ^ 63) × AllByRecursion (λ route. route.born ≤ accepted) routes.now) }
+    ensures none { OnErr result (accepted < 2 ^ 63 → AllByRecursion (λ route. route.born ≤ accepted) routes.now → ⊥) }
+    ensures refused { IsOkUnless result Refusal.DamagedFile }
+{
+    if accepted < VERSIONS && routes.iter().all(|route| route.born <= accepted) {
+        Ok(())
+    } else {
+        Err(Refusal::DamagedFile)
+    }
+}
+
+/// The numbers of the routes, the least first.
+fn route_numbers(alloc: Global, routes: &[StoredRoute]) -> Result<Vec<u32>, AllocError>
+    ensures all { IfOk result (λ numbers. IsPermutation (map (λ route. route.number) routes.now) numbers.items) }
+    ensures rising { IfOk result (λ numbers. IsNonDecreasing numbers.items) }
+{
+    let mut numbers = Vec::with_capacity(alloc, routes.len())?;
+    for route in routes {
+        numbers.push(route.number)?;
+    }
+    numbers.sort_unstable();
+    Ok(numbers)
+}

@@ -1,0 +1,127 @@
+//! The tables of a file, its referents and its free pages, opened as the definitions and the directory say them.
+
+ghost use Rattle.std.specs.Prelude.{◌≡◌, ◌≤◌, ◌⊎◌, Err, IfErr, IfOk, OnOk, length};
+ghost use Rattle.std.specs.List.{AllByRecursion, AllZip};
+ghost use Rattle.rs_catalog_pages.specs.Said.{said_catalogue, said_directory, said_table, said_tree};
+ghost use Rattle.rs_contents.specs.Opening.{IsTableOf, OpensNoParts, OpensNoTables, OpensNotOne, OpensOne, OpensParts, OpensTables, told_of};
+ghost use Rattle.rs_pages.specs.Lending.{RestsAfter};
+ghost use Rattle.rs_reached.specs.Marks.{taken, unmarked};
+ghost use Rattle.rs_versions.specs.Version.{died_of};
+
+use crate::definitions::{indexes_of, schema_of};
+use crate::free_pages::reach_free;
+use crate::opened::OpenedTable;
+use rs_catalog_pages::{StoredCatalogue, StoredDirectory, StoredTable, StoredTree};
+use rs_measure::Refusal;
+use rs_pages::Pages;
+use rs_reached::Reached;
+use rs_versioned::{ReferentTable, ToldRecords};
+use std::alloc::Global;
+
+/// The tables with their indexes, and the referents; their pages and the free ones are marked, and no page is left. It is
+/// refused with 90, with 91, and with 94 only where no contents with these definitions and this directory are there, of which
+/// just the pages of the definitions were reached before. No page changes. What is marked after a refusal is open.
+pub(crate) fn open_parts<P: Pages>(
+    alloc: Global,
+    pages: &mut P,
+    definitions: &StoredCatalogue,
+    directory: &StoredDirectory,
+    routes: &[u32],
+    reached: &mut Reached,
+) -> Result<(Vec<OpenedTable>, ReferentTable), Refusal>
+    ensures rests { RestsAfter P.is_tied P.store P.keeps result pages.old pages.new }
+    ensures opens { P.is_tied pages.old → IfOk result (λ parts. OpensParts (P.store pages.old).map (said_directory directory.now)
+        (said_catalogue definitions.now) parts.0.items parts.1 (taken reached.old) (taken reached.new)) }
+    ensures tables { IfOk result (λ parts. AllZip (IsTableOf (said_directory directory.now) (said_catalogue definitions.now))
+        (said_catalogue definitions.now).tables parts.0.items) }
+    ensures whole { OnOk result (unmarked reached.new ≡ 0) }
+    ensures committed { IfOk result (λ parts. parts.1.committed ≡ parts.1.working) }
+    ensures order { IfOk result (λ parts. AllByRecursion (λ dead. died_of dead ≤ directory.now.accepted) parts.1.working.dead) }
+    ensures refused { IfErr result (λ why. (why ≡ Refusal.OutOfMemory) ⊎ (why ≡ Refusal.Disk) ⊎ (why ≡ Refusal.DamagedFile)) }
+    ensures damaged { P.is_tied pages.old → result ≡ Err Refusal.DamagedFile → OpensNoParts (P.store pages.old).map
+        (said_directory directory.now) (said_catalogue definitions.now) (taken reached.old) }
+{
+    let tables = open_tables(alloc, pages, definitions, directory, routes, reached)?;
+    let told = told_of(&directory.referents, directory.accepted);
+    let referents = ReferentTable::open(alloc, pages, told, routes, reached)?;
+    reach_free(pages, reached)?;
+    if reached.left() != 0 {
+        return Err(Refusal::DamagedFile);
+    }
+    Ok((tables, referents))
+}
+
+/// What the directory says of a tree of records, with the version that was accepted last.
+fn told_of(tree: &StoredTree, accepted: u64) -> ToldRecords
+    ensures { result ≡ told_of (said_tree tree.now) accepted }
+{
+    ToldRecords {
+        root: tree.root,
+        living: tree.living,
+        garbage: tree.garbage,
+        accepted,
+    }
+}
+
+/// The tables with their indexes; their pages are marked. Ok exactly where they lie there as the definitions and the directory
+/// say, in pages none of which was reached before; 94 where no such tables do; 90 and 91. No page changes. What is marked after
+/// a refusal is open.
+fn open_tables<P: Pages>(
+    alloc: Global,
+    pages: &mut P,
+    definitions: &StoredCatalogue,
+    directory: &StoredDirectory,
+    routes: &[u32],
+    reached: &mut Reached,
+) -> Result<Vec<OpenedTable>, Refusal>
+    ensures rests { RestsAfter P.is_tied P.store P.keeps result pages.old pages.new }
+    ensures size { length reached.new ≡ length reached.old }
+    ensures opens { P.is_tied pages.old → IfOk result (λ tables. OpensTables (P.store pages.old).map (said_directory directory.now)
+        (said_catalogue definitions.now) (said_catalogue definitions.now).tables tables.items (taken reached.old) (taken reached.new)) }
+    ensures tables { IfOk result (λ tables. AllZip (IsTableOf (said_directory directory.now) (said_catalogue definitions.now))
+        (said_catalogue definitions.now).tables tables.items) }
+    ensures refused { IfErr result (λ why. (why ≡ Refusal.OutOfMemory) ⊎ (why ≡ Refusal.Disk) ⊎ (why ≡ Refusal.DamagedFile)) }
+    ensures damaged { P.is_tied pages.old → result ≡ Err Refusal.DamagedFile → OpensNoTables (P.store pages.old).map
+        (said_directory directory.now) (said_catalogue definitions.now) (taken reached.old) }
+{
+    let mut tables = Vec::new(alloc);
+    for item in definitions.tables.as_slice() {
+        let table = open_table(alloc, pages, definitions, directory, item, routes, reached)?;
+        tables.push(table)?;
+    }
+    Ok(tables)
+}
+
+/// The table of an item with its indexes; their pages are marked. Ok exactly where it lies there as the item and the directory
+/// say, in pages none of which was reached before; 94 where no such table does; 90 and 91. No page changes. What is marked after
+/// a refusal is open.
+fn open_table<P: Pages>(
+    alloc: Global,
+    pages: &mut P,
+    definitions: &StoredCatalogue,
+    directory: &StoredDirectory,
+    item: &StoredTable,
+    routes: &[u32],
+    reached: &mut Reached,
+) -> Result<OpenedTable, Refusal>
+    ensures rests { RestsAfter P.is_tied P.store P.keeps result pages.old pages.new }
+    ensures size { length reached.new ≡ length reached.old }
+    ensures opens { P.is_tied pages.old → IfOk result (λ table. OpensOne (P.store pages.old).map (said_directory directory.now)
+        (said_catalogue definitions.now) (said_table item.now) table (taken reached.old) (taken reached.new)) }
+    ensures table { IfOk result (IsTableOf (said_directory directory.now) (said_catalogue definitions.now) (said_table item.now)) }
+    ensures refused { IfErr result (λ why. (why ≡ Refusal.OutOfMemory) ⊎ (why ≡ Refusal.Disk) ⊎ (why ≡ Refusal.DamagedFile)) }
+    ensures damaged { P.is_tied pages.old → result ≡ Err Refusal.DamagedFile → OpensNotOne (P.store pages.old).map
+        (said_directory directory.now) (said_catalogue definitions.now) (said_table item.now) (taken reached.old) }
+{
+    let Some(schema) = schema_of(item) else {
+        return Err(Refusal::DamagedFile);
+    };
+    let Some(tree) = directory.tables.list.as_slice().get(item.number as usize) else {
+        return Err(Refusal::DamagedFile);
+    };
+    let items = definitions.indexes.as_slice();
+    let indexes = indexes_of(alloc, &schema, item.number, items, directory)?;
+    let told = told_of(tree, directory.accepted);
+    let records = rs_attr::open(alloc, pages, schema, told, indexes.as_slice(), routes, reached)?;
+    Ok(OpenedTable { records, indexes })
+}
