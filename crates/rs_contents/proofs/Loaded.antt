@@ -179,8 +179,15 @@ module _ (file : PageMap) where
     no_free opened standing with_tables with_referents opens referents lacks = record {
       none = λ contents same are first holds.
           lacks.none holds.parts.shares.free holds.parts.shares.list
-          (λ n. omega (arith, first n, opens.reached n, tables_same opened with_tables opens contents same are holds n, referents.reached n,
-          referents_same standing with_tables with_referents referents contents same holds n, taken_once contents holds.parts.shares n));
+          (λ n. omega (
+            arith,
+            first n,
+            opens.reached n,
+            tables_same opened with_tables opens contents same are holds n,
+            referents.reached n,
+            referents_same standing with_tables with_referents referents contents same holds n,
+            taken_once contents holds.parts.shares n,
+          ));
     }
 
     pub some_left : (opened : List OpenedTable) (state : ReferentTableState) (marks : List Bool) → OpensParts file directory definitions opened state before (taken marks)
@@ -191,8 +198,16 @@ module _ (file : PageMap) where
           let free : (n : ℕ) → times parts.free.free n ≡ times shares.free n =
           λ n. ap (λ l. times l n) (free_list_is_one file parts.free.free shares.free parts.free.list shares.list) in
           some (none_left file.fields.pages marks (one_at 0 & (owned contents & times shares.free))
-          (λ n. omega (arith, first n, parts.tables.reached n, tables_same opened parts.with_tables parts.tables contents same are holds n, parts.referents.reached n,
-          referents_same state.working parts.with_tables parts.with_referents parts.referents contents same holds n, parts.free.reached n, free n))
+          (λ n. omega (
+            arith,
+            first n,
+            parts.tables.reached n,
+            tables_same opened parts.with_tables parts.tables contents same are holds n,
+            parts.referents.reached n,
+            referents_same state.working parts.with_tables parts.with_referents parts.referents contents same holds n,
+            parts.free.reached n,
+            free n,
+          ))
           (λ n below. omega (arith, shares.within n below)));
     }
 
@@ -251,6 +266,7 @@ module _ (file : PageMap) where
   } where
     told : StandsAs (told_of directory.referents directory.accepted) state.working
     told = parts.referents.as_told
+
     contents : Contents
     contents = record {
       definitions = items;
@@ -259,6 +275,7 @@ module _ (file : PageMap) where
       tables = parts.tables.tables;
       referents = record { standing = state.working; referents = parts.referents.records; used = parts.referents.used };
     }
+
     each : (n : ℕ) → (n < file.fields.pages → (one_at 0 & (owned contents & times parts.free.free)) n ≡ 1) × (file.fields.pages ≤ n → (one_at 0 & (owned contents & times parts.free.free)) n ≡ 0)
     each = each_once file.fields.pages marks (one_at 0 & (owned contents & times parts.free.free))
         (λ n. omega (arith, first n, said.loads.reached n, parts.tables.reached n, parts.referents.reached n, parts.free.reached n)) none

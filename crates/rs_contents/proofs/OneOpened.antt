@@ -31,8 +31,7 @@ hold_these file directory types (item ∷ items) (i ∷ is) [] cells uses a b ho
 hold_these file directory types (item ∷ items) (i ∷ is) (j ∷ js) cells [] a b hold = absurd hold
 hold_these file directory types (item ∷ items) (i ∷ is) (j ∷ js) cells (u ∷ us) a b hold =
     let field : i.field ≡ j.field = field_one file 0 directory types item.column i.field j.field a.0.column b.0.column in
-    let root : i.working ≡ j.working = ap (or_else 0) (sym a.0.root ∙ b.0.root) in
-    (
+    let root : i.working ≡ j.working = ap (or_else 0) (sym a.0.root ∙ b.0.root) in (
       subst (λ (r : ℕ). HoldsIndex j.field file r cells u) root (subst (λ (f : Field). HoldsIndex f file i.working cells u) field hold.0),
       hold_these file directory types items is js cells us a.1 b.1 hold.1,
     )

@@ -33,8 +33,12 @@ same_pages (t ∷ ts) (o ∷ os) all n =
 -- the pages of one table more
 pages_push : (tables : List TableContents) (table : TableContents) (n : ℕ) → all_of (map table_pages (tables ++ table ∷ [])) n ≡ all_of (map table_pages tables) n + table_pages table n
 pages_push tables table n =
-    omega (arith, ap (λ (uses : List (ℕ → ℕ)). all_of uses n) (map-append table_pages tables (table ∷ [])),
-    all_of-append (map table_pages tables) (table_pages table ∷ []) n, all_of-cons (table_pages table) [] n)
+    omega (
+      arith,
+      ap (λ (uses : List (ℕ → ℕ)). all_of uses n) (map-append table_pages tables (table ∷ [])),
+      all_of-append (map table_pages tables) (table_pages table ∷ []) n,
+      all_of-cons (table_pages table) [] n,
+    )
 
 module _ (file : PageMap) (directory : DirectoryItems) (definitions : CatalogueItems) (k : ℕ) (item : TableItem) (there : slice_get definitions.tables k ≡ Some item) (opened : List OpenedTable)
     (before between : ℕ → ℕ) (so_far : OpensTables file directory definitions (take k definitions.tables) opened before between) where
@@ -59,7 +63,12 @@ module _ (file : PageMap) (directory : DirectoryItems) (definitions : CatalogueI
         let first = tables_one file directory.accepted directory definitions.indexes (take k definitions.tables) so_far.tables (take k tables) so_far.are (zip_take is definitions.tables tables k are)
         so_far.lie (all_take (LiesTable file directory.accepted) tables k lie) in
         missing.none one.0 (zip_at is definitions.tables tables k item one.0 are there one.1) (all_at (LiesTable file directory.accepted) tables k one.0 lie one.1)
-        (λ n. omega (arith, fresh n, so_far.reached n, same_pages so_far.tables (take k tables) first n,
-        sum_upto (λ (used : ℕ → ℕ). used n) (map table_pages tables) k (table_pages one.0) (map_at table_pages tables k one.0 one.1),
-        ap (λ (uses : List (ℕ → ℕ)). all_of uses n) (map_take table_pages tables k)));
+        (λ n. omega (
+          arith,
+          fresh n,
+          so_far.reached n,
+          same_pages so_far.tables (take k tables) first n,
+          sum_upto (λ (used : ℕ → ℕ). used n) (map table_pages tables) k (table_pages one.0) (map_at table_pages tables k one.0 one.1),
+          ap (λ (uses : List (ℕ → ℕ)). all_of uses n) (map_take table_pages tables k),
+        ));
   }

@@ -122,6 +122,14 @@ fn open_table<P: Pages>(
     let items = definitions.indexes.as_slice();
     let indexes = indexes_of(alloc, &schema, item.number, items, directory)?;
     let told = told_of(tree, directory.accepted);
-    let records = rs_attr::open(alloc, pages, schema, told, indexes.as_slice(), routes, reached)?;
+    let records = rs_attr::open(
+        alloc,
+        pages,
+        schema,
+        told,
+        indexes.as_slice(),
+        routes,
+        reached,
+    )?;
     Ok(OpenedTable { records, indexes })
 }
