@@ -12,6 +12,7 @@ mod scan;
 pub mod token;
 
 pub use rs_grammar::kind::{NAME_BYTES, TokenKind};
+pub use scan::front_token;
 pub use token::{Token, tokens};
 
 /// A line has one cut into tokens at the most.

@@ -1,0 +1,3 @@
+pub mod Meaning
+pub mod Places
+pub mod Stating

@@ -1,0 +1,21 @@
+//! What follows of definitions that lines could have made: with them the machine's state is lawful.
+
+ghost use Rattle.std.specs.Prelude.{◌≡◌, [], false, Contains};
+ghost use Rattle.rs_catalog_pages.specs.Items.{CatalogueItems, ViewItem};
+ghost use Rattle.rs_machine.specs.Lawful.{IsLawful};
+ghost use Rattle.rs_machine.specs.State.{has};
+ghost use Rattle.rs_catalog_meaning.specs.Meaning.{AreMeant};
+ghost use Rattle.rs_catalog_meaning.specs.Stating.{state_of};
+
+/// The machine's state with these definitions, and without views, referents and facts, is lawful; the name of each view is free
+/// there.
+pub fn meant_definitions_make_a_lawful_state()
+    ensures state { (catalogue : CatalogueItems) → AreMeant catalogue → IsLawful (state_of catalogue) }
+    ensures views { (catalogue : CatalogueItems) (view : ViewItem) → AreMeant catalogue → Contains catalogue.views view
+        → has (state_of catalogue).tables view.name ≡ false }
+{}
+
+/// A catalogue without definitions is one that lines could have made.
+pub fn empty_catalogue_is_meant()
+    ensures { AreMeant (record { routes = []; tables = []; indexes = []; views = []; alignments = [] }) }
+{}

@@ -1,0 +1,131 @@
+//! Tables, their indexes, and views: each as a line defines it.
+
+ghost use Rattle.std.specs.Prelude.{◌≡◌, ◌<◌, ◌↔◌, Contains, IsTrue, length, map};
+ghost use Rattle.std.specs.List.{AllByRecursion};
+ghost use Rattle.rs_catalog_pages.specs.Items.{TableItem};
+ghost use Rattle.rs_catalog_pages.specs.Said.{said_column, said_index, said_table, said_view};
+ghost use Rattle.rs_machine.specs.Checks.{column_names};
+ghost use Rattle.rs_machine.specs.Lawful.{AreColumnsOfTable, AreDistinct};
+ghost use Rattle.rs_syntax.specs.Sound.{AreColumns, IsColumnType, IsName};
+ghost use Rattle.rs_catalog_meaning.specs.Meaning.{AreIndexes, AreTables, AreViews, IsIndex, IsTable, IsView, column_of, columns_of};
+
+use crate::names::{are_in_order, is_free, is_name};
+use rs_catalog_pages::{StoredColumn, StoredIndex, StoredTable, StoredView};
+use rs_machine::limits::{TABLES, VIEWS};
+use rs_value::{COLUMNS, TEXT_BYTES};
+
+/// Whether lines could have defined these tables.
+pub fn are_tables(tables: &[StoredTable]) -> bool
+    ensures { IsTrue result ↔ AreTables (map said_table tables.now) }
+{
+    tables.len() <= TABLES && are_in_order(tables) && is_each_table(tables)
+}
+
+// Whether a line could have defined each of them.
+fn is_each_table(tables: &[StoredTable]) -> bool
+    ensures { IsTrue result ↔ AllByRecursion IsTable (map said_table tables.now) }
+{
+    tables.iter().all(|table| is_table(table))
+}
+
+// Whether a line could have defined this table.
+fn is_table(table: &StoredTable) -> bool
+    ensures { IsTrue result ↔ IsTable (said_table table.now) }
+{
+    is_name(table.name.as_str()) && table.kind <= 1 && are_columns(table.columns.list.as_slice())
+}
+
+// Whether these are columns that a table may have.
+fn are_columns(columns: &[StoredColumn]) -> bool
+    ensures { IsTrue result ↔ AreColumnsOfTable (columns_of (map said_column columns.now)) }
+{
+    !columns.is_empty()
+        && columns.len() <= COLUMNS
+        && is_each_column(columns)
+        && are_distinct(columns)
+}
+
+// Whether each has a name and a type.
+fn is_each_column(columns: &[StoredColumn]) -> bool
+    ensures { IsTrue result ↔ AreColumns (columns_of (map said_column columns.now)) }
+{
+    columns.iter().all(|column| is_column(column))
+}
+
+// Whether a column has a name and a type.
+fn is_column(column: &StoredColumn) -> bool
+    ensures { let said = said_column column.now in IsTrue result ↔ (IsName said.name × IsColumnType (column_of said).1) }
+{
+    is_name(column.name.as_str()) && usize::from(column.type_code) <= TEXT_BYTES
+}
+
+// Whether each has a name of its own.
+fn are_distinct(columns: &[StoredColumn]) -> bool
+    ensures { IsTrue result ↔ AreDistinct (column_names (columns_of (map said_column columns.now))) }
+{
+    for (place, column) in columns.iter().enumerate() {
+        if !is_free(&columns[place + 1..], column.name.as_str()) {
+            return false;
+        }
+    }
+    true
+}
+
+/// Whether lines could have defined these indexes of the tables.
+pub fn are_indexes(tables: &[StoredTable], indexes: &[StoredIndex]) -> bool
+    ensures { IsTrue result ↔ AreIndexes (map said_table tables.now) (map said_index indexes.now) }
+{
+    are_in_order(indexes) && is_each_index(tables, indexes)
+}
+
+// Whether a line could have defined each of them.
+fn is_each_index(tables: &[StoredTable], indexes: &[StoredIndex]) -> bool
+    ensures { IsTrue result ↔ AllByRecursion (IsIndex (map said_table tables.now)) (map said_index indexes.now) }
+{
+    indexes.iter().all(|index| is_index(tables, index))
+}
+
+// Whether a line could have defined this index: it has a name, and its column is there.
+fn is_index(tables: &[StoredTable], index: &StoredIndex) -> bool
+    ensures { IsTrue result ↔ IsIndex (map said_table tables.now) (said_index index.now) }
+{
+    is_name(index.name.as_str()) && has_column(tables, index.table, index.column)
+}
+
+// Whether a table of this number has a column at this place.
+fn has_column(tables: &[StoredTable], number: u32, column: u8) -> bool
+    ensures { IsTrue result ↔ ((table : TableItem) × Contains (map said_table tables.now) table × (table.number ≡ number)
+        × (column < length table.columns)) }
+{
+    tables
+        .iter()
+        .any(|table| is_with_column(table, number, column))
+}
+
+// Whether this is the table of this number, with a column at this place.
+fn is_with_column(table: &StoredTable, number: u32, column: u8) -> bool
+    ensures { let said = said_table table.now in IsTrue result ↔ ((said.number ≡ number) × (column < length said.columns)) }
+{
+    table.number == number && usize::from(column) < table.columns.list.len()
+}
+
+/// Whether lines could have defined these views beside the tables.
+pub fn are_views(tables: &[StoredTable], views: &[StoredView]) -> bool
+    ensures { IsTrue result ↔ AreViews (map said_table tables.now) (map said_view views.now) }
+{
+    views.len() <= VIEWS && are_in_order(views) && is_each_view(tables, views)
+}
+
+// Whether a line could have defined each of them.
+fn is_each_view(tables: &[StoredTable], views: &[StoredView]) -> bool
+    ensures { IsTrue result ↔ AllByRecursion (IsView (map said_table tables.now)) (map said_view views.now) }
+{
+    views.iter().all(|view| is_view(tables, view))
+}
+
+// Whether a line could have defined this view: it has a name, which is no table's.
+fn is_view(tables: &[StoredTable], view: &StoredView) -> bool
+    ensures { IsTrue result ↔ IsView (map said_table tables.now) (said_view view.now) }
+{
+    is_name(view.name.as_str()) && is_free(tables, view.name.as_str())
+}
