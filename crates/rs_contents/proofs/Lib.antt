@@ -1,3 +1,4 @@
+pub mod Created
 pub mod Loaded
 pub mod Numbered
 pub mod Numbering

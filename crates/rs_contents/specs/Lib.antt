@@ -1,3 +1,4 @@
 pub mod Contents
+pub mod Creating
 pub mod FreePages
 pub mod Opening

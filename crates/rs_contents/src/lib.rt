@@ -2,6 +2,7 @@
 //! indexes, the referents, and the free pages.
 #![tactic(auto)]
 
+pub mod creating;
 pub mod definitions;
 pub mod free_pages;
 pub mod laws;
@@ -10,6 +11,7 @@ pub mod numbers;
 pub mod opened;
 mod opening;
 
+pub use creating::create;
 pub use definitions::{indexes_of, schema_of};
 pub use free_pages::reach_free;
 pub use loading::load;
