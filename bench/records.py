@@ -1,5 +1,6 @@
 #!/usr/bin/env python3
-"""Times event records by version: spans added over 400 routes, and searches at an old version beside as many ends.
+"""Times event records by version: spans added over 400 routes, searches at an old version beside as many ends, and a check of the
+whole file.
 
     bench/records.py [--sizes 25000,50000,100000] [--rounds 5] [--folder FOLDER] [--unproved]
 
@@ -7,8 +8,8 @@ It makes a repository of its own, of copies of the crates that `bench/records/` 
 `rt run`, and gives it each size, in spans. It prints the milliseconds of each load, the best of the rounds, and the growth
 exponent from the smallest size to the largest.
 
-The loads: all spans added in order, all added shuffled, and 1,000 searches at the version that added them, each after the end of
-a span at the next version. A row has two numbers, a record 46 bytes; the pages are in memory and a load is one transaction.
+The loads: all spans added in order, all added shuffled, 1,000 searches at the version that added them, each after the end of
+a span at the next version, the check of the whole file that is there then, and a pass over its bytes, page by page. A row has two numbers, a record 46 bytes; the pages are in memory and a load is one transaction.
 Each search is to find what its version sees, whether it has ended since or not.
 
 --folder keeps the repository, so that a second run builds what has changed. --unproved runs the program by `rt try`, with
@@ -26,9 +27,9 @@ import tempfile
 from copies import make_repository, output_of
 
 PROGRAM = "records_bench"
-STANDS_ON = ["rs_versioned", "rs_versions", "rs_facts", "rs_value", "rs_pager", "rs_pages", "rs_page", "rs_disk", "rs_measure", "arrayvec"]
-FILES = ["main.rt", "spans.rt", "table.rt"]
-LOADS = ["ordered", "shuffled", "searches"]
+STANDS_ON = ["rs_contents", "rs_attr", "rs_versioned", "rs_versions", "rs_facts", "rs_value", "rs_pager", "rs_pages", "rs_page", "rs_disk", "rs_measure", "arrayvec"]
+FILES = ["main.rt", "spans.rt", "table.rt", "whole_file.rt"]
+LOADS = ["ordered", "shuffled", "searches", "check", "pass"]
 SEARCHES = 1_000
 FIELD = re.compile(r"(\w+)=(\d+)")
 
@@ -58,7 +59,8 @@ def timed(command, program, size):
     if not fields:
         sys.exit("%s\nno times for %d spans" % (output[-4000:], size))
     counts = [fields["ordered_records"], fields["shuffled_records"], fields["living"] + fields["garbage"], fields["garbage"]]
-    if counts != [size, size, size, min(size, SEARCHES)]:
+    counts.append(fields["checked"] + fields["garbage"])
+    if counts != [size, size, size, min(size, SEARCHES), size]:
         sys.exit("of %d spans the program has %s" % (size, counts))
     return fields
 
@@ -81,6 +83,10 @@ def tell(best, sizes):
         if len(sizes) > 1:
             growth = math.log(best[load, sizes[-1]] / best[load, sizes[0]]) / math.log(sizes[-1] / sizes[0])
             print("%-9s growth exponent %.2f" % (load, growth), flush=True)
+
+
+    for size in sizes:
+        print("a check of %d spans takes %.1f passes" % (size, best["check", size] / best["pass", size]), flush=True)
 
 
 def main():
