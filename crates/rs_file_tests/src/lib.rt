@@ -1,0 +1,28 @@
+//! The opening of a whole file that is written out as the format says it: what is answered, with each byte changed in turn, and
+//! with changes that leave a file or none; and its definitions stored again.
+//!
+//! Everything here is for the tests alone.
+#![tactic(auto)]
+
+#[cfg(test)]
+mod byte_tests;
+#[cfg(test)]
+mod cells;
+#[cfg(test)]
+mod change_tests;
+#[cfg(test)]
+mod changes;
+#[cfg(test)]
+mod damages;
+#[cfg(test)]
+mod expect;
+#[cfg(test)]
+mod image;
+#[cfg(test)]
+mod opened;
+#[cfg(test)]
+mod opening_tests;
+#[cfg(test)]
+mod parts;
+#[cfg(test)]
+mod storing_tests;
