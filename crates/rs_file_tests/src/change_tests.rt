@@ -29,7 +29,7 @@ fn put_free(bytes: &mut [u8], number: u8) {
 }
 
 /// The bytes of the file with a change.
-fn changed(alloc: Global, change: &[Piece]) -> Result<Vec<u8>, Refusal> {
+pub fn changed(alloc: Global, change: &[Piece]) -> Result<Vec<u8>, Refusal> {
     let mut bytes = image(alloc).map_err(|_| Refusal::OutOfMemory)?;
     put_all(&mut bytes, change);
     Ok(bytes)

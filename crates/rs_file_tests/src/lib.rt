@@ -19,6 +19,8 @@ mod expect;
 #[cfg(test)]
 mod image;
 #[cfg(test)]
+mod meaning_tests;
+#[cfg(test)]
 mod opened;
 #[cfg(test)]
 mod opening_tests;
