@@ -62,7 +62,7 @@ split_done old mid new kind number other width count total half both rs some mor
     let used : in_use mid number ≡ Some splices.page = used_there mid number splices.page splices.replaces.there (content_used kind splices.page number width (take half rs) first) in
     let apart : number ≡ other → ⊥ = λ same. let wrong : Some splices.page ≡ None = sym used ∙ ap (in_use mid) same ∙ adds.fresh in absurd (cc) in
     record {
-      half = half;
+      staying = half;
       some = some;
       some_more = omega arith;
       after = adds.after;

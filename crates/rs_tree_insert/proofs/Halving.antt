@@ -48,17 +48,17 @@ sum_halves f xs half = ap (sum_by f) (sym (take-append-drop half xs)) ∙ sum_by
 pub leaf_split : (form : Form) (old new : PageMap) (number other : ℕ) (cells : List (List ℕ)) → 1 < number → SplitsPage old new number other kind.Leaf form.width cells
     → TakesPlace form old new 0 (one_at number) (number ∷ other ∷ []) cells
 leaf_split form old new number other cells after splits =
-    let first : 1 ≤ length (take splits.half cells) = omega (arith, length-take-le splits.half cells (omega (arith, splits.some_more)), splits.some) in
-    let rest : 1 ≤ length (drop splits.half cells) = omega (arith, length-drop splits.half cells, splits.some_more) in
+    let first : 1 ≤ length (take splits.staying cells) = omega (arith, length-take-le splits.staying cells (omega (arith, splits.some_more)), splits.some) in
+    let rest : 1 ≤ length (drop splits.staying cells) = omega (arith, length-drop splits.staying cells, splits.some_more) in
     record {
-      parts = (record { page = number; cells = take splits.half cells }) ∷ (record { page = other; cells = drop splits.half cells }) ∷ [];
+      parts = (record { page = number; cells = take splits.staying cells }) ∷ (record { page = other; cells = drop splits.staying cells }) ∷ [];
       lie = (
         record { after = after; below = splits.below; page = splits.first; there = splits.there; leaf = record { has = splits.lists.has; some = first; holds = splits.lists.holds } },
         (record { after = splits.after; below = splits.below_too; page = splits.second; there = splits.there_too; leaf = record { has = splits.lists_too.has; some = rest; holds = splits.lists_too.holds } }, tt),
       );
       top = refl;
-      lists = ap (λ cs. take splits.half cells ++ cs) (append-nil (drop splits.half cells)) ∙ take-append-drop splits.half cells;
-      moves = moves_same old new (one_at number) (one_at number & one_at other) (one_at number) (uses_all 0 ((record { page = number; cells = take splits.half cells }) ∷ (record { page = other; cells = drop splits.half cells }) ∷ []))
+      lists = ap (λ cs. take splits.staying cells ++ cs) (append-nil (drop splits.staying cells)) ∙ take-append-drop splits.staying cells;
+      moves = moves_same old new (one_at number) (one_at number & one_at other) (one_at number) (uses_all 0 ((record { page = number; cells = take splits.staying cells }) ∷ (record { page = other; cells = drop splits.staying cells }) ∷ []))
           (λ n. refl) (λ n. omega arith) splits.moves;
     }
 
@@ -70,30 +70,30 @@ inner_split form old mid new height number other page before others parts es rep
     let shared = (reparts.moves.beside others shares).shares in
     let moved = splits.moves.beside (uses_all height parts & others) (shares_same mid ((one_at number & uses_all height parts) & others) (one_at number & (uses_all height parts & others)) (λ n. omega arith) shared) in
     let lie = parts_kept form mid new (uses_all height parts & others) moved.keeps height parts (λ n. omega arith) reparts.lie in
-    let first = subst (AllZip (SaysChild form) (take splits.half es)) (map-take (child_of height) parts splits.half) (zip_take (SaysChild form) es (map (child_of height) parts) splits.half says) in
-    let rest = subst (AllZip (SaysChild form) (drop splits.half es)) (map-drop (child_of height) parts splits.half) (zip_drop (SaysChild form) es (map (child_of height) parts) splits.half says) in
-    let some : 2 ≤ length (take splits.half es) = omega (arith, length-take-le splits.half es (omega (arith, splits.some_more)), splits.some) in
-    let more : 2 ≤ length (drop splits.half es) = omega (arith, length-drop splits.half es, splits.some_more) in
+    let first = subst (AllZip (SaysChild form) (take splits.staying es)) (map-take (child_of height) parts splits.staying) (zip_take (SaysChild form) es (map (child_of height) parts) splits.staying says) in
+    let rest = subst (AllZip (SaysChild form) (drop splits.staying es)) (map-drop (child_of height) parts splits.staying) (zip_drop (SaysChild form) es (map (child_of height) parts) splits.staying says) in
+    let some : 2 ≤ length (take splits.staying es) = omega (arith, length-take-le splits.staying es (omega (arith, splits.some_more)), splits.some) in
+    let more : 2 ≤ length (drop splits.staying es) = omega (arith, length-drop splits.staying es, splits.some_more) in
     record {
-      parts = (record { page = number; parts = take splits.half parts }) ∷ (record { page = other; parts = drop splits.half parts }) ∷ [];
+      parts = (record { page = number; parts = take splits.staying parts }) ∷ (record { page = other; parts = drop splits.staying parts }) ∷ [];
       lie = (
         (
-          inner_lies form new number splits.first (take splits.half es) (map (child_of height) (take splits.half parts)) reparts.after splits.below splits.there splits.lists first some,
-          all_take (Lies form new height) parts splits.half lie,
+          inner_lies form new number splits.first (take splits.staying es) (map (child_of height) (take splits.staying parts)) reparts.after splits.below splits.there splits.lists first some,
+          all_take (Lies form new height) parts splits.staying lie,
         ),
         (
           (
-            inner_lies form new other splits.second (drop splits.half es) (map (child_of height) (drop splits.half parts)) splits.after splits.below_too splits.there_too splits.lists_too rest more,
-            all_drop (Lies form new height) parts splits.half lie,
+            inner_lies form new other splits.second (drop splits.staying es) (map (child_of height) (drop splits.staying parts)) splits.after splits.below_too splits.there_too splits.lists_too rest more,
+            all_drop (Lies form new height) parts splits.staying lie,
           ),
           tt,
         ),
       );
       top = refl;
-      lists = flat_halves (cells_of height) parts splits.half;
+      lists = flat_halves (cells_of height) parts splits.staying;
       moves = moves_same old new before ((one_at number & one_at other) & uses_all height parts) before
-          (uses_all (suc height) ((record { page = number; parts = take splits.half parts }) ∷ (record { page = other; parts = drop splits.half parts }) ∷ []))
-          (λ n. refl) (λ n. omega (arith, sum_halves (λ (p : Shape height). uses height p n) parts splits.half))
+          (uses_all (suc height) ((record { page = number; parts = take splits.staying parts }) ∷ (record { page = other; parts = drop splits.staying parts }) ∷ []))
+          (λ n. refl) (λ n. omega (arith, sum_halves (λ (p : Shape height). uses height p n) parts splits.staying))
           (moves_trans old mid new before (one_at number & uses_all height parts) ((one_at number & one_at other) & uses_all height parts) reparts.moves
           (moves_part mid new (one_at number) (one_at number & one_at other) (uses_all height parts) splits.moves));
     }

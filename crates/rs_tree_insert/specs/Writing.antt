@@ -18,11 +18,11 @@ spliced rs at removed added = take at rs ++ (added ++ drop (at + removed) rs)
 abbrev pub IsBroken : PageMap → ℕ → Type 0
 IsBroken map number = HasNoFit map number ⊎ HasNoFreeList map
 
--- the page has the first half of these records, and a new one the rest: two at least each
+-- the page has the first of these records, and a new one the rest: two at least each
 pub record SplitsPage (old new : PageMap) (number other : ℕ) (kind : PageKind) (width : ℕ) (rs : List (List ℕ)) : Type 0 where
-  pub half : ℕ
-  pub some : 2 ≤ half
-  pub some_more : half + 2 ≤ length rs
+  pub staying : ℕ
+  pub some : 2 ≤ staying
+  pub some_more : staying + 2 ≤ length rs
   pub after : 1 < other
   pub below : number < new.fields.pages
   pub below_too : other < new.fields.pages
@@ -30,8 +30,8 @@ pub record SplitsPage (old new : PageMap) (number other : ℕ) (kind : PageKind)
   pub second : List ℕ
   pub there : new.page number ≡ Some first
   pub there_too : new.page other ≡ Some second
-  pub lists : Lists first kind number width (take half rs)
-  pub lists_too : Lists second kind other width (drop half rs)
+  pub lists : Lists first kind number width (take staying rs)
+  pub lists_too : Lists second kind other width (drop staying rs)
   pub moves : Moves old new (one_at number) (one_at number & one_at other)
 
 -- the cell was there

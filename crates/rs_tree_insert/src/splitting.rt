@@ -19,8 +19,8 @@ use rs_tree_page::{content, splice_page};
 /// The bytes that two pages have for records.
 const TWO_PAGES: usize = 2 * 4080;
 
-/// Puts records in the place of some of the page with this number, where they fit it no more: the first half stays, and the
-/// second goes into a new page.
+/// Puts records in the place of some of the page with this number, where they fit it no more: the first ones stay, and the
+/// others go into a new page.
 pub fn split_page<P: Pages>(
     pages: &mut P,
     number: PageNumber,
@@ -49,17 +49,27 @@ pub fn split_page<P: Pages>(
 {
     let mut both = [0; TWO_PAGES];
     let total = count - removed + more;
-    let half = total / 2;
-    halve_page(
-        pages, number, kind, width, count, at, removed, more, added, half, &mut both,
+    let first = staying(at + more, total);
+    keep_first(
+        pages, number, kind, width, count, at, removed, more, added, first, &mut both,
     )?;
-    let end = half * width;
-    add_page(pages, kind, width, total - half, &both[end..total * width])
+    let end = first * width;
+    add_page(pages, kind, width, total - first, &both[end..total * width])
+}
+
+/// How many of so many records stay in a page that is split, where those that were added end here: half of them. Where the
+/// added ones are the last, all but two stay, so that what is added in order leaves full pages.
+fn staying(end: usize, total: usize) -> usize
+    requires { 4 ≤ total }
+    ensures some { 2 ≤ result }
+    ensures some_more { result + 2 ≤ total }
+{
+    if end == total { total - 2 } else { total / 2 }
 }
 
 /// Puts records in the place of some of the page with this number, where so many of the first stay. All of them come to the
 /// beginning of other bytes. It is refused as `page_mut` is; nothing has changed then.
-fn halve_page<P: Pages>(
+fn keep_first<P: Pages>(
     pages: &mut P,
     number: PageNumber,
     kind: ContentKind,
@@ -69,7 +79,7 @@ fn halve_page<P: Pages>(
     removed: usize,
     more: usize,
     added: &[u8],
-    half: usize,
+    first: usize,
     both: &mut [u8],
 ) -> Result<(), Refusal>
     requires begun { (P.store pages.old).is_begun ≡ true }
@@ -78,21 +88,21 @@ fn halve_page<P: Pages>(
     requires part { at + removed ≤ count }
     requires whole { length added.now ≡ more * width }
     requires room { (count - removed + more) * width ≤ 8160 }
-    requires half { half * width ≤ 4080 }
+    requires first { first * width ≤ 4080 }
     requires size { length both.old ≡ 8160 }
     ensures keeps { P.keeps pages.old pages.new }
     ensures works { WorksAfter (P.is_tied pages.old → HasNoFit (P.store pages.old).map number) result
         (P.store pages.old) (P.store pages.new) }
     ensures edited { P.is_tied pages.old → OnOk result (Splices (P.store pages.old).map (P.store pages.new).map number
-        (page_kind kind) width count 0 count (records half width (take (half * width) both.new))) }
+        (page_kind kind) width count 0 count (records first width (take (first * width) both.new))) }
     ensures both { P.is_tied pages.old → (page : List ℕ) → (P.store pages.old).map.page number ≡ Some page
         → OnOk result (records (count - removed + more) width both.new
         ≡ spliced (records count width (content page)) at removed (records more width added.now)) }
 {
-    let header = header_of(kind, number, half, width);
+    let header = header_of(kind, number, first, width);
     let page = pages.page_mut(number)?;
     splice_beside(page, both, width, count, at, removed, more, added);
-    splice_page(page, header, width, count, 0, count, &both[..half * width]);
+    splice_page(page, header, width, count, 0, count, &both[..first * width]);
     Ok(())
 }
 

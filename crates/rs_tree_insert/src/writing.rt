@@ -14,7 +14,7 @@ use rs_pages::Pages;
 use rs_tree_edit::edit_page;
 
 /// Puts records in the place of some of the page with this number, one more than before at the most. Where they fit it no
-/// more, the second half goes into a new page, which is answered.
+/// more, the last ones go into a new page, which is answered.
 pub fn put_records<P: Pages>(
     pages: &mut P,
     number: PageNumber,

@@ -4,16 +4,16 @@ use Rattle.std.proofs.lemmas.List.{length-take-le}
 use Rattle.rs_page.specs.Header.{page_kind}
 use Rattle.rs_tree.specs.Content.{tree_header}
 use Rattle.rs_tree_edit.proofs.Listing.{spliced_page}
-use Rattle.rs_tree_insert.proofs.splitting.halve_page.Goals as goal
+use Rattle.rs_tree_insert.proofs.splitting.keep_first.Goals as goal
 
 pub returns-clause-edited : goal.returns-clause-edited
 returns-clause-edited g c = λ tied.
     let ok : is_ok c.page_mut.result ≡ true = rw c.in_ok-page.was refl in
     let edits = c.page_mut.follows.holds c.splice_page.new.page ok in
-    let all : c.args.half ≡ c.args.count - c.args.count + c.args.half = omega arith in
+    let all : c.args.first ≡ c.args.count - c.args.count + c.args.first = omega arith in
     spliced_page (g.P.Pages.store c.args.pages.now).map (g.P.Pages.store (c.page_mut.follows.lender c.splice_page.new.page)).map c.args.number (page_kind c.args.kind)
-    c.args.width c.args.count 0 c.args.count c.args.half _ c.in_ok-page.page.now.bytes c.splice_page.new.page.bytes c.header_of-header.result
+    c.args.width c.args.count 0 c.args.count c.args.first _ c.in_ok-page.page.now.bytes c.splice_page.new.page.bytes c.header_of-header.result
     (c.in_ok-page.ensures.lends.bytes tied) c.in_ok-page.ensures.lends.in_use c.in_ok-page.ensures.lends.below (edits.edits.replaces tied)
     (c.header_of-header.ensures ∙ ap (λ n. tree_header (page_kind c.args.kind) n c.args.number) all) c.splice_page.ensures.header c.splice_page.ensures.size
-    (subst (λ n. n * c.args.width ≤ 4080) all c.requires.half) (c.splice_page.ensures.records c.args.half
-    (length-take-le (c.args.half * c.args.width) c.splice_beside.new.both (omega (arith, c.splice_beside.auto.both, c.requires.size, c.requires.half))))
+    (subst (λ n. n * c.args.width ≤ 4080) all c.requires.first) (c.splice_page.ensures.records c.args.first
+    (length-take-le (c.args.first * c.args.width) c.splice_beside.new.both (omega (arith, c.splice_beside.auto.both, c.requires.size, c.requires.first))))
