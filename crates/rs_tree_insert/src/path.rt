@@ -22,7 +22,7 @@ use rs_tree::Summary;
 use rs_tree_page::Layout;
 use rs_tree_page::entry::{child, summary};
 
-/// Puts a cell into the part of a tree with this page at its top.
+/// Puts a cell into the part of a tree with this page at its top. Entries are written into `entries` on the way up.
 #[cycle(inserting)]
 pub fn insert_below<P: Pages, S: Summary>(
     pages: &mut P,
@@ -30,6 +30,7 @@ pub fn insert_below<P: Pages, S: Summary>(
     number: PageNumber,
     levels: u32,
     cell: &[u8],
+    entries: &mut [u8; TWO_ENTRIES],
 ) -> Result<Put, Refusal>
     requires begun { (P.store pages.old).is_begun ≡ true }
     requires summary { layout.summary ≡ S.WIDTH }
@@ -56,7 +57,9 @@ pub fn insert_below<P: Pages, S: Summary>(
             if levels == 0 {
                 return Err(Refusal::DamagedFile);
             }
-            insert_under::<P, S>(pages, layout, number, count, at, entry, levels, cell)
+            insert_under::<P, S>(
+                pages, layout, number, count, at, entry, levels, cell, entries,
+            )
         }
     }
 }
@@ -107,6 +110,7 @@ fn insert_under<P: Pages, S: Summary>(
     entry: &[u8],
     levels: u32,
     cell: &[u8],
+    entries: &mut [u8; TWO_ENTRIES],
 ) -> Result<Put, Refusal>
     requires begun { (P.store pages.old).is_begun ≡ true }
     requires summary { layout.summary ≡ S.WIDTH }
@@ -130,11 +134,11 @@ fn insert_under<P: Pages, S: Summary>(
         → SamePages (P.store pages.new).map (P.store pages.old).map) }
 {
     let below = child(entry, layout);
-    let put = insert_below::<P, S>(pages, layout, below, levels - 1, cell)?;
+    let put = insert_below::<P, S>(pages, layout, below, levels - 1, cell, entries)?;
     match put {
         Put::Found => Ok(Put::Found),
         Put::Kept => Ok(Put::Kept),
-        _ => write_above::<P, S>(pages, layout, number, count, at, entry, below, put),
+        _ => write_above::<P, S>(pages, layout, number, count, at, entry, below, put, entries),
     }
 }
 
@@ -149,6 +153,7 @@ fn write_above<P: Pages, S: Summary>(
     entry: &[u8],
     below: PageNumber,
     put: Put,
+    entries: &mut [u8; TWO_ENTRIES],
 ) -> Result<Put, Refusal>
     requires begun { (P.store pages.old).is_begun ≡ true }
     requires summary { layout.summary ≡ S.WIDTH }
@@ -166,10 +171,9 @@ fn write_above<P: Pages, S: Summary>(
         WritesAbove (form_of S.says S.unit S.join S.of layout.summary layout.width) (P.store pages.old).map
         (P.store pages.new).map number page count at (tops below put) above) }
 {
-    let mut entries = [0; TWO_ENTRIES];
     let width = layout.entry_width();
-    let more = write_entries::<P, S>(pages, layout, below, put, &mut entries)?;
-    if says_same::<S>(layout, entry, more, &entries) {
+    let more = write_entries::<P, S>(pages, layout, below, put, entries)?;
+    if says_same::<S>(layout, entry, more, entries) {
         return Ok(Put::Kept);
     }
     put_records(

@@ -59,7 +59,8 @@ pub fn insert<P: Pages, S: Summary>(
         return Ok(Inserted { root, new: true });
     }
     let _count = pages.count();
-    match insert_below::<P, S>(pages, layout, root, LEVELS, cell)? {
+    let mut entries = [0; TWO_ENTRIES];
+    match insert_below::<P, S>(pages, layout, root, LEVELS, cell, &mut entries)? {
         Put::Found => Ok(Inserted { root, new: false }),
         Put::Placed => Ok(Inserted { root, new: true }),
         Put::Kept => Ok(Inserted { root, new: true }),

@@ -1,5 +1,5 @@
 -- The first records stay, the rest comes into a new page.
-use Rattle.std.proofs.Common.{◌≡◌, ◌+◌, ◌-◌, ◌/◌, ℕ, length, inr, arith}
+use Rattle.std.proofs.Common.{◌≡◌, ◌+◌, ◌-◌, ℕ, length, inr, arith}
 use Rattle.std.proofs.lemmas.List.{length-replicate}
 use Rattle.rs_page.specs.Header.{page_kind}
 use Rattle.rs_pages.specs.PageMap.{HasNoFit}
