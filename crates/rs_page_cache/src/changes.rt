@@ -4,7 +4,10 @@
 //! that list is made before each copy, so neither of the two takes memory.
 
 ghost use Rattle.std.specs.Prelude.{◌≡◌, ◌≢◌, ◌≤◌, ◌<◌, ◌^◌, ℕ, List, Some, None, true, [], length, is_some, IsSome, IfSome, IfNone, OnOk, OnErr, IsOkUnless, slice_index};
+ghost use Rattle.std.specs.BTreeMap.{is_at};
+ghost use Rattle.std.specs.Map.{lookup};
 ghost use Rattle.std.specs.Option.{option_map};
+ghost use Rattle.std.specs.Ordering.{nat_cmp};
 ghost use Rattle.rs_page.specs.PageBytes.{is_free};
 ghost use Rattle.rs_pages.specs.Held.{HeldPage, nothing_held, held_change, with_copy};
 ghost use Rattle.rs_page_cache.specs.Changes.{held_at, committed_held, abandoned_held, HasCopied, HoldsEach, IsUsedCopy, ListsHeld, PutsBlank};
@@ -74,10 +77,25 @@ impl Changes {
     pub fn working(&self, number: PageNumber) -> Option<&Page>
         ensures { option_map (λ page. page.now.bytes) result ≡ held_change (held_at self.now number) }
     {
-        match self.slots.get(&number.number()) {
+        match self.slot(number.number()) {
             Some(slot) => slot.working(),
             None => None,
         }
+    }
+
+    /// What is held of the page with this number. What is added in order goes to the last page again and again, so that one is
+    /// tried before the map is searched.
+    fn slot(&self, number: u32) -> Option<&Slot>
+        ensures { option_map (λ slot. slot.now) result ≡ lookup (is_at (nat_cmp number)) self.now }
+    {
+        if self.copied.last() == Some(&number) {
+            if let Some((last, slot)) = self.slots.last_key_value() {
+                if *last == number {
+                    return Some(slot);
+                }
+            }
+        }
+        self.slots.get(&number)
     }
 
     /// The working copy of the page with this number, where it has one.
