@@ -3,12 +3,12 @@
 
     growths.py [--count]
 
-`rs_growths` holds the conversations that `tests/refused_growths.txt` names, each in runs of its own; `rs_storage_growths`
-makes its calls of the pager and of trees. Such a program prints the same whichever of its growths was refused, and then
+`rs_growths` holds the conversations that `tests/refused_growths.txt` names, and `rs_storage_growths` makes the calls of the
+parts that it names, each in runs of its own. Such a program prints the same whichever of its growths was refused, and then
 whether the next growth was given; any other output, or status, is a failure. The list says how many each of them asks for.
 A run that comes to its refused growth is given the next one, and the run in which the growth after the last is refused
 is not: so a number that is too small or too large is found out. Then the growths are counted anew, and all is run once
-more. `--count` writes the numbers into the list. These runs are MOST_RUNS at the most.
+more. `--count` writes the numbers into the list. The runs of each program are MOST_RUNS of it at the most.
 
 `rt try --fail-alloc N --cases FOLDER` builds a program once and always refuses the growth with number N; a program asks
 for as many growths before its own as its input has dots at first, so that the refused one is another of its own in each
@@ -27,12 +27,15 @@ CONVERSATIONS = os.path.join(ROOT, "tests", "conversations")
 LIST = os.path.join(ROOT, "tests", "refused_growths.txt")
 EXPAND = os.path.join(ROOT, "tests", "conversations.py")
 
-# The program that holds conversations, and the one that makes calls of the pager and of trees, by which the list names it.
+# The program that holds conversations, and the one that makes calls of what lies below the engine.
 CONVERSED = "rs_growths"
 STORAGE = "rs_storage_growths"
 
-# How many runs there are in which a growth is refused, at the most.
-MOST_RUNS = 700
+# The parts of the second, and what it is given for each.
+PARTS = {"pager-calls": b"p", "tree-calls": b"t", "file-steps": b"f"}
+
+# How many runs of each there are in which a growth is refused, at the most.
+MOST_RUNS = {CONVERSED: 700, STORAGE: 900}
 
 # More growths than any program asks for.
 NONE_REFUSED = 1_000_000
@@ -61,11 +64,11 @@ class Case:
 
 
 def program_of(name):
-    return STORAGE if name == STORAGE else CONVERSED
+    return STORAGE if name in PARTS else CONVERSED
 
 
 def listed():
-    """How many growths each conversation, and the program of the pager and of trees, asks for."""
+    """How many growths each conversation, and each part of what lies below the engine, asks for."""
     with open(LIST, encoding="utf-8") as file:
         return {found["name"]: int(found["count"]) for found in LISTED.finditer(file.read())}
 
@@ -102,8 +105,8 @@ def is_look(sent, wanted):
 
 def fields_of(name):
     """What a program reads after the dots: of a conversation each line with its answer and the one without memory."""
-    if name == STORAGE:
-        return b""
+    if name in PARTS:
+        return PARTS[name]
     fields = []
     for sent, wanted in exchanges(name):
         session = wanted.partition(b" ")[0]
@@ -171,10 +174,12 @@ def refused_in(program, cases):
 def refused_in_turn(counts):
     """Each growth of each, and the one after its last, refused in a run; the runs of a program follow its one build."""
     cases = [Case(name, count, own) for name, count in counts.items() for own in range(1, count + 2)]
-    print("%d runs in which a growth is refused, of %d at the most" % (len(cases), MOST_RUNS), flush=True)
-    if len(cases) > MOST_RUNS:
-        sys.exit(" ".join("%s:%d" % item for item in counts.items()))
-    groups = {program: [case for case in cases if program_of(case.name) == program] for program in (CONVERSED, STORAGE)}
+    groups = {program: [case for case in cases if program_of(case.name) == program] for program in MOST_RUNS}
+    for program, own in groups.items():
+        most = MOST_RUNS[program]
+        print("%s: %d runs in which a growth is refused, of %d at the most" % (program, len(own), most), flush=True)
+        if len(own) > most:
+            sys.exit(" ".join("%s:%d" % item for item in counts.items()))
     with concurrent.futures.ThreadPoolExecutor(len(groups)) as pool:
         told = dict(zip(groups, pool.map(refused_in, groups, groups.values())))
     return {program: results for program, (results, _said) in told.items()}, "".join(said for _results, said in told.values())

@@ -4,7 +4,7 @@
 set -eu
 cd "$(dirname "$0")/.."
 # each check by one process: several for one check take a fifth more of the processors
-RT_JOBS="${RT_JOBS:-$(nproc)}" rt ci
+RT_JOBS="${RT_JOBS:-$(nproc)}" python3 scripts/gate.py
 if [ ! -x crates/roadseg/out/roadseg ]; then
     (cd crates/roadseg && rt run -- --help > /dev/null)
 fi

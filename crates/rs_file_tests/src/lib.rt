@@ -1,5 +1,5 @@
 //! The opening of a whole file that is written out as the format says it: what is answered, with each byte changed in turn, and
-//! with changes that leave a file or none; and its definitions stored again.
+//! with changes that leave a file or none; its definitions stored again; and a file made by steps of which one is refused.
 //!
 //! Everything here is for the tests alone.
 #![tactic(auto)]
@@ -16,6 +16,8 @@ mod changes;
 mod damages;
 #[cfg(test)]
 mod expect;
+#[cfg(test)]
+mod failing_tests;
 #[cfg(test)]
 mod image;
 #[cfg(test)]

@@ -1,25 +1,20 @@
 //! The definitions and the directory of the file stored again: their pages are those that were written.
 
 ghost use Rattle.std.specs.Prelude.{◌≡◌, false, true};
-ghost use Rattle.rs_catalog_pages.specs.Fitting.{FitsCatalogue};
-ghost use Rattle.rs_catalog_pages.specs.Said.{said_catalogue};
 ghost use Rattle.rs_contents.specs.Opening.{IsFile};
 
 use crate::expect::expect;
 use crate::image::{image, offset};
 use crate::opened::{Opened, open_file};
-use rs_catalog_pages::laws::few_definitions_are_short;
-use rs_catalog_pages::{StoredCatalogue, load_directory, store, store_directory};
+use rs_catalog_pages::{load_directory, store_directory};
 use rs_disk::MemoryDisk;
+use rs_file_judge::store_definitions;
 use rs_measure::Refusal;
 use rs_page::{HEADER_SIZE, PageNumber};
 use rs_pager::Pager;
 use rs_pages::Pages;
 use std::alloc::Global;
 use std::test::Fail;
-
-/// How many items a list of definitions has at the most.
-const MOST: usize = 4_096;
 
 /// How many bytes of each page are compared: all of them, and of the second page of the definitions those that are counted.
 static COMPARED: [(u32, usize); 3] = [(1, 4_096), (6, 73), (9, 4_096)];
@@ -32,29 +27,6 @@ fn write_over(pager: &mut Pager<MemoryDisk>, number: u32) -> Result<(), Refusal>
     let page = pager.page_mut(PageNumber::new(number))?;
     page.bytes[HEADER_SIZE..].fill(255);
     Ok(())
-}
-
-/// Stores the definitions in place of those in these pages.
-fn store_again(
-    alloc: Global,
-    pager: &mut Pager<MemoryDisk>,
-    pages: &[PageNumber],
-    definitions: &StoredCatalogue,
-) -> Result<Vec<PageNumber>, Refusal>
-    requires begun { pager.old.is_begun ≡ true }
-    requires fits { FitsCatalogue (said_catalogue definitions.now) }
-    ensures { pager.new.is_begun ≡ true }
-{
-    few_definitions_are_short();
-    if definitions.routes.len() > MOST
-        || definitions.tables.len() > MOST
-        || definitions.indexes.len() > MOST
-        || definitions.views.len() > MOST
-        || definitions.alignments.len() > MOST
-    {
-        return Err(Refusal::WrongValues);
-    }
-    store(alloc, pager, pages, definitions)
 }
 
 /// Whether so many bytes of a page are those of the file.
@@ -92,7 +64,7 @@ impl Opened {
         self.pager.begin()?;
         write_over_all(&mut self.pager)?;
         let numbers = self.file.pages.as_slice();
-        let pages = store_again(alloc, &mut self.pager, numbers, &self.file.definitions)?;
+        let pages = store_definitions(alloc, &mut self.pager, numbers, &self.file.definitions)?;
         store_directory(alloc, &mut self.pager, &directory)?;
         Ok(pages)
     }

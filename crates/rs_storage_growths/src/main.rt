@@ -1,4 +1,4 @@
-//! Makes calls of a pager and of trees and judges each answer itself, for runs in which a growth is refused.
+//! Makes calls of a pager, of trees and of a whole file and judges each answer itself, for runs in which a growth is refused.
 //!
 //! What is printed is the same whichever growth was refused.
 #![tactic(auto)]
@@ -9,10 +9,11 @@ mod tree_calls;
 use crate::random_calls::RandomCalls;
 use crate::tree_calls::tree_refusals;
 use rs_disk::{FailedCut, FailingDisk, MemoryDisk};
+use rs_file_judge::judge_script;
 use rs_growth_offset::{ask_for_each_dot, is_given};
 use rs_pager_judge::{AfterRefusal, Judge, script_calls};
 use std::alloc::Global;
-use std::io;
+use std::io::{self, Read};
 
 /// How many pseudo-random calls follow.
 const RANDOM_CALLS: u32 = 80;
@@ -41,6 +42,15 @@ fn are_trees_right(alloc: Global) -> bool {
     }
 }
 
+/// Whether each step of a file is answered as wanted, but for one that may be refused.
+fn is_file_right(alloc: Global) -> bool {
+    let disk = FailingDisk::new(MemoryDisk::new(alloc), 0, FailedCut::Done);
+    match judge_script(alloc, disk) {
+        Some((failures, refusals)) => failures <= refusals && refusals <= 1,
+        None => false,
+    }
+}
+
 /// Whether each call of the pager is answered as wanted, but for one that may be refused.
 fn is_pager_right(alloc: Global, after: AfterRefusal, seed: u64) -> bool {
     match refusals(alloc, after, seed) {
@@ -49,13 +59,25 @@ fn is_pager_right(alloc: Global, after: AfterRefusal, seed: u64) -> bool {
     }
 }
 
+/// Whether the calls of a part are answered as wanted: `p` of the pager, `t` of trees, `f` of a file, and all for any other name.
+fn is_right(alloc: Global, part: u8) -> bool {
+    let is_meant = |name: u8| part == name || !matches!(part, b'p' | b't' | b'f');
+    let is_pager_right = !is_meant(b'p')
+        || is_pager_right(alloc, AfterRefusal::Abandon, 1)
+            && is_pager_right(alloc, AfterRefusal::Commit, 2);
+    let are_trees_right = !is_meant(b't') || are_trees_right(alloc);
+    let is_file_right = !is_meant(b'f') || is_file_right(alloc);
+    is_pager_right && are_trees_right && is_file_right
+}
+
 fn main(rt: HostRuntime) -> io::Result<()> {
     let alloc = rt.alloc();
-    ask_for_each_dot(alloc, &mut rt.stdin());
-    if is_pager_right(alloc, AfterRefusal::Abandon, 1)
-        && is_pager_right(alloc, AfterRefusal::Commit, 2)
-        && are_trees_right(alloc)
-    {
+    let mut stdin = rt.stdin();
+    ask_for_each_dot(alloc, &mut stdin);
+    let mut part = [0_u8];
+    let _ = stdin.read(&mut part);
+    let [part] = part;
+    if is_right(alloc, part) {
         println!(rt; "each call was answered as wanted")?;
     } else {
         println!(rt; "some call was answered otherwise")?;

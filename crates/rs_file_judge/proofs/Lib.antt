@@ -1,0 +1,2 @@
+pub mod Dying
+pub mod Indexed

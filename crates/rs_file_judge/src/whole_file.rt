@@ -1,0 +1,209 @@
+//! The definitions and the directory beside the tables of a file, and the whole of it, opened and compared.
+
+ghost use Rattle.std.specs.Prelude.{◌≡◌, ◌≤◌, length, true};
+ghost use Rattle.rs_catalog_pages.specs.Fitting.{FitsCatalogue};
+ghost use Rattle.rs_catalog_pages.specs.Said.{said_catalogue};
+
+use crate::stated::{Definitions, TreeCounts, stated_definitions, stated_directory};
+use crate::versioned_file::{TestDisk, VersionedFile};
+use rs_catalog_pages::laws::few_definitions_are_short;
+use rs_catalog_pages::{StoredCatalogue, store, store_directory};
+use rs_contents::{OpenedFile, OpenedTable};
+use rs_measure::Refusal;
+use rs_page::PageNumber;
+use rs_pager::Pager;
+use rs_pages::Pages;
+use std::alloc::Global;
+
+/// How many items a list of definitions has at the most.
+const MOST: usize = 4_096;
+
+/// Stores the definitions in place of those in these pages.
+pub fn store_definitions<P: Pages>(
+    alloc: Global,
+    pages: &mut P,
+    numbers: &[PageNumber],
+    definitions: &StoredCatalogue,
+) -> Result<Vec<PageNumber>, Refusal>
+    requires begun { (P.store pages.old).is_begun ≡ true }
+    requires fits { FitsCatalogue (said_catalogue definitions.now) }
+    ensures { (P.store pages.new).is_begun ≡ true }
+{
+    few_definitions_are_short();
+    if definitions.routes.len() > MOST
+        || definitions.tables.len() > MOST
+        || definitions.indexes.len() > MOST
+        || definitions.views.len() > MOST
+        || definitions.alignments.len() > MOST
+    {
+        return Err(Refusal::WrongValues);
+    }
+    store(alloc, pages, numbers, definitions)
+}
+
+/// What a table has of its trees.
+#[derive(Clone, Copy, PartialEq, Eq)]
+pub struct Counts {
+    table: TreeCounts,
+    indexes: [u32; 2],
+    referents: TreeCounts,
+    accepted: u64,
+}
+
+/// The roots of the first two indexes; 0 for one that isn't there.
+fn roots(indexes: &[rs_attr::AttrIndex]) -> [u32; 2] {
+    let mut roots = [0; 2];
+    for (place, root) in roots.iter_mut().enumerate() {
+        if let Some(index) = indexes.get(place) {
+            *root = index.root().number();
+        }
+    }
+    roots
+}
+
+/// What an opened table has of its trees.
+fn counts_of(file: &OpenedFile, table: &OpenedTable) -> Counts {
+    Counts {
+        table: TreeCounts {
+            root: table.records.root().number(),
+            living: table.records.living(),
+            garbage: table.records.garbage(),
+        },
+        indexes: roots(table.indexes.as_slice()),
+        referents: TreeCounts {
+            root: file.referents.root().number(),
+            living: file.referents.living(),
+            garbage: file.referents.garbage(),
+        },
+        accepted: file.accepted,
+    }
+}
+
+impl VersionedFile {
+    /// Keeps these pages for the definitions.
+    fn put_pages(&mut self, pages: Vec<PageNumber>) {
+        let before = std::mem::replace(&mut self.pages, pages);
+        if self.kept_pages.is_none() {
+            self.kept_pages = Some(before);
+        }
+    }
+
+    /// Stores that there are no definitions, in a file without any.
+    pub fn store_none(&mut self, alloc: Global) -> Result<(), Refusal> {
+        if !self.is_begun {
+            return Err(Refusal::WrongValues);
+        }
+        let pages = rs_contents::create(alloc, &mut self.pager)?;
+        self.put_pages(pages);
+        Ok(())
+    }
+
+    /// Stores these definitions in place of those that are there.
+    pub fn store(&mut self, alloc: Global, definitions: Definitions) -> Result<(), Refusal> {
+        if !self.is_begun {
+            return Err(Refusal::WrongValues);
+        }
+        let stated = stated_definitions(alloc, definitions)?;
+        let pages = store_definitions(alloc, &mut self.pager, self.pages.as_slice(), &stated)?;
+        self.put_pages(pages);
+        Ok(())
+    }
+
+    /// What it has of its trees.
+    pub fn tree_counts(&self) -> Counts {
+        Counts {
+            table: TreeCounts {
+                root: self.events.root().number(),
+                living: self.events.living(),
+                garbage: self.events.garbage(),
+            },
+            indexes: roots(self.indexes.as_slice()),
+            referents: TreeCounts {
+                root: self.referents.root().number(),
+                living: self.referents.living(),
+                garbage: self.referents.garbage(),
+            },
+            accepted: self.version,
+        }
+    }
+
+    /// Stores the directory.
+    pub fn store_directory(&mut self, alloc: Global) -> Result<(), Refusal> {
+        if !self.is_begun {
+            return Err(Refusal::WrongValues);
+        }
+        let Counts {
+            table,
+            indexes,
+            referents,
+            accepted,
+        } = self.tree_counts();
+        let directory = stated_directory(alloc, table, indexes, referents, accepted)?;
+        store_directory(alloc, &mut self.pager, &directory)
+    }
+
+    /// As `Pager::flush`. Nothing where changes are begun.
+    pub fn flush(&mut self) -> Result<(), Refusal> {
+        if self.is_begun {
+            return Ok(());
+        }
+        self.pager.flush()
+    }
+
+    /// Opens what stands in the pages, as they are on the disk, and answers whether that is what is here. Nothing may be begun.
+    pub fn is_read_again(&mut self, alloc: Global) -> Result<bool, Refusal> {
+        self.flush()?;
+        if !self.is_begun {
+            self.pager.forget();
+        }
+        let opened = rs_contents::load(alloc, &mut self.pager)?;
+        let is_counted = match opened.tables.as_slice() {
+            [table] => counts_of(&opened, table) == self.tree_counts(),
+            _ => false,
+        };
+        Ok(is_counted && opened.pages.as_slice() == self.pages.as_slice())
+    }
+
+    /// Whether another file has the same trees, the same definitions and the same pages, byte for byte.
+    pub fn is_same(&mut self, other: &mut VersionedFile) -> Result<bool, Refusal> {
+        let is_counted = self.tree_counts() == other.tree_counts()
+            && self.pages.as_slice() == other.pages.as_slice()
+            && self.pager.count() == other.pager.count()
+            && self.pager.free_list() == other.pager.free_list()
+            && self.pager.catalogue() == other.pager.catalogue();
+        Ok(is_counted && have_same_pages(&mut self.pager, &mut other.pager)?)
+    }
+}
+
+/// Whether both have the same page with this number: its bytes, or of a free page the next one.
+fn is_same_page(
+    pager: &mut Pager<TestDisk>,
+    other: &mut Pager<TestDisk>,
+    number: PageNumber,
+) -> Result<bool, Refusal>
+    ensures pager_begun { pager.new.is_begun ≡ pager.old.is_begun }
+    ensures other_begun { other.new.is_begun ≡ other.old.is_begun }
+{
+    match pager.page(number) {
+        Ok(page) => Ok(page.bytes == other.page(number)?.bytes),
+        Err(Refusal::DamagedFile) => Ok(pager.next_free(number)? == other.next_free(number)?),
+        Err(refusal) => Err(refusal),
+    }
+}
+
+/// Whether both have the same pages, but for page 0, whose fields a pager keeps apart.
+fn have_same_pages(
+    pager: &mut Pager<TestDisk>,
+    other: &mut Pager<TestDisk>,
+) -> Result<bool, Refusal>
+    ensures pager_begun { pager.new.is_begun ≡ pager.old.is_begun }
+    ensures other_begun { other.new.is_begun ≡ other.old.is_begun }
+{
+    for number in 1..pager.count() {
+        match is_same_page(pager, other, PageNumber::new(number)) {
+            Ok(true) => {}
+            answer => return answer,
+        }
+    }
+    Ok(true)
+}

@@ -1,0 +1,35 @@
+//! Each call of the disk failing once while a file takes the script's steps: one step is refused, and all others are answered
+//! as wanted.
+
+use crate::expect::expect;
+use rs_disk::{FailedCut, FailingDisk, MemoryDisk};
+use rs_file_judge::judge_script;
+use std::alloc::Global;
+use std::test::Fail;
+
+/// More calls of the disk than the steps make, and fewer.
+const MOST: u64 = 1_000;
+
+const LEAST: u64 = 30;
+
+/// How many calls of the disk the steps make. Each of them failed once.
+fn failed_calls(alloc: Global) -> Result<u64, Fail> {
+    for call in 1..MOST {
+        let disk = FailingDisk::new(MemoryDisk::new(alloc), call, FailedCut::Done);
+        match judge_script(alloc, disk) {
+            Some((0, 0)) => return Ok(call - 1),
+            answer => expect(
+                answer == Some((1, 1)),
+                "one step refused where this call failed:",
+                call as usize,
+            )?,
+        }
+    }
+    Err(Fail::new(format_args!("more than {MOST} calls of the disk")))
+}
+
+#[test]
+fn a_failing_call_refuses_one_step(rt: HostRuntime) -> Result<(), Fail> {
+    let calls = failed_calls(rt.alloc())?;
+    expect(calls > LEAST, "more calls of the disk than", LEAST as usize)
+}
