@@ -41,7 +41,7 @@ pub fn store_definitions<P: Pages>(
     store(alloc, pages, numbers, definitions)
 }
 
-/// What a table has of its trees.
+/// The roots and counts of a file's trees, and the version that was accepted last.
 #[derive(Clone, Copy, PartialEq, Eq)]
 pub struct Counts {
     table: TreeCounts,
@@ -61,7 +61,7 @@ fn roots(indexes: &[rs_attr::AttrIndex]) -> [u32; 2] {
     roots
 }
 
-/// What an opened table has of its trees.
+/// Those of a file that was opened, and of this table of it.
 fn counts_of(file: &OpenedFile, table: &OpenedTable) -> Counts {
     Counts {
         table: TreeCounts {
@@ -109,7 +109,7 @@ impl VersionedFile {
         Ok(())
     }
 
-    /// What it has of its trees.
+    /// The roots and counts of its trees, and the version that was accepted last.
     pub fn tree_counts(&self) -> Counts {
         Counts {
             table: TreeCounts {

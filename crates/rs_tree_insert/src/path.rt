@@ -22,7 +22,8 @@ use rs_tree::Summary;
 use rs_tree_page::Layout;
 use rs_tree_page::entry::{child, summary};
 
-/// Puts a cell into the part of a tree with this page at its top. Entries are written into `entries` on the way up.
+/// Puts a cell into the part of a tree with this page at its top, which is the last of its level or not. Entries are written
+/// into `entries` on the way up.
 #[cycle(inserting)]
 pub fn insert_below<P: Pages, S: Summary>(
     pages: &mut P,
@@ -31,6 +32,7 @@ pub fn insert_below<P: Pages, S: Summary>(
     levels: u32,
     cell: &[u8],
     entries: &mut [u8; TWO_ENTRIES],
+    is_last: bool,
 ) -> Result<Put, Refusal>
     requires begun { (P.store pages.old).is_begun ≡ true }
     requires summary { layout.summary ≡ S.WIDTH }
@@ -52,13 +54,15 @@ pub fn insert_below<P: Pages, S: Summary>(
     let spot = find_spot(pages, number, layout, cell, entry)?;
     match spot {
         Spot::Found => Ok(Put::Found),
-        Spot::Leaf(count, at) => insert_here::<P, S>(pages, layout, number, count, at, cell),
+        Spot::Leaf(count, at) => insert_here::<P, S>(
+            pages, layout, number, count, at, cell, is_last,
+        ),
         Spot::Inner(count, at) => {
             if levels == 0 {
                 return Err(Refusal::DamagedFile);
             }
             insert_under::<P, S>(
-                pages, layout, number, count, at, entry, levels, cell, entries,
+                pages, layout, number, count, at, entry, levels, cell, entries, is_last,
             )
         }
     }
@@ -72,6 +76,7 @@ fn insert_here<P: Pages, S: Summary>(
     count: usize,
     at: usize,
     cell: &[u8],
+    is_last: bool,
 ) -> Result<Put, Refusal>
     requires begun { (P.store pages.old).is_begun ≡ true }
     requires width { length cell.now ≡ layout.width }
@@ -96,6 +101,7 @@ fn insert_here<P: Pages, S: Summary>(
         0,
         1,
         cell,
+        is_last,
     )
 }
 
@@ -111,6 +117,7 @@ fn insert_under<P: Pages, S: Summary>(
     levels: u32,
     cell: &[u8],
     entries: &mut [u8; TWO_ENTRIES],
+    is_last: bool,
 ) -> Result<Put, Refusal>
     requires begun { (P.store pages.old).is_begun ≡ true }
     requires summary { layout.summary ≡ S.WIDTH }
@@ -134,12 +141,22 @@ fn insert_under<P: Pages, S: Summary>(
         → SamePages (P.store pages.new).map (P.store pages.old).map) }
 {
     let below = child(entry, layout);
-    let put = insert_below::<P, S>(pages, layout, below, levels - 1, cell, entries)?;
+    let below_last = is_last_below(is_last, count, at);
+    let put = insert_below::<P, S>(pages, layout, below, levels - 1, cell, entries, below_last)?;
     match put {
         Put::Found => Ok(Put::Found),
         Put::Kept => Ok(Put::Kept),
-        _ => write_above::<P, S>(pages, layout, number, count, at, entry, below, put, entries),
+        _ => write_above::<P, S>(
+            pages, layout, number, count, at, entry, below, put, entries, is_last,
+        ),
     }
+}
+
+/// Whether the page below the entry at this place of so many is the last of its level, where this one is or isn't.
+fn is_last_below(is_last: bool, count: usize, at: usize) -> bool
+    requires { at < count }
+{
+    is_last && at + 1 == count
 }
 
 /// Writes the entry of a page that a cell was put below into the page above, in the place of this one, and that of the page
@@ -154,6 +171,7 @@ fn write_above<P: Pages, S: Summary>(
     below: PageNumber,
     put: Put,
     entries: &mut [u8; TWO_ENTRIES],
+    is_last: bool,
 ) -> Result<Put, Refusal>
     requires begun { (P.store pages.old).is_begun ≡ true }
     requires summary { layout.summary ≡ S.WIDTH }
@@ -186,6 +204,7 @@ fn write_above<P: Pages, S: Summary>(
         1,
         more,
         &entries[..more * width],
+        is_last,
     )
 }
 

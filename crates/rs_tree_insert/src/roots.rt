@@ -60,7 +60,7 @@ pub fn insert<P: Pages, S: Summary>(
     }
     let _count = pages.count();
     let mut entries = [0; TWO_ENTRIES];
-    match insert_below::<P, S>(pages, layout, root, LEVELS, cell, &mut entries)? {
+    match insert_below::<P, S>(pages, layout, root, LEVELS, cell, &mut entries, true)? {
         Put::Found => Ok(Inserted { root, new: false }),
         Put::Placed => Ok(Inserted { root, new: true }),
         Put::Kept => Ok(Inserted { root, new: true }),

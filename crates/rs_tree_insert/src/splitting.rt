@@ -20,7 +20,7 @@ use rs_tree_page::{content, splice_page};
 const TWO_PAGES: usize = 2 * 4080;
 
 /// Puts records in the place of some of the page with this number, where they fit it no more: the first ones stay, and the
-/// others go into a new page.
+/// others go into a new page: half of them, unless the page is the last of its level.
 pub fn split_page<P: Pages>(
     pages: &mut P,
     number: PageNumber,
@@ -31,6 +31,7 @@ pub fn split_page<P: Pages>(
     removed: usize,
     more: usize,
     added: &[u8],
+    is_last: bool,
 ) -> Result<PageNumber, Refusal>
     requires begun { (P.store pages.old).is_begun ≡ true }
     requires wide { 0 < width }
@@ -49,7 +50,7 @@ pub fn split_page<P: Pages>(
 {
     let mut both = [0; TWO_PAGES];
     let total = count - removed + more;
-    let first = staying(at + more, total);
+    let first = staying(is_last, at + more, total);
     keep_first(
         pages, number, kind, width, count, at, removed, more, added, first, &mut both,
     )?;
@@ -57,14 +58,19 @@ pub fn split_page<P: Pages>(
     add_page(pages, kind, width, total - first, &both[end..total * width])
 }
 
-/// How many of so many records stay in a page that is split, where those that were added end here: half of them. Where the
-/// added ones are the last, all but two stay, so that what is added in order leaves full pages.
-fn staying(end: usize, total: usize) -> usize
+/// How many of so many records stay in a page that is split, where those that were added end here: half of them. In the last
+/// page of a level all but two stay where the added ones are the last, so that what is added in order leaves full pages. In any
+/// other page that would leave two records a page where cells come in falling order.
+fn staying(is_last: bool, end: usize, total: usize) -> usize
     requires { 4 ≤ total }
     ensures some { 2 ≤ result }
     ensures some_more { result + 2 ≤ total }
 {
-    if end == total { total - 2 } else { total / 2 }
+    if is_last && end == total {
+        total - 2
+    } else {
+        total / 2
+    }
 }
 
 /// Puts records in the place of some of the page with this number, where so many of the first stay. All of them come to the

@@ -14,7 +14,7 @@ use rs_pages::Pages;
 use rs_tree_edit::edit_page;
 
 /// Puts records in the place of some of the page with this number, one more than before at the most. Where they fit it no
-/// more, the last ones go into a new page, which is answered.
+/// more, the last ones go into a new page, which is answered: half of them, unless the page is the last of its level.
 pub fn put_records<P: Pages>(
     pages: &mut P,
     number: PageNumber,
@@ -25,6 +25,7 @@ pub fn put_records<P: Pages>(
     removed: usize,
     more: usize,
     added: &[u8],
+    is_last: bool,
 ) -> Result<Put, Refusal>
     requires begun { (P.store pages.old).is_begun ≡ true }
     requires wide { 0 < width }
@@ -45,6 +46,8 @@ pub fn put_records<P: Pages>(
         edit_page(pages, number, kind, width, count, at, removed, more, added)?;
         return Ok(Put::Placed);
     }
-    let other = split_page(pages, number, kind, width, count, at, removed, more, added)?;
+    let other = split_page(
+        pages, number, kind, width, count, at, removed, more, added, is_last,
+    )?;
     Ok(Put::Split(other))
 }

@@ -1,5 +1,5 @@
 -- Where no page is lent, none of a tree's has the number.
-use Rattle.std.proofs.Common.{◌≡◌, Result, Err, inl, inr, rules}
+use Rattle.std.proofs.Common.{Result, Err, inl, inr, rules}
 use Rattle.rs_measure.specs.declared.refusal.Refusal.{Refusal}
 use Rattle.rs_pages.specs.Lending.{RestsAfter}
 use Rattle.rs_tree_search.specs.Reading.{HasNoNode}

@@ -1,5 +1,5 @@
 -- What was read is a leaf or an inner page.
-use Rattle.std.proofs.Common.{◌≤◌, ◌*◌, subst}
+use Rattle.std.proofs.Common.{subst}
 use Rattle.rs_page.specs.declared.header.PageKind.TheVariants as kind
 use Rattle.rs_tree_page.specs.Layouts.{entry_bytes}
 use Rattle.rs_tree_page.specs.Node.{IsNode}

@@ -1,5 +1,4 @@
 -- The cell comes to the place where it belongs.
-use Rattle.std.proofs.Common.{◌≡◌}
 use Rattle.rs_records.specs.Records.{records}
 use Rattle.rs_tree.specs.Form.{joined}
 use Rattle.rs_tree_insert.proofs.Cells.{one_record}

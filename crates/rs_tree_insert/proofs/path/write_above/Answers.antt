@@ -1,5 +1,5 @@
 -- The entries first, then the page above.
-use Rattle.std.proofs.Common.{◌≡◌, ◌⊎◌, ◌+◌, ◌*◌, inr, refl, ap, ◌∙◌, subst, arith}
+use Rattle.std.proofs.Common.{◌≡◌, ◌⊎◌, ◌*◌, inr, refl, ap, ◌∙◌, subst, arith}
 use Rattle.rs_pages.proofs.Stores.{SamePages-refl}
 use Rattle.rs_records.specs.Records.{records}
 use Rattle.rs_tree.specs.Form.{Form, form_of, joined}
