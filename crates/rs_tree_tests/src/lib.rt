@@ -21,6 +21,8 @@ mod many_tests;
 #[cfg(test)]
 mod one_tree;
 #[cfg(test)]
+mod order_tests;
+#[cfg(test)]
 mod random_tests;
 #[cfg(test)]
 mod version_judge;
