@@ -60,7 +60,7 @@ pub fn split_page<P: Pages>(
 
 /// How many of so many records stay in a page that is split, where those that were added end here: half of them. In the last
 /// page of a level all but two stay where the added ones are the last, so that what is added in order leaves full pages. In any
-/// other page that would leave two records a page where cells come in falling order.
+/// other page that would leave two records in each where pairs of cells come in falling order.
 fn staying(is_last: bool, end: usize, total: usize) -> usize
     requires { 4 ≤ total }
     ensures some { 2 ≤ result }

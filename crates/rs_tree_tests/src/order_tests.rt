@@ -1,4 +1,4 @@
-//! Cells that come in rising and in falling order: how many pages they take.
+//! Cells that come in rising order and in falling pairs: how many pages they take.
 
 use crate::expect::expect;
 use crate::one_tree::OneTree;
@@ -8,7 +8,7 @@ use std::test::Fail;
 /// How many cells come in each order. A leaf has room for 145 of them.
 const CELLS: u32 = 10_000;
 
-/// Below this key are cells that are there before others come in falling order, so that a full leaf is before these.
+/// Below this key are cells that are there before others come in falling pairs, so that a full leaf is before these.
 const FIRST: u32 = 1_000;
 
 /// Inserts the cells of the keys below `end` in rising order, and answers how many pages the file has then.
@@ -20,11 +20,13 @@ fn insert_rising(tree: &mut OneTree, end: u32) -> Result<u32, Refusal> {
     Ok(pages)
 }
 
-/// Inserts the cells of the keys from `FIRST` on in falling order, and answers how many pages the file has then.
-fn insert_falling(tree: &mut OneTree) -> Result<u32, Refusal> {
-    for turn in 0..CELLS {
-        let key = CELLS.saturating_sub(turn).saturating_add(FIRST - 1);
+/// Inserts the cells of the keys from `FIRST` on, pair after pair in falling order, each pair in rising order. Answers how many
+/// pages the file has then.
+fn insert_falling_pairs(tree: &mut OneTree) -> Result<u32, Refusal> {
+    for turn in 0..CELLS / 2 {
+        let key = CELLS.saturating_sub(2 * turn).saturating_add(FIRST - 2);
         tree.insert(key)?;
+        tree.insert(key.saturating_add(1))?;
     }
     let (pages, _free) = tree.driver.pages();
     Ok(pages)
@@ -38,9 +40,9 @@ fn cells_in_rising_order_fill_their_pages(rt: HostRuntime) -> Result<(), Fail> {
 }
 
 #[test]
-fn cells_in_falling_order_fill_half_of_each(rt: HostRuntime) -> Result<(), Fail> {
+fn cells_in_falling_pairs_fill_half_of_each(rt: HostRuntime) -> Result<(), Fail> {
     let mut tree = OneTree::new(rt.alloc(), 28)?;
     insert_rising(&mut tree, FIRST)?;
-    let pages = insert_falling(&mut tree)?;
+    let pages = insert_falling_pairs(&mut tree)?;
     expect(pages < 160, "fewer pages than", 160)
 }
