@@ -8,8 +8,9 @@ use std::test::Fail;
 /// How many cells come in each order. A leaf has room for 145 of them.
 const CELLS: u32 = 10_000;
 
-/// Below this key are cells that are there before others come in falling pairs, so that a full leaf is before these.
-const FIRST: u32 = 1_000;
+/// Below this key are cells that are there before others come in falling pairs: seven leaves of 144, so that the first of a pair
+/// fills the leaf before them.
+const FIRST: u32 = 1_008;
 
 /// Inserts the cells of the keys below `end` in rising order, and answers how many pages the file has then.
 fn insert_rising(tree: &mut OneTree, end: u32) -> Result<u32, Refusal> {
