@@ -1,0 +1,2 @@
+mod Dying
+mod Indexed

@@ -2,9 +2,9 @@
 //! list of the events holds.
 
 use crate::expect::expect;
+use crate::plain_records::Kind;
 use crate::version_judge::{Change, VersionJudge};
 use crate::version_tests::keep;
-use rs_file_judge::Kind;
 use std::test::Fail;
 
 /// How many turns the events grow for, and how many there are.

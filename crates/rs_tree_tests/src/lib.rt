@@ -17,14 +17,24 @@ mod index_judge;
 #[cfg(test)]
 mod index_tests;
 #[cfg(test)]
+mod indexes;
+#[cfg(test)]
 mod many_tests;
 #[cfg(test)]
 mod one_tree;
 #[cfg(test)]
 mod order_tests;
 #[cfg(test)]
+mod plain_list;
+#[cfg(test)]
+mod plain_records;
+#[cfg(test)]
 mod random_tests;
+#[cfg(test)]
+mod reopening;
 #[cfg(test)]
 mod version_judge;
 #[cfg(test)]
 mod version_tests;
+#[cfg(test)]
+mod versioned_file;

@@ -1,0 +1,388 @@
+//! A table of events with its indexes and one of referents in pages of one file, over a disk in memory.
+//!
+//! Changes are begun, made, and then kept or abandoned. A call that is not in its turn is refused as wrong values.
+
+ghost use Rattle.std.specs.Prelude.{◌≡◌, ◌<◌, ◌≤◌, [], ◌∷◌, IfOk};
+ghost use Rattle.std.specs.List.{AllByRecursion};
+ghost use Rattle.std.proofs.Props.{props};
+ghost use Rattle.rs_attr.specs.Tables.{AreOn};
+ghost use Rattle.rs_value.specs.declared.column.ColumnType.TheVariants.{Int, Text};
+ghost use Rattle.rs_value.specs.Values.{IsRowOf, IsValue};
+ghost use Rattle.rs_value.specs.View.{datum_of, row_of};
+ghost use Rattle.rs_versions.specs.Version.{died_of};
+
+use crate::indexes::{clear_each, end_each, reopen_each, value_of};
+use crate::plain_list::Search;
+use crate::plain_records::{Kind, LIVES, PlainRecord, name_text, row_of};
+use crate::reopening::{Told, opened};
+use arrayvec::ArrayString;
+use rs_attr::{AttrIndex, define};
+use rs_disk::MemoryDisk;
+use rs_facts::fact::Span;
+use rs_interval::GreatestEnd;
+use rs_measure::{Measure, Refusal};
+use rs_methods::Referent;
+use rs_page::PageNumber;
+use rs_pager::Pager;
+use rs_pages::Pages;
+use rs_reached::Reached;
+use rs_records::Cells;
+use rs_tree::NoSummary;
+use rs_value::{ColumnType, Schema, Tuple, Value, decode, said_row_is_of_its_columns};
+use rs_versioned::{EventTable, ReferentTable};
+use rs_versions::is_living;
+use std::alloc::Global;
+
+/// The bytes of an event's cell whose row is a number and a text of at most eight bytes.
+pub const EVENT_WIDTH: usize = 46;
+
+/// The bytes of a referent's cell.
+pub const REFERENT_WIDTH: usize = 56;
+
+/// A pager, the tables, and the version whose turn it is.
+#[derive(Drop)]
+pub struct VersionedFile {
+    pager: Pager<MemoryDisk>,
+    events: EventTable,
+    referents: ReferentTable,
+    /// The index of the first column, and then that of the second, as far as they are defined.
+    indexes: Vec<AttrIndex>,
+    /// How many indexes were kept last.
+    kept_indexes: usize,
+    version: u64,
+    /// The version that was kept last.
+    kept: u64,
+    is_begun: bool,
+    ghost begun: { is_begun ≡ pager.is_begun },
+    ghost columns: { events.types ≡ Int ∷ Text 8 ∷ [] },
+    ghost indexed: { AreOn (Int ∷ Text 8 ∷ []) indexes.items } by { Prim.hlevel props },
+    ghost events_died: { AllByRecursion (λ dead. died_of dead ≤ version) events.working.dead } by { Prim.hlevel props },
+    ghost events_kept: { AllByRecursion (λ dead. died_of dead ≤ kept) events.committed.dead } by { Prim.hlevel props },
+    ghost referents_died: { AllByRecursion (λ dead. died_of dead ≤ version) referents.working.dead } by { Prim.hlevel props },
+    ghost referents_kept: { AllByRecursion (λ dead. died_of dead ≤ kept) referents.committed.dead } by { Prim.hlevel props },
+}
+
+/// A number, and a text of at most eight bytes.
+pub(crate) fn columns() -> Schema
+    ensures { result.items ≡ Int ∷ Text 8 ∷ [] }
+{
+    let mut schema = Schema::new();
+    schema.push(ColumnType::Int);
+    schema.push(ColumnType::Text(8));
+    schema
+}
+
+/// The row that bytes say, along the span of an event.
+pub fn span_of(
+    alloc: Global,
+    schema: &Schema,
+    bytes: &[u8],
+    lo: u32,
+    hi: u32,
+) -> Result<Span, Refusal>
+    ensures { IfOk result (λ span. IsRowOf schema.now.items (row_of span.tuple.value)) }
+{
+    said_row_is_of_its_columns();
+    let Some(tuple) = decode(schema, bytes) else {
+        return Err(Refusal::WrongValues);
+    };
+    match Box::new(alloc, tuple) {
+        Ok(tuple) => Ok(Span { lo, hi, tuple }),
+        Err(_) => Err(Refusal::OutOfMemory),
+    }
+}
+
+/// The referent of a record.
+fn referent_of(record: &PlainRecord) -> Referent
+    ensures { AllByRecursion (λ byte. 0 < byte) result.name.bytes }
+{
+    let name = match ArrayString::from(name_text(record.text)) {
+        Ok(name) => name,
+        Err(_) => ArrayString::new(),
+    };
+    Referent {
+        route: record.route,
+        name,
+        measure: Measure::from_thousandths(record.value.min(999_999_999)),
+    }
+}
+
+impl VersionedFile {
+    /// No records, and version 0.
+    pub fn create(alloc: Global) -> Result<VersionedFile, Refusal> {
+        match Pager::create(alloc, MemoryDisk::new(alloc), 10_000) {
+            Ok(pager) => Ok(VersionedFile {
+                pager,
+                events: EventTable::new(alloc, columns()),
+                referents: ReferentTable::new(alloc),
+                indexes: Vec::new(alloc),
+                kept_indexes: 0,
+                version: 0,
+                kept: 0,
+                is_begun: false,
+            }),
+            Err((_, refusal)) => Err(refusal),
+        }
+    }
+
+    /// The version whose turn it is.
+    pub fn version(&self) -> u64 {
+        self.version
+    }
+
+    /// Begins the turn of the next version.
+    #[tactic(auto, using(crate::proofs::Dying::died_later))]
+    pub fn begin(&mut self) -> Result<(), Refusal> {
+        if self.is_begun {
+            return Err(Refusal::WrongValues);
+        }
+        self.pager.begin()?;
+        self.is_begun = true;
+        self.version = self.version.saturating_add(1);
+        Ok(())
+    }
+
+    /// Keeps what was changed, or takes it back, its version too.
+    #[tactic(auto, using(crate::proofs::Indexed::first_of))]
+    pub fn end(&mut self, is_kept: bool) {
+        if !self.is_begun {
+            return;
+        }
+        self.is_begun = false;
+        if is_kept {
+            self.pager.commit();
+            self.events.commit();
+            self.referents.commit();
+            self.kept_indexes = self.indexes.len();
+            self.kept = self.version;
+        } else {
+            self.pager.abandon();
+            self.events.abandon();
+            self.referents.abandon();
+            self.indexes.truncate(self.kept_indexes);
+            self.version = self.kept;
+        }
+        end_each(&mut self.indexes, is_kept);
+    }
+
+    /// Defines the index of the next column. It reads the events in parts, which begin on these routes.
+    #[tactic(auto, using(crate::proofs::Indexed::more_of, crate::proofs::Indexed::columns_fit))]
+    pub fn define(&mut self, alloc: Global, routes: &[u32]) -> Result<(), Refusal> {
+        let column = self.indexes.len();
+        if !self.is_begun || column > 1 {
+            return Err(Refusal::WrongValues);
+        }
+        let index = define(alloc, &mut self.pager, &self.events, column, routes)?;
+        match self.indexes.push(index) {
+            Ok(()) => Ok(()),
+            Err(_) => Err(Refusal::OutOfMemory),
+        }
+    }
+
+    /// As `add` of the table, and of events in their indexes too.
+    pub fn add(
+        &mut self,
+        alloc: Global,
+        kind: Kind,
+        record: &PlainRecord,
+    ) -> Result<bool, Refusal> {
+        if !self.is_begun {
+            return Err(Refusal::WrongValues);
+        }
+        if kind == Kind::Referents {
+            let referent = referent_of(record);
+            return self
+                .referents
+                .add(alloc, &mut self.pager, self.version, &referent);
+        }
+        let row = record.row(alloc).map_err(|_| Refusal::OutOfMemory)?;
+        let span = span_of(alloc, self.events.schema(), &row, record.low, record.value)?;
+        rs_attr::add(
+            alloc,
+            &mut self.pager,
+            &mut self.events,
+            &mut self.indexes,
+            self.version,
+            record.route,
+            &span,
+        )
+    }
+
+    /// As `kill` of the table, and of events in their indexes too.
+    pub fn kill(&mut self, alloc: Global, kind: Kind, cell: &[u8]) -> Result<bool, Refusal> {
+        let width = if kind == Kind::Events {
+            EVENT_WIDTH
+        } else {
+            REFERENT_WIDTH
+        };
+        if !self.is_begun || self.version == LIVES || cell.len() != width || !is_living(cell) {
+            return Err(Refusal::WrongValues);
+        }
+        if kind == Kind::Events {
+            rs_attr::kill(
+                alloc,
+                &mut self.pager,
+                &mut self.events,
+                &mut self.indexes,
+                self.version,
+                cell,
+            )
+        } else {
+            self.referents.kill(&mut self.pager, self.version, cell)
+        }
+    }
+
+    /// As `vacuum` of the table, and of events in their indexes too.
+    pub fn vacuum(
+        &mut self,
+        alloc: Global,
+        kind: Kind,
+        oldest: u64,
+        most: usize,
+    ) -> Result<Cells, Refusal> {
+        if !self.is_begun {
+            return Err(Refusal::WrongValues);
+        }
+        if kind == Kind::Events {
+            rs_attr::vacuum(
+                alloc,
+                &mut self.pager,
+                &mut self.events,
+                &mut self.indexes,
+                oldest,
+                most,
+            )
+        } else {
+            self.referents.vacuum(alloc, &mut self.pager, oldest, most)
+        }
+    }
+
+    /// As `clear` of the table, and of events in their indexes too.
+    #[tactic(auto, using(crate::proofs::Indexed::written))]
+    pub fn clear(&mut self, kind: Kind) -> Result<(), Refusal> {
+        if !self.is_begun {
+            return Err(Refusal::WrongValues);
+        }
+        if kind == Kind::Events {
+            self.events.clear(&mut self.pager)?;
+            clear_each(&mut self.pager, &mut self.indexes)
+        } else {
+            self.referents.clear(&mut self.pager)
+        }
+    }
+
+    /// As `visible` of the table.
+    pub fn visible(&mut self, alloc: Global, search: Search) -> Result<Cells, Refusal> {
+        let Search {
+            kind,
+            version,
+            route,
+            a,
+            b,
+        } = search;
+        if kind == Kind::Events {
+            return self
+                .events
+                .visible(alloc, &mut self.pager, version, route, a, b);
+        }
+        self.referents
+            .visible(alloc, &mut self.pager, version, route.min(1_000))
+    }
+
+    /// As `equal` of the column's index, for this one of the values that plain records have in the column.
+    pub fn equal(
+        &mut self,
+        alloc: Global,
+        column: usize,
+        value: u32,
+        version: u64,
+    ) -> Result<(Cells, u32), Refusal> {
+        let row = row_of(alloc, value, value).map_err(|_| Refusal::OutOfMemory)?;
+        let span = span_of(alloc, self.events.schema(), &row, 0, 1)?;
+        let value = value_of(&span.tuple, column)?;
+        self.equal_to(alloc, column, &value, version)
+    }
+
+    /// As `equal` of the column's index.
+    pub fn equal_to(
+        &mut self,
+        alloc: Global,
+        column: usize,
+        value: &Value,
+        version: u64,
+    ) -> Result<(Cells, u32), Refusal>
+        requires { IsValue (datum_of value.now) }
+    {
+        match self.indexes.get(column) {
+            Some(index) => index.equal(alloc, &mut self.pager, value, version),
+            None => Err(Refusal::WrongValues),
+        }
+    }
+
+    /// How many entries the column's index has, as `validate` counts them.
+    pub fn entries(&mut self, alloc: Global, column: usize) -> Result<u64, Refusal> {
+        let Ok(mut reached) = Reached::new(alloc, self.pager.count()) else {
+            return Err(Refusal::OutOfMemory);
+        };
+        match self.indexes.get(column) {
+            Some(index) => index.validate(&mut self.pager, &mut reached),
+            None => Err(Refusal::WrongValues),
+        }
+    }
+
+    /// How many records of the table live, and how many are dead and not cleared.
+    pub fn counts(&self, kind: Kind) -> (u64, u64) {
+        if kind == Kind::Events {
+            (self.events.living(), self.events.garbage())
+        } else {
+            (self.referents.living(), self.referents.garbage())
+        }
+    }
+
+    /// Looks at a table anew, and at its indexes, which is as it is told then. Nothing may be begun.
+    pub fn reopen(&mut self, alloc: Global, kind: Kind, told: Told) -> Result<(), Refusal> {
+        if told.version > self.version || told.version > self.kept {
+            return Err(Refusal::WrongValues);
+        }
+        if kind == Kind::Events {
+            let root = self.events.root();
+            self.events = reopened_events(alloc, &mut self.pager, root, told)?;
+            reopen_each(&mut self.indexes);
+        } else {
+            let root = self.referents.root();
+            self.referents = reopened_referents(alloc, &mut self.pager, root, told)?;
+        }
+        Ok(())
+    }
+}
+
+/// The events that lie in the tree with this root, as they are told.
+fn reopened_events(
+    alloc: Global,
+    pager: &mut Pager<MemoryDisk>,
+    root: PageNumber,
+    told: Told,
+) -> Result<EventTable, Refusal>
+    ensures begun { pager.new.is_begun ≡ pager.old.is_begun }
+    ensures columns { IfOk result (λ table. table.types ≡ Int ∷ Text 8 ∷ []) }
+    ensures died { IfOk result (λ table. AllByRecursion (λ dead. died_of dead ≤ told.version) table.working.dead) }
+    ensures kept { IfOk result (λ table. AllByRecursion (λ dead. died_of dead ≤ told.version) table.committed.dead) }
+{
+    let versions = opened::<GreatestEnd>(alloc, pager, EVENT_WIDTH, root, told)?;
+    Ok(EventTable::with(columns(), versions))
+}
+
+/// The referents that lie in the tree with this root, as they are told.
+fn reopened_referents(
+    alloc: Global,
+    pager: &mut Pager<MemoryDisk>,
+    root: PageNumber,
+    told: Told,
+) -> Result<ReferentTable, Refusal>
+    ensures begun { pager.new.is_begun ≡ pager.old.is_begun }
+    ensures died { IfOk result (λ table. AllByRecursion (λ dead. died_of dead ≤ told.version) table.working.dead) }
+    ensures kept { IfOk result (λ table. AllByRecursion (λ dead. died_of dead ≤ told.version) table.committed.dead) }
+{
+    let versions = opened::<NoSummary>(alloc, pager, REFERENT_WIDTH, root, told)?;
+    Ok(ReferentTable::with(versions))
+}
