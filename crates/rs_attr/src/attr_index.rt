@@ -3,7 +3,7 @@
 //! Changes are made together or not at all: `commit` keeps them, `abandon` takes them back, and neither takes memory. The
 //! pages are to be committed or abandoned with them.
 
-ghost use Rattle.std.specs.Prelude.{◌≡◌, ◌⊎◌, ◌↔◌, ◌<◌, ◌≤◌, ℕ, List, [], Contains, Err, IfOk, IfErr, IsTrue, OnOk, OnErr, length, true};
+ghost use Rattle.std.specs.Prelude.{◌≡◌, ◌≢◌, ◌⊎◌, ◌↔◌, ◌<◌, ◌≤◌, ℕ, List, [], Contains, Err, IfOk, IfErr, IsTrue, OnOk, OnErr, length, true};
 ghost use Rattle.rs_attr.specs.Entries.{ChangesIndex, FitsPages, HoldsNoIndex, IsColumn, entry_of, index_form};
 ghost use Rattle.rs_attr.specs.Finding.{FindsEqual};
 ghost use Rattle.rs_attr.specs.Opening.{HasSoMany};
@@ -204,6 +204,7 @@ impl AttrIndex {
         ensures works { WorksAfter (P.is_tied pages.old
             → HoldsNoIndex self.old.field (P.store pages.old).map self.old.working)
             result (P.store pages.old) (P.store pages.new) }
+        ensures room { result ≢ Err Refusal.FileFull }
         ensures taken { P.is_tied pages.old → OnOk result (ChangesIndex self.old.field
             (P.store pages.old).map (P.store pages.new).map self.old.working self.new.working
             (without_cell cell.now)) }
@@ -225,6 +226,7 @@ impl AttrIndex {
         ensures works { WorksAfter (P.is_tied pages.old
             → HoldsNoIndex self.old.field (P.store pages.old).map self.old.working)
             result (P.store pages.old) (P.store pages.new) }
+        ensures room { result ≢ Err Refusal.FileFull }
         ensures cleared { P.is_tied pages.old → OnOk result (ChangesIndex self.old.field
             (P.store pages.old).map (P.store pages.new).map self.old.working self.new.working (λ _. [])) }
         ensures empty { OnOk result (self.new.working ≡ 0) }

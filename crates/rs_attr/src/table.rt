@@ -3,7 +3,7 @@
 //! Each changes the table and then each index in turn. After a refusal some of them may have changed: they and the working
 //! pages are to be abandoned.
 
-ghost use Rattle.std.specs.Prelude.{◌≡◌, ◌<◌, ◌≤◌, ◌↔◌, ℕ, List, Contains, IsTrue, IfOk, IsOkUnless, OnOk, count_by, length, false, min, nat_le, true};
+ghost use Rattle.std.specs.Prelude.{◌≡◌, ◌≢◌, ◌<◌, ◌≤◌, ◌↔◌, ℕ, List, Contains, IsTrue, IfOk, IsOkUnless, OnOk, count_by, length, false, min, nat_le, true, Err};
 ghost use Rattle.std.specs.List.{AllByRecursion};
 ghost use Rattle.rs_attr.specs.Steps.{ChangeIndexes, HoldNoIndexes};
 ghost use Rattle.rs_attr.specs.Tables.{AreOn, ChangesTable, HoldsNoTable, kept_parts};
@@ -119,7 +119,7 @@ pub fn kill<P: Pages>(
 }
 
 /// Takes out events that no version from `oldest` on sees, those that died first before the others, at most so many, of the
-/// table and its indexes, and answers their cells. It is refused as `add` is.
+/// table and its indexes, and answers their cells. No page is needed: it is refused as `add` is, but for 92.
 pub fn vacuum<P: Pages>(
     alloc: Global,
     pages: &mut P,
@@ -133,6 +133,7 @@ pub fn vacuum<P: Pages>(
     ensures keeps { P.keeps pages.old pages.new }
     ensures works { WorksAfter (P.is_tied pages.old → HoldsNoTable table.old.types (P.store pages.old).map table.old.working indexes.old)
         result (P.store pages.old) (P.store pages.new) }
+    ensures room { result ≢ Err Refusal.FileFull }
     ensures taken { IfOk result (λ taken. listed taken ≡ cleared oldest most table.old.working.dead) }
     ensures taken_width { IfOk result (λ taken. record_width taken ≡ event_width table.old.types) }
     ensures vacuumed { P.is_tied pages.old → IfOk result (λ taken. (accepted : ℕ) → ChangesTable
@@ -188,6 +189,7 @@ fn take_out_of_each<P: Pages>(
     ensures keeps { P.keeps pages.old pages.new }
     ensures works { WorksAfter (P.is_tied pages.old → HoldNoIndexes (P.store pages.old).map indexes.old (length cell.now))
         result (P.store pages.old) (P.store pages.new) }
+    ensures room { result ≢ Err Refusal.FileFull }
     ensures taken { P.is_tied pages.old → OnOk result (ChangeIndexes (P.store pages.old).map (P.store pages.new).map
         indexes.old indexes.new (length cell.now) (without_cell cell.now)) }
     ensures kept { kept_parts indexes.new ≡ kept_parts indexes.old }

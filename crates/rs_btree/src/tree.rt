@@ -2,7 +2,7 @@
 //!
 //! The calls that only read leave all pages as they are.
 
-ghost use Rattle.std.specs.Prelude.{◌≡◌, ◌⊎◌, ◌↔◌, ◌<◌, ◌≤◌, ◌+◌, ◌*◌, ℕ, Bool, IsTrue, Contains, List, [], IfOk, IfErr, OnOk, OnErr, Err, true, false, length};
+ghost use Rattle.std.specs.Prelude.{◌≡◌, ◌≢◌, ◌⊎◌, ◌↔◌, ◌<◌, ◌≤◌, ◌+◌, ◌*◌, ℕ, Bool, IsTrue, Contains, List, [], IfOk, IfErr, OnOk, OnErr, Err, true, false, length};
 ghost use Rattle.std.specs.Fn.{FnReturnsAt};
 ghost use Rattle.rs_owners.specs.Changes.{WorksAfter};
 ghost use Rattle.rs_owners.specs.Counts.{◌&◌, no_pages};
@@ -184,6 +184,7 @@ impl<S: Summary> Tree<S> {
         ensures works { WorksAfter (P.is_tied pages.old → IsNotShared
             (form_of S.says S.unit S.join S.of S.WIDTH self.old.width) (P.store pages.old).map self.old.root)
             result (P.store pages.old) (P.store pages.new) }
+        ensures room { result ≢ Err Refusal.FileFull }
         ensures removed { P.is_tied pages.old → OnOk result (Changes
             (form_of S.says S.unit S.join S.of S.WIDTH self.old.width) (P.store pages.old).map (P.store pages.new).map
             self.old.root self.new.root (without_cell cell.now)) }
@@ -235,6 +236,7 @@ impl<S: Summary> Tree<S> {
         ensures works { WorksAfter (P.is_tied pages.old → IsNotShared
             (form_of S.says S.unit S.join S.of S.WIDTH self.old.width) (P.store pages.old).map self.old.root)
             result (P.store pages.old) (P.store pages.new) }
+        ensures room { result ≢ Err Refusal.FileFull }
         ensures cleared { P.is_tied pages.old → OnOk result (Changes
             (form_of S.says S.unit S.join S.of S.WIDTH self.old.width) (P.store pages.old).map (P.store pages.new).map
             self.old.root self.new.root (λ _. [])) }

@@ -2,7 +2,7 @@
 //!
 //! It goes down so many levels at the most and reads so many pages, so that it ends on pages that are no tree.
 
-ghost use Rattle.std.specs.Prelude.{◌≡◌, ◌<◌, ◌≤◌, ◌*◌, ℕ, true, List, OnOk, length};
+ghost use Rattle.std.specs.Prelude.{◌≡◌, ◌≢◌, ◌<◌, ◌≤◌, ◌*◌, ℕ, true, List, Err, OnOk, length};
 ghost use Rattle.rs_owners.specs.Changes.{WorksAfter};
 ghost use Rattle.rs_owners.specs.Counts.{no_pages};
 ghost use Rattle.rs_owners.specs.Owners.{Moves};
@@ -34,6 +34,7 @@ pub fn clear<P: Pages, S: Summary>(
     ensures works { WorksAfter
         (P.is_tied pages.old → IsNotShared (form_of S.says S.unit S.join S.of layout.summary layout.width) (P.store pages.old).map root)
         result (P.store pages.old) (P.store pages.new) }
+    ensures room { result ≢ Err Refusal.FileFull }
     ensures cleared { P.is_tied pages.old → OnOk result ((cells : List (List ℕ)) (used : ℕ → ℕ)
         → IsTree (form_of S.says S.unit S.join S.of layout.summary layout.width) (P.store pages.old).map root cells used
         → Moves (P.store pages.old).map (P.store pages.new).map used no_pages) }
@@ -60,6 +61,7 @@ fn clear_part<P: Pages, S: Summary>(
         (P.is_tied pages.old → HasNoOwnPart (form_of S.says S.unit S.join S.of layout.summary layout.width)
         (P.store pages.old).map number levels left.old)
         result (P.store pages.old) (P.store pages.new) }
+    ensures room { result ≢ Err Refusal.FileFull }
     ensures clears { OnOk result (P.is_tied pages.old → ClearsPart
         (form_of S.says S.unit S.join S.of layout.summary layout.width) (P.store pages.old).map (P.store pages.new).map number
         left.old left.new) }
@@ -95,6 +97,7 @@ fn clear_entries<P: Pages, S: Summary>(
         (P.is_tied pages.old → HasNoOwnParts (form_of S.says S.unit S.join S.of layout.summary layout.width)
         (P.store pages.old).map page.now.bytes count levels left.old)
         result (P.store pages.old) (P.store pages.new) }
+    ensures room { result ≢ Err Refusal.FileFull }
     ensures clears { OnOk result (P.is_tied pages.old → ClearsEntries
         (form_of S.says S.unit S.join S.of layout.summary layout.width) (P.store pages.old).map (P.store pages.new).map
         page.now.bytes count left.old left.new) }

@@ -1,6 +1,6 @@
 //! Records of a working page put in the place of others.
 
-ghost use Rattle.std.specs.Prelude.{◌≡◌, ◌≤◌, ◌<◌, ◌+◌, ◌-◌, ◌*◌, None, true, IfErr, OnOk, length};
+ghost use Rattle.std.specs.Prelude.{◌≡◌, ◌≢◌, ◌≤◌, ◌<◌, ◌+◌, ◌-◌, ◌*◌, None, true, IfErr, OnOk, length, Err};
 ghost use Rattle.rs_owners.specs.Changes.{WorksAfter};
 ghost use Rattle.rs_page.specs.Header.{page_kind};
 ghost use Rattle.rs_pages.specs.PageMap.{HasNoFit};
@@ -37,6 +37,7 @@ pub fn edit_page<P: Pages>(
     ensures keeps { P.keeps pages.old pages.new }
     ensures works { WorksAfter (P.is_tied pages.old → HasNoFit (P.store pages.old).map number) result
         (P.store pages.old) (P.store pages.new) }
+    ensures room { result ≢ Err Refusal.FileFull }
     ensures edited { P.is_tied pages.old → OnOk result (Splices (P.store pages.old).map (P.store pages.new).map number
         (page_kind kind) width count at removed (records more width added.now)) }
     ensures copied { IfErr result (λ _. HoldsUsed (P.store pages.old) number

@@ -1,6 +1,6 @@
 //! Entries of inner pages, written anew from the pages that they say.
 
-ghost use Rattle.std.specs.Prelude.{◌≡◌, OnOk, OnErr, IsOkUnless, length};
+ghost use Rattle.std.specs.Prelude.{◌≡◌, ◌≢◌, OnOk, OnErr, IsOkUnless, length, Err};
 ghost use Rattle.rs_owners.specs.Changes.{WorksAfter};
 ghost use Rattle.rs_pages.specs.Lending.{RestsAfter};
 ghost use Rattle.rs_tree.specs.Form.{form_of};
@@ -30,6 +30,7 @@ pub fn write_entry_of<P: Pages, S: Summary>(
     ensures rests { RestsAfter P.is_tied P.store P.keeps result pages.old pages.new }
     ensures works { WorksAfter (P.is_tied pages.old → HasNoNode (P.store pages.old).map number layout) result
         (P.store pages.old) (P.store pages.new) }
+    ensures room { result ≢ Err Refusal.FileFull }
     ensures says { P.is_tied pages.old → OnOk result
         (SaysPart (form_of S.says S.unit S.join S.of layout.summary layout.width) (P.store pages.old).map number entry.new) }
 {

@@ -1,6 +1,6 @@
 //! One page of a tree, read by itself.
 
-ghost use Rattle.std.specs.Prelude.{IfOk};
+ghost use Rattle.std.specs.Prelude.{◌≢◌, IfOk, Err};
 ghost use Rattle.rs_owners.specs.Changes.{WorksAfter};
 ghost use Rattle.rs_pages.specs.Lending.{RestsAfter};
 ghost use Rattle.rs_tree_search.specs.Reading.{HasNoNode, IsLoaded};
@@ -21,6 +21,7 @@ pub fn read_part<P: Pages>(
     ensures rests { RestsAfter P.is_tied P.store P.keeps result pages.old pages.new }
     ensures works { WorksAfter (P.is_tied pages.old → HasNoNode (P.store pages.old).map number layout) result
         (P.store pages.old) (P.store pages.new) }
+    ensures room { result ≢ Err Refusal.FileFull }
     ensures loaded { IfOk result (IsLoaded (P.is_tied pages.old) (P.store pages.old).map number layout) }
 {
     let mut left = 1;
@@ -37,6 +38,7 @@ pub fn read_into<P: Pages>(
     ensures rests { RestsAfter P.is_tied P.store P.keeps result pages.old pages.new }
     ensures works { WorksAfter (P.is_tied pages.old → HasNoNode (P.store pages.old).map number layout) result
         (P.store pages.old) (P.store pages.new) }
+    ensures room { result ≢ Err Refusal.FileFull }
     ensures loaded { IfOk result (λ node. IsLoaded (P.is_tied pages.old) (P.store pages.old).map number layout
         (record { page = copy.new; node = node })) }
 {

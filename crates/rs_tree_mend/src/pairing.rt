@@ -1,6 +1,6 @@
 //! The page with one part left and its neighbour: one takes in what is below the other, or both have two parts at least.
 
-ghost use Rattle.std.specs.Prelude.{◌≡◌, ◌≤◌, ◌<◌, ◌+◌, ◌*◌, true, IfOk};
+ghost use Rattle.std.specs.Prelude.{◌≡◌, ◌≢◌, ◌≤◌, ◌<◌, ◌+◌, ◌*◌, true, IfOk, Err};
 ghost use Rattle.rs_owners.specs.Changes.{WorksAfter};
 ghost use Rattle.rs_tree.specs.Form.{form_of};
 ghost use Rattle.rs_tree_page.specs.Layouts.{entry_bytes};
@@ -37,6 +37,7 @@ pub fn mend<P: Pages, S: Summary>(
     ensures keeps { P.keeps pages.old pages.new }
     ensures works { WorksAfter (P.is_tied pages.old → NoneLonely (form_of S.says S.unit S.join S.of layout.summary layout.width)
         (P.store pages.old).map number page.now.bytes index lonely only) result (P.store pages.old) (P.store pages.new) }
+    ensures room { result ≢ Err Refusal.FileFull }
     ensures mends { P.is_tied pages.old → IfOk result (Mends
         (form_of S.says S.unit S.join S.of layout.summary layout.width) (P.store pages.old).map (P.store pages.new).map number
         page.now.bytes index lonely only) }
@@ -88,6 +89,7 @@ fn even<P: Pages, S: Summary>(
     ensures works { WorksAfter (P.is_tied pages.old → NonePairs (form_of S.says S.unit S.join S.of layout.summary layout.width)
         (P.store pages.old).map number page.now.bytes count at is_first lonely only other near.now.bytes size) result
         (P.store pages.old) (P.store pages.new) }
+    ensures room { result ≢ Err Refusal.FileFull }
     ensures pairs { P.is_tied pages.old → IfOk result (Pairs
         (form_of S.says S.unit S.join S.of layout.summary layout.width) (P.store pages.old).map (P.store pages.new).map number
         page.now.bytes count at is_first lonely only other near.now.bytes size) }
@@ -125,6 +127,7 @@ fn join<P: Pages, S: Summary>(
     ensures works { WorksAfter (P.is_tied pages.old → NonePairs (form_of S.says S.unit S.join S.of layout.summary layout.width)
         (P.store pages.old).map number page.now.bytes count at is_first lonely only other near.now.bytes 2) result
         (P.store pages.old) (P.store pages.new) }
+    ensures room { result ≢ Err Refusal.FileFull }
     ensures pairs { P.is_tied pages.old → IfOk result (Pairs
         (form_of S.says S.unit S.join S.of layout.summary layout.width) (P.store pages.old).map (P.store pages.new).map number
         page.now.bytes count at is_first lonely only other near.now.bytes 2) }
@@ -161,6 +164,7 @@ fn share<P: Pages, S: Summary>(
     ensures works { WorksAfter (P.is_tied pages.old → NonePairs (form_of S.says S.unit S.join S.of layout.summary layout.width)
         (P.store pages.old).map number page.now.bytes count at is_first lonely only other near.now.bytes size) result
         (P.store pages.old) (P.store pages.new) }
+    ensures room { result ≢ Err Refusal.FileFull }
     ensures pairs { P.is_tied pages.old → IfOk result (Pairs
         (form_of S.says S.unit S.join S.of layout.summary layout.width) (P.store pages.old).map (P.store pages.new).map number
         page.now.bytes count at is_first lonely only other near.now.bytes size) }

@@ -1,6 +1,6 @@
 //! The path of a cell: down to its leaf, and up again.
 
-ghost use Rattle.std.specs.Prelude.{◌≡◌, ◌≤◌, ◌<◌, Some, true, IfOk};
+ghost use Rattle.std.specs.Prelude.{◌≡◌, ◌≢◌, ◌≤◌, ◌<◌, Some, true, IfOk, Err};
 ghost use Rattle.rs_owners.specs.Changes.{WorksAfter};
 ghost use Rattle.rs_tree.specs.Form.{form_of};
 ghost use Rattle.rs_tree_page.specs.Node.{IsNode};
@@ -34,6 +34,7 @@ pub fn remove_below<P: Pages, S: Summary>(
     ensures works { WorksAfter (P.is_tied pages.old
         → HasNoOwnPart (form_of S.says S.unit S.join S.of layout.summary layout.width) (P.store pages.old).map number levels)
         result (P.store pages.old) (P.store pages.new) }
+    ensures room { result ≢ Err Refusal.FileFull }
     ensures removed { P.is_tied pages.old → IfOk result (RemovesPart
         (form_of S.says S.unit S.join S.of layout.summary layout.width) (P.store pages.old).map (P.store pages.new).map number
         cell.now) }
@@ -71,6 +72,7 @@ fn remove_under<P: Pages, S: Summary>(
     ensures works { WorksAfter (P.is_tied pages.old → (P.store pages.old).map.page number ≡ Some page.now.bytes
         → HasNoOwnPart (form_of S.says S.unit S.join S.of layout.summary layout.width) (P.store pages.old).map number levels)
         result (P.store pages.old) (P.store pages.new) }
+    ensures room { result ≢ Err Refusal.FileFull }
     ensures removed { P.is_tied pages.old → (P.store pages.old).map.page number ≡ Some page.now.bytes → IfOk result (RemovesPart
         (form_of S.says S.unit S.join S.of layout.summary layout.width) (P.store pages.old).map (P.store pages.new).map number
         cell.now) }

@@ -1,6 +1,6 @@
 //! A cell taken out of a whole tree, from its root.
 
-ghost use Rattle.std.specs.Prelude.{◌≡◌, ◌↔◌, ℕ, true, List, Contains, IsTrue, IfOk};
+ghost use Rattle.std.specs.Prelude.{◌≡◌, ◌≢◌, ◌↔◌, ℕ, true, List, Contains, IsTrue, IfOk, Err};
 ghost use Rattle.rs_owners.specs.Changes.{WorksAfter};
 ghost use Rattle.rs_owners.specs.Counts.{◌&◌};
 ghost use Rattle.rs_owners.specs.Owners.{Shares};
@@ -33,6 +33,7 @@ pub fn remove<P: Pages, S: Summary>(
     ensures works { WorksAfter (P.is_tied pages.old
         → IsNotShared (form_of S.says S.unit S.join S.of layout.summary layout.width) (P.store pages.old).map root)
         result (P.store pages.old) (P.store pages.new) }
+    ensures room { result ≢ Err Refusal.FileFull }
     ensures removed { P.is_tied pages.old → IfOk result (λ answer.
         Changes (form_of S.says S.unit S.join S.of layout.summary layout.width) (P.store pages.old).map (P.store pages.new).map
         root answer.0 (without_cell cell.now)) }

@@ -1,6 +1,6 @@
 //! An inner page whose parts gave way to fewer, or to others.
 
-ghost use Rattle.std.specs.Prelude.{◌≡◌, ◌≤◌, ◌<◌, ◌+◌, ◌-◌, ◌*◌, true, [], ◌∷◌, IfOk, OnOk, length};
+ghost use Rattle.std.specs.Prelude.{◌≡◌, ◌≢◌, ◌≤◌, ◌<◌, ◌+◌, ◌-◌, ◌*◌, true, [], ◌∷◌, IfOk, OnOk, length, Err};
 ghost use Rattle.rs_owners.specs.Changes.{WorksAfter};
 ghost use Rattle.rs_tree.specs.Form.{form_of};
 ghost use Rattle.rs_tree_page.specs.Layouts.{entry_bytes};
@@ -33,6 +33,7 @@ pub fn drop_entry<P: Pages, S: Summary>(
     ensures keeps { P.keeps pages.old pages.new }
     ensures works { WorksAfter (P.is_tied pages.old → NoneGaveWay (form_of S.says S.unit S.join S.of layout.summary layout.width)
         (P.store pages.old).map number page.now.bytes count at 1 []) result (P.store pages.old) (P.store pages.new) }
+    ensures room { result ≢ Err Refusal.FileFull }
     ensures finishes { P.is_tied pages.old → IfOk result (Finishes
         (form_of S.says S.unit S.join S.of layout.summary layout.width) (P.store pages.old).map (P.store pages.new).map number
         page.now.bytes count at 1 []) }
@@ -79,6 +80,7 @@ pub fn renew_entry<P: Pages, S: Summary>(
     ensures works { WorksAfter (P.is_tied pages.old → NoneGaveWay (form_of S.says S.unit S.join S.of layout.summary layout.width)
         (P.store pages.old).map number page.now.bytes count at removed (top ∷ [])) result
         (P.store pages.old) (P.store pages.new) }
+    ensures room { result ≢ Err Refusal.FileFull }
     ensures finishes { P.is_tied pages.old → IfOk result (Finishes
         (form_of S.says S.unit S.join S.of layout.summary layout.width) (P.store pages.old).map (P.store pages.new).map number
         page.now.bytes count at removed (top ∷ [])) }
@@ -121,6 +123,7 @@ pub fn renew_two<P: Pages, S: Summary>(
     ensures works { WorksAfter (P.is_tied pages.old → NoneGaveWay (form_of S.says S.unit S.join S.of layout.summary layout.width)
         (P.store pages.old).map number page.now.bytes count at 2 (first ∷ second ∷ [])) result
         (P.store pages.old) (P.store pages.new) }
+    ensures room { result ≢ Err Refusal.FileFull }
     ensures finishes { P.is_tied pages.old → OnOk result (Finishes
         (form_of S.says S.unit S.join S.of layout.summary layout.width) (P.store pages.old).map (P.store pages.new).map number
         page.now.bytes count at 2 (first ∷ second ∷ []) Removed.Kept) }
@@ -169,6 +172,7 @@ fn renew<P: Pages, S: Summary>(
     ensures keeps { P.keeps pages.old pages.new }
     ensures works { WorksAfter (P.is_tied pages.old → CantRenew (P.store pages.old).map number top layout) result
         (P.store pages.old) (P.store pages.new) }
+    ensures room { result ≢ Err Refusal.FileFull }
     ensures renews { P.is_tied pages.old → OnOk result (Renews
         (form_of S.says S.unit S.join S.of layout.summary layout.width) (P.store pages.old).map (P.store pages.new).map number
         count at removed top) }

@@ -1,6 +1,6 @@
 //! A cell taken out of a leaf.
 
-ghost use Rattle.std.specs.Prelude.{◌≡◌, ℕ, true, Some, IfOk};
+ghost use Rattle.std.specs.Prelude.{◌≡◌, ◌≢◌, ℕ, true, Some, IfOk, Err};
 ghost use Rattle.rs_owners.specs.Changes.{WorksAfter};
 ghost use Rattle.rs_tree.specs.Form.{form_of};
 ghost use Rattle.rs_tree_page.specs.Node.{IsNode};
@@ -31,6 +31,7 @@ pub fn remove_from_leaf<P: Pages, S: Summary>(
     ensures works { WorksAfter (P.is_tied pages.old → (P.store pages.old).map.page number ≡ Some page.now.bytes → (levels : ℕ)
         → HasNoOwnPart (form_of S.says S.unit S.join S.of layout.summary layout.width) (P.store pages.old).map number levels)
         result (P.store pages.old) (P.store pages.new) }
+    ensures room { result ≢ Err Refusal.FileFull }
     ensures removed { P.is_tied pages.old → (P.store pages.old).map.page number ≡ Some page.now.bytes → IfOk result (RemovesPart
         (form_of S.says S.unit S.join S.of layout.summary layout.width) (P.store pages.old).map (P.store pages.new).map number
         cell.now) }

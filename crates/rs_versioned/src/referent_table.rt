@@ -3,7 +3,7 @@
 //! Changes are made together or not at all: `commit` keeps them, `abandon` takes them back, and neither takes memory. The
 //! pages are to be committed or abandoned with them.
 
-ghost use Rattle.std.specs.Prelude.{◌≡◌, ◌<◌, ◌≤◌, ◌↔◌, ◌+◌, ◌^◌, ℕ, List, [], Contains, IsTrue, IfOk, IfErr, OnOk, OnErr, count_by, false, filter, length, min, nat_le, true};
+ghost use Rattle.std.specs.Prelude.{◌≡◌, ◌≢◌, ◌<◌, ◌≤◌, ◌↔◌, ◌+◌, ◌^◌, ℕ, List, [], Contains, IsTrue, IfOk, IfErr, OnOk, OnErr, count_by, false, filter, length, min, nat_le, true, Err};
 ghost use Rattle.std.specs.List.{AllByRecursion, AllZip};
 ghost use Rattle.rs_owners.specs.Changes.{WorksAfter};
 ghost use Rattle.rs_owners.specs.Counts.{◌&◌, no_pages};
@@ -201,8 +201,8 @@ impl ReferentTable {
     }
 
     /// Takes out referents that no version from `oldest` on sees, those that died first before the others, at most so many, and
-    /// answers their cells. It is refused with 90, with 91, with 92 where the file is full, and with 94 only where no such
-    /// records lie there with pages of their own; the table is as it was then.
+    /// answers their cells. No page is needed. It is refused with 90, with 91, and with 94 only where no such records lie there
+    /// with pages of their own; the table is as it was then.
     pub fn vacuum<P: Pages>(
         &mut self,
         alloc: Global,
@@ -215,6 +215,7 @@ impl ReferentTable {
         ensures works { WorksAfter (P.is_tied pages.old → HoldsNone
             referent_form (P.store pages.old).map self.old.working)
             result (P.store pages.old) (P.store pages.new) }
+        ensures room { result ≢ Err Refusal.FileFull }
         ensures taken { IfOk result (λ taken. listed taken ≡ cleared oldest most self.old.working.dead) }
         ensures taken_width { IfOk result (λ taken. record_width taken ≡ referent_width) }
         ensures vacuumed { P.is_tied pages.old → IfOk result (λ taken. (accepted : ℕ) → ChangesRecords
@@ -234,14 +235,15 @@ impl ReferentTable {
         self.versions.vacuum(alloc, pages, oldest, most)
     }
 
-    /// Takes out all referents and frees their pages. It is refused with 90, with 91, with 92 where the file is full, and with 94
-    /// only where no such records lie there with pages of their own; the table is as it was then.
+    /// Takes out all referents and frees their pages. It is refused with 90, with 91, and with 94 only where no such records lie
+    /// there with pages of their own; the table is as it was then.
     pub fn clear<P: Pages>(&mut self, pages: &mut P) -> Result<(), Refusal>
         requires begun { (P.store pages.old).is_begun ≡ true }
         ensures keeps { P.keeps pages.old pages.new }
         ensures works { WorksAfter (P.is_tied pages.old → HoldsNone
             referent_form (P.store pages.old).map self.old.working)
             result (P.store pages.old) (P.store pages.new) }
+        ensures room { result ≢ Err Refusal.FileFull }
         ensures cleared { P.is_tied pages.old → OnOk result ((accepted : ℕ) → ChangesRecords
             kept_referents (P.store pages.old).map (P.store pages.new).map
             self.old.working self.new.working accepted accepted HasNone) }

@@ -2,7 +2,7 @@
 //!
 //! A step that is refused may have changed pages, and the tree.
 
-ghost use Rattle.std.specs.Prelude.{◌≡◌, ◌<◌, ◌↔◌, ℕ, List, [], ◌∷◌, Contains, IsTrue, IfOk, OnOk, OnErr, true, false, length};
+ghost use Rattle.std.specs.Prelude.{◌≡◌, ◌≢◌, ◌<◌, ◌↔◌, ℕ, List, [], ◌∷◌, Contains, IsTrue, IfOk, OnOk, OnErr, true, false, length, Err};
 ghost use Rattle.rs_owners.specs.Changes.{WorksAfter};
 ghost use Rattle.rs_owners.specs.Counts.{◌&◌};
 ghost use Rattle.rs_owners.specs.Owners.{Shares};
@@ -138,6 +138,7 @@ pub(crate) fn take_out<P: Pages, S: Summary>(
     ensures works { WorksAfter (P.is_tied pages.old → HoldsNoneFirst
         (form_of S.says S.unit S.join S.of S.WIDTH tree.old.width) (P.store pages.old).map tree.old.root (listed cells.now))
         result (P.store pages.old) (P.store pages.new) }
+    ensures room { result ≢ Err Refusal.FileFull }
     ensures taken { P.is_tied pages.old → OnOk result (TakesOut
         (form_of S.says S.unit S.join S.of S.WIDTH tree.old.width) (P.store pages.old).map (P.store pages.new).map
         tree.old.root tree.new.root (listed cells.now)) }
@@ -160,6 +161,7 @@ fn take_one<P: Pages, S: Summary>(
     ensures works { WorksAfter (P.is_tied pages.old → HoldsNoneFirst
         (form_of S.says S.unit S.join S.of S.WIDTH tree.old.width) (P.store pages.old).map tree.old.root (cell.now ∷ []))
         result (P.store pages.old) (P.store pages.new) }
+    ensures room { result ≢ Err Refusal.FileFull }
     ensures taken { P.is_tied pages.old → OnOk result (TakesOut
         (form_of S.says S.unit S.join S.of S.WIDTH tree.old.width) (P.store pages.old).map (P.store pages.new).map
         tree.old.root tree.new.root (cell.now ∷ [])) }

@@ -3,7 +3,7 @@
 //! Changes are made together or not at all: `commit` keeps them, `abandon` takes them back, and neither takes memory. The
 //! pages are to be committed or abandoned with them.
 
-ghost use Rattle.std.specs.Prelude.{◌≡◌, ◌<◌, ◌≤◌, ◌↔◌, ◌*◌, ◌+◌, ℕ, List, [], ◌∷◌, Contains, IsTrue, IfOk, OnOk, OnErr, true, false, drop, length};
+ghost use Rattle.std.specs.Prelude.{◌≡◌, ◌≢◌, ◌<◌, ◌≤◌, ◌↔◌, ◌*◌, ◌+◌, ℕ, List, [], ◌∷◌, Contains, IsTrue, IfOk, OnOk, OnErr, true, false, drop, length, Err};
 ghost use Rattle.std.specs.List.{AllByRecursion};
 ghost use Rattle.rs_owners.specs.Changes.{WorksAfter};
 ghost use Rattle.rs_owners.specs.Counts.{◌&◌, no_pages};
@@ -200,7 +200,7 @@ impl<S: Summary> Versions<S> {
     }
 
     /// Takes out cells that no version from `oldest` on sees, those that died first before the others, at most so many, and
-    /// answers them. It is refused as `add` is.
+    /// answers them. No page is needed: it is refused as `add` is, but for 92.
     pub fn vacuum<P: Pages>(
         &mut self,
         alloc: Global,
@@ -213,6 +213,7 @@ impl<S: Summary> Versions<S> {
         ensures works { WorksAfter (P.is_tied pages.old → HoldsNone
             (form_of S.says S.unit S.join S.of S.WIDTH self.old.width) (P.store pages.old).map self.old.working)
             result (P.store pages.old) (P.store pages.new) }
+        ensures room { result ≢ Err Refusal.FileFull }
         ensures taken { IfOk result (λ taken. listed taken ≡ cleared oldest most self.old.working.dead) }
         ensures taken_width { IfOk result (λ taken. record_width taken ≡ self.old.width) }
         ensures vacuumed { P.is_tied pages.old → OnOk result (ChangesCells
@@ -234,13 +235,14 @@ impl<S: Summary> Versions<S> {
         Ok(taken)
     }
 
-    /// Takes out all cells and frees their pages. It is refused as `add` is.
+    /// Takes out all cells and frees their pages. It is refused as `add` is, but for 92.
     pub fn clear<P: Pages>(&mut self, pages: &mut P) -> Result<(), Refusal>
         requires begun { (P.store pages.old).is_begun ≡ true }
         ensures keeps { P.keeps pages.old pages.new }
         ensures works { WorksAfter (P.is_tied pages.old → HoldsNone
             (form_of S.says S.unit S.join S.of S.WIDTH self.old.width) (P.store pages.old).map self.old.working)
             result (P.store pages.old) (P.store pages.new) }
+        ensures room { result ≢ Err Refusal.FileFull }
         ensures cleared { P.is_tied pages.old → OnOk result (ChangesCells
             (form_of S.says S.unit S.join S.of S.WIDTH self.old.width) (P.store pages.old).map (P.store pages.new).map
             self.old.working self.new.working (λ _. [])) }
