@@ -10,6 +10,7 @@ use Rattle.rs_owners.specs.Counts.{◌&◌, one_at, times}
 use Rattle.rs_owners.specs.Owners.{Shares}
 use Rattle.rs_pages.specs.PageMap.{PageMap}
 use Rattle.rs_value.specs.declared.column.ColumnType.{ColumnType}
+use Rattle.rs_value.specs.declared.column.TheConstants.{COLUMNS}
 use Rattle.rs_value.specs.declared.column.ColumnType.TheVariants as types
 use Rattle.rs_versioned.specs.Events.{Event, event_width}
 use Rattle.rs_versioned.specs.Records.{HoldsRecords}
@@ -67,7 +68,7 @@ pub record IsIndex (types : List ColumnType) (directory : DirectoryItems) (item 
 -- the table is as its item says, three entries of its tree fit a page, it stands as the directory says, and its indexes are those
 -- of its number, in their order
 pub record IsTable (directory : DirectoryItems) (items : List IndexItem) (item : TableItem) (table : TableContents) : Type 0 where
-  pub few : length item.columns ≤ 12
+  pub few : length item.columns ≤ COLUMNS
   pub types : table.types ≡ map type_of item.columns
   pub fits : 3 * (8 + event_width table.types) ≤ 4080
   pub stands : slice_get directory.tables item.number ≡ Some (item_of table.standing)

@@ -14,6 +14,7 @@ use Rattle.rs_contents.specs.declared.opened.OpenedTable.{OpenedTable}
 use Rattle.rs_owners.specs.Counts.{◌&◌, one_at, times}
 use Rattle.rs_pages.specs.PageMap.{PageMap}
 use Rattle.rs_reached.specs.Marks.{taken}
+use Rattle.rs_value.specs.declared.column.TheConstants.{COLUMNS}
 use Rattle.rs_versioned.specs.declared.told.ToldRecords.{ToldRecords}
 use Rattle.rs_versioned.specs.Events.{event_width}
 use Rattle.rs_versioned.specs.Opening.{OpensRecords}
@@ -34,7 +35,7 @@ pub record IsOpened (opened : OpenedTable) (table : TableContents) : Type 0 wher
 -- whatever the pages are: the table has the columns of its item, three entries of its tree fit a page, its indexes are those of
 -- its number, and nothing has changed since the last commit
 pub record IsTableOf (directory : DirectoryItems) (definitions : CatalogueItems) (item : TableItem) (opened : OpenedTable) : Type 0 where
-  pub few : length item.columns ≤ 12
+  pub few : length item.columns ≤ COLUMNS
   pub types : opened.records.types ≡ map type_of item.columns
   pub fits : 3 * (8 + event_width opened.records.types) ≤ 4080
   pub indexes : AllZip (IsIndex opened.records.types directory) (filter (λ index. index.table == item.number) definitions.indexes) opened.indexes.items

@@ -6,6 +6,7 @@ ghost use Rattle.rs_attr.specs.Tables.{IndexState};
 ghost use Rattle.rs_catalog_pages.specs.Said.{said_column, said_directory, said_index, said_table};
 ghost use Rattle.rs_contents.specs.Contents.{IsIndex, type_of};
 ghost use Rattle.rs_measure.specs.declared.refusal.Refusal.TheVariants as refusals;
+ghost use Rattle.rs_value.specs.declared.column.TheConstants.{COLUMNS};
 ghost use Rattle.rs_versioned.specs.Events.{event_width};
 
 use rs_attr::AttrIndex;
@@ -27,8 +28,8 @@ const INDEX_ENTRY_FRONT: usize = 4;
 /// The columns of a table; none where they are too many, or three entries of an inner page of its tree would not fit it.
 pub fn schema_of(table: &StoredTable) -> Option<Schema>
     ensures columns { IfSome result (λ schema. schema.items ≡ map type_of (said_table table.now).columns) }
-    ensures fits { IfSome result (λ schema. (length (said_table table.now).columns ≤ 12) × (3 * (8 + event_width schema.items) ≤ 4080)) }
-    ensures none { IfNone result (length (said_table table.now).columns ≤ 12
+    ensures fits { IfSome result (λ schema. (length (said_table table.now).columns ≤ COLUMNS) × (3 * (8 + event_width schema.items) ≤ 4080)) }
+    ensures none { IfNone result (length (said_table table.now).columns ≤ COLUMNS
         → 3 * (8 + event_width (map type_of (said_table table.now).columns)) ≤ 4080 → ⊥) }
 {
     let mut schema = Schema::new();

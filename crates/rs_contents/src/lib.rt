@@ -15,5 +15,5 @@ pub use creating::create;
 pub use definitions::{indexes_of, schema_of};
 pub use free_pages::reach_free;
 pub use loading::load;
-pub use numbers::check_numbers;
+pub use numbers::{check_numbers, free_index_number};
 pub use opened::{OpenedFile, OpenedTable};

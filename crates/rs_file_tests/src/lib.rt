@@ -1,5 +1,6 @@
 //! The opening of a whole file that is written out as the format says it: what is answered, with each byte changed in turn, and
-//! with changes that leave a file or none; its definitions stored again; and a file made by steps of which one is refused.
+//! with changes that leave a file or none; its definitions stored again; a file that was created; and one made by steps of which
+//! one is refused.
 //!
 //! Everything here is for the tests alone.
 #![tactic(auto)]
@@ -12,6 +13,8 @@ mod cells;
 mod change_tests;
 #[cfg(test)]
 mod changes;
+#[cfg(test)]
+mod creating_tests;
 #[cfg(test)]
 mod damages;
 #[cfg(test)]

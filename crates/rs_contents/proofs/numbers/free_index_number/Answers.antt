@@ -1,0 +1,12 @@
+-- Each number in turn.
+use Rattle.std.proofs.Common.{◌≡◌, ◌<◌, ◌∙◌, ℕ, map, sym, arith}
+use borrow.Author.Count.{below_more}
+use Rattle.rs_catalog_pages.specs.declared.items.StoredIndex.{StoredIndex}
+use Rattle.rs_owners.specs.Counts.{times}
+use Rattle.rs_contents.proofs.numbers.free_index_number.Goals as goal
+
+pub loop-number-preserved : goal.loop-number-preserved
+loop-number-preserved c =
+    below_more (λ number. 0 < times (map (λ (index : StoredIndex). index.number) c.args.indexes.now) number)
+    c.loop-number.number c.loop-number.invariant
+    (omega arith)
