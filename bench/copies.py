@@ -1,10 +1,14 @@
-"""A repository of copies: the crates that a program stands on, and the program, so that it is built outside of this one."""
+"""A repository of copies: the crates that a program stands on, and the program, so that it is built outside of this one; and
+what the commands of such a program say and take."""
 
 import os
+import re
 import shutil
 import subprocess
+import sys
 
 ROOT = os.path.dirname(os.path.dirname(os.path.abspath(__file__)))
+COLLECTED = re.compile(r"Collected : (\d+)")
 
 
 def dependencies():
@@ -59,3 +63,13 @@ def output_of(command, folder):
     done = subprocess.run(command, cwd=folder, stdin=subprocess.DEVNULL, stdout=subprocess.PIPE, stderr=subprocess.STDOUT,
                           text=True, errors="replace", check=False)
     return done.returncode, done.stdout
+
+
+def instructions_of(command, folder):
+    """How many instructions a command takes (`valgrind --tool=callgrind`)."""
+    counted = ["valgrind", "--tool=callgrind", "--callgrind-out-file=/dev/null", *command]
+    _status, output = output_of(counted, folder)
+    found = COLLECTED.search(output)
+    if not found:
+        sys.exit("%s\nno count of instructions for: %s" % (output[-4000:], " ".join(command)))
+    return int(found[1])

@@ -2,18 +2,21 @@
 """Times event records by version: spans added over 400 routes, searches at an old version beside as many ends, and a check of the
 whole file.
 
-    bench/records.py [--sizes 25000,50000,100000] [--rounds 5] [--folder FOLDER] [--unproved]
+    bench/records.py [--sizes 25000,50000,100000] [--rounds 5] [--folder FOLDER] [--unproved] [--instructions]
 
 It makes a repository of its own, of copies of the crates that `bench/records/` stands on and of that program, builds it there with
 `rt run`, and gives it each size, in spans. It prints the milliseconds of each load, the best of the rounds, and the growth
 exponent from the smallest size to the largest.
 
 The loads: all spans added in order, all added shuffled, 1,000 searches at the version that added them, each after the end of
-a span at the next version, the check of the whole file that is there then, and a pass over its bytes, page by page. A row has two numbers, a record 46 bytes; the pages are in memory and a load is one transaction.
-Each search is to find what its version sees, whether it has ended since or not.
+a span at the next version, the check of the whole file that is there then, and a pass over its bytes, page by page. A row
+has two numbers, a record 46 bytes; the pages are in memory and a load is one transaction. Each search is to find what its
+version sees, whether it has ended since or not.
 
 --folder keeps the repository, so that a second run builds what has changed. --unproved runs the program by `rt try`, with
-checks and without a proof: many times slower, so that only its growth says anything.
+checks and without a proof: many times slower, so that only its growth says anything. --instructions counts the
+instructions of each load instead (`valgrind --tool=callgrind`), which are the same in each run whatever is in the caches
+and runs beside it: those of a run that ends with the load, less those of a run that ends before it.
 """
 
 import argparse
@@ -24,13 +27,15 @@ import shutil
 import sys
 import tempfile
 
-from copies import make_repository, output_of
+from copies import instructions_of, make_repository, output_of
 
 PROGRAM = "records_bench"
 STANDS_ON = ["rs_contents", "rs_attr", "rs_versioned", "rs_versions", "rs_facts", "rs_value", "rs_pager", "rs_pages", "rs_page", "rs_disk", "rs_measure", "arrayvec"]
 FILES = ["main.rt", "spans.rt", "table.rt", "whole_file.rt"]
 LOADS = ["ordered", "shuffled", "searches", "check", "pass"]
 SEARCHES = 1_000
+# what the program does, one part after the other: the loads, and before the check the file is written
+PARTS = ["ordered", "shuffled", "searches", None, "check", "pass"]
 FIELD = re.compile(r"(\w+)=(\d+)")
 
 
@@ -76,17 +81,27 @@ def measure(command, program, sizes, rounds):
     return best
 
 
-def tell(best, sizes):
+def count(command, program, sizes):
+    """The instructions of each load and size."""
+    counts = {}
+    for size in sizes:
+        ends = [instructions_of([*command, str(size), str(parts)], program) for parts in range(len(PARTS) + 1)]
+        for part, load in enumerate(PARTS):
+            if load:
+                counts[load, size] = ends[part + 1] - ends[part]
+    return counts
+
+
+def tell(found, sizes, unit):
+    """Prints what was found of each load and size, in millions, and how it grows."""
     for load in LOADS:
         for size in sizes:
-            print("%-9s %7d spans %9.1f ms" % (load, size, best[load, size] / 1e6))
+            print("%-9s %7d spans %9.1f %s" % (load, size, found[load, size] / 1e6, unit))
         if len(sizes) > 1:
-            growth = math.log(best[load, sizes[-1]] / best[load, sizes[0]]) / math.log(sizes[-1] / sizes[0])
+            growth = math.log(found[load, sizes[-1]] / found[load, sizes[0]]) / math.log(sizes[-1] / sizes[0])
             print("%-9s growth exponent %.2f" % (load, growth), flush=True)
-
-
     for size in sizes:
-        print("a check of %d spans takes %.1f passes" % (size, best["check", size] / best["pass", size]), flush=True)
+        print("a check of %d spans takes %.1f passes" % (size, found["check", size] / found["pass", size]), flush=True)
 
 
 def main():
@@ -95,12 +110,17 @@ def main():
     parser.add_argument("--rounds", type=int, default=5)
     parser.add_argument("--folder")
     parser.add_argument("--unproved", action="store_true")
+    parser.add_argument("--instructions", action="store_true")
     words = parser.parse_args()
     sizes = [int(size) for size in words.sizes.split(",")]
     folder = words.folder or tempfile.mkdtemp(prefix="records-bench-")
     try:
         program = make_repository(folder, PROGRAM, STANDS_ON, "records", FILES)
-        tell(measure(command_of(program, not words.unproved), program, sizes, words.rounds), sizes)
+        command = command_of(program, not words.unproved)
+        if words.instructions:
+            tell(count(command, program, sizes), sizes, "million instructions")
+        else:
+            tell(measure(command, program, sizes, words.rounds), sizes, "ms")
     finally:
         if not words.folder:
             shutil.rmtree(folder, ignore_errors=True)

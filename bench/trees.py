@@ -27,7 +27,7 @@ import shutil
 import sys
 import tempfile
 
-from copies import ROOT, make_repository, output_of
+from copies import ROOT, instructions_of, make_repository, output_of
 
 PROGRAM = "trees_bench"
 STANDS_ON = ["rs_interval", "rs_tree_insert", "rs_tree_search", "rs_tree_page", "rs_pager", "rs_page", "rs_disk", "rs_measure"]
@@ -35,7 +35,6 @@ FILES = ["main.rt", "records.rt", "table.rt"]
 LOADS = ["ordered", "shuffled", "searches", "intervals"]
 COUNTS = ["found", "hits"]
 FIELD = re.compile(r"(\w+)=(\d+)")
-COLLECTED = re.compile(r"Collected : (\d+)")
 
 
 def build_beside(folder):
@@ -92,19 +91,9 @@ def measure(sides, folder, sizes, rounds):
     return best
 
 
-def instructions_of(command, folder, size):
-    """How many instructions all loads of this size take."""
-    counted = ["valgrind", "--tool=callgrind", "--callgrind-out-file=/dev/null", *command, str(size)]
-    _status, output = output_of(counted, folder)
-    found = COLLECTED.search(output)
-    if not found:
-        sys.exit("%s\nno count of instructions for %d records" % (output[-4000:], size))
-    return int(found[1])
-
-
 def tell_instructions(sides, folder, sizes):
     for side, command in sides.items():
-        counts = [instructions_of(command, folder, size) for size in sizes]
+        counts = [instructions_of([*command, str(size)], folder) for size in sizes]
         for size, count in zip(sizes, counts):
             print("%-9s %7d records %9.1f million instructions" % (side, size, count / 1e6))
         if len(sizes) > 1:

@@ -32,6 +32,7 @@ import re
 import resource
 import shutil
 import sys
+import threading
 from typing import NamedTuple
 
 ONLY_LINE = re.compile(r"^# refused at (.*)$", re.MULTILINE)
@@ -74,6 +75,30 @@ if is_known:
 # what `must_fail` of the kit answers for an edit that is refused, and for one that passes
 REFUSED = rt.REFUSED if is_later else True
 PASSING = (rt.REFUSED, rt.AT_LIMIT) if is_later else (True,)
+
+
+def once_a_call(stamp):
+    """As the kit's own `stamp` of a crate, but within one call each crate below is summed up once, and not once for each way
+    that leads down to it, of which there are thousands."""
+    called = threading.local()
+
+    def stamped(crate):
+        known = getattr(called, "known", None)
+        if known is None:
+            called.known = {}
+            try:
+                return stamp(crate)
+            finally:
+                called.known = None
+        if crate.folder not in known:
+            known[crate.folder] = stamp(crate)
+        return known[crate.folder]
+
+    return stamped
+
+
+if hasattr(rt.rtlib.Crate, "stamp"):
+    rt.rtlib.Crate.stamp = once_a_call(rt.rtlib.Crate.stamp)
 
 
 def text_of(file):
