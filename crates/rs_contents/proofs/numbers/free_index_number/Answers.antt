@@ -1,5 +1,5 @@
 -- Each number in turn.
-use Rattle.std.proofs.Common.{◌≡◌, ◌<◌, ◌∙◌, ℕ, map, sym, arith}
+use Rattle.std.proofs.Common.{◌<◌, map, arith}
 use borrow.Author.Count.{below_more}
 use Rattle.rs_catalog_pages.specs.declared.items.StoredIndex.{StoredIndex}
 use Rattle.rs_owners.specs.Counts.{times}
