@@ -14,9 +14,8 @@ such edit, are tried together: a proof of a function rests on the contracts of t
 Each is refused only where the prover refuses the function that it names, by itself and not for one that it calls. An
 edit that is not refused so, or whose text can't be read, is tried again alone, and that is its verdict.
 
-`rt ci` alone proves a crate once more before it tries the crate's edits, which takes more than all of this. The script knows
-two kits, an earlier one that tries a crate's edits in one call, and a later one that adds a task for each. Where the kit is
-another one, it runs the plain `rt ci`.
+`rt ci` alone proves a crate once more before it tries the crate's edits, which takes more than all of this. Where the kit
+lacks what the script needs of it, the plain `rt ci` runs.
 
 `--edits` reads the libraries that are built, and builds what is missing. Below the verdicts it prints the processor
 seconds of each crate's edits. The status is 0 where each edit was refused.
@@ -32,7 +31,6 @@ import re
 import resource
 import shutil
 import sys
-import threading
 from typing import NamedTuple
 
 ONLY_LINE = re.compile(r"^# refused at (.*)$", re.MULTILINE)
@@ -58,47 +56,10 @@ def load_rt():
 
 
 rt = load_rt()
-BOTH = ["checked", "must_fail", "edits_of", "unread"]
-EARLIER = ["must_fail_all"]
-LATER = ["add_edits", "need", "REFUSED", "AT_LIMIT", "SETTLED", "Kept"]
-
-
-def has(names):
-    return all(hasattr(rt, name) for name in [*BOTH, *names])
-
-
-is_later = has(LATER)
-is_earlier = not is_later and has(EARLIER)
-is_known = is_later or is_earlier
+NEEDED = ["checked", "must_fail", "edits_of", "unread", "add_edits", "need", "REFUSED", "AT_LIMIT", "SETTLED", "Kept"]
+is_known = all(hasattr(rt, name) for name in NEEDED)
 if is_known:
-    whole_checked = rt.checked
-# what `must_fail` of the kit answers for an edit that is refused, and for one that passes
-REFUSED = rt.REFUSED if is_later else True
-PASSING = (rt.REFUSED, rt.AT_LIMIT) if is_later else (True,)
-
-
-def once_a_call(stamp):
-    """As the kit's own `stamp` of a crate, but within one call each crate below is summed up once, and not once for each way
-    that leads down to it, of which there are thousands."""
-    called = threading.local()
-
-    def stamped(crate):
-        known = getattr(called, "known", None)
-        if known is None:
-            called.known = {}
-            try:
-                return stamp(crate)
-            finally:
-                called.known = None
-        if crate.folder not in known:
-            known[crate.folder] = stamp(crate)
-        return known[crate.folder]
-
-    return stamped
-
-
-if hasattr(rt.rtlib.Crate, "stamp"):
-    rt.rtlib.Crate.stamp = once_a_call(rt.rtlib.Crate.stamp)
+    whole_checked, whole_add_edits = rt.checked, rt.add_edits
 
 
 def text_of(file):
@@ -245,7 +206,7 @@ def must_fail_together(crate, edits, flags):
         if any(rt.unread(line, texts) for line in lines) or not lines[-1].startswith("logic=not-proved"):
             lines = []
     said = [refusal_of(crate, change, lines) if lines else None for change in changes]
-    return [(REFUSED, it) if it else must_fail_named(crate, edit, flags) for edit, it in zip(edits, said)]
+    return [(rt.REFUSED, it) if it else must_fail_named(crate, edit, flags) for edit, it in zip(edits, said)]
 
 
 OWN_TEXT = text_of(os.path.realpath(__file__))
@@ -289,21 +250,8 @@ def add_edits(tasks, crate, edits, first, waits, is_well, kept, start=None, in_c
     return results, lambda: {**whole_known(), **earlier}
 
 
-def must_fail_all(crate, edits, flags):
-    """As the earlier kit's own, but an edit that names functions is tried on these alone."""
-    whole = [edit for edit in edits if not only_flags(edit)]
-    tried = dict(zip(whole, whole_must_fail_all(crate, whole, flags)))
-    for group in together(crate, [edit for edit in edits if only_flags(edit)]):
-        tried.update(zip(group, must_fail_together(crate, group, flags)))
-    return [tried[edit] for edit in edits]
-
-
 if is_known:
-    rt.checked = checked
-if is_later:
-    whole_add_edits, rt.add_edits = rt.add_edits, add_edits
-if is_earlier:
-    whole_must_fail_all, rt.must_fail_all = rt.must_fail_all, must_fail_all
+    rt.checked, rt.add_edits = checked, add_edits
 
 
 def crates():
@@ -341,7 +289,7 @@ def edits_alone(names, jobs):
         failed, seconds = sum(len(bad) for _good, bad in edits.values()), dict.fromkeys(tries.values(), 0.0)
         for done in concurrent.futures.as_completed(tries):
             tried, taken = done.result()
-            failed += sum(kind not in PASSING for kind, _said in tried)
+            failed += sum(kind not in (rt.REFUSED, rt.AT_LIMIT) for kind, _said in tried)
             seconds[tries[done]] += taken
             for number, (_kind, said) in enumerate(tried):
                 rt.say("%s %s" % (" " * 7 if number else "%5.1f s" % taken, said))
@@ -360,7 +308,7 @@ def main():
     if given.edits is None:
         return rt.main(["ci"])
     if not is_known:
-        sys.exit("gate.py: this kit is another one than this script knows: use rt must-fail")
+        sys.exit("gate.py: this kit lacks what the script needs of it: use rt must-fail")
     return edits_alone(given.edits, given.jobs)
 
 
