@@ -142,6 +142,21 @@ pub kept_next : (were are : List IndexState) (place : ℕ) (now other : IndexSta
     → now.committed ≡ (get_or are place other).committed → kept_parts are ≡ kept_parts were → kept_parts (set are place now) ≡ kept_parts were
 kept_next were are place now other below field committed same = kept_set are place now other below field committed ∙ same
 
+-- no index so far has a root
+abbrev pub HaveNoRoots : List IndexState → Type 0
+HaveNoRoots = AllByRecursion (λ index. index.working ≡ 0)
+
+rootless_set : (indexes : List IndexState) (place : ℕ) (now : IndexState) → place < length indexes → now.working ≡ 0 → HaveNoRoots (take place indexes) → HaveNoRoots (take (suc place) (set indexes place now))
+rootless_set [] place now below none all = absurd (omega arith)
+rootless_set (x ∷ xs) zero now below none all = (none, tt)
+rootless_set (x ∷ xs) (suc n) now below none all = (all.0, rootless_set xs n now (omega arith) none all.1)
+
+pub rootless_next : (indexes : List IndexState) (place : ℕ) (now : IndexState) → place < length indexes → now.working ≡ 0 → HaveNoRoots (take place indexes)
+    → HaveNoRoots (take (place + 1) (set indexes place now))
+rootless_next indexes place now below none all =
+    let next : suc place ≡ place + 1 = omega arith in
+    subst (λ n. HaveNoRoots (take n (set indexes place now))) next (rootless_set indexes place now below none all)
+
 module _ (old mid : PageMap) (were all : List IndexState) (place : ℕ) (other : IndexState) (width : ℕ) (change : List (List ℕ) → List (List ℕ)) (below : place < length all) (wide : (get_or all place other).field.cell_width ≡ width)
     (partly : ChangePartly old mid were (take place all) (drop place all) width change) where
   part_here : ChangePartly old mid were (take place all) (get_or all place other ∷ drop (suc place) all) width change

@@ -15,4 +15,4 @@ pub mod table;
 pub use attr_index::AttrIndex;
 pub use defining::define;
 pub use opening::open;
-pub use table::{add, kill, vacuum};
+pub use table::{add, clear, kill, vacuum};

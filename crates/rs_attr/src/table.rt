@@ -16,9 +16,10 @@ ghost use Rattle.rs_tree.specs.Cells.{with_cell, without_cell};
 ghost use Rattle.rs_value.specs.Values.{IsRowOf};
 ghost use Rattle.rs_value.specs.View.{row_of};
 ghost use Rattle.rs_versioned.specs.Events.{Event, SaysEvent, event_width, kept_events};
-ghost use Rattle.rs_versioned.specs.Records.{HasCleared, HasEnded, HasOneMore, HoldsRecords};
+ghost use Rattle.rs_versioned.specs.Records.{HasCleared, HasEnded, HasNone, HasOneMore, HoldsRecords};
 ghost use Rattle.rs_versions.specs.Changes.{cleared};
 ghost use Rattle.rs_versions.specs.Version.{died_of, ended, is_living};
+ghost use Rattle.rs_versions.specs.Versioned.{nothing_stands};
 ghost use Rattle.rs_versions.specs.declared.cell.TheConstants.{LIVING};
 
 use crate::attr_index::AttrIndex;
@@ -153,6 +154,34 @@ pub fn vacuum<P: Pages>(
         take_out_of_each(alloc, pages, indexes, taken.get(place))?;
     }
     Ok(taken)
+}
+
+/// Takes all events out of the table and all entries out of its indexes. No page is needed: it is refused as `add` is, but for 92.
+pub fn clear<P: Pages>(
+    pages: &mut P,
+    table: &mut EventTable,
+    indexes: &mut [AttrIndex],
+) -> Result<(), Refusal>
+    requires begun { (P.store pages.old).is_begun ≡ true }
+    requires indexes { AreOn table.old.types indexes.old }
+    ensures keeps { P.keeps pages.old pages.new }
+    ensures works { WorksAfter (P.is_tied pages.old → HoldsNoTable table.old.types (P.store pages.old).map table.old.working indexes.old)
+        result (P.store pages.old) (P.store pages.new) }
+    ensures room { result ≢ Err Refusal.FileFull }
+    ensures cleared { P.is_tied pages.old → OnOk result ((accepted : ℕ) → ChangesTable
+        table.old.types (P.store pages.old).map (P.store pages.new).map table.old.working table.new.working indexes.old indexes.new
+        accepted accepted HasNone) }
+    ensures working { OnOk result (table.new.working ≡ nothing_stands) }
+    ensures roots { OnOk result (AllByRecursion (λ index. index.working ≡ 0) indexes.new) }
+    ensures types { table.new.types ≡ table.old.types }
+    ensures committed { table.new.committed ≡ table.old.committed }
+    ensures kept { kept_parts indexes.new ≡ kept_parts indexes.old }
+{
+    table.clear(pages)?;
+    for place in 0..indexes.len() {
+        indexes[place].clear(pages)?;
+    }
+    Ok(())
 }
 
 /// Puts the entry of a cell into each index.
