@@ -1,5 +1,5 @@
 -- Parts of a table's cells that were checked against its indexes.
-use Rattle.std.proofs.Common.{◌≡◌, ◌<◌, ℕ, suc, Bool, true, false, not, cond, Some, List, [], ◌∷◌, ◌++◌, length, take, slice_get, map, filter, sym, ap, subst, inl, inr, arith}
+use Rattle.std.proofs.Common.{◌≡◌, ◌<◌, ℕ, suc, Bool, not, Some, List, [], ◌∷◌, ◌++◌, length, take, slice_get, map, filter, sym, ap, subst, inl, inr, arith}
 use Rattle.std.proofs.lemmas.List.Sorted.{Contains-permutation, IsPermutation-sym}
 use Rattle.std.specs.List.{AllByRecursion, Contains}
 use Rattle.std.specs.List.Sorted.{IsPermutation}
