@@ -8,6 +8,7 @@ pub mod Opened
 pub mod Parts
 pub mod PartsChecked
 pub mod Placing
+pub mod Roots
 pub mod Tabled
 pub mod Together
 pub mod Values

@@ -24,6 +24,10 @@ AreOn types = AllByRecursion (λ index. index.field.cell_width ≡ event_width t
 abbrev pub kept_parts : List IndexState → List (Field × ℕ)
 kept_parts = map (λ index. (index.field, index.committed))
 
+-- what a table needs of its indexes: the fields, and the roots now
+abbrev pub working_parts : List IndexState → List (Field × ℕ)
+working_parts = map (λ index. (index.field, index.working))
+
 -- the pages of all of these owners
 abbrev pub all_of : List (ℕ → ℕ) → ℕ → ℕ
 all_of owners number = sum_by (λ used. used number) owners

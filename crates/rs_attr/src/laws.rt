@@ -1,9 +1,10 @@
 //! What follows of indexes and of tables with their indexes.
 
 ghost use Rattle.std.specs.Prelude.{◌≡◌, ◌≤◌, ◌+◌, ◌++◌, ◌∷◌, [], ℕ, List, length};
+ghost use Rattle.std.specs.List.{AllByRecursion};
 ghost use Rattle.rs_attr.specs.Entries.{AreCells, Field, HoldsIndex, index_form};
 ghost use Rattle.rs_attr.specs.Opening.{HasEntries, HasSoMany, LacksEntries};
-ghost use Rattle.rs_attr.specs.Tables.{HoldsTable, IndexState, all_of};
+ghost use Rattle.rs_attr.specs.Tables.{AreOn, HoldsTable, IndexState, all_of, kept_parts, working_parts};
 ghost use Rattle.rs_owners.specs.Counts.{◌&◌};
 ghost use Rattle.rs_owners.specs.Owners.{KeepsPages};
 ghost use Rattle.rs_pages.specs.PageMap.{PageMap};
@@ -96,4 +97,27 @@ pub fn index_has_as_many_entries()
 pub fn index_has_each_entry()
     ensures { (field : Field) (pages : PageMap) (root : ℕ) (cells : List (List ℕ)) (used : ℕ → ℕ) → HoldsIndex field pages root cells used
         → LacksEntries field pages root cells → ⊥ }
+{}
+
+/// A table and indexes without roots have no pages.
+pub fn rootless_table_has_no_pages()
+    ensures table { (types : List ColumnType) (pages : PageMap) (standing : Standing) (indexes : List IndexState) (accepted : ℕ) (events : List Event)
+        (used : ℕ → ℕ) (uses : List (ℕ → ℕ)) → standing.root ≡ 0
+        → HoldsTable types pages standing indexes accepted events used uses → (number : ℕ) → used number ≡ 0 }
+    ensures indexes { (types : List ColumnType) (pages : PageMap) (standing : Standing) (indexes : List IndexState) (accepted : ℕ) (events : List Event)
+        (used : ℕ → ℕ) (uses : List (ℕ → ℕ)) → AllByRecursion (λ index. index.working ≡ 0) indexes
+        → HoldsTable types pages standing indexes accepted events used uses → (number : ℕ) → all_of uses number ≡ 0 }
+{}
+
+/// A table stays with indexes of the same fields and roots, whatever their roots at the last commit are.
+pub fn table_stays_with_the_same_roots()
+    ensures { (types : List ColumnType) (pages : PageMap) (standing : Standing) (were are : List IndexState) (accepted : ℕ) (events : List Event)
+        (used : ℕ → ℕ) (uses : List (ℕ → ℕ)) → working_parts are ≡ working_parts were
+        → HoldsTable types pages standing were accepted events used uses → HoldsTable types pages standing are accepted events used uses }
+{}
+
+/// Indexes are on the same table before and after a change, a commit or an abandonment.
+pub fn indexes_stay_on_their_table()
+    ensures kept { (types : List ColumnType) (were are : List IndexState) → kept_parts are ≡ kept_parts were → AreOn types were → AreOn types are }
+    ensures working { (types : List ColumnType) (were are : List IndexState) → working_parts are ≡ working_parts were → AreOn types were → AreOn types are }
 {}
