@@ -20,7 +20,7 @@ ghost use Rattle.rs_value.specs.Encoding.{row_width};
 ghost use Rattle.rs_value.specs.Values.{IsValue};
 ghost use Rattle.rs_value.specs.View.{datum_of};
 
-use crate::entry::{entry_of, is_of_type, one_byte_more, value_bytes};
+use crate::entry::{entry_of, is_of_type, value_bytes, write_entry_and_zero};
 use crate::equal::{entries_with, seen_cells};
 use rs_btree::Tree;
 use rs_measure::Refusal;
@@ -142,11 +142,12 @@ impl AttrIndex {
     }
 
     /// Whether the entry of a cell is in the index. It is refused with 90, with 91, and with 94 only where no tree stands there.
-    /// No page changes.
+    /// No page changes. The buffer is for the bytes of the entry; what it holds is unspecified.
     pub(crate) fn has_entry<P: Pages>(
         &self,
         alloc: Global,
         pages: &mut P,
+        buffer: &mut Vec<u8>,
         cell: &[u8],
     ) -> Result<bool, Refusal>
         requires width { length cell.now ≡ self.now.field.cell_width }
@@ -158,9 +159,10 @@ impl AttrIndex {
             self.now.working why (P.store pages.old) (P.store pages.new)) }
     {
         let wide = column_width(self.column);
-        let entry = entry_of(alloc, cell, self.start, wide).map_err(|_| Refusal::OutOfMemory)?;
-        let after = one_byte_more(alloc, &entry).map_err(|_| Refusal::OutOfMemory)?;
-        let found = self.tree.range(alloc, pages, &entry, &after)?;
+        write_entry_and_zero(buffer, cell, self.start, wide).map_err(|_| Refusal::OutOfMemory)?;
+        let after = buffer.as_slice();
+        let entry = &after[..after.len() - 1];
+        let found = self.tree.range(alloc, pages, entry, after)?;
         Ok(found.len() > 0)
     }
 

@@ -1,6 +1,6 @@
 //! The bytes of an index's entries: those of a value, and then those of a cell.
 
-ghost use Rattle.std.specs.Prelude.{◌≡◌, ◌≤◌, ◌+◌, ◌++◌, ◌∷◌, [], ◌↔◌, IfOk, IsTrue, drop, length, take};
+ghost use Rattle.std.specs.Prelude.{◌≡◌, ◌≤◌, ◌+◌, ◌++◌, ◌∷◌, [], ◌↔◌, IfOk, IsTrue, OnOk, drop, length, take};
 ghost use Rattle.rs_value.specs.Encoding.{SaysDatum, width};
 ghost use Rattle.rs_value.specs.Values.{IsOfType, IsValue};
 ghost use Rattle.rs_value.specs.View.{datum_of};
@@ -24,14 +24,21 @@ pub(crate) fn entry_of(
     Ok(entry)
 }
 
-/// The bytes and a zero after them.
-pub(crate) fn one_byte_more(alloc: Global, bytes: &[u8]) -> Result<Vec<u8>, AllocError>
-    ensures { IfOk result (λ more. more.items ≡ bytes.now ++ 0 ∷ []) }
+/// Writes the entry that `entry_of` makes, and a zero after it, in place of what the buffer holds.
+pub(crate) fn write_entry_and_zero(
+    buffer: &mut Vec<u8>,
+    cell: &[u8],
+    start: usize,
+    wide: usize,
+) -> Result<(), AllocError>
+    requires within { start + wide ≤ length cell.now }
+    ensures { OnOk result (buffer.new.items ≡ (take wide (drop start cell.now) ++ cell.now) ++ 0 ∷ []) }
 {
-    let mut more = Vec::new(alloc);
-    more.extend_from_slice(bytes)?;
-    more.push(0)?;
-    Ok(more)
+    buffer.clear();
+    buffer.extend_from_slice(&cell[start..start + wide])?;
+    buffer.extend_from_slice(cell)?;
+    buffer.push(0)?;
+    Ok(())
 }
 
 /// Whether a column of this type may have the value.

@@ -161,8 +161,9 @@ impl AttrIndex {
         ensures damaged { P.is_tied pages.old → result ≡ Err Refusal.DamagedFile → LacksEntries self.now.field
             (P.store pages.old).map self.now.working (listed cells.now) }
     {
+        let mut buffer = Vec::new(alloc);
         for place in 0..cells.len() {
-            if !self.has_entry(alloc, pages, cells.get(place))? {
+            if !self.has_entry(alloc, pages, &mut buffer, cells.get(place))? {
                 return Err(Refusal::DamagedFile);
             }
         }

@@ -1,5 +1,6 @@
 -- What is found from the entry on, below the entry and a zero, is the entry.
-use Rattle.std.proofs.Common.{◌≡◌, ◌∙◌, ℕ, List, [], ◌∷◌, ◌++◌, nat_lt, sym, ap, subst, rules}
+use Rattle.std.proofs.Common.{◌≡◌, ◌∙◌, ℕ, List, [], ◌∷◌, ◌++◌, ◌-◌, length, take, nat_lt, sym, ap, subst, arith, rules}
+use Rattle.std.proofs.lemmas.List.{length-append, take_at}
 use Rattle.std.proofs.lemmas.Result.{err_from_is_err_and}
 use Rattle.rs_attr.specs.Entries.{Field, entry_of, index_form, plain_form}
 use Rattle.rs_attr.proofs.Checked.{Tells, tells_within}
@@ -24,10 +25,13 @@ returns-clause-found g c = λ tied.
     let pages = (g.P.Pages.store c.args.pages.now).map in
     let cell = c.args.cell.now in
     let field : Field = record { column = d.column; start = d.start; cell_width = d.cell_width } in
-    let items : c.in_ok-entry.entry.items ≡ entry_of field cell = search rules in
-    let more : c.in_ok-after.after.items ≡ c.deref.result.now ++ 0 ∷ [] = search rules in
-    let low : c.deref-2.result.now ≡ entry_of field cell = c.deref-2.ensures.value ∙ items in
-    let high : c.deref-3.result.now ≡ c.deref-2.result.now ++ 0 ∷ [] = c.deref-3.ensures.value ∙ more ∙ ap (λ (l : List ℕ). l ++ 0 ∷ []) (c.deref.ensures.value ∙ sym c.deref-2.ensures.value) in
+    let entry = entry_of field cell in
+    let after = c.as_slice-after.result.now in
+    let written : c.write_entry_and_zero.new.buffer.items ≡ entry ++ 0 ∷ [] = search rules in
+    let all : after ≡ entry ++ 0 ∷ [] = c.as_slice-after.ensures.value ∙ written in
+    let size : length entry ≡ length after - 1 = omega (arith, ap length all, length-append entry (0 ∷ [])) in
+    let low : take (length after - 1) after ≡ entry = ap (take (length after - 1)) all ∙ take_at entry (0 ∷ []) (length after - 1) size in
+    let high : after ≡ take (length after - 1) after ++ 0 ∷ [] = all ∙ ap (λ (l : List ℕ). l ++ 0 ∷ []) (sym low) in
     in_index (λ (f : Field) (working : ℕ). Tells f pages working cell (nat_lt 0 c.len.result)) d.column d.start d.cell_width d.tree.root d.committed c.args.self.now c.self.view_is
-    (tells_within field pages d.tree.root d.tree.width c.len.result cell c.deref-2.result.now c.deref-3.result.now (listed c.in_ok-found.found) c.self.invariant.0 low high c.len.ensures
+    (tells_within field pages d.tree.root d.tree.width c.len.result cell (take (length after - 1) after) after (listed c.in_ok-found.found) c.self.invariant.0 low high c.len.ensures
     (c.in_ok-found.ensures.found tied))
