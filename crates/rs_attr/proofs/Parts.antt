@@ -8,7 +8,7 @@ use Rattle.std.specs.List.{AllByRecursion, AllZip, count_by}
 use Rattle.std.specs.Ordering.{is_lt, nat_cmp, ordering_then}
 use Rattle.std.specs.Cmp.{nat_cmp_is}
 use Rattle.std.specs.declared.cmp.Ordering.TheVariants.{Greater}
-use Rattle.rs_attr.specs.Defining.{Appends, AppendsNone, Defines, Enters, EntersNone}
+use Rattle.rs_attr.specs.Inner.{Appends, AppendsNone, Enters, EntersNone}
 use Rattle.rs_attr.specs.Entries.{AreCells, BecomesIndex, ChangesIndex, Field, HoldsIndex, HoldsNoIndex, IsColumn, index_form}
 use Rattle.rs_attr.proofs.Above.{cell_below, number_more}
 use Rattle.rs_interval.specs.Finding.{event_form}
@@ -57,9 +57,14 @@ wide_first width (x ∷ xs) ys all = (all.0, wide_first width xs ys all.1)
 pub cells_first : (width : ℕ) (xs ys : List (List ℕ)) → AreCells width (xs ++ ys) → AreCells width xs
 cells_first width xs ys are = record { wide = wide_first width xs ys are.wide; ascend = ascends_first xs ys are.ascend }
 
+-- where the index has the entries of some cells, and these come after them, it has the entries of the first of these too then
+pub record AppendsFirst (field : Field) (old new : PageMap) (root to : ℕ) (found : List (List ℕ)) (place : ℕ) : Type 0 where
+  pub each : (before : List (List ℕ)) (uses others : ℕ → ℕ) → AreCells field.cell_width (before ++ found)
+      → HoldsIndex field old root before uses → Shares old (uses & others) → BecomesIndex field old new to uses (before ++ take place found)
+
 module _ (field : Field) (old : PageMap) (root : ℕ) (found : List (List ℕ)) where
   -- no cell yet
-  pub appends_none : Appends field old old root root found 0
+  pub appends_none : AppendsFirst field old old root root found 0
   appends_none = record {
     each = λ before uses others are holds shares. record {
       after = uses;
@@ -68,13 +73,13 @@ module _ (field : Field) (old : PageMap) (root : ℕ) (found : List (List ℕ)) 
     };
   }
 
-  module _ (mid : PageMap) (below place : ℕ) (cell : List ℕ) (there : slice_get found place ≡ Some cell) (so : Appends field old mid root below found place) where
+  module _ (mid : PageMap) (below place : ℕ) (cell : List ℕ) (there : slice_get found place ≡ Some cell) (so : AppendsFirst field old mid root below found place) where
     parted : (before : List (List ℕ)) → (before ++ take place found) ++ cell ∷ drop (suc place) found ≡ before ++ found
     parted before =
         append_assoc before (take place found) (cell ∷ drop (suc place) found) ∙ ap (λ (cs : List (List ℕ)). before ++ cs) (sym (list_at found place cell there))
 
     -- one cell more
-    pub appends_next : (new : PageMap) (to : ℕ) → ChangesIndex field mid new below to (with_cell cell) → Appends field old new root to found (place + 1)
+    pub appends_next : (new : PageMap) (to : ℕ) → ChangesIndex field mid new below to (with_cell cell) → AppendsFirst field old new root to found (place + 1)
     appends_next new to changes = record {
       each = λ before uses others are holds shares.
           let became = so.each before uses others are holds shares in
@@ -100,6 +105,13 @@ module _ (field : Field) (old : PageMap) (root : ℕ) (found : List (List ℕ)) 
           none.none (before ++ take place found) became.after others became.holds (became.moves.beside others shares).shares;
     }
 
+  -- all have come
+  pub appends_all : (new : PageMap) (to place : ℕ) → length found ≤ place → AppendsFirst field old new root to found place → Appends field old new root to found
+  appends_all new to place last so = record {
+    each = λ before uses others are holds shares.
+        subst (λ (cs : List (List ℕ)). BecomesIndex field old new to uses (before ++ cs)) (take_all place found last) (so.each before uses others are holds shares);
+  }
+
 -- where the pages are the same, what a search found is entered
 module _ (field : Field) (old mid : PageMap) (table root : ℕ) (low high : List ℕ) (found : List (List ℕ)) (same : SamePages mid old) (order : is_below high low ≡ false)
     (finds : (cells : List (List ℕ)) (used : ℕ → ℕ) → IsTree (event_form field.cell_width) old table cells used → found ≡ cells_within low high cells) where
@@ -120,15 +132,13 @@ module _ (field : Field) (old mid : PageMap) (table root : ℕ) (low high : List
     shares_mid shares = ((same_pages-moves old mid uses same).beside (used & others) shares).shares
 
   -- the cells between the bounds have come
-  pub enters_all : (new : PageMap) (to : ℕ) → Appends field mid new root to found (length found) → Enters field old new table root to low high
+  pub enters_all : (new : PageMap) (to : ℕ) → Appends field mid new root to found → Enters field old new table root to low high
   enters_all new to so = record {
     each = λ cells used uses others tree holds shares.
         let more = so.each (cells_below low cells) uses (used & others) (both_are cells used uses others tree) (holds_mid cells used uses others tree holds) (shares_mid cells used uses others tree shares) in
-        let whole : cells_below low cells ++ take (length found) found ≡ cells_below high cells =
-        ap (λ (cs : List (List ℕ)). cells_below low cells ++ cs) (take_all (length found) found (omega arith)) ∙ both cells used uses others tree in
         record {
           after = more.after;
-          holds = subst (λ (cs : List (List ℕ)). HoldsIndex field new to cs more.after) whole more.holds;
+          holds = subst (λ (cs : List (List ℕ)). HoldsIndex field new to cs more.after) (both cells used uses others tree) more.holds;
           moves = moves_trans old mid new uses uses more.after (same_pages-moves old mid uses same) more.moves;
         };
   }
@@ -165,6 +175,11 @@ keeps_first used others old new keeps = record {
   pages = λ n own. keeps.pages n (omega (arith, own));
   no_fewer = keeps.no_fewer;
 }
+
+-- where a table's tree stands, an index with the entries of its cells below the bound has come
+pub record Defines (field : Field) (old new : PageMap) (table to : ℕ) (high : List ℕ) : Type 0 where
+  pub each : (cells : List (List ℕ)) (used others : ℕ → ℕ) → IsTree (event_form field.cell_width) old table cells used → Shares old (used & others)
+      → BecomesIndex field old new to no_pages (cells_below high cells)
 
 module _ (field : Field) (old : PageMap) (table : ℕ) where
   -- the index of no entries

@@ -3,7 +3,7 @@ use Rattle.std.proofs.Common.{◌≡◌, ◌↔◌, ℕ, Bool, false, IsTrue, Li
 use Rattle.std.proofs.lemmas.Bool.{false≢true}
 use Rattle.std.specs.List.{Contains}
 use Rattle.rs_attr.specs.Entries.{AreCells}
-use Rattle.rs_attr.specs.Steps.{BecomeIndexes, ChangeIndexes, HoldNoIndexes}
+use Rattle.rs_attr.specs.Inner.{BecomeIndexes, ChangeIndexes, HoldNoIndexes}
 use Rattle.rs_attr.specs.Tables.{BecomesTable, ChangesTable, HoldIndexes, HoldsNoTable, IndexState, all_of}
 use Rattle.rs_attr.proofs.Placing.{keeps_part, kept_indexes}
 use Rattle.rs_attr.proofs.Together.{moves_none}

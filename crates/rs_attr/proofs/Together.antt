@@ -4,7 +4,7 @@ use Rattle.std.proofs.lemmas.List.{drop-set-lt, drop_all, take_all}
 use Rattle.std.proofs.Math.Seq.{drop-cons, take-suc-set}
 use Rattle.std.specs.List.{AllByRecursion}
 use Rattle.rs_attr.specs.Entries.{AreCells, ChangesIndex, Field, HoldsIndex, HoldsNoIndex}
-use Rattle.rs_attr.specs.Steps.{BecomeIndexes, BecomePartly, ChangeIndexes, ChangePartly, HoldNoIndexes}
+use Rattle.rs_attr.specs.Inner.{BecomeIndexes, ChangeIndexes, HoldNoIndexes}
 use Rattle.rs_attr.specs.Tables.{HoldIndexes, IndexState, all_of, kept_parts}
 use Rattle.rs_attr.proofs.Placing.{all_of-append, all_of-cons, keeps_part, kept_indexes}
 use Rattle.rs_owners.specs.Counts.{◌&◌}
@@ -28,6 +28,21 @@ one_more pages [] index cells [] used hold last = (last, tt)
 one_more pages [] index cells (u ∷ us) used hold last = absurd hold
 one_more pages (x ∷ xs) index cells [] used hold last = absurd hold
 one_more pages (x ∷ xs) index cells (u ∷ us) used hold last = (hold.0, one_more pages xs index cells us used hold.1 last)
+
+-- the first indexes have the entries of changed cells now and the last those of the cells still, and their pages have moved
+-- beside those of any other owners
+pub record BecomePartly (old new : PageMap) (before : ℕ → ℕ) (done left : List IndexState) (cells changed : List (List ℕ)) : Type 0 where
+  pub firsts : List (ℕ → ℕ)
+  pub lasts : List (ℕ → ℕ)
+  pub first : HoldIndexes new done changed firsts
+  pub last : HoldIndexes new left cells lasts
+  pub moves : Moves old new before (all_of firsts & all_of lasts)
+
+-- where indexes of some cells lie there, whose pages are shared with other owners and a free list, those of changed cells have
+-- taken the place of the first of them
+pub record ChangePartly (old new : PageMap) (were done left : List IndexState) (width : ℕ) (change : List (List ℕ) → List (List ℕ)) : Type 0 where
+  pub each : (cells : List (List ℕ)) (uses : List (ℕ → ℕ)) (others : ℕ → ℕ) → AreCells width cells → HoldIndexes old were cells uses
+      → Shares old (all_of uses & others) → BecomePartly old new (all_of uses) done left cells (change cells)
 
 module _ (old mid : PageMap) (were done left : List IndexState) (index : IndexState) (width : ℕ) (change : List (List ℕ) → List (List ℕ)) where
   -- the next index changes

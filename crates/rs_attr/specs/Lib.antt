@@ -1,6 +1,5 @@
-pub mod Defining
 pub mod Entries
 pub mod Finding
+pub mod Inner
 pub mod Opening
-pub mod Steps
 pub mod Tables

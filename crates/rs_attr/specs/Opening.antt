@@ -68,7 +68,7 @@ pub record ArePart (types : List ColumnType) (pages : PageMap) (indexes : List I
   pub say : AllByRecursion (λ cell. (event : Event) × SaysEvent types cell event) cells
   pub entered : HaveAllEntries pages indexes cells
 
--- one of the cells says no event, or has no entry in an index
+-- where each of the cells says an event, the indexes have no entries of cells that these are among
 pub record AreNoPart (types : List ColumnType) (pages : PageMap) (indexes : List IndexState) (cells : List (List ℕ)) : Type 0 where
   pub none : (uses : List (ℕ → ℕ)) (all : List (List ℕ)) → AllByRecursion (λ cell. (event : Event) × SaysEvent types cell event) cells
       → HoldIndexes pages indexes all uses → AllByRecursion (Contains all) cells → ⊥

@@ -126,8 +126,8 @@ impl AttrIndex {
     }
 
     /// Checks the tree, marks its pages, and answers how many entries it has. Ok exactly where a well formed tree stands there
-    /// none of whose pages was reached before; 94 where none does; 91 where a page couldn't be read. What is marked after a
-    /// refusal is open.
+    /// none of whose pages was reached before; 94 where none does; 91 where a page couldn't be read. Which pages are
+    /// marked after a refusal is unspecified.
     pub fn validate<P: Pages>(&self, pages: &mut P, reached: &mut Reached) -> Result<u64, Refusal>
         ensures rests { RestsAfter P.is_tied P.store P.keeps result pages.old pages.new }
         ensures size { length reached.new ≡ length reached.old }

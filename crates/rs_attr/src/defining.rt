@@ -4,7 +4,7 @@
 //! the given routes begins. Whatever routes are given, each cell is in one part.
 
 ghost use Rattle.std.specs.Prelude.{◌≡◌, ◌<◌, ℕ, List, IfOk, OnOk, false, length, true};
-ghost use Rattle.rs_attr.specs.Defining.{Appends, AppendsNone, Enters, EntersNone};
+ghost use Rattle.rs_attr.specs.Inner.{Appends, AppendsNone, Enters, EntersNone};
 ghost use Rattle.rs_attr.specs.Entries.{BecomesIndex, FitsPages, IsColumn};
 ghost use Rattle.rs_interval.specs.Finding.{event_form};
 ghost use Rattle.rs_owners.specs.Changes.{WorksAfter};
@@ -29,7 +29,7 @@ use std::alloc::Global;
 
 /// The index of a column of the table, with an entry for each of its events, living or dead. It is refused with 90, with 91,
 /// with 92 where the file is full, and with 94 only where no such events lie there with pages of their own; the working pages
-/// are to be abandoned then. Before its first commit the index is that of no entries.
+/// are to be abandoned then. Abandoned before its first commit, it is empty.
 pub fn define<P: Pages>(
     alloc: Global,
     pages: &mut P,
@@ -104,7 +104,7 @@ fn append<P: Pages>(
         → AppendsNone index.old.field (P.store pages.old).map index.old.working (listed cells.now))
         result (P.store pages.old) (P.store pages.new) }
     ensures appended { P.is_tied pages.old → OnOk result (Appends index.old.field (P.store pages.old).map (P.store pages.new).map
-        index.old.working index.new.working (listed cells.now) (length (listed cells.now))) }
+        index.old.working index.new.working (listed cells.now)) }
     ensures field { index.new.field ≡ index.old.field }
     ensures committed { index.new.committed ≡ index.old.committed }
 {

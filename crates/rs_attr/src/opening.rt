@@ -29,8 +29,8 @@ use std::alloc::Global;
 
 /// The table that lies in a file already, with rows of these columns, beside its indexes; their pages are marked. Ok exactly
 /// where it lies there as it was told, with the indexes of its cells, in pages none of which was reached before; 94 where no
-/// such table does; 90 and 91. Whatever routes are given, each cell is looked at. No page changes. What is marked after a
-/// refusal is open.
+/// such table does; 90 and 91. Whatever routes are given, each cell is looked at. No page changes. Which pages are marked
+/// after a refusal is unspecified.
 pub fn open<P: Pages>(
     alloc: Global,
     pages: &mut P,

@@ -5,7 +5,7 @@
 
 ghost use Rattle.std.specs.Prelude.{◌≡◌, ◌≢◌, ◌<◌, ◌≤◌, ◌↔◌, ℕ, List, Contains, IsTrue, IfOk, IsOkUnless, OnOk, count_by, length, false, min, nat_le, true, Err};
 ghost use Rattle.std.specs.List.{AllByRecursion};
-ghost use Rattle.rs_attr.specs.Steps.{ChangeIndexes, HoldNoIndexes};
+ghost use Rattle.rs_attr.specs.Inner.{ChangeIndexes, HoldNoIndexes};
 ghost use Rattle.rs_attr.specs.Tables.{AreOn, ChangesTable, HoldsNoTable, kept_parts};
 ghost use Rattle.rs_owners.specs.Changes.{WorksAfter};
 ghost use Rattle.rs_owners.specs.Counts.{◌&◌};
@@ -34,7 +34,8 @@ use std::alloc::Global;
 
 /// Puts the row on the route along the span, as versions from this one on see it, into the table and its indexes, and answers
 /// whether the record was not there before; where it was, nothing changes. It is refused with 90, with 91, with 92 where the
-/// file is full, and with 94 only where no such table with its indexes lies there with pages of their own.
+/// file is full, and with 94 only where no such table with its indexes lies there with pages of their own; the table, its
+/// indexes and the working pages are to be abandoned then.
 pub fn add<P: Pages>(
     alloc: Global,
     pages: &mut P,
@@ -77,7 +78,7 @@ pub fn add<P: Pages>(
 
 /// Ends a living event at a version, in the table and its indexes, and answers whether it was there: versions before this one
 /// see it as they did, and no other does. An event that no version saw before this one is taken out. It is refused as `add`
-/// is.
+/// is; the table, its indexes and the working pages are to be abandoned then.
 pub fn kill<P: Pages>(
     alloc: Global,
     pages: &mut P,
@@ -120,7 +121,8 @@ pub fn kill<P: Pages>(
 }
 
 /// Takes out events that no version from `oldest` on sees, those that died first before the others, at most so many, of the
-/// table and its indexes, and answers their cells. No page is needed: it is refused as `add` is, but for 92.
+/// table and its indexes, and answers their cells. No page is needed: it is refused as `add` is, but for 92; the table, its
+/// indexes and the working pages are to be abandoned then.
 pub fn vacuum<P: Pages>(
     alloc: Global,
     pages: &mut P,
@@ -156,7 +158,8 @@ pub fn vacuum<P: Pages>(
     Ok(taken)
 }
 
-/// Takes all events out of the table and all entries out of its indexes. No page is needed: it is refused as `add` is, but for 92.
+/// Takes all events out of the table and all entries out of its indexes. No page is needed: it is refused as `add` is, but for
+/// 92; the table, its indexes and the working pages are to be abandoned then.
 pub fn clear<P: Pages>(
     pages: &mut P,
     table: &mut EventTable,

@@ -1,9 +1,9 @@
 -- One cell after the other.
-use Rattle.std.proofs.Common.{◌≡◌, refl, sym, ap, ◌∙◌, subst, length, arith}
+use Rattle.std.proofs.Common.{refl, sym, ap, ◌∙◌, subst, arith}
 use Rattle.std.proofs.lemmas.Result.{err_from_is_err_and}
-use Rattle.rs_attr.specs.Defining.{Appends, AppendsNone}
+use Rattle.rs_attr.specs.Inner.{AppendsNone}
 use Rattle.rs_attr.specs.Entries.{ChangesIndex, Field, HoldsNoIndex}
-use Rattle.rs_attr.proofs.Parts.{appends_missing, appends_next, appends_none}
+use Rattle.rs_attr.proofs.Parts.{appends_all, appends_missing, appends_next, appends_none}
 use Rattle.rs_records.specs.Listed.{listed}
 use Rattle.rs_tree.specs.Cells.{with_cell}
 use Rattle.rs_tree_clear.proofs.Working.{CountsNothing-refl, CountsNothing-trans, Works-refl, Works-trans, works_err}
@@ -59,5 +59,4 @@ pub returns-clause-appended : goal.returns-clause-appended
 returns-clause-appended g c = λ tied.
     let old = (g.P.Pages.store c.args.pages.now).map in
     let new = (g.P.Pages.store c.loop-place.pages).map in
-    let whole : c.loop-place.place ≡ length (listed c.args.cells.now) = omega arith in
-    subst (Appends c.args.index.now.field old new c.args.index.now.working c.loop-place.index.working (listed c.args.cells.now)) whole (c.loop-place.invariant.appended tied)
+    appends_all c.args.index.now.field old c.args.index.now.working (listed c.args.cells.now) new c.loop-place.index.working c.loop-place.place (omega arith) (c.loop-place.invariant.appended tied)

@@ -1,6 +1,6 @@
 -- The first cells have come.
 use Rattle.std.proofs.Common.{◌≡◌}
-use Rattle.rs_attr.specs.Defining.{Appends}
+use Rattle.rs_attr.proofs.Parts.{AppendsFirst}
 use Rattle.rs_owners.specs.Changes.{Works, CountsNothing}
 use Rattle.rs_records.specs.Listed.{listed}
 use Rattle.rs_attr.proofs.defining.append.Given as goal
@@ -13,5 +13,5 @@ invariant-loop-place g l = record {
   field : l.index.field ≡ l.fn.index.field;
   committed : l.index.committed ≡ l.fn.index.committed;
   appended : g.P.Pages.is_tied l.fn.pages
-      → Appends l.fn.index.field (g.P.Pages.store l.fn.pages).map (g.P.Pages.store l.pages).map l.fn.index.working l.index.working (listed l.cells) l.place;
+      → AppendsFirst l.fn.index.field (g.P.Pages.store l.fn.pages).map (g.P.Pages.store l.pages).map l.fn.index.working l.index.working (listed l.cells) l.place;
 }

@@ -1,9 +1,9 @@
 -- Part by part, and at last what is below all that no cell reaches.
 use Rattle.std.proofs.Common.{◌≡◌, ℕ, List, [], ◌∷◌, replicate, slice_index_or, sym, ◌∙◌, subst, arith}
 use Rattle.std.proofs.lemmas.Result.{err_from_is_err_and}
-use Rattle.rs_attr.specs.Defining.{Defines, EntersNone}
+use Rattle.rs_attr.specs.Inner.{EntersNone}
 use Rattle.rs_attr.specs.Entries.{Field, IsColumn}
-use Rattle.rs_attr.proofs.Parts.{defines_all, defines_missing, defines_next, defines_none, none_wide, route_below}
+use Rattle.rs_attr.proofs.Parts.{Defines, defines_all, defines_missing, defines_next, defines_none, none_wide, route_below}
 use Rattle.rs_interval.specs.Finding.{event_form}
 use Rattle.rs_tree.proofs.Below.{below_one_way}
 use Rattle.rs_tree_clear.proofs.Working.{CountsNothing-refl, CountsNothing-trans, Works-refl, Works-trans, works_err}

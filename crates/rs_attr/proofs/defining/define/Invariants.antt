@@ -1,6 +1,6 @@
 -- The cells below a route have come.
 use Rattle.std.proofs.Common.{◌≡◌}
-use Rattle.rs_attr.specs.Defining.{Defines}
+use Rattle.rs_attr.proofs.Parts.{Defines}
 use Rattle.rs_attr.specs.Entries.{IsColumn}
 use Rattle.rs_attr.proofs.Parts.{SaysRoute}
 use Rattle.rs_owners.specs.Changes.{Works, CountsNothing}

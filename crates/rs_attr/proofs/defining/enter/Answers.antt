@@ -1,7 +1,7 @@
 -- What the search found comes after the entries that are there.
 use Rattle.std.proofs.Common.{ℕ, Ok, Err, inl, inr, sym, subst}
 use Rattle.std.proofs.lemmas.Result.{err_from_is_err_and}
-use Rattle.rs_attr.specs.Defining.{AppendsNone, EntersNone}
+use Rattle.rs_attr.specs.Inner.{AppendsNone, EntersNone}
 use Rattle.rs_attr.proofs.Parts.{enters_all, enters_missing, enters_no_tree}
 use Rattle.rs_interval.specs.Finding.{event_form}
 use Rattle.rs_records.specs.Listed.{listed}

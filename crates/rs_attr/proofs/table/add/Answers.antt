@@ -1,7 +1,7 @@
 -- The cell of the event comes into the table and its indexes.
 use Rattle.std.proofs.Common.{◌≡◌, ◌-◌, ◌^◌, ℕ, List, length, subst, sym, ap, ◌∙◌, rules}
 use Rattle.std.proofs.lemmas.Result.{err_from_is_err_and}
-use Rattle.rs_attr.specs.Steps.{ChangeIndexes, HoldNoIndexes}
+use Rattle.rs_attr.specs.Inner.{ChangeIndexes, HoldNoIndexes}
 use Rattle.rs_attr.specs.Tables.{HoldsNoTable}
 use Rattle.rs_attr.proofs.Tabled.{alone_among, cells_become, cells_move, cells_stay, indexes_stay, no_table, no_table_before, together}
 use Rattle.rs_attr.proofs.Together.{AreOf}

@@ -1,7 +1,7 @@
 -- The first indexes have no entries left.
 use Rattle.std.proofs.Common.{◌≡◌, [], take, drop}
 use Rattle.std.specs.List.{AllByRecursion}
-use Rattle.rs_attr.specs.Steps.{ChangePartly}
+use Rattle.rs_attr.proofs.Together.{ChangePartly}
 use Rattle.rs_attr.specs.Tables.{kept_parts}
 use Rattle.rs_owners.specs.Changes.{Works, CountsNothing}
 use Rattle.rs_versioned.specs.Events.{event_width}

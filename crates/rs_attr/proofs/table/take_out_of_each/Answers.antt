@@ -2,7 +2,7 @@
 use Rattle.std.proofs.Common.{refl, sym, length, slice_index_or, arith}
 use Rattle.std.proofs.lemmas.Result.{err_from_is_err_and}
 use Rattle.rs_attr.specs.Entries.{HoldsNoIndex}
-use Rattle.rs_attr.specs.Steps.{HoldNoIndexes}
+use Rattle.rs_attr.specs.Inner.{HoldNoIndexes}
 use Rattle.rs_attr.proofs.Together.{kept_next, missing_at, partly_at, partly_done, partly_none, wide_at}
 use Rattle.rs_tree.specs.Cells.{without_cell}
 use Rattle.rs_tree_clear.proofs.Working.{CountsNothing-refl, CountsNothing-trans, Works-refl, Works-trans, works_err}

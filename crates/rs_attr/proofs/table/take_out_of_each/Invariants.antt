@@ -1,6 +1,6 @@
 -- The first indexes have changed.
 use Rattle.std.proofs.Common.{◌≡◌, length, take, drop}
-use Rattle.rs_attr.specs.Steps.{ChangePartly}
+use Rattle.rs_attr.proofs.Together.{ChangePartly}
 use Rattle.rs_attr.specs.Tables.{kept_parts}
 use Rattle.rs_owners.specs.Changes.{Works, CountsNothing}
 use Rattle.rs_tree.specs.Cells.{without_cell}

@@ -2,7 +2,7 @@
 use Rattle.std.proofs.Common.{◌≡◌, ◌+◌, ℕ, suc, List, take, length, subst, sym, refl, ap, ◌∙◌, arith}
 use Rattle.std.proofs.lemmas.List.{take_all}
 use Rattle.std.proofs.lemmas.Result.{err_from_is_err_and}
-use Rattle.rs_attr.specs.Steps.{ChangeIndexes, HoldNoIndexes}
+use Rattle.rs_attr.specs.Inner.{ChangeIndexes, HoldNoIndexes}
 use Rattle.rs_attr.specs.Tables.{HoldsNoTable}
 use Rattle.rs_attr.proofs.Tabled.{become_as, cells_become, cells_move, change_as, changes_then, indexes_stay, no_table, no_table_before, none_before, together, without_all_are, without_last}
 use Rattle.rs_attr.proofs.Together.{AreOf, still_of}

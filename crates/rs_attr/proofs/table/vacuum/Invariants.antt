@@ -1,6 +1,6 @@
 -- The cells so far are taken out of each index.
 use Rattle.std.proofs.Common.{◌≡◌, take}
-use Rattle.rs_attr.specs.Steps.{ChangeIndexes}
+use Rattle.rs_attr.specs.Inner.{ChangeIndexes}
 use Rattle.rs_attr.specs.Tables.{kept_parts}
 use Rattle.rs_owners.specs.Changes.{Works, CountsNothing}
 use Rattle.rs_records.specs.Listed.{listed}
