@@ -1,6 +1,6 @@
 -- Events that are visible between two bounds, and the facts between these.
 use Rattle.std.proofs.Common.{◌≡◌, ◌<◌, ◌≤◌, ◌&&◌, ◌==◌, ◌⊎◌, ℕ, Bool, true, false, cond, nat_lt, List, [], ◌∷◌, map, filter, refl, sym, ap, ◌∙◌, inl, inr, arith}
-use Rattle.std.proofs.lemmas.Bool.{and_cases, and_from, lt-ltb, ltb-false}
+use Rattle.std.proofs.lemmas.Bool.{and_cases, and_from, false≢true, lt-ltb, ltb-false}
 use Rattle.std.specs.List.{AllByRecursion}
 use Rattle.rs_facts.specs.Fact.{Places, RowSet, add}
 use Rattle.rs_facts.specs.Insert.{with_row, within}
@@ -9,19 +9,33 @@ use Rattle.rs_facts.proofs.Placing.{within-false}
 use Rattle.rs_value.specs.Row.{Row}
 use Rattle.rs_versioned.specs.Events.{Event, facts_at, is_on, is_visible, sees_event, span_of}
 
-and_yes : (a b : Bool) → (a && true && b) ≡ (a && b)
-and_yes true b = refl
-and_yes false b = refl
+-- what is seen on the route and lies between two bounds is all that is seen there
+pub visible_within : (version route a b : ℕ) (events : List Event) → AllByRecursion (λ event. (a < event.hi) × (event.lo < b)) (filter (is_on version route) events)
+    → filter (is_visible version route a b) events ≡ filter (is_on version route) events
+visible_within version route a b [] all = refl
+visible_within version route a b (e ∷ es) all =
+    by_tests (e.route == route) (nat_lt e.lo b && nat_lt a e.hi) (sees_event version e) refl (visible_within version route a b es) all where
+      rest : List Event
+      rest = filter (is_on version route) es
 
-pub visible_whole : (version route b : ℕ) (events : List Event) → AllByRecursion (λ event. (0 < event.hi) × (event.lo < b)) events
-    → filter (is_visible version route 0 b) events ≡ filter (is_on version route) events
-visible_whole version route b [] all = refl
-visible_whole version route b (e ∷ es) all =
-    let between : (nat_lt e.lo b && nat_lt 0 e.hi) ≡ true = and_from (nat_lt e.lo b) (nat_lt 0 e.hi) (lt-ltb e.lo b all.0.1) (lt-ltb 0 e.hi all.0.0) in
-    let alike : is_visible version route 0 b e ≡ is_on version route e =
-    ap (λ t. e.route == route && t && sees_event version e) between ∙ and_yes (e.route == route) (sees_event version e) in
-    ap (λ t. cond t (e ∷ filter (is_visible version route 0 b) es) (filter (is_visible version route 0 b) es)) alike
-    ∙ ap (λ l. cond (is_on version route e) (e ∷ l) l) (visible_whole version route b es all.1)
+      seen : List Event
+      seen = filter (is_visible version route a b) es
+
+      Lie : List Event → Type 0
+      Lie = AllByRecursion (λ event. (a < event.hi) × (event.lo < b))
+
+      unseen : (t : Bool) → seen ≡ rest → cond (t && false) (e ∷ seen) seen ≡ rest
+      unseen true more = more
+      unseen false more = more
+
+      by_tests : (on between sees : Bool) → (nat_lt e.lo b && nat_lt a e.hi) ≡ between → (Lie rest → seen ≡ rest) → Lie (cond (on && sees) (e ∷ rest) rest)
+          → cond (on && between && sees) (e ∷ seen) seen ≡ cond (on && sees) (e ∷ rest) rest
+      by_tests false between sees is more lie = more lie
+      by_tests true between false is more lie = unseen between (more lie)
+      by_tests true true true is more lie = ap (λ (l : List Event). e ∷ l) (more lie.1)
+      by_tests true false true is more lie =
+          let inside : (nat_lt e.lo b && nat_lt a e.hi) ≡ true = and_from (nat_lt e.lo b) (nat_lt a e.hi) (lt-ltb e.lo b lie.0.1) (lt-ltb a e.hi lie.0.0) in
+          absurd (false≢true (sym is ∙ inside))
 
 -- a row along a span changes nothing outside it, and as much here as there
 row_outside : (lo hi k : ℕ) (row : Row) (places : Places) → (k < lo) ⊎ (hi ≤ k) → with_row lo hi row places k ≡ places k

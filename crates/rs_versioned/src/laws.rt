@@ -149,7 +149,7 @@ pub fn spans_in_another_order_are_the_same_runs()
 /// Events that are visible on all of a route are those of the route, and those that are visible between two bounds have its facts
 /// there.
 pub fn visible_events_are_those_of_the_route()
-    ensures whole { (version route b : ℕ) (events : List Event) → AllByRecursion (λ event. (0 < event.hi) × (event.lo < b)) events
+    ensures whole { (version route b : ℕ) (events : List Event) → AllByRecursion (λ event. (0 < event.hi) × (event.lo < b)) (filter (is_on version route) events)
         → filter (is_visible version route 0 b) events ≡ filter (is_on version route) events }
     ensures between { (version route a b k : ℕ) (events : List Event) → a ≤ k → k < b
         → places_of (map span_of (filter (is_visible version route a b) events)) k ≡ facts_at version route events k }
