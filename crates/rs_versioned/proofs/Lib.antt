@@ -16,6 +16,8 @@ pub mod Opened
 pub mod Overlapping
 pub mod Present
 pub mod PrintingOrder
+pub mod RunsByVersion
+pub mod RunsPrinted
 pub mod SameRuns
 pub mod SeenAfter
 pub mod Shuffles

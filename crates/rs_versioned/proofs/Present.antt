@@ -67,6 +67,20 @@ module _ {R : Type 0} (kept : Kept R) (laws : IsKept kept) where
       ap (λ (b : Bool). cond b (r ∷ filter (is_seen kept accepted) rs) (filter (is_seen kept accepted) rs)) (seen_where_living (kept.born r) (kept.died r) accepted before dated.0)
       ∙ ap (λ (l : List R). cond (kept.died r == LIVING) (r ∷ l) l) (seen_alike accepted rs before dated.1)
 
+  -- a later version sees of these what that version sees
+  level : (accepted to : ℕ) (records : List R) → accepted ≤ to → to < LIVING → AllByRecursion (IsDatedRecord kept accepted) records
+      → AllByRecursion (λ one. is_seen kept to one ≡ is_seen kept accepted one) records
+  level accepted to [] later before dated = tt
+  level accepted to (r ∷ rs) later before dated =
+      let then : IsDatedRecord kept to r = (omega (arith, dated.0.0, later), elim dated.0.1 [ inl lives ↦ inl lives | inr died ↦ inr (died.0, omega (arith, died.1, later)) ]) in (
+        seen_where_living (kept.born r) (kept.died r) to before then ∙ sym (seen_where_living (kept.born r) (kept.died r) accepted (omega arith) dated.0),
+        level accepted to rs later before dated.1,
+      )
+
+  pub held_level : (pages : PageMap) (standing : Standing) (accepted to : ℕ) (records : List R) (used : ℕ → ℕ) → HoldsRecords kept pages standing accepted records used → accepted ≤ to → to < LIVING
+      → AllByRecursion (λ one. is_seen kept to one ≡ is_seen kept accepted one) records
+  held_level pages standing accepted to records used holds later before = level accepted to records later before (held_dated pages standing accepted records used holds)
+
   pub held_present : (pages : PageMap) (standing : Standing) (accepted : ℕ) (records : List R) (used : ℕ → ℕ) → HoldsRecords kept pages standing accepted records used → accepted < LIVING
       → filter (is_seen kept accepted) records ≡ filter (λ one. kept.died one == LIVING) records
   held_present pages standing accepted records used holds before = seen_alike accepted records before (held_dated pages standing accepted records used holds)

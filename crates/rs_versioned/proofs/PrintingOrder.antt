@@ -1,5 +1,5 @@
 -- Cells of one route ascend as their events are printed.
-use Rattle.std.proofs.Common.{◌≡◌, ◌<◌, ◌≤◌, ◌+◌, ◌*◌, ◌%◌, ◌^◌, ◌==◌, ℕ, zero, suc, Bool, true, false, cond, List, [], ◌∷◌, ◌++◌, length, map, filter, refl, sym, ap, ◌∙◌, inl, inr, arith, pow-suc, mul_comm}
+use Rattle.std.proofs.Common.{◌≡◌, ◌<◌, ◌≤◌, ◌+◌, ◌*◌, ◌%◌, ◌^◌, ◌==◌, ◌&&◌, ℕ, zero, suc, Bool, true, false, cond, nat_lt, List, [], ◌∷◌, ◌++◌, length, map, filter, refl, sym, ap, ◌∙◌, inl, inr, arith, pow-suc, mul_comm}
 use Rattle.std.proofs.Math.Arith.{mod-mul}
 use Rattle.std.proofs.Math.Nat.{add-mul, mod-eq_of_lt, mod-lt, mul-le-mul_right, pow-le-pow_right}
 use Rattle.std.proofs.lemmas.Bool.{and_parts, cases_order, false≢true}
@@ -20,13 +20,13 @@ use Rattle.rs_value.specs.declared.column.ColumnType.{ColumnType}
 use Rattle.rs_value.specs.Row.{row_cmp}
 use Rattle.rs_value.proofs.EncodingOrder.{row_wide, rows_cmp}
 use Rattle.rs_versions.specs.Versioned.{Standing}
-use Rattle.rs_versioned.specs.Events.{AreInPrintingOrder, Event, SaysEvent, is_on, kept_events, sees_event, span_of, spans_at}
+use Rattle.rs_versioned.specs.Events.{AreInPrintingOrder, Event, SaysEvent, is_on, is_visible, kept_events, sees_event, span_of, spans_at}
 use Rattle.rs_versioned.specs.Records.{HoldsRecords}
 
 less : (x y : ℕ) → x < y → nat_cmp x y ≡ Less
 less x y h = sym (nat_cmp_is x y Less h)
 
-equal : (x y : ℕ) → x ≡ y → nat_cmp x y ≡ Equal
+pub equal : (x y : ℕ) → x ≡ y → nat_cmp x y ≡ Equal
 equal x y h = sym (nat_cmp_is x y Equal h)
 
 greater : (x y : ℕ) → y < x → nat_cmp x y ≡ Greater
@@ -39,7 +39,7 @@ beside a b unit x y h small =
     let apart : (a + 1) * unit ≡ a * unit + 1 * unit = add-mul a 1 unit in
     omega arith
 
-then_assoc : (one two three : Ordering) → ordering_then one (ordering_then two three) ≡ ordering_then (ordering_then one two) three
+pub then_assoc : (one two three : Ordering) → ordering_then one (ordering_then two three) ≡ ordering_then (ordering_then one two) three
 then_assoc Less two three = refl
 then_assoc Equal two three = refl
 then_assoc Greater two three = refl
@@ -84,21 +84,21 @@ front_cmp (suc k) x y xs ys =
     (mod-lt x (above_none k)) (mod-lt y (above_none k)) (digit_more k x) (digit_more k y))
 
 -- of four bytes
-word_cmp : (x y : ℕ) (xs ys : List ℕ) → x < 2 ^ 32 → y < 2 ^ 32
+pub word_cmp : (x y : ℕ) (xs ys : List ℕ) → x < 2 ^ 32 → y < 2 ^ 32
     → slice_cmp nat_cmp (to_be_bytes w32 x ++ xs) (to_be_bytes w32 y ++ ys) ≡ ordering_then (nat_cmp x y) (slice_cmp nat_cmp xs ys)
 word_cmp x y xs ys few small =
     front_cmp 4 x y xs ys ∙ ap (λ n. ordering_then (nat_cmp n (y % 2 ^ 32)) (slice_cmp nat_cmp xs ys)) (mod-eq_of_lt few)
     ∙ ap (λ n. ordering_then (nat_cmp x n) (slice_cmp nat_cmp xs ys)) (mod-eq_of_lt small)
 
 -- fronts of as many bytes are compared first
-fronts_cmp : (a b xs ys : List ℕ) → length a ≡ length b → slice_cmp nat_cmp (a ++ xs) (b ++ ys) ≡ ordering_then (slice_cmp nat_cmp a b) (slice_cmp nat_cmp xs ys)
+pub fronts_cmp : (a b xs ys : List ℕ) → length a ≡ length b → slice_cmp nat_cmp (a ++ xs) (b ++ ys) ≡ ordering_then (slice_cmp nat_cmp a b) (slice_cmp nat_cmp xs ys)
 fronts_cmp [] [] xs ys size = refl
 fronts_cmp [] (b ∷ bs) xs ys size = absurd (omega arith)
 fronts_cmp (a ∷ as_) [] xs ys size = absurd (omega arith)
 fronts_cmp (a ∷ as_) (b ∷ bs) xs ys size =
     ap (ordering_then (nat_cmp a b)) (fronts_cmp as_ bs xs ys (omega arith)) ∙ then_assoc (nat_cmp a b) (slice_cmp nat_cmp as_ bs) (slice_cmp nat_cmp xs ys)
 
-not_more : (o rest : Ordering) → is_lt (ordering_then o rest) ≡ true → o ≡ Greater → ⊥
+pub not_more : (o rest : Ordering) → is_lt (ordering_then o rest) ≡ true → o ≡ Greater → ⊥
 not_more o rest below more = false≢true (sym (ap (λ p. is_lt (ordering_then p rest)) more) ∙ below)
 
 -- what ties isn't less
@@ -140,32 +140,46 @@ module _ (types : List ColumnType) (cell other : List ℕ) (one two : Event) (sa
     by_order Equal e lower = not_tied (span_of one) (span_of two) e before
     by_order Greater e lower = not_more (stretch_cmp (span_of one) (span_of two)) (slice_cmp nat_cmp rest left) lower e
 
-module _ (types : List ColumnType) (version route : ℕ) where
-  on_route : (one : Event) → is_on version route one ≡ true → one.route ≡ route
-  on_route one on = let parts = and_parts (one.route == route) (sees_event version one) on in grind (arith, nat_tests)
+-- events of one route that are chosen from among those of a tree
+module _ (types : List ColumnType) (route : ℕ) (test : Event → Bool) (on_route : (one : Event) → test one ≡ true → one.route ≡ route) where
+  abbrev chosen : List Event → List Stretch
+  chosen events = map span_of (filter test events)
 
-  -- those after one that is seen are printed no earlier
+  -- those after one that is chosen are printed no earlier
   later_printed : (cell : List ℕ) (one : Event) (cells : List (List ℕ)) (events : List Event) → SaysEvent types cell one → one.route ≡ route → AllZip (SaysEvent types) cells events
-      → AllByRecursion (λ other. IsTrue (is_below cell other)) cells → AllByRecursion (λ later. stretch_cmp later (span_of one) ≡ Less → ⊥) (spans_at version route events)
+      → AllByRecursion (λ other. IsTrue (is_below cell other)) cells → AllByRecursion (λ later. stretch_cmp later (span_of one) ≡ Less → ⊥) (chosen events)
   later_printed cell one [] [] says on all above = tt
   later_printed cell one [] (e ∷ es) says on all above = absurd all
   later_printed cell one (c ∷ cs) [] says on all above = absurd all
-  later_printed cell one (c ∷ cs) (e ∷ es) says on all above = by_test (is_on version route e) refl (later_printed cell one cs es says on all.1 above.1) where
-    by_test : (b : Bool) → is_on version route e ≡ b → AllByRecursion (λ later. stretch_cmp later (span_of one) ≡ Less → ⊥) (spans_at version route es)
-        → AllByRecursion (λ later. stretch_cmp later (span_of one) ≡ Less → ⊥) (map span_of (cond b (e ∷ filter (is_on version route) es) (filter (is_on version route) es)))
+  later_printed cell one (c ∷ cs) (e ∷ es) says on all above = by_test (test e) refl (later_printed cell one cs es says on all.1 above.1) where
+    by_test : (b : Bool) → test e ≡ b → AllByRecursion (λ later. stretch_cmp later (span_of one) ≡ Less → ⊥) (chosen es)
+        → AllByRecursion (λ later. stretch_cmp later (span_of one) ≡ Less → ⊥) (map span_of (cond b (e ∷ filter test es) (filter test es)))
     by_test true is others = (not_before types cell c one e says all.0 (on ∙ sym (on_route e is)) above.0, others)
     by_test false is others = others
 
-  in_order : (cells : List (List ℕ)) (events : List Event) → AllZip (SaysEvent types) cells events → Ascends cells → AreInPrintingOrder (spans_at version route events)
+  in_order : (cells : List (List ℕ)) (events : List Event) → AllZip (SaysEvent types) cells events → Ascends cells → AreInPrintingOrder (chosen events)
   in_order [] [] all up = tt
   in_order [] (e ∷ es) all up = absurd all
   in_order (c ∷ cs) [] all up = absurd all
-  in_order (c ∷ cs) (e ∷ es) all up = by_test (is_on version route e) refl (in_order cs es all.1 up.1) where
-    by_test : (b : Bool) → is_on version route e ≡ b → AreInPrintingOrder (spans_at version route es)
-        → AreInPrintingOrder (map span_of (cond b (e ∷ filter (is_on version route) es) (filter (is_on version route) es)))
+  in_order (c ∷ cs) (e ∷ es) all up = by_test (test e) refl (in_order cs es all.1 up.1) where
+    by_test : (b : Bool) → test e ≡ b → AreInPrintingOrder (chosen es) → AreInPrintingOrder (map span_of (cond b (e ∷ filter test es) (filter test es)))
     by_test true is others = (later_printed c e cs es all.0 (on_route e is) all.1 up.0, others)
     by_test false is others = others
 
-pub held_in_order : (types : List ColumnType) (pages : PageMap) (standing : Standing) (accepted version route : ℕ) (events : List Event) (used : ℕ → ℕ)
-    → HoldsRecords (kept_events types) pages standing accepted events used → AreInPrintingOrder (spans_at version route events)
-held_in_order types pages standing accepted version route events used holds = in_order types version route holds.cells events holds.say holds.holds.tree.ascends
+same_route : (route : ℕ) (one : Event) (rest : Bool) → (one.route == route && rest) ≡ true → one.route ≡ route
+same_route route one rest on = let parts = and_parts (one.route == route) rest on in grind (arith, nat_tests)
+
+visible_route : (version route a b : ℕ) (one : Event) → is_visible version route a b one ≡ true → one.route ≡ route
+visible_route version route a b one seen =
+    let between : Bool = nat_lt one.lo b && nat_lt a one.hi in
+    let parts = and_parts (one.route == route && between) (sees_event version one) seen in
+    same_route route one between parts.0
+
+module _ (types : List ColumnType) (pages : PageMap) (standing : Standing) (accepted version route : ℕ) where
+  pub held_in_order : (events : List Event) (used : ℕ → ℕ) → HoldsRecords (kept_events types) pages standing accepted events used → AreInPrintingOrder (spans_at version route events)
+  held_in_order events used holds = in_order types route (is_on version route) (λ one. same_route route one (sees_event version one)) holds.cells events holds.say holds.holds.tree.ascends
+
+  pub held_window_in_order : (a b : ℕ) (events : List Event) (used : ℕ → ℕ) → HoldsRecords (kept_events types) pages standing accepted events used
+      → AreInPrintingOrder (map span_of (filter (is_visible version route a b) events))
+  held_window_in_order a b events used holds =
+      in_order types route (is_visible version route a b) (visible_route version route a b) holds.cells events holds.say holds.holds.tree.ascends

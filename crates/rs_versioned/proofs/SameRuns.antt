@@ -25,6 +25,9 @@ stays = shuffled Stays
     (λ x xs ys a. record { moved = IsPermutation-cons x xs ys a.moved; once = λ h. (all_shuffled (λ other. x ≡ other → ⊥) xs ys a.moved h.0, a.once h.1) })
     (λ x y xs. record { moved = IsPermutation-swap (x ∷ y ∷ xs) (y ∷ x ∷ xs) 0 1 (omega arith) (omega arith) (λ i. y ∷ x ∷ xs); once = λ h. ((λ same. h.0.0 (sym same), h.1.0), (h.0.1, h.1.1)) })
 
+pub once_shuffled : (xs ys : List Stretch) → IsPermutation xs ys → AreOnce xs → AreOnce ys
+once_shuffled xs ys p = (stays xs ys p).once
+
 pub runs_shuffled : (kind : Kind) (xs ys : List Stretch) → IsPermutation xs ys → AreAllRunsOf kind (places_of xs) xs → AreAllRunsOf kind (places_of ys) ys
 runs_shuffled kind xs ys p runs = subst (λ places. AreAllRunsOf kind places ys) (places_of-permutation xs ys p) (record {
   once = (stays xs ys p).once runs.once;

@@ -1,6 +1,6 @@
 -- What a version sees once records have come, ended or gone.
-use Rattle.std.proofs.Common.{◌≡◌, ◌<◌, ◌≤◌, ◌&&◌, ◌==◌, ℕ, suc, Bool, true, false, cond, nat_le, nat_lt, List, [], ◌∷◌, ◌++◌, map, filter, refl, sym, ap, ◌∙◌, subst, inl, inr, arith}
-use Rattle.std.proofs.lemmas.Bool.{and_from, and_left, and_right, le-leb, le-ltb, lt-leb, lt-ltb, ne_eqb}
+use Rattle.std.proofs.Common.{◌≡◌, ◌<◌, ◌≤◌, ◌&&◌, ◌==◌, ◌⊎◌, ℕ, zero, suc, Bool, true, false, cond, nat_le, nat_lt, List, [], ◌∷◌, ◌++◌, map, filter, refl, sym, ap, ◌∙◌, subst, inl, inr, arith}
+use Rattle.std.proofs.lemmas.Bool.{and_from, and_left, and_right, le-leb, le-ltb, false≢true, lt-leb, lt-ltb, ne_eqb}
 use Rattle.std.proofs.lemmas.Bool.Decides.{nat_tests}
 use Rattle.std.proofs.lemmas.List.Sorted.{Contains-permutation, IsPermutation-cons, IsPermutation-map, IsPermutation-refl, IsPermutation-sym, IsPermutation-trans}
 use Rattle.std.specs.List.{AllByRecursion, Contains}
@@ -14,6 +14,11 @@ pub record EndsAs {R Y : Type 0} (kept : Kept R) (route_of : R → ℕ) (show : 
   pub shown : (version : ℕ) (one : R) → show (kept.ended version one) ≡ show one
   pub born : (version : ℕ) (one : R) → kept.born (kept.ended version one) ≡ kept.born one
   pub died : (version : ℕ) (one : R) → kept.died (kept.ended version one) ≡ version
+
+-- one was there twice among these and is there once now
+pub record WasTwice {Y : Type 0} (one : Y) (old now : List Y) : Type 0 where
+  pub more : IsPermutation old (one ∷ now)
+  pub there : Contains now one
 
 same_number : (n : ℕ) → (n == n) ≡ true
 same_number n = grind (arith, nat_tests)
@@ -125,6 +130,50 @@ module _ {R Y : Type 0} (kept : Kept R) (route_of : R → ℕ) (show : R → Y) 
               then now gone.rest (one ∷ gone.rest) (shuffled_shown now gone.rest early.1) (back (one ∷ gone.rest) gone.rest (first_unseen one gone.rest (hidden early.0)))
         ]) before
 
+    -- what is seen is shown
+    shown_has : (one : R) (xs : List R) → is_there version route one ≡ true → Contains xs one → Contains (shown xs) (show one)
+    shown_has one [] seen has = absurd (omega (arith, has.1))
+    shown_has one (x ∷ xs) seen (zero, inside, is) =
+        let here : shown (x ∷ xs) ≡ show x ∷ shown xs = first true x xs (ap (is_there version route) is ∙ seen) in
+        subst (λ l. Contains l (show one)) (sym here) (0, omega arith, ap show is)
+    shown_has one (x ∷ xs) seen (suc k, inside, is) =
+        subst (λ l. Contains l (show one)) (sym (first (is_there version route x) x xs refl)) (by_test (is_there version route x) (shown_has one xs seen (k, omega arith, is))) where
+          by_test : (b : Bool) → Contains (shown xs) (show one) → Contains (cond b (show x ∷ shown xs) (shown xs)) (show one)
+          by_test true more = (suc more.0, omega (arith, more.1), more.2)
+          by_test false more = more
+
+    -- what is seen with its end as without it is seen as before, or it was there twice
+    pub still_seen_or_twice : (at : ℕ) (one : R) (old now : List R) → HasEnded kept at one old now
+        → is_there version route (kept.ended at one) ≡ is_there version route one → show (kept.ended at one) ≡ show one → (at ≤ kept.born one → is_there version route one ≡ false)
+        → IsPermutation (shown_at version route now) (shown_at version route old) ⊎ WasTwice (show one) (shown_at version route old) (shown_at version route now)
+    still_seen_or_twice at one old now ended alike look hidden = by_test (is_there version route one) refl where
+      last : R
+      last = kept.ended at one
+
+      by_test : (b : Bool) → is_there version route one ≡ b → IsPermutation (shown now) (shown old) ⊎ WasTwice (show one) (shown old) (shown now)
+      by_test false unseen = inl (unseen_ended at one old now ended unseen (alike ∙ unseen))
+      by_test true seen = elim ended [
+        | inl missing ↦ inl (shuffled_shown now old missing.same)
+        | inr gone ↦
+            let was : IsPermutation (shown old) (show one ∷ shown gone.rest) = subst (IsPermutation (shown old)) (first true one gone.rest seen) (shuffled_shown old (one ∷ gone.rest) gone.were) in
+            elim gone.are [
+              | inl late ↦ elim late.1 [
+                | inl twin ↦
+                    let left : Same gone.rest now = back now gone.rest (shuffled_shown now gone.rest twin.same) in
+                    let again : Contains (shown gone.rest) (show one) = subst (Contains (shown gone.rest)) look (shown_has last gone.rest (alike ∙ seen) twin.there) in
+                    inr (record {
+                      more = IsPermutation-trans (shown old) (show one ∷ shown gone.rest) (show one ∷ shown now) was (IsPermutation-cons (show one) (shown gone.rest) (shown now) left);
+                      there = Contains-permutation (shown gone.rest) (shown now) (show one) left again;
+                    })
+                | inr come ↦
+                    let more : IsPermutation (shown now) (show last ∷ shown gone.rest) = subst (IsPermutation (shown now)) (first true last gone.rest (alike ∙ seen)) (shuffled_shown now (last ∷ gone.rest) come.more) in
+                    let level : IsPermutation (shown now) (show one ∷ shown gone.rest) = subst (λ s. IsPermutation (shown now) (s ∷ shown gone.rest)) look more in
+                    inl (IsPermutation-trans (shown now) (show one ∷ shown gone.rest) (shown old) level (IsPermutation-sym (shown old) (show one ∷ shown gone.rest) was))
+              ]
+              | inr early ↦ absurd (false≢true (sym (hidden early.0) ∙ seen))
+            ]
+      ]
+
     none_seen : (oldest : ℕ) (gone now : List R) → oldest ≤ version → AllByRecursion (λ one. kept.died one ≤ oldest) gone → Same (gone ++ now) now
     none_seen oldest [] now before all = IsPermutation-refl (shown now)
     none_seen oldest (x ∷ gone) now before all =
@@ -149,17 +198,24 @@ module _ {R Y : Type 0} (kept : Kept R) (route_of : R → ℕ) (show : R → Y) 
   come_elsewhere version route one old now more apart = unseen_come version route one old now more (apart_from version route one apart)
 
   module _ (ends : EndsAs kept route_of show) where
-    pub before_end : (version at route : ℕ) (one : R) (old now : List R) → HasEnded kept version one old now → (Contains old (kept.ended version one) → ⊥)
-        → at < version → at < kept.died one → IsPermutation (shown_at at route now) (shown_at at route old)
-    before_end version at route one old now ended new before lives =
+    alike_before : (version at route : ℕ) (one : R) → at < version → at < kept.died one → is_there at route (kept.ended version one) ≡ is_there at route one
+    alike_before version at route one before lives =
         let last : R = kept.ended version one in
         let later : nat_lt at (kept.died last) ≡ nat_lt at (kept.died one) =
         ap (nat_lt at) (ends.died version one) ∙ lt-ltb at version before ∙ sym (lt-ltb at (kept.died one) lives) in
-        let alike : is_there at route last ≡ is_there at route one =
         ap (λ (n : ℕ). n == route && is_seen kept at last) (ends.route version one)
         ∙ ap (λ (n : ℕ). route_of one == route && (nat_le n at && nat_lt at (kept.died last))) (ends.born version one)
-        ∙ ap (λ b. route_of one == route && (nat_le (kept.born one) at && b)) later in
-        still_seen at route version one old now ended new alike (ends.shown version one) (λ late. unborn at route one (omega (arith, late, before)))
+        ∙ ap (λ b. route_of one == route && (nat_le (kept.born one) at && b)) later
+
+    pub before_end : (version at route : ℕ) (one : R) (old now : List R) → HasEnded kept version one old now → (Contains old (kept.ended version one) → ⊥)
+        → at < version → at < kept.died one → IsPermutation (shown_at at route now) (shown_at at route old)
+    before_end version at route one old now ended new before lives =
+        still_seen at route version one old now ended new (alike_before version at route one before lives) (ends.shown version one) (λ late. unborn at route one (omega (arith, late, before)))
+
+    pub before_end_or_twice : (version at route : ℕ) (one : R) (old now : List R) → HasEnded kept version one old now → at < version → at < kept.died one
+        → IsPermutation (shown_at at route now) (shown_at at route old) ⊎ WasTwice (show one) (shown_at at route old) (shown_at at route now)
+    before_end_or_twice version at route one old now ended before lives =
+        still_seen_or_twice at route version one old now ended (alike_before version at route one before lives) (ends.shown version one) (λ late. unborn at route one (omega (arith, late, before)))
 
     pub from_end : (version at : ℕ) (one : R) (old now : List R) → WasEnded kept version one old now → kept.born one ≤ at → at < kept.died one → version ≤ at
         → IsPermutation (shown_at at (route_of one) old) (show one ∷ shown_at at (route_of one) now)

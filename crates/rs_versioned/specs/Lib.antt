@@ -2,4 +2,5 @@ pub mod Events
 pub mod Opening
 pub mod Referents
 pub mod Records
+pub mod Runs
 pub mod Tables

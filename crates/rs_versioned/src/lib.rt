@@ -9,6 +9,7 @@ pub mod laws;
 pub mod opening;
 pub mod referent;
 pub mod referent_table;
+pub mod run_laws;
 mod seeing;
 pub mod told;
 
