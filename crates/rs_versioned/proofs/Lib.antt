@@ -3,6 +3,7 @@ pub mod CellParts
 pub mod CellVersions
 pub mod CellsWide
 pub mod Changing
+pub mod EndedLater
 pub mod EventCells
 pub mod EventsSeen
 pub mod InTables

@@ -99,18 +99,49 @@ pub fn event_that_has_come_is_seen_from_its_birth()
 {}
 
 /// Versions before its end have the span of an event that has ended, where it was not there as an ended one; from its end on they
-/// have all others.
+/// have all others. The facts of versions before its end stay as they were, even where it was there as an ended one.
 pub fn event_that_has_ended_is_seen_before_its_end()
     ensures before { (types : List ColumnType) (version at route : ℕ) (one : Event) (old now : List Event)
         → HasEnded (kept_events types) version one old now → (Contains old (ended_event version one) → ⊥)
         → one.died ≡ LIVING → version < LIVING → at < version
         → IsPermutation (spans_at at route now) (spans_at at route old) }
+    ensures facts_before { (types : List ColumnType) (version at route : ℕ) (one : Event) (old now : List Event)
+        → HasEnded (kept_events types) version one old now → one.died ≡ LIVING → version < LIVING → at < version
+        → facts_at at route now ≡ facts_at at route old }
     ensures after { (types : List ColumnType) (version at : ℕ) (one : Event) (old now : List Event)
         → WasEnded (kept_events types) version one old now → one.died ≡ LIVING → one.born ≤ at → at < LIVING → version ≤ at
         → IsPermutation (spans_at at one.route old) (span_of one ∷ spans_at at one.route now) }
     ensures elsewhere { (types : List ColumnType) (version at route : ℕ) (one : Event) (old now : List Event)
         → HasEnded (kept_events types) version one old now → (route ≡ one.route → ⊥)
         → IsPermutation (spans_at at route now) (spans_at at route old) }
+{}
+
+/// No event has ended at a version after the one that was accepted last. While a command changes events at that version, those
+/// that are there with that end are those that it has ended: neither one that comes nor the end of another adds one.
+pub fn no_event_ended_after_the_accepted_version()
+    ensures none { (types : List ColumnType) (pages : PageMap) (standing : Standing) (accepted version : ℕ) (one : Event) (events : List Event) (used : ℕ → ℕ)
+        → HoldsRecords (kept_events types) pages standing accepted events used → accepted < version → version < LIVING
+        → Contains events (ended_event version one) → ⊥ }
+    ensures come { (version : ℕ) (one other : Event) (old now : List Event)
+        → HasOneMore other old now → other.died ≡ LIVING → version < LIVING
+        → (Contains old (ended_event version one) → ⊥) → Contains now (ended_event version one) → ⊥ }
+    ensures ended { (types : List ColumnType) (version : ℕ) (one other : Event) (old now : List Event)
+        → HasEnded (kept_events types) version other old now → one.died ≡ LIVING → other.died ≡ LIVING → (one ≡ other → ⊥)
+        → (Contains old (ended_event version one) → ⊥) → Contains now (ended_event version one) → ⊥ }
+{}
+
+/// No referent has ended at a version after the one that was accepted last. While a command changes referents at that version,
+/// those that are there with that end are those that it has ended: neither one that comes nor the end of another adds one.
+pub fn no_referent_ended_after_the_accepted_version()
+    ensures none { (pages : PageMap) (standing : Standing) (accepted version : ℕ) (one : ReferentRecord) (referents : List ReferentRecord) (used : ℕ → ℕ)
+        → HoldsRecords kept_referents pages standing accepted referents used → accepted < version → version < LIVING
+        → Contains referents (ended_referent version one) → ⊥ }
+    ensures come { (version : ℕ) (one other : ReferentRecord) (old now : List ReferentRecord)
+        → HasOneMore other old now → other.died ≡ LIVING → version < LIVING
+        → (Contains old (ended_referent version one) → ⊥) → Contains now (ended_referent version one) → ⊥ }
+    ensures ended { (version : ℕ) (one other : ReferentRecord) (old now : List ReferentRecord)
+        → HasEnded kept_referents version other old now → one.died ≡ LIVING → other.died ≡ LIVING → (one ≡ other → ⊥)
+        → (Contains old (ended_referent version one) → ⊥) → Contains now (ended_referent version one) → ⊥ }
 {}
 
 /// Versions from the oldest on have the spans that they had before events were cleared.
