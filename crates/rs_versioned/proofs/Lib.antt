@@ -11,6 +11,7 @@ pub mod KeptReferents
 pub mod KeptRecords
 pub mod Lifting
 pub mod ReferentCells
+pub mod NameOrder
 pub mod Numbers
 pub mod OnRoutes
 pub mod Opened

@@ -1,7 +1,9 @@
 -- Referent records, and the cells that say them.
-use Rattle.std.specs.Prelude.{◌≡◌, ◌<◌, ◌≤◌, ◌-◌, ◌^◌, ℕ, Bool, ◌==◌, ◌&&◌, nat_le, nat_lt, List, [], ◌++◌, filter, length, map, replicate}
+use Rattle.std.specs.Prelude.{◌≡◌, ◌<◌, ◌≤◌, ◌-◌, ◌^◌, ℕ, Bool, ◌==◌, ◌&&◌, nat_le, nat_lt, List, [], ◌∷◌, ◌++◌, filter, length, map, replicate}
 use Rattle.std.specs.Int.{w32, w64, to_be_bytes}
 use Rattle.std.specs.List.{AllByRecursion}
+use Rattle.std.specs.declared.cmp.Ordering.TheVariants.{Less}
+use Rattle.rs_facts.specs.Fact.{name_cmp}
 use Rattle.rs_tree.specs.declared.summary.NoSummary.{NoSummary}
 use Rattle.rs_tree.specs.Form.{Form, form_of}
 use Rattle.rs_versioned.specs.Records.{Kept}
@@ -51,3 +53,8 @@ is_referent_of version route referent = referent.route == route && (nat_le refer
 -- the names and measures of the referents that a version sees on a route
 abbrev pub referents_at : ℕ → ℕ → List ReferentRecord → List (List ℕ × ℕ)
 referents_at version route referents = map (λ referent. (referent.name, referent.measure)) (filter (is_referent_of version route) referents)
+
+-- none has a name that comes before the name of one that is listed before it, byte by byte
+abbrev pub AreInNameOrder : List (List ℕ × ℕ) → Type 0
+AreInNameOrder [] = Unit {0}
+AreInNameOrder (first ∷ rest) = AllByRecursion (λ later. name_cmp later.0 first.0 ≡ Less → ⊥) rest × AreInNameOrder rest

@@ -204,9 +204,9 @@ impl EventTable {
         self.versions.kill(pages, version, cell)
     }
 
-    /// The cells of the events on the route that begin before `b` and end after `a`, in thousandths, and that the version sees:
-    /// as they are printed. It is refused with 90, with 91, and with 94 only where no tree
-    /// stands there. No page changes.
+    /// The cells of the events on the route that begin before `b` and end after `a`, in thousandths, and that the version sees,
+    /// in the order in which their spans are printed (`laws::spans_are_in_printing_order`). It is refused with 90, with 91, and
+    /// with 94 only where there is no tree. No page changes.
     pub fn visible<P: Pages>(
         &self,
         alloc: Global,

@@ -10,7 +10,7 @@ ghost use Rattle.rs_pages.specs.PageMap.{PageMap};
 ghost use Rattle.rs_value.specs.declared.column.ColumnType.{ColumnType};
 ghost use Rattle.rs_value.specs.declared.column.Kind.{Kind};
 ghost use Rattle.rs_versioned.specs.Events.{AreInPrintingOrder, Event, SaysEvent, ended_event, event_width, facts_at, is_on, is_visible, kept_events, sees_event, span_of, spans_at};
-ghost use Rattle.rs_versioned.specs.Referents.{ReferentRecord, SaysReferent, ended_referent, kept_referents, referent_width, referents_at};
+ghost use Rattle.rs_versioned.specs.Referents.{AreInNameOrder, ReferentRecord, SaysReferent, ended_referent, kept_referents, referent_width, referents_at};
 ghost use Rattle.rs_versioned.specs.Records.{WasAdded, HasEnded, WasEnded, HasOneMore, HasCleared, HoldsRecords, is_seen};
 ghost use Rattle.rs_versioned.specs.declared.event.TheConstants.{EVENT_BYTES};
 ghost use Rattle.rs_versioned.specs.declared.referent.TheConstants.{REFERENT_BYTES};
@@ -207,8 +207,17 @@ pub fn present_version_sees_the_living()
         → count_by (λ referent. nat_le referent.died accepted) referents ≡ length standing.dead }
 {}
 
-/// Spans that a version sees on a route are in printing order.
+/// Spans that a version sees on a route are in printing order, and so are those that it sees between two bounds.
 pub fn spans_are_in_printing_order()
-    ensures { (types : List ColumnType) (pages : PageMap) (standing : Standing) (accepted version route : ℕ) (events : List Event) (used : ℕ → ℕ)
+    ensures whole { (types : List ColumnType) (pages : PageMap) (standing : Standing) (accepted version route : ℕ) (events : List Event) (used : ℕ → ℕ)
         → HoldsRecords (kept_events types) pages standing accepted events used → AreInPrintingOrder (spans_at version route events) }
+    ensures between { (types : List ColumnType) (pages : PageMap) (standing : Standing) (accepted version route a b : ℕ) (events : List Event) (used : ℕ → ℕ)
+        → HoldsRecords (kept_events types) pages standing accepted events used
+        → AreInPrintingOrder (map span_of (filter (is_visible version route a b) events)) }
+{}
+
+/// The names of the referents that a version sees on a route never fall, byte by byte.
+pub fn referents_are_in_name_order()
+    ensures { (pages : PageMap) (standing : Standing) (accepted version route : ℕ) (referents : List ReferentRecord) (used : ℕ → ℕ)
+        → HoldsRecords kept_referents pages standing accepted referents used → AreInNameOrder (referents_at version route referents) }
 {}

@@ -172,8 +172,9 @@ impl ReferentTable {
         self.versions.kill(pages, version, cell)
     }
 
-    /// The cells of the route's referents that the version sees, by name. It is refused with 90, with 91, and with 94 only where
-    /// no tree stands there. No page changes.
+    /// The cells of the route's referents that the version sees, in the order of their names, byte by byte
+    /// (`laws::referents_are_in_name_order`). It is refused with 90, with 91, and with 94 only where there is no tree. No page
+    /// changes.
     pub fn visible<P: Pages>(
         &self,
         alloc: Global,
