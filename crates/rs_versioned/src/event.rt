@@ -1,6 +1,6 @@
-//! The cell of an event record.
+//! This module writes and reads the cell of an event record.
 //!
-//! It is the route in four bytes, the first thousandth in four, the row as it is encoded, the version of its birth in eight,
+//! The cell is the route in four bytes, the first thousandth in four, the row as it is encoded, the version of its birth in eight,
 //! the first thousandth after it in four, and the version of its end in eight.
 
 ghost use Rattle.std.specs.Prelude.{◌≡◌, ◌⊎◌, ◌+◌, ◌≤◌, ◌++◌, ◌↔◌, ℕ, List, IfOk, IfErr, OnOk, IsTrue, length};

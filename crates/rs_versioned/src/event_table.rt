@@ -125,8 +125,8 @@ impl EventTable {
 
     /// Puts the row on the route along the span, as versions from this one on see it, and answers whether the record was not
     /// there before; where it was, nothing changes. It is refused with 90, with 91, with 92 where the file is full, and with
-    /// 94 only where no such records lie there with pages of their own; the table is as it was then, and the working pages are
-    /// to be abandoned.
+    /// 94 only where no such records lie there with pages of their own; after a refusal the table is as it was, and the working
+    /// pages are to be abandoned.
     pub fn add<P: Pages>(
         &mut self,
         alloc: Global,
@@ -168,8 +168,8 @@ impl EventTable {
 
     /// Ends a living event at a version, and answers whether it was there: versions before this one see it as they did, and
     /// no other does. An event that no version saw before this one is taken out. It is refused with 90, with 91, with 92
-    /// where the file is full, and with 94 only where no such records lie there with pages of their own; the table is as it was
-    /// then.
+    /// where the file is full, and with 94 only where no such records lie there with pages of their own; after a refusal the table
+    /// is as it was, and the working pages are to be abandoned.
     pub fn kill<P: Pages>(
         &mut self,
         pages: &mut P,
@@ -234,7 +234,7 @@ impl EventTable {
 
     /// Takes out events that no version from `oldest` on sees, those that died first before the others, at most so many, and
     /// answers their cells. No page is needed. It is refused with 90, with 91, and with 94 only where no such records lie there
-    /// with pages of their own; the table is as it was then.
+    /// with pages of their own; after a refusal the table is as it was, and the working pages are to be abandoned.
     pub fn vacuum<P: Pages>(
         &mut self,
         alloc: Global,
@@ -269,7 +269,7 @@ impl EventTable {
     }
 
     /// Takes out all events and frees their pages. It is refused with 90, with 91, and with 94 only where no such records lie
-    /// there with pages of their own; the table is as it was then.
+    /// there with pages of their own; after a refusal the table is as it was, and the working pages are to be abandoned.
     pub fn clear<P: Pages>(&mut self, pages: &mut P) -> Result<(), Refusal>
         requires begun { (P.store pages.old).is_begun ≡ true }
         ensures keeps { P.keeps pages.old pages.new }

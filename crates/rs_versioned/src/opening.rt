@@ -25,8 +25,8 @@ use std::alloc::Global;
 
 impl ReferentTable {
     /// The referents that lie in a file already, whose pages it marks. Ok exactly where they lie there as they were told, in
-    /// pages none of which was reached before; 94 where none do; 90 and 91. No page changes. What is marked after a refusal is
-    /// open.
+    /// pages none of which was reached before; 94 where none do; 90 and 91. No page changes. Which pages are marked after a
+    /// refusal is unspecified.
     pub fn open<P: Pages>(
         alloc: Global,
         pages: &mut P,

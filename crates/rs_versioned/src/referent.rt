@@ -1,6 +1,6 @@
-//! The cell of a referent record.
+//! This module writes and reads the cell of a referent record.
 //!
-//! It is the route in four bytes, the name in 32 with zeros at its end, the version of its birth in eight, the measure in four,
+//! The cell is the route in four bytes, the name in 32 with zeros at its end, the version of its birth in eight, the measure in four,
 //! and the version of its end in eight.
 
 ghost use Rattle.std.specs.Prelude.{◌≡◌, ◌<◌, ◌==◌, ◌↔◌, IfOk, IsTrue, length, replicate};

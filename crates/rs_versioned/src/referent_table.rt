@@ -99,8 +99,8 @@ impl ReferentTable {
 
     /// Puts the referent on its route, as versions from this one on see it, and answers whether the record was not there
     /// before; where it was, nothing changes. It is refused with 90, with 91, with 92 where the file is full, and with
-    /// 94 only where no such records lie there with pages of their own; the table is as it was then, and the working pages are
-    /// to be abandoned.
+    /// 94 only where no such records lie there with pages of their own; after a refusal the table is as it was, and the working
+    /// pages are to be abandoned.
     pub fn add<P: Pages>(
         &mut self,
         alloc: Global,
@@ -137,8 +137,8 @@ impl ReferentTable {
 
     /// Ends a living referent at a version, and answers whether it was there: versions before this one see it as they did, and
     /// no other does. A referent that no version saw before this one is taken out. It is refused with 90, with 91, with 92
-    /// where the file is full, and with 94 only where no such records lie there with pages of their own; the table is as it was
-    /// then.
+    /// where the file is full, and with 94 only where no such records lie there with pages of their own; after a refusal the table
+    /// is as it was, and the working pages are to be abandoned.
     pub fn kill<P: Pages>(
         &mut self,
         pages: &mut P,
@@ -203,7 +203,7 @@ impl ReferentTable {
 
     /// Takes out referents that no version from `oldest` on sees, those that died first before the others, at most so many, and
     /// answers their cells. No page is needed. It is refused with 90, with 91, and with 94 only where no such records lie there
-    /// with pages of their own; the table is as it was then.
+    /// with pages of their own; after a refusal the table is as it was, and the working pages are to be abandoned.
     pub fn vacuum<P: Pages>(
         &mut self,
         alloc: Global,
@@ -237,7 +237,7 @@ impl ReferentTable {
     }
 
     /// Takes out all referents and frees their pages. It is refused with 90, with 91, and with 94 only where no such records lie
-    /// there with pages of their own; the table is as it was then.
+    /// there with pages of their own; after a refusal the table is as it was, and the working pages are to be abandoned.
     pub fn clear<P: Pages>(&mut self, pages: &mut P) -> Result<(), Refusal>
         requires begun { (P.store pages.old).is_begun ≡ true }
         ensures keeps { P.keeps pages.old pages.new }

@@ -1,4 +1,4 @@
-//! Cells that a version sees, of some that were found.
+//! This module picks those of the cells that were found that a version sees.
 
 ghost use Rattle.std.specs.Prelude.{◌≡◌, ◌≤◌, IfOk, filter};
 ghost use Rattle.rs_records.specs.Listed.{listed, record_width};

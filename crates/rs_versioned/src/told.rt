@@ -1,4 +1,5 @@
-//! What a file says of a tree of records.
+//! A file says of each tree of records where it is and how many of its records live and are dead, and a tree is opened only as it
+//! is told.
 
 use rs_page::PageNumber;
 
