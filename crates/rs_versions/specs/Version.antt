@@ -4,11 +4,11 @@ use Rattle.std.specs.Int.{w64, to_be_bytes}
 use Rattle.byteorder.specs.Endian.{big_number}
 use Rattle.rs_versions.specs.declared.cell.TheConstants.{END_BYTES, LIVING, VERSION_BYTES}
 
--- the version from which on the cell is seen
+-- the first version that sees the cell
 unfoldable pub born_of : List ℕ → ℕ
 born_of cell = big_number 8 (drop (length cell - VERSION_BYTES) cell)
 
--- the version from which on it is seen no more
+-- the first version that no longer sees it
 unfoldable pub died_of : List ℕ → ℕ
 died_of cell = big_number 8 (drop (length cell - END_BYTES) cell)
 

@@ -1,7 +1,7 @@
-//! The versions in a cell's bytes.
+//! This module reads and writes the versions in a cell's bytes.
 //!
-//! The last 20 bytes of a cell are the version from which on it is seen, in eight bytes, four bytes of its own, and the
-//! version from which on it is seen no more, in eight. The highest byte of a number comes first.
+//! The last 20 bytes of a cell are the first version that sees it, in eight bytes, four bytes of its own, and the first version
+//! that no longer sees it, in eight. The highest byte of a number comes first.
 
 ghost use Rattle.std.specs.Prelude.{◌≡◌, ◌≤◌, ◌↔◌, IsTrue, length};
 ghost use Rattle.rs_versions.specs.Version.{IsDated, born_of, died_of, ended, is_clearable, is_living, sees};
@@ -14,10 +14,10 @@ pub const VERSION_BYTES: usize = 20;
 /// The bytes of the version of a cell's end.
 pub const END_BYTES: usize = 8;
 
-/// What stands in a living cell in place of the version of its end.
+/// What a living cell has in place of the version of its end.
 pub const LIVING: u64 = u64::MAX;
 
-/// The version from which on the cell is seen.
+/// The first version that sees the cell.
 #[tactic(auto, unfolding(crate::specs::Version::born_of))]
 pub fn born_of(cell: &[u8]) -> u64
     requires width { VERSION_BYTES ≤ length cell.now }
@@ -26,7 +26,7 @@ pub fn born_of(cell: &[u8]) -> u64
     BigEndian::read_u64(&cell[cell.len() - VERSION_BYTES..])
 }
 
-/// The version from which on the cell is seen no more; `LIVING` where there is none.
+/// The first version that no longer sees the cell; `LIVING` where there is none.
 #[tactic(auto, unfolding(crate::specs::Version::died_of))]
 pub fn died_of(cell: &[u8]) -> u64
     requires width { VERSION_BYTES ≤ length cell.now }

@@ -1,4 +1,4 @@
-//! Cells with versions that lie in a tree already: looked at part by part, dated and counted.
+//! This module looks at cells with versions that lie in a tree already, part by part: they are dated and counted.
 //!
 //! The tree is checked first and its pages are marked. The parts are given to the caller, who may have more to ask of them, so
 //! that no more than one part is in memory at a time.
@@ -119,7 +119,7 @@ impl<S: Summary> Opening<S> {
     }
 
     /// The next cells, from those looked at on, below the bound. They are dated. It is refused with 90, with 91, and with 94
-    /// where the cells that stand there are not as they were told; then the look ends.
+    /// where the cells that stand there are not as they were told; what was looked at after a refusal is unspecified.
     pub fn part<P: Pages>(
         &mut self,
         alloc: Global,

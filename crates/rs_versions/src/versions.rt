@@ -1,4 +1,4 @@
-//! Cells with versions, in a tree.
+//! This module keeps cells with versions in a tree.
 //!
 //! Changes are made together or not at all: `commit` keeps them, `abandon` takes them back, and neither takes memory. The
 //! pages are to be committed or abandoned with them.
@@ -125,7 +125,7 @@ impl<S: Summary> Versions<S> {
 
     /// Puts a living cell among the others, and answers whether it was not there before; where it was, nothing changes. It is
     /// refused with 90, with 91, with 92 where the file is full, and with 94 only where no such cells stand there with pages
-    /// of their own; the cells are as they were then, and the working pages are to be abandoned.
+    /// of their own; after a refusal the cells are as they were, and the working pages are to be abandoned.
     pub fn add<P: Pages>(&mut self, pages: &mut P, cell: &[u8]) -> Result<bool, Refusal>
         requires begun { (P.store pages.old).is_begun ≡ true }
         requires width { length cell.now ≡ self.old.width }
@@ -158,7 +158,8 @@ impl<S: Summary> Versions<S> {
 
     /// Ends a living cell at a version, and answers whether it was there: versions before this one see it as they did, and
     /// no other does. A cell that no version saw before this one is taken out: where `version <= born_of(cell)`, the caller
-    /// knows that it was taken out, and otherwise that it was ended. It is refused as `add` is.
+    /// knows that it was taken out, and otherwise that it was ended. It is refused as `add` is; after a refusal the cells are as
+    /// they were, and the working pages are to be abandoned.
     pub fn kill<P: Pages>(
         &mut self,
         pages: &mut P,
@@ -200,7 +201,8 @@ impl<S: Summary> Versions<S> {
     }
 
     /// Takes out cells that no version from `oldest` on sees, those that died first before the others, at most so many, and
-    /// answers them. No page is needed: it is refused as `add` is, but for 92.
+    /// answers them. No page is needed: it is refused as `add` is, but for 92; after a refusal the cells are as they were, and the
+    /// working pages are to be abandoned.
     pub fn vacuum<P: Pages>(
         &mut self,
         alloc: Global,
@@ -235,7 +237,8 @@ impl<S: Summary> Versions<S> {
         Ok(taken)
     }
 
-    /// Takes out all cells and frees their pages. It is refused as `add` is, but for 92.
+    /// Takes out all cells and frees their pages. It is refused as `add` is, but for 92; after a refusal the cells are as they
+    /// were, and the working pages are to be abandoned.
     pub fn clear<P: Pages>(&mut self, pages: &mut P) -> Result<(), Refusal>
         requires begun { (P.store pages.old).is_begun ≡ true }
         ensures keeps { P.keeps pages.old pages.new }
