@@ -98,11 +98,13 @@ created old new numbers said empty none stores =
       directory = directory_kept old new no_trees (moved.1.pages 1 (omega (arith, one_at-same 1))) (empty_directory old empty);
       said = record {
         numbered = record {
-          tables_below = tt;
-          tables_once = λ n. omega (arith, times-none n);
-          indexes_below = tt;
-          indexes_once = λ n. omega (arith, times-none n);
-          of_tables = tt;
+          given = record {
+            tables_below = tt;
+            tables_once = λ n. omega (arith, times-none n);
+            indexes_below = tt;
+            indexes_once = λ n. omega (arith, times-none n);
+            of_tables = tt;
+          };
           no_table = λ n below lacks. same_at 128 n no_tree below;
           no_index = λ n below lacks. same_at {A = ℕ} 64 n 0 below;
         };

@@ -6,5 +6,6 @@ pub mod One
 pub mod OneOpened
 pub mod Parts
 pub mod Selected
+pub mod Slotted
 pub mod TablesOpened
 pub mod Walked

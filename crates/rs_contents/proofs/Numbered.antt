@@ -52,12 +52,14 @@ pub said_numbered : (catalogue : StoredCatalogue) (directory : StoredDirectory) 
     → IndexesNumbered catalogue.tables.items catalogue.indexes.items → NoOtherTree catalogue.tables.items directory.tables.list.items
     → NoOtherRoot catalogue.indexes.items directory.indexes.list.items → AreNumbered (said_catalogue catalogue) (said_directory directory)
 said_numbered catalogue directory tables indexes trees roots = record {
-  tables_below = each_said said_table (λ (table : TableItem). table.number < 128) catalogue.tables.items tables.0;
-  tables_once = λ n. subst (λ numbers. times numbers n ≤ 1) (sym (said_tables catalogue)) (tables.1 n);
-  indexes_below = each_said said_index (λ (index : IndexItem). index.number < 64) catalogue.indexes.items indexes.0;
-  indexes_once = λ n. subst (λ numbers. times numbers n ≤ 1) (sym (said_indexes catalogue)) (indexes.1 n);
-  of_tables = each_said said_index (λ (index : IndexItem). 0 < times (table_numbers (said_catalogue catalogue)) index.table) catalogue.indexes.items
-      (subst (λ numbers. AllByRecursion (λ (index : StoredIndex). 0 < times numbers index.table) catalogue.indexes.items) (sym (said_tables catalogue)) indexes.2);
+  given = record {
+    tables_below = each_said said_table (λ (table : TableItem). table.number < 128) catalogue.tables.items tables.0;
+    tables_once = λ n. subst (λ numbers. times numbers n ≤ 1) (sym (said_tables catalogue)) (tables.1 n);
+    indexes_below = each_said said_index (λ (index : IndexItem). index.number < 64) catalogue.indexes.items indexes.0;
+    indexes_once = λ n. subst (λ numbers. times numbers n ≤ 1) (sym (said_indexes catalogue)) (indexes.1 n);
+    of_tables = each_said said_index (λ (index : IndexItem). 0 < times (table_numbers (said_catalogue catalogue)) index.table) catalogue.indexes.items
+        (subst (λ numbers. AllByRecursion (λ (index : StoredIndex). 0 < times numbers index.table) catalogue.indexes.items) (sym (said_tables catalogue)) indexes.2);
+  };
   no_table = λ n below none. trees n below (ap (λ numbers. times numbers n) (sym (said_tables catalogue)) ∙ none);
   no_index = λ n below none. roots n below (ap (λ numbers. times numbers n) (sym (said_indexes catalogue)) ∙ none);
 }
@@ -66,17 +68,17 @@ said_numbered catalogue directory tables indexes trees roots = record {
 pub tables_numbered : (catalogue : StoredCatalogue) (directory : StoredDirectory) → AreNumbered (said_catalogue catalogue) (said_directory directory)
     → TablesNumbered catalogue.tables.items
 tables_numbered catalogue directory numbered = (
-  said_each said_table (λ (table : TableItem). table.number < 128) catalogue.tables.items numbered.tables_below,
-  λ n. subst (λ numbers. times numbers n ≤ 1) (said_tables catalogue) (numbered.tables_once n),
+  said_each said_table (λ (table : TableItem). table.number < 128) catalogue.tables.items numbered.given.tables_below,
+  λ n. subst (λ numbers. times numbers n ≤ 1) (said_tables catalogue) (numbered.given.tables_once n),
 )
 
 pub indexes_numbered : (catalogue : StoredCatalogue) (directory : StoredDirectory) → AreNumbered (said_catalogue catalogue) (said_directory directory)
     → IndexesNumbered catalogue.tables.items catalogue.indexes.items
 indexes_numbered catalogue directory numbered = (
-  said_each said_index (λ (index : IndexItem). index.number < 64) catalogue.indexes.items numbered.indexes_below,
-  λ n. subst (λ numbers. times numbers n ≤ 1) (said_indexes catalogue) (numbered.indexes_once n),
+  said_each said_index (λ (index : IndexItem). index.number < 64) catalogue.indexes.items numbered.given.indexes_below,
+  λ n. subst (λ numbers. times numbers n ≤ 1) (said_indexes catalogue) (numbered.given.indexes_once n),
   subst (λ numbers. AllByRecursion (λ (index : StoredIndex). 0 < times numbers index.table) catalogue.indexes.items) (said_tables catalogue)
-      (said_each said_index (λ (index : IndexItem). 0 < times (table_numbers (said_catalogue catalogue)) index.table) catalogue.indexes.items numbered.of_tables),
+      (said_each said_index (λ (index : IndexItem). 0 < times (table_numbers (said_catalogue catalogue)) index.table) catalogue.indexes.items numbered.given.of_tables),
 )
 
 pub no_other_tree : (catalogue : StoredCatalogue) (directory : StoredDirectory) → AreNumbered (said_catalogue catalogue) (said_directory directory)

@@ -1,5 +1,5 @@
 -- The parts of a file: their pages, and that a change of one leaves all others.
-use Rattle.std.proofs.Common.{◌≡◌, ◌<◌, ◌≤◌, ◌+◌, ℕ, true, false, Some, List, [], ◌∷◌, ◌++◌, map, refl, ap, subst, inl, inr, arith}
+use Rattle.std.proofs.Common.{◌≡◌, ◌<◌, ◌≤◌, ◌+◌, ◌^◌, ℕ, true, false, Some, List, [], ◌∷◌, ◌++◌, map, refl, ap, subst, inl, inr, arith}
 use Rattle.std.proofs.lemmas.Bool.{cases_lt}
 use Rattle.std.specs.List.{AllByRecursion}
 use Rattle.rs_attr.specs.Tables.{all_of}
@@ -8,7 +8,7 @@ use Rattle.rs_catalog_pages.specs.Chain.{StoresBytes}
 use Rattle.rs_catalog_pages.specs.Directory.{DirectoryItems, HasDirectory, StoresDirectory}
 use Rattle.rs_catalog_pages.specs.Items.{CatalogueItems, SaysCatalogue}
 use Rattle.rs_catalog_pages.proofs.Chains.{catalogue_kept}
-use Rattle.rs_contents.specs.Contents.{Contents, HoldsDefinitions, HoldsParts, LiesTable, ReferentContents, TableContents, beside_definitions, beside_referents, beside_table, owned, table_pages}
+use Rattle.rs_contents.specs.Contents.{AreSaid, Contents, HoldsAll, HoldsDefinitions, HoldsParts, LiesTable, ReferentContents, TableContents, beside_definitions, beside_referents, beside_table, owned, table_pages}
 use Rattle.rs_owners.specs.Counts.{◌&◌, one_at, times}
 use Rattle.rs_owners.specs.Owners.{Keeps, KeepsPages, Moves, Shares}
 use Rattle.rs_owners.proofs.Moving.{one_at-same, pages_kept, replaces-moves, shares_same}
@@ -152,6 +152,18 @@ module _ (file : PageMap) (accepted : ℕ) (contents : Contents) (parts : HoldsP
           referents = referents_kept file new accepted to later others contents.referents (λ n own. omega arith) kept parts.referents;
           shares = beside.shares;
         }
+
+  -- and says what is open
+  pub directory_stored : (new : PageMap) (was now : DirectoryItems) → accepted ≤ now.accepted → HasDirectory file was → StoresDirectory file new now
+      → AreSaid (record contents { directory = now }) → now.accepted < 2 ^ 63 → AllByRecursion (λ route. route.born ≤ now.accepted) contents.definitions.routes
+      → HoldsAll new (record contents { directory = now })
+  directory_stored new was now later has stores said limit routes = record {
+    directory = record { page = stores.page; there = stores.replaces.there; is = stores.is };
+    said = said;
+    limit = limit;
+    routes = routes;
+    parts = directory_changed new now.accepted later was now has stores;
+  }
 
   module _ (new : PageMap) where
     -- a change of another part leaves the directory's page

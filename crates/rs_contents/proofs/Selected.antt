@@ -1,7 +1,7 @@
 -- What is paired with the items that a test selects.
-use Rattle.std.proofs.Common.{◌≡◌, ◌<◌, ◌+◌, ℕ, Bool, true, false, List, [], ◌∷◌, ◌++◌, cond, filter, length, map, get_or, take, drop, sym, ap, subst, ◌∙◌}
+use Rattle.std.proofs.Common.{◌≡◌, ◌<◌, ◌+◌, ℕ, Bool, true, false, List, [], ◌∷◌, ◌++◌, cond, filter, length, map, get_or, take, drop, sym, ap, subst, ◌∙◌, arith}
 use Rattle.std.specs.List.{AllByRecursion, AllZip}
-use Rattle.std.proofs.lemmas.List.{append-nil, drop_more, map-append, take-append-drop, take_more}
+use Rattle.std.proofs.lemmas.List.{append-nil, drop_more, length-append, map-append, take-append-drop, take_more}
 use Rattle.std.proofs.lemmas.List.Elements.{filter-append}
 
 -- one more pair
@@ -19,23 +19,33 @@ zip_none R (a ∷ rest) zs x none [] all = all
 zip_none R (a ∷ rest) zs x none (y ∷ ys) all = zip_none R rest zs x none ys all.1
 
 -- the items as they are said, of which a test selects some
-abbrev selected : {A X : Type 0} → (A → X) → (X → Bool) → List A → List X
+abbrev pub selected : {A X : Type 0} → (A → X) → (X → Bool) → List A → List X
 selected said has items = filter has (map said items)
 
-selected_more : {A X : Type 0} (said : A → X) (has : X → Bool) (items : List A) (i : ℕ) (item : A) → i < length items → item ≡ get_or items i item
+pub selected_more : {A X : Type 0} (said : A → X) (has : X → Bool) (items : List A) (i : ℕ) (item : A) → i < length items → item ≡ get_or items i item
     → selected said has (take (i + 1) items) ≡ selected said has (take i items) ++ cond (has (said item)) (said item ∷ []) []
 selected_more said has items i item inside is =
     ap (selected said has) (take_more items i item inside) ∙ ap (filter has) (map-append said (take i items) (get_or items i item ∷ []))
     ∙ filter-append has (map said (take i items)) (said (get_or items i item) ∷ [])
     ∙ ap (λ a. selected said has (take i items) ++ cond (has (said a)) (said a ∷ []) []) (sym is)
 
-selected_here : {A X : Type 0} (said : A → X) (has : X → Bool) (items : List A) (i : ℕ) (item : A) → i < length items → item ≡ get_or items i item
+pub selected_here : {A X : Type 0} (said : A → X) (has : X → Bool) (items : List A) (i : ℕ) (item : A) → i < length items → item ≡ get_or items i item
     → has (said item) ≡ true → selected said has items ≡ selected said has (take i items) ++ said item ∷ selected said has (drop (i + 1) items)
 selected_here said has items i item inside is so =
     ap (selected said has) (sym (take-append-drop i items)) ∙ ap (filter has) (map-append said (take i items) (drop i items))
     ∙ filter-append has (map said (take i items)) (map said (drop i items))
     ∙ ap (λ rest. selected said has (take i items) ++ selected said has rest) (drop_more items i item inside ∙ ap (λ a. a ∷ drop (i + 1) items) (sym is))
     ∙ ap (λ b. selected said has (take i items) ++ cond b (said item ∷ selected said has (drop (i + 1) items)) (selected said has (drop (i + 1) items))) so
+
+-- fewer are selected before an item that is selected
+pub selected_fewer : {A X : Type 0} (said : A → X) (has : X → Bool) (items : List A) (i : ℕ) (item : A) → i < length items → item ≡ get_or items i item
+    → has (said item) ≡ true → length (filter has (map said (take i items))) < length (filter has (map said items))
+selected_fewer said has items i item inside is so =
+    omega (
+      arith,
+      ap length (selected_here said has items i item inside is so),
+      length-append (selected said has (take i items)) (said item ∷ selected said has (drop (i + 1) items)),
+    )
 
 -- the pairs after one more item, which is selected or not
 pub selected_yes : {A X Y : Type 0} (said : A → X) (has : X → Bool) (R : X → Y → Type 0) (items : List A) (i : ℕ) (item : A) (ys : List Y) (y : Y) → i < length items

@@ -5,6 +5,7 @@ use Rattle.rs_attr.specs.Entries.{Field, FitsPages, IsColumn}
 use Rattle.rs_attr.specs.Tables.{HoldsTable, IndexState, all_of}
 use Rattle.rs_catalog_pages.specs.Chain.{HoldsBytes}
 use Rattle.rs_catalog_pages.specs.Directory.{DirectoryItems, HasDirectory, TreeItem}
+use Rattle.rs_catalog_pages.specs.declared.directory_items.TheConstants.{INDEXES, TABLES}
 use Rattle.rs_catalog_pages.specs.Items.{CatalogueItems, ColumnItem, IndexItem, SaysCatalogue, TableItem}
 use Rattle.rs_owners.specs.Counts.{◌&◌, one_at, times}
 use Rattle.rs_owners.specs.Owners.{Shares}
@@ -80,16 +81,19 @@ table_numbers definitions = map (λ table. table.number) definitions.tables
 abbrev pub index_numbers : CatalogueItems → List ℕ
 index_numbers definitions = map (λ index. index.number) definitions.indexes
 
--- each number is below its limit and given once, each index is of a table, and the directory has nothing under a number that is
--- not given
-pub record AreNumbered (definitions : CatalogueItems) (directory : DirectoryItems) : Type 0 where
-  pub tables_below : AllByRecursion (λ table. table.number < 128) definitions.tables
+-- each number is below its limit and given once, and each index is of a table
+pub record AreGivenOnce (definitions : CatalogueItems) : Type 0 where
+  pub tables_below : AllByRecursion (λ table. table.number < TABLES) definitions.tables
   pub tables_once : (number : ℕ) → times (table_numbers definitions) number ≤ 1
-  pub indexes_below : AllByRecursion (λ index. index.number < 64) definitions.indexes
+  pub indexes_below : AllByRecursion (λ index. index.number < INDEXES) definitions.indexes
   pub indexes_once : (number : ℕ) → times (index_numbers definitions) number ≤ 1
   pub of_tables : AllByRecursion (λ index. 0 < times (table_numbers definitions) index.table) definitions.indexes
-  pub no_table : (number : ℕ) → number < 128 → times (table_numbers definitions) number ≡ 0 → slice_get directory.tables number ≡ Some no_tree
-  pub no_index : (number : ℕ) → number < 64 → times (index_numbers definitions) number ≡ 0 → slice_get directory.indexes number ≡ Some 0
+
+-- the numbers are given so, and the directory has nothing under one that is not given
+pub record AreNumbered (definitions : CatalogueItems) (directory : DirectoryItems) : Type 0 where
+  pub given : AreGivenOnce definitions
+  pub no_table : (number : ℕ) → number < TABLES → times (table_numbers definitions) number ≡ 0 → slice_get directory.tables number ≡ Some no_tree
+  pub no_index : (number : ℕ) → number < INDEXES → times (index_numbers definitions) number ≡ 0 → slice_get directory.indexes number ≡ Some 0
 
 -- the definitions and the directory say just these tables with their indexes, and these referents
 pub record AreSaid (contents : Contents) : Type 0 where

@@ -2,3 +2,4 @@ pub mod Contents
 pub mod Creating
 pub mod FreePages
 pub mod Opening
+pub mod Slots

@@ -1,11 +1,16 @@
 //! What follows of all that stands in a file: a file holds one such thing at the most, and a change of one part of it leaves all
 //! else.
 
-ghost use Rattle.std.specs.Prelude.{◌≡◌, ◌≤◌, ℕ, List, ◌++◌, ◌∷◌};
+ghost use Rattle.std.specs.Prelude.{◌≡◌, ◌≤◌, ◌<◌, ◌^◌, ℕ, List, ◌++◌, ◌∷◌};
+ghost use Rattle.std.specs.List.{AllByRecursion, AllZip};
 ghost use Rattle.rs_catalog_pages.specs.Chain.{StoresBytes};
 ghost use Rattle.rs_catalog_pages.specs.Directory.{DirectoryItems, HasDirectory, StoresDirectory};
 ghost use Rattle.rs_catalog_pages.specs.Items.{CatalogueItems, SaysCatalogue};
-ghost use Rattle.rs_contents.specs.Contents.{Contents, HoldsAll, HoldsParts, LiesTable, ReferentContents, SameContents, TableContents, beside_definitions, beside_referents, beside_table, table_pages};
+ghost use Rattle.rs_catalog_pages.specs.Said.{said_catalogue};
+ghost use Rattle.rs_contents.specs.Contents.{AreGivenOnce, AreSaid, Contents, HoldsAll, HoldsParts, LiesTable, ReferentContents, SameContents, TableContents, beside_definitions, beside_referents, beside_table, table_pages};
+ghost use Rattle.rs_contents.specs.Opening.{IsFile};
+ghost use Rattle.rs_contents.specs.Slots.{IsOfItem};
+ghost use Rattle.rs_contents.specs.declared.opened.OpenedFile.{OpenedFile};
 ghost use Rattle.rs_owners.specs.Counts.{◌&◌, times};
 ghost use Rattle.rs_owners.specs.Owners.{Moves, Shares};
 ghost use Rattle.rs_pages.specs.PageMap.{PageMap};
@@ -64,6 +69,22 @@ pub fn changed_directory_leaves_all_else()
     ensures { (old new : PageMap) (from to : ℕ) (contents : Contents) (was now : DirectoryItems)
         → from ≤ to → HasDirectory old was → HoldsParts old from contents → StoresDirectory old new now
         → HoldsParts new to (record contents { directory = now }) }
+{}
+
+/// Where the directory that says what is open was stored in the place of another, the file holds all of it.
+pub fn stored_directory_holds_all()
+    ensures { (old new : PageMap) (from : ℕ) (contents : Contents) (was now : DirectoryItems)
+        → from ≤ now.accepted → HasDirectory old was → HoldsParts old from contents → StoresDirectory old new now
+        → AreSaid (record contents { directory = now }) → now.accepted < 2 ^ 63
+        → AllByRecursion (λ route. route.born ≤ now.accepted) contents.definitions.routes
+        → HoldsAll new (record contents { directory = now }) }
+{}
+
+/// The directory of a file that was loaded can be made.
+pub fn loaded_file_has_its_directory()
+    ensures given { (file : OpenedFile) → IsFile file → AreGivenOnce (said_catalogue file.definitions) }
+    ensures tables { (file : OpenedFile) → IsFile file
+        → AllZip (IsOfItem (said_catalogue file.definitions)) (said_catalogue file.definitions).tables file.tables.items }
 {}
 
 /// A table that has no pages comes to the others and goes from them, and all else stays.

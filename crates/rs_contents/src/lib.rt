@@ -4,6 +4,7 @@
 
 pub mod creating;
 pub mod definitions;
+pub mod directory;
 pub mod free_pages;
 pub mod laws;
 pub mod loading;
@@ -13,6 +14,7 @@ mod opening;
 
 pub use creating::create;
 pub use definitions::{indexes_of, schema_of};
+pub use directory::directory_of;
 pub use free_pages::reach_free;
 pub use loading::load;
 pub use numbers::{check_numbers, free_index_number};
