@@ -5,6 +5,7 @@ pub mod Numbering
 pub mod One
 pub mod OneOpened
 pub mod Parts
+pub mod Rootless
 pub mod Selected
 pub mod Slotted
 pub mod TablesOpened

@@ -101,6 +101,11 @@ pub record AreSaid (contents : Contents) : Type 0 where
   pub tables : AllZip (IsTable contents.directory contents.definitions.indexes) contents.definitions.tables contents.tables
   pub referents : contents.directory.referents ≡ item_of contents.referents.standing
 
+-- neither the table nor one of its indexes has a root
+pub record HasNoRoots (table : TableContents) : Type 0 where
+  pub records : table.standing.root ≡ 0
+  pub indexes : AllByRecursion (λ index. index.working ≡ 0) table.indexes
+
 -- these pages hold the definitions
 pub record HoldsDefinitions (map : PageMap) (pages : List ℕ) (definitions : CatalogueItems) : Type 0 where
   pub bytes : List ℕ

@@ -7,7 +7,7 @@ ghost use Rattle.rs_catalog_pages.specs.Chain.{StoresBytes};
 ghost use Rattle.rs_catalog_pages.specs.Directory.{DirectoryItems, HasDirectory, StoresDirectory};
 ghost use Rattle.rs_catalog_pages.specs.Items.{CatalogueItems, SaysCatalogue};
 ghost use Rattle.rs_catalog_pages.specs.Said.{said_catalogue};
-ghost use Rattle.rs_contents.specs.Contents.{AreGivenOnce, AreSaid, Contents, HoldsAll, HoldsParts, LiesTable, ReferentContents, SameContents, TableContents, beside_definitions, beside_referents, beside_table, table_pages};
+ghost use Rattle.rs_contents.specs.Contents.{AreGivenOnce, AreSaid, Contents, HasNoRoots, HoldsAll, HoldsParts, LiesTable, ReferentContents, SameContents, TableContents, beside_definitions, beside_referents, beside_table, table_pages};
 ghost use Rattle.rs_contents.specs.Opening.{IsFile};
 ghost use Rattle.rs_contents.specs.Slots.{IsOfItem};
 ghost use Rattle.rs_contents.specs.declared.opened.OpenedFile.{OpenedFile};
@@ -96,5 +96,14 @@ pub fn table_without_pages_comes_and_goes()
     ensures goes { (map : PageMap) (accepted : ℕ) (contents : Contents) (before after : List TableContents) (table : TableContents)
         → contents.tables ≡ before ++ table ∷ after → HoldsParts map accepted contents
         → ((number : ℕ) → table_pages table number ≡ 0)
+        → HoldsParts map accepted (record contents { tables = before ++ after }) }
+{}
+
+/// A table without a root, whose indexes have none, has no pages. It goes from the others, and all else stays.
+pub fn table_without_roots_goes()
+    ensures pages { (map : PageMap) (accepted : ℕ) (table : TableContents) → LiesTable map accepted table → HasNoRoots table
+        → (number : ℕ) → table_pages table number ≡ 0 }
+    ensures goes { (map : PageMap) (accepted : ℕ) (contents : Contents) (before after : List TableContents) (table : TableContents)
+        → contents.tables ≡ before ++ table ∷ after → HoldsParts map accepted contents → HasNoRoots table
         → HoldsParts map accepted (record contents { tables = before ++ after }) }
 {}
