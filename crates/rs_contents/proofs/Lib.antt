@@ -10,3 +10,4 @@ pub mod Selected
 pub mod Slotted
 pub mod TablesOpened
 pub mod Walked
+pub mod Widths

@@ -1,8 +1,9 @@
 //! What follows of all that stands in a file: a file holds one such thing at the most, and a change of one part of it leaves all
 //! else.
 
-ghost use Rattle.std.specs.Prelude.{◌≡◌, ◌≤◌, ◌<◌, ◌^◌, ℕ, List, ◌++◌, ◌∷◌};
+ghost use Rattle.std.specs.Prelude.{◌≡◌, ◌≤◌, ◌<◌, ◌+◌, ◌*◌, ◌^◌, ℕ, List, ◌++◌, ◌∷◌, length};
 ghost use Rattle.std.specs.List.{AllByRecursion, AllZip};
+ghost use Rattle.rs_attr.specs.Entries.{FitsPages};
 ghost use Rattle.rs_catalog_pages.specs.Chain.{StoresBytes};
 ghost use Rattle.rs_catalog_pages.specs.Directory.{DirectoryItems, HasDirectory, StoresDirectory};
 ghost use Rattle.rs_catalog_pages.specs.Items.{CatalogueItems, SaysCatalogue};
@@ -14,6 +15,10 @@ ghost use Rattle.rs_contents.specs.declared.opened.OpenedFile.{OpenedFile};
 ghost use Rattle.rs_owners.specs.Counts.{◌&◌, times};
 ghost use Rattle.rs_owners.specs.Owners.{Moves, Shares};
 ghost use Rattle.rs_pages.specs.PageMap.{PageMap};
+ghost use Rattle.rs_value.specs.Encoding.{width};
+ghost use Rattle.rs_value.specs.declared.column.ColumnType.{ColumnType};
+ghost use Rattle.rs_value.specs.declared.column.TheConstants.{COLUMNS, TEXT_BYTES};
+ghost use Rattle.rs_versioned.specs.Events.{event_width};
 ghost use Rattle.rs_versioned.specs.Records.{HoldsRecords};
 ghost use Rattle.rs_versioned.specs.Referents.{kept_referents};
 
@@ -106,4 +111,13 @@ pub fn table_without_roots_goes()
     ensures goes { (map : PageMap) (accepted : ℕ) (contents : Contents) (before after : List TableContents) (table : TableContents)
         → contents.tables ≡ before ++ table ∷ after → HoldsParts map accepted contents → HasNoRoots table
         → HoldsParts map accepted (record contents { tables = before ++ after }) }
+{}
+
+/// Where a table has no more columns than a line can name, and none is wider than a text can be, three entries of an inner page of
+/// its tree fit a page, and three of that of an index of each column.
+pub fn tables_of_lines_fit_pages()
+    ensures table { (types : List ColumnType) → length types ≤ COLUMNS → AllByRecursion (λ type. width type ≤ TEXT_BYTES + 1) types
+        → 3 * (8 + event_width types) ≤ 4080 }
+    ensures index { (types : List ColumnType) → length types ≤ COLUMNS → AllByRecursion (λ type. width type ≤ TEXT_BYTES + 1) types
+        → (column : ℕ) → FitsPages types column }
 {}
