@@ -1,6 +1,6 @@
 //! The tables of a file, its referents and its free pages, opened as the definitions and the directory say them.
 
-ghost use Rattle.std.specs.Prelude.{◌≡◌, ◌≤◌, ◌⊎◌, Err, IfErr, IfOk, OnOk, length};
+ghost use Rattle.std.specs.Prelude.{◌≡◌, ◌≤◌, ◌⊎◌, ◌↔◌, Err, IfErr, IfOk, IsTrue, OnOk, length};
 ghost use Rattle.std.specs.List.{AllByRecursion, AllZip};
 ghost use Rattle.rs_catalog_pages.specs.Said.{said_catalogue, said_directory, said_table, said_tree};
 ghost use Rattle.rs_contents.specs.Opening.{IsTableOf, OpensNoParts, OpensNoTables, OpensNotOne, OpensOne, OpensParts, OpensTables, told_of};
@@ -45,10 +45,17 @@ pub(crate) fn open_parts<P: Pages>(
     let told = told_of(&directory.referents, directory.accepted);
     let referents = ReferentTable::open(alloc, pages, told, routes, reached)?;
     reach_free(pages, reached)?;
-    if reached.left() != 0 {
+    if !is_whole(reached) {
         return Err(Refusal::DamagedFile);
     }
     Ok((tables, referents))
+}
+
+/// Whether each page was reached.
+fn is_whole(reached: &Reached) -> bool
+    ensures { IsTrue result ↔ (unmarked reached.now ≡ 0) }
+{
+    reached.left() == 0
 }
 
 /// What the directory says of a tree of records, with the version that was accepted last.

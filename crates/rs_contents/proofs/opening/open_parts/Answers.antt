@@ -1,5 +1,6 @@
 -- The tables, the referents, the free pages, and whether a page is left.
-use Rattle.std.proofs.Common.{◌≡◌, ◌≤◌, ◌∙◌, Ok, Err, ap, subst}
+use Rattle.std.proofs.Common.{◌≡◌, ◌≤◌, ◌∙◌, Ok, Err, ap, subst, sym}
+use Rattle.std.proofs.lemmas.Bool.{false≢true}
 use Rattle.std.proofs.lemmas.Result.{err_from_is_err_and}
 use Rattle.std.specs.List.{AllByRecursion}
 use Rattle.rs_catalog_pages.specs.Said.{said_catalogue, said_directory}
@@ -60,8 +61,8 @@ returns-in_err-reach_free-clause-damaged g c = λ tied is.
     (subst (λ m. OpensRecords kept_referents m c.told_of-told.result c.in_ok-referents.referents.working (taken c.open_tables.new.reached) (taken c.open.new.reached)) same (c.in_ok-referents.ensures.opens later)))
     (subst (λ m. HasNoFreshFreeList m (taken c.open.new.reached)) (same_last ∙ same) (c.in_err-reach_free.ensures.damaged last_tied (ap Err why)))
 
-pub returns-then-left-ne0-clause-rests : goal.returns-then-left-ne0-clause-rests
-returns-then-left-ne0-clause-rests g c =
+pub returns-then-not-is_whole-clause-rests : goal.returns-then-not-is_whole-clause-rests
+returns-then-not-is_whole-clause-rests g c =
     rests_refused g.P.Pages.is_tied g.P.Pages.store g.P.Pages.keeps c.in_ok-tables.tables refusal.DamagedFile c.args.pages.now c.reach_free.new.pages (λ is. cc)
     (rests_ok g.P.Pages.is_tied g.P.Pages.store g.P.Pages.keeps tt c.in_ok-tables.tables c.args.pages.now c.reach_free.new.pages
     (rests_then g.P.Pages.is_tied g.P.Pages.store g.P.Pages.keeps c.in_ok-tables.tables (Ok tt) c.args.pages.now c.open_tables.new.pages c.reach_free.new.pages
@@ -69,8 +70,8 @@ returns-then-left-ne0-clause-rests g c =
     (rests_then g.P.Pages.is_tied g.P.Pages.store g.P.Pages.keeps c.in_ok-referents.referents (Ok tt) c.open_tables.new.pages c.open.new.pages c.reach_free.new.pages
     g.met.P.Pages.keeps_trans g.met.P.Pages.keeps_tied c.in_ok-referents.ensures.rests c.in_ok-reach_free.ensures.rests)))
 
-pub returns-then-left-ne0-clause-damaged : goal.returns-then-left-ne0-clause-damaged
-returns-then-left-ne0-clause-damaged g c = λ tied is.
+pub returns-then-not-is_whole-clause-damaged : goal.returns-then-not-is_whole-clause-damaged
+returns-then-not-is_whole-clause-damaged g c = λ tied is.
     let old = (g.P.Pages.store c.args.pages.now).map in
     let mid = (g.P.Pages.store c.open_tables.new.pages).map in
     let last = (g.P.Pages.store c.open.new.pages).map in
@@ -87,7 +88,7 @@ returns-then-left-ne0-clause-damaged g c = λ tied is.
           (subst (λ m. OpensRecords kept_referents m c.told_of-told.result c.in_ok-referents.referents.working (taken c.open_tables.new.reached) (taken c.open.new.reached)) same (c.in_ok-referents.ensures.opens later));
       free = subst (λ m. ReachesFree m (taken c.open.new.reached) (taken c.reach_free.new.reached)) (same_last ∙ same) (c.in_ok-reach_free.ensures.reaches last_tied);
     })
-    (λ none. c.if-left-ne0.true (c.left.ensures ∙ none))
+    (λ none. false≢true (sym c.if-not-is_whole.true ∙ c.is_whole.ensures.1 none))
 
 pub returns-clause-opens : goal.returns-clause-opens
 returns-clause-opens g c = λ tied.
