@@ -1,23 +1,27 @@
 -- A file in which definitions are stored for the first time.
-use Rattle.std.proofs.Common.{◌≡◌, ◌≤◌, ◌<◌, ◌+◌, ◌*◌, ℕ, zero, suc, Some, List, [], replicate, slice_get, refl, sym, ap, subst, ◌∙◌, inl, inr, arith}
+use Rattle.std.proofs.Common.{◌≡◌, ◌≤◌, ◌<◌, ◌+◌, ◌*◌, ℕ, zero, suc, Some, Result, Ok, Err, List, [], ◌∷◌, length, replicate, slice_get, refl, sym, ap, subst, ◌∙◌, ◌⊎◌, inl, inr, arith}
 use Rattle.std.proofs.lemmas.Bool.{cases_lt}
-use Rattle.std.proofs.lemmas.List.{get_or-replicate, length-replicate, replicate-append-replicate}
+use Rattle.std.proofs.lemmas.List.{get_or-replicate, length-append, length-replicate, replicate-append-replicate}
 use Rattle.std.proofs.lemmas.List.Sorted.{IsPermutation-refl}
 use Rattle.std.proofs.lemmas.Option.{slice_get-get_or}
-use Rattle.rs_bytes.specs.Codes.{SaysEach, SaysNumber}
-use Rattle.rs_catalog_pages.specs.Chain.{HoldsBytes}
+use Rattle.rs_bytes.specs.Codes.{Code, SaysCounted, SaysEach, SaysNumber}
+use Rattle.rs_catalog_pages.specs.Chain.{HoldsBytes, HoldsFrom}
 use Rattle.rs_catalog_pages.specs.Directory.{HasDirectory, SaysDirectory, SaysTree, TreeItem}
-use Rattle.rs_catalog_pages.specs.Items.{CatalogueItems, SaysCatalogue}
-use Rattle.rs_catalog_pages.specs.Storing.{StoresCatalogue}
+use Rattle.rs_catalog_pages.specs.Items.{CatalogueItems, SaysAlignment, SaysCatalogue, SaysIndex, SaysRoute, SaysTable, SaysView}
+use Rattle.rs_catalog_pages.specs.Storing.{HasNoOwnBytes, StoresAfter, StoresCatalogue}
 use Rattle.rs_catalog_pages.proofs.Counting.{times-none}
 use Rattle.rs_catalog_pages.proofs.Directories.{blank_content, directory_kept, directory_there}
 use Rattle.rs_catalog_pages.proofs.Parts.{length-content}
 use Rattle.rs_contents.specs.Contents.{HoldsAll, no_tree}
 use Rattle.rs_contents.specs.Creating.{no_contents, no_definitions, no_trees}
+use Rattle.rs_measure.specs.declared.refusal.Refusal.{Refusal}
+use Rattle.rs_measure.specs.declared.refusal.Refusal.TheVariants as refusal
+use Rattle.rs_owners.specs.Changes.{EndsFull}
 use Rattle.rs_owners.specs.Counts.{◌&◌, no_pages, one_at, times}
 use Rattle.rs_owners.specs.Owners.{Shares}
 use Rattle.rs_owners.proofs.Moving.{one_at-other, one_at-same, shares_same}
 use Rattle.rs_pages.specs.PageMap.{IsEmptyFile, PageMap}
+use Rattle.rs_pages.specs.Store.{Store}
 use Rattle.rs_versioned.specs.Records.{HoldsRecords}
 use Rattle.rs_versioned.specs.Referents.{kept_referents}
 use Rattle.rs_versions.specs.Versioned.{nothing_stands}
@@ -89,10 +93,66 @@ empty_shares file empty = record {
       omega (arith, times-none n, one_at-other 1 n (λ is. omega (arith, is, two)));
 }
 
+-- there are no definitions yet
+none_held : (old : PageMap) → IsEmptyFile old → HoldsBytes old [] []
+none_held old empty = record { chain = (ap (λ f. f.catalogue) empty.fields, refl); count = sym (ap (λ f. f.catalogue_length) empty.fields); once = λ n. omega (arith, times-none n) }
+
+pub not_damaged : (old : PageMap) → IsEmptyFile old → HasNoOwnBytes old [] → ⊥
+not_damaged old empty damaged = damaged.none [] (one_at 1) (none_held old empty) (empty_shares old empty)
+
+-- what is not damaged is not refused so
+pub not_refused : {T : Type 0} (result : Result T Refusal) (damaged : Type 0) (old new : Store) → StoresAfter damaged result old new → (damaged → ⊥) → result ≡ Err refusal.DamagedFile → ⊥
+not_refused (Ok x) damaged old new after sound is = cc
+not_refused (Err why) damaged old new after sound is = by_cause after.ends.cause
+  where
+    named : why ≡ refusal.DamagedFile
+    named = cc
+
+    by_cause : (why ≡ refusal.OutOfMemory) ⊎ (why ≡ refusal.Disk) ⊎ ((why ≡ refusal.FileFull) × EndsFull old new) ⊎ ((why ≡ refusal.DamagedFile) × damaged) → ⊥
+    by_cause (inl memory) = let wrong = named in cc
+    by_cause (inr (inl disk)) = let wrong = named in cc
+    by_cause (inr (inr (inl full))) = let wrong = named in let other = full.0 in cc
+    by_cause (inr (inr (inr wrong))) = sound wrong.1
+
+-- no definitions take twenty bytes, and these a page
+counted_none : {A : Type 0} (says : Code A) (bytes : List ℕ) → SaysCounted 4 (SaysEach says) bytes [] → length bytes ≡ 4
+counted_none says bytes said = omega (arith, ap length said.2, length-append said.0 said.1, ap length said.3.1, ap length said.4)
+
+bytes_of_none : (bytes : List ℕ) → SaysCatalogue bytes no_definitions → length bytes ≡ 20
+bytes_of_none bytes said =
+    let tables = said.4 in
+    let indexes = tables.4 in
+    let views = indexes.4 in
+    omega (
+      arith,
+      ap length said.2,
+      length-append said.0 said.1,
+      counted_none SaysRoute said.0 said.3,
+      ap length tables.2,
+      length-append tables.0 tables.1,
+      counted_none SaysTable tables.0 tables.3,
+      ap length indexes.2,
+      length-append indexes.0 indexes.1,
+      counted_none SaysIndex indexes.0 indexes.3,
+      ap length views.2,
+      length-append views.0 views.1,
+      counted_none SaysView views.0 views.3,
+      counted_none SaysAlignment views.1 views.4,
+    )
+
+some_pages : (file : PageMap) (first : ℕ) (numbers bytes : List ℕ) → HoldsFrom file first numbers bytes → length bytes ≡ 20 → 0 < length numbers
+some_pages file first [] bytes holds many = absurd (omega (arith, many, ap length holds.1))
+some_pages file first (n ∷ ns) bytes holds many = omega arith
+
+pub one_page : (old new : PageMap) (numbers : List ℕ) (said : CatalogueItems) → IsEmptyFile old → said ≡ no_definitions → StoresCatalogue old new [] numbers said → length numbers ≡ 1
+one_page old new numbers said empty none stores =
+    let is = stores.each [] (none_held old empty) in
+    let many = bytes_of_none is.bytes (subst (λ (d : CatalogueItems). SaysCatalogue is.bytes d) none is.says) in
+    omega (arith, many, is.few, some_pages new new.fields.catalogue numbers is.bytes is.stores.holds.chain many)
+
 pub created : (old new : PageMap) (numbers : List ℕ) (said : CatalogueItems) → IsEmptyFile old → said ≡ no_definitions → StoresCatalogue old new [] numbers said → HoldsAll new (no_contents numbers)
 created old new numbers said empty none stores =
-    let none_there : HoldsBytes old [] [] = record { chain = (ap (λ f. f.catalogue) empty.fields, refl); count = sym (ap (λ f. f.catalogue_length) empty.fields); once = λ n. omega (arith, times-none n) } in
-    let is = stores.each [] none_there in
+    let is = stores.each [] (none_held old empty) in
     let moved = is.stores.shares (one_at 1) (empty_shares old empty) in
     record {
       directory = directory_kept old new no_trees (moved.1.pages 1 (omega (arith, one_at-same 1))) (empty_directory old empty);

@@ -1,12 +1,12 @@
 -- What was stored says that there are no definitions.
-use Rattle.std.proofs.Common.{◌≡◌, [], map}
+use Rattle.std.proofs.Common.{◌≡◌, [], length, map}
 use Rattle.std.proofs.lemmas.Result.{IfOk-weaker}
 use Rattle.rs_catalog_pages.specs.Items.{CatalogueItems}
 use Rattle.rs_catalog_pages.specs.Said.{said_alignment, said_index, said_route, said_table, said_view}
-use Rattle.rs_catalog_pages.specs.Storing.{StoresCatalogue}
+use Rattle.rs_catalog_pages.specs.Storing.{HasNoOwnBytes, StoresCatalogue}
 use Rattle.rs_contents.specs.Contents.{HoldsAll}
 use Rattle.rs_contents.specs.Creating.{no_contents, no_definitions}
-use Rattle.rs_contents.proofs.Created.{created}
+use Rattle.rs_contents.proofs.Created.{created, not_damaged, not_refused, one_page}
 use Rattle.rs_contents.proofs.creating.create.Goals as goal
 
 pub returns-clause-creates : goal.returns-clause-creates
@@ -28,3 +28,28 @@ returns-clause-creates g c = λ tied empty.
       alignments = map said_alignment (c.new-5.ensures.items i);
     } in
     IfOk-weaker c.store.result (λ after. StoresCatalogue old new [] after.items said) (λ numbers. HoldsAll new (no_contents numbers.items)) (λ numbers stores. created old new numbers.items said empty none stores) (c.store.ensures.stores tied)
+
+pub returns-clause-one : goal.returns-clause-one
+returns-clause-one g c = λ tied empty.
+    let old = (g.P.Pages.store c.args.pages.now).map in
+    let new = (g.P.Pages.store c.store.new.pages).map in
+    let said : CatalogueItems = record {
+      routes = map said_route c.new.result.items;
+      tables = map said_table c.new-2.result.items;
+      indexes = map said_index c.new-3.result.items;
+      views = map said_view c.new-4.result.items;
+      alignments = map said_alignment c.new-5.result.items;
+    } in
+    let none : said ≡ no_definitions = λ i. record {
+      routes = map said_route (c.new.ensures.items i);
+      tables = map said_table (c.new-2.ensures.items i);
+      indexes = map said_index (c.new-3.ensures.items i);
+      views = map said_view (c.new-4.ensures.items i);
+      alignments = map said_alignment (c.new-5.ensures.items i);
+    } in
+    IfOk-weaker c.store.result (λ after. StoresCatalogue old new [] after.items said) (λ numbers. length numbers.items ≡ 1) (λ numbers stores. one_page old new numbers.items said empty none stores) (c.store.ensures.stores tied)
+
+pub returns-clause-sound : goal.returns-clause-sound
+returns-clause-sound g c = λ tied empty.
+    let old = g.P.Pages.store c.args.pages.now in
+    not_refused c.store.result (g.P.Pages.is_tied c.args.pages.now → HasNoOwnBytes old.map []) old (g.P.Pages.store c.store.new.pages) c.store.ensures.works (λ damaged. not_damaged old.map empty (damaged tied))
