@@ -1,7 +1,10 @@
 -- Numbers of items that are each given once.
-use Rattle.std.proofs.Common.{◌≡◌, ◌<◌, ◌≤◌, ◌+◌, ℕ, zero, suc, Some, List, [], ◌∷◌, cond, eqb, length, map, get_or, slice_get, refl, sym, ap, subst, ◌∙◌, inl, inr, arith}
-use Rattle.std.specs.List.{AllByRecursion, AllWithin, count_by}
+use Rattle.std.proofs.Common.{◌≡◌, ◌<◌, ◌≤◌, ◌+◌, ℕ, zero, suc, true, false, ◌||◌, Some, List, [], ◌∷◌, cond, eq-eqb, eqb, length, map, get_or, slice_get, refl, sym, ap, subst, ◌∙◌, inl, inr, arith}
+use Rattle.std.specs.List.{AllByRecursion, AllWithin, count_by, list_any}
 use Rattle.std.specs.Option.{option_map}
+use Rattle.std.proofs.lemmas.List.{length-map}
+use Rattle.std.proofs.lemmas.List.Folds.{list_any_at}
+use Rattle.std.proofs.lemmas.Map.Steps.{le-length_from_below}
 use Rattle.std.proofs.lemmas.List.Elements.{All-from_recursion, recursion_from_All}
 use Rattle.std.proofs.lemmas.List.Sums.{sum_by-cons}
 use Rattle.std.proofs.lemmas.Option.{slice_get-map, slice_get_read}
@@ -39,6 +42,20 @@ at_most_once number xs once n = elim (none_or_some (times (map number xs) n)) [
   | inl none ↦ omega (arith, none)
   | inr some ↦ omega (arith, given_once number (map number xs) xs once n some)
 ]
+
+-- where each number below a limit is given, there are as many items
+any_given : (ns : List ℕ) (n : ℕ) → 0 < times ns n → list_any (eqb n) ns ≡ true
+any_given [] n some = absurd (omega (arith, some, times-none n))
+any_given (m ∷ ms) n some = elim (same_number n m) [
+  | inl is ↦ list_any_at (eqb n) (m ∷ ms) 0 0 (omega arith) (eq-eqb n m is)
+  | inr isnt ↦
+      let rest = any_given ms n (omega (arith, some, times-cons m ms n, one_at-off m n isnt)) in
+      elim (eqb n m) as (λ b. (b || list_any (eqb n) ms) ≡ true) [ true ↦ refl | false ↦ rest ]
+]
+
+pub all_given : {X : Type 0} (number : X → ℕ) (xs : List X) (limit : ℕ) → ((n : ℕ) → n < limit → 0 < times (map number xs) n) → limit ≤ length xs
+all_given number xs limit given =
+    omega (arith, length-map xs number, le-length_from_below (map number xs) limit (λ n below. any_given (map number xs) n (given n below)))
 
 -- the numbers are below the limit and given once: of all items at once, and of each
 abbrev pub AreOnce : {X : Type 0} → (X → ℕ) → ℕ → List X → Type 0

@@ -117,11 +117,12 @@ fn has_no_other_index(indexes: &[StoredIndex], roots: &[StoredRoot]) -> bool
 }
 
 /// The least number that none of these indexes has, which the next index is given; none where each number below the limit is
-/// given.
+/// given, which takes as many indexes.
 pub fn free_index_number(indexes: &[StoredIndex]) -> Option<u32>
     ensures free { IfSome result (λ number. (number < INDEXES) × (times (map (λ index. index.number) indexes.now) number ≡ 0)) }
     ensures least { IfSome result (λ number. (lesser : ℕ) → lesser < number → 0 < times (map (λ index. index.number) indexes.now) lesser) }
     ensures none { IfNone result ((number : ℕ) → number < INDEXES → 0 < times (map (λ index. index.number) indexes.now) number) }
+    ensures many { IfNone result (INDEXES ≤ length indexes.now) }
 {
     for number in 0..INDEXES {
         if indexes_with(indexes, number) == 0 {
