@@ -56,7 +56,7 @@ fn type_of(column: &StoredColumn) -> ColumnType
     }
 }
 
-/// The indexes of the table with this number, in their order. It is refused with 90, and with 94 exactly where one of them is
+/// The indexes of the table with this number, in their order. It is refused with 90, and with 94 only where one of them is
 /// of no column, has no root in the directory, or three entries of an inner page of its tree would not fit it.
 pub fn indexes_of(
     alloc: Global,

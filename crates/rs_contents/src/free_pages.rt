@@ -11,8 +11,8 @@ use rs_measure::Refusal;
 use rs_pages::Pages;
 use rs_reached::Reached;
 
-/// Marks the free pages. Ok exactly where as many as page 0 says follow one another and none of them was reached before; 94
-/// where none do; 91 where a page couldn't be read. No page changes. What is marked after a refusal is open.
+/// Marks the free pages. Ok only where as many as page 0 says follow one another and none of them was reached before; 94 only
+/// where none do; 91 where a page couldn't be read. No page changes. Which pages are marked after a refusal is unspecified.
 pub fn reach_free<P: Pages>(pages: &mut P, reached: &mut Reached) -> Result<(), Refusal>
     ensures rests { RestsAfter P.is_tied P.store P.keeps result pages.old pages.new }
     ensures size { length reached.new ≡ length reached.old }

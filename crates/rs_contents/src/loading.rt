@@ -22,8 +22,8 @@ use std::alloc::{AllocError, Global};
 /// The versions of a file are below this.
 const VERSIONS: u64 = 0x8000_0000_0000_0000;
 
-/// Opens what stands in a file and checks all of it: each page has one owner. Ok only where the file holds contents, and these are
-/// they; 94 only where it holds none; 90 and 91. No page changes.
+/// Opens all that a file holds, and checks that each page has one owner. Ok only where the file holds contents, which are then
+/// those that are answered; 94 only where it holds none. It may be refused with 90 or 91 instead. No page changes.
 pub fn load<P: Pages>(alloc: Global, pages: &mut P) -> Result<OpenedFile, Refusal>
     ensures rests { RestsAfter P.is_tied P.store P.keeps result pages.old pages.new }
     ensures loads { P.is_tied pages.old → IfOk result (LoadsContents (P.store pages.old).map) }
@@ -65,7 +65,7 @@ fn first_two(alloc: Global, count: u32) -> Result<Reached, AllocError>
 
 /// Reads the definitions and the directory, and checks the numbers and the versions in them; the pages of the definitions are
 /// marked. It is refused with 90, with 91, and with 94 only where no contents are there whose definitions lie in pages that
-/// weren't reached before. No page changes. What is marked after a refusal is open.
+/// weren't reached before. No page changes. Which pages are marked after a refusal is unspecified.
 fn load_said<P: Pages>(
     alloc: Global,
     pages: &mut P,

@@ -20,7 +20,7 @@ use std::alloc::Global;
 
 /// The tables with their indexes, and the referents; their pages and the free ones are marked, and no page is left. It is
 /// refused with 90, with 91, and with 94 only where no contents with these definitions and this directory are there, of which
-/// just the pages of the definitions were reached before. No page changes. What is marked after a refusal is open.
+/// just the pages of the definitions were reached before. No page changes. Which pages are marked after a refusal is unspecified.
 pub(crate) fn open_parts<P: Pages>(
     alloc: Global,
     pages: &mut P,
@@ -70,9 +70,9 @@ fn told_of(tree: &StoredTree, accepted: u64) -> ToldRecords
     }
 }
 
-/// The tables with their indexes; their pages are marked. Ok exactly where they lie there as the definitions and the directory
-/// say, in pages none of which was reached before; 94 where no such tables do; 90 and 91. No page changes. What is marked after
-/// a refusal is open.
+/// The tables with their indexes; their pages are marked. Ok only where they lie there as the definitions and the directory
+/// say, in pages none of which was reached before; 94 only where no such tables do; 90 and 91. No page changes. Which pages are
+/// marked after a refusal is unspecified.
 fn open_tables<P: Pages>(
     alloc: Global,
     pages: &mut P,
@@ -99,9 +99,9 @@ fn open_tables<P: Pages>(
     Ok(tables)
 }
 
-/// The table of an item with its indexes; their pages are marked. Ok exactly where it lies there as the item and the directory
-/// say, in pages none of which was reached before; 94 where no such table does; 90 and 91. No page changes. What is marked after
-/// a refusal is open.
+/// The table of an item with its indexes; their pages are marked. Ok only where it lies there as the item and the directory
+/// say, in pages none of which was reached before; 94 only where no such table does; 90 and 91. No page changes. Which pages are
+/// marked after a refusal is unspecified.
 fn open_table<P: Pages>(
     alloc: Global,
     pages: &mut P,
