@@ -2,6 +2,7 @@
 use Rattle.std.specs.Prelude.{◌≡◌, ◌≢◌, ◌<◌, ◌≤◌, ◌==◌, ℕ, IsTrue, Contains, List, length, map, if◌then◌else◌}
 use Rattle.std.specs.FinMap as names
 use Rattle.std.specs.List.{AllByRecursion}
+use Rattle.rs_catalog_pages.specs.declared.directory_items.TheConstants.{INDEXES}
 use Rattle.rs_catalog_pages.specs.Items.{AlignmentItem, CatalogueItems, ColumnItem, IndexItem, PieceItem, RouteItem, TableItem, ViewItem}
 use Rattle.rs_facts.specs.Fact.{Name, Names, name_cmp}
 use Rattle.rs_facts.specs.Query.{Column, Piece, RouteEnds}
@@ -73,6 +74,7 @@ pub record IsIndex (tables : List TableItem) (index : IndexItem) : Type 0 where
 pub record AreIndexes (tables : List TableItem) (indexes : List IndexItem) : Type 0 where
   pub in_order : AreInOrder (λ index. index.name) indexes
   pub each : AllByRecursion (IsIndex tables) indexes
+  pub few : length indexes ≤ INDEXES
 
 -- ---- views
 

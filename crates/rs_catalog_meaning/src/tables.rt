@@ -10,7 +10,7 @@ ghost use Rattle.rs_syntax.specs.Sound.{AreColumns, IsColumnType, IsName};
 ghost use Rattle.rs_catalog_meaning.specs.Meaning.{AreIndexes, AreTables, AreViews, IsIndex, IsTable, IsView, column_of, columns_of};
 
 use crate::names::{are_in_order, is_free, is_name};
-use rs_catalog_pages::{StoredColumn, StoredIndex, StoredTable, StoredView};
+use rs_catalog_pages::{INDEXES, StoredColumn, StoredIndex, StoredTable, StoredView};
 use rs_machine::limits::{TABLES, VIEWS};
 use rs_value::{COLUMNS, TEXT_BYTES};
 
@@ -75,7 +75,7 @@ fn are_distinct(columns: &[StoredColumn]) -> bool
 pub fn are_indexes(tables: &[StoredTable], indexes: &[StoredIndex]) -> bool
     ensures { IsTrue result ↔ AreIndexes (map said_table tables.now) (map said_index indexes.now) }
 {
-    are_in_order(indexes) && is_each_index(tables, indexes)
+    indexes.len() <= INDEXES as usize && are_in_order(indexes) && is_each_index(tables, indexes)
 }
 
 // Whether a line could have defined each of them.

@@ -6,7 +6,7 @@ pub returns : goal.returns
 returns c = record {
   routes = record { in_order = refl; each = tt; few = omega arith; numbers_below = tt; numbers_once = λ number. omega (arith, times-none number) };
   tables = record { in_order = refl; each = tt; few = omega arith };
-  indexes = record { in_order = refl; each = tt };
+  indexes = record { in_order = refl; each = tt; few = omega arith };
   views = record { in_order = refl; each = tt; few = omega arith };
   alignments = record { in_order = refl; each = tt; few = omega arith };
 }
