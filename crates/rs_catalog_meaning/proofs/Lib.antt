@@ -1,4 +1,5 @@
 mod Each
+mod Fitting
 mod NameOrder
 mod NameText
 mod PlaceLaws

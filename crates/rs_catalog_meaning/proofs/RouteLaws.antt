@@ -142,7 +142,7 @@ pieces routes first second piece are one other lies = record {
   onto_finish = lies.onto_finish;
 }
 
-lying : (routes : List RouteItem) (first second : RouteItem) (piece : PieceItem) → AreRoutes routes → Contains routes first → Contains routes second
+pub lying : (routes : List RouteItem) (first second : RouteItem) (piece : PieceItem) → AreRoutes routes → Contains routes first → Contains routes second
     → IsPieceOn (routes_of routes) (named_piece first.name second.name piece) → LiesOn piece (ends_of first) (ends_of second)
 lying routes first second piece are one other is =
     let a : is.first ≡ ends_of first = same_Some is.first (ends_of first) (sym is.first_there ∙ named routes first are one) in

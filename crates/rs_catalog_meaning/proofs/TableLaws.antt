@@ -45,11 +45,11 @@ type_is type is =
 abbrev pub IsColumn : ColumnItem → Type 0
 IsColumn column = IsName column.name × IsColumnType (column_of column).1
 
-are_columns : (columns : List ColumnItem) → AllByRecursion IsColumn columns → AreColumns (columns_of columns)
+pub are_columns : (columns : List ColumnItem) → AllByRecursion IsColumn columns → AreColumns (columns_of columns)
 are_columns [] each = tt
 are_columns (column ∷ columns) each = (each.0.0, each.0.1, are_columns columns each.1)
 
-each_column : (columns : List ColumnItem) → AreColumns (columns_of columns) → AllByRecursion IsColumn columns
+pub each_column : (columns : List ColumnItem) → AreColumns (columns_of columns) → AllByRecursion IsColumn columns
 each_column [] are = tt
 each_column (column ∷ columns) are = ((are.0, are.1), each_column columns are.2)
 

@@ -1,3 +1,4 @@
+pub mod Fitting
 pub mod Meaning
 pub mod Places
 pub mod Stating

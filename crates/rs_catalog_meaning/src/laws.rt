@@ -1,9 +1,11 @@
-//! What follows of definitions that lines could have made: with them the machine's state is lawful.
+//! What follows from definitions that lines could have made: with them the machine's state is lawful, and they can be stored.
 
 ghost use Rattle.std.specs.Prelude.{◌≡◌, [], false, Contains};
 ghost use Rattle.rs_catalog_pages.specs.Items.{CatalogueItems, ViewItem};
+ghost use Rattle.rs_catalog_pages.specs.Fitting.{FitsCatalogue, IsShort};
 ghost use Rattle.rs_machine.specs.Lawful.{IsLawful};
 ghost use Rattle.rs_machine.specs.State.{has};
+ghost use Rattle.rs_catalog_meaning.specs.Fitting.{FitsTypes};
 ghost use Rattle.rs_catalog_meaning.specs.Meaning.{AreMeant};
 ghost use Rattle.rs_catalog_meaning.specs.Stating.{state_of};
 
@@ -18,4 +20,14 @@ pub fn meant_definitions_make_a_lawful_state()
 /// A catalogue without definitions is one that lines could have made.
 pub fn empty_catalogue_is_meant()
     ensures { AreMeant (record { routes = []; tables = []; indexes = []; views = []; alignments = [] }) }
+{}
+
+/// The bytes of definitions that lines could have made can be counted in page 0: `store` takes them without a test.
+pub fn meant_definitions_are_short()
+    ensures { (catalogue : CatalogueItems) → AreMeant catalogue → IsShort catalogue }
+{}
+
+/// Bytes can say them, where the numbers and texts that meaning does not bound fit the types of a `StoredCatalogue`.
+pub fn meant_definitions_fit()
+    ensures { (catalogue : CatalogueItems) → AreMeant catalogue → FitsTypes catalogue → FitsCatalogue catalogue }
 {}
