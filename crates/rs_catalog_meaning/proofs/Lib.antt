@@ -1,5 +1,6 @@
 mod Each
 mod Fitting
+mod LawfulStates
 mod NameOrder
 mod NameText
 mod PlaceLaws

@@ -93,7 +93,7 @@ contains_said routes route there = (
 
 -- ---- by their names
 
-after : (a b : Name) → is_lt (name_cmp a b) ≡ true → eq_by_cmp name_cmp b a ≡ false
+pub after : (a b : Name) → is_lt (name_cmp a b) ≡ true → eq_by_cmp name_cmp b a ≡ false
 after a b less = (eq_by_cmp_equiv name_cmp-total).symm b a ∙ not_equal (name_cmp a b) less
   where
     not_equal : (order : Ordering) → is_lt order ≡ true → is_eq order ≡ false

@@ -34,7 +34,7 @@ same_name : (a b : Name) → eq_by_cmp name_cmp a b ≡ true → a ≡ b
 same_name a b e = name_cmp-antisymmetric a b ((Equal-is (name_cmp a b)).0 e)
 
 module _ {X : Type 0} (P : Name → X → Type 0) where
-  found_so : (es : List (Name × X)) → AllByRecursion (λ e. P e.0 e.1) es → (name : Name) (x : X) → find name_cmp name es ≡ Some x → P name x
+  pub found_so : (es : List (Name × X)) → AllByRecursion (λ e. P e.0 e.1) es → (name : Name) (x : X) → find name_cmp name es ≡ Some x → P name x
   found_so [] all name x found = absurd (none-some x found)
   found_so (e ∷ es) all name x found =
       elim (eq_by_cmp name_cmp name e.0) as (λ b. eq_by_cmp name_cmp name e.0 ≡ b → cond b (Some e.1) (find name_cmp name es) ≡ Some x → P name x) [
@@ -53,7 +53,7 @@ no_such (e ∷ es) name all =
       | false ↦ λ other. no_such es name all.1
     ] refl
 
-len_sorted : {X : Type 0} (es : List (Name × X)) → is_sorted name_cmp es ≡ true → names.len (names.from_sorted {R = name_cmp} es) ≡ length es
+pub len_sorted : {X : Type 0} (es : List (Name × X)) → is_sorted name_cmp es ≡ true → names.len (names.from_sorted {R = name_cmp} es) ≡ length es
 len_sorted es sorted = len-entries (names.from_sorted es) ∙ ap length (entries-from_sorted name_cmp es (to_T (is_sorted name_cmp es) sorted))
 
 few_sorted : {X Z : Type 0} (entry : Z → Name × X) (zs : List Z) (most : ℕ) → is_sorted name_cmp (map entry zs) ≡ true → length zs ≤ most

@@ -1,13 +1,18 @@
 -- The state of the machine that definitions make while nothing else is said: it has no view, no referent and no fact.
-use Rattle.std.specs.Prelude.{ℕ, ◌==◌, List, [], ◌∷◌, map, if◌then◌else◌}
+use Rattle.std.specs.Prelude.{◌≡◌, ◌≤◌, ◌==◌, ℕ, false, List, [], ◌∷◌, length, map, if◌then◌else◌}
 use Rattle.std.specs.FinMap as names
+use Rattle.std.specs.List.{AllByRecursion}
+use Rattle.rs_catalog_pages.specs.declared.directory_items.TheConstants.{INDEXES}
 use Rattle.rs_catalog_pages.specs.Items.{AlignmentItem, CatalogueItems, PieceItem, RouteItem, TableItem}
 use Rattle.rs_facts.specs.Fact.{Name, Names, no_facts}
 use Rattle.rs_facts.specs.Query.{Piece, Table}
-use Rattle.rs_machine.specs.State.{State, no_referents}
+use Rattle.rs_machine.specs.declared.limits.TheConstants.{VIEWS}
+use Rattle.rs_machine.specs.State.{State, has, no_referents}
+use Rattle.rs_syntax.specs.Sound.{IsName}
 use Rattle.rs_value.specs.declared.column.Kind.{Kind}
 use Rattle.rs_value.specs.declared.column.Kind.TheVariants.{Line, Point}
-use Rattle.rs_catalog_meaning.specs.Meaning.{columns_of, named_piece, routes_of}
+use Rattle.rs_catalog_meaning.specs.Meaning.{AreInOrder, IsIndex, columns_of, named_piece, route_numbers, routes_of}
+use Rattle.rs_catalog_meaning.specs.Places.{AreGivenOnce}
 
 -- the name of the route with this number
 abbrev pub name_with : List RouteItem → ℕ → Name
@@ -42,3 +47,18 @@ state_of catalogue = record {
   changes = 0;
   cursors = λ session. names.empty;
 }
+
+-- what the state doesn't say of the definitions: the order of each list, the numbers of routes, the codes of kinds, the
+-- indexes, and the names of views
+pub record AreListed (catalogue : CatalogueItems) : Type 0 where
+  pub routes : AreInOrder (λ route. route.name) catalogue.routes
+  pub route_numbers : AreGivenOnce (route_numbers catalogue.routes)
+  pub tables : AreInOrder (λ table. table.name) catalogue.tables
+  pub kinds : AllByRecursion (λ table. table.kind ≤ 1) catalogue.tables
+  pub indexes : AreInOrder (λ index. index.name) catalogue.indexes
+  pub each_index : AllByRecursion (IsIndex catalogue.tables) catalogue.indexes
+  pub few_indexes : length catalogue.indexes ≤ INDEXES
+  pub views : AreInOrder (λ view. view.name) catalogue.views
+  pub view_names : AllByRecursion (λ view. IsName view.name × (has (state_of catalogue).tables view.name ≡ false)) catalogue.views
+  pub few_views : length catalogue.views ≤ VIEWS
+  pub alignments : AreInOrder (λ alignment. alignment.name) catalogue.alignments

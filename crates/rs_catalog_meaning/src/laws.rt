@@ -7,7 +7,7 @@ ghost use Rattle.rs_machine.specs.Lawful.{IsLawful};
 ghost use Rattle.rs_machine.specs.State.{has};
 ghost use Rattle.rs_catalog_meaning.specs.Fitting.{FitsTypes};
 ghost use Rattle.rs_catalog_meaning.specs.Meaning.{AreMeant};
-ghost use Rattle.rs_catalog_meaning.specs.Stating.{state_of};
+ghost use Rattle.rs_catalog_meaning.specs.Stating.{AreListed, state_of};
 
 /// The machine's state with these definitions, and without views, referents and facts, is lawful; the name of each view is free
 /// there.
@@ -15,6 +15,13 @@ pub fn meant_definitions_make_a_lawful_state()
     ensures state { (catalogue : CatalogueItems) → AreMeant catalogue → IsLawful (state_of catalogue) }
     ensures views { (catalogue : CatalogueItems) (view : ViewItem) → AreMeant catalogue → Contains catalogue.views view
         → has (state_of catalogue).tables view.name ≡ false }
+{}
+
+/// And the other way round: where the state with these definitions is lawful, and what it does not say of them is so, lines could
+/// have made them.
+pub fn listed_definitions_of_a_lawful_state_are_meant()
+    ensures meant { (catalogue : CatalogueItems) → AreListed catalogue → IsLawful (state_of catalogue) → AreMeant catalogue }
+    ensures listed { (catalogue : CatalogueItems) → AreMeant catalogue → AreListed catalogue }
 {}
 
 /// A catalogue without definitions is one that lines could have made.
