@@ -55,6 +55,12 @@ pub record StoresSaid (old new : PageMap) (before after : List ℕ) (catalogue :
   pub few : length after * 4080 < length bytes + 4080
   pub stores : StoresBytes old new before after bytes
 
+-- bytes that say the catalogue are more than these pages hold
+pub record NeedsMorePages (numbers : List ℕ) (catalogue : CatalogueItems) : Type 0 where
+  pub bytes : List ℕ
+  pub says : SaysCatalogue bytes catalogue
+  pub more : length numbers * 4080 < length bytes
+
 -- the catalogue is in these pages now: those that there were, as far as they are needed, come first
 pub record StoresCatalogue (old new : PageMap) (before after : List ℕ) (catalogue : CatalogueItems) : Type 0 where
   pub kept : take (length before) after ≡ take (length after) before

@@ -1,6 +1,6 @@
 //! The directory of a file, read from page 1 and written to it.
 
-ghost use Rattle.std.specs.Prelude.{◌≡◌, ◌⊎◌, ◌≤◌, ◌↔◌, ◌-◌, ◌++◌, true, ℕ, List, IsTrue, EachIndex, slice_index, IfOk, IfErr, OnOk, OnErr, Err, length, drop, replicate};
+ghost use Rattle.std.specs.Prelude.{◌≡◌, ◌≢◌, ◌⊎◌, ◌≤◌, ◌↔◌, ◌-◌, ◌++◌, true, ℕ, List, IsTrue, EachIndex, slice_index, IfOk, IfErr, OnOk, OnErr, Err, length, drop, replicate};
 ghost use Rattle.rs_disk.specs.declared.disk.TheConstants.{PAGE_SIZE};
 ghost use Rattle.rs_owners.specs.Changes.{WorksAfter};
 ghost use Rattle.rs_page.specs.Header.{IsHeader};
@@ -90,6 +90,7 @@ pub fn store_directory<P: Pages>(
     ensures stores { P.is_tied pages.old → OnOk result (StoresDirectory (P.store pages.old).map (P.store pages.new).map
         (said_directory directory.now)) }
     ensures stays { OnErr result (Rests (P.is_tied pages.old) (P.store pages.old) (P.store pages.new)) }
+    ensures room { result ≢ Err Refusal.FileFull }
 {
     let mut bytes = Vec::new(alloc);
     directory.write(&mut bytes)?;

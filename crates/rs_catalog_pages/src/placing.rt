@@ -1,6 +1,6 @@
 //! The pages of the catalogue: as many as its bytes need.
 
-ghost use Rattle.std.specs.Prelude.{◌≡◌, ◌≤◌, ◌-◌, true, OnOk, length, take};
+ghost use Rattle.std.specs.Prelude.{◌≡◌, ◌≢◌, ◌≤◌, ◌<◌, ◌+◌, ◌-◌, true, Err, OnOk, length, max, take};
 ghost use Rattle.rs_owners.specs.Changes.{WorksAfter};
 ghost use Rattle.rs_catalog_pages.specs.Storing.{MovesPages, AreNotOwn};
 
@@ -8,7 +8,8 @@ use rs_measure::Refusal;
 use rs_page::{ContentKind, PageNumber};
 use rs_pages::Pages;
 
-/// Brings pages into use until there are so many. It is refused as `allocate` is, and for want of memory.
+/// Brings pages into use until there are so many, and no more. It is refused as `allocate` is, with 92 only where there are
+/// fewer, and for want of memory.
 pub(crate) fn grow<P: Pages>(
     pages: &mut P,
     numbers: &mut Vec<PageNumber>,
@@ -22,6 +23,10 @@ pub(crate) fn grow<P: Pages>(
         numbers.old.items numbers.new.items) }
     ensures enough { OnOk result (count ≤ length numbers.new.items) }
     ensures kept { OnOk result (take (length numbers.old.items) numbers.new.items ≡ numbers.old.items) }
+    ensures few { OnOk result (length numbers.new.items ≤ max count (length numbers.old.items)) }
+    ensures as_many { OnOk result ((P.store pages.new).map.fields.pages + length numbers.old.items
+        ≤ (P.store pages.old).map.fields.pages + length numbers.new.items) }
+    ensures room { result ≡ Err Refusal.FileFull → length numbers.old.items < count }
 {
     while numbers.len() < count {
         let number = pages.allocate(ContentKind::Catalogue)?;
@@ -30,7 +35,8 @@ pub(crate) fn grow<P: Pages>(
     Ok(())
 }
 
-/// Releases pages until there are no more than so many, the last first. It is refused as `release` is.
+/// Releases pages until there are no more than so many, the last first. It is refused as `release` is. The file has as many
+/// pages as before.
 pub(crate) fn shrink<P: Pages>(
     pages: &mut P,
     numbers: &mut Vec<PageNumber>,
@@ -45,6 +51,8 @@ pub(crate) fn shrink<P: Pages>(
         numbers.old.items numbers.new.items) }
     ensures enough { OnOk result (length numbers.new.items ≡ count) }
     ensures kept { OnOk result (numbers.new.items ≡ take (length numbers.new.items) numbers.old.items) }
+    ensures as_many { (P.store pages.new).map.fields.pages ≡ (P.store pages.old).map.fields.pages }
+    ensures room { result ≢ Err Refusal.FileFull }
 {
     while numbers.len() > count {
         release_last(pages, numbers)?;
@@ -62,6 +70,8 @@ fn release_last<P: Pages>(pages: &mut P, numbers: &mut Vec<PageNumber>) -> Resul
         numbers.old.items numbers.new.items) }
     ensures fewer { OnOk result (length numbers.new.items ≡ length numbers.old.items - 1) }
     ensures kept { OnOk result (numbers.new.items ≡ take (length numbers.new.items) numbers.old.items) }
+    ensures as_many { (P.store pages.new).map.fields.pages ≡ (P.store pages.old).map.fields.pages }
+    ensures room { result ≢ Err Refusal.FileFull }
 {
     match numbers.pop() {
         Some(number) => pages.release(number),

@@ -2,14 +2,14 @@
 //!
 //! It keeps the pages that it has, and takes or gives back those that are missing or too many.
 
-ghost use Rattle.std.specs.Prelude.{◌≡◌, ◌≤◌, ◌<◌, ◌+◌, ◌*◌, ◌^◌, true, IfOk, OnOk, OnErr, length};
+ghost use Rattle.std.specs.Prelude.{◌≡◌, ◌≢◌, ◌≤◌, ◌<◌, ◌+◌, ◌-◌, ◌*◌, ◌^◌, true, Err, IfOk, OnOk, OnErr, length};
 ghost use Rattle.rs_owners.specs.Changes.{WorksAfter};
 ghost use Rattle.rs_pages.specs.PageMap.{HasNoFit};
 ghost use Rattle.rs_pages.specs.Store.{Rests};
 ghost use Rattle.rs_catalog_pages.specs.Fitting.{FitsCatalogue, IsShort};
 ghost use Rattle.rs_catalog_pages.specs.Said.{said_catalogue};
 ghost use Rattle.rs_catalog_pages.specs.Parts.{WritesPart};
-ghost use Rattle.rs_catalog_pages.specs.Storing.{AreNotOwn, WritesParts, HasNoOwnBytes, StoresAfter, StoresCatalogue};
+ghost use Rattle.rs_catalog_pages.specs.Storing.{AreNotOwn, WritesParts, HasNoOwnBytes, NeedsMorePages, StoresAfter, StoresCatalogue};
 ghost use Rattle.rs_catalog_pages.specs.Places.{number_from, part_at};
 
 use crate::items::StoredCatalogue;
@@ -25,9 +25,10 @@ use std::alloc::Global;
 pub const PART_SIZE: usize = 4080;
 
 /// Stores the catalogue in place of the one in these pages, and answers which pages it has now: those that it had, then
-/// new ones, and no more than it needs. The caller keeps the old list until it commits. It is refused with 90, with 91,
-/// with 92 where the file is full, and with 94 only where these pages, each one owner's, hold no bytes of a catalogue; the
-/// working pages are to be abandoned then.
+/// new ones, and no more than it needs. The file gains at most as many pages as the catalogue does. The caller keeps the old
+/// list until it commits. It is refused with 90, with 91, with 92 only where the file is full and the catalogue needs more
+/// pages than these, and with 94 only where these pages, each one owner's, hold no bytes of a catalogue; the working pages
+/// are to be abandoned then.
 pub fn store<P: Pages>(
     alloc: Global,
     pages: &mut P,
@@ -42,6 +43,9 @@ pub fn store<P: Pages>(
         (P.store pages.old) (P.store pages.new) }
     ensures stores { P.is_tied pages.old → IfOk result (λ after. StoresCatalogue (P.store pages.old).map
         (P.store pages.new).map numbers.now after.items (said_catalogue catalogue.now)) }
+    ensures count { IfOk result (λ after. (P.store pages.new).map.fields.pages
+        ≤ (P.store pages.old).map.fields.pages + (length after.items - length numbers.now)) }
+    ensures room { result ≡ Err Refusal.FileFull → NeedsMorePages numbers.now (said_catalogue catalogue.now) }
 {
     let mut bytes = Vec::new(alloc);
     catalogue.write(&mut bytes)?;
@@ -78,6 +82,8 @@ fn write_parts<P: Pages>(pages: &mut P, numbers: &[PageNumber], bytes: &[u8]) ->
         (P.store pages.old) (P.store pages.new) }
     ensures writes { P.is_tied pages.old → OnOk result (WritesParts (P.store pages.old).map (P.store pages.new).map
         numbers.now bytes.now (number_from numbers.now 0)) }
+    ensures as_many { (P.store pages.new).map.fields.pages ≡ (P.store pages.old).map.fields.pages }
+    ensures room { result ≢ Err Refusal.FileFull }
 {
     let mut index = numbers.len();
     while index > 0 {
@@ -131,6 +137,8 @@ fn write_part<P: Pages>(
     ensures written { P.is_tied pages.old → OnOk result (WritesPart (P.store pages.old).map (P.store pages.new).map number
         next part.now) }
     ensures stays { OnErr result (Rests (P.is_tied pages.old) (P.store pages.old) (P.store pages.new)) }
+    ensures as_many { (P.store pages.new).map.fields.pages ≡ (P.store pages.old).map.fields.pages }
+    ensures room { result ≢ Err Refusal.FileFull }
 {
     let page = pages.page_mut(number)?;
     put_part(page, number, next, part);

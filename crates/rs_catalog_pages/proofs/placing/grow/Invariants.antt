@@ -1,5 +1,5 @@
 -- The pages so far are in use where those before were.
-use Rattle.std.proofs.Common.{◌≡◌, ◌≤◌, ◌-◌, Ok, length, take}
+use Rattle.std.proofs.Common.{◌≡◌, ◌≤◌, ◌+◌, ◌-◌, Ok, length, max, take}
 use Rattle.rs_owners.specs.Changes.{WorksAfter}
 use Rattle.rs_catalog_pages.specs.Storing.{MovesPages}
 use Rattle.rs_catalog_pages.proofs.placing.grow.Given as goal
@@ -11,6 +11,8 @@ invariant-loop-pages g l = record {
   moves : g.P.Pages.is_tied l.fn.pages → MovesPages (g.P.Pages.store l.fn.pages).map (g.P.Pages.store l.pages).map l.fn.numbers.items l.numbers.items;
   longer : length l.fn.numbers.items ≤ length l.numbers.items;
   kept : take (length l.fn.numbers.items) l.numbers.items ≡ l.fn.numbers.items;
+  few : length l.numbers.items ≤ max l.count (length l.fn.numbers.items);
+  as_many : (g.P.Pages.store l.pages).map.fields.pages + length l.fn.numbers.items ≤ (g.P.Pages.store l.fn.pages).map.fields.pages + length l.numbers.items;
 }
 
 abbrev pub decreases-loop-pages : goal.decreases-loop-pages

@@ -1,5 +1,5 @@
 -- Each page that was released is one less.
-use Rattle.std.proofs.Common.{Ok, Err, arith}
+use Rattle.std.proofs.Common.{Ok, Err, ◌∙◌, arith}
 use Rattle.std.proofs.lemmas.Result.{err_from_is_err_and}
 use Rattle.rs_catalog_pages.specs.Storing.{AreNotOwn}
 use Rattle.rs_catalog_pages.proofs.Fronts.{kept_fewer}
@@ -29,4 +29,5 @@ loop-pages-preserved g c = record {
       (c.loop-pages.invariant.moves tied) (c.in_ok-release_last.ensures.moves later);
   enough = omega (arith, c.in_ok-release_last.ensures.fewer, c.len.ensures, c.loop-pages-test.true);
   kept = kept_fewer c.args.numbers.now.items c.loop-pages.numbers.items c.release_last.new.numbers.items (omega (arith, c.in_ok-release_last.ensures.fewer)) c.loop-pages.invariant.kept c.in_ok-release_last.ensures.kept;
+  as_many = c.in_ok-release_last.ensures.as_many ∙ c.loop-pages.invariant.as_many;
 }

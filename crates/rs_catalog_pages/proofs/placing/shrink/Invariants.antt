@@ -11,6 +11,7 @@ invariant-loop-pages g l = record {
   moves : g.P.Pages.is_tied l.fn.pages → MovesPages (g.P.Pages.store l.fn.pages).map (g.P.Pages.store l.pages).map l.fn.numbers.items l.numbers.items;
   enough : l.count ≤ length l.numbers.items;
   kept : l.numbers.items ≡ take (length l.numbers.items) l.fn.numbers.items;
+  as_many : (g.P.Pages.store l.pages).map.fields.pages ≡ (g.P.Pages.store l.fn.pages).map.fields.pages;
 }
 
 abbrev pub decreases-loop-pages : goal.decreases-loop-pages

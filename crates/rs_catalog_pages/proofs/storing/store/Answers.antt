@@ -1,6 +1,7 @@
 -- The pages that are there now are in use; then the bytes are written into them.
 use Rattle.std.proofs.Common.{◌≡◌, ◌<◌, ◌+◌, ◌*◌, ◌^◌, ◌++◌, List, ℕ, Ok, Err, length, sym, ap, subst, ◌∙◌, arith, rules}
 use Rattle.std.proofs.lemmas.Result.{err_from_is_err_and}
+use Rattle.rs_measure.specs.declared.refusal.Refusal.TheVariants as refusal
 use Rattle.rs_pages.specs.Uses.{SetsCatalogue}
 use Rattle.rs_catalog_pages.specs.Items.{SaysCatalogue}
 use Rattle.rs_catalog_pages.specs.Said.{said_catalogue}
@@ -20,6 +21,19 @@ returns-in_err-grow-clause-works g c =
     c.in_err-grow.field-0.0 (g.P.Pages.store c.args.pages.now) (g.P.Pages.store c.grow.new.pages)
     (λ none tied. not_own-no_bytes (g.P.Pages.store c.args.pages.now).map c.args.numbers.now (subst (λ ns. AreNotOwn (g.P.Pages.store c.args.pages.now).map ns) copied (none tied)))
     c.in_err-grow.ensures.works)
+
+pub returns-in_err-grow-clause-room : goal.returns-in_err-grow-clause-room
+returns-in_err-grow-clause-room g c = λ is.
+    let p = err_from_is_err_and c.from_residual-in_err-grow.result c.from_residual-in_err-grow.ensures.1 in
+    let why : c.in_err-grow.field-0.0 ≡ refusal.FileFull = cc (p.1, p.2, is) in
+    let written = c.in_ok-write.ensures.written in
+    let whole : c.write.new.bytes.items ≡ written.back = written.is ∙ ap (λ (l : List ℕ). l ++ written.back) c.new-bytes.ensures.items in
+    let copied = c.in_ok-extend_from_slice.ensures.items ∙ ap (λ (l : List ℕ). l ++ c.args.numbers.now) c.new-after.ensures.items in
+    record {
+      bytes = c.write.new.bytes.items;
+      says = subst (λ (l : List ℕ). SaysCatalogue l (said_catalogue c.args.catalogue.now)) (sym whole) written.said;
+      more = omega (arith, c.in_err-grow.ensures.room (ap Err why), ap (length {A = ℕ}) copied, c.parts_of-count.ensures.few, c.len.ensures, c.write.new.bytes.ok.0);
+    }
 
 pub returns-in_err-shrink-clause-works : goal.returns-in_err-shrink-clause-works
 returns-in_err-shrink-clause-works g c =

@@ -1,5 +1,5 @@
 -- Each part is written before the part that precedes it.
-use Rattle.std.proofs.Common.{◌≡◌, ◌<◌, ◌+◌, ◌-◌, Ok, Err, length, drop, get_or, sym, ap, subst, ◌∙◌, arith}
+use Rattle.std.proofs.Common.{◌≡◌, ◌<◌, ◌+◌, ◌-◌, Ok, Err, length, drop, get_or, refl, sym, ap, subst, ◌∙◌, arith}
 use Rattle.std.proofs.lemmas.List.{get_or_read}
 use Rattle.std.proofs.lemmas.Result.{err_from_is_err_and}
 use Rattle.rs_owners.specs.Counts.{times}
@@ -23,6 +23,7 @@ loop-index-init g c = record {
       (same_pages-moves (g.P.Pages.store c.args.pages.now).map (g.P.Pages.store c.args.pages.now).map (times c.args.numbers.now) (SamePages-refl (g.P.Pages.store c.args.pages.now).map));
   holds = λ tied own. writes_none (g.P.Pages.store c.args.pages.now).map c.args.numbers.now c.args.bytes.now c.requires.room;
   within = omega arith;
+  as_many = refl;
 }
 
 pub write_part-requires-clause-fits : goal.write_part-requires-clause-fits
@@ -55,6 +56,7 @@ loop-index-preserved g c =
           (λ used. subst (λ k. HoldsFrom (g.P.Pages.store c.loop-index.pages).map (number_from c.args.numbers.now k) (drop k c.args.numbers.now) (parts_from c.args.bytes.now k)) next (c.loop-index.invariant.holds tied used))
           own;
       within = omega (arith, c.loop-index.invariant.within);
+      as_many = c.in_ok-write_part.ensures.as_many ∙ c.loop-index.invariant.as_many;
     }
 
 pub returns-in_err-write_part-clause-works : goal.returns-in_err-write_part-clause-works

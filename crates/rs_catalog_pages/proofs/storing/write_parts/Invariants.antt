@@ -1,5 +1,5 @@
 -- From this page on the bytes are written.
-use Rattle.std.proofs.Common.{◌≤◌, Ok, length, drop}
+use Rattle.std.proofs.Common.{◌≡◌, ◌≤◌, Ok, length, drop}
 use Rattle.rs_owners.specs.Changes.{WorksAfter}
 use Rattle.rs_catalog_pages.specs.Chain.{HoldsFrom}
 use Rattle.rs_catalog_pages.specs.Places.{number_from, parts_from}
@@ -14,6 +14,7 @@ invariant-loop-index g l = record {
   holds : g.P.Pages.is_tied l.fn.pages → AreInUse (g.P.Pages.store l.fn.pages).map l.numbers
       → HoldsFrom (g.P.Pages.store l.pages).map (number_from l.numbers l.index) (drop l.index l.numbers) (parts_from l.bytes l.index);
   within : l.index ≤ length l.numbers;
+  as_many : (g.P.Pages.store l.pages).map.fields.pages ≡ (g.P.Pages.store l.fn.pages).map.fields.pages;
 }
 
 abbrev pub decreases-loop-index : goal.decreases-loop-index
