@@ -8,7 +8,8 @@ use Rattle.rs_owners.proofs.Moving.{one_at-same}
 use Rattle.rs_catalog_pages.specs.Chain.{HoldsPart, HoldsFrom, HoldsBytes, HoldsNoFreshBytes}
 use Rattle.rs_catalog_pages.specs.Items.{CatalogueItems, SaysCatalogue}
 use Rattle.rs_catalog_pages.specs.Laws.{catalogue_one}
-use Rattle.rs_catalog_pages.specs.Loading.{HoldsUpTo, ReadsBytes, LoadsCatalogue, HasNoFreshCatalogue}
+use Rattle.rs_catalog_pages.specs.Inner.{HoldsUpTo}
+use Rattle.rs_catalog_pages.specs.Loading.{ReadsBytes, LoadsCatalogue, HasNoFreshCatalogue}
 use Rattle.rs_catalog_pages.specs.Parts.{HasNoFreshPart}
 use Rattle.rs_catalog_pages.proofs.Counting.{times-append, times-cons}
 use Rattle.rs_catalog_pages.proofs.Parts.{holds_one}

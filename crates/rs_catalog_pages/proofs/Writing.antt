@@ -12,9 +12,10 @@ use Rattle.rs_owners.specs.Counts.{◌&◌, one_at, times}
 use Rattle.rs_owners.specs.Owners.{Moves}
 use Rattle.rs_owners.proofs.Moving.{one_at-same, same_number, moves_same, moves_part, replaces-moves}
 use Rattle.rs_catalog_pages.specs.Chain.{HoldsFrom, HoldsBytes}
+use Rattle.rs_catalog_pages.specs.Inner.{parts_from}
 use Rattle.rs_catalog_pages.specs.Items.{CatalogueItems, SaysCatalogue}
 use Rattle.rs_catalog_pages.specs.Parts.{IsPart, WritesPart}
-use Rattle.rs_catalog_pages.specs.Places.{number_from, part_at, parts_from}
+use Rattle.rs_catalog_pages.specs.Places.{number_from, part_at}
 use Rattle.rs_catalog_pages.specs.Storing.{IsInUse, AreInUse, MovesPages, AreNotOwn, WritesParts, HasNoOwnBytes, StoresCatalogue}
 use Rattle.rs_catalog_pages.proofs.Chains.{from_kept}
 use Rattle.rs_catalog_pages.proofs.Counting.{times-at, times-there, times-cons, times-none, one_at-off}

@@ -7,6 +7,7 @@ use Rattle.rs_page.specs.Header.{IsHeader}
 use Rattle.rs_page.specs.PageBytes.{empty_header}
 use Rattle.rs_page.specs.declared.header.PageKind.TheVariants.{Directory}
 use Rattle.rs_page.specs.declared.header.TheConstants.{HEADER_SIZE}
+use Rattle.rs_catalog_pages.specs.declared.directory_items.TheConstants.{INDEXES, TABLES}
 use Rattle.rs_pages.specs.PageMap.{PageMap, ReplacesPage}
 
 -- the root of a tree of records (0: it is empty), how many of them live, and how many are dead
@@ -16,8 +17,8 @@ pub record TreeItem : Type 0 where
   pub garbage : ℕ
 
 pub record DirectoryItems : Type 0 where
-  pub tables : List TreeItem  -- 128, by number
-  pub indexes : List ℕ  -- 64 roots, by number
+  pub tables : List TreeItem  -- by number
+  pub indexes : List ℕ  -- roots, by number
   pub referents : TreeItem
   pub accepted : ℕ
 
@@ -27,7 +28,7 @@ SaysTree bytes tree =
 
 abbrev pub SaysDirectory : Code DirectoryItems
 SaysDirectory bytes directory =
-    SaysBoth (SaysMany 128 (SaysEach SaysTree)) (SaysBoth (SaysMany 64 (SaysEach (SaysNumber 4))) (SaysBoth SaysTree (SaysNumber 8)))
+    SaysBoth (SaysMany TABLES (SaysEach SaysTree)) (SaysBoth (SaysMany INDEXES (SaysEach (SaysNumber 4))) (SaysBoth SaysTree (SaysNumber 8)))
     bytes (directory.tables, (directory.indexes, (directory.referents, directory.accepted)))
 
 -- the page is a directory: its header, the directory's bytes, and zeros to the end

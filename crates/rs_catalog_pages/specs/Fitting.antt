@@ -1,5 +1,6 @@
 -- Which definitions bytes can say.
 use Rattle.std.specs.Prelude.{◌≡◌, ◌<◌, ◌^◌, ℕ, List, length, All}
+use Rattle.rs_catalog_pages.specs.declared.directory_items.TheConstants.{INDEXES, TABLES}
 use Rattle.rs_catalog_pages.specs.Directory.{TreeItem, DirectoryItems}
 use Rattle.rs_catalog_pages.specs.Items.{RouteItem, ColumnItem, TableItem, IndexItem, ViewItem, PieceItem, AlignmentItem, CatalogueItems, SaysCatalogue}
 
@@ -65,9 +66,9 @@ pub record FitsTree (tree : TreeItem) : Type 0 where
   pub garbage : tree.garbage < 2 ^ 64
 
 pub record FitsDirectory (directory : DirectoryItems) : Type 0 where
-  pub all_tables : length directory.tables ≡ 128
+  pub all_tables : length directory.tables ≡ TABLES
   pub tables : All FitsTree directory.tables
-  pub all_indexes : length directory.indexes ≡ 64
+  pub all_indexes : length directory.indexes ≡ INDEXES
   pub indexes : All (λ root. root < 2 ^ 32) directory.indexes
   pub referents : FitsTree directory.referents
   pub accepted : directory.accepted < 2 ^ 64

@@ -1,6 +1,7 @@
 pub mod Chain
 pub mod Directory
 pub mod Fitting
+pub mod Inner
 pub mod Items
 pub mod Laws
 pub mod Loading

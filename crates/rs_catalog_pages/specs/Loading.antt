@@ -1,15 +1,9 @@
 -- What reading the catalogue answers. Pages are told by how often they were reached before and after it.
-use Rattle.std.specs.Prelude.{◌≡◌, ◌≤◌, ◌++◌, ℕ, List}
+use Rattle.std.specs.Prelude.{◌≡◌, ◌≤◌, ℕ, List}
 use Rattle.rs_owners.specs.Counts.{◌&◌, times}
 use Rattle.rs_pages.specs.PageMap.{PageMap}
-use Rattle.rs_catalog_pages.specs.Chain.{HoldsFrom, HoldsBytes}
+use Rattle.rs_catalog_pages.specs.Chain.{HoldsBytes}
 use Rattle.rs_catalog_pages.specs.Items.{CatalogueItems, SaysCatalogue}
-
--- from a page on the first of them hold these bytes, and those that follow begin at the next one
-pub record HoldsUpTo (map : PageMap) (first : ℕ) (numbers bytes : List ℕ) (next : ℕ) : Type 0 where
-  pub whole : (rest after : List ℕ) → HoldsFrom map next rest after → HoldsFrom map first (numbers ++ rest) (bytes ++ after)
-  pub splits : (all said : List ℕ) → HoldsFrom map first all said
-      → (rest : List ℕ) × (after : List ℕ) × (all ≡ numbers ++ rest) × (said ≡ bytes ++ after) × HoldsFrom map next rest after
 
 -- these pages hold the bytes of the catalogue, and each was reached once more
 pub record ReadsBytes (map : PageMap) (before after : ℕ → ℕ) (numbers bytes : List ℕ) : Type 0 where

@@ -8,7 +8,3 @@ number_from numbers index = slice_index_or numbers index 0
 -- the bytes for the page at a place of the list
 unfoldable pub part_at : List ℕ → ℕ → List ℕ
 part_at bytes index = take 4080 (drop (index * 4080) bytes)
-
--- the bytes for this page and those after it
-unfoldable pub parts_from : List ℕ → ℕ → List ℕ
-parts_from bytes index = drop (index * 4080) bytes

@@ -5,7 +5,7 @@ use Rattle.rs_measure.specs.declared.refusal.Refusal.TheVariants as refusal
 use Rattle.rs_owners.specs.Counts.{times}
 use Rattle.rs_reached.specs.Marks.{taken}
 use Rattle.rs_reached.proofs.Marking.{taken-le}
-use Rattle.rs_catalog_pages.specs.Loading.{HoldsUpTo}
+use Rattle.rs_catalog_pages.specs.Inner.{HoldsUpTo}
 use Rattle.rs_catalog_pages.proofs.Chains.{up_to_none, up_to_next, none_next, none_short, reads_all}
 use Rattle.rs_catalog_pages.proofs.Counting.{times-none, times-push, fewer_left}
 use Rattle.rs_catalog_pages.proofs.Parts.{no_part_before, reads_before}

@@ -3,7 +3,7 @@ use Rattle.std.proofs.Common.{◌≡◌, ◌≤◌, ℕ, Ok, length}
 use Rattle.rs_owners.specs.Counts.{◌&◌, times}
 use Rattle.rs_pages.specs.Lending.{RestsAfter}
 use Rattle.rs_reached.specs.Marks.{taken, unmarked}
-use Rattle.rs_catalog_pages.specs.Loading.{HoldsUpTo}
+use Rattle.rs_catalog_pages.specs.Inner.{HoldsUpTo}
 use Rattle.rs_catalog_pages.proofs.chain.read_bytes.Given as goal
 
 abbrev pub invariant-loop-next : goal.invariant-loop-next

@@ -7,7 +7,8 @@ use Rattle.rs_owners.proofs.Moving.{same_pages-moves}
 use Rattle.rs_pages.specs.PageMap.{HasNoFit}
 use Rattle.rs_pages.proofs.Stores.{SamePages-refl}
 use Rattle.rs_catalog_pages.specs.Chain.{HoldsFrom}
-use Rattle.rs_catalog_pages.specs.Places.{number_from, part_at, parts_from}
+use Rattle.rs_catalog_pages.specs.Inner.{parts_from}
+use Rattle.rs_catalog_pages.specs.Places.{number_from, part_at}
 use Rattle.rs_catalog_pages.specs.Storing.{AreNotOwn}
 use Rattle.rs_catalog_pages.proofs.Counting.{times-there}
 use Rattle.rs_catalog_pages.proofs.Moving.{MovesPages-refl, MovesPages-trans, not_own_before, no_fit-not_own}

@@ -2,7 +2,8 @@
 use Rattle.std.proofs.Common.{◌≡◌, ◌≤◌, Ok, length, drop}
 use Rattle.rs_owners.specs.Changes.{WorksAfter}
 use Rattle.rs_catalog_pages.specs.Chain.{HoldsFrom}
-use Rattle.rs_catalog_pages.specs.Places.{number_from, parts_from}
+use Rattle.rs_catalog_pages.specs.Inner.{parts_from}
+use Rattle.rs_catalog_pages.specs.Places.{number_from}
 use Rattle.rs_catalog_pages.specs.Storing.{AreInUse, MovesPages}
 use Rattle.rs_catalog_pages.proofs.storing.write_parts.Given as goal
 
