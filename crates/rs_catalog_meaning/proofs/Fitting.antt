@@ -1,4 +1,4 @@
--- Definitions that lines could have made can be stored.
+-- Definitions that are meant can be stored.
 use Rattle.std.proofs.Common.{◌<◌, ◌^◌, ℕ, List, length, get_or, arith}
 use Rattle.std.specs.Prelude.{All, Contains}
 use Rattle.std.proofs.lemmas.List.{length-map}

@@ -1,4 +1,4 @@
--- Where the state that definitions make is lawful, lines could have made them.
+-- Where the state that definitions make is lawful, they are meant.
 use Rattle.std.proofs.Common.{◌≡◌, ◌<◌, ◌≤◌, ℕ, true, false, cond, Some, is_some, List, [], ◌∷◌, length, map, get_or, suc, refl, sym, ap, subst, ◌∙◌, arith}
 use Rattle.std.specs.Prelude.{Contains, ◌≢◌, ◌==◌, if◌then◌else◌}
 use Rattle.std.specs.List.{AllByRecursion}

@@ -1,4 +1,5 @@
--- Which definitions of a file lines could have made, each beside the others. The order of lists is that of names.
+-- Which definitions of a file are meant: each passes the checks and limits of its DEFINE line, beside the others. The order of
+-- lists is that of names. A line's length is not looked at.
 use Rattle.std.specs.Prelude.{◌≡◌, ◌≢◌, ◌<◌, ◌≤◌, ◌==◌, ℕ, IsTrue, Contains, List, length, map, if◌then◌else◌}
 use Rattle.std.specs.FinMap as names
 use Rattle.std.specs.List.{AllByRecursion}

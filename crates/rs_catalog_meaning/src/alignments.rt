@@ -11,7 +11,7 @@ use crate::names::{are_in_order, is_name};
 use rs_catalog_pages::{StoredAlignment, StoredPiece, StoredRoute};
 use rs_machine::limits::{ALIGNMENTS, PIECES};
 
-/// Whether lines could have defined these alignments beside the routes.
+/// Whether these alignments pass the checks and limits of their DEFINE lines beside the routes, in the order of their names.
 pub fn are_alignments(routes: &[StoredRoute], alignments: &[StoredAlignment]) -> bool
     requires { AreRoutes (map said_route routes.now) }
     ensures { IsTrue result ↔ AreAlignments (map said_route routes.now) (map said_alignment alignments.now) }
@@ -24,7 +24,7 @@ pub fn are_alignments(routes: &[StoredRoute], alignments: &[StoredAlignment]) ->
         && is_each_alignment(routes, &places, alignments)
 }
 
-// Whether a line could have defined each of them.
+// Whether each of them passes.
 fn is_each_alignment(
     routes: &[StoredRoute],
     places: &Places,
@@ -42,7 +42,7 @@ fn is_each_alignment(
     true
 }
 
-// Whether a line could have defined this alignment.
+// Whether it has a name, and few enough pieces, which lie on routes that are there.
 fn is_alignment(routes: &[StoredRoute], places: &Places, alignment: &StoredAlignment) -> bool
     requires routes { AreRoutes (map said_route routes.now) }
     requires places { ArePlaces (map (λ route. route.number) routes.now) places.now }

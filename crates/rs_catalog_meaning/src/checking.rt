@@ -1,4 +1,4 @@
-//! Whether lines could have made the definitions of a file, each beside the others.
+//! Whether the definitions of a file pass the checks and limits of their DEFINE lines, each beside the others.
 
 ghost use Rattle.std.specs.Prelude.{◌≡◌, IsOkUnless, OnErr, OnOk};
 ghost use Rattle.rs_catalog_meaning.specs.Meaning.{AreMeant};
@@ -10,8 +10,8 @@ use crate::tables::{are_indexes, are_tables, are_views};
 use rs_catalog_pages::StoredCatalogue;
 use rs_measure::Refusal;
 
-/// Ok exactly where lines could have made the definitions, each beside the others, in the order of their names; 94 where not.
-/// It takes no memory. What the text of a view says is not looked at.
+/// Ok exactly where each definition passes the checks and limits of its DEFINE line, beside the others, and each list is in the
+/// order of names; 94 where not. A line's length and what a view's text says are not looked at. It takes no memory.
 pub fn check_meaning(catalogue: &StoredCatalogue) -> Result<(), Refusal>
     ensures meant { OnOk result (AreMeant (said_catalogue catalogue.now)) }
     ensures none { OnErr result (AreMeant (said_catalogue catalogue.now) → ⊥) }

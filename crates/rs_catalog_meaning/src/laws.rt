@@ -1,4 +1,5 @@
-//! What follows from definitions that lines could have made: with them the machine's state is lawful, and they can be stored.
+//! What follows from definitions that are meant, which pass the checks of their DEFINE lines: with them the machine's state is
+//! lawful, and they can be stored.
 
 ghost use Rattle.std.specs.Prelude.{◌≡◌, [], false, Contains};
 ghost use Rattle.rs_catalog_pages.specs.Items.{CatalogueItems, ViewItem};
@@ -17,19 +18,18 @@ pub fn meant_definitions_make_a_lawful_state()
         → has (state_of catalogue).tables view.name ≡ false }
 {}
 
-/// And the other way round: where the state with these definitions is lawful, and what it does not say of them is so, lines could
-/// have made them.
+/// The converse: definitions are meant where the state with them is lawful, and what it does not say of them is so.
 pub fn listed_definitions_of_a_lawful_state_are_meant()
     ensures meant { (catalogue : CatalogueItems) → AreListed catalogue → IsLawful (state_of catalogue) → AreMeant catalogue }
     ensures listed { (catalogue : CatalogueItems) → AreMeant catalogue → AreListed catalogue }
 {}
 
-/// A catalogue without definitions is one that lines could have made.
+/// A catalogue without definitions is meant.
 pub fn empty_catalogue_is_meant()
     ensures { AreMeant (record { routes = []; tables = []; indexes = []; views = []; alignments = [] }) }
 {}
 
-/// The bytes of definitions that lines could have made can be counted in page 0: `store` takes them without a test.
+/// The bytes of definitions that are meant can be counted in page 0: `store` takes them without a test.
 pub fn meant_definitions_are_short()
     ensures { (catalogue : CatalogueItems) → AreMeant catalogue → IsShort catalogue }
 {}

@@ -12,7 +12,8 @@ use rs_catalog_pages::StoredRoute;
 use rs_machine::limits::ROUTES;
 use rs_measure::GREATEST_MEASURE;
 
-/// Whether lines could have defined these routes.
+/// Whether these routes pass the checks and limits of their DEFINE lines, in the order of their names, each with a number of
+/// its own.
 pub fn are_routes(routes: &[StoredRoute]) -> bool
     ensures { IsTrue result ↔ AreRoutes (map said_route routes.now) }
 {
@@ -22,14 +23,14 @@ pub fn are_routes(routes: &[StoredRoute]) -> bool
         && places_of(routes).is_some()
 }
 
-// Whether a line could have defined each of them.
+// Whether each of them passes.
 fn is_each_route(routes: &[StoredRoute]) -> bool
     ensures { IsTrue result ↔ AllByRecursion (λ route. IsRoute route.name (ends_of route)) (map said_route routes.now) }
 {
     routes.iter().all(|route| is_route(route))
 }
 
-// Whether a line could have defined this route: by a name and two measures, the start below the end.
+// Whether it has a name and two measures, the start below the end.
 fn is_route(route: &StoredRoute) -> bool
     ensures { let said = said_route route.now in IsTrue result ↔ IsRoute said.name (ends_of said) }
 {

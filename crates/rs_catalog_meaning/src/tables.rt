@@ -14,21 +14,21 @@ use rs_catalog_pages::{INDEXES, StoredColumn, StoredIndex, StoredTable, StoredVi
 use rs_machine::limits::{TABLES, VIEWS};
 use rs_value::{COLUMNS, TEXT_BYTES};
 
-/// Whether lines could have defined these tables.
+/// Whether these tables pass the checks and limits of their DEFINE lines, in the order of their names.
 pub fn are_tables(tables: &[StoredTable]) -> bool
     ensures { IsTrue result ↔ AreTables (map said_table tables.now) }
 {
     tables.len() <= TABLES && are_in_order(tables) && is_each_table(tables)
 }
 
-// Whether a line could have defined each of them.
+// Whether each of them passes.
 fn is_each_table(tables: &[StoredTable]) -> bool
     ensures { IsTrue result ↔ AllByRecursion IsTable (map said_table tables.now) }
 {
     tables.iter().all(|table| is_table(table))
 }
 
-// Whether a line could have defined this table.
+// Whether it has a name, a kind, and columns that a table may have.
 fn is_table(table: &StoredTable) -> bool
     ensures { IsTrue result ↔ IsTable (said_table table.now) }
 {
@@ -71,21 +71,21 @@ fn are_distinct(columns: &[StoredColumn]) -> bool
     true
 }
 
-/// Whether lines could have defined these indexes of the tables.
+/// Whether these indexes of the tables pass the checks and limits of their DEFINE lines, in the order of their names.
 pub fn are_indexes(tables: &[StoredTable], indexes: &[StoredIndex]) -> bool
     ensures { IsTrue result ↔ AreIndexes (map said_table tables.now) (map said_index indexes.now) }
 {
     indexes.len() <= INDEXES as usize && are_in_order(indexes) && is_each_index(tables, indexes)
 }
 
-// Whether a line could have defined each of them.
+// Whether each of them passes.
 fn is_each_index(tables: &[StoredTable], indexes: &[StoredIndex]) -> bool
     ensures { IsTrue result ↔ AllByRecursion (IsIndex (map said_table tables.now)) (map said_index indexes.now) }
 {
     indexes.iter().all(|index| is_index(tables, index))
 }
 
-// Whether a line could have defined this index: it has a name, and its column is there.
+// Whether it has a name, and its column is there.
 fn is_index(tables: &[StoredTable], index: &StoredIndex) -> bool
     ensures { IsTrue result ↔ IsIndex (map said_table tables.now) (said_index index.now) }
 {
@@ -109,21 +109,22 @@ fn is_with_column(table: &StoredTable, number: u32, column: u8) -> bool
     table.number == number && usize::from(column) < table.columns.list.len()
 }
 
-/// Whether lines could have defined these views beside the tables.
+/// Whether these views pass the checks and limits of their DEFINE lines beside the tables, in the order of their names. What
+/// their texts say is not looked at.
 pub fn are_views(tables: &[StoredTable], views: &[StoredView]) -> bool
     ensures { IsTrue result ↔ AreViews (map said_table tables.now) (map said_view views.now) }
 {
     views.len() <= VIEWS && are_in_order(views) && is_each_view(tables, views)
 }
 
-// Whether a line could have defined each of them.
+// Whether each of them passes.
 fn is_each_view(tables: &[StoredTable], views: &[StoredView]) -> bool
     ensures { IsTrue result ↔ AllByRecursion (IsView (map said_table tables.now)) (map said_view views.now) }
 {
     views.iter().all(|view| is_view(tables, view))
 }
 
-// Whether a line could have defined this view: it has a name, which is no table's.
+// Whether it has a name, which is no table's.
 fn is_view(tables: &[StoredTable], view: &StoredView) -> bool
     ensures { IsTrue result ↔ IsView (map said_table tables.now) (said_view view.now) }
 {

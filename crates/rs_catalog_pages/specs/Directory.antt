@@ -1,5 +1,5 @@
--- The directory of a file, in its page 1: the trees of tables and indexes by their numbers, that of the referents, and how
--- many changes were accepted.
+-- The directory of a file, in its page 1: the trees of tables and indexes by their numbers, that of the referents, and
+-- the version that was accepted last.
 use Rattle.std.specs.Prelude.{◌≡◌, ◌-◌, ◌+◌, ◌++◌, ℕ, Some, List, drop, length, replicate}
 use Rattle.rs_bytes.specs.Codes.{Code, SaysBoth, SaysEach, SaysMany, SaysNumber}
 use Rattle.rs_disk.specs.declared.disk.TheConstants.{PAGE_SIZE}
@@ -20,7 +20,7 @@ pub record DirectoryItems : Type 0 where
   pub tables : List TreeItem  -- by number
   pub indexes : List ℕ  -- roots, by number
   pub referents : TreeItem
-  pub accepted : ℕ
+  pub accepted : ℕ  -- the version that was accepted last
 
 abbrev pub SaysTree : Code TreeItem
 SaysTree bytes tree =

@@ -17,9 +17,9 @@ use rs_pages::Pages;
 use rs_reached::Reached;
 use std::alloc::Global;
 
-/// Marks the pages of the catalogue, and reads its bytes: the pages in their order, and the bytes. It is refused with 94
-/// where no pages that weren't reached before hold as many bytes as page 0 says, with 90 and 91. No page changes. What is
-/// marked after a refusal is open.
+/// Marks the pages of the catalogue, and reads its bytes: the pages in their order, and the bytes. It is refused with 90,
+/// with 91, and with 94 only where no pages that weren't reached before hold as many bytes as page 0 says. No page changes.
+/// Which pages are marked after a refusal is unspecified.
 pub(crate) fn read_bytes<P: Pages>(
     alloc: Global,
     pages: &mut P,
@@ -50,7 +50,8 @@ pub(crate) fn read_bytes<P: Pages>(
 }
 
 /// Marks the page with this number, and appends the bytes of the catalogue that it holds. Answers the page that follows. It
-/// is refused with 94 where the page was reached before, is none of the catalogue, or has more than so many bytes.
+/// is refused with 90, with 91, and with 94 only where the page was reached before, is none of the catalogue, or has more
+/// than so many bytes.
 fn read_part<P: Pages>(
     pages: &mut P,
     number: PageNumber,

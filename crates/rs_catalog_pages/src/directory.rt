@@ -25,7 +25,7 @@ use std::alloc::Global;
 /// The bytes of a directory. Zeros follow them in the page.
 pub const DIRECTORY_SIZE: usize = 2844;
 
-/// Reads the directory. It is refused with 94 exactly where page 1 is none, with 90 and 91. No page changes.
+/// Reads the directory. It is refused with 90, with 91, and with 94 only where page 1 is none. No page changes.
 pub fn load_directory<P: Pages>(alloc: Global, pages: &mut P) -> Result<StoredDirectory, Refusal>
     ensures rests { RestsAfter P.is_tied P.store P.keeps result pages.old pages.new }
     ensures loads { P.is_tied pages.old → IfOk result (λ directory. HasDirectory (P.store pages.old).map
@@ -40,7 +40,7 @@ pub fn load_directory<P: Pages>(alloc: Global, pages: &mut P) -> Result<StoredDi
     }
 }
 
-/// The directory that this page is. It is refused with 94 where it is none, and with 90.
+/// The directory that this page is. It is refused with 90, and with 94 only where it is none.
 fn directory_of(alloc: Global, page: &Page) -> Result<StoredDirectory, Refusal>
     ensures read { IfOk result (λ directory. IsDirectory page.now.bytes (said_directory directory)) }
     ensures fits { IfOk result (λ directory. FitsDirectory (said_directory directory)) }

@@ -1,5 +1,5 @@
-//! The directory of a file as items: the trees of tables and indexes by their numbers, that of the referents, and how many
-//! changes were accepted.
+//! The directory of a file as items: the trees of tables and indexes by their numbers, that of the referents, and the
+//! version that was accepted last.
 
 ghost use Rattle.std.specs.Prelude.{◌≡◌, ◌⊎◌, ◌<◌, ◌^◌, ℕ, List, All, length, map, IfOk, IfErr, OnOk};
 ghost use Rattle.rs_measure.specs.declared.refusal.Refusal.TheVariants as refusals;
@@ -134,7 +134,7 @@ pub struct StoredDirectory {
     pub indexes: FixedList<StoredRoot, INDEXES>,
     /// The tree of the referents.
     pub referents: StoredTree,
-    /// How many changes were accepted.
+    /// The version that was accepted last.
     pub accepted: u64,
 }
 

@@ -16,9 +16,9 @@ use rs_pages::Pages;
 use rs_reached::Reached;
 use std::alloc::Global;
 
-/// Marks the pages of the catalogue and reads it: its pages in their order, and the definitions. It is refused with 94
-/// exactly where no pages that weren't reached before hold bytes that say a catalogue, with 90 and 91. No page changes.
-/// What is marked after a refusal is open.
+/// Marks the pages of the catalogue and reads it: its pages in their order, and the definitions. It is refused with 90, with
+/// 91, and with 94 only where no pages that weren't reached before hold bytes that say a catalogue. No page changes. Which
+/// pages are marked after a refusal is unspecified.
 pub fn load<P: Pages>(
     alloc: Global,
     pages: &mut P,

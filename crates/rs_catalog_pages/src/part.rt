@@ -43,8 +43,8 @@ pub(crate) fn part_of(page: &Page, number: PageNumber, pages: u32) -> Option<(Pa
     Some((header.next, &bytes[..usize::from(header.count)]))
 }
 
-/// Appends the bytes of this page of the catalogue, and answers the page that follows. It is refused with 94 where this is
-/// no such page, or has more than so many bytes; with 90 for want of memory.
+/// Appends the bytes of this page of the catalogue, and answers the page that follows. It is refused with 90
+/// for want of memory, and with 94 only where this is no such page, or has more than so many bytes.
 pub(crate) fn append_part(
     page: &Page,
     number: PageNumber,
