@@ -7,6 +7,7 @@ use Rattle.std.proofs.lemmas.List.{length-map, length-set, map-append}
 use Rattle.std.proofs.lemmas.List.Elements.{All-from_recursion, All-set}
 use Rattle.std.proofs.lemmas.Option.{slice_get_read}
 use Rattle.std.proofs.lemmas.Simd.{map-map}
+use Rattle.rs_attr.specs.Entries.{IsColumn}
 use Rattle.rs_attr.specs.Tables.{IndexState}
 use Rattle.rs_catalog_pages.specs.Directory.{DirectoryItems, TreeItem}
 use Rattle.rs_catalog_pages.specs.Fitting.{FitsTree}
@@ -261,6 +262,29 @@ of_items directory definitions (item ∷ items) (o ∷ os) are = (
   },
   of_items directory definitions items os are.1,
 )
+
+-- a table that has kept its columns and the fields of its indexes is of its item
+fields_kept : (types : List ColumnType) (items : List IndexItem) (one other : List IndexState) → map (λ index. index.field) one ≡ map (λ index. index.field) other → AllZip (IsIndexOf types) items other
+    → AllZip (IsIndexOf types) items one
+fields_kept types [] [] other same all = tt
+fields_kept types [] (i ∷ is) [] same all = absurd (let wrong = same in cc)
+fields_kept types [] (i ∷ is) (o ∷ os) same all = absurd all
+fields_kept types (item ∷ items) one [] same all = absurd all
+fields_kept types (item ∷ items) [] (o ∷ os) same all = absurd (let wrong = same in cc)
+fields_kept types (item ∷ items) (i ∷ is) (o ∷ os) same all =
+    let field : o.field ≡ i.field = cc in
+    let rest : map (λ (index : IndexState). index.field) is ≡ map (λ (index : IndexState). index.field) os = cc in
+    (record { column = subst (IsColumn types item.column) field all.0.column; fits = all.0.fits }, fields_kept types items is os rest all.1)
+
+pub stays_of_item : (definitions : CatalogueItems) (item : TableItem) (old new : OpenedTable) → IsOfItem definitions item old → new.records.types ≡ old.records.types
+    → map (λ index. index.field) new.indexes.items ≡ map (λ index. index.field) old.indexes.items → IsOfItem definitions item new
+stays_of_item definitions item old new of types fields = record {
+  few = of.few;
+  types = types ∙ of.types;
+  fits = subst (λ (ts : List ColumnType). 3 * (8 + event_width ts) ≤ 4080) (sym types) of.fits;
+  indexes = subst (λ (ts : List ColumnType). AllZip (IsIndexOf ts) (indexes_on definitions.indexes item.number) new.indexes.items) (sym types)
+      (fields_kept old.records.types (indexes_on definitions.indexes item.number) new.indexes.items old.indexes.items fields of.indexes);
+}
 
 -- tables that are of their items have as many indexes as these say
 pub as_many : (definitions : CatalogueItems) (items : List TableItem) (opened : List OpenedTable) → AllZip (IsOfItem definitions) items opened → AllZip (HasAsMany definitions.indexes) items opened

@@ -1,17 +1,18 @@
 //! What follows of all that stands in a file: a file holds one such thing at the most, and a change of one part of it leaves all
 //! else.
 
-ghost use Rattle.std.specs.Prelude.{◌≡◌, ◌≤◌, ◌<◌, ◌+◌, ◌*◌, ◌^◌, ℕ, List, ◌++◌, ◌∷◌, length};
+ghost use Rattle.std.specs.Prelude.{◌≡◌, ◌≤◌, ◌<◌, ◌+◌, ◌*◌, ◌^◌, ℕ, List, ◌++◌, ◌∷◌, length, map};
 ghost use Rattle.std.specs.List.{AllByRecursion, AllZip};
 ghost use Rattle.rs_attr.specs.Entries.{FitsPages};
 ghost use Rattle.rs_catalog_pages.specs.Chain.{StoresBytes};
 ghost use Rattle.rs_catalog_pages.specs.Directory.{DirectoryItems, HasDirectory, StoresDirectory};
-ghost use Rattle.rs_catalog_pages.specs.Items.{CatalogueItems, SaysCatalogue};
+ghost use Rattle.rs_catalog_pages.specs.Items.{CatalogueItems, SaysCatalogue, TableItem};
 ghost use Rattle.rs_catalog_pages.specs.Said.{said_catalogue};
 ghost use Rattle.rs_contents.specs.Contents.{AreGivenOnce, AreSaid, Contents, HasNoRoots, HoldsAll, HoldsParts, LiesTable, ReferentContents, SameContents, TableContents, beside_definitions, beside_referents, beside_table, table_pages};
 ghost use Rattle.rs_contents.specs.Opening.{IsFile};
 ghost use Rattle.rs_contents.specs.Slots.{IsOfItem};
 ghost use Rattle.rs_contents.specs.declared.opened.OpenedFile.{OpenedFile};
+ghost use Rattle.rs_contents.specs.declared.opened.OpenedTable.{OpenedTable};
 ghost use Rattle.rs_owners.specs.Counts.{◌&◌, times};
 ghost use Rattle.rs_owners.specs.Owners.{Moves, Shares};
 ghost use Rattle.rs_pages.specs.PageMap.{PageMap};
@@ -90,6 +91,14 @@ pub fn loaded_file_has_its_directory()
     ensures given { (file : OpenedFile) → IsFile file → AreGivenOnce (said_catalogue file.definitions) }
     ensures tables { (file : OpenedFile) → IsFile file
         → AllZip (IsOfItem (said_catalogue file.definitions)) (said_catalogue file.definitions).tables file.tables.items }
+{}
+
+/// A table that has kept its columns and the fields of its indexes stays one that the directory can be made of.
+pub fn changed_table_stays_of_its_item()
+    ensures { (definitions : CatalogueItems) (item : TableItem) (old new : OpenedTable) → IsOfItem definitions item old
+        → new.records.types ≡ old.records.types
+        → map (λ index. index.field) new.indexes.items ≡ map (λ index. index.field) old.indexes.items
+        → IsOfItem definitions item new }
 {}
 
 /// A table that has no pages comes to the others and goes from them, and all else stays.
