@@ -4,6 +4,7 @@ pub mod Deaths
 pub mod Ending
 pub mod Fronts
 pub mod LastCells
+pub mod Left
 pub mod Lasting
 pub mod Looks
 pub mod Permutations

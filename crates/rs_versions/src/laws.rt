@@ -1,6 +1,6 @@
 //! What follows of cells with versions: what each version sees after a cell is added, ended or cleared.
 
-ghost use Rattle.std.specs.Prelude.{◌≡◌, ◌<◌, ◌≤◌, ◌-◌, ◌^◌, ℕ, List, Contains, IsPermutation, IsTrue, count_by, filter, length, map, min};
+ghost use Rattle.std.specs.Prelude.{◌≡◌, ◌<◌, ◌≤◌, ◌-◌, ◌^◌, ◌↔◌, ℕ, List, Contains, IsPermutation, IsTrue, count_by, filter, length, map, min};
 ghost use Rattle.std.specs.List.{AllByRecursion};
 ghost use Rattle.rs_pages.specs.PageMap.{PageMap};
 ghost use Rattle.rs_records.specs.Order.{Ascends};
@@ -99,6 +99,13 @@ pub fn changed_cells_last_once()
     ensures ended { (version : ℕ) (cell : List ℕ) (cells : List (List ℕ)) → 20 ≤ length cell → Contains cells cell
         → LastsOnce cells → LastsOnce (with_end version cell cells) }
     ensures cleared { (gone cells : List (List ℕ)) → LastsOnce cells → LastsOnce (without_cells gone cells) }
+{}
+
+/// Once some cells are gone, those are left that are none of them, in the same order.
+pub fn cells_that_are_left_are_the_others()
+    ensures left { (gone cells : List (List ℕ)) (cell : List ℕ) → Ascends cells
+        → Contains (without_cells gone cells) cell ↔ (Contains cells cell × (Contains gone cell → ⊥)) }
+    ensures ascend { (gone cells : List (List ℕ)) → Ascends cells → Ascends (without_cells gone cells) }
 {}
 
 /// All cells are of the tree's width.
