@@ -1,5 +1,5 @@
 -- A file in which definitions are stored for the first time.
-use Rattle.std.proofs.Common.{◌≡◌, ◌≤◌, ◌<◌, ◌+◌, ◌*◌, ℕ, zero, suc, Some, Result, Ok, Err, List, [], ◌∷◌, length, replicate, slice_get, refl, sym, ap, subst, ◌∙◌, ◌⊎◌, inl, inr, arith}
+use Rattle.std.proofs.Common.{◌≡◌, ◌≤◌, ◌<◌, ◌+◌, ◌*◌, ℕ, zero, suc, Some, Result, Ok, Err, List, [], ◌∷◌, length, replicate, slice_get, refl, sym, ap, subst, ◌∙◌, ◌⊎◌, inl, inr, arith, IfOk, ◌-◌}
 use Rattle.std.proofs.lemmas.Bool.{cases_lt}
 use Rattle.std.proofs.lemmas.List.{get_or-replicate, length-append, length-replicate, replicate-append-replicate}
 use Rattle.std.proofs.lemmas.List.Sorted.{IsPermutation-refl}
@@ -20,6 +20,7 @@ use Rattle.rs_owners.specs.Changes.{EndsFull}
 use Rattle.rs_owners.specs.Counts.{◌&◌, no_pages, one_at, times}
 use Rattle.rs_owners.specs.Owners.{Shares}
 use Rattle.rs_owners.proofs.Moving.{one_at-other, one_at-same, shares_same}
+use Rattle.rs_page.specs.declared.file_header.FileHeader.{FileHeader}
 use Rattle.rs_pages.specs.PageMap.{IsEmptyFile, PageMap}
 use Rattle.rs_pages.specs.Store.{Store}
 use Rattle.rs_versioned.specs.Records.{HoldsRecords}
@@ -180,3 +181,11 @@ created old new numbers said empty none stores =
         shares = shares_same new (times numbers & one_at 1) (one_at 1 & (times numbers & (no_pages & no_pages))) (λ n. omega arith) moved.0;
       };
     }
+
+-- A file of two pages that gains one for the definitions has three.
+pub few_pages : {T E : Type 0} (many : T → ℕ) (result : Result T E) (old : PageMap) (pages : ℕ) → IsEmptyFile old → IfOk result (λ after. many after ≡ 1)
+    → IfOk result (λ after. pages ≤ old.fields.pages + (many after - 0)) → IfOk result (λ _. pages ≤ 3)
+few_pages many (Ok after) old pages empty one count =
+    let two : old.fields.pages ≡ 2 = ap (λ (fields : FileHeader). fields.pages) empty.fields in
+    omega (arith, two, one, count)
+few_pages many (Err why) old pages empty one count = tt

@@ -6,7 +6,7 @@ use Rattle.rs_catalog_pages.specs.Said.{said_alignment, said_index, said_route, 
 use Rattle.rs_catalog_pages.specs.Storing.{HasNoOwnBytes, StoresCatalogue}
 use Rattle.rs_contents.specs.Contents.{HoldsAll}
 use Rattle.rs_contents.specs.Creating.{no_contents, no_definitions}
-use Rattle.rs_contents.proofs.Created.{created, not_damaged, not_refused, one_page}
+use Rattle.rs_contents.proofs.Created.{created, few_pages, not_damaged, not_refused, one_page}
 use Rattle.rs_contents.proofs.creating.create.Goals as goal
 
 pub returns-clause-creates : goal.returns-clause-creates
@@ -48,6 +48,11 @@ returns-clause-one g c = λ tied empty.
       alignments = map said_alignment (c.new-5.ensures.items i);
     } in
     IfOk-weaker c.store.result (λ after. StoresCatalogue old new [] after.items said) (λ numbers. length numbers.items ≡ 1) (λ numbers stores. one_page old new numbers.items said empty none stores) (c.store.ensures.stores tied)
+
+pub returns-clause-few : goal.returns-clause-few
+returns-clause-few g c = λ tied empty.
+    few_pages (λ (after : _). length after.items) c.store.result ((g.P.Pages.store c.args.pages.now).map) ((g.P.Pages.store c.store.new.pages).map.fields.pages)
+    empty (returns-clause-one g c tied empty) c.store.ensures.count
 
 pub returns-clause-sound : goal.returns-clause-sound
 returns-clause-sound g c = λ tied empty.
