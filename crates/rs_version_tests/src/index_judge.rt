@@ -1,9 +1,8 @@
 //! What the indexes of a file's events find, compared with plain lists.
 
 use crate::expect::expect;
-use crate::plain_list::are_cells_of;
-use crate::plain_records::{Kind, LIVES, PlainRecord};
 use crate::version_judge::VersionJudge;
+use rs_file_judge::{Kind, LIVES, PlainRecord, are_cells_of};
 use rs_value::Value;
 use std::alloc::{AllocError, Global};
 use std::test::Fail;

@@ -1,8 +1,8 @@
 //! Records by version beside plain lists: over pseudo-random changes, and in tables that are looked at anew.
 
 use crate::expect::expect;
-use crate::plain_records::Kind;
 use crate::version_judge::{Change, VersionJudge};
+use rs_file_judge::Kind;
 use rs_measure::Refusal;
 use std::test::Fail;
 

@@ -5,8 +5,8 @@ ghost use Rattle.std.specs.List.{AllByRecursion};
 ghost use Rattle.rs_value.specs.declared.column.ColumnType.TheVariants.{Text};
 
 use crate::expect::expect;
-use crate::versioned_file::span_of;
 use arrayvec::ArrayString;
+use rs_file_judge::versioned_file::span_of;
 use rs_measure::Measure;
 use rs_methods::Referent;
 use rs_value::{ColumnType, Schema, Tuple, Value};

@@ -2,9 +2,9 @@
 //! list of the events holds.
 
 use crate::expect::expect;
-use crate::plain_records::Kind;
 use crate::version_judge::{Change, VersionJudge};
 use crate::version_tests::keep;
+use rs_file_judge::Kind;
 use std::test::Fail;
 
 /// How many turns the events grow for, and how many there are.
@@ -64,11 +64,16 @@ fn look_anew(judge: &mut VersionJudge) -> Result<(), Fail> {
     Ok(())
 }
 
+/// Makes the turns, and then looks at the events and their indexes anew.
+fn judge_indexes(judge: &mut VersionJudge) -> Result<(), Fail> {
+    let found = make_turns(judge)?;
+    expect(judge.greatest > 250, "more events than", 250)?;
+    expect(found > 1_000, "more ended events found than", 1_000)?;
+    look_anew(judge)
+}
+
 #[test]
 fn indexes_find_what_a_scan_finds(rt: HostRuntime) -> Result<(), Fail> {
     let mut judge = VersionJudge::new(rt.alloc(), 13)?;
-    let found = make_turns(&mut judge)?;
-    expect(judge.greatest > 250, "more events than", 250)?;
-    expect(found > 1_000, "more ended events found than", 1_000)?;
-    look_anew(&mut judge)
+    judge_indexes(&mut judge)
 }

@@ -1,12 +1,12 @@
 //! Pseudo-random changes of a file's tables, each made beside plain lists, and what versions see compared with these.
 
 use crate::expect::expect;
-use crate::plain_list::{PlainList, Search, are_cells_of, are_found};
-use crate::plain_records::{Kind, LIVES, PlainRecord};
-use crate::reopening::Told;
-use crate::versioned_file::VersionedFile;
 use rand_core::utils::NextWord;
 use rand_pcg::Pcg32;
+use rs_file_judge::{
+    Kind, LIVES, PlainList, PlainRecord, Search, Told, VersionedFile, are_cells_of, are_found,
+    file_in_memory,
+};
 use rs_measure::Refusal;
 use std::alloc::{AllocError, Global};
 use std::test::Fail;
@@ -94,7 +94,7 @@ impl VersionJudge {
     pub fn new(alloc: Global, seed: u64) -> Result<VersionJudge, Refusal> {
         Ok(VersionJudge {
             alloc,
-            file: VersionedFile::create(alloc)?,
+            file: file_in_memory(alloc)?,
             events: PlainList::new(alloc),
             referents: PlainList::new(alloc),
             held: Vec::new(alloc),

@@ -1,2 +1,0 @@
-mod Dying
-mod Indexed
