@@ -10,7 +10,7 @@ use crate::versioned_file::{TestDisk, columns};
 use rs_attr::AttrIndex;
 use rs_measure::Refusal;
 use rs_pager::Pager;
-use rs_value::{Tuple, Value};
+use rs_value::{Schema, Tuple, Value};
 
 /// Keeps what was changed of each index, or takes it back.
 #[tactic(auto, using(crate::proofs::Indexed::set_of))]
@@ -55,9 +55,9 @@ pub fn reopen_each(indexes: &mut [AttrIndex])
     }
 }
 
-/// The value of a row in a column.
-pub fn value_of(tuple: &Tuple, column: usize) -> Result<Value, Refusal>
-    requires { IsRowOf (Int ∷ Text 8 ∷ []) (row_of tuple.now) }
+/// The value of a row of these columns in one of them.
+pub fn value_of(schema: &Schema, tuple: &Tuple, column: usize) -> Result<Value, Refusal>
+    requires { IsRowOf schema.now.items (row_of tuple.now) }
     ensures { IfOk result (λ value. IsValue (datum_of value)) }
 {
     let values = tuple.as_slice();

@@ -3,50 +3,137 @@
 //! A step answers as wanted, or is refused once, for want of memory or by the disk. Then what was begun is abandoned, the file is
 //! what another one is that took the steps before it, and the step taken again answers as wanted.
 
-use crate::plain_list::Search;
-use crate::script::{Call, Step, record, steps};
+use crate::plain_records::{Kind, PlainRecord};
+use crate::script::{Answer, Call, Step, record, steps};
+use crate::search::{Search, are_cells_of};
 use crate::versioned_file::{TestDisk, VersionedFile};
 use rs_disk::{Disk, FailedCut, FailingDisk, MemoryDisk};
 use rs_measure::Refusal;
-use std::alloc::Global;
+use rs_records::Cells;
+use std::alloc::{AllocError, Global};
 
 /// How many records are cleared at once.
 const CLEARED: usize = 64;
 
+/// How many records a call finds at the most.
+const MOST_FOUND: usize = 4;
+
 /// The routes on which the parts begin that an index is made of.
 static ROUTES: [u32; 2] = [0, 1];
 
-/// Makes a call on a file, and answers as the script says it.
-fn answer(alloc: Global, file: &mut VersionedFile, call: Call) -> Result<u64, Refusal> {
+/// What a call answered.
+#[derive(Drop)]
+enum Given {
+    Done,
+    Is(bool),
+    Found(Kind, Cells),
+}
+
+impl Given {
+    /// Whether this is what is wanted.
+    fn is_wanted(&self, alloc: Global, wanted: Answer) -> Result<bool, AllocError> {
+        match (self, wanted) {
+            (Given::Done, Answer::Done) => Ok(true),
+            (Given::Is(given), Answer::Is(wanted)) => Ok(*given == wanted),
+            (Given::Found(kind, found), Answer::Records(places)) => {
+                are_records(alloc, found, *kind, places)
+            }
+            _ => Ok(false),
+        }
+    }
+}
+
+/// Whether these are the cells of the records with these places, each with the version of its end.
+fn are_records(
+    alloc: Global,
+    found: &Cells,
+    kind: Kind,
+    places: &[(usize, u64)],
+) -> Result<bool, AllocError> {
+    let mut records = Vec::with_capacity(alloc, MOST_FOUND)?;
+    for (place, died) in places {
+        let living = record(kind, *place);
+        records.push(PlainRecord {
+            died: *died,
+            ..living
+        })?;
+    }
+    are_cells_of(alloc, found, kind, &records)
+}
+
+/// Adds a record, or ends it.
+fn add_or_kill(
+    alloc: Global,
+    file: &mut VersionedFile,
+    kind: Kind,
+    place: usize,
+    is_added: bool,
+) -> Result<Given, Refusal> {
+    let record = record(kind, place);
+    let is_so = if is_added {
+        file.add(alloc, kind, &record)?
+    } else {
+        let cell = record.cell(alloc, kind).map_err(|_| Refusal::OutOfMemory)?;
+        file.kill(alloc, kind, &cell)?
+    };
+    Ok(Given::Is(is_so))
+}
+
+/// Finds records.
+fn find(alloc: Global, file: &mut VersionedFile, search: Search) -> Result<Given, Refusal> {
+    let found = file.visible(alloc, search)?;
+    Ok(Given::Found(search.kind, found))
+}
+
+/// Finds events by a value.
+fn find_equal(
+    alloc: Global,
+    file: &mut VersionedFile,
+    column: usize,
+    value: u32,
+    version: u64,
+) -> Result<Given, Refusal> {
+    let (found, _reads) = file.equal(alloc, column, value, version)?;
+    Ok(Given::Found(Kind::Events, found))
+}
+
+/// Changes the definitions, or the indexes.
+fn define(alloc: Global, file: &mut VersionedFile, call: Call) -> Result<Given, Refusal> {
     match call {
-        Call::StoreNone => {
-            file.store_none(alloc)?;
-            Ok(0)
-        }
-        Call::Store(definitions) => {
-            file.store(alloc, definitions)?;
-            Ok(0)
-        }
-        Call::Define => {
-            file.define(alloc, &ROUTES)?;
-            Ok(0)
-        }
-        Call::Add(kind, place) => Ok(u64::from(file.add(alloc, kind, &record(kind, place))?)),
-        Call::Kill(kind, place) => {
-            let cell = match record(kind, place).cell(alloc, kind) {
-                Ok(cell) => cell,
-                Err(_) => return Err(Refusal::OutOfMemory),
-            };
-            Ok(u64::from(file.kill(alloc, kind, &cell)?))
-        }
-        Call::Vacuum(kind, oldest) => {
+        Call::StoreNone => file.store_none(alloc)?,
+        Call::Store(definitions) => file.store(alloc, definitions)?,
+        _ => file.define(alloc, &ROUTES)?,
+    }
+    Ok(Given::Done)
+}
+
+/// Clears records.
+fn clear(
+    alloc: Global,
+    file: &mut VersionedFile,
+    kind: Kind,
+    oldest: Option<u64>,
+) -> Result<Given, Refusal> {
+    match oldest {
+        Some(oldest) => {
             let taken = file.vacuum(alloc, kind, oldest, CLEARED)?;
-            Ok(taken.len() as u64)
+            Ok(Given::Found(kind, taken))
         }
-        Call::Clear(kind) => {
+        None => {
             file.clear(kind)?;
-            Ok(0)
+            Ok(Given::Done)
         }
+    }
+}
+
+/// Makes a call on a file.
+fn make(alloc: Global, file: &mut VersionedFile, call: Call) -> Result<Given, Refusal> {
+    match call {
+        Call::StoreNone | Call::Store(_) | Call::Define => define(alloc, file, call),
+        Call::Add(kind, place) => add_or_kill(alloc, file, kind, place, true),
+        Call::Kill(kind, place) => add_or_kill(alloc, file, kind, place, false),
+        Call::Vacuum(kind, oldest) => clear(alloc, file, kind, Some(oldest)),
+        Call::Clear(kind) => clear(alloc, file, kind, None),
         Call::Visible(kind, version, route, b) => {
             let search = Search {
                 kind,
@@ -55,24 +142,33 @@ fn answer(alloc: Global, file: &mut VersionedFile, call: Call) -> Result<u64, Re
                 a: 0,
                 b,
             };
-            let found = file.visible(alloc, search)?;
-            Ok(found.len() as u64)
+            find(alloc, file, search)
         }
-        Call::Equal(column, value, version) => {
-            let (found, _reads) = file.equal(alloc, column, value, version)?;
-            Ok(found.len() as u64)
-        }
+        Call::Equal(column, value, version) => find_equal(alloc, file, column, value, version),
     }
+}
+
+/// Makes a call, and answers whether it answered as wanted.
+fn is_answered(
+    alloc: Global,
+    file: &mut VersionedFile,
+    call: Call,
+    wanted: Answer,
+) -> Result<bool, Refusal> {
+    let given = make(alloc, file, call)?;
+    given
+        .is_wanted(alloc, wanted)
+        .map_err(|_| Refusal::OutOfMemory)
 }
 
 /// Makes the calls in their order, and answers whether each answered as wanted.
 fn are_answered(
     alloc: Global,
     file: &mut VersionedFile,
-    calls: &[(Call, u64)],
+    calls: &[(Call, Answer)],
 ) -> Result<bool, Refusal> {
     for (call, wanted) in calls {
-        if answer(alloc, file, *call)? != *wanted {
+        if !is_answered(alloc, file, *call, *wanted)? {
             return Ok(false);
         }
     }
@@ -95,7 +191,7 @@ fn take(alloc: Global, file: &mut VersionedFile, step: &Step) -> Result<bool, Re
             file.flush()?;
             Ok(true)
         }
-        Step::Read => file.is_read_again(alloc),
+        Step::Read(definitions) => file.is_read_again(alloc, *definitions),
     }
 }
 

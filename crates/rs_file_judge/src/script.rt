@@ -22,8 +22,19 @@ pub enum Call {
     Equal(usize, u32, u64),
 }
 
-/// Calls with their answers: how many records there are, else whether the record is new or was there.
-pub type Calls = &'static [(Call, u64)];
+/// What a call answers.
+#[derive(Clone, Copy)]
+pub enum Answer {
+    /// That it is done.
+    Done,
+    /// Whether the record is new, or was there.
+    Is(bool),
+    /// These records in this order, each by its place and the version of its end.
+    Records(&'static [(usize, u64)]),
+}
+
+/// Calls with their answers.
+pub type Calls = &'static [(Call, Answer)];
 
 /// What is done at once.
 #[derive(Clone, Copy)]
@@ -31,9 +42,10 @@ pub enum Step {
     /// Changes that the next version makes together, with those of the directory.
     Changes(Calls),
     Looks(Calls),
+    /// All is written to the disk, and read from it when it is asked for again.
     Flush,
-    /// The file is opened again from the disk beside the tables that are in use, and has the same trees.
-    Read,
+    /// The file is opened again from the disk beside the tables that are in use, and has the same trees and these definitions.
+    Read(Definitions),
 }
 
 /// Events: the route, the span, the number and the text by their places, and the version of their birth.
@@ -53,64 +65,85 @@ const REFERENTS_BORN: u64 = 3;
 static REFERENTS: [(u32, u32, u32); 3] = [(0, 0, 100), (0, 1, 200), (1, 2, 300)];
 
 /// The steps.
-static STEPS: [Step; 11] = [
+static STEPS: [Step; 17] = [
     // version 1: one event is added twice
     Step::Changes(&[
-        (Call::StoreNone, 0),
-        (Call::Store(Definitions::Bare), 0),
-        (Call::Add(Kind::Events, 0), 1),
-        (Call::Add(Kind::Events, 1), 1),
-        (Call::Add(Kind::Events, 2), 1),
-        (Call::Add(Kind::Events, 2), 0),
-        (Call::Add(Kind::Events, 3), 1),
+        (Call::StoreNone, Answer::Done),
+        (Call::Store(Definitions::Bare), Answer::Done),
+        (Call::Add(Kind::Events, 0), Answer::Is(true)),
+        (Call::Add(Kind::Events, 1), Answer::Is(true)),
+        (Call::Add(Kind::Events, 2), Answer::Is(true)),
+        (Call::Add(Kind::Events, 2), Answer::Is(false)),
+        (Call::Add(Kind::Events, 3), Answer::Is(true)),
     ]),
     Step::Flush,
     // version 2
     Step::Changes(&[
-        (Call::Store(Definitions::Indexed), 0),
-        (Call::Define, 0),
-        (Call::Define, 0),
-        (Call::Add(Kind::Events, 4), 1),
+        (Call::Store(Definitions::Indexed), Answer::Done),
+        (Call::Define, Answer::Done),
+        (Call::Define, Answer::Done),
+        (Call::Add(Kind::Events, 4), Answer::Is(true)),
     ]),
+    Step::Flush,
     // version 3: one event is ended twice
     Step::Changes(&[
-        (Call::Add(Kind::Referents, 0), 1),
-        (Call::Add(Kind::Referents, 1), 1),
-        (Call::Add(Kind::Referents, 2), 1),
-        (Call::Kill(Kind::Events, 0), 1),
-        (Call::Kill(Kind::Events, 3), 1),
-        (Call::Kill(Kind::Events, 0), 0),
+        (Call::Add(Kind::Referents, 0), Answer::Is(true)),
+        (Call::Add(Kind::Referents, 1), Answer::Is(true)),
+        (Call::Add(Kind::Referents, 2), Answer::Is(true)),
+        (Call::Kill(Kind::Events, 0), Answer::Is(true)),
+        (Call::Kill(Kind::Events, 3), Answer::Is(true)),
+        (Call::Kill(Kind::Events, 0), Answer::Is(false)),
     ]),
+    Step::Flush,
     // version 4
     Step::Changes(&[
-        (Call::Store(Definitions::Long), 0),
-        (Call::Kill(Kind::Events, 2), 1),
-        (Call::Kill(Kind::Referents, 0), 1),
-        (Call::Add(Kind::Events, 5), 1),
+        (Call::Store(Definitions::Long), Answer::Done),
+        (Call::Kill(Kind::Events, 2), Answer::Is(true)),
+        (Call::Kill(Kind::Referents, 0), Answer::Is(true)),
+        (Call::Add(Kind::Events, 5), Answer::Is(true)),
     ]),
-    Step::Read,
+    Step::Read(Definitions::Long),
+    Step::Flush,
     Step::Looks(&[
-        (Call::Visible(Kind::Events, 2, 0, 2_000), 3),
-        (Call::Visible(Kind::Referents, 3, 0, 0), 2),
-        (Call::Equal(0, 4, 2), 3),
-        (Call::Equal(0, 4, 4), 1),
+        (
+            Call::Visible(Kind::Events, 2, 0, 2_000),
+            Answer::Records(&[(0, 3), (1, LIVES), (4, LIVES)]),
+        ),
+        (
+            Call::Visible(Kind::Referents, 3, 0, 0),
+            Answer::Records(&[(0, 4), (1, LIVES)]),
+        ),
+        (
+            Call::Equal(0, 4, 2),
+            Answer::Records(&[(0, 3), (2, 4), (3, 3)]),
+        ),
+        (Call::Equal(0, 4, 4), Answer::Records(&[(5, LIVES)])),
     ]),
+    Step::Flush,
     // version 5: of three dead events one may be seen by a version from 3 on
     Step::Changes(&[
-        (Call::Vacuum(Kind::Events, 3), 2),
-        (Call::Vacuum(Kind::Referents, 5), 1),
-        (Call::Store(Definitions::Indexed), 0),
+        (
+            Call::Vacuum(Kind::Events, 3),
+            Answer::Records(&[(0, 3), (3, 3)]),
+        ),
+        (Call::Vacuum(Kind::Referents, 5), Answer::Records(&[(0, 4)])),
+        (Call::Store(Definitions::Indexed), Answer::Done),
     ]),
+    Step::Flush,
     Step::Looks(&[
-        (Call::Visible(Kind::Events, 3, 0, 5_000), 3),
-        (Call::Equal(1, 2, 4), 1),
+        (
+            Call::Visible(Kind::Events, 3, 0, 5_000),
+            Answer::Records(&[(1, LIVES), (4, LIVES), (2, 4)]),
+        ),
+        (Call::Equal(1, 2, 4), Answer::Records(&[(5, LIVES)])),
     ]),
+    Step::Flush,
     // version 6
     Step::Changes(&[
-        (Call::Clear(Kind::Events), 0),
-        (Call::Clear(Kind::Referents), 0),
+        (Call::Clear(Kind::Events), Answer::Done),
+        (Call::Clear(Kind::Referents), Answer::Done),
     ]),
-    Step::Read,
+    Step::Read(Definitions::Indexed),
 ];
 
 /// All steps, in their order.

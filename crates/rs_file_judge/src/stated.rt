@@ -50,7 +50,7 @@ const REFERENTS_AT: usize = 2_816;
 const ACCEPTED_AT: usize = 2_836;
 
 /// The definitions as bytes.
-fn definition_bytes(alloc: Global, definitions: Definitions) -> Result<Vec<u8>, AllocError> {
+pub fn definition_bytes(alloc: Global, definitions: Definitions) -> Result<Vec<u8>, AllocError> {
     let mut bytes = Vec::with_capacity(alloc, 4_300)?;
     bytes.extend_from_slice(&ROUTES_AND_TABLE)?;
     if definitions == Definitions::Bare {

@@ -12,9 +12,9 @@ ghost use Rattle.rs_value.specs.View.{datum_of, row_of};
 ghost use Rattle.rs_versions.specs.Version.{died_of};
 
 use crate::indexes::{clear_each, end_each, reopen_each, value_of};
-use crate::plain_list::Search;
 use crate::plain_records::{Kind, LIVES, PlainRecord, name_text, row_of};
 use crate::reopening::{Told, opened};
+use crate::search::Search;
 use arrayvec::ArrayString;
 use rs_attr::{AttrIndex, define};
 use rs_disk::{FailedCut, FailingDisk, MemoryDisk};
@@ -331,7 +331,7 @@ impl VersionedFile {
     ) -> Result<(Cells, u32), Refusal> {
         let row = row_of(alloc, value, value).map_err(|_| Refusal::OutOfMemory)?;
         let span = span_of(alloc, self.events.schema(), &row, 0, 1)?;
-        let value = value_of(&span.tuple, column)?;
+        let value = value_of(self.events.schema(), &span.tuple, column)?;
         self.equal_to(alloc, column, &value, version)
     }
 

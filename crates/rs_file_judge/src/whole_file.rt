@@ -4,8 +4,11 @@ ghost use Rattle.std.specs.Prelude.{◌≡◌, ◌≤◌, length, true};
 ghost use Rattle.rs_catalog_pages.specs.Fitting.{FitsCatalogue};
 ghost use Rattle.rs_catalog_pages.specs.Said.{said_catalogue};
 
-use crate::stated::{Definitions, TreeCounts, stated_definitions, stated_directory};
+use crate::stated::{
+    Definitions, TreeCounts, definition_bytes, stated_definitions, stated_directory,
+};
 use crate::versioned_file::{TestDisk, VersionedFile};
+use rs_bytes::Item;
 use rs_catalog_pages::laws::few_definitions_are_short;
 use rs_catalog_pages::{StoredCatalogue, store, store_directory};
 use rs_contents::{OpenedFile, OpenedTable};
@@ -13,7 +16,7 @@ use rs_measure::Refusal;
 use rs_page::PageNumber;
 use rs_pager::Pager;
 use rs_pages::Pages;
-use std::alloc::Global;
+use std::alloc::{AllocError, Global};
 
 /// How many items a list of definitions has at the most.
 const MOST: usize = 4_096;
@@ -39,6 +42,20 @@ pub fn store_definitions<P: Pages>(
         return Err(Refusal::WrongValues);
     }
     store(alloc, pages, numbers, definitions)
+}
+
+/// Whether these are the definitions, by the bytes of both.
+fn are_definitions(
+    alloc: Global,
+    read: &StoredCatalogue,
+    definitions: Definitions,
+) -> Result<bool, AllocError>
+    requires { FitsCatalogue (said_catalogue read.now) }
+{
+    let wanted = definition_bytes(alloc, definitions)?;
+    let mut bytes = Vec::with_capacity(alloc, wanted.len())?;
+    read.write(&mut bytes)?;
+    Ok(bytes.as_slice() == wanted.as_slice())
 }
 
 /// The roots and counts of a file's trees, and the version that was accepted last.
@@ -142,26 +159,37 @@ impl VersionedFile {
         store_directory(alloc, &mut self.pager, &directory)
     }
 
-    /// As `Pager::flush`. Nothing where changes are begun.
+    /// As `Pager::flush`, and no page is held then. Nothing where changes are begun.
     pub fn flush(&mut self) -> Result<(), Refusal> {
         if self.is_begun {
             return Ok(());
         }
-        self.pager.flush()
+        self.pager.flush()?;
+        self.pager.forget();
+        Ok(())
     }
 
-    /// Opens what stands in the pages, as they are on the disk, and answers whether that is what is here. Nothing may be begun.
-    pub fn is_read_again(&mut self, alloc: Global) -> Result<bool, Refusal> {
+    /// How many pages were read since none was held: those that are held as they are on the disk.
+    pub fn pages_read(&self) -> u32 {
+        self.pager.held().1
+    }
+
+    /// Opens what stands in the pages, as they are on the disk, and answers whether that is what is here, and whether the
+    /// definitions are these. Nothing may be begun.
+    pub fn is_read_again(
+        &mut self,
+        alloc: Global,
+        definitions: Definitions,
+    ) -> Result<bool, Refusal> {
         self.flush()?;
-        if !self.is_begun {
-            self.pager.forget();
-        }
         let opened = rs_contents::load(alloc, &mut self.pager)?;
         let is_counted = match opened.tables.as_slice() {
             [table] => counts_of(&opened, table) == self.tree_counts(),
             _ => false,
         };
-        Ok(is_counted && opened.pages.as_slice() == self.pages.as_slice())
+        let are_there = opened.pages.as_slice() == self.pages.as_slice();
+        let are_stated = are_definitions(alloc, &opened.definitions, definitions)?;
+        Ok(is_counted && are_there && are_stated)
     }
 
     /// Whether another file has the same trees, the same definitions and the same pages, byte for byte.

@@ -7,10 +7,11 @@ ghost use Rattle.rs_value.specs.declared.column.ColumnType.TheVariants.{Text};
 use crate::expect::expect;
 use arrayvec::ArrayString;
 use rs_file_judge::versioned_file::span_of;
-use rs_measure::Measure;
+use rs_measure::{Measure, Refusal};
 use rs_methods::Referent;
 use rs_value::{ColumnType, Schema, Tuple, Value};
 use rs_versioned::{event, referent};
+use std::alloc::Global;
 use std::test::Fail;
 
 /// The event on route 0 from 0.500 to 2.500 with the row 'AC', born 3, which lives.
@@ -56,6 +57,44 @@ fn referent() -> Referent
         name,
         measure: Measure::from_thousandths(12_345),
     }
+}
+
+/// Expects that the event's cell says what it was made of, and that one with a tag that is none says nothing.
+fn expect_event(alloc: Global, schema: &Schema) -> Result<(), Fail>
+    requires { schema.now.items ≡ Text 8 ∷ [] }
+{
+    expect(event::says_event(schema, &EVENT), "an event", 37)?;
+    expect(event::route_of(&EVENT) == 0, "the route", 0)?;
+    let span = event::span_of(alloc, schema, &EVENT)?;
+    expect((span.lo, span.hi) == (500, 2_500), "the span from", 500)?;
+    expect(is_wanted(&span.tuple), "the row", 2)?;
+    let mut other = EVENT;
+    other[8] = 2;
+    expect(!event::says_event(schema, &other), "no event with tag", 2)?;
+    let refused = event::span_of(alloc, schema, &other).err();
+    expect(refused == Some(Refusal::DamagedFile), "refused", 94)
+}
+
+/// Expects that the referent's cell says what it was made of, and that one with a name after zeros says nothing.
+fn expect_referent() -> Result<(), Fail> {
+    expect(referent::says_referent(&REFERENT), "a referent", 56)?;
+    expect(referent::route_of(&REFERENT) == 7, "the route", 7)?;
+    expect(
+        referent::name_of(&REFERENT) == b"KM-1".as_slice(),
+        "the name",
+        4,
+    )?;
+    let measure = referent::measure_of(&REFERENT);
+    expect(measure == 12_345, "the measure", 12_345)?;
+    let mut other = REFERENT;
+    other[35] = b'1';
+    expect(!referent::says_referent(&other), "none with byte", 35)
+}
+
+#[test]
+fn cells_say_what_they_were_made_of(rt: HostRuntime) -> Result<(), Fail> {
+    expect_event(rt.alloc(), &one_text())?;
+    expect_referent()
 }
 
 #[test]

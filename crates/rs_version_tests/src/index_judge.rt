@@ -1,17 +1,15 @@
 //! What the indexes of a file's events find, compared with plain lists.
 
 use crate::expect::expect;
-use crate::version_judge::VersionJudge;
-use rs_file_judge::{Kind, LIVES, PlainRecord, are_cells_of};
+use crate::plain_list::ended;
+use crate::version_judge::{HEIGHT, MOST_OF_TWO_LEVELS, VersionJudge};
+use rs_file_judge::{Kind, PlainRecord, are_cells_of};
 use rs_value::Value;
 use std::alloc::{AllocError, Global};
 use std::test::Fail;
 
 /// How many values plain records have in a column.
 static VALUES: [u32; 2] = [5, 6];
-
-/// How many levels an index has at the most.
-const HEIGHT: u64 = 4;
 
 /// The records that have the value in the column, in the same order.
 fn with_value(
@@ -27,17 +25,6 @@ fn with_value(
         }
     }
     Ok(found)
-}
-
-/// How many of the records have ended.
-fn ended(records: &[PlainRecord]) -> u64 {
-    let mut count = 0u64;
-    for record in records {
-        if record.died != LIVES {
-            count = count.saturating_add(1);
-        }
-    }
-    count
 }
 
 impl VersionJudge {
@@ -61,6 +48,11 @@ impl VersionJudge {
         expect(
             entries == living.saturating_add(dead),
             "an entry for each event in column",
+            column,
+        )?;
+        expect(
+            entries <= MOST_OF_TWO_LEVELS,
+            "two levels in column",
             column,
         )?;
         let version = self.file.version();

@@ -8,12 +8,12 @@ use rs_file_judge::Kind;
 use std::test::Fail;
 
 /// How many turns the events grow for, and how many there are.
-const GROWING: u32 = 400;
+const GROWING: u32 = 1_000;
 
-const TURNS: u32 = 600;
+const TURNS: u32 = 1_400;
 
 /// The turn before which the second index is defined.
-const DEFINED: u32 = 300;
+const DEFINED: u32 = 800;
 
 /// The routes on which the parts begin that an index is made of, one of them twice, and one that comes too late.
 static ROUTES: [u32; 4] = [2, 1, 2, 3];
@@ -31,7 +31,7 @@ fn define(judge: &mut VersionJudge, is_kept: bool) -> Result<(), Fail> {
     Ok(())
 }
 
-/// Makes the turns, compares after every 20 of them, and answers how many ended events were found.
+/// Makes the turns, compares after every 40 of them, and answers how many ended events were found.
 fn make_turns(judge: &mut VersionJudge) -> Result<u64, Fail> {
     let mut found = 0u64;
     let mut columns = 1;
@@ -42,8 +42,8 @@ fn make_turns(judge: &mut VersionJudge) -> Result<u64, Fail> {
             define(judge, true)?;
             columns = 2;
         }
-        judge.turn(turn < GROWING, 4)?;
-        if turn % 20 == 19 {
+        judge.turn(turn < GROWING, 10)?;
+        if turn % 40 == 39 {
             found = found.saturating_add(judge.compare_indexes(columns)?);
         }
     }
@@ -67,7 +67,7 @@ fn look_anew(judge: &mut VersionJudge) -> Result<(), Fail> {
 /// Makes the turns, and then looks at the events and their indexes anew.
 fn judge_indexes(judge: &mut VersionJudge) -> Result<(), Fail> {
     let found = make_turns(judge)?;
-    expect(judge.greatest > 250, "more events than", 250)?;
+    expect(judge.greatest > 1_000, "more events than", 1_000)?;
     expect(found > 1_000, "more ended events found than", 1_000)?;
     look_anew(judge)
 }

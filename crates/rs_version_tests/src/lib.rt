@@ -12,6 +12,8 @@ mod index_judge;
 #[cfg(test)]
 mod index_tests;
 #[cfg(test)]
+mod plain_list;
+#[cfg(test)]
 mod version_judge;
 #[cfg(test)]
 mod version_tests;

@@ -1,11 +1,11 @@
 //! Pseudo-random changes of a file's tables, each made beside plain lists, and what versions see compared with these.
 
 use crate::expect::expect;
+use crate::plain_list::{PlainList, ended};
 use rand_core::utils::NextWord;
 use rand_pcg::Pcg32;
 use rs_file_judge::{
-    Kind, LIVES, PlainList, PlainRecord, Search, Told, VersionedFile, are_cells_of, are_found,
-    file_in_memory,
+    Kind, LIVES, PlainRecord, Search, Told, VersionedFile, are_cells_of, are_found, file_in_memory,
 };
 use rs_measure::Refusal;
 use std::alloc::{AllocError, Global};
@@ -19,6 +19,18 @@ const HELD: usize = 4;
 
 /// How many records are cleared at once.
 const CLEARED: usize = 64;
+
+/// How many levels a tree of records or of an index has that has more of them than a page has room for, and at most so many.
+/// A half-full page holds at least 36 of them, and a page of the upper level names at least 68 pages.
+pub const HEIGHT: u64 = 2;
+
+pub const MOST_OF_TWO_LEVELS: u64 = 2_000;
+
+/// More records than a page has room for.
+const SOME: u64 = 100;
+
+/// Where searches begin that find few events.
+static WINDOWS: [u32; 4] = [0, 3, 1_270, 1_295];
 
 /// A change of a table.
 #[derive(Clone, Copy)]
@@ -70,6 +82,10 @@ pub struct VersionJudge {
     /// How many events lived at once, and how often more dead ones were to be cleared than could be at once.
     pub greatest: u64,
     pub full: u64,
+    /// How often a vacuum left a dead record that only a version that is held open may see.
+    pub left: u64,
+    /// How many ended records the versions that are held open saw in comparisons.
+    pub ended: u64,
 }
 
 /// Expects that a version sees these records on each route, and within a window of each.
@@ -101,6 +117,8 @@ impl VersionJudge {
             words: Pcg32::new(seed, 54),
             greatest: 0,
             full: 0,
+            left: 0,
+            ended: 0,
         })
     }
 
@@ -205,11 +223,14 @@ impl VersionJudge {
     /// Clears records, and answers whether those are cleared that are to be.
     fn are_cleared(&mut self, kind: Kind, most: usize) -> Result<bool, Fail> {
         let oldest = self.oldest();
+        let version = self.file.version();
         let alloc = self.alloc;
         let taken = self.file.vacuum(alloc, kind, oldest, most)?;
         let wanted = self.list(kind).vacuum(alloc, oldest, most)?;
         if self.list(kind).has_clearable(oldest) {
             self.full = self.full.saturating_add(1);
+        } else if self.list(kind).has_clearable(version) {
+            self.left = self.left.saturating_add(1);
         }
         Ok(are_cells_of(alloc, &taken, kind, &wanted)?)
     }
@@ -308,6 +329,7 @@ impl VersionJudge {
             events,
             referents,
             held,
+            ended: seen,
             ..
         } = self;
         let list = list_of(events, referents, search.kind);
@@ -319,9 +341,52 @@ impl VersionJudge {
                 ..search
             };
             let now = list.seen(*alloc, one.version)?;
+            *seen = seen.saturating_add(ended(&now));
             expect_seen(*alloc, file, &now, search, true)?;
             expect_seen(*alloc, file, one.records(search.kind), search, false)?;
         }
         Ok(())
+    }
+
+    /// Expects that few pages are read where few records are found, on each route and on one that has none.
+    pub fn compare_reads(&mut self, kind: Kind) -> Result<(), Fail> {
+        let (living, dead) = self.list(kind).counts();
+        let count = living.saturating_add(dead);
+        expect(
+            count > SOME && count <= MOST_OF_TWO_LEVELS,
+            "two levels of records",
+            count as usize,
+        )?;
+        let version = self.file.version();
+        for route in 0..ROUTES + 1 {
+            for a in WINDOWS {
+                self.compare_pages(Search {
+                    kind,
+                    version,
+                    route,
+                    a,
+                    b: a.saturating_add(1),
+                })?;
+            }
+        }
+        Ok(())
+    }
+
+    /// Expects that a search reads at most the way to each record that it meets, to one before them and to one after them.
+    fn compare_pages(&mut self, search: Search) -> Result<(), Fail> {
+        self.file.flush()?;
+        let found = self.file.visible(self.alloc, search)?;
+        let read = u64::from(self.file.pages_read());
+        let met = self.list(search.kind).met(search);
+        expect(
+            found.len() as u64 <= met,
+            "records on route",
+            search.route as usize,
+        )?;
+        expect(
+            read <= HEIGHT.saturating_mul(met.saturating_add(2)),
+            "few pages on route",
+            search.route as usize,
+        )
     }
 }

@@ -11,6 +11,9 @@ const GROWING: u32 = 1_000;
 
 const TURNS: u32 = 1_400;
 
+/// How often dead ones are left at the least, because a version that is held open may see them.
+const LEFT: u64 = 10;
+
 /// What is added to the counts of the living and the dead and to the version, so that one is false; the greatest number takes
 /// one away.
 static FALSE: [(u64, u64, u64); 5] = [
@@ -47,13 +50,19 @@ fn look_anew(judge: &mut VersionJudge, kind: Kind) -> Result<(), Fail> {
     judge.compare(kind)
 }
 
-/// Makes the turns, and clears both tables in the end.
+/// Makes the turns, compares the reads when the tables are largest, and clears both in the end.
 fn make_turns(judge: &mut VersionJudge) -> Result<(), Fail> {
     for turn in 0..TURNS {
         judge.turn(turn < GROWING, 10)?;
+        if turn == GROWING {
+            judge.compare_reads(Kind::Events)?;
+            judge.compare_reads(Kind::Referents)?;
+        }
     }
     expect(judge.greatest > 1_000, "more events than", 1_000)?;
     expect(judge.full > 0, "more dead ones than", 64)?;
+    expect(judge.left > LEFT, "dead ones left more often than", 10)?;
+    expect(judge.ended > 1_000, "more ended ones seen than", 1_000)?;
     judge.release_all();
     for kind in [Kind::Events, Kind::Referents] {
         keep(judge, kind, Change::Vacuum(10_000))?;
