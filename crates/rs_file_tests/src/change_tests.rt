@@ -4,7 +4,7 @@ use crate::changes::{freed, others, same};
 use crate::damages::{Change, damages};
 use crate::expect::expect;
 use crate::image::{Piece, image, offset, put};
-use crate::opened::open_file;
+use crate::opened::{Opened, open_file};
 use rs_disk::PAGE_SIZE;
 use rs_measure::Refusal;
 use std::alloc::Global;
@@ -95,6 +95,18 @@ fn changes_leave_the_same_file(rt: HostRuntime) -> Result<(), Fail> {
     Ok(())
 }
 
+/// Whether the page is the root of a tree of the file.
+fn has_root(file: &Opened, page: u32) -> bool {
+    let mut is_root = file.file.referents.root().number() == page;
+    for table in file.file.tables.as_slice() {
+        is_root = is_root || table.records.root().number() == page;
+        for index in table.indexes.as_slice() {
+            is_root = is_root || index.root().number() == page;
+        }
+    }
+    is_root
+}
+
 #[test]
 fn parts_are_empty_or_missing(rt: HostRuntime) -> Result<(), Fail> {
     let alloc = rt.alloc();
@@ -102,7 +114,10 @@ fn parts_are_empty_or_missing(rt: HostRuntime) -> Result<(), Fail> {
         let mut bytes = changed(alloc, change)?;
         put_free(&mut bytes, *page);
         if *is_file {
-            let _ = open_file(alloc, &bytes)?.said(alloc)?;
+            let mut file = open_file(alloc, &bytes)?;
+            let is_right = file.file.accepted == 7 && !has_root(&file, u32::from(*page));
+            expect(is_right, "no tree in the freed page, row", row)?;
+            file.said(alloc)?;
         } else {
             expect(is_no_file(alloc, &bytes), "no file with change", row)?;
         }

@@ -1,7 +1,8 @@
 //! A file that was created is that of the format, byte for byte.
 
 use crate::expect::expect;
-use rs_contents::create;
+use rs_catalog_pages::StoredIndex;
+use rs_contents::{create, free_index_number};
 use rs_disk::{Disk, MemoryDisk};
 use rs_measure::Refusal;
 use rs_pager::Pager;
@@ -65,4 +66,38 @@ fn a_created_file_is_that_of_the_format(rt: HostRuntime) -> Result<(), Fail> {
         expect(is_as_wanted(place, *byte), "the byte at", place)?;
     }
     Ok(())
+}
+
+/// The number of each index that is added, and the least one that is free then.
+static NUMBERS: [(u32, Option<u32>); 4] = [(1, Some(0)), (3, Some(0)), (0, Some(2)), (2, Some(4))];
+
+/// An index with this number.
+fn index(alloc: Global, number: u32) -> StoredIndex {
+    StoredIndex {
+        name: String::new(alloc),
+        number,
+        table: 0,
+        column: 0,
+    }
+}
+
+#[test]
+fn the_least_free_number_is_given(rt: HostRuntime) -> Result<(), Fail> {
+    let alloc = rt.alloc();
+    let mut indexes = Vec::new(alloc);
+    expect(free_index_number(&indexes) == Some(0), "the first", 0)?;
+    for (number, wanted) in NUMBERS {
+        indexes.push(index(alloc, number))?;
+        expect(
+            free_index_number(&indexes) == wanted,
+            "free after",
+            number as usize,
+        )?;
+    }
+    for number in 4..64u32 {
+        let free = free_index_number(&indexes);
+        expect(free == Some(number), "free before", number as usize)?;
+        indexes.push(index(alloc, number))?;
+    }
+    expect(free_index_number(&indexes).is_none(), "none is free of", 64)
 }

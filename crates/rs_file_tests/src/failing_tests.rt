@@ -7,10 +7,10 @@ use rs_file_judge::judge_script;
 use std::alloc::Global;
 use std::test::Fail;
 
-/// More calls of the disk than the steps make, and fewer.
+/// The steps make fewer calls of the disk than the first, and at least the second.
 const MOST: u64 = 1_000;
 
-const LEAST: u64 = 30;
+const LEAST: u64 = 100;
 
 /// How many calls of the disk the steps make. Each of them failed once.
 fn failed_calls(alloc: Global) -> Result<u64, Fail> {
@@ -31,5 +31,5 @@ fn failed_calls(alloc: Global) -> Result<u64, Fail> {
 #[test]
 fn a_failing_call_refuses_one_step(rt: HostRuntime) -> Result<(), Fail> {
     let calls = failed_calls(rt.alloc())?;
-    expect(calls > LEAST, "more calls of the disk than", LEAST as usize)
+    expect(calls >= LEAST, "enough calls of the disk:", calls as usize)
 }

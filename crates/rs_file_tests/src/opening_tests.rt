@@ -1,17 +1,18 @@
 //! The file opened: what is answered is what was written.
 
 ghost use Rattle.std.specs.Prelude.{IfOk};
-ghost use Rattle.rs_value.specs.Values.{IsRowOf, IsValue};
-ghost use Rattle.rs_value.specs.View.{datum_of, row_of};
+ghost use Rattle.rs_value.specs.Values.{IsValue};
+ghost use Rattle.rs_value.specs.View.{datum_of};
 
 use crate::cells::{Cell, cell_bytes, row_bytes};
 use crate::expect::expect;
 use crate::image::{image, offset};
 use crate::opened::{Opened, definition_bytes, open_file};
 use rs_contents::OpenedTable;
+use rs_file_judge::value_of;
 use rs_measure::Refusal;
 use rs_records::Cells;
-use rs_value::{ColumnType, Schema, Tuple, Value, decode, said_row_is_of_its_columns};
+use rs_value::{ColumnType, Schema, Value, decode, said_row_is_of_its_columns};
 use std::alloc::{AllocError, Global};
 use std::test::Fail;
 
@@ -224,19 +225,6 @@ fn versions_see_what_was_written(rt: HostRuntime) -> Result<(), Fail> {
         expect(file.sees(rt.alloc(), row)?, "what is seen, row", number)?;
     }
     Ok(())
-}
-
-/// The value of a row in a column.
-fn value_of(schema: &Schema, tuple: &Tuple, column: usize) -> Result<Value, Refusal>
-    requires { IsRowOf schema.now.items (row_of tuple.now) }
-    ensures { IfOk result (λ value. IsValue (datum_of value)) }
-{
-    let values = tuple.as_slice();
-    if column < values.len() {
-        Ok(values[column])
-    } else {
-        Err(Refusal::WrongValues)
-    }
 }
 
 /// The value in a column that the bytes of a row say.
