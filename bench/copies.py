@@ -38,8 +38,8 @@ def needed(below, stands_on):
 
 
 def make_repository(folder, program, stands_on, source, files):
-    """Copies the crates and the program's files (`NAME.in` in a folder beside this file), and answers the program's folder.
-    Work that is kept there stays."""
+    """Copies the crates and the program's files (`NAME.in` in a folder beside this file; lemmas, which end in `.antt`, go to its
+    proofs), and answers the program's folder. Work that is kept there stays."""
     below = dependencies()
     crates = needed(below, stands_on)
     for name in crates:
@@ -49,9 +49,14 @@ def make_repository(folder, program, stands_on, source, files):
             shutil.rmtree(os.path.join(place, part), ignore_errors=True)
         shutil.copytree(os.path.join(ROOT, "crates", name), place, ignore=skipped, dirs_exist_ok=True)
     place = os.path.join(folder, "crates", program)
-    os.makedirs(os.path.join(place, "src"), exist_ok=True)
+    lemmas = [name for name in files if name.endswith(".antt")]
     for name in files:
-        shutil.copy(os.path.join(ROOT, "bench", source, name + ".in"), os.path.join(place, "src", name))
+        part = os.path.join(place, "proofs" if name in lemmas else "src")
+        os.makedirs(part, exist_ok=True)
+        shutil.copy(os.path.join(ROOT, "bench", source, name + ".in"), os.path.join(part, name))
+    if lemmas:
+        with open(os.path.join(place, "proofs", "Lib.antt"), "w", encoding="utf-8") as file:
+            file.writelines("mod %s\n" % name.removesuffix(".antt") for name in lemmas)
     with open(os.path.join(folder, "crates.txt"), "w", encoding="utf-8") as file:
         for name in crates:
             file.write("%s: %s\n" % (name, " ".join(below[name])))

@@ -8,10 +8,12 @@ It makes a repository of its own, of copies of the crates that `bench/records/` 
 `rt run`, and gives it each size, in spans. It prints the milliseconds of each load, the best of the rounds, and the growth
 exponent from the smallest size to the largest.
 
-The loads: all spans added in order, all added shuffled, 1,000 searches at the version that added them, each after the end of
-a span at the next version, the check of the whole file that is there then, and a pass over its bytes, page by page. A row
-has two numbers, a record 46 bytes; the pages are in memory and a load is one transaction. Each search is to find what its
-version sees, whether it has ended since or not.
+The loads: all spans added in order, all added shuffled, 1,000 searches at the version that added them, each around a span that
+has ended at the next version, after one more end, the check of the whole file that is there then, and a pass over its bytes,
+page by page. Then an index of each of the two columns of the spans that were added in order, a check of the file with them,
+and a pass over its bytes; beside these two sqlite3's `PRAGMA integrity_check` of a table of as many records, without indexes
+and with two. A row has two numbers, a record 46 bytes; the pages are in memory and a load is one transaction. Each search is
+to find what its version sees, whether it has ended since or not.
 
 --folder keeps the repository, so that a second run builds what has changed. --unproved runs the program by `rt try`, with
 checks and without a proof: many times slower, so that only its growth says anything. --instructions counts the
@@ -24,18 +26,23 @@ import math
 import os
 import re
 import shutil
+import sqlite3
 import sys
 import tempfile
+import time
 
 from copies import instructions_of, make_repository, output_of
 
 PROGRAM = "records_bench"
 STANDS_ON = ["rs_contents", "rs_attr", "rs_versioned", "rs_versions", "rs_facts", "rs_value", "rs_pager", "rs_pages", "rs_page", "rs_disk", "rs_measure", "arrayvec"]
-FILES = ["main.rt", "spans.rt", "table.rt", "whole_file.rt"]
-LOADS = ["ordered", "shuffled", "searches", "check", "pass"]
+FILES = ["main.rt", "spans.rt", "table.rt", "whole_file.rt", "Fitting.antt"]
+LOADS = ["ordered", "shuffled", "searches", "check", "pass", "define", "indexed_check", "indexed_pass"]
 SEARCHES = 1_000
-# what the program does, one part after the other: the loads, and before the check the file is written
-PARTS = ["ordered", "shuffled", "searches", None, "check", "pass"]
+ROUTES = 400
+# as the program has it
+STRIDE = 15_485_863
+# what the program does, one part after the other: the loads, and before a check the file is written
+PARTS = ["ordered", "shuffled", "searches", None, "check", "pass", None, "indexed_check", "indexed_pass"]
 FIELD = re.compile(r"(\w+)=(\d+)")
 
 
@@ -58,14 +65,21 @@ def fields_of(output, size):
     return None
 
 
+def hits_of(size):
+    """How many spans the searches find: of the two measures from where a span begins that one, and the next one of its route."""
+    on_route = max(size // ROUTES, 1)
+    numbers = (turn // 2 * STRIDE % size for turn in range(SEARCHES))
+    return sum(1 if number % on_route == on_route - 1 else 2 for number in numbers)
+
+
 def timed(command, program, size):
     _status, output = output_of(command + [str(size)], program)
     fields = fields_of(output, size)
     if not fields:
         sys.exit("%s\nno times for %d spans" % (output[-4000:], size))
     counts = [fields["ordered_records"], fields["shuffled_records"], fields["living"] + fields["garbage"], fields["garbage"]]
-    counts.append(fields["checked"] + fields["garbage"])
-    if counts != [size, size, size, min(size, SEARCHES), size]:
+    counts += [fields["checked"] + fields["garbage"], fields["indexed_checked"], fields["hits"]]
+    if counts != [size, size, size, min(size, SEARCHES), size, size, hits_of(size)]:
         sys.exit("of %d spans the program has %s" % (size, counts))
     return fields
 
@@ -95,13 +109,37 @@ def count(command, program, sizes):
 def tell(found, sizes, unit):
     """Prints what was found of each load and size, in millions, and how it grows."""
     for load in LOADS:
+        if (load, sizes[0]) not in found:
+            continue
         for size in sizes:
-            print("%-9s %7d spans %9.1f %s" % (load, size, found[load, size] / 1e6, unit))
+            print("%-13s %7d spans %9.1f %s" % (load, size, found[load, size] / 1e6, unit))
         if len(sizes) > 1:
             growth = math.log(found[load, sizes[-1]] / found[load, sizes[0]]) / math.log(sizes[-1] / sizes[0])
-            print("%-9s growth exponent %.2f" % (load, growth), flush=True)
+            print("%-13s growth exponent %.2f" % (load, growth), flush=True)
     for size in sizes:
-        print("a check of %d spans takes %.1f passes" % (size, found["check", size] / found["pass", size]), flush=True)
+        passes = [found[kind + "check", size] / found[kind + "pass", size] for kind in ("", "indexed_")]
+        print("a check of %d spans takes %.2f passes, with two indexes %.1f" % (size, *passes), flush=True)
+
+
+def beside_sqlite(size, rounds):
+    """The least milliseconds of sqlite3's check of as many records in memory, and of those with two indexes."""
+    base = sqlite3.connect(":memory:")
+    base.execute("create table event (route int, low int, one int, two int, born int, high int, died int,"
+                 " primary key (route, low, one, two, born, high, died)) without rowid")
+    on_route = max(size // ROUTES, 1)
+    rows = ((n // on_route, n % on_route * 1000, n // on_route, n % on_route * 1000, 1, n % on_route * 1000 + 1000, -1) for n in range(size))
+    base.executemany("insert into event values (?, ?, ?, ?, ?, ?, ?)", rows)
+
+    def check():
+        start = time.perf_counter()
+        if base.execute("pragma integrity_check").fetchall() != [("ok",)]:
+            sys.exit("sqlite3 finds its table damaged")
+        return (time.perf_counter() - start) * 1e3
+
+    plain = min(check() for _round in range(rounds))
+    base.execute("create index by_one on event (one)")
+    base.execute("create index by_two on event (two)")
+    return plain, min(check() for _round in range(rounds))
 
 
 def main():
@@ -121,6 +159,8 @@ def main():
             tell(count(command, program, sizes), sizes, "million instructions")
         else:
             tell(measure(command, program, sizes, words.rounds), sizes, "ms")
+            for size in sizes:
+                print("sqlite3 checks %d records in %.1f ms, with two indexes in %.1f" % (size, *beside_sqlite(size, words.rounds)))
     finally:
         if not words.folder:
             shutil.rmtree(folder, ignore_errors=True)
