@@ -22,9 +22,9 @@ use Rattle.rs_records.proofs.Orders.{is_below-self}
 use Rattle.rs_tree.specs.Cells.{cells_within, is_within}
 use Rattle.rs_tree.specs.Tree.{IsNoTree, IsTree}
 use Rattle.rs_tree.proofs.Lists.{all_at, take_next}
-use Rattle.rs_tree_check.proofs.Joins.{all_push}
-use Rattle.rs_versions.proofs.Among.{filtered, first_or_rest}
-use Rattle.rs_versions.proofs.Staying.{tree_same}
+use Rattle.rs_tree_whole.proofs.Joins.{all_push}
+use Rattle.rs_cell_versions.proofs.Among.{filtered, first_or_rest}
+use Rattle.rs_cell_versions.proofs.Staying.{tree_same}
 
 -- bytes are below themselves with one more
 more_above : (x : ℕ) (bytes : List ℕ) → slice_cmp nat_cmp bytes (bytes ++ x ∷ []) ≡ Less

@@ -11,10 +11,10 @@ use Rattle.rs_attr.proofs.Placing.{all_of-append, all_of-cons}
 use Rattle.rs_pages.specs.PageMap.{PageMap, SamePages}
 use Rattle.rs_tree.proofs.Lists.{has_inside, inside_has, sum_upto, take_next, zip_at, zip_lengths}
 use Rattle.rs_tree.proofs.Ones.{tree_has_its_pages}
-use Rattle.rs_tree_check.proofs.Entries.{same_back}
-use Rattle.rs_tree_check.proofs.Joins.{zip_push, zip_take}
-use Rattle.rs_tree_check.specs.Validating.{HasNoFreshTree, Validates}
-use Rattle.rs_versions.proofs.Staying.{tree_same}
+use Rattle.rs_tree_whole.proofs.Entries.{same_back}
+use Rattle.rs_tree_whole.proofs.Joins.{zip_push, zip_take}
+use Rattle.rs_tree_whole.specs.Validating.{HasNoFreshTree, Validates}
+use Rattle.rs_cell_versions.proofs.Staying.{tree_same}
 
 -- a sum that may not fit is compared with a number
 pub sum_is : (told : Option ℕ) (fits : Type 0) (sum found : ℕ) → SomeIff told fits sum → option_eq eqb told (Some found) ≡ true → found ≡ sum

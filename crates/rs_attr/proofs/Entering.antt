@@ -5,8 +5,8 @@ use Rattle.std.specs.List.{AllByRecursion, Contains}
 use Rattle.std.specs.List.Sorted.{IsPermutation}
 use Rattle.rs_records.specs.Order.{Ascends}
 use Rattle.rs_tree.specs.Cells.{cells_above, cells_below, with_cell, without_cell}
-use Rattle.rs_versions.proofs.Among.{among, first_or_rest, with_present, without_absent}
-use Rattle.rs_versions.proofs.Permutations.{IsPermutation-rest}
+use Rattle.rs_cell_versions.proofs.Among.{among, first_or_rest, with_present, without_absent}
+use Rattle.rs_cell_versions.proofs.Permutations.{IsPermutation-rest}
 
 -- the image of a cell is among those of the cells
 there_mapped : (image : List ℕ → List ℕ) (cs : List (List ℕ)) (cell : List ℕ) → Contains cs cell → Contains (map image cs) (image cell)

@@ -15,7 +15,7 @@ use Rattle.rs_value.specs.Encoding.{SaysDatum}
 use Rattle.rs_value.specs.Row.{Datum}
 use Rattle.rs_value.specs.Values.{IsOfType}
 use Rattle.rs_value.proofs.EncodingOrder.{datum_wide}
-use Rattle.rs_versions.specs.Version.{sees}
+use Rattle.rs_cell_versions.specs.Version.{sees}
 use Rattle.rs_versioned.specs.Events.{Event, SaysEvent, kept_events, sees_event}
 use Rattle.rs_versioned.proofs.KeptRecords.{events_are_kept}
 use Rattle.rs_versioned.proofs.Lifting.{zip_count, zip_filter}

@@ -6,16 +6,16 @@ use Rattle.std.proofs.lemmas.List.Sorted.{IsPermutation-refl}
 use Rattle.rs_attr.specs.Entries.{ChangesIndex, Field, HoldsIndex, HoldsNoIndex, entry_of, index_form, value_in}
 use Rattle.rs_attr.specs.Tables.{IndexState}
 use Rattle.rs_attr.proofs.Entering.{TellsApart, entered, left}
-use Rattle.rs_owners.specs.Counts.{no_pages}
-use Rattle.rs_owners.specs.Owners.{KeepsPages}
-use Rattle.rs_owners.proofs.Moving.{moves_same}
+use Rattle.rs_page_owners.specs.Counts.{no_pages}
+use Rattle.rs_page_owners.specs.Owners.{KeepsPages}
+use Rattle.rs_page_owners.proofs.Moving.{moves_same}
 use Rattle.rs_pages.specs.PageMap.{PageMap}
 use Rattle.rs_tree.specs.Calls.{Changes, IsNotShared}
 use Rattle.rs_tree.specs.Cells.{with_cell, without_cell}
 use Rattle.rs_tree.proofs.Framed.{kept_tree_stays}
 use Rattle.rs_tree.proofs.Ones.{tree_has_its_pages}
 use Rattle.rs_value.specs.declared.column.ColumnType.{ColumnType}
-use Rattle.rs_versions.proofs.Sizes.{no_cells_no_pages}
+use Rattle.rs_cell_versions.proofs.Sizes.{no_cells_no_pages}
 
 -- what follows texts of one length is the same where the whole is
 same_rest : (one other as' bs : List ℕ) → length one ≡ length other → one ++ as' ≡ other ++ bs → as' ≡ bs

@@ -18,21 +18,21 @@ use Rattle.rs_records.specs.Order.{is_below}
 use Rattle.rs_tree.specs.Cells.{cells_below, cells_within}
 use Rattle.rs_tree.specs.Tree.{IsTree}
 use Rattle.rs_tree.proofs.Ones.{tree_has_its_cells, tree_has_its_pages}
-use Rattle.rs_tree_check.proofs.Entries.{same_back}
-use Rattle.rs_tree_check.specs.Validating.{HasNoFreshTree, Validates}
+use Rattle.rs_tree_whole.proofs.Entries.{same_back}
+use Rattle.rs_tree_whole.specs.Validating.{HasNoFreshTree, Validates}
 use Rattle.rs_value.specs.declared.column.ColumnType.{ColumnType}
 use Rattle.rs_versioned.specs.declared.told.ToldRecords.{ToldRecords}
 use Rattle.rs_versioned.specs.Events.{Event, SaysEvent, event_width, kept_events}
 use Rattle.rs_versioned.specs.Opening.{StandsAs}
 use Rattle.rs_versioned.specs.Records.{HoldsRecords}
 use Rattle.rs_versioned.proofs.Opened.{each_of_listed, listed_records, told_of}
-use Rattle.rs_versions.specs.Opening.{HasPassed, Looked, StandsOtherwise, StandsTold, Told}
-use Rattle.rs_versions.specs.Version.{is_dead, is_living}
-use Rattle.rs_versions.specs.Versioned.{Standing}
-use Rattle.rs_versions.proofs.Among.{all_at}
-use Rattle.rs_versions.proofs.Dated.{all_kept}
-use Rattle.rs_versions.proofs.Looks.{below_parted, cells_from, none_below_nothing, otherwise_back, passed_same}
-use Rattle.rs_versions.proofs.Staying.{tree_same}
+use Rattle.rs_cell_versions.specs.Opening.{HasPassed, Looked, StandsOtherwise, StandsTold, Told}
+use Rattle.rs_cell_versions.specs.Version.{is_dead, is_living}
+use Rattle.rs_cell_versions.specs.Versioned.{Standing}
+use Rattle.rs_cell_versions.proofs.Among.{all_at}
+use Rattle.rs_cell_versions.proofs.Dated.{all_kept}
+use Rattle.rs_cell_versions.proofs.Looks.{below_parted, cells_from, none_below_nothing, otherwise_back, passed_same}
+use Rattle.rs_cell_versions.proofs.Staying.{tree_same}
 
 -- what is told of a tree of another width that is the table's
 pub told_so : (types : List ColumnType) (told : ToldRecords) (wide : ℕ) (is : Told) → is ≡ record (told_of (event_width types) told) { width = wide } → wide ≡ event_width types → is ≡ told_of (event_width types) told

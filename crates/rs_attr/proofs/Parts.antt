@@ -12,9 +12,9 @@ use Rattle.rs_attr.specs.Inner.{Appends, AppendsNone, Enters, EntersNone}
 use Rattle.rs_attr.specs.Entries.{AreCells, BecomesIndex, ChangesIndex, Field, HoldsIndex, HoldsNoIndex, IsColumn, index_form}
 use Rattle.rs_attr.proofs.Above.{cell_below, number_more}
 use Rattle.rs_interval.specs.Finding.{event_form}
-use Rattle.rs_owners.specs.Counts.{◌&◌, no_pages}
-use Rattle.rs_owners.specs.Owners.{Keeps, KeepsPages, Shares}
-use Rattle.rs_owners.proofs.Moving.{moves_trans, same_pages-moves, shares_same}
+use Rattle.rs_page_owners.specs.Counts.{◌&◌, no_pages}
+use Rattle.rs_page_owners.specs.Owners.{Keeps, KeepsPages, Shares}
+use Rattle.rs_page_owners.proofs.Moving.{moves_trans, same_pages-moves, shares_same}
 use Rattle.rs_pages.proofs.Stores.{SamePages-refl}
 use Rattle.rs_pages.specs.PageMap.{PageMap, SamePages}
 use Rattle.rs_records.specs.Order.{Ascends, is_below}
@@ -30,12 +30,12 @@ use Rattle.rs_tree_insert.proofs.Ascending.{ascends_filter}
 use Rattle.rs_value.specs.declared.column.ColumnType.{ColumnType}
 use Rattle.rs_versioned.specs.Events.{Event, SaysEvent, event_width, kept_events}
 use Rattle.rs_versioned.specs.Records.{HoldsRecords}
-use Rattle.rs_versions.proofs.Dated.{all_kept}
-use Rattle.rs_versions.proofs.Looks.{below_parted}
-use Rattle.rs_versions.proofs.Staying.{tree_same}
-use Rattle.rs_versions.proofs.Widths.{held_wide}
-use Rattle.rs_versions.specs.Version.{is_dead, is_living}
-use Rattle.rs_versions.specs.Versioned.{HoldsNone, Standing}
+use Rattle.rs_cell_versions.proofs.Dated.{all_kept}
+use Rattle.rs_cell_versions.proofs.Looks.{below_parted}
+use Rattle.rs_cell_versions.proofs.Staying.{tree_same}
+use Rattle.rs_cell_versions.proofs.Widths.{held_wide}
+use Rattle.rs_cell_versions.specs.Version.{is_dead, is_living}
+use Rattle.rs_cell_versions.specs.Versioned.{HoldsNone, Standing}
 
 -- the cells of a tree have its form's width
 pub tree_wide : (form : Form) (pages : PageMap) (root : ℕ) (cells : List (List ℕ)) (used : ℕ → ℕ) → IsTree form pages root cells used → AllByRecursion (λ cell. length cell ≡ form.width) cells

@@ -8,13 +8,13 @@ use Rattle.rs_attr.specs.Opening.{AreNoPart, ArePart, HasEntries, HaveAllEntries
 use Rattle.rs_attr.specs.Tables.{HoldIndexes, IndexState}
 use Rattle.rs_pages.specs.PageMap.{PageMap, SamePages}
 use Rattle.rs_tree.proofs.Lists.{has_inside, inside_has, take_next, zip_at, zip_lengths}
-use Rattle.rs_tree_check.proofs.Joins.{all_push}
+use Rattle.rs_tree_whole.proofs.Joins.{all_push}
 use Rattle.rs_value.specs.declared.column.ColumnType.{ColumnType}
 use Rattle.rs_versioned.specs.Events.{Event, SaysEvent}
 use Rattle.rs_versioned.proofs.Opened.{all_of_parts}
-use Rattle.rs_versions.proofs.Among.{first_or_rest}
-use Rattle.rs_versions.proofs.Dated.{all_both}
-use Rattle.rs_versions.proofs.Staying.{tree_same}
+use Rattle.rs_cell_versions.proofs.Among.{first_or_rest}
+use Rattle.rs_cell_versions.proofs.Dated.{all_both}
+use Rattle.rs_cell_versions.proofs.Staying.{tree_same}
 
 -- what an index of all has of some of them
 contains_map : (image : List ℕ → List ℕ) (xs : List (List ℕ)) (x : List ℕ) → Contains xs x → Contains (map image xs) (image x)

@@ -5,15 +5,15 @@ use Rattle.std.specs.List.{AllZip}
 use Rattle.rs_attr.specs.Entries.{HoldsIndex}
 use Rattle.rs_attr.specs.Tables.{HoldIndexes, HoldsTable, IndexState, all_of}
 use Rattle.rs_attr.proofs.Indexes.{kept_index}
-use Rattle.rs_owners.specs.Counts.{◌&◌}
-use Rattle.rs_owners.specs.Owners.{KeepsPages}
+use Rattle.rs_page_owners.specs.Counts.{◌&◌}
+use Rattle.rs_page_owners.specs.Owners.{KeepsPages}
 use Rattle.rs_pages.specs.PageMap.{PageMap}
 use Rattle.rs_value.specs.declared.column.ColumnType.{ColumnType}
 use Rattle.rs_versioned.specs.Events.{Event, SaysEvent, kept_events}
 use Rattle.rs_versioned.specs.Records.{HoldsRecords}
 use Rattle.rs_versioned.proofs.EventCells.{event_has_one_cell}
 use Rattle.rs_versioned.proofs.Staying.{held_kept, held_later}
-use Rattle.rs_versions.specs.Versioned.{Standing}
+use Rattle.rs_cell_versions.specs.Versioned.{Standing}
 
 -- the pages of one owner more
 pub all_of-cons : (first : ℕ → ℕ) (rest : List (ℕ → ℕ)) (n : ℕ) → all_of (first ∷ rest) n ≡ first n + all_of rest n

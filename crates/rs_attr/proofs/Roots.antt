@@ -12,7 +12,7 @@ use Rattle.rs_tree.specs.Shape.{Lies, Shape, page_of}
 use Rattle.rs_tree.specs.Tree.{IsTree, Stands}
 use Rattle.rs_value.specs.declared.column.ColumnType.{ColumnType}
 use Rattle.rs_versioned.specs.Events.{Event, event_width}
-use Rattle.rs_versions.specs.Versioned.{Standing}
+use Rattle.rs_cell_versions.specs.Versioned.{Standing}
 
 -- a tree without a root has no pages
 page_after : (form : Form) (pages : PageMap) (height : ℕ) (shape : Shape height) → Lies form pages height shape → 1 < page_of height shape

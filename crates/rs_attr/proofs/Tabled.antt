@@ -8,9 +8,9 @@ use Rattle.rs_attr.specs.Tables.{BecomesTable, ChangesTable, HoldIndexes, HoldsN
 use Rattle.rs_attr.proofs.Placing.{keeps_part, kept_indexes}
 use Rattle.rs_attr.proofs.Together.{moves_none}
 use Rattle.rs_interval.specs.Finding.{event_form}
-use Rattle.rs_owners.specs.Counts.{◌&◌}
-use Rattle.rs_owners.specs.Owners.{KeepsPages, Moves, Shares}
-use Rattle.rs_owners.proofs.Moving.{moves_part, moves_same, moves_trans, pages_kept, same_pages-moves, shares_same}
+use Rattle.rs_page_owners.specs.Counts.{◌&◌}
+use Rattle.rs_page_owners.specs.Owners.{KeepsPages, Moves, Shares}
+use Rattle.rs_page_owners.proofs.Moving.{moves_part, moves_same, moves_trans, pages_kept, same_pages-moves, shares_same}
 use Rattle.rs_pages.specs.PageMap.{PageMap, SamePages}
 use Rattle.rs_tree.proofs.Framed.{kept_tree_stays}
 use Rattle.rs_tree.proofs.Ones.{tree_has_its_cells}
@@ -20,12 +20,12 @@ use Rattle.rs_versioned.specs.Events.{Event, SaysEvent, event_width, kept_events
 use Rattle.rs_versioned.specs.Records.{ChangesRecords, HoldsRecords}
 use Rattle.rs_versioned.proofs.KeptRecords.{events_are_kept}
 use Rattle.rs_versioned.proofs.Lifting.{cell_there, record_there}
-use Rattle.rs_versions.specs.Changes.{Ends, with_end, without_cells}
-use Rattle.rs_versions.specs.Versioned.{BecomesCells, ChangesCells, HoldsCells, HoldsNone, Standing}
-use Rattle.rs_versions.proofs.Among.{among}
-use Rattle.rs_versions.proofs.Dated.{all_without}
-use Rattle.rs_versions.proofs.Seen.{without-ascends}
-use Rattle.rs_versions.proofs.Widths.{held_wide}
+use Rattle.rs_cell_versions.specs.Changes.{Ends, with_end, without_cells}
+use Rattle.rs_cell_versions.specs.Versioned.{BecomesCells, ChangesCells, HoldsCells, HoldsNone, Standing}
+use Rattle.rs_cell_versions.proofs.Among.{among}
+use Rattle.rs_cell_versions.proofs.Dated.{all_without}
+use Rattle.rs_cell_versions.proofs.Seen.{without-ascends}
+use Rattle.rs_cell_versions.proofs.Widths.{held_wide}
 
 -- the cells of a table are of one width and in their order
 pub held_cells : (types : List ColumnType) (pages : PageMap) (standing : Standing) (cells : List (List ℕ)) (used : ℕ → ℕ) → HoldsCells (event_form (event_width types)) pages standing cells used

@@ -7,9 +7,9 @@ use Rattle.rs_attr.specs.Entries.{AreCells, ChangesIndex, Field, HoldsIndex, Hol
 use Rattle.rs_attr.specs.Inner.{BecomeIndexes, ChangeIndexes, HoldNoIndexes}
 use Rattle.rs_attr.specs.Tables.{HoldIndexes, IndexState, all_of, kept_parts}
 use Rattle.rs_attr.proofs.Placing.{all_of-append, all_of-cons, keeps_part, kept_indexes}
-use Rattle.rs_owners.specs.Counts.{◌&◌}
-use Rattle.rs_owners.specs.Owners.{Moves, Shares}
-use Rattle.rs_owners.proofs.Moving.{moves_part, moves_same, moves_trans, pages_kept, shares_same}
+use Rattle.rs_page_owners.specs.Counts.{◌&◌}
+use Rattle.rs_page_owners.specs.Owners.{Moves, Shares}
+use Rattle.rs_page_owners.proofs.Moving.{moves_part, moves_same, moves_trans, pages_kept, shares_same}
 use Rattle.rs_pages.specs.PageMap.{PageMap}
 
 -- where nothing changes, nothing moves

@@ -19,8 +19,8 @@ use Rattle.rs_records.proofs.Orders.{is_below-self, is_below-cases}
 use Rattle.rs_tree.specs.Cells.{cells_within, is_within}
 use Rattle.rs_tree_insert.proofs.Ascending.{ascends_filter}
 use Rattle.rs_tree.proofs.Below.{below_one_way}
-use Rattle.rs_versions.proofs.Among.{all_at, first_or_rest}
-use Rattle.rs_versions.proofs.Permutations.{IsPermutation-rest}
+use Rattle.rs_cell_versions.proofs.Among.{all_at, first_or_rest}
+use Rattle.rs_cell_versions.proofs.Permutations.{IsPermutation-rest}
 use Rattle.rs_versioned.proofs.Shuffles.{IsPermutation-filter}
 
 -- the first of two cells isn't among cells that begin with the second and ascend

@@ -1,8 +1,8 @@
 -- The entries of an attribute index: for each cell of a table the bytes of one of its values, and then the cell.
 use Rattle.std.specs.Prelude.{◌≡◌, ◌≤◌, ℕ, ◌+◌, ◌*◌, Some, List, [], ◌++◌, IsPermutation, drop, length, map, slice_get, take}
 use Rattle.std.specs.List.{AllByRecursion}
-use Rattle.rs_owners.specs.Counts.{◌&◌}
-use Rattle.rs_owners.specs.Owners.{Moves, Shares}
+use Rattle.rs_page_owners.specs.Counts.{◌&◌}
+use Rattle.rs_page_owners.specs.Owners.{Moves, Shares}
 use Rattle.rs_pages.specs.PageMap.{PageMap}
 use Rattle.rs_records.specs.Order.{Ascends}
 use Rattle.rs_tree.specs.declared.summary.NoSummary.{NoSummary}

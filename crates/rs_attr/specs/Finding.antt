@@ -9,7 +9,7 @@ use Rattle.rs_value.specs.declared.column.ColumnType.{ColumnType}
 use Rattle.rs_value.specs.Row.{Datum, datum_cmp}
 use Rattle.rs_versioned.specs.Events.{Event, SaysEvent, kept_events, sees_event}
 use Rattle.rs_versioned.specs.Records.{HoldsRecords}
-use Rattle.rs_versions.specs.Versioned.{Standing}
+use Rattle.rs_cell_versions.specs.Versioned.{Standing}
 
 -- the event's row has this value in the column
 abbrev pub has_value : ℕ → Datum → Event → Bool

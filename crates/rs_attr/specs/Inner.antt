@@ -4,8 +4,8 @@ use Rattle.std.specs.Prelude.{ℕ, List, ◌++◌}
 use Rattle.rs_attr.specs.Entries.{AreCells, BecomesIndex, Field, HoldsIndex}
 use Rattle.rs_attr.specs.Tables.{HoldIndexes, IndexState, all_of}
 use Rattle.rs_interval.specs.Finding.{event_form}
-use Rattle.rs_owners.specs.Counts.{◌&◌}
-use Rattle.rs_owners.specs.Owners.{Moves, Shares}
+use Rattle.rs_page_owners.specs.Counts.{◌&◌}
+use Rattle.rs_page_owners.specs.Owners.{Moves, Shares}
 use Rattle.rs_pages.specs.PageMap.{PageMap}
 use Rattle.rs_tree.specs.Cells.{cells_below}
 use Rattle.rs_tree.specs.Tree.{IsTree}

@@ -3,14 +3,14 @@ use Rattle.std.specs.Prelude.{◌≡◌, ◌≤◌, ℕ, List, Contains, length}
 use Rattle.std.specs.List.{AllByRecursion, AllZip}
 use Rattle.rs_attr.specs.Entries.{Field, entry_of, index_form}
 use Rattle.rs_attr.specs.Tables.{HoldIndexes, HoldsTable, IndexState, all_of}
-use Rattle.rs_owners.specs.Counts.{◌&◌}
+use Rattle.rs_page_owners.specs.Counts.{◌&◌}
 use Rattle.rs_pages.specs.PageMap.{PageMap}
 use Rattle.rs_tree.specs.Tree.{IsTree}
 use Rattle.rs_value.specs.declared.column.ColumnType.{ColumnType}
 use Rattle.rs_versioned.specs.declared.told.ToldRecords.{ToldRecords}
 use Rattle.rs_versioned.specs.Events.{Event, SaysEvent}
 use Rattle.rs_versioned.specs.Opening.{StandsAs}
-use Rattle.rs_versions.specs.Versioned.{Standing}
+use Rattle.rs_cell_versions.specs.Versioned.{Standing}
 
 -- each of the cells has its entry among these
 abbrev pub HaveEntries : Field → List (List ℕ) → List (List ℕ) → Type 0

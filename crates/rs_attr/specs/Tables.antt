@@ -2,13 +2,13 @@
 use Rattle.std.specs.Prelude.{◌≡◌, ℕ, List, map}
 use Rattle.std.specs.List.{AllByRecursion, AllZip, sum_by}
 use Rattle.rs_attr.specs.Entries.{Field, HoldsIndex}
-use Rattle.rs_owners.specs.Counts.{◌&◌}
-use Rattle.rs_owners.specs.Owners.{Moves, Shares}
+use Rattle.rs_page_owners.specs.Counts.{◌&◌}
+use Rattle.rs_page_owners.specs.Owners.{Moves, Shares}
 use Rattle.rs_pages.specs.PageMap.{PageMap}
 use Rattle.rs_value.specs.declared.column.ColumnType.{ColumnType}
 use Rattle.rs_versioned.specs.Events.{Event, event_width, kept_events}
 use Rattle.rs_versioned.specs.Records.{HoldsRecords}
-use Rattle.rs_versions.specs.Versioned.{Standing}
+use Rattle.rs_cell_versions.specs.Versioned.{Standing}
 
 -- what an index is to its callers: its field, the root of its tree now, and the root at the last commit
 pub record IndexState : Type 0 where

@@ -7,23 +7,23 @@ ghost use Rattle.std.specs.Prelude.{◌≡◌, ◌<◌, ℕ, List, IfOk, OnOk, f
 ghost use Rattle.rs_attr.specs.Inner.{Appends, AppendsNone, Enters, EntersNone};
 ghost use Rattle.rs_attr.specs.Entries.{BecomesIndex, FitsPages, IsColumn};
 ghost use Rattle.rs_interval.specs.Finding.{event_form};
-ghost use Rattle.rs_owners.specs.Changes.{WorksAfter};
-ghost use Rattle.rs_owners.specs.Counts.{◌&◌, no_pages};
-ghost use Rattle.rs_owners.specs.Owners.{Shares};
+ghost use Rattle.rs_page_owners.specs.Changes.{WorksAfter};
+ghost use Rattle.rs_page_owners.specs.Counts.{◌&◌, no_pages};
+ghost use Rattle.rs_page_owners.specs.Owners.{Shares};
 ghost use Rattle.rs_records.specs.Listed.{listed, record_width};
 ghost use Rattle.rs_records.specs.Order.{is_below};
 ghost use Rattle.rs_versioned.specs.Events.{Event, event_width, kept_events};
 ghost use Rattle.rs_versioned.specs.Records.{HoldsRecords};
-ghost use Rattle.rs_versions.specs.Versioned.{HoldsNone};
+ghost use Rattle.rs_cell_versions.specs.Versioned.{HoldsNone};
 
 use crate::attr_index::AttrIndex;
 use crate::equal::ABOVE_CELLS;
 use rs_btree::Tree;
 use rs_interval::GreatestEnd;
-use rs_measure::Refusal;
 use rs_page::PageNumber;
 use rs_pages::Pages;
 use rs_records::{Cells, is_below};
+use rs_refusal::Refusal;
 use rs_versioned::EventTable;
 use std::alloc::Global;
 

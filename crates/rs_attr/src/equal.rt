@@ -8,14 +8,14 @@ ghost use Rattle.rs_attr.specs.Entries.{plain_form};
 ghost use Rattle.rs_pages.specs.Lending.{RestsAfter};
 ghost use Rattle.rs_records.specs.Listed.{listed, record_width};
 ghost use Rattle.rs_tree.specs.Calls.{Finds, RefusesToRead};
-ghost use Rattle.rs_versions.specs.Version.{sees};
+ghost use Rattle.rs_cell_versions.specs.Version.{sees};
 
 use rs_btree::Tree;
-use rs_measure::Refusal;
+use rs_cell_versions::sees;
 use rs_pages::Pages;
 use rs_records::Cells;
+use rs_refusal::Refusal;
 use rs_tree::NoSummary;
-use rs_versions::sees;
 use std::alloc::{AllocError, Global};
 
 /// Bytes that all cells of events are below.

@@ -5,14 +5,14 @@ ghost use Rattle.std.specs.List.{AllByRecursion};
 ghost use Rattle.rs_attr.specs.Entries.{AreCells, Field, HoldsIndex, index_form};
 ghost use Rattle.rs_attr.specs.Opening.{HasEntries, HasSoMany, LacksEntries};
 ghost use Rattle.rs_attr.specs.Tables.{AreOn, HoldsTable, IndexState, all_of, kept_parts, working_parts};
-ghost use Rattle.rs_owners.specs.Counts.{◌&◌};
-ghost use Rattle.rs_owners.specs.Owners.{KeepsPages};
+ghost use Rattle.rs_page_owners.specs.Counts.{◌&◌};
+ghost use Rattle.rs_page_owners.specs.Owners.{KeepsPages};
 ghost use Rattle.rs_pages.specs.PageMap.{PageMap};
 ghost use Rattle.rs_tree.specs.Tree.{IsTree};
 ghost use Rattle.rs_value.specs.declared.column.ColumnType.{ColumnType};
 ghost use Rattle.rs_versioned.specs.Events.{Event, kept_events};
 ghost use Rattle.rs_versioned.specs.Records.{HoldsRecords};
-ghost use Rattle.rs_versions.specs.Versioned.{Standing};
+ghost use Rattle.rs_cell_versions.specs.Versioned.{Standing};
 
 /// A table without indexes is its events.
 pub fn table_may_have_no_index()

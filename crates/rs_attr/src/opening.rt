@@ -10,21 +10,21 @@ ghost use Rattle.std.specs.List.{AllByRecursion};
 ghost use Rattle.rs_attr.specs.Opening.{AreNoPart, ArePart, HasEntries, LacksEntries, OpensNoTable, OpensTable, ReachesIndexes, ReachesNoIndexes};
 ghost use Rattle.rs_attr.specs.Tables.{AreOn};
 ghost use Rattle.rs_pages.specs.Lending.{RestsAfter};
-ghost use Rattle.rs_reached.specs.Marks.{taken};
+ghost use Rattle.rs_page_marks.specs.Marks.{taken};
 ghost use Rattle.rs_records.specs.Listed.{listed, record_width};
 ghost use Rattle.rs_versioned.specs.Events.{Event, SaysEvent, event_width};
-ghost use Rattle.rs_versions.specs.Version.{died_of};
+ghost use Rattle.rs_cell_versions.specs.Version.{died_of};
 
 use crate::attr_index::AttrIndex;
+use rs_cell_versions::Opening;
 use rs_interval::GreatestEnd;
-use rs_measure::Refusal;
+use rs_page_marks::Reached;
 use rs_pages::Pages;
-use rs_reached::Reached;
 use rs_records::Cells;
+use rs_refusal::Refusal;
 use rs_value::{Schema, row_width};
 use rs_versioned::event::{EVENT_BYTES, says_event};
 use rs_versioned::{EventTable, ToldRecords};
-use rs_versions::Opening;
 use std::alloc::Global;
 
 /// The table that lies in a file already, with rows of these columns, beside its indexes; their pages are marked. Ok exactly

@@ -7,9 +7,9 @@ ghost use Rattle.std.specs.Prelude.{◌≡◌, ◌≢◌, ◌<◌, ◌≤◌, �
 ghost use Rattle.std.specs.List.{AllByRecursion};
 ghost use Rattle.rs_attr.specs.Inner.{ChangeIndexes, HoldNoIndexes};
 ghost use Rattle.rs_attr.specs.Tables.{AreOn, ChangesTable, HoldsNoTable, kept_parts};
-ghost use Rattle.rs_owners.specs.Changes.{WorksAfter};
-ghost use Rattle.rs_owners.specs.Counts.{◌&◌};
-ghost use Rattle.rs_owners.specs.Owners.{Shares};
+ghost use Rattle.rs_page_owners.specs.Changes.{WorksAfter};
+ghost use Rattle.rs_page_owners.specs.Counts.{◌&◌};
+ghost use Rattle.rs_page_owners.specs.Owners.{Shares};
 ghost use Rattle.rs_pages.specs.PageMap.{SamePages};
 ghost use Rattle.rs_records.specs.Listed.{listed, record_width};
 ghost use Rattle.rs_tree.specs.Cells.{with_cell, without_cell};
@@ -17,19 +17,19 @@ ghost use Rattle.rs_value.specs.Values.{IsRowOf};
 ghost use Rattle.rs_value.specs.View.{row_of};
 ghost use Rattle.rs_versioned.specs.Events.{Event, SaysEvent, event_width, kept_events};
 ghost use Rattle.rs_versioned.specs.Records.{HasCleared, HasEnded, HasNone, HasOneMore, HoldsRecords};
-ghost use Rattle.rs_versions.specs.Changes.{cleared};
-ghost use Rattle.rs_versions.specs.Version.{died_of, ended, is_living};
-ghost use Rattle.rs_versions.specs.Versioned.{nothing_stands};
-ghost use Rattle.rs_versions.specs.declared.cell.TheConstants.{LIVING};
+ghost use Rattle.rs_cell_versions.specs.Changes.{cleared};
+ghost use Rattle.rs_cell_versions.specs.Version.{died_of, ended, is_living};
+ghost use Rattle.rs_cell_versions.specs.Versioned.{nothing_stands};
+ghost use Rattle.rs_cell_versions.specs.declared.cell.TheConstants.{LIVING};
 
 use crate::attr_index::AttrIndex;
+use rs_cell_versions::{LIVING, born_of, end_at};
 use rs_facts::fact::Span;
-use rs_measure::Refusal;
 use rs_pages::Pages;
 use rs_records::Cells;
+use rs_refusal::Refusal;
 use rs_versioned::EventTable;
 use rs_versioned::event::cell_of;
-use rs_versions::{LIVING, born_of, end_at};
 use std::alloc::Global;
 
 /// Puts the row on the route along the span, as versions from this one on see it, into the table and its indexes, and answers

@@ -2,9 +2,9 @@
 use Rattle.std.proofs.Common.{◌≡◌, ◌↔◌, ℕ, Bool, false, List, [], ◌∷◌, ◌++◌, IsTrue, suc, refl, sym, ap, ◌∙◌, subst, inl, inr, arith}
 use Rattle.std.proofs.lemmas.Bool.{false≢true}
 use Rattle.std.specs.List.{Contains}
-use Rattle.rs_owners.specs.Counts.{◌&◌}
-use Rattle.rs_owners.specs.Owners.{Shares}
-use Rattle.rs_owners.proofs.Moving.{moves_trans}
+use Rattle.rs_page_owners.specs.Counts.{◌&◌}
+use Rattle.rs_page_owners.specs.Owners.{Shares}
+use Rattle.rs_page_owners.proofs.Moving.{moves_trans}
 use Rattle.rs_pages.specs.PageMap.{PageMap}
 use Rattle.rs_records.specs.Order.{is_below, Ascends}
 use Rattle.rs_records.proofs.Orders.{is_below-cases}

@@ -1,7 +1,7 @@
 -- What becomes of a tree where one cell is put in the place of another.
 use Rattle.std.specs.Prelude.{ℕ, List, Contains}
-use Rattle.rs_owners.specs.Counts.{◌&◌}
-use Rattle.rs_owners.specs.Owners.{Shares}
+use Rattle.rs_page_owners.specs.Counts.{◌&◌}
+use Rattle.rs_page_owners.specs.Owners.{Shares}
 use Rattle.rs_pages.specs.PageMap.{PageMap}
 use Rattle.rs_tree.specs.Calls.{Becomes}
 use Rattle.rs_tree.specs.Cells.{with_cell, without_cell}

@@ -4,19 +4,18 @@
 
 ghost use Rattle.std.specs.Prelude.{◌≡◌, ◌↔◌, ℕ, true, List, Contains, IsTrue, IfOk, length};
 ghost use Rattle.rs_btree.specs.Replacing.{Replaces};
-ghost use Rattle.rs_owners.specs.Changes.{WorksAfter};
-ghost use Rattle.rs_owners.specs.Counts.{◌&◌};
-ghost use Rattle.rs_owners.specs.Owners.{Shares};
+ghost use Rattle.rs_page_owners.specs.Changes.{WorksAfter};
+ghost use Rattle.rs_page_owners.specs.Counts.{◌&◌};
+ghost use Rattle.rs_page_owners.specs.Owners.{Shares};
 ghost use Rattle.rs_tree.specs.Calls.{IsNotShared};
 ghost use Rattle.rs_tree.specs.Form.{form_of};
 ghost use Rattle.rs_tree.specs.Tree.{IsTree};
 
-use rs_measure::Refusal;
 use rs_page::PageNumber;
 use rs_pages::Pages;
-use rs_tree::Summary;
+use rs_refusal::Refusal;
+use rs_tree::{Layout, Summary};
 use rs_tree_insert::insert;
-use rs_tree_page::Layout;
 use rs_tree_remove::remove;
 
 /// Puts the other cell in the place of the first, and answers the root of what is left and whether the first was there; where it

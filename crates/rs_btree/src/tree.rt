@@ -4,35 +4,32 @@
 
 ghost use Rattle.std.specs.Prelude.{◌≡◌, ◌≢◌, ◌⊎◌, ◌↔◌, ◌<◌, ◌≤◌, ◌+◌, ◌*◌, ℕ, Bool, IsTrue, Contains, List, [], IfOk, IfErr, OnOk, OnErr, Err, true, false, length};
 ghost use Rattle.std.specs.Fn.{FnReturnsAt};
-ghost use Rattle.rs_owners.specs.Changes.{WorksAfter};
-ghost use Rattle.rs_owners.specs.Counts.{◌&◌, no_pages};
-ghost use Rattle.rs_owners.specs.Owners.{Shares};
+ghost use Rattle.rs_page_owners.specs.Changes.{WorksAfter};
+ghost use Rattle.rs_page_owners.specs.Counts.{◌&◌, no_pages};
+ghost use Rattle.rs_page_owners.specs.Owners.{Shares};
 ghost use Rattle.rs_pages.specs.Lending.{RestsAfter};
 ghost use Rattle.rs_pages.specs.PageMap.{PageMap, SamePages};
-ghost use Rattle.rs_reached.specs.Marks.{taken};
+ghost use Rattle.rs_page_marks.specs.Marks.{taken};
 ghost use Rattle.rs_records.specs.Listed.{listed, record_width};
 ghost use Rattle.rs_tree.specs.Calls.{AcceptsParts, Changes, Finds, IsNotShared, RefusesToRead};
 ghost use Rattle.rs_tree.specs.Cells.{cells_within, with_cell, without_cell};
 ghost use Rattle.rs_tree.specs.Form.{form_of};
 ghost use Rattle.rs_tree.specs.Tree.{IsTree};
-ghost use Rattle.rs_tree_check.specs.Validating.{Validates, HasNoFreshTree};
-ghost use Rattle.rs_tree_search.specs.Asking.{Computes};
+ghost use Rattle.rs_tree_whole.specs.Validating.{Validates, HasNoFreshTree};
+ghost use Rattle.rs_tree.specs.Asking.{Computes};
 ghost use Rattle.rs_btree.specs.Replacing.{Replaces};
 ghost use Rattle.rs_btree.specs.Rooted.{Rooted};
 
 use crate::replacing::replace;
-use rs_measure::Refusal;
 use rs_page::PageNumber;
+use rs_page_marks::Reached;
 use rs_pages::Pages;
-use rs_reached::Reached;
 use rs_records::Cells;
-use rs_tree::Summary;
-use rs_tree_check::validate;
-use rs_tree_clear::clear;
+use rs_refusal::Refusal;
+use rs_tree::{Layout, Summary, descend, range};
 use rs_tree_insert::insert;
-use rs_tree_page::Layout;
 use rs_tree_remove::remove;
-use rs_tree_search::{descend, range};
+use rs_tree_whole::{clear, validate};
 use std::alloc::Global;
 use std::marker::{Model, PhantomData};
 

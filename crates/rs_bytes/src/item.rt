@@ -1,11 +1,11 @@
 //! What is an item: it is read from the front of bytes and appended to bytes.
 
 ghost use Rattle.std.specs.Prelude.{◌≡◌, ◌⊎◌, ℕ, List, ◌++◌, IfOk, IfErr, OnOk};
-ghost use Rattle.rs_measure.specs.declared.refusal.Refusal.TheVariants as refusals;
+ghost use Rattle.rs_refusal.specs.declared.refusal.Refusal.TheVariants as refusals;
 ghost use Rattle.rs_bytes.specs.Codes.{Reads, ReadsNone, Writes};
 
 use crate::reader::Reader;
-use rs_measure::Refusal;
+use rs_refusal::Refusal;
 use std::alloc::{AllocError, Global};
 
 /// What bytes say.

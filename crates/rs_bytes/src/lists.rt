@@ -1,13 +1,13 @@
 //! Lists after the number of their items, in one byte or in four.
 
 ghost use Rattle.std.specs.Prelude.{◌≡◌, ◌⊎◌, ◌<◌, ◌^◌, List, length, map, All, IfOk, IfErr, OnOk};
-ghost use Rattle.rs_measure.specs.declared.refusal.Refusal.TheVariants as refusals;
+ghost use Rattle.rs_refusal.specs.declared.refusal.Refusal.TheVariants as refusals;
 ghost use Rattle.rs_bytes.specs.Codes.{Reads, ReadsNone, Writes, SaysEach, SaysMany, SaysCounted};
 ghost use Rattle.rs_bytes.specs.Laws.{each_one, each_fits, counted_one};
 
 use crate::item::Item;
 use crate::reader::Reader;
-use rs_measure::Refusal;
+use rs_refusal::Refusal;
 use std::alloc::{AllocError, Global};
 
 /// A list after the number of its items in four bytes.

@@ -2,13 +2,13 @@
 
 ghost use Rattle.std.specs.Prelude.{◌≡◌, ◌⊎◌, ◌<◌, ◌^◌, ℕ, length, IfOk, IfErr, OnOk};
 ghost use Rattle.std.specs.Int.{w64, to_be_bytes};
-ghost use Rattle.rs_measure.specs.declared.refusal.Refusal.TheVariants as refusals;
+ghost use Rattle.rs_refusal.specs.declared.refusal.Refusal.TheVariants as refusals;
 ghost use Rattle.rs_bytes.specs.Codes.{SaysNumber};
 ghost use Rattle.rs_bytes.specs.Laws.{number_one};
 
 use crate::item::Item;
 use crate::reader::Reader;
-use rs_measure::Refusal;
+use rs_refusal::Refusal;
 use std::alloc::{AllocError, Global};
 
 impl Item for u8 {

@@ -1,13 +1,13 @@
 //! Two items, one after the other.
 
 ghost use Rattle.std.specs.Prelude.{◌≡◌, ◌⊎◌, IfOk, IfErr, OnOk};
-ghost use Rattle.rs_measure.specs.declared.refusal.Refusal.TheVariants as refusals;
+ghost use Rattle.rs_refusal.specs.declared.refusal.Refusal.TheVariants as refusals;
 ghost use Rattle.rs_bytes.specs.Codes.{SaysBoth};
 ghost use Rattle.rs_bytes.specs.Laws.{both_one};
 
 use crate::item::Item;
 use crate::reader::Reader;
-use rs_measure::Refusal;
+use rs_refusal::Refusal;
 use std::alloc::{AllocError, Global};
 
 impl<A: Item, B: Item> Item for (A, B) {

@@ -1,9 +1,9 @@
 //! A reader of bytes, which a contract sees as the bytes that are left.
 
 ghost use Rattle.std.specs.Prelude.{◌≡◌, ◌<◌, ◌↔◌, [], ◌++◌, length, IsTrue, IfOk, IfErr, OnErr};
-ghost use Rattle.rs_measure.specs.declared.refusal.Refusal.TheVariants as refusals;
+ghost use Rattle.rs_refusal.specs.declared.refusal.Refusal.TheVariants as refusals;
 
-use rs_measure::Refusal;
+use rs_refusal::Refusal;
 use std::marker::Model;
 
 /// Bytes that are read from the front.

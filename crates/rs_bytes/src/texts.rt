@@ -1,13 +1,13 @@
 //! Texts after the number of their bytes, in one byte or in two.
 
 ghost use Rattle.std.specs.Prelude.{◌≡◌, ◌⊎◌, ◌<◌, ◌^◌, ℕ, List, length, string_bytes, IfOk, IfErr, OnOk};
-ghost use Rattle.rs_measure.specs.declared.refusal.Refusal.TheVariants as refusals;
+ghost use Rattle.rs_refusal.specs.declared.refusal.Refusal.TheVariants as refusals;
 ghost use Rattle.rs_bytes.specs.Codes.{Reads, ReadsNone, Writes, SaysUtf8, SaysMany, SaysCounted};
 ghost use Rattle.rs_bytes.specs.Laws.{utf8_one, counted_one};
 
 use crate::item::Item;
 use crate::reader::Reader;
-use rs_measure::Refusal;
+use rs_refusal::Refusal;
 use std::alloc::{AllocError, Global};
 use std::str;
 

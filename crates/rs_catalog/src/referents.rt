@@ -9,8 +9,9 @@ ghost use Rattle.rs_machine.specs.State.{has};
 ghost use Rattle.rs_catalog.specs.Referents.{referents_by_name, referents_on, at_number, no_referents};
 
 use crate::entries::RouteEntry;
-use rs_measure::{Measure, Refusal};
+use rs_measure::Measure;
 use rs_methods::{Method, Name, Position, Referents, express, locate};
+use rs_refusal::Refusal;
 use std::alloc::{AllocError, Global};
 use std::collections::BTreeMap;
 use std::marker::Model;

@@ -6,8 +6,8 @@ use Rattle.std.proofs.lemmas.Bool.{cases_eq, cases_lt, false≢true}
 use Rattle.std.proofs.lemmas.List.{get_or-set_same, get_or-set_other, length-replicate, length-set, get_or_default}
 use Rattle.std.proofs.lemmas.List.Elements.{All-from_recursion, recursion_from_All}
 use Rattle.rs_machine.specs.declared.limits.TheConstants.{ROUTES}
-use Rattle.rs_owners.specs.Counts.{one_at, times}
-use Rattle.rs_owners.proofs.Moving.{one_at-same, same_number}
+use Rattle.rs_page_owners.specs.Counts.{one_at, times}
+use Rattle.rs_page_owners.proofs.Moving.{one_at-same, same_number}
 use Rattle.rs_catalog_pages.proofs.Counting.{none_or_some, one_at-off, times-cons, times-none}
 use Rattle.rs_catalog_meaning.specs.Places.{AreGivenOnce, ArePlaces}
 

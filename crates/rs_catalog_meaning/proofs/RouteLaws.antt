@@ -19,7 +19,7 @@ use Rattle.rs_facts.specs.Query.{RouteEnds}
 use Rattle.rs_facts.specs.WellFormed.{IsPieceOn}
 use Rattle.rs_machine.specs.declared.limits.TheConstants.{ROUTES}
 use Rattle.rs_machine.proofs.NameOrder.{name_cmp-total}
-use Rattle.rs_owners.specs.Counts.{times}
+use Rattle.rs_page_owners.specs.Counts.{times}
 use Rattle.rs_catalog_pages.specs.Items.{PieceItem, RouteItem}
 use Rattle.rs_catalog_pages.specs.Said.{said_piece, said_route}
 use Rattle.rs_catalog_pages.specs.declared.items.StoredPiece.{StoredPiece}

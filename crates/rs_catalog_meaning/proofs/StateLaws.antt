@@ -17,7 +17,7 @@ use Rattle.rs_machine.specs.declared.limits.TheConstants.{ALIGNMENTS, ROUTES, TA
 use Rattle.rs_machine.specs.Lawful as lawful
 use Rattle.rs_machine.specs.State.{has}
 use Rattle.rs_machine.proofs.NameOrder.{name_cmp-antisymmetric}
-use Rattle.rs_owners.specs.Counts.{times}
+use Rattle.rs_page_owners.specs.Counts.{times}
 use Rattle.rs_syntax.specs.Sound.{IsName}
 use Rattle.rs_syntax.specs.Tree.{QueryTree}
 use Rattle.rs_value.specs.Row.{Row, row_cmp}

@@ -10,7 +10,7 @@ use Rattle.rs_facts.specs.Query.{Column, Piece, RouteEnds}
 use Rattle.rs_facts.specs.WellFormed.{IsPieceOn}
 use Rattle.rs_machine.specs.declared.limits.TheConstants.{ALIGNMENTS, PIECES, ROUTES, TABLES, VIEWS}
 use Rattle.rs_machine.specs.Lawful.{AreColumnsOfTable, IsRoute}
-use Rattle.rs_owners.specs.Counts.{times}
+use Rattle.rs_page_owners.specs.Counts.{times}
 use Rattle.rs_syntax.specs.Sound.{IsName}
 use Rattle.rs_value.specs.declared.column.ColumnType.TheVariants as types
 

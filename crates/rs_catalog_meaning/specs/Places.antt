@@ -4,7 +4,7 @@ use Rattle.std.specs.List.{AllByRecursion}
 use Rattle.rs_catalog_pages.specs.Items.{PieceItem}
 use Rattle.rs_facts.specs.Query.{RouteEnds}
 use Rattle.rs_machine.specs.declared.limits.TheConstants.{ROUTES}
-use Rattle.rs_owners.specs.Counts.{times}
+use Rattle.rs_page_owners.specs.Counts.{times}
 
 -- each number is below the limit, and there once
 pub record AreGivenOnce (numbers : List ℕ) : Type 0 where

@@ -8,7 +8,7 @@ use crate::alignments::are_alignments;
 use crate::routes::are_routes;
 use crate::tables::{are_indexes, are_tables, are_views};
 use rs_catalog_pages::StoredCatalogue;
-use rs_measure::Refusal;
+use rs_refusal::Refusal;
 
 /// Ok exactly where each definition passes the checks and limits of its DEFINE line, beside the others, and each list is in the
 /// order of names; 94 where not. A line's length and what a view's text says are not looked at. It takes no memory.

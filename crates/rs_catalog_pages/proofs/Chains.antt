@@ -2,9 +2,9 @@
 use Rattle.std.proofs.Common.{◌≡◌, ◌<◌, ◌≤◌, ◌+◌, ℕ, List, [], ◌∷◌, ◌++◌, length, refl, sym, ap, subst, ◌∙◌, inl, inr, arith, append_assoc, append-nil, length-append}
 use Rattle.rs_page.specs.Follow.{MayFollow}
 use Rattle.rs_pages.specs.PageMap.{PageMap}
-use Rattle.rs_owners.specs.Counts.{◌&◌, times}
-use Rattle.rs_owners.specs.Owners.{Keeps}
-use Rattle.rs_owners.proofs.Moving.{one_at-same}
+use Rattle.rs_page_owners.specs.Counts.{◌&◌, times}
+use Rattle.rs_page_owners.specs.Owners.{Keeps}
+use Rattle.rs_page_owners.proofs.Moving.{one_at-same}
 use Rattle.rs_catalog_pages.specs.Chain.{HoldsPart, HoldsFrom, HoldsBytes, HoldsNoFreshBytes}
 use Rattle.rs_catalog_pages.specs.Items.{CatalogueItems, SaysCatalogue}
 use Rattle.rs_catalog_pages.specs.Laws.{catalogue_one}

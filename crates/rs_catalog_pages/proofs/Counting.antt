@@ -3,10 +3,10 @@ use Rattle.std.proofs.Common.{◌≡◌, ◌⊎◌, ◌<◌, ◌+◌, ℕ, zero,
 use Rattle.std.proofs.lemmas.Bool.{cases_lt}
 use Rattle.std.proofs.lemmas.List.Sums.{sum_by-cons}
 use Rattle.std.proofs.lemmas.List.{drop_more, take-append-drop}
-use Rattle.rs_owners.specs.Counts.{one_at, times}
-use Rattle.rs_owners.proofs.Moving.{one_at-same, one_at-other, same_number}
-use Rattle.rs_reached.specs.Marks.{taken, unmarked}
-use Rattle.rs_reached.proofs.Marking.{taken_past}
+use Rattle.rs_page_owners.specs.Counts.{one_at, times}
+use Rattle.rs_page_owners.proofs.Moving.{one_at-same, one_at-other, same_number}
+use Rattle.rs_page_marks.specs.Marks.{taken, unmarked}
+use Rattle.rs_page_marks.proofs.Marking.{taken_past}
 
 pub times-cons : (page : ℕ) (pages : List ℕ) (number : ℕ) → times (page ∷ pages) number ≡ one_at page number + times pages number
 unfolding times one_at

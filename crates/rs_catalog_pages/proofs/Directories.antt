@@ -4,7 +4,7 @@ use Rattle.std.proofs.lemmas.List.{take-append-drop, take_at, drop_at, drop-repl
 use Rattle.std.proofs.lemmas.Grind.{same_number_lists}
 use Rattle.std.specs.Int.{bytes_high_first}
 use Rattle.rs_bytes.specs.Codes.{Code, SaysNumber, SaysEach}
-use Rattle.rs_disk.specs.declared.disk.TheConstants.{PAGE_SIZE}
+use Rattle.rs_page.specs.declared.page.TheConstants.{PAGE_SIZE}
 use Rattle.rs_page.specs.Header.{IsHeader}
 use Rattle.rs_page.specs.PageBytes.{IsBlank, empty_header}
 use Rattle.rs_page.specs.declared.header.PageKind.TheVariants.{Directory}

@@ -11,9 +11,9 @@ use Rattle.rs_pages.specs.PageMap.{PageMap, HasNoFit, in_use, used_page}
 use Rattle.rs_pages.specs.Store.{Store}
 use Rattle.rs_pages.specs.Uses.{ReleasesPage}
 use Rattle.rs_pages.proofs.FreeLists.{free_list_is_shorter_than_the_count}
-use Rattle.rs_owners.specs.Counts.{◌&◌, one_at, times, no_pages}
-use Rattle.rs_owners.specs.Owners.{Moves, Shares}
-use Rattle.rs_owners.proofs.Moving.{one_at-same, same_number, moves_trans, moves_same, moves_part, allocates-moves, releases-moves}
+use Rattle.rs_page_owners.specs.Counts.{◌&◌, one_at, times, no_pages}
+use Rattle.rs_page_owners.specs.Owners.{Moves, Shares}
+use Rattle.rs_page_owners.proofs.Moving.{one_at-same, same_number, moves_trans, moves_same, moves_part, allocates-moves, releases-moves}
 use Rattle.rs_catalog_pages.specs.Storing.{IsInUse, AreInUse, MovesPages, AreNotOwn}
 use Rattle.rs_catalog_pages.proofs.Counting.{times-push, one_at-off, none_or_some}
 use Rattle.rs_catalog_pages.proofs.Parts.{used_there, catalogue_used}

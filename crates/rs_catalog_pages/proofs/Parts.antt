@@ -1,7 +1,7 @@
 -- One page of the catalogue: it holds one part, and where it holds one its header fits it.
 use Rattle.std.proofs.Common.{◌≡◌, ◌<◌, ◌≤◌, ℕ, false, Some, List, take, length, length-take, length-drop, refl, sym, ap, subst, ◌∙◌, arith}
 use Rattle.std.proofs.lemmas.List.{length-take-le}
-use Rattle.rs_disk.specs.declared.disk.TheConstants.{PAGE_SIZE}
+use Rattle.rs_page.specs.declared.page.TheConstants.{PAGE_SIZE}
 use Rattle.rs_page.specs.Follow.{MayFollow}
 use Rattle.rs_page.specs.Header.{IsHeader, Fits, FitsKind, kind_number}
 use Rattle.rs_page.specs.PageBytes.{is_free, IsFit}

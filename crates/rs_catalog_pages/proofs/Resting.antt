@@ -1,8 +1,8 @@
 -- Calls that read pages, one after another.
 use Rattle.std.proofs.Common.{◌≡◌, Result, Ok, Err, refl, ap, ◌∙◌}
-use Rattle.rs_measure.specs.declared.refusal.Refusal.{Refusal}
-use Rattle.rs_measure.specs.declared.refusal.Refusal.TheVariants as refusal
-use Rattle.rs_disk.specs.Counts.{counted_on}
+use Rattle.rs_refusal.specs.declared.refusal.Refusal.{Refusal}
+use Rattle.rs_refusal.specs.declared.refusal.Refusal.TheVariants as refusal
+use Rattle.rs_refusal.specs.Counts.{counted_on}
 use Rattle.rs_pages.specs.Store.{Store, Rests, CountsFailure}
 use Rattle.rs_pages.specs.Lending.{RestsAfter}
 use Rattle.rs_pages.proofs.Stores.{SamePages-trans, KeepsCounts-trans, Rests-refl}

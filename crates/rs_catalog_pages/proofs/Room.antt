@@ -1,8 +1,8 @@
 -- How many pages the file has, and when it is full.
 use Rattle.std.proofs.Common.{◌≡◌, ◌⊎◌, ◌≤◌, ◌+◌, ℕ, List, [], ◌∷◌, ◌++◌, length, Result, Ok, Err, IfErr, OnOk, OnErr, sym, ap, ◌∙◌, inl, inr, arith}
 use Rattle.std.proofs.lemmas.List.{length-append}
-use Rattle.rs_measure.specs.declared.refusal.Refusal.{Refusal}
-use Rattle.rs_measure.specs.declared.refusal.Refusal.TheVariants as refusal
+use Rattle.rs_refusal.specs.declared.refusal.Refusal.{Refusal}
+use Rattle.rs_refusal.specs.declared.refusal.Refusal.TheVariants as refusal
 use Rattle.rs_page.specs.declared.file_header.FileHeader.{FileHeader}
 use Rattle.rs_page.specs.declared.header.PageKind.{PageKind}
 use Rattle.rs_pages.specs.FreeList.{TakesFree, TakesLast}

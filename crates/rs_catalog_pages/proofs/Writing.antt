@@ -8,9 +8,9 @@ use Rattle.rs_pages.specs.PageMap.{PageMap}
 use Rattle.rs_pages.specs.Store.{Store}
 use Rattle.rs_pages.specs.Uses.{SetsCatalogue}
 use Rattle.rs_pages.proofs.FreeLists.{catalogue_leaves_the_free_list}
-use Rattle.rs_owners.specs.Counts.{◌&◌, one_at, times}
-use Rattle.rs_owners.specs.Owners.{Moves}
-use Rattle.rs_owners.proofs.Moving.{one_at-same, same_number, moves_same, moves_part, replaces-moves}
+use Rattle.rs_page_owners.specs.Counts.{◌&◌, one_at, times}
+use Rattle.rs_page_owners.specs.Owners.{Moves}
+use Rattle.rs_page_owners.proofs.Moving.{one_at-same, same_number, moves_same, moves_part, replaces-moves}
 use Rattle.rs_catalog_pages.specs.Chain.{HoldsFrom, HoldsBytes}
 use Rattle.rs_catalog_pages.specs.Inner.{parts_from}
 use Rattle.rs_catalog_pages.specs.Items.{CatalogueItems, SaysCatalogue}

@@ -1,8 +1,8 @@
 -- The pages of the catalogue: bytes that go on from page to page.
 use Rattle.std.specs.Prelude.{◌≡◌, ◌<◌, ◌≤◌, ℕ, Some, List, [], ◌∷◌, ◌++◌, take, drop, length}
-use Rattle.rs_disk.specs.declared.disk.TheConstants.{PAGE_SIZE}
-use Rattle.rs_owners.specs.Counts.{◌&◌, times}
-use Rattle.rs_owners.specs.Owners.{KeepsPages, Shares}
+use Rattle.rs_page.specs.declared.page.TheConstants.{PAGE_SIZE}
+use Rattle.rs_page_owners.specs.Counts.{◌&◌, times}
+use Rattle.rs_page_owners.specs.Owners.{KeepsPages, Shares}
 use Rattle.rs_page.specs.Follow.{MayFollow}
 use Rattle.rs_page.specs.Header.{IsHeader}
 use Rattle.rs_page.specs.declared.header.PageHeader.{PageHeader}

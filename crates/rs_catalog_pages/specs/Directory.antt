@@ -2,7 +2,7 @@
 -- the version that was accepted last.
 use Rattle.std.specs.Prelude.{◌≡◌, ◌-◌, ◌+◌, ◌++◌, ℕ, Some, List, drop, length, replicate}
 use Rattle.rs_bytes.specs.Codes.{Code, SaysBoth, SaysEach, SaysMany, SaysNumber}
-use Rattle.rs_disk.specs.declared.disk.TheConstants.{PAGE_SIZE}
+use Rattle.rs_page.specs.declared.page.TheConstants.{PAGE_SIZE}
 use Rattle.rs_page.specs.Header.{IsHeader}
 use Rattle.rs_page.specs.PageBytes.{empty_header}
 use Rattle.rs_page.specs.declared.header.PageKind.TheVariants.{Directory}

@@ -1,6 +1,6 @@
 -- What reading the catalogue answers. Pages are told by how often they were reached before and after it.
 use Rattle.std.specs.Prelude.{◌≡◌, ◌≤◌, ℕ, List}
-use Rattle.rs_owners.specs.Counts.{◌&◌, times}
+use Rattle.rs_page_owners.specs.Counts.{◌&◌, times}
 use Rattle.rs_pages.specs.PageMap.{PageMap}
 use Rattle.rs_catalog_pages.specs.Chain.{HoldsBytes}
 use Rattle.rs_catalog_pages.specs.Items.{CatalogueItems, SaysCatalogue}

@@ -1,6 +1,6 @@
 -- Parts of the catalogue in pages, and what reading and writing one does.
 use Rattle.std.specs.Prelude.{◌≡◌, ◌<◌, ◌≤◌, ◌++◌, ℕ, false, Some, List, take, drop, length}
-use Rattle.rs_disk.specs.declared.disk.TheConstants.{PAGE_SIZE}
+use Rattle.rs_page.specs.declared.page.TheConstants.{PAGE_SIZE}
 use Rattle.rs_page.specs.Follow.{MayFollow}
 use Rattle.rs_page.specs.Header.{IsHeader}
 use Rattle.rs_page.specs.PageBytes.{is_free}

@@ -1,9 +1,9 @@
 -- What storing the catalogue does to the pages that it has.
 use Rattle.std.specs.Prelude.{◌≡◌, ◌≤◌, ◌<◌, ◌+◌, ◌*◌, ℕ, Some, List, length, take, Result, MatchResult}
-use Rattle.rs_measure.specs.declared.refusal.Refusal.{Refusal}
-use Rattle.rs_owners.specs.Changes.{EndsFull, CountsNothing}
-use Rattle.rs_owners.specs.Counts.{◌&◌, times}
-use Rattle.rs_owners.specs.Owners.{Moves, Shares}
+use Rattle.rs_refusal.specs.declared.refusal.Refusal.{Refusal}
+use Rattle.rs_page_owners.specs.Changes.{EndsFull, CountsNothing}
+use Rattle.rs_page_owners.specs.Counts.{◌&◌, times}
+use Rattle.rs_page_owners.specs.Owners.{Moves, Shares}
 use Rattle.rs_page.specs.PageBytes.{IsFit}
 use Rattle.rs_pages.specs.PageMap.{PageMap, in_use}
 use Rattle.rs_pages.specs.Store.{Store, KeepsCounts}

@@ -3,18 +3,18 @@
 //! Each page is marked before it is read, so that none is read twice and reading ends on pages that are no catalogue.
 
 ghost use Rattle.std.specs.Prelude.{◌≡◌, ◌⊎◌, ◌≤◌, ◌+◌, ℕ, IfOk, IfErr, OnOk, Err, length};
-ghost use Rattle.rs_owners.specs.Counts.{◌&◌, one_at};
+ghost use Rattle.rs_page_owners.specs.Counts.{◌&◌, one_at};
 ghost use Rattle.rs_pages.specs.Lending.{RestsAfter};
-ghost use Rattle.rs_reached.specs.Marks.{taken};
+ghost use Rattle.rs_page_marks.specs.Marks.{taken};
 ghost use Rattle.rs_catalog_pages.specs.Chain.{HoldsNoFreshBytes};
 ghost use Rattle.rs_catalog_pages.specs.Loading.{ReadsBytes};
 ghost use Rattle.rs_catalog_pages.specs.Parts.{ReadsPart, HasNoFreshPart};
 
 use crate::part::append_part;
-use rs_measure::Refusal;
 use rs_page::PageNumber;
+use rs_page_marks::Reached;
 use rs_pages::Pages;
-use rs_reached::Reached;
+use rs_refusal::Refusal;
 use std::alloc::Global;
 
 /// Marks the pages of the catalogue, and reads its bytes: the pages in their order, and the bytes. It is refused with 90,

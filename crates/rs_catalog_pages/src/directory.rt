@@ -1,8 +1,8 @@
 //! The directory of a file, read from page 1 and written to it.
 
 ghost use Rattle.std.specs.Prelude.{◌≡◌, ◌≢◌, ◌⊎◌, ◌≤◌, ◌↔◌, ◌-◌, ◌++◌, true, ℕ, List, IsTrue, EachIndex, slice_index, IfOk, IfErr, OnOk, OnErr, Err, length, drop, replicate};
-ghost use Rattle.rs_disk.specs.declared.disk.TheConstants.{PAGE_SIZE};
-ghost use Rattle.rs_owners.specs.Changes.{WorksAfter};
+ghost use Rattle.rs_page.specs.declared.page.TheConstants.{PAGE_SIZE};
+ghost use Rattle.rs_page_owners.specs.Changes.{WorksAfter};
 ghost use Rattle.rs_page.specs.Header.{IsHeader};
 ghost use Rattle.rs_page.specs.PageBytes.{empty_header};
 ghost use Rattle.rs_page.specs.declared.header.PageKind.TheVariants as kinds;
@@ -17,9 +17,9 @@ ghost use Rattle.rs_catalog_pages.specs.Said.{said_directory};
 use crate::directory_items::StoredDirectory;
 use crate::part::{content, put_content};
 use rs_bytes::{Item, read_whole};
-use rs_measure::Refusal;
 use rs_page::{Page, PageKind, PageNumber};
 use rs_pages::Pages;
+use rs_refusal::Refusal;
 use std::alloc::Global;
 
 /// The bytes of a directory. Zeros follow them in the page.

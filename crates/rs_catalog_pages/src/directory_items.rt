@@ -2,7 +2,7 @@
 //! version that was accepted last.
 
 ghost use Rattle.std.specs.Prelude.{◌≡◌, ◌⊎◌, ◌<◌, ◌^◌, ℕ, List, All, length, map, IfOk, IfErr, OnOk};
-ghost use Rattle.rs_measure.specs.declared.refusal.Refusal.TheVariants as refusals;
+ghost use Rattle.rs_refusal.specs.declared.refusal.Refusal.TheVariants as refusals;
 ghost use Rattle.rs_bytes.specs.Codes.{SaysEach, SaysMany, SaysNumber};
 ghost use Rattle.rs_bytes.specs.Laws.{each_fits, each_one, number_one};
 ghost use Rattle.rs_catalog_pages.specs.Directory.{TreeItem, DirectoryItems, SaysTree, SaysDirectory};
@@ -11,8 +11,8 @@ ghost use Rattle.rs_catalog_pages.specs.Laws.{many_one, tree_one, tree_fits, dir
 ghost use Rattle.rs_catalog_pages.specs.Said.{said_tree, said_directory};
 
 use rs_bytes::{Item, Reader, read_each, write_each};
-use rs_measure::Refusal;
 use rs_page::PageNumber;
+use rs_refusal::Refusal;
 use std::alloc::{AllocError, Global};
 
 /// The greatest number of tables of a file.

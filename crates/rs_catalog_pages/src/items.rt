@@ -3,14 +3,14 @@
 //! Numbers and codes are those that are stored. Whether they fit one another is not asked here.
 
 ghost use Rattle.std.specs.Prelude.{◌≡◌, ◌⊎◌, IfOk, IfErr, OnOk};
-ghost use Rattle.rs_measure.specs.declared.refusal.Refusal.TheVariants as refusals;
+ghost use Rattle.rs_refusal.specs.declared.refusal.Refusal.TheVariants as refusals;
 ghost use Rattle.rs_catalog_pages.specs.Fitting.{FitsRoute, FitsColumn, FitsTable, FitsIndex, FitsView, FitsPiece, FitsAlignment, FitsCatalogue};
 ghost use Rattle.rs_catalog_pages.specs.Items.{RouteItem, ColumnItem, TableItem, IndexItem, ViewItem, PieceItem, AlignmentItem, CatalogueItems, SaysRoute, SaysColumn, SaysTable, SaysIndex, SaysView, SaysPiece, SaysAlignment, SaysCatalogue};
 ghost use Rattle.rs_catalog_pages.specs.Laws.{route_one, route_fits, column_one, column_fits, table_one, table_fits, index_one, index_fits, view_one, view_fits, piece_one, piece_fits, alignment_one, alignment_fits, catalogue_one, catalogue_fits};
 ghost use Rattle.rs_catalog_pages.specs.Said.{said_route, said_column, said_table, said_index, said_view, said_piece, said_alignment, said_catalogue};
 
 use rs_bytes::{Item, LongText, Reader, ShortList};
-use rs_measure::Refusal;
+use rs_refusal::Refusal;
 use std::alloc::{AllocError, Global};
 
 /// A route: its name and number, where it starts and ends in thousandths, and the version from which on it is seen.

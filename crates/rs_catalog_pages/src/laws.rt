@@ -2,8 +2,8 @@
 //! definitions can be stored.
 
 ghost use Rattle.std.specs.Prelude.{◌≡◌, ◌≤◌, ◌<◌, ℕ, List, length};
-ghost use Rattle.rs_owners.specs.Counts.{times};
-ghost use Rattle.rs_owners.specs.Owners.{Keeps};
+ghost use Rattle.rs_page_owners.specs.Counts.{times};
+ghost use Rattle.rs_page_owners.specs.Owners.{Keeps};
 ghost use Rattle.rs_pages.specs.PageMap.{PageMap};
 ghost use Rattle.rs_catalog_pages.specs.Chain.{HoldsBytes};
 ghost use Rattle.rs_catalog_pages.specs.Directory.{DirectoryItems, HasDirectory};

@@ -2,7 +2,7 @@
 
 ghost use Rattle.std.specs.Prelude.{◌≡◌, ◌⊎◌, IfOk, IfErr, Err, length};
 ghost use Rattle.rs_pages.specs.Lending.{RestsAfter};
-ghost use Rattle.rs_reached.specs.Marks.{taken};
+ghost use Rattle.rs_page_marks.specs.Marks.{taken};
 ghost use Rattle.rs_catalog_pages.specs.Fitting.{FitsCatalogue};
 ghost use Rattle.rs_catalog_pages.specs.Loading.{LoadsCatalogue, HasNoFreshCatalogue};
 ghost use Rattle.rs_catalog_pages.specs.Said.{said_catalogue};
@@ -10,10 +10,10 @@ ghost use Rattle.rs_catalog_pages.specs.Said.{said_catalogue};
 use crate::chain::read_bytes;
 use crate::items::StoredCatalogue;
 use rs_bytes::read_whole;
-use rs_measure::Refusal;
 use rs_page::PageNumber;
+use rs_page_marks::Reached;
 use rs_pages::Pages;
-use rs_reached::Reached;
+use rs_refusal::Refusal;
 use std::alloc::Global;
 
 /// Marks the pages of the catalogue and reads it: its pages in their order, and the definitions. It is refused with 90, with

@@ -1,16 +1,15 @@
 //! One page of the catalogue: the bytes that it holds, and the page that follows.
 
 ghost use Rattle.std.specs.Prelude.{◌≡◌, ◌⊎◌, ◌≤◌, ◌<◌, ◌+◌, ◌++◌, ℕ, IfOk, IfErr, IfSome, IfNone, Err, length, take, drop, List};
-ghost use Rattle.rs_disk.specs.declared.disk.TheConstants.{PAGE_SIZE};
+ghost use Rattle.rs_page.specs.declared.page.TheConstants.{PAGE_SIZE};
 ghost use Rattle.rs_page.specs.Header.{IsHeader};
 ghost use Rattle.rs_page.specs.Number.{number_at};
 ghost use Rattle.rs_page.specs.declared.header.TheConstants.{HEADER_SIZE};
 ghost use Rattle.rs_catalog_pages.specs.Chain.{catalogue_header};
 ghost use Rattle.rs_catalog_pages.specs.Parts.{content, IsPart, HasNoPart, AppendsPart};
 
-use rs_disk::PAGE_SIZE;
-use rs_measure::Refusal;
-use rs_page::{HEADER_SIZE, Page, PageHeader, PageKind, PageNumber};
+use rs_page::{HEADER_SIZE, PAGE_SIZE, Page, PageHeader, PageKind, PageNumber};
+use rs_refusal::Refusal;
 
 /// What follows the header of a page.
 pub(crate) fn content(page: &Page) -> &[u8]

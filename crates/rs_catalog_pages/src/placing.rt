@@ -1,12 +1,12 @@
 //! The pages of the catalogue: as many as its bytes need.
 
 ghost use Rattle.std.specs.Prelude.{◌≡◌, ◌≢◌, ◌≤◌, ◌<◌, ◌+◌, ◌-◌, true, Err, OnOk, length, max, take};
-ghost use Rattle.rs_owners.specs.Changes.{WorksAfter};
+ghost use Rattle.rs_page_owners.specs.Changes.{WorksAfter};
 ghost use Rattle.rs_catalog_pages.specs.Storing.{MovesPages, AreNotOwn};
 
-use rs_measure::Refusal;
 use rs_page::{ContentKind, PageNumber};
 use rs_pages::Pages;
+use rs_refusal::Refusal;
 
 /// Brings pages into use until there are so many, and no more. It is refused as `allocate` is, with 92 only where there are
 /// fewer, and for want of memory.

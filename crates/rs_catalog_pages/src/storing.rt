@@ -3,7 +3,7 @@
 //! It keeps the pages that it has, and takes or gives back those that are missing or too many.
 
 ghost use Rattle.std.specs.Prelude.{◌≡◌, ◌≢◌, ◌≤◌, ◌<◌, ◌+◌, ◌-◌, ◌*◌, ◌^◌, true, Err, IfOk, OnOk, OnErr, length};
-ghost use Rattle.rs_owners.specs.Changes.{WorksAfter};
+ghost use Rattle.rs_page_owners.specs.Changes.{WorksAfter};
 ghost use Rattle.rs_pages.specs.PageMap.{HasNoFit};
 ghost use Rattle.rs_pages.specs.Store.{Rests};
 ghost use Rattle.rs_catalog_pages.specs.Fitting.{FitsCatalogue, IsShort};
@@ -16,9 +16,9 @@ use crate::items::StoredCatalogue;
 use crate::part::put_part;
 use crate::placing::{grow, shrink};
 use rs_bytes::Item;
-use rs_measure::Refusal;
 use rs_page::PageNumber;
 use rs_pages::Pages;
+use rs_refusal::Refusal;
 use std::alloc::Global;
 
 /// The bytes of the catalogue that a page holds at the most.

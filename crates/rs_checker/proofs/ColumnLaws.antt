@@ -10,11 +10,11 @@ use Rattle.std.specs.Prelude.{if◌then◌else◌}
 use Rattle.std.proofs.lemmas.List.{length-set}
 use Rattle.rs_value.specs.declared.column.ColumnType.{ColumnType}
 use Rattle.rs_checker.proofs.ConditionLaws.{type_at}
-use Rattle.rs_measure.specs.declared.refusal.Refusal.{Refusal}
+use Rattle.rs_refusal.specs.declared.refusal.Refusal.{Refusal}
 use Rattle.rs_value.specs.declared.column.ColumnType.TheVariants as types
 use Rattle.rs_facts.specs.Query.{Column, column_at, renamed_at}
 use Rattle.arrayvec.specs.ArrayString.{ArrayString}
-use Rattle.rs_measure.specs.declared.refusal.Refusal.TheVariants.{NoSuchColumn}
+use Rattle.rs_refusal.specs.declared.refusal.Refusal.TheVariants.{NoSuchColumn}
 use Rattle.rs_facts.specs.Fact.{Name}
 use Rattle.rs_facts.specs.Insert.{same_name}
 use Rattle.rs_catalog.proofs.MapLaws.{same_name-true}

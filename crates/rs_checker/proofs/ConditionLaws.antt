@@ -4,7 +4,7 @@ use Rattle.std.proofs.Common.{◌≡◌, ◌⊎◌, inl, inr, Bool, true, false,
 use Rattle.std.proofs.lemmas.List.{drop_more, drop_all, append-nil, map-append, nil_from_length, get_or_default, length-map}
 use Rattle.std.proofs.Math.ListN.{get_or-map}
 use mathlib.Core.Former.{Count}
-use Rattle.rs_measure.specs.declared.refusal.Refusal.{Refusal}
+use Rattle.rs_refusal.specs.declared.refusal.Refusal.{Refusal}
 use Rattle.rs_facts.specs.Condition as said
 use Rattle.rs_facts.specs.ConditionView.{condition_of, all_of, any_of}
 use Rattle.rs_facts.specs.declared.condition.Condition.{Condition, Both, Either, Both', Either', Row_of-Condition, end_of-Condition, more_of-Condition, items-the_row-Condition, items_hidden-the_row-Condition-0}

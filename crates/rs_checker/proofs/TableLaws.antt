@@ -3,7 +3,7 @@ use Rattle.std.proofs.Common.{◌≡◌, ℕ, ◌≤◌, List, length, Some, Non
 use Rattle.std.specs.Option.{option_map}
 use Rattle.std.specs.FinMap as names
 use Rattle.arrayvec.specs.ArrayString.{ArrayString}
-use Rattle.rs_measure.specs.declared.refusal.Refusal.TheVariants.{NoSuchName}
+use Rattle.rs_refusal.specs.declared.refusal.Refusal.TheVariants.{NoSuchName}
 use Rattle.rs_value.specs.declared.column.TheConstants.{COLUMNS}
 use Rattle.rs_facts.specs.Fact.{Name, Names}
 use Rattle.rs_facts.specs.Query.{Query, table_rows, table_kind, table_columns, kind_of, columns_of}

@@ -1,8 +1,8 @@
 -- What one operator asks of its checked operands, and what a checked query keeps.
 use Rattle.std.specs.Prelude.{◌≡◌, Bool, not, ◌||◌, List, length, map, Result, Ok}
 use Rattle.std.specs.List.{list_any}
-use Rattle.rs_measure.specs.declared.refusal.Refusal.{Refusal}
-use Rattle.rs_measure.specs.declared.refusal.Refusal.TheVariants.{ColumnsDiffer, ColumnTwice, KindsDiffer}
+use Rattle.rs_refusal.specs.declared.refusal.Refusal.{Refusal}
+use Rattle.rs_refusal.specs.declared.refusal.Refusal.TheVariants.{ColumnsDiffer, ColumnTwice, KindsDiffer}
 use Rattle.rs_value.specs.declared.column.Kind.{Kind}
 use Rattle.rs_facts.specs.Fact.{Name}
 use Rattle.rs_facts.specs.Insert.{same_name}

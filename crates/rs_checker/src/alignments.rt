@@ -12,7 +12,7 @@ ghost use Rattle.rs_checker.specs.Nodes.{transform_step, StandsAmong};
 use crate::checked::{Checked, CheckedQuery};
 use crate::operand::CheckedOperand;
 use rs_catalog::{Catalog, RouteEntry};
-use rs_measure::Refusal;
+use rs_refusal::Refusal;
 use rs_syntax::{Name, Piece};
 use std::alloc::{AllocError, Global};
 

@@ -27,7 +27,7 @@ use crate::size::fits_limits;
 use crate::views::opened_query;
 use crate::windows::window;
 use rs_catalog::{Catalog, RouteReferents};
-use rs_measure::Refusal;
+use rs_refusal::Refusal;
 use rs_syntax::{Name, Query};
 use std::alloc::Global;
 

@@ -10,7 +10,7 @@ ghost use Rattle.rs_checker.specs.Inner.{is_same_column, AllBelow};
 ghost use Rattle.rs_machine.specs.Checking.{column_place, column_places, same_class, same_columns, share_a_name};
 
 use crate::checked::Columns;
-use rs_measure::Refusal;
+use rs_refusal::Refusal;
 use rs_syntax::{ColumnDefinition, Name};
 use rs_value::{COLUMNS, ColumnType};
 use std::alloc::Global;

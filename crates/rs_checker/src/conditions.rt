@@ -13,7 +13,7 @@ ghost use Rattle.rs_checker.specs.Inner.{atoms_tree, all_joined, any_joined, con
 use crate::checked::Columns;
 use crate::columns::{place_of, same_class};
 use rs_facts::{Condition, Term};
-use rs_measure::Refusal;
+use rs_refusal::Refusal;
 use rs_syntax::{Atom, ColumnDefinition, Name, Operand};
 use rs_value::{COLUMNS, ColumnType, Comparison, Literal};
 use std::alloc::Global;

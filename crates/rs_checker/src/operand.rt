@@ -4,7 +4,7 @@ ghost use Rattle.std.specs.Prelude.{◌≡◌, IfOk, IfErr};
 ghost use Rattle.rs_checker.specs.Steps.{checked_of};
 
 use crate::checked::{Checked, CheckedQuery, Columns};
-use rs_measure::Refusal;
+use rs_refusal::Refusal;
 use rs_value::Kind;
 use std::alloc::Global;
 

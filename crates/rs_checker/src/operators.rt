@@ -16,7 +16,7 @@ use crate::columns;
 use crate::columns::{has_name, place_of, same_name, share_a_name};
 use crate::conditions::disjunction;
 use crate::operand::CheckedOperand;
-use rs_measure::Refusal;
+use rs_refusal::Refusal;
 use rs_syntax::{Atom, Name};
 use rs_value::{COLUMNS, Kind};
 use std::alloc::Global;

@@ -8,7 +8,7 @@ ghost use Rattle.rs_machine.specs.Checking.{holds_numbers, group_checked, summed
 
 use crate::checked::Columns;
 use crate::columns::{place_of, places_of, some_name_twice};
-use rs_measure::Refusal;
+use rs_refusal::Refusal;
 use rs_syntax::Name;
 use rs_value::{COLUMNS, ColumnType};
 use std::alloc::Global;

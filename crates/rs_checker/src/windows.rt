@@ -10,7 +10,7 @@ ghost use Rattle.rs_checker.specs.Nodes.{located_window, window_step};
 use crate::checked::{Checked, CheckedQuery, LocatedWindow};
 use crate::operand::CheckedOperand;
 use rs_catalog::{Catalog, RouteReferents};
-use rs_measure::Refusal;
+use rs_refusal::Refusal;
 use rs_syntax::Window;
 
 /// WINDOW: the rows inside. A route that is missing is refused 20; of a part, the first position is located and then

@@ -14,18 +14,18 @@ use Rattle.rs_catalog_pages.proofs.Directories.{blank_content, directory_kept, d
 use Rattle.rs_catalog_pages.proofs.Parts.{length-content}
 use Rattle.rs_contents.specs.Contents.{HoldsAll, no_tree}
 use Rattle.rs_contents.specs.Creating.{no_contents, no_definitions, no_trees}
-use Rattle.rs_measure.specs.declared.refusal.Refusal.{Refusal}
-use Rattle.rs_measure.specs.declared.refusal.Refusal.TheVariants as refusal
-use Rattle.rs_owners.specs.Changes.{EndsFull}
-use Rattle.rs_owners.specs.Counts.{◌&◌, no_pages, one_at, times}
-use Rattle.rs_owners.specs.Owners.{Shares}
-use Rattle.rs_owners.proofs.Moving.{one_at-other, one_at-same, shares_same}
+use Rattle.rs_refusal.specs.declared.refusal.Refusal.{Refusal}
+use Rattle.rs_refusal.specs.declared.refusal.Refusal.TheVariants as refusal
+use Rattle.rs_page_owners.specs.Changes.{EndsFull}
+use Rattle.rs_page_owners.specs.Counts.{◌&◌, no_pages, one_at, times}
+use Rattle.rs_page_owners.specs.Owners.{Shares}
+use Rattle.rs_page_owners.proofs.Moving.{one_at-other, one_at-same, shares_same}
 use Rattle.rs_page.specs.declared.file_header.FileHeader.{FileHeader}
 use Rattle.rs_pages.specs.PageMap.{IsEmptyFile, PageMap}
 use Rattle.rs_pages.specs.Store.{Store}
 use Rattle.rs_versioned.specs.Records.{HoldsRecords}
 use Rattle.rs_versioned.specs.Referents.{kept_referents}
-use Rattle.rs_versions.specs.Versioned.{nothing_stands}
+use Rattle.rs_cell_versions.specs.Versioned.{nothing_stands}
 
 zeros_tree : SaysTree (replicate 20 0) no_tree
 zeros_tree = (replicate 4 0, replicate 16 0, refl, (omega arith, refl), (replicate 8 0, replicate 8 0, refl, (omega arith, refl), (omega arith, refl)))

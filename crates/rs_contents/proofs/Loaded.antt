@@ -15,18 +15,18 @@ use Rattle.rs_contents.specs.FreePages.{HasNoFreshFreeList}
 use Rattle.rs_contents.specs.Opening.{AreSound, HoldsNothing, IsOpened, LoadsNothingSaid, LoadsSaid, OpensNoParts, OpensNoTables, OpensParts, OpensTables, told_of}
 use Rattle.rs_contents.specs.declared.opened.OpenedTable.{OpenedTable}
 use Rattle.rs_contents.proofs.One.{records_pages, tables_one}
-use Rattle.rs_owners.specs.Counts.{◌&◌, one_at, times}
-use Rattle.rs_owners.specs.Owners.{Shares}
-use Rattle.rs_owners.proofs.Moving.{one_at-other, one_at-same}
+use Rattle.rs_page_owners.specs.Counts.{◌&◌, one_at, times}
+use Rattle.rs_page_owners.specs.Owners.{Shares}
+use Rattle.rs_page_owners.proofs.Moving.{one_at-other, one_at-same}
 use Rattle.rs_pages.specs.PageMap.{PageMap, SamePages}
 use Rattle.rs_pages.proofs.FreeLists.{free_list_is_one}
-use Rattle.rs_reached.specs.Marks.{taken, unmarked}
-use Rattle.rs_reached.proofs.Marking.{each_once, none_left, taken_at, taken_past}
+use Rattle.rs_page_marks.specs.Marks.{taken, unmarked}
+use Rattle.rs_page_marks.proofs.Marking.{each_once, none_left, taken_at, taken_past}
 use Rattle.rs_versioned.specs.Opening.{OpensNone, OpensRecords, StandsAs}
 use Rattle.rs_versioned.specs.Records.{HoldsRecords}
 use Rattle.rs_versioned.specs.Referents.{kept_referents}
 use Rattle.rs_versioned.specs.Tables.{ReferentTableState}
-use Rattle.rs_versions.specs.Versioned.{Standing}
+use Rattle.rs_cell_versions.specs.Versioned.{Standing}
 
 -- the same fields and the same pages are one map
 pub same_map : (one other : PageMap) → SamePages one other → one ≡ other

@@ -12,7 +12,7 @@ use Rattle.rs_catalog_pages.specs.declared.items.StoredIndex.{StoredIndex}
 use Rattle.rs_catalog_pages.specs.declared.items.StoredTable.{StoredTable}
 use Rattle.rs_contents.specs.Contents.{AreNumbered, index_numbers, no_tree, table_numbers}
 use Rattle.rs_contents.proofs.Numbering.{AreOnce, each_said, said_each}
-use Rattle.rs_owners.specs.Counts.{times}
+use Rattle.rs_page_owners.specs.Counts.{times}
 
 -- of stored tables, indexes, trees and roots
 abbrev of_tables : List StoredTable → List ℕ

@@ -8,8 +8,8 @@ use Rattle.std.proofs.lemmas.Map.Steps.{le-length_from_below}
 use Rattle.std.proofs.lemmas.List.Elements.{All-from_recursion, recursion_from_All}
 use Rattle.std.proofs.lemmas.List.Sums.{sum_by-cons}
 use Rattle.std.proofs.lemmas.Option.{slice_get-map, slice_get_read}
-use Rattle.rs_owners.specs.Counts.{times}
-use Rattle.rs_owners.proofs.Moving.{one_at-same, same_number}
+use Rattle.rs_page_owners.specs.Counts.{times}
+use Rattle.rs_page_owners.proofs.Moving.{one_at-same, same_number}
 use Rattle.rs_catalog_pages.proofs.Counting.{none_or_some, one_at-off, times-cons, times-none}
 
 -- how often a number is given is how many items have it

@@ -9,9 +9,9 @@ use Rattle.rs_catalog_pages.specs.Directory.{DirectoryItems, HasDirectory, Store
 use Rattle.rs_catalog_pages.specs.Items.{CatalogueItems, SaysCatalogue}
 use Rattle.rs_catalog_pages.proofs.Chains.{catalogue_kept}
 use Rattle.rs_contents.specs.Contents.{AreSaid, Contents, HoldsAll, HoldsDefinitions, HoldsParts, LiesTable, ReferentContents, TableContents, beside_definitions, beside_referents, beside_table, owned, table_pages}
-use Rattle.rs_owners.specs.Counts.{◌&◌, one_at, times}
-use Rattle.rs_owners.specs.Owners.{Keeps, KeepsPages, Moves, Shares}
-use Rattle.rs_owners.proofs.Moving.{one_at-same, pages_kept, replaces-moves, shares_same}
+use Rattle.rs_page_owners.specs.Counts.{◌&◌, one_at, times}
+use Rattle.rs_page_owners.specs.Owners.{Keeps, KeepsPages, Moves, Shares}
+use Rattle.rs_page_owners.proofs.Moving.{one_at-same, pages_kept, replaces-moves, shares_same}
 use Rattle.rs_page.specs.PageBytes.{empty_header, is_free}
 use Rattle.rs_page.specs.declared.header.PageKind.TheVariants.{Directory}
 use Rattle.rs_page.proofs.Headers.{free_by_its_header}

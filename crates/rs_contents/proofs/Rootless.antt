@@ -6,7 +6,7 @@ use Rattle.rs_attr.specs.Tables.{HoldIndexes, IndexState, all_of}
 use Rattle.rs_attr.proofs.Placing.{all_of-cons}
 use Rattle.rs_contents.specs.Contents.{Contents, HasNoRoots, HoldsParts, LiesTable, TableContents, table_pages}
 use Rattle.rs_contents.proofs.Parts.{table_goes}
-use Rattle.rs_owners.specs.Counts.{no_pages}
+use Rattle.rs_page_owners.specs.Counts.{no_pages}
 use Rattle.rs_pages.specs.PageMap.{PageMap}
 use Rattle.rs_tree.specs.Form.{Form}
 use Rattle.rs_tree.specs.Tree.{IsTree}

@@ -2,8 +2,8 @@
 use Rattle.std.proofs.Common.{◌≡◌, ◌≤◌, ◌<◌, ◌+◌, ℕ, List, [], ◌∷◌, ◌++◌, length, refl, sym, ap, subst, ◌∙◌, arith, append_assoc, append-nil, length-append}
 use Rattle.rs_catalog_pages.proofs.Counting.{times-append, times-cons, times-none}
 use Rattle.rs_contents.specs.FreePages.{HasNoFreshFreeList, ReachesFree}
-use Rattle.rs_owners.specs.Counts.{◌&◌, times}
-use Rattle.rs_owners.proofs.Moving.{one_at-same}
+use Rattle.rs_page_owners.specs.Counts.{◌&◌, times}
+use Rattle.rs_page_owners.proofs.Moving.{one_at-same}
 use Rattle.rs_page.specs.PageBytes.{IsFreeLink}
 use Rattle.rs_pages.specs.FreeList.{FreeFrom, IsFreeList, IsFreePage}
 use Rattle.rs_pages.specs.PageMap.{PageMap, SamePages}

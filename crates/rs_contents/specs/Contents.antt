@@ -7,8 +7,8 @@ use Rattle.rs_catalog_pages.specs.Chain.{HoldsBytes}
 use Rattle.rs_catalog_pages.specs.Directory.{DirectoryItems, HasDirectory, TreeItem}
 use Rattle.rs_catalog_pages.specs.declared.directory_items.TheConstants.{INDEXES, TABLES}
 use Rattle.rs_catalog_pages.specs.Items.{CatalogueItems, ColumnItem, IndexItem, SaysCatalogue, TableItem}
-use Rattle.rs_owners.specs.Counts.{◌&◌, one_at, times}
-use Rattle.rs_owners.specs.Owners.{Shares}
+use Rattle.rs_page_owners.specs.Counts.{◌&◌, one_at, times}
+use Rattle.rs_page_owners.specs.Owners.{Shares}
 use Rattle.rs_pages.specs.PageMap.{PageMap}
 use Rattle.rs_value.specs.declared.column.ColumnType.{ColumnType}
 use Rattle.rs_value.specs.declared.column.TheConstants.{COLUMNS}
@@ -16,7 +16,7 @@ use Rattle.rs_value.specs.declared.column.ColumnType.TheVariants as types
 use Rattle.rs_versioned.specs.Events.{Event, event_width}
 use Rattle.rs_versioned.specs.Records.{HoldsRecords}
 use Rattle.rs_versioned.specs.Referents.{ReferentRecord, kept_referents}
-use Rattle.rs_versions.specs.Versioned.{Standing}
+use Rattle.rs_cell_versions.specs.Versioned.{Standing}
 
 -- a table: the types of its columns, how its records stand, its indexes, its events, and the pages of its records and of each index
 pub record TableContents : Type 0 where

@@ -3,8 +3,8 @@ use Rattle.std.specs.Prelude.{ℕ, List, [], replicate}
 use Rattle.rs_catalog_pages.specs.Directory.{DirectoryItems}
 use Rattle.rs_catalog_pages.specs.Items.{CatalogueItems}
 use Rattle.rs_contents.specs.Contents.{Contents, no_tree}
-use Rattle.rs_owners.specs.Counts.{no_pages}
-use Rattle.rs_versions.specs.Versioned.{nothing_stands}
+use Rattle.rs_page_owners.specs.Counts.{no_pages}
+use Rattle.rs_cell_versions.specs.Versioned.{nothing_stands}
 
 abbrev pub no_definitions : CatalogueItems
 no_definitions = record { routes = []; tables = []; indexes = []; views = []; alignments = [] }

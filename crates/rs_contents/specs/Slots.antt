@@ -11,7 +11,7 @@ use Rattle.rs_catalog_pages.specs.declared.directory_items.StoredRoot.{StoredRoo
 use Rattle.rs_catalog_pages.specs.declared.directory_items.TheConstants.{INDEXES, TABLES}
 use Rattle.rs_contents.specs.Contents.{item_of, no_tree, type_of}
 use Rattle.rs_contents.specs.declared.opened.OpenedTable.{OpenedTable}
-use Rattle.rs_owners.specs.Counts.{times}
+use Rattle.rs_page_owners.specs.Counts.{times}
 use Rattle.rs_value.specs.declared.column.ColumnType.{ColumnType}
 use Rattle.rs_value.specs.declared.column.TheConstants.{COLUMNS}
 use Rattle.rs_versioned.specs.Events.{event_width}

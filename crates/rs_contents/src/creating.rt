@@ -7,9 +7,9 @@ ghost use Rattle.rs_contents.specs.Creating.{no_contents};
 ghost use Rattle.rs_pages.specs.PageMap.{IsEmptyFile};
 
 use rs_catalog_pages::{StoredCatalogue, store};
-use rs_measure::Refusal;
 use rs_page::PageNumber;
 use rs_pages::Pages;
+use rs_refusal::Refusal;
 use std::alloc::Global;
 
 /// Stores that there are no definitions, in a file of page 0 and an empty directory, and answers which page says so; the file has

@@ -5,13 +5,13 @@ ghost use Rattle.std.specs.List.{AllByRecursion, AllZip};
 ghost use Rattle.rs_attr.specs.Tables.{IndexState};
 ghost use Rattle.rs_catalog_pages.specs.Said.{said_column, said_directory, said_index, said_table};
 ghost use Rattle.rs_contents.specs.Contents.{IsIndex, type_of};
-ghost use Rattle.rs_measure.specs.declared.refusal.Refusal.TheVariants as refusals;
+ghost use Rattle.rs_refusal.specs.declared.refusal.Refusal.TheVariants as refusals;
 ghost use Rattle.rs_value.specs.declared.column.TheConstants.{COLUMNS};
 ghost use Rattle.rs_versioned.specs.Events.{event_width};
 
 use rs_attr::AttrIndex;
 use rs_catalog_pages::{StoredColumn, StoredDirectory, StoredIndex, StoredTable};
-use rs_measure::Refusal;
+use rs_refusal::Refusal;
 use rs_value::{ColumnType, Schema, column_width, row_width};
 use rs_versioned::event::EVENT_BYTES;
 use std::alloc::Global;

@@ -7,7 +7,7 @@ ghost use Rattle.rs_catalog_pages.specs.Said.{said_catalogue, said_directory, sa
 ghost use Rattle.rs_contents.specs.Contents.{AreGivenOnce, AreSaid, Contents, item_of, no_tree};
 ghost use Rattle.rs_contents.specs.Opening.{IsOpened};
 ghost use Rattle.rs_contents.specs.Slots.{ArePut, AreRoots, AreTrees, HasAsMany, IsOfItem, indexes_on, said_roots};
-ghost use Rattle.rs_owners.specs.Counts.{times};
+ghost use Rattle.rs_page_owners.specs.Counts.{times};
 
 use crate::opened::OpenedTable;
 use rs_attr::AttrIndex;

@@ -5,11 +5,11 @@
 ghost use Rattle.std.specs.Prelude.{◌≡◌, ◌⊎◌, IfErr, OnOk, Err, length};
 ghost use Rattle.rs_pages.specs.Lending.{RestsAfter};
 ghost use Rattle.rs_contents.specs.FreePages.{HasNoFreshFreeList, ReachesFree};
-ghost use Rattle.rs_reached.specs.Marks.{taken};
+ghost use Rattle.rs_page_marks.specs.Marks.{taken};
 
-use rs_measure::Refusal;
+use rs_page_marks::Reached;
 use rs_pages::Pages;
-use rs_reached::Reached;
+use rs_refusal::Refusal;
 
 /// Marks the free pages. Ok only where as many as page 0 says follow one another and none of them was reached before; 94 only
 /// where none do; 91 where a page couldn't be read. No page changes. Which pages are marked after a refusal is unspecified.

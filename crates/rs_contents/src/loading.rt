@@ -5,18 +5,18 @@ ghost use Rattle.std.specs.List.{AllByRecursion};
 ghost use Rattle.std.specs.List.Sorted.{IsNonDecreasing};
 ghost use Rattle.rs_catalog_pages.specs.Said.{said_catalogue, said_directory};
 ghost use Rattle.rs_contents.specs.Opening.{AreSound, HoldsNothing, IsFile, LoadsContents, LoadsNothingSaid, LoadsSaid};
-ghost use Rattle.rs_owners.specs.Counts.{◌&◌, one_at};
+ghost use Rattle.rs_page_owners.specs.Counts.{◌&◌, one_at};
 ghost use Rattle.rs_pages.specs.Lending.{RestsAfter};
-ghost use Rattle.rs_reached.specs.Marks.{taken};
+ghost use Rattle.rs_page_marks.specs.Marks.{taken};
 
 use crate::numbers::check_numbers;
 use crate::opened::OpenedFile;
 use crate::opening::open_parts;
 use rs_catalog_pages::{StoredCatalogue, StoredDirectory, StoredRoute, load_directory};
-use rs_measure::Refusal;
 use rs_page::PageNumber;
+use rs_page_marks::Reached;
 use rs_pages::Pages;
-use rs_reached::Reached;
+use rs_refusal::Refusal;
 use std::alloc::{AllocError, Global};
 
 /// The versions of a file are below this.

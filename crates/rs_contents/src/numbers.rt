@@ -4,13 +4,13 @@ ghost use Rattle.std.specs.Prelude.{◌≡◌, ◌<◌, ◌≤◌, ◌↔◌, �
 ghost use Rattle.std.specs.List.{AllByRecursion};
 ghost use Rattle.rs_catalog_pages.specs.Said.{said_catalogue, said_directory, said_tree};
 ghost use Rattle.rs_contents.specs.Contents.{AreNumbered, no_tree};
-ghost use Rattle.rs_owners.specs.Counts.{times};
+ghost use Rattle.rs_page_owners.specs.Counts.{times};
 
 use rs_catalog_pages::{
     INDEXES, StoredCatalogue, StoredDirectory, StoredIndex, StoredRoot, StoredTable, StoredTree,
     TABLES,
 };
-use rs_measure::Refusal;
+use rs_refusal::Refusal;
 
 /// Ok exactly where each number of a table or an index is below its limit and given once, each index is of a table, and the
 /// directory has nothing under a number that is not given; 94 where not.

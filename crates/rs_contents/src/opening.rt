@@ -5,16 +5,16 @@ ghost use Rattle.std.specs.List.{AllByRecursion, AllZip};
 ghost use Rattle.rs_catalog_pages.specs.Said.{said_catalogue, said_directory, said_table, said_tree};
 ghost use Rattle.rs_contents.specs.Opening.{IsTableOf, OpensNoParts, OpensNoTables, OpensNotOne, OpensOne, OpensParts, OpensTables, told_of};
 ghost use Rattle.rs_pages.specs.Lending.{RestsAfter};
-ghost use Rattle.rs_reached.specs.Marks.{taken, unmarked};
-ghost use Rattle.rs_versions.specs.Version.{died_of};
+ghost use Rattle.rs_page_marks.specs.Marks.{taken, unmarked};
+ghost use Rattle.rs_cell_versions.specs.Version.{died_of};
 
 use crate::definitions::{indexes_of, schema_of};
 use crate::free_pages::reach_free;
 use crate::opened::OpenedTable;
 use rs_catalog_pages::{StoredCatalogue, StoredDirectory, StoredTable, StoredTree};
-use rs_measure::Refusal;
+use rs_page_marks::Reached;
 use rs_pages::Pages;
-use rs_reached::Reached;
+use rs_refusal::Refusal;
 use rs_versioned::{ReferentTable, ToldRecords};
 use std::alloc::Global;
 

@@ -1,17 +1,6 @@
 -- How a disk counts its failed calls, and when it is synced.
-use Rattle.std.specs.Prelude.{◌≡◌, ◌⊎◌, ℕ, Bool, true, ◌+◌, ◌-◌, ◌^◌, ◌<◌, ◌≤◌, ◌==◌, if◌then◌else◌, Result, MatchResult}
-
--- the last value of a count of 64 bits, at which it stays
-abbrev pub last_count : ℕ
-last_count = 2 ^ 64 - 1
-
--- the count after one more
-unfoldable pub counted_on : ℕ → ℕ
-counted_on count = if count == last_count then count else count + 1
-
--- the count is greater, or stands at its last value
-abbrev pub Rose : ℕ → ℕ → Type 0
-Rose old new = (old < new) ⊎ (last_count ≤ new)
+use Rattle.std.specs.Prelude.{◌≡◌, ℕ, Bool, true, Result, MatchResult}
+use Rattle.rs_refusal.specs.Counts.{counted_on}
 
 -- a failed call counts once, and one that succeeded doesn't
 abbrev pub Counts : {T E : Type 0} → Result T E → ℕ → ℕ → Type 0

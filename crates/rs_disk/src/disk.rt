@@ -7,10 +7,8 @@ ghost use Rattle.std.specs.Prelude.{◌≡◌, ℕ, Bool, true, false, ◌*◌, 
 ghost use Rattle.rs_disk.specs.Content.{Content, Gives, Holds, KeepsOthers, CutsTo};
 ghost use Rattle.rs_disk.specs.Counts.{Counts, Syncs};
 
+use rs_page::PAGE_SIZE;
 use thiserror::Error;
-
-/// The bytes of a page.
-pub const PAGE_SIZE: usize = 4096;
 
 /// A call of the disk failed. The disk has counted it.
 #[derive(Clone, Copy, Debug, PartialEq, Eq, Error)]

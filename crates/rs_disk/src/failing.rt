@@ -8,7 +8,8 @@ ghost use Rattle.rs_disk.specs.Content.{Gives, Holds, KeepsOthers, CutsTo};
 ghost use Rattle.rs_disk.specs.Counts.{Counts, Syncs};
 
 use crate::calls::CallLog;
-use crate::disk::{Disk, DiskFault, PAGE_SIZE};
+use crate::disk::{Disk, DiskFault};
+use rs_page::PAGE_SIZE;
 use std::marker::Model;
 
 /// Whether a cut that fails is done.

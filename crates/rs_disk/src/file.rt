@@ -8,7 +8,8 @@ ghost use Rattle.std.proofs.lemmas.Bool.{false≢true};
 ghost use Rattle.rs_disk.specs.Calls.{no_calls};
 
 use crate::calls::CallLog;
-use crate::disk::{Disk, DiskFault, PAGE_SIZE};
+use crate::disk::{Disk, DiskFault};
+use rs_page::PAGE_SIZE;
 use std::fs::{File, OpenFile, OpenOptions, TryLockError};
 use std::io;
 use std::marker::Model;

@@ -8,10 +8,9 @@ mod calls;
 pub mod disk;
 pub mod failing;
 pub mod file;
-pub mod limits;
 pub mod memory;
 
-pub use disk::{Disk, DiskFault, PAGE_SIZE};
+pub use disk::{Disk, DiskFault};
 pub use failing::{FailedCut, FailingDisk};
 pub use file::{FileDisk, OpenError};
 pub use memory::MemoryDisk;

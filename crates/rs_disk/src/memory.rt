@@ -9,7 +9,8 @@ ghost use Rattle.rs_disk.specs.Counts.{Counts};
 ghost use Rattle.std.proofs.lemmas.List.{get_or_past};
 
 use crate::calls::CallLog;
-use crate::disk::{Disk, DiskFault, PAGE_SIZE};
+use crate::disk::{Disk, DiskFault};
+use rs_page::PAGE_SIZE;
 use std::alloc::{AllocError, Global};
 use std::marker::Model;
 

@@ -4,8 +4,8 @@ use Rattle.std.specs.Prelude.{is_some, nat_le, OnOk, IfErr}
 use Rattle.std.specs.Option.{option_map, option_copied}
 use Rattle.std.specs.FinMap as names
 use Rattle.std.proofs.lemmas.Bool.Decides.{nat_tests}
-use Rattle.rs_measure.specs.declared.refusal.Refusal.{Refusal}
-use Rattle.rs_measure.specs.declared.refusal.Refusal.TheVariants.{NoSuchRoute, NoSuchName, NameTaken, ColumnTwice, EmptySpan, InUse, Limit}
+use Rattle.rs_refusal.specs.declared.refusal.Refusal.{Refusal}
+use Rattle.rs_refusal.specs.declared.refusal.Refusal.TheVariants.{NoSuchRoute, NoSuchName, NameTaken, ColumnTwice, EmptySpan, InUse, Limit}
 use Rattle.rs_value.specs.declared.column.Kind.{Kind}
 use Rattle.rs_value.specs.declared.column.TheConstants.{COLUMNS}
 use Rattle.rs_facts.specs.Fact.{Name}

@@ -2,8 +2,8 @@
 use Rattle.std.proofs.Common.{◌≡◌, ℕ, ◌+◌, ◌-◌, ◌*◌, ◌/◌, ◌<◌, ◌≤◌, Bool, true, false, ◌&&◌, nat_lt, List, Option, Some, None, Result, Ok, Err, refl, subst, arith}
 use Rattle.std.specs.Prelude.{nat_le, if◌then◌else◌}
 use Rattle.std.proofs.lemmas.Bool.Decides.{nat_tests}
-use Rattle.rs_measure.specs.declared.refusal.Refusal.{Refusal}
-use Rattle.rs_measure.specs.declared.refusal.Refusal.TheVariants.{OutsideTheRoute, EmptySpan}
+use Rattle.rs_refusal.specs.declared.refusal.Refusal.{Refusal}
+use Rattle.rs_refusal.specs.declared.refusal.Refusal.TheVariants.{OutsideTheRoute, EmptySpan}
 use Rattle.rs_methods.specs.Position.{PositionExpression, absolute, beyond, before, interpolative, on_route, located_beyond, located_before, located, referent_measure}
 use Rattle.rs_facts.specs.Fact.{Name}
 use Rattle.rs_machine.specs.Checks.{◌>>=◌, unless}

@@ -4,8 +4,8 @@ use Rattle.std.proofs.Math.Path.{fun_ext}
 use Rattle.std.specs.List.{AllByRecursion}
 use Rattle.std.specs.FinMap as names
 use Rattle.arrayvec.specs.ArrayString.{ArrayString}
-use Rattle.rs_measure.specs.declared.refusal.Refusal.{Refusal}
-use Rattle.rs_measure.specs.declared.refusal.Refusal.TheVariants.{NoSuchRoute}
+use Rattle.rs_refusal.specs.declared.refusal.Refusal.{Refusal}
+use Rattle.rs_refusal.specs.declared.refusal.Refusal.TheVariants.{NoSuchRoute}
 use Rattle.rs_methods.specs.declared.position.Method.{Method}
 use Rattle.rs_methods.specs.Position.{PositionExpression, expression_at, expression_text}
 use Rattle.rs_value.specs.declared.column.Kind.{Kind}

@@ -1,8 +1,8 @@
 -- Where positions, events and windows lie on a route, by the route's ends and its referents.
 use Rattle.std.specs.Prelude.{ℕ, ◌+◌, nat_lt, Result, Ok}
 use Rattle.std.specs.FinMap as names
-use Rattle.rs_measure.specs.declared.refusal.Refusal.{Refusal}
-use Rattle.rs_measure.specs.declared.refusal.Refusal.TheVariants.{EmptySpan}
+use Rattle.rs_refusal.specs.declared.refusal.Refusal.{Refusal}
+use Rattle.rs_refusal.specs.declared.refusal.Refusal.TheVariants.{EmptySpan}
 use Rattle.rs_methods.specs.Position.{PositionExpression, located}
 use Rattle.rs_facts.specs.Fact.{Names}
 use Rattle.rs_facts.specs.Query.{RouteEnds}

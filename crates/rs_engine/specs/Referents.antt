@@ -1,8 +1,8 @@
 -- What the engine looks at and changes of a route's referents.
 use Rattle.std.specs.Prelude.{ℕ, not, Result, Ok}
 use Rattle.std.specs.FinMap as names
-use Rattle.rs_measure.specs.declared.refusal.Refusal.{Refusal}
-use Rattle.rs_measure.specs.declared.refusal.Refusal.TheVariants.{InUse, NoSuchReferent}
+use Rattle.rs_refusal.specs.declared.refusal.Refusal.{Refusal}
+use Rattle.rs_refusal.specs.declared.refusal.Refusal.TheVariants.{InUse, NoSuchReferent}
 use Rattle.rs_methods.specs.Position.{start_name}
 use Rattle.rs_facts.specs.Fact.{Name}
 use Rattle.rs_facts.specs.Insert.{same_name}

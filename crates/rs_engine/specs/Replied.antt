@@ -1,7 +1,7 @@
 -- What is replied to what a command's function answers.
 use Rattle.std.specs.Prelude.{ℕ, [], length, Result, Ok, Err, String, Vec}
 use Rattle.std.specs.declared.alloc.Global.{Global}
-use Rattle.rs_measure.specs.declared.refusal.Refusal.{Refusal}
+use Rattle.rs_refusal.specs.declared.refusal.Refusal.{Refusal}
 use Rattle.rs_machine.specs.Served as machine
 use Rattle.rs_serve.specs.ReplyView.{rows_of}
 

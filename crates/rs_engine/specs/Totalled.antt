@@ -1,6 +1,6 @@
 -- What the machine answers to totals of a checked query.
 use Rattle.std.specs.Prelude.{◌+◌, List, map, length, Option, Result, Ok}
-use Rattle.rs_measure.specs.declared.refusal.Refusal.{Refusal}
+use Rattle.rs_refusal.specs.declared.refusal.Refusal.{Refusal}
 use Rattle.rs_facts.specs.Fact.{Name}
 use Rattle.rs_facts.specs.Query.{RouteEnds, Query, rows_at, kind_of}
 use Rattle.rs_facts.specs.Totals.{Along, totalled}

@@ -21,7 +21,7 @@ mod view_commands;
 use rs_catalog::{Catalog, RouteReferents};
 use rs_event_lists::EventLists;
 use rs_machine::limits::CHANGES;
-use rs_measure::Refusal;
+use rs_refusal::Refusal;
 use rs_serve::{Finish, Reply, Serve, Session};
 use rs_syntax::Command;
 use std::alloc::Global;

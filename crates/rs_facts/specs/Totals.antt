@@ -2,8 +2,8 @@
 use Rattle.std.specs.Prelude.{ℕ, pos, negsuc, suc, ◌+◌, Bool, false, nat_lt, List, map, filter, flat_map, sum_by, Option, Some, None, Result, Ok, Err, if◌then◌else◌}
 use Rattle.std.specs.List.{list_any}
 use Rattle.std.specs.Ordering.{eq_by_cmp}
-use Rattle.rs_measure.specs.declared.refusal.Refusal.{Refusal}
-use Rattle.rs_measure.specs.declared.refusal.Refusal.TheVariants.{TotalTooLarge}
+use Rattle.rs_refusal.specs.declared.refusal.Refusal.{Refusal}
+use Rattle.rs_refusal.specs.declared.refusal.Refusal.TheVariants.{TotalTooLarge}
 use Rattle.rs_value.specs.Row.{Datum, null, number, text, Row, row_cmp}
 use Rattle.rs_facts.specs.declared.totals.TheConstants.{GREATEST_TOTAL}
 use Rattle.rs_facts.specs.Fact.{RowSet, items, Places, thousandths}

@@ -1,7 +1,7 @@
 -- What died up to a version died up to a later one.
 use Rattle.std.proofs.Common.{◌≤◌, ◌∷◌, [], ℕ, List, arith}
 use Rattle.std.specs.List.{AllByRecursion}
-use Rattle.rs_versions.specs.Version.{died_of}
+use Rattle.rs_cell_versions.specs.Version.{died_of}
 
 pub died_later : (a b : ℕ) (cells : List (List ℕ)) → a ≤ b → AllByRecursion (λ dead. died_of dead ≤ a) cells → AllByRecursion (λ dead. died_of dead ≤ b) cells
 died_later a b [] order all = tt

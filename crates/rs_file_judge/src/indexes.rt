@@ -8,8 +8,8 @@ ghost use Rattle.rs_value.specs.View.{datum_of, row_of};
 
 use crate::versioned_file::{TestDisk, columns};
 use rs_attr::AttrIndex;
-use rs_measure::Refusal;
 use rs_pager::Pager;
+use rs_refusal::Refusal;
 use rs_value::{Schema, Tuple, Value};
 
 /// Keeps what was changed of each index, or takes it back.

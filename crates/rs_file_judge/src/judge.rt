@@ -8,8 +8,8 @@ use crate::script::{Answer, Call, Step, record, steps};
 use crate::search::{Search, are_cells_of};
 use crate::versioned_file::{TestDisk, VersionedFile};
 use rs_disk::{Disk, FailedCut, FailingDisk, MemoryDisk};
-use rs_measure::Refusal;
 use rs_records::Cells;
+use rs_refusal::Refusal;
 use std::alloc::{AllocError, Global};
 
 /// How many records are cleared at once.

@@ -2,17 +2,17 @@
 
 ghost use Rattle.std.specs.Prelude.{◌≡◌, ◌<◌, ◌≤◌, ◌*◌, ◌+◌, IfOk};
 ghost use Rattle.std.specs.List.{AllByRecursion};
-ghost use Rattle.rs_versions.specs.Version.{died_of};
+ghost use Rattle.rs_cell_versions.specs.Version.{died_of};
 
 use crate::versioned_file::TestDisk;
-use rs_measure::Refusal;
+use rs_cell_versions::{Opening, Versions};
 use rs_page::PageNumber;
+use rs_page_marks::Reached;
 use rs_pager::Pager;
 use rs_pages::Pages;
-use rs_reached::Reached;
 use rs_records::is_below;
+use rs_refusal::Refusal;
 use rs_tree::Summary;
-use rs_versions::{Opening, Versions};
 use std::alloc::Global;
 
 /// What is told of a table: how many records live, how many are dead, and the version that was kept last.

@@ -6,7 +6,7 @@ ghost use Rattle.rs_catalog_pages.specs.Said.{said_catalogue, said_directory};
 
 use rs_bytes::read_whole;
 use rs_catalog_pages::{StoredCatalogue, StoredDirectory};
-use rs_measure::Refusal;
+use rs_refusal::Refusal;
 use std::alloc::{AllocError, Global};
 
 /// Which definitions.

@@ -9,7 +9,7 @@ ghost use Rattle.rs_attr.specs.Tables.{AreOn};
 ghost use Rattle.rs_value.specs.declared.column.ColumnType.TheVariants.{Int, Text};
 ghost use Rattle.rs_value.specs.Values.{IsRowOf, IsValue};
 ghost use Rattle.rs_value.specs.View.{datum_of, row_of};
-ghost use Rattle.rs_versions.specs.Version.{died_of};
+ghost use Rattle.rs_cell_versions.specs.Version.{died_of};
 
 use crate::indexes::{clear_each, end_each, reopen_each, value_of};
 use crate::plain_records::{Kind, LIVES, PlainRecord, name_text, row_of};
@@ -17,20 +17,21 @@ use crate::reopening::{Told, opened};
 use crate::search::Search;
 use arrayvec::ArrayString;
 use rs_attr::{AttrIndex, define};
+use rs_cell_versions::is_living;
 use rs_disk::{FailedCut, FailingDisk, MemoryDisk};
 use rs_facts::fact::Span;
 use rs_interval::GreatestEnd;
-use rs_measure::{Measure, Refusal};
+use rs_measure::Measure;
 use rs_methods::Referent;
 use rs_page::PageNumber;
+use rs_page_marks::Reached;
 use rs_pager::Pager;
 use rs_pages::Pages;
-use rs_reached::Reached;
 use rs_records::Cells;
+use rs_refusal::Refusal;
 use rs_tree::NoSummary;
 use rs_value::{ColumnType, Schema, Tuple, Value, decode, said_row_is_of_its_columns};
 use rs_versioned::{EventTable, ReferentTable};
-use rs_versions::is_living;
 use std::alloc::Global;
 
 /// The bytes of an event's cell whose row is a number and a text of at most eight bytes.

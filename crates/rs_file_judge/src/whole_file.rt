@@ -12,10 +12,10 @@ use rs_bytes::Item;
 use rs_catalog_pages::laws::few_definitions_are_short;
 use rs_catalog_pages::{StoredCatalogue, store, store_directory};
 use rs_contents::{OpenedFile, OpenedTable};
-use rs_measure::Refusal;
 use rs_page::PageNumber;
 use rs_pager::Pager;
 use rs_pages::Pages;
+use rs_refusal::Refusal;
 use std::alloc::{AllocError, Global};
 
 /// How many items a list of definitions has at the most.

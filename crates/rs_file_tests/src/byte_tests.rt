@@ -5,8 +5,8 @@ use crate::expect::expect;
 use crate::image::{image, offset};
 use crate::opened::open_file;
 use crate::parts::{Part, Stretch, Tally, pages};
-use rs_disk::PAGE_SIZE;
-use rs_measure::Refusal;
+use rs_page::PAGE_SIZE;
+use rs_refusal::Refusal;
 use std::alloc::Global;
 use std::test::Fail;
 

@@ -5,8 +5,8 @@ use crate::damages::{Change, damages};
 use crate::expect::expect;
 use crate::image::{Piece, image, offset, put};
 use crate::opened::{Opened, open_file};
-use rs_disk::PAGE_SIZE;
-use rs_measure::Refusal;
+use rs_page::PAGE_SIZE;
+use rs_refusal::Refusal;
 use std::alloc::Global;
 use std::test::Fail;
 

@@ -4,9 +4,9 @@ use crate::expect::expect;
 use rs_catalog_pages::StoredIndex;
 use rs_contents::{create, free_index_number};
 use rs_disk::{Disk, MemoryDisk};
-use rs_measure::Refusal;
 use rs_pager::Pager;
 use rs_pages::{LEAST_LIMIT, Pages};
+use rs_refusal::Refusal;
 use std::alloc::Global;
 use std::test::Fail;
 

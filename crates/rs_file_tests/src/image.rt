@@ -4,7 +4,7 @@
 //! `signs`, and 10 the referents. Pages 11 and 3 are free. Page 13 is on the disk, but not of the file.
 
 use crate::cells::{Cell, cell_bytes};
-use rs_disk::PAGE_SIZE;
+use rs_page::PAGE_SIZE;
 use std::alloc::{AllocError, Global};
 
 /// How many pages the disk has.

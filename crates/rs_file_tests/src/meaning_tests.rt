@@ -7,7 +7,7 @@ use crate::image::offset;
 use rs_bytes::read_whole;
 use rs_catalog_meaning::check_meaning;
 use rs_catalog_pages::StoredCatalogue;
-use rs_measure::Refusal;
+use rs_refusal::Refusal;
 use std::alloc::Global;
 use std::test::Fail;
 

@@ -9,9 +9,9 @@ use rs_catalog_pages::{
 };
 use rs_contents::{OpenedFile, OpenedTable, load};
 use rs_disk::{Disk, MemoryDisk};
-use rs_measure::Refusal;
 use rs_pager::Pager;
 use rs_records::Cells;
+use rs_refusal::Refusal;
 use rs_versioned::ReferentTable;
 use std::alloc::{AllocError, Global};
 

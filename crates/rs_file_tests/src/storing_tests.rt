@@ -9,10 +9,10 @@ use crate::opened::{Opened, open_file};
 use rs_catalog_pages::{load_directory, store_directory};
 use rs_disk::MemoryDisk;
 use rs_file_judge::store_definitions;
-use rs_measure::Refusal;
 use rs_page::{HEADER_SIZE, PageNumber};
 use rs_pager::Pager;
 use rs_pages::Pages;
+use rs_refusal::Refusal;
 use std::alloc::Global;
 use std::test::Fail;
 

@@ -8,12 +8,11 @@ ghost use Rattle.rs_tree.specs.Calls.{RefusesToRead};
 ghost use Rattle.rs_interval.specs.Finding.{event_form, FindsOverlapping};
 
 use crate::greatest_end::GreatestEnd;
-use rs_measure::Refusal;
 use rs_page::PageNumber;
 use rs_pages::Pages;
 use rs_records::Cells;
-use rs_tree_page::Layout;
-use rs_tree_search::descend;
+use rs_refusal::Refusal;
+use rs_tree::{Layout, descend};
 use std::alloc::Global;
 
 /// The records of a route that begin before `b` and end after `a`, in thousandths, of whatever version, in the order of

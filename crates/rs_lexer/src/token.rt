@@ -8,7 +8,7 @@ ghost use Rattle.rs_lexer.specs.Lexis.{IsTokenOf, AreTokensFrom};
 
 use crate::scan::front_token;
 use rs_grammar::kind::TokenKind;
-use rs_measure::Refusal;
+use rs_refusal::Refusal;
 use std::alloc::Global;
 
 /// A token of a line: its kind, and the place and the number of its bytes in the line.

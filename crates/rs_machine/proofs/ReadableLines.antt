@@ -1,8 +1,8 @@
 -- What is so of a line that is readable as one.
 use Rattle.std.proofs.Common.{◌≡◌, ℕ, Bool, true, false, List, Option, Some, None, length, not, refl}
 use Rattle.std.specs.Prelude.{if◌then◌else◌, IsTrue, nat_lt}
-use Rattle.rs_measure.specs.declared.refusal.Refusal.{Refusal}
-use Rattle.rs_measure.specs.declared.refusal.Refusal.TheVariants.{LineTooLong, LineIsNotText}
+use Rattle.rs_refusal.specs.declared.refusal.Refusal.{Refusal}
+use Rattle.rs_refusal.specs.declared.refusal.Refusal.TheVariants.{LineTooLong, LineIsNotText}
 use Rattle.rs_machine.specs.declared.limits.TheConstants.{LINE_BYTES}
 use Rattle.rs_machine.specs.Request.{is_text, without_return, line_refusal}
 

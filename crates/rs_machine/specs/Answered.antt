@@ -2,7 +2,7 @@
 --
 -- `Served` is said of a command, `Replies` of a request, `AnswersLine` of a line, `Answered` of lines one after another.
 use Rattle.std.specs.Prelude.{◌≡◌, ℕ, ◌⊎◌, List, [], ◌∷◌, flat_map}
-use Rattle.rs_measure.specs.declared.refusal.Refusal.TheVariants.{OutOfMemory}
+use Rattle.rs_refusal.specs.declared.refusal.Refusal.TheVariants.{OutOfMemory}
 use Rattle.rs_machine.specs.Served.{Machine, Reply, refused, Served}
 use Rattle.rs_machine.specs.Request.{Request, unreadable, no_command, command, Asks, BeginsWith}
 use Rattle.rs_machine.specs.ReplyText.{reply_text}

@@ -1,7 +1,7 @@
 -- The text of a reply: its lines, each with its LF.
 use Rattle.std.specs.Prelude.{ℕ, List, ◌++◌, codes, decimal, flat_map}
-use Rattle.rs_measure.specs.declared.refusal.Refusal.{Refusal}
-use Rattle.rs_measure.specs.Refusal.{number_of, words_of}
+use Rattle.rs_refusal.specs.declared.refusal.Refusal.{Refusal}
+use Rattle.rs_refusal.specs.Refusal.{number_of, words_of}
 use Rattle.rs_machine.specs.State.{RowText}
 use Rattle.rs_machine.specs.Served.{Reply, done, refused}
 

@@ -1,8 +1,8 @@
 -- What a line asks: its refusal as a line, or its session and its command.
 use Rattle.std.specs.Prelude.{◌≡◌, ℕ, Bool, true, not, ◌&&◌, ◌==◌, nat_lt, List, [], ◌∷◌, length, take, drop, Option, Some, None, Result, Ok, Err, if◌then◌else◌}
 use Rattle.std.specs.Str.{all_ascii_digits}
-use Rattle.rs_measure.specs.declared.refusal.Refusal.{Refusal}
-use Rattle.rs_measure.specs.declared.refusal.Refusal.TheVariants.{LineIsNotText, LineTooLong, SessionNumber}
+use Rattle.rs_refusal.specs.declared.refusal.Refusal.{Refusal}
+use Rattle.rs_refusal.specs.declared.refusal.Refusal.TheVariants.{LineIsNotText, LineTooLong, SessionNumber}
 use Rattle.rs_measure.specs.FixedPoint.{number_of_digits}
 pub use Rattle.rs_value.specs.Values.{is_control, is_text}
 use Rattle.rs_syntax.specs.Tree.{CommandTree}

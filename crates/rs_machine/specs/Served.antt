@@ -1,8 +1,8 @@
 -- What may be answered to a command: the machine's answer, or a want that is named.
 use Rattle.std.specs.Prelude.{◌≡◌, ℕ, ◌≤◌, ◌⊎◌, List, Result, Ok, Err}
-use Rattle.rs_measure.specs.declared.refusal.Refusal.{Refusal}
-use Rattle.rs_measure.specs.declared.refusal.Refusal.TheVariants.{OutOfMemory, Disk, FileFull}
-use Rattle.rs_measure.specs.Counts.{Rose}
+use Rattle.rs_refusal.specs.declared.refusal.Refusal.{Refusal}
+use Rattle.rs_refusal.specs.declared.refusal.Refusal.TheVariants.{OutOfMemory, Disk, FileFull}
+use Rattle.rs_refusal.specs.Counts.{Rose}
 use Rattle.rs_syntax.specs.Tree.{CommandTree}
 use Rattle.rs_machine.specs.State.{State, RowText}
 use Rattle.rs_machine.specs.Step.{Effect, outcome}

@@ -3,7 +3,7 @@ use Rattle.std.proofs.Common.{◌≡◌, suc, ◌+◌, ◌-◌, false, List, [],
 use Rattle.std.specs.Prelude.{nat_lt}
 use Rattle.std.specs.FinMap as names
 use Rattle.std.proofs.lemmas.Bool.{ltb-true}
-use Rattle.rs_measure.specs.declared.refusal.Refusal.TheVariants.{NoSuchRoute, OutsideTheRoute, EmptySpan}
+use Rattle.rs_refusal.specs.declared.refusal.Refusal.TheVariants.{NoSuchRoute, OutsideTheRoute, EmptySpan}
 use Rattle.rs_facts.specs.Fact.{Name, Names}
 use Rattle.rs_facts.specs.Query.{RouteEnds, Piece}
 use Rattle.rs_facts.specs.WellFormed.{IsPieceOn, ArePiecesOn}

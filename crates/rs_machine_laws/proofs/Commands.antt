@@ -3,8 +3,8 @@ use Rattle.std.proofs.Common.{◌≡◌, ◌∙◌, ℕ, ◌+◌, ◌≤◌, Boo
 use Rattle.std.specs.Prelude.{if◌then◌else◌, nat_le, nat_lt}
 use Rattle.std.specs.FinMap as names
 use Rattle.std.proofs.lemmas.Bool.{ltb-true, leb-true, and_parts}
-use Rattle.rs_measure.specs.declared.refusal.Refusal.{Refusal}
-use Rattle.rs_measure.specs.declared.refusal.Refusal.TheVariants.{InUse, NameTaken, NoSuchRoute, NoSuchName, NoSuchReferent, Limit, EmptySpan, PointOrLineWanted, ColumnTwice}
+use Rattle.rs_refusal.specs.declared.refusal.Refusal.{Refusal}
+use Rattle.rs_refusal.specs.declared.refusal.Refusal.TheVariants.{InUse, NameTaken, NoSuchRoute, NoSuchName, NoSuchReferent, Limit, EmptySpan, PointOrLineWanted, ColumnTwice}
 use Rattle.rs_value.specs.declared.column.Kind.{Kind}
 use Rattle.rs_value.specs.declared.column.TheConstants.{COLUMNS}
 use Rattle.rs_value.specs.Row.{Row}

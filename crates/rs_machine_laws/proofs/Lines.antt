@@ -3,7 +3,7 @@ use Rattle.std.proofs.Common.{◌∙◌, ℕ, arith, List, [], ◌∷◌, Result
 use Rattle.std.specs.Prelude.{IsTrue}
 use Rattle.std.specs.FinMap as names
 use Rattle.std.specs.FinMap.{get-empty}
-use Rattle.rs_measure.specs.declared.refusal.Refusal.{Refusal}
+use Rattle.rs_refusal.specs.declared.refusal.Refusal.{Refusal}
 use Rattle.rs_value.specs.Values.{is_text}
 use Rattle.rs_facts.specs.Fact.{name_cmp}
 use Rattle.rs_facts.specs.Query.{RouteEnds, Table, Piece}

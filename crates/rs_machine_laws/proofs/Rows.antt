@@ -1,8 +1,8 @@
 -- A row of values that fits the columns is a row of theirs.
 use Rattle.std.proofs.Common.{◌≡◌, min, Bool, true, false, not, ◌==◌, cond, List, [], ◌∷◌, length, Option, Some, None, Ok, refl, sym, eqb-true, arith}
 use Rattle.std.proofs.lemmas.Bool.{leb-true, and_parts}
-use Rattle.rs_measure.specs.declared.refusal.Refusal.{Refusal}
-use Rattle.rs_measure.specs.declared.refusal.Refusal.TheVariants.{WrongValues, TextTooLong}
+use Rattle.rs_refusal.specs.declared.refusal.Refusal.{Refusal}
+use Rattle.rs_refusal.specs.declared.refusal.Refusal.TheVariants.{WrongValues, TextTooLong}
 use Rattle.rs_value.specs.declared.column.ColumnType.{ColumnType}
 use Rattle.rs_value.specs.declared.column.ColumnType.TheVariants as types
 use Rattle.rs_value.specs.declared.column.TheConstants.{TEXT_BYTES}

@@ -5,7 +5,7 @@ use Rattle.std.specs.List.{list_any}
 use Rattle.std.specs.FinMap as names
 use Rattle.std.proofs.lemmas.Bool.{leb-true}
 use Rattle.std.proofs.lemmas.List.{length-map, length-set, map-append}
-use Rattle.rs_measure.specs.declared.refusal.Refusal.TheVariants.{NoSuchName, Limit, ColumnsDiffer, ColumnTwice, KindsDiffer}
+use Rattle.rs_refusal.specs.declared.refusal.Refusal.TheVariants.{NoSuchName, Limit, ColumnsDiffer, ColumnTwice, KindsDiffer}
 use Rattle.rs_value.specs.declared.column.TheConstants.{COLUMNS}
 use Rattle.rs_facts.specs.Fact.{Name}
 use Rattle.rs_facts.specs.Insert.{same_name}

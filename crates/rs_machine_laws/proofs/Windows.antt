@@ -8,7 +8,7 @@ use Rattle.std.specs.FinMap as names
 use Rattle.std.specs.FinMap.{find, get-entries}
 use Rattle.std.proofs.lemmas.Bool.{leb-true, and_parts}
 use Rattle.std.proofs.lemmas.Map.Text.{is_eq-slice_cmp}
-use Rattle.rs_measure.specs.declared.refusal.Refusal.TheVariants.{NoSuchRoute, NoSuchName, NoSuchReferent, Limit}
+use Rattle.rs_refusal.specs.declared.refusal.Refusal.TheVariants.{NoSuchRoute, NoSuchName, NoSuchReferent, Limit}
 use Rattle.rs_methods.specs.Position.{PositionExpression, absolute, beyond, before, interpolative, start_name, measure_of, referent_measure, located_beyond, located_before}
 use Rattle.rs_facts.specs.Fact.{Name, name_cmp}
 use Rattle.rs_facts.specs.Insert.{same_name}

@@ -1,5 +1,4 @@
 pub mod FixedPoint
 pub mod MeasureText
-mod RefusalWords
 pub mod PartText
 pub mod SaidOrNot

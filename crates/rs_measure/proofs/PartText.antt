@@ -1,7 +1,7 @@
 -- Laws of the text of a part: what it says, that it says one part, and how long it is.
 use Rattle.std.proofs.Common.{◌≡◌, ℕ, ◌+◌, ◌-◌, ◌*◌, ◌/◌, ◌%◌, ◌<◌, ◌≤◌, List, [], ◌∷◌, ◌++◌, Result, Ok, Err, OnErr, length, codes, decimal, refl, ◌∙◌, inr, arith, length-append}
 use Rattle.std.proofs.lemmas.Fmt.{digits_decimal, digits_value-decimal, length-decimal-le, decimal_nonempty}
-use Rattle.rs_measure.specs.declared.refusal.Refusal.{Refusal}
+use Rattle.rs_refusal.specs.declared.refusal.Refusal.{Refusal}
 use Rattle.rs_measure.specs.FixedPoint.{number_from, number_of_digits, three_digits}
 use Rattle.rs_measure.specs.Part.{SaysPercent, SaysPart, seven_digits, part_text}
 use Rattle.rs_measure.proofs.FixedPoint.{numerals, says_one_number}

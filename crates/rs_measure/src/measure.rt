@@ -9,9 +9,9 @@ ghost use Rattle.rs_measure.specs.Measure.{SaysMeasure, measure_text};
 
 use crate::digits::push_three_digits;
 use crate::fixed_point::read_fixed_point;
-use crate::refusal::Refusal;
 use arrayvec::ArrayString;
 use itoa::Buffer;
+use rs_refusal::Refusal;
 use std::marker::Model;
 
 /// The greatest measure, in thousandths: 999,999.999.

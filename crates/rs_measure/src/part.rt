@@ -10,9 +10,9 @@ ghost use Rattle.rs_measure.specs.Part.{SaysPart, seven_digits, part_text};
 
 use crate::digits::{digit_char, push_three_digits};
 use crate::fixed_point::read_fixed_point;
-use crate::refusal::Refusal;
 use arrayvec::ArrayString;
 use itoa::Buffer;
+use rs_refusal::Refusal;
 use std::marker::Model;
 
 /// The greatest part, in billionths: 100 percent.

@@ -1,6 +1,6 @@
 -- Positions on a route by the list of referents.
 use Rattle.std.specs.Prelude.{ℕ, List, Result}
-use Rattle.rs_measure.specs.declared.refusal.Refusal.{Refusal}
+use Rattle.rs_refusal.specs.declared.refusal.Refusal.{Refusal}
 use Rattle.rs_methods.specs.declared.position.Method.{Method}
 use Rattle.rs_methods.specs.declared.route.Route.{Route}
 use Rattle.rs_methods.specs.Position.{PositionExpression, located, expression_at}

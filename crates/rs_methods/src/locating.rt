@@ -10,7 +10,8 @@ ghost use Rattle.rs_methods.specs.OnRoute.{located_on};
 use crate::position::{Position, START, Sign};
 use crate::referents::Referents;
 use crate::route::Route;
-use rs_measure::{GREATEST_PART, Measure, Part, Refusal};
+use rs_measure::{GREATEST_PART, Measure, Part};
+use rs_refusal::Refusal;
 
 /// The measure at which a position lies on a route, by the referents of that route: it lies from the
 /// route's start to its finish. A referent that is missing is refused with

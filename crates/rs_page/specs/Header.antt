@@ -1,6 +1,6 @@
 -- The first 16 bytes of a page.
 use Rattle.std.specs.Prelude.{◌≡◌, ◌≤◌, ◌<◌, ◌-◌, ℕ, List}
-use Rattle.rs_disk.specs.declared.disk.TheConstants.{PAGE_SIZE}
+use Rattle.rs_page.specs.declared.page.TheConstants.{PAGE_SIZE}
 use Rattle.rs_page.specs.Number.{number_at}
 use Rattle.rs_page.specs.declared.header.TheConstants.{HEADER_SIZE}
 use Rattle.rs_page.specs.declared.header.PageKind.{PageKind}

@@ -1,6 +1,6 @@
 -- What the bytes of a page say of it.
 use Rattle.std.specs.Prelude.{◌≡◌, ◌≤◌, ℕ, Bool, nat_eq, List, length}
-use Rattle.rs_disk.specs.declared.disk.TheConstants.{PAGE_SIZE}
+use Rattle.rs_page.specs.declared.page.TheConstants.{PAGE_SIZE}
 use Rattle.rs_page.specs.Number.{number_at}
 use Rattle.rs_page.specs.Header.{IsHeader, Fits, kind_number}
 use Rattle.rs_page.specs.declared.header.TheConstants.{HEADER_SIZE}

@@ -12,8 +12,7 @@ ghost use Rattle.rs_page.specs.FileHeader.{IsFileHeader, HasMarks, EndsInZeros};
 use crate::bytes::{are_zeros_from, number_of_four, number_of_one, number_of_two, put_four};
 use crate::header::{PageHeader, PageKind};
 use crate::number::PageNumber;
-use crate::page::Page;
-use rs_disk::PAGE_SIZE;
+use crate::page::{PAGE_SIZE, Page};
 
 /// The number at offset 16 of page 0: the bytes of `ROAD`.
 pub const MAGIC: u32 = 0x524F_4144;

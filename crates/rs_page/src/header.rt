@@ -10,7 +10,7 @@ ghost use Rattle.rs_page.specs.Header.{IsHeader, Fits, kind_number, page_kind};
 
 use crate::bytes::{number_of_four, number_of_one, number_of_two, put_four, put_one, put_two};
 use crate::number::PageNumber;
-use rs_disk::PAGE_SIZE;
+use crate::page::PAGE_SIZE;
 
 /// The bytes of a page's header.
 pub const HEADER_SIZE: usize = 16;

@@ -14,4 +14,4 @@ pub mod page;
 pub use file_header::{FLAG_OFFSET, FileHeader};
 pub use header::{ContentKind, HEADER_SIZE, PageHeader, PageKind};
 pub use number::PageNumber;
-pub use page::Page;
+pub use page::{PAGE_SIZE, Page};

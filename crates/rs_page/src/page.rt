@@ -12,7 +12,9 @@ ghost use Rattle.rs_page.specs.declared.header.PageHeader.{PageHeader};
 use crate::bytes::{are_zeros_from, number_of_one};
 use crate::header::{HEADER_SIZE, PageHeader, PageKind};
 use crate::number::PageNumber;
-use rs_disk::PAGE_SIZE;
+
+/// How many bytes a page has.
+pub const PAGE_SIZE: usize = 4096;
 
 /// The bytes of a page.
 #[derive(Clone, Copy)]

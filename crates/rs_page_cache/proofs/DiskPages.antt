@@ -1,7 +1,7 @@
 -- The bytes of a page of a disk, one by one.
 use Rattle.std.proofs.Common.{◌≡◌, ℕ, zero, suc, ◌+◌, ◌*◌, ◌<◌, ◌≤◌, List, [], ◌∷◌, length, slice_index, refl, ap, ◌∙◌, arith}
 use Rattle.rs_disk.specs.Content.{Content, Gives}
-use Rattle.rs_disk.specs.declared.disk.TheConstants.{PAGE_SIZE}
+use Rattle.rs_page.specs.declared.page.TheConstants.{PAGE_SIZE}
 use Rattle.rs_page_cache.specs.Stored.{bytes_from, disk_page}
 
 pub length-bytes_from : (byte : ℕ → ℕ) (at n : ℕ) → length (bytes_from byte at n) ≡ n

@@ -8,7 +8,7 @@ use Rattle.std.specs.Ordering.{nat_cmp}
 use Rattle.std.specs.declared.alloc.Global.{Global}
 use Rattle.std.specs.declared.boxed.Box.{Box}
 use Rattle.rs_page.specs.declared.page.Page.{Page}
-use Rattle.rs_disk.specs.declared.disk.TheConstants.{PAGE_SIZE}
+use Rattle.rs_page.specs.declared.page.TheConstants.{PAGE_SIZE}
 use Rattle.rs_page.specs.PageBytes.{IsBlank, is_free}
 use Rattle.rs_page.specs.declared.header.PageKind.{PageKind}
 use Rattle.rs_pages.specs.Held.{HeldPage, nothing_held, held_change, with_copy}

@@ -1,7 +1,7 @@
 -- The pages of a disk, as the cache reads them.
 use Rattle.std.specs.Prelude.{◌*◌, ℕ, zero, suc, List, [], ◌∷◌}
 use Rattle.rs_disk.specs.Content.{Content}
-use Rattle.rs_disk.specs.declared.disk.TheConstants.{PAGE_SIZE}
+use Rattle.rs_page.specs.declared.page.TheConstants.{PAGE_SIZE}
 
 -- so many bytes from a place on
 unfoldable pub bytes_from : (ℕ → ℕ) → ℕ → ℕ → List ℕ

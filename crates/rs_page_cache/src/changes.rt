@@ -13,8 +13,8 @@ ghost use Rattle.rs_pages.specs.Held.{HeldPage, nothing_held, held_change, with_
 ghost use Rattle.rs_page_cache.specs.Changes.{held_at, committed_held, abandoned_held, HasCopied, HoldsEach, IsUsedCopy, ListsHeld, PutsBlank};
 
 use crate::slot::Slot;
-use rs_measure::Refusal;
 use rs_page::{Page, PageKind, PageNumber};
+use rs_refusal::Refusal;
 use std::alloc::{AllocError, Global};
 use std::collections::BTreeMap;
 use std::marker::Model;

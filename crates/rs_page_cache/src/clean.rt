@@ -11,9 +11,9 @@ ghost use Rattle.rs_page_cache.specs.Stored.{disk_page};
 ghost use Rattle.rs_page_cache.specs.Clean.{clean_at, has_number, kept_pages, Loads};
 
 use lru::LruCache;
-use rs_disk::{Disk, PAGE_SIZE};
-use rs_measure::Refusal;
-use rs_page::{Page, PageNumber};
+use rs_disk::Disk;
+use rs_page::{PAGE_SIZE, Page, PageNumber};
+use rs_refusal::Refusal;
 use std::alloc::{AllocError, Global};
 use std::marker::Model;
 use std::mem;

@@ -1,10 +1,10 @@
 -- A page comes into use.
 use Rattle.std.proofs.Common.{◌≡◌, ◌≢◌, ◌<◌, ◌≤◌, ◌+◌, ◌-◌, inl, inr, ℕ, Bool, Option, Some, None, List, nat_lt, ◌&&◌, refl, sym, ap, ◌∙◌, subst, arith}
 use Rattle.std.proofs.lemmas.Bool.Decides.{nat_tests}
-use Rattle.rs_disk.specs.Counts.{counted_on}
+use Rattle.rs_refusal.specs.Counts.{counted_on}
 use Rattle.rs_disk.specs.declared.disk.Disk as disk
-use Rattle.rs_disk.proofs.CountLemmas.{counted_on_le}
-use Rattle.rs_measure.specs.declared.refusal.Refusal.TheVariants as refusal
+use Rattle.rs_refusal.proofs.CountLemmas.{counted_on_le}
+use Rattle.rs_refusal.specs.declared.refusal.Refusal.TheVariants as refusal
 use Rattle.rs_page.specs.declared.file_header.FileHeader.{FileHeader}
 use Rattle.rs_page.specs.declared.header.PageKind.{PageKind}
 use Rattle.rs_pages.specs.Held.{HeldPage, page_or, held_change}

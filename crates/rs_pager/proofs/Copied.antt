@@ -1,7 +1,7 @@
 -- A page is copied, or refused.
 use Rattle.std.proofs.Common.{◌≡◌, ◌≤◌, ◌⊎◌, inl, inr, ℕ, Option, Some, None, List, Err, refl, sym, ap, ◌∙◌}
-use Rattle.rs_measure.specs.declared.refusal.Refusal.{Refusal}
-use Rattle.rs_measure.specs.declared.refusal.Refusal.TheVariants as refusal
+use Rattle.rs_refusal.specs.declared.refusal.Refusal.{Refusal}
+use Rattle.rs_refusal.specs.declared.refusal.Refusal.TheVariants as refusal
 use Rattle.rs_disk.specs.declared.disk.Disk as disk
 use Rattle.rs_pages.specs.Held.{HeldPage, held_change}
 use Rattle.rs_pages.specs.Store.{Rests}

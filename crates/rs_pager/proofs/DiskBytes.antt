@@ -1,7 +1,7 @@
 -- The bytes of a disk, and the pages that they make.
 use Rattle.std.proofs.Common.{◌≡◌, ◌≢◌, ℕ, zero, suc, ◌+◌, ◌*◌, ◌<◌, ◌≤◌, List, length, slice_index, true, false, nat_lt, refl, sym, ap, ◌∙◌, subst, arith, rules, tests}
 use Rattle.rs_disk.specs.Content.{Content, Holds, KeepsOthers}
-use Rattle.rs_disk.specs.declared.disk.TheConstants.{PAGE_SIZE}
+use Rattle.rs_page.specs.declared.page.TheConstants.{PAGE_SIZE}
 use Rattle.rs_page_cache.specs.Stored.{bytes_from, disk_page}
 use Rattle.rs_page_cache.proofs.DiskPages.{length-bytes_from, bytes_from-list, bytes_from-same}
 

@@ -4,9 +4,9 @@ use Rattle.std.specs.Prelude.{IsOkUnless}
 use Rattle.rs_disk.specs.Content.{Content}
 use Rattle.rs_disk.specs.Counts.{Counts}
 use Rattle.rs_disk.specs.declared.disk.Disk as disk
-use Rattle.rs_disk.specs.declared.disk.TheConstants.{PAGE_SIZE}
-use Rattle.rs_measure.specs.declared.refusal.Refusal.{Refusal}
-use Rattle.rs_measure.specs.declared.refusal.Refusal.TheVariants as refusal
+use Rattle.rs_page.specs.declared.page.TheConstants.{PAGE_SIZE}
+use Rattle.rs_refusal.specs.declared.refusal.Refusal.{Refusal}
+use Rattle.rs_refusal.specs.declared.refusal.Refusal.TheVariants as refusal
 use Rattle.rs_page.specs.FileHeader.{IsFileHeader}
 use Rattle.rs_pages.specs.Held.{held_change}
 use Rattle.rs_pages.specs.Store.{Rests}

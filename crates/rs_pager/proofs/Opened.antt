@@ -4,7 +4,7 @@ use mir.Val.{bool_byte}
 use Rattle.std.specs.Prelude.{if◌then◌else◌}
 use Rattle.rs_disk.specs.Content.{Content, Gives, Holds, KeepsOthers, CutsTo}
 use Rattle.rs_disk.specs.declared.disk.Disk as disk
-use Rattle.rs_disk.specs.declared.disk.TheConstants.{PAGE_SIZE}
+use Rattle.rs_page.specs.declared.page.TheConstants.{PAGE_SIZE}
 use Rattle.rs_page.specs.PageBytes.{IsBlank}
 use Rattle.rs_page.specs.FileHeader.{IsFileHeader}
 use Rattle.rs_page.specs.declared.header.PageKind.TheVariants.{Directory}

@@ -1,8 +1,8 @@
 -- A page at hand is released, once it is read, or it is refused.
 use Rattle.std.proofs.Common.{◌≡◌, ◌≢◌, ◌<◌, ◌+◌, inl, inr, ℕ, false, Option, Some, None, IfSome, is_none, List, Result, Ok, Err, OnErr, IfErr, refl, sym, ap, ◌∙◌, subst, arith}
 use Rattle.rs_disk.specs.declared.disk.Disk as disk
-use Rattle.rs_measure.specs.declared.refusal.Refusal.{Refusal}
-use Rattle.rs_measure.specs.declared.refusal.Refusal.TheVariants as refusal
+use Rattle.rs_refusal.specs.declared.refusal.Refusal.{Refusal}
+use Rattle.rs_refusal.specs.declared.refusal.Refusal.TheVariants as refusal
 use Rattle.rs_page.specs.PageBytes.{IsBlank}
 use Rattle.rs_page.specs.declared.file_header.FileHeader.{FileHeader}
 use Rattle.rs_page.specs.declared.header.PageKind.TheVariants.{Free}

@@ -2,7 +2,7 @@
 use Rattle.std.proofs.Common.{◌≡◌, ◌≢◌, ◌≤◌, ◌+◌, ◌-◌, ◌*◌, ℕ, false, None, refl, ap, sym, ◌∙◌, arith, rules, tests}
 use Rattle.rs_disk.specs.Content.{Content}
 use Rattle.rs_disk.specs.declared.disk.Disk as disk
-use Rattle.rs_disk.specs.declared.disk.TheConstants.{PAGE_SIZE}
+use Rattle.rs_page.specs.declared.page.TheConstants.{PAGE_SIZE}
 use Rattle.rs_page.specs.FileHeader.{is_masked}
 use Rattle.rs_page.specs.declared.file_header.TheConstants.{FLAG_OFFSET}
 use Rattle.rs_pages.specs.Held.{HeldPage}

@@ -1,7 +1,7 @@
 -- What the content of a disk stands for.
 use Rattle.std.specs.Prelude.{◌≡◌, ◌≤◌, ◌*◌, ℕ, IsTrue, Some, None, if◌then◌else◌}
 use Rattle.rs_disk.specs.Content.{Content}
-use Rattle.rs_disk.specs.declared.disk.TheConstants.{PAGE_SIZE}
+use Rattle.rs_page.specs.declared.page.TheConstants.{PAGE_SIZE}
 use Rattle.rs_page.specs.FileHeader.{IsFileHeader, is_masked}
 use Rattle.rs_page.specs.declared.file_header.FileHeader.{FileHeader}
 use Rattle.rs_pages.specs.PageMap.{PageMap, SamePages, is_page}

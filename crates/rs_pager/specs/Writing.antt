@@ -1,7 +1,7 @@
 -- What the writes of a flush make of a disk's content.
 use Rattle.std.specs.Prelude.{◌≡◌, ◌≢◌, ◌≤◌, ◌<◌, ◌+◌, ◌*◌, ℕ, Bool, true, false, max, None, Some, List}
 use Rattle.rs_disk.specs.Content.{Content}
-use Rattle.rs_disk.specs.declared.disk.TheConstants.{PAGE_SIZE}
+use Rattle.rs_page.specs.declared.page.TheConstants.{PAGE_SIZE}
 use Rattle.rs_page.specs.FileHeader.{IsFileHeader}
 use Rattle.rs_page.specs.declared.file_header.FileHeader.{FileHeader}
 use Rattle.rs_pages.specs.Held.{HeldPage}

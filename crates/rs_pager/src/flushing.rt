@@ -14,11 +14,11 @@ ghost use Rattle.rs_pager.specs.Maps.{KeepsChanges, KeepsMaps, KeepsDiskMasked, 
 ghost use Rattle.rs_pager.specs.Opened.{WritesAll, WritesAtMost};
 
 use crate::pager::Pager;
-use rs_disk::{Disk, PAGE_SIZE};
-use rs_measure::Refusal;
-use rs_page::{FLAG_OFFSET, FileHeader, Page};
+use rs_disk::Disk;
+use rs_page::{FLAG_OFFSET, FileHeader, PAGE_SIZE, Page};
 use rs_page_cache::Slot;
 use rs_pages::GREATEST_LIMIT;
+use rs_refusal::Refusal;
 use std::collections::BTreeMap;
 
 impl<D: Disk> Pager<D> {

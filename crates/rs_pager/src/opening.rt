@@ -13,11 +13,11 @@ ghost use Rattle.rs_pager.specs.Opened.{IsFresh, HasEmptyFile, IsCreated, IsOpen
 
 use crate::flushing::{write_at, write_file_header, write_page};
 use crate::pager::Pager;
-use rs_disk::{Disk, PAGE_SIZE};
-use rs_measure::Refusal;
-use rs_page::{FLAG_OFFSET, FileHeader, Page, PageKind, PageNumber};
+use rs_disk::Disk;
+use rs_page::{FLAG_OFFSET, FileHeader, PAGE_SIZE, Page, PageKind, PageNumber};
 use rs_page_cache::{Changes, CleanPages};
 use rs_pages::{GREATEST_LIMIT, LEAST_LIMIT};
+use rs_refusal::Refusal;
 use std::alloc::Global;
 
 impl<D: Disk> Pager<D> {

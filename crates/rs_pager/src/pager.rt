@@ -12,9 +12,9 @@ ghost use Rattle.rs_pager.specs.Maps.{committed, working, KeepsChanges, KeepsMap
 ghost use Rattle.rs_pager.specs.Opened.{Commits, Abandons, WritesAll, WritesAtMost};
 
 use rs_disk::Disk;
-use rs_measure::Refusal;
 use rs_page::FileHeader;
 use rs_page_cache::{Changes, CleanPages, MOST_CLEAN};
+use rs_refusal::Refusal;
 use std::marker::Model;
 
 /// The greatest number of changed pages that are held after changes were begun.

@@ -11,9 +11,9 @@ ghost use Rattle.rs_pager.specs.Maps.{pager_store, KeepsBelow, IsTied};
 
 use crate::pager::Pager;
 use rs_disk::Disk;
-use rs_measure::Refusal;
 use rs_page::{ContentKind, Page, PageKind, PageNumber};
 use rs_pages::Pages;
+use rs_refusal::Refusal;
 
 impl<D: Disk> Pages for Pager<D> {
     ghost use Rattle.rs_pager.specs.Maps.{pager_store, KeepsBelow, IsTied};

@@ -11,8 +11,8 @@ ghost use Rattle.rs_pager.specs.Maps.{pager_store, KeepsBelow, IsTied};
 
 use crate::pager::Pager;
 use rs_disk::Disk;
-use rs_measure::Refusal;
 use rs_page::{Page, PageNumber};
+use rs_refusal::Refusal;
 
 impl<D: Disk> Pager<D> {
     /// Holds the working page with this number, free or not. It is refused with 94 where there is no such number, with

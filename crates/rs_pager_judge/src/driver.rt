@@ -5,10 +5,10 @@
 ghost use Rattle.std.specs.Prelude.{◌≡◌, ◌≤◌, true, OnOk};
 
 use rs_disk::{FailingDisk, MemoryDisk};
-use rs_measure::Refusal;
 use rs_page::{ContentKind, FileHeader, Page, PageNumber};
 use rs_pager::Pager;
 use rs_pages::Pages;
+use rs_refusal::Refusal;
 use std::alloc::Global;
 
 /// A disk in memory of which one call may fail.

@@ -6,8 +6,8 @@
 use crate::driver::{Driver, TestDisk};
 use crate::plain::{LIMIT, Plain};
 use rs_disk::Disk;
-use rs_measure::Refusal;
 use rs_page::{ContentKind, Page};
+use rs_refusal::Refusal;
 use std::alloc::Global;
 
 /// How begun changes end where a call was refused, before it is made again.

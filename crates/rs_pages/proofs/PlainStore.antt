@@ -5,10 +5,10 @@ use Rattle.std.proofs.Math.ListN.{set}
 use Rattle.std.proofs.lemmas.Option.{slice_get_past, slice_get_read}
 use Rattle.std.proofs.lemmas.Bool.{true≢false}
 use Rattle.std.proofs.lemmas.Bool.Decides.{nat_tests}
-use Rattle.rs_disk.specs.Counts.{counted_on}
-use Rattle.rs_disk.specs.declared.disk.TheConstants.{PAGE_SIZE}
-use Rattle.rs_disk.proofs.CountLemmas.{counted_on_le}
-use Rattle.rs_measure.specs.declared.refusal.Refusal.TheVariants as refusal
+use Rattle.rs_refusal.specs.Counts.{counted_on}
+use Rattle.rs_page.specs.declared.page.TheConstants.{PAGE_SIZE}
+use Rattle.rs_refusal.proofs.CountLemmas.{counted_on_le}
+use Rattle.rs_refusal.specs.declared.refusal.Refusal.TheVariants as refusal
 use Rattle.rs_page.specs.PageBytes.{IsBlank, IsFreeLink, is_free}
 use Rattle.rs_page.specs.declared.page.Page.{Page}
 use Rattle.rs_page.specs.declared.file_header.FileHeader.{FileHeader}

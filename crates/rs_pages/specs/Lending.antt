@@ -2,7 +2,7 @@
 use Rattle.std.specs.Prelude.{◌≡◌, ℕ, List, Result, MatchResult, ⊤}
 use Rattle.std.specs.Borrow.{Fml, RattleType, MutBor, LendsSoOk, follows_so}
 use mathlib.Core.Option.{none}
-use Rattle.rs_measure.specs.declared.refusal.Refusal.{Refusal}
+use Rattle.rs_refusal.specs.declared.refusal.Refusal.{Refusal}
 use Rattle.rs_page.specs.declared.page.Page.{Page}
 use Rattle.rs_page.specs.contracts.page.Page.{the_row as page_row}
 use Rattle.rs_pages.specs.Store.{Store, Rests, Edits, CountsFailure}

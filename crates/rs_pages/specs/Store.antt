@@ -1,8 +1,8 @@
 -- What a page store is to its clients, and what its calls keep.
 use Rattle.std.specs.Prelude.{◌≡◌, ◌≢◌, ◌≤◌, ℕ, Bool, List}
-use Rattle.rs_measure.specs.declared.refusal.Refusal.{Refusal}
-use Rattle.rs_measure.specs.declared.refusal.Refusal.TheVariants as refusal
-use Rattle.rs_disk.specs.Counts.{counted_on}
+use Rattle.rs_refusal.specs.declared.refusal.Refusal.{Refusal}
+use Rattle.rs_refusal.specs.declared.refusal.Refusal.TheVariants as refusal
+use Rattle.rs_refusal.specs.Counts.{counted_on}
 use Rattle.rs_pages.specs.Held.{HeldPage, with_copy}
 use Rattle.rs_pages.specs.PageMap.{PageMap, SamePages, ReplacesPage}
 

@@ -12,8 +12,8 @@ ghost use Rattle.rs_pages.specs.Lending.{page_rests, page_edits, RestsAfter};
 ghost use Rattle.rs_pages.specs.Uses.{Lends, RefusesToLend, RefusesToEdit, AllocatesPage, RefusesPage, ReleasesPage, RefusesToRelease, SetsCatalogue};
 ghost use Rattle.std.specs.Borrow.{sem};
 
-use rs_measure::Refusal;
 use rs_page::{ContentKind, Page, PageNumber};
+use rs_refusal::Refusal;
 
 /// The least number of pages that a store may be limited to.
 pub const LEAST_LIMIT: u32 = 3;

@@ -3,13 +3,13 @@
 //! Every page is held as a working copy, so nothing is read and no page that is in use is refused.
 
 ghost use Rattle.std.specs.Prelude.{◌≡◌, ◌≢◌, ◌≤◌, ◌<◌, ◌⊎◌, ℕ, true, false, ⊤, Some, List, IfOk, IfErr, OnOk, OnErr, vec_len, IsOkUnless, length};
-ghost use Rattle.rs_disk.specs.declared.disk.TheConstants.{PAGE_SIZE};
+ghost use Rattle.rs_page.specs.declared.page.TheConstants.{PAGE_SIZE};
 ghost use Rattle.rs_page.specs.declared.header.PageKind.{PageKind};
 ghost use Rattle.rs_pages.specs.declared.pages.TheConstants.{GREATEST_LIMIT, LEAST_LIMIT};
 
 use crate::pages::{GREATEST_LIMIT, LEAST_LIMIT, Pages};
-use rs_measure::Refusal;
 use rs_page::{ContentKind, FileHeader, Page, PageKind, PageNumber};
+use rs_refusal::Refusal;
 use std::alloc::{AllocError, Global};
 
 /// Pages in memory.
@@ -88,7 +88,7 @@ impl PlainPages {
     }
 
     /// A page after the last one.
-    #[tactic(auto, unfolding(rs_disk::specs::Counts::counted_on))]
+    #[tactic(auto, unfolding(rs_refusal::specs::Counts::counted_on))]
     fn allocate_last(&mut self, kind: PageKind) -> Result<PageNumber, Refusal>
         requires { self.old.fields.first_free ≡ 0 }
         ensures allocates { IfOk result (λ number.

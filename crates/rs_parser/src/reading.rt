@@ -8,18 +8,18 @@ ghost use Rattle.rs_grammar.specs.declared.kind.TokenKind.TheVariants as kinds;
 ghost use Rattle.rs_grammar.specs.Grammar.{command_form, select_form};
 ghost use Rattle.rs_syntax.specs.Written.{mark, spelling, lexemes_of, IsFull};
 ghost use Rattle.rs_syntax.specs.View.{written_of};
-ghost use Rattle.rs_query_parser.specs.Reading.{RunsTo};
+ghost use Rattle.rs_descent.specs.Reading.{RunsTo};
 
-use rs_command_parser::definitions::define;
-use rs_command_parser::drops::drop_command;
-use rs_command_parser::events::{insert, remove};
-use rs_command_parser::moves::{move_referent, translate};
-use rs_command_parser::totals::total;
+use rs_descent::definitions::define;
+use rs_descent::drops::drop_command;
+use rs_descent::events::{insert, remove};
+use rs_descent::front::{Stop, mark, need_mark};
+use rs_descent::moves::{move_referent, translate};
+use rs_descent::positions::wanted_method;
+use rs_descent::queries::query;
+use rs_descent::totals::total;
 use rs_grammar::kind::TokenKind;
 use rs_lexer::Token;
-use rs_query_parser::front::{Stop, mark, need_mark};
-use rs_query_parser::positions::wanted_method;
-use rs_query_parser::queries::query;
 use rs_syntax::written::WrittenCommand;
 use std::alloc::Global;
 

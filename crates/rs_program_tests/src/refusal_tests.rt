@@ -1,6 +1,6 @@
 //! The numbers and words of refusals that no line is answered with, or with a column that no line has.
 
-use rs_measure::Refusal;
+use rs_refusal::Refusal;
 
 static REFUSALS: [(Refusal, u8, &str); 11] = [
     (Refusal::TotalTooLarge, 50, "total too large"),

@@ -1,6 +1,6 @@
 -- A line asks one thing.
 use Rattle.std.proofs.Common.{◌≡◌, ℕ, List, take, Some, None, Result, Ok, Err, sym, ap, ◌∙◌, subst}
-use Rattle.rs_measure.specs.declared.refusal.Refusal.{Refusal}
+use Rattle.rs_refusal.specs.declared.refusal.Refusal.{Refusal}
 use Rattle.rs_measure.specs.FixedPoint.{number_of_digits}
 use Rattle.rs_syntax.specs.Tree.{CommandTree}
 use Rattle.rs_syntax.specs.Verdict.{Reads}

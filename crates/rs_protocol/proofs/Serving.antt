@@ -8,7 +8,7 @@ use Rattle.std.proofs.lemmas.Grind.{flat_map-append}
 use Rattle.std.proofs.lemmas.Bool.Decides.{nat_tests}
 use Rattle.std.specs.Io.KnownBytes.{Appends}
 use Rattle.std.proofs.KnownBytes.{Appends-nil, Appends-trans}
-use Rattle.rs_measure.specs.declared.refusal.Refusal.TheVariants.{LineTooLong}
+use Rattle.rs_refusal.specs.declared.refusal.Refusal.TheVariants.{LineTooLong}
 use Rattle.rs_machine.specs.Served.{Machine}
 use Rattle.rs_machine.specs.ReplyText.{reply_text}
 use Rattle.rs_machine.specs.Request.{Request, unreadable, no_command, command, Asks, line_refusal}

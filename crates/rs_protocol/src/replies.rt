@@ -10,7 +10,7 @@ ghost use Rattle.rs_protocol.specs.Inner.{Puts, PutsLater};
 use crate::put::{Pending, put, put_later, put_parts};
 use crate::stream::Fault;
 use itoa::Buffer;
-use rs_measure::Refusal;
+use rs_refusal::Refusal;
 use rs_serve::{Finish, Reply};
 use std::io::Write;
 

@@ -9,7 +9,7 @@ ghost use Rattle.rs_machine.specs.Request.{without_return as line_text, is_contr
 ghost use Rattle.rs_protocol.specs.Inner.{HasSession, IsRequest};
 
 use rs_machine::limits::{LINE_BYTES, SESSIONS};
-use rs_measure::Refusal;
+use rs_refusal::Refusal;
 use rs_serve::Session;
 use std::str;
 

@@ -2,7 +2,7 @@
 //!
 //! An engine promises that a refusal has no rows beside it, and that it names the first check that failed, or a want.
 
-use rs_measure::Refusal;
+use rs_refusal::Refusal;
 
 /// The rows of an answer, and how it ends.
 #[derive(Drop)]

@@ -6,7 +6,7 @@ use Rattle.clap.specs.declared.error.kind.ErrorKind.{ErrorKind}
 use Rattle.clap.specs.declared.error.kind.ErrorKind.TheVariants.{DisplayHelp, OutOfMemory}
 use Rattle.clap.specs.declared.error.Error.{Error}
 use Rattle.clap.specs.Values.{kind_of}
-use Rattle.rs_measure.specs.declared.refusal.Refusal.TheVariants as refusals
+use Rattle.rs_refusal.specs.declared.refusal.Refusal.TheVariants as refusals
 use Rattle.rs_machine.specs.Served.{Machine}
 use Rattle.rs_machine.specs.Fresh.{fresh_machine}
 use Rattle.rs_protocol.specs.Ends.{Ends}

@@ -8,8 +8,8 @@ ghost use Rattle.rs_protocol.specs.Puts.{Puts};
 ghost use Rattle.rs_server.specs.Saying.{refusal_line, fault_line, SaysFront};
 
 use itoa::Buffer;
-use rs_measure::Refusal;
 use rs_protocol::{Fault, put_parts};
+use rs_refusal::Refusal;
 use std::io;
 use std::io::{ErrorKind, Write};
 

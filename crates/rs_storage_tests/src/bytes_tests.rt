@@ -4,10 +4,10 @@
 
 use crate::expect::expect;
 use crate::image::{Field, disk_of, image, made};
-use rs_disk::{Disk, PAGE_SIZE};
-use rs_measure::Refusal;
-use rs_page::{ContentKind, FileHeader, PageNumber};
+use rs_disk::Disk;
+use rs_page::{ContentKind, FileHeader, PAGE_SIZE, PageNumber};
 use rs_pager_judge::{Driver, TestDisk};
+use rs_refusal::Refusal;
 use std::alloc::Global;
 use std::test::Fail;
 

@@ -4,9 +4,9 @@
 //! free list where a page is wanted.
 
 use crate::image::{Field, disk_of, image, made, put};
-use rs_measure::Refusal;
 use rs_page::ContentKind;
 use rs_pager_judge::Driver;
+use rs_refusal::Refusal;
 use std::alloc::{AllocError, Global};
 use std::test::Fail;
 

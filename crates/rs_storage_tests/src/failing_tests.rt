@@ -3,7 +3,8 @@
 
 use crate::expect::expect;
 use crate::image::disk_of;
-use rs_disk::{Disk, DiskFault, FailedCut, FailingDisk, MemoryDisk, PAGE_SIZE};
+use rs_disk::{Disk, DiskFault, FailedCut, FailingDisk, MemoryDisk};
+use rs_page::PAGE_SIZE;
 use rs_pager_judge::{AfterRefusal, Judge, TestDisk, script_calls};
 use std::alloc::Global;
 use std::test::Fail;

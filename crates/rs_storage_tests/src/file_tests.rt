@@ -5,7 +5,8 @@
 use crate::disk_steps::{Step, expect_all, take_all};
 use crate::expect::expect;
 use crate::fresh_path::fresh_path;
-use rs_disk::{Disk, DiskFault, FileDisk, PAGE_SIZE};
+use rs_disk::{Disk, DiskFault, FileDisk};
+use rs_page::PAGE_SIZE;
 use std::fs;
 use std::test::Fail;
 

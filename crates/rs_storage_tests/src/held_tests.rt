@@ -4,12 +4,12 @@ use crate::expect::expect;
 use crate::image::{disk_of, made};
 use crate::large_tests::numbered;
 use rs_disk::{Disk, FailedCut, FailingDisk};
-use rs_measure::Refusal;
 use rs_page::{ContentKind, PageNumber};
 use rs_page_cache::{CleanPages, MOST_CLEAN};
 use rs_pager::MOST_CHANGED;
 use rs_pager_judge::Driver;
 use rs_pages::{GREATEST_LIMIT, LEAST_LIMIT, Pages, PlainPages};
+use rs_refusal::Refusal;
 use std::test::Fail;
 
 /// The calls of the disk that a creation makes.

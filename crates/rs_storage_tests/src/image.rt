@@ -2,7 +2,8 @@
 //!
 //! What is stated is in the test byte by byte, and no code of the pager has a part in it.
 
-use rs_disk::{Disk, FailedCut, FailingDisk, MemoryDisk, PAGE_SIZE};
+use rs_disk::{Disk, FailedCut, FailingDisk, MemoryDisk};
+use rs_page::PAGE_SIZE;
 use rs_pager_judge::{Driver, TestDisk};
 use std::alloc::{AllocError, Global};
 use std::test::Fail;

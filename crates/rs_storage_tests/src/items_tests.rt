@@ -2,7 +2,7 @@
 
 use crate::expect::expect;
 use rs_bytes::{Item, LongText, Reader, ShortList, read_whole};
-use rs_measure::Refusal;
+use rs_refusal::Refusal;
 use std::alloc::Global;
 use std::test::Fail;
 

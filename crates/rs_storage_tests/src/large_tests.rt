@@ -3,9 +3,9 @@
 use crate::expect::expect;
 use crate::image::{disk_of, made};
 use rs_disk::Disk;
-use rs_measure::Refusal;
 use rs_page::ContentKind;
 use rs_pager_judge::Driver;
+use rs_refusal::Refusal;
 use std::alloc::Global;
 use std::test::Fail;
 

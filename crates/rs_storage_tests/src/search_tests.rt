@@ -4,12 +4,11 @@ ghost use Rattle.std.specs.Prelude.{◌≡◌, ◌≤◌, length};
 
 use crate::expect::expect;
 use crate::greatest::Greatest;
-use rs_measure::Refusal;
 use rs_page::{ContentKind, PageHeader, PageNumber};
 use rs_pages::{Pages, PlainPages};
 use rs_records::Cells;
-use rs_tree_page::Layout;
-use rs_tree_search::{descend, range};
+use rs_refusal::Refusal;
+use rs_tree::{Layout, descend, range};
 use std::test::Fail;
 
 /// Puts a page of so many records after the last one.

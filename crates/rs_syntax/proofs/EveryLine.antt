@@ -2,8 +2,8 @@
 use Rattle.std.proofs.Common.{◌≡◌, ℕ, zero, suc, ◌+◌, ◌-◌, ◌<◌, ◌≤◌, List, [], ◌∷◌, ◌++◌, length, take, drop, Some, Result, Ok, Err, IfOk, refl, sym, ◌∙◌, subst, inl, inr, ⊎_elim, append-nil, arith}
 use Rattle.std.specs.Prelude.{IsTrue}
 use Rattle.std.proofs.lemmas.Bool.{cases_eq, cases_Bool, false≢true}
-use Rattle.rs_measure.specs.declared.refusal.Refusal.{Refusal}
-use Rattle.rs_measure.specs.declared.refusal.Refusal.TheVariants.{UnknownCharacter, Syntax, NumberOutOfRange}
+use Rattle.rs_refusal.specs.declared.refusal.Refusal.{Refusal}
+use Rattle.rs_refusal.specs.declared.refusal.Refusal.TheVariants.{UnknownCharacter, Syntax, NumberOutOfRange}
 use Rattle.rs_grammar.specs.declared.kind.TokenKind.{TokenKind}
 use Rattle.rs_grammar.specs.Grammar.{command_form, is_shallow, IsShallow}
 use Rattle.rs_lexer.specs.declared.token.Token.{Token}

@@ -3,7 +3,7 @@
 //! Each line has an answer, and one only; a command that a line says is sound.
 
 ghost use Rattle.std.specs.Prelude.{◌≡◌, ℕ, List, Result, Ok, IsTrue};
-ghost use Rattle.rs_measure.specs.declared.refusal.Refusal.{Refusal};
+ghost use Rattle.rs_refusal.specs.declared.refusal.Refusal.{Refusal};
 ghost use Rattle.rs_value.specs.Values.{is_text};
 ghost use Rattle.rs_syntax.specs.Tree.{CommandTree};
 ghost use Rattle.rs_syntax.specs.Verdict.{Reads};

@@ -7,7 +7,7 @@ use Rattle.std.specs.FinMap.{entries, entries_sorted, get-entries}
 use Rattle.std.specs.FinMap.Entries.{find, is_sorted, below_all, same_entries}
 use Rattle.std.specs.List.{AllByRecursion, list_any}
 use Rattle.std.specs.Ordering.{is_lt, eq_by_cmp}
-use Rattle.rs_measure.specs.declared.refusal.Refusal.TheVariants.{TotalTooLarge}
+use Rattle.rs_refusal.specs.declared.refusal.Refusal.TheVariants.{TotalTooLarge}
 use Rattle.rs_value.specs.Row.{Row, row_cmp}
 use Rattle.rs_facts.specs.declared.totals.TheConstants.{GREATEST_TOTAL}
 use Rattle.rs_facts.specs.Fact.{contains, items, thousandths}

@@ -4,7 +4,7 @@
 
 ghost use Rattle.std.specs.Prelude.{◌≡◌, ◌<◌, ◌≤◌, ◌^◌, ℕ, ◌⊎◌, Option, List, [], ◌∷◌, ◌++◌, length, map, Ok, Err, IfOk, IfErr, OnOk, IfSome, true, is_some, not};
 ghost use Rattle.std.specs.FinMap.Entries.{is_sorted};
-ghost use Rattle.rs_measure.specs.declared.refusal.Refusal.TheVariants.{OutOfMemory, TotalTooLarge};
+ghost use Rattle.rs_refusal.specs.declared.refusal.Refusal.TheVariants.{OutOfMemory, TotalTooLarge};
 ghost use Rattle.rs_value.specs.declared.column.Kind.{Kind};
 ghost use Rattle.rs_value.specs.declared.column.TheConstants.{COLUMNS};
 ghost use Rattle.rs_value.specs.Row.{row_cmp};
@@ -19,7 +19,7 @@ use crate::groups::add_spans;
 use crate::numbers::Numbers;
 use crate::total::{Sum, Total};
 use rs_facts::Span;
-use rs_measure::Refusal;
+use rs_refusal::Refusal;
 use rs_value::Tuple;
 use std::alloc::{AllocError, Global};
 use std::collections::BTreeMap;

@@ -6,7 +6,7 @@ use Rattle.std.proofs.lemmas.List.{length-map}
 use Rattle.std.proofs.lemmas.List.Sums.{sum_by-cons}
 use Rattle.std.specs.List.{AllByRecursion, sum_by}
 use Rattle.rs_pages.specs.PageMap.{PageMap}
-use Rattle.rs_owners.specs.Counts.{one_at}
+use Rattle.rs_page_owners.specs.Counts.{one_at}
 use Rattle.rs_tree.specs.Form.{Form}
 use Rattle.rs_tree.specs.Shape.{Shape, Lies, uses, size_of, child_of}
 

@@ -3,8 +3,8 @@ use Rattle.std.proofs.Common.{◌≡◌, ◌<◌, ◌≤◌, ℕ, zero, suc, Lis
 use Rattle.std.proofs.lemmas.List.Sums.{sum_by-cons}
 use Rattle.std.specs.List.{AllByRecursion, sum_by}
 use Rattle.rs_pages.specs.PageMap.{PageMap}
-use Rattle.rs_owners.specs.Owners.{KeepsPages}
-use Rattle.rs_owners.proofs.Moving.{one_at-same}
+use Rattle.rs_page_owners.specs.Owners.{KeepsPages}
+use Rattle.rs_page_owners.proofs.Moving.{one_at-same}
 use Rattle.rs_tree.specs.Form.{Form}
 use Rattle.rs_tree.specs.Shape.{Shape, Lies, uses}
 use Rattle.rs_tree.specs.Tree.{IsTree, Stands}

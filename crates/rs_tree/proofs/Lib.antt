@@ -6,3 +6,12 @@ pub mod Ones
 pub mod Parts
 pub mod Shapes
 pub mod Weights
+pub mod EntryBytes
+pub mod Joining
+pub mod Nodes
+pub mod Collecting
+pub mod Entering
+pub mod Entries
+pub mod Loading
+pub mod Resting
+pub mod Searching

@@ -9,7 +9,7 @@ use Rattle.rs_page.proofs.Headers.{header_is_one}
 use Rattle.rs_pages.specs.PageMap.{PageMap}
 use Rattle.rs_pages.proofs.FreeLists.{page_one}
 use Rattle.rs_records.specs.Records.{records}
-use Rattle.rs_owners.specs.Counts.{one_at}
+use Rattle.rs_page_owners.specs.Counts.{one_at}
 use Rattle.rs_tree.specs.Form.{Form, entry_width}
 use Rattle.rs_tree.specs.Content.{SaysChild, Child, content, tree_header}
 use Rattle.rs_tree.specs.Shape.{Shape, Lies, LeafLies, InnerLies, page_of, cells_of, uses, child_of}

@@ -1,7 +1,7 @@
 -- What the pages of a tree hold.
 use Rattle.std.specs.Prelude.{◌≡◌, ◌≤◌, ◌*◌, ℕ, Some, List, take, drop, length, slice_get}
 use Rattle.std.specs.List.{AllZip}
-use Rattle.rs_disk.specs.declared.disk.TheConstants.{PAGE_SIZE}
+use Rattle.rs_page.specs.declared.page.TheConstants.{PAGE_SIZE}
 use Rattle.rs_page.specs.Number.{number_at}
 use Rattle.rs_page.specs.Header.{IsHeader}
 use Rattle.rs_page.specs.declared.header.TheConstants.{HEADER_SIZE}

@@ -5,3 +5,8 @@ pub mod Form
 pub mod Searches
 pub mod Shape
 pub mod Tree
+pub mod Node
+pub mod Layouts
+pub mod Asking
+pub mod Reading
+pub mod Walking

@@ -2,7 +2,7 @@
 use Rattle.std.specs.Prelude.{◌≡◌, ◌<◌, ◌+◌, ℕ, zero, suc, Some, List, map}
 use Rattle.std.specs.List.{AllByRecursion, flat_map, sum_by}
 use Rattle.rs_pages.specs.PageMap.{PageMap}
-use Rattle.rs_owners.specs.Counts.{one_at}
+use Rattle.rs_page_owners.specs.Counts.{one_at}
 use Rattle.rs_tree.specs.Form.{Form}
 use Rattle.rs_tree.specs.Content.{Child, IsLeaf, IsInner}
 

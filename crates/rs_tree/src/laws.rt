@@ -2,7 +2,7 @@
 
 ghost use Rattle.std.specs.Prelude.{◌≡◌, ◌<◌, ℕ, List};
 ghost use Rattle.rs_pages.specs.PageMap.{PageMap};
-ghost use Rattle.rs_owners.specs.Owners.{KeepsPages};
+ghost use Rattle.rs_page_owners.specs.Owners.{KeepsPages};
 ghost use Rattle.rs_tree.specs.Form.{form_of};
 ghost use Rattle.rs_tree.specs.Tree.{IsTree};
 

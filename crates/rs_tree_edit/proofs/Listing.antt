@@ -1,7 +1,7 @@
 -- What a page holds after its records were put in the place of others, and what a page has that came into use.
 use Rattle.std.proofs.Common.{◌≡◌, ◌<◌, ◌≤◌, ◌+◌, ◌-◌, ◌*◌, ℕ, None, Some, false, List, ◌++◌, length, take, drop, sym, ap, ◌∙◌, subst, arith}
 use Rattle.std.proofs.lemmas.List.{length-drop, append-nil}
-use Rattle.rs_disk.specs.declared.disk.TheConstants.{PAGE_SIZE}
+use Rattle.rs_page.specs.declared.page.TheConstants.{PAGE_SIZE}
 use Rattle.rs_page.specs.Header.{IsHeader}
 use Rattle.rs_page.specs.PageBytes.{is_free}
 use Rattle.rs_page.specs.declared.file_header.FileHeader.{FileHeader}
@@ -11,8 +11,8 @@ use Rattle.rs_pages.specs.FreeList.{Allocates}
 use Rattle.rs_pages.specs.PageMap.{PageMap, ReplacesPage, in_use}
 use Rattle.rs_records.specs.Records.{records}
 use Rattle.rs_records.proofs.RecordLists.{length-records, records_none}
-use Rattle.rs_owners.specs.Counts.{one_at, no_pages}
-use Rattle.rs_owners.proofs.Moving.{moves_trans, allocates-moves}
+use Rattle.rs_page_owners.specs.Counts.{one_at, no_pages}
+use Rattle.rs_page_owners.proofs.Moving.{moves_trans, allocates-moves}
 use Rattle.rs_tree.specs.Content.{content, tree_header, HasRecords}
 use Rattle.rs_tree_edit.specs.Editing.{Lists, Splices, AddsPage}
 use Rattle.rs_tree_edit.proofs.Replacing.{splices-moves}

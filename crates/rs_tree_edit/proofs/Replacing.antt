@@ -10,9 +10,9 @@ use Rattle.rs_page.specs.declared.header.PageKind.TheVariants as kind
 use Rattle.rs_pages.specs.PageMap.{PageMap, SamePages, in_use}
 use Rattle.rs_pages.proofs.FreeLists.{page_one}
 use Rattle.rs_records.specs.Records.{records}
-use Rattle.rs_owners.specs.Counts.{one_at, ◌&◌}
-use Rattle.rs_owners.specs.Owners.{Shares, Keeps, Moves}
-use Rattle.rs_owners.proofs.Moving.{one_at-same, shares_same, moves_trans, moves_same, moves_part, same_pages-moves, replaces-moves}
+use Rattle.rs_page_owners.specs.Counts.{one_at, ◌&◌}
+use Rattle.rs_page_owners.specs.Owners.{Shares, Keeps, Moves}
+use Rattle.rs_page_owners.proofs.Moving.{one_at-same, shares_same, moves_trans, moves_same, moves_part, same_pages-moves, replaces-moves}
 use Rattle.rs_tree.specs.Form.{Form, entry_width}
 use Rattle.rs_tree.specs.Content.{SaysChild, HasRecords, content}
 use Rattle.rs_tree.specs.Shape.{Shape, Lies, cells_of, uses, child_of}

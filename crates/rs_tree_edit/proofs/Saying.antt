@@ -12,7 +12,7 @@ use Rattle.rs_records.specs.Records.{records}
 use Rattle.rs_tree.specs.Form.{Form, form_of, joined, child_bytes, least_from, entry_width}
 use Rattle.rs_tree.specs.Content.{SaysChild, Child, IsLeaf, IsInner, HasRecords, content, tree_header}
 use Rattle.rs_tree.specs.Shape.{Shape, cells_of, child_of}
-use Rattle.rs_tree_search.specs.Walking.{IsPart}
+use Rattle.rs_tree.specs.Walking.{IsPart}
 use Rattle.rs_tree_edit.specs.Parts.{SaysPart, SaysNode}
 
 leaf_not_inner : kind.Leaf ≡ kind.Inner → ⊥

@@ -1,14 +1,14 @@
 -- Calls that change pages, one after another.
 use Rattle.std.proofs.Common.{◌≡◌, ◌⊎◌, ℕ, List, Result, Ok, Err, IfErr, refl, ap, ◌∙◌, inl, inr, arith}
-use Rattle.rs_disk.specs.Counts.{counted_on}
-use Rattle.rs_measure.specs.declared.refusal.Refusal.{Refusal}
-use Rattle.rs_measure.specs.declared.refusal.Refusal.TheVariants as refusal
+use Rattle.rs_refusal.specs.Counts.{counted_on}
+use Rattle.rs_refusal.specs.declared.refusal.Refusal.{Refusal}
+use Rattle.rs_refusal.specs.declared.refusal.Refusal.TheVariants as refusal
 use Rattle.rs_page.specs.declared.file_header.FileHeader.{FileHeader}
 use Rattle.rs_pages.specs.Store.{Store, Rests, Edits, CountsFailure, KeepsCounts}
 use Rattle.rs_pages.specs.Lending.{RestsAfter, EditsAfter}
 use Rattle.rs_pages.specs.Uses.{Wants}
 use Rattle.rs_pages.proofs.Stores.{KeepsCounts-trans}
-use Rattle.rs_owners.specs.Changes.{Works, WorksAfter, EndsFull, CountsNothing}
+use Rattle.rs_page_owners.specs.Changes.{Works, WorksAfter, EndsFull, CountsNothing}
 
 pub Works-trans : (a b c : Store) → Works a b → Works b c → Works a c
 Works-trans a b c one other = record {

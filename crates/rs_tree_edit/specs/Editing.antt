@@ -5,8 +5,8 @@ use Rattle.rs_page.specs.declared.header.PageKind.{PageKind}
 use Rattle.rs_pages.specs.FreeList.{IsFreeList}
 use Rattle.rs_pages.specs.PageMap.{PageMap, ReplacesPage, KeepsOtherPages, in_use}
 use Rattle.rs_records.specs.Records.{records}
-use Rattle.rs_owners.specs.Counts.{one_at, no_pages}
-use Rattle.rs_owners.specs.Owners.{Moves}
+use Rattle.rs_page_owners.specs.Counts.{one_at, no_pages}
+use Rattle.rs_page_owners.specs.Owners.{Moves}
 use Rattle.rs_tree.specs.Content.{HasRecords, content}
 
 -- the page begins with the header of a tree's page, and holds just these records

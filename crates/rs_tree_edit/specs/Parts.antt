@@ -2,11 +2,11 @@
 use Rattle.std.specs.Prelude.{◌≡◌, ℕ, List, map}
 use Rattle.std.specs.List.{AllByRecursion, flat_map, sum_by}
 use Rattle.rs_pages.specs.PageMap.{PageMap}
-use Rattle.rs_owners.specs.Owners.{Moves}
+use Rattle.rs_page_owners.specs.Owners.{Moves}
 use Rattle.rs_tree.specs.Form.{Form}
 use Rattle.rs_tree.specs.Content.{SaysChild, Child, IsLeaf, IsInner}
 use Rattle.rs_tree.specs.Shape.{Shape, Lies, page_of, cells_of, uses, child_of}
-use Rattle.rs_tree_search.specs.Walking.{IsPart}
+use Rattle.rs_tree.specs.Walking.{IsPart}
 
 -- how often a page is one of theirs
 abbrev pub uses_all : (height : ℕ) → List (Shape height) → ℕ → ℕ

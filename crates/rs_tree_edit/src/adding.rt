@@ -1,15 +1,15 @@
 //! Pages of records brought into use.
 
 ghost use Rattle.std.specs.Prelude.{◌≡◌, ◌≤◌, ◌<◌, ◌*◌, true, IfOk, length};
-ghost use Rattle.rs_owners.specs.Changes.{WorksAfter};
+ghost use Rattle.rs_page_owners.specs.Changes.{WorksAfter};
 ghost use Rattle.rs_page.specs.Header.{page_kind};
 ghost use Rattle.rs_records.specs.Records.{records};
 ghost use Rattle.rs_tree_edit.specs.Editing.{AddsPage, HasNoFreeList};
 
 use crate::editing::edit_page;
-use rs_measure::Refusal;
 use rs_page::{ContentKind, PageNumber};
 use rs_pages::Pages;
+use rs_refusal::Refusal;
 
 /// Brings a page into use that holds these records. It is refused as `allocate` is, and for want of memory.
 pub fn add_page<P: Pages>(

@@ -4,11 +4,11 @@ ghost use Rattle.std.specs.Prelude.{◌≡◌, ◌≤◌, ◌<◌, ◌*◌, ◌�
 ghost use Rattle.rs_records.specs.Order.{Ascends};
 ghost use Rattle.rs_records.specs.Records.{records, keys};
 ghost use Rattle.rs_tree.specs.Form.{least_from};
-ghost use Rattle.rs_tree_page.specs.Layouts.{entry_bytes};
+ghost use Rattle.rs_tree.specs.Layouts.{entry_bytes};
 ghost use Rattle.rs_tree_edit.specs.Choosing.{IsEntryFor};
 
 use rs_records::{place, record_at};
-use rs_tree_page::Layout;
+use rs_tree::Layout;
 
 /// Whether there is a record at this place that has this key from byte `from` on.
 pub fn has_key(bytes: &[u8], width: usize, count: usize, from: usize, at: usize, key: &[u8]) -> bool

@@ -1,7 +1,7 @@
 //! Records of a working page put in the place of others.
 
 ghost use Rattle.std.specs.Prelude.{◌≡◌, ◌≢◌, ◌≤◌, ◌<◌, ◌+◌, ◌-◌, ◌*◌, None, true, IfErr, OnOk, length, Err};
-ghost use Rattle.rs_owners.specs.Changes.{WorksAfter};
+ghost use Rattle.rs_page_owners.specs.Changes.{WorksAfter};
 ghost use Rattle.rs_page.specs.Header.{page_kind};
 ghost use Rattle.rs_pages.specs.PageMap.{HasNoFit};
 ghost use Rattle.rs_pages.specs.Uses.{HoldsUsed};
@@ -9,10 +9,10 @@ ghost use Rattle.rs_records.specs.Records.{records};
 ghost use Rattle.rs_tree.specs.Content.{tree_header};
 ghost use Rattle.rs_tree_edit.specs.Editing.{Splices};
 
-use rs_measure::Refusal;
 use rs_page::{ContentKind, PageHeader, PageNumber};
 use rs_pages::Pages;
-use rs_tree_page::splice_page;
+use rs_refusal::Refusal;
+use rs_tree::splice_page;
 
 /// Puts whole records in the place of some of the page with this number, and counts them: of `count` records those from
 /// `at` on, as many as `removed` says, give way to `more` added ones. It is refused as `page_mut` is; nothing has changed

@@ -1,21 +1,22 @@
 //! Entries of inner pages, written anew from the pages that they say.
 
 ghost use Rattle.std.specs.Prelude.{◌≡◌, ◌≢◌, OnOk, OnErr, IsOkUnless, length, Err};
-ghost use Rattle.rs_owners.specs.Changes.{WorksAfter};
+ghost use Rattle.rs_page_owners.specs.Changes.{WorksAfter};
 ghost use Rattle.rs_pages.specs.Lending.{RestsAfter};
 ghost use Rattle.rs_tree.specs.Form.{form_of};
-ghost use Rattle.rs_tree_page.specs.Layouts.{entry_bytes};
-ghost use Rattle.rs_tree_page.specs.Node.{IsNode};
-ghost use Rattle.rs_tree_page.specs.declared.node.Node.{Node};
-ghost use Rattle.rs_tree_search.specs.Reading.{HasNoNode};
+ghost use Rattle.rs_tree.specs.Layouts.{entry_bytes};
+ghost use Rattle.rs_tree.specs.Node.{IsNode};
+ghost use Rattle.rs_tree.specs.declared.node.Node.{Node};
+ghost use Rattle.rs_tree.specs.Reading.{HasNoNode};
 ghost use Rattle.rs_tree_edit.specs.Parts.{SaysPart, SaysNode};
 
-use rs_measure::Refusal;
 use rs_page::{Page, PageNumber};
 use rs_pages::Pages;
 use rs_records::record_at;
-use rs_tree::Summary;
-use rs_tree_page::{Layout, Node, content, inner_summary, leaf_summary, read_node, write_entry};
+use rs_refusal::Refusal;
+use rs_tree::{
+    Layout, Node, Summary, content, inner_summary, leaf_summary, read_node, write_entry,
+};
 
 /// Writes the entry that says the page with this number: the summary of its cells and the least of them are those of its
 /// own bytes. It is refused with 91, and with 94 where it is no page of a tree.

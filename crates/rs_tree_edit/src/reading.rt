@@ -1,15 +1,15 @@
 //! One page of a tree, read by itself.
 
 ghost use Rattle.std.specs.Prelude.{◌≢◌, IfOk, Err};
-ghost use Rattle.rs_owners.specs.Changes.{WorksAfter};
+ghost use Rattle.rs_page_owners.specs.Changes.{WorksAfter};
 ghost use Rattle.rs_pages.specs.Lending.{RestsAfter};
-ghost use Rattle.rs_tree_search.specs.Reading.{HasNoNode, IsLoaded};
+ghost use Rattle.rs_tree.specs.Reading.{HasNoNode, IsLoaded};
 
-use rs_measure::Refusal;
 use rs_page::{Page, PageNumber};
 use rs_pages::Pages;
-use rs_tree_page::{Layout, Node};
-use rs_tree_search::load::{Loaded, load, load_into};
+use rs_refusal::Refusal;
+use rs_tree::load::{Loaded, load, load_into};
+use rs_tree::{Layout, Node};
 
 /// A copy of the page with this number, which is one of a tree's. It is refused with 91, and with 94 where it is no page
 /// of a tree.

@@ -6,9 +6,9 @@ use Rattle.std.proofs.lemmas.List.Sums.{sum_by-append}
 use Rattle.std.specs.List.{AllZip, flat_map, sum_by}
 use Rattle.rs_page.specs.declared.header.PageKind.TheVariants as kind
 use Rattle.rs_pages.specs.PageMap.{PageMap}
-use Rattle.rs_owners.specs.Counts.{one_at, ◌&◌}
-use Rattle.rs_owners.specs.Owners.{Shares}
-use Rattle.rs_owners.proofs.Moving.{shares_same, moves_trans, moves_same, moves_part}
+use Rattle.rs_page_owners.specs.Counts.{one_at, ◌&◌}
+use Rattle.rs_page_owners.specs.Owners.{Shares}
+use Rattle.rs_page_owners.proofs.Moving.{shares_same, moves_trans, moves_same, moves_part}
 use Rattle.rs_tree.specs.Form.{Form, entry_width}
 use Rattle.rs_tree.specs.Content.{Child, SaysChild, HasRecords, content}
 use Rattle.rs_records.specs.Records.{records}

@@ -10,21 +10,21 @@ use Rattle.rs_pages.specs.PageMap.{PageMap, SamePages}
 use Rattle.rs_pages.proofs.FreeLists.{page_one}
 use Rattle.rs_records.specs.Order.{Ascends}
 use Rattle.rs_records.specs.Records.{records, keys, IsPlace}
-use Rattle.rs_owners.specs.Counts.{one_at, ◌&◌}
-use Rattle.rs_owners.specs.Owners.{Shares}
-use Rattle.rs_owners.proofs.Moving.{same_pages-moves, moves_trans}
+use Rattle.rs_page_owners.specs.Counts.{one_at, ◌&◌}
+use Rattle.rs_page_owners.specs.Owners.{Shares}
+use Rattle.rs_page_owners.proofs.Moving.{same_pages-moves, moves_trans}
 use Rattle.rs_tree.specs.Cells.{with_cell}
 use Rattle.rs_tree.specs.Form.{Form}
 use Rattle.rs_tree.specs.Content.{content, tree_header}
 use Rattle.rs_tree.specs.Shape.{Shape, cells_of, uses, child_of}
 use Rattle.rs_tree.proofs.Shapes.{lies_same}
-use Rattle.rs_tree_page.specs.Layouts.{form_with}
-use Rattle.rs_tree_page.specs.Node.{IsNode}
-use Rattle.rs_tree_page.specs.declared.layout.Layout.{Layout}
-use Rattle.rs_tree_page.specs.declared.node.Node.TheVariants.{Leaf}
-use Rattle.rs_tree_search.specs.Walking.{IsPart}
-use Rattle.rs_tree_search.proofs.Entering.{leaf_cells}
-use Rattle.rs_tree_search.proofs.Loading.{no_fit-no_node}
+use Rattle.rs_tree.specs.Layouts.{form_with}
+use Rattle.rs_tree.specs.Node.{IsNode}
+use Rattle.rs_tree.specs.declared.layout.Layout.{Layout}
+use Rattle.rs_tree.specs.declared.node.Node.TheVariants.{Leaf}
+use Rattle.rs_tree.specs.Walking.{IsPart}
+use Rattle.rs_tree.proofs.Entering.{leaf_cells}
+use Rattle.rs_tree.proofs.Loading.{no_fit-no_node}
 use Rattle.rs_tree_edit.specs.Editing.{Splices}
 use Rattle.rs_tree_edit.specs.Parts.{TakesPlace}
 use Rattle.rs_tree_edit.proofs.Between.{LiesBetween}

@@ -6,7 +6,7 @@ use Rattle.rs_page.specs.Number.{number_at}
 use Rattle.rs_tree.specs.Form.{Form, joined, child_bytes}
 use Rattle.rs_tree.specs.Content.{SaysChild}
 use Rattle.rs_tree.specs.Shape.{Shape, page_of, cells_of, child_of}
-use Rattle.rs_tree_page.proofs.Joining.{joined-append}
+use Rattle.rs_tree.proofs.Joining.{joined-append}
 use Rattle.rs_tree_insert.specs.Inserting.{Exchanges}
 
 regroup : (before b xs a after : List (List ℕ)) → before ++ ((b ++ (xs ++ a)) ++ after) ≡ (before ++ b) ++ (xs ++ (a ++ after))

@@ -1,24 +1,24 @@
 -- What is told of a part on its way down.
 use Rattle.std.proofs.Common.{◌≡◌, ◌≤◌, ℕ, zero, suc, false, Some, List, Result, Ok, Err, IfOk, slice_get, refl, subst, inr, arith}
-use Rattle.rs_measure.specs.declared.refusal.Refusal.TheVariants as refusal
+use Rattle.rs_refusal.specs.declared.refusal.Refusal.TheVariants as refusal
 use Rattle.rs_pages.specs.PageMap.{PageMap}
 use Rattle.rs_pages.specs.Store.{Store}
 use Rattle.rs_pages.proofs.Stores.{KeepsCounts-refl, damaged_file-counts}
 use Rattle.rs_records.specs.Order.{Ascends}
 use Rattle.rs_records.specs.Records.{records, keys}
-use Rattle.rs_owners.specs.Changes.{WorksAfter}
-use Rattle.rs_owners.specs.Counts.{◌&◌}
-use Rattle.rs_owners.specs.Owners.{Shares}
+use Rattle.rs_page_owners.specs.Changes.{WorksAfter}
+use Rattle.rs_page_owners.specs.Counts.{◌&◌}
+use Rattle.rs_page_owners.specs.Owners.{Shares}
 use Rattle.rs_tree.specs.Form.{least_from}
 use Rattle.rs_tree.specs.Content.{content}
 use Rattle.rs_tree.specs.Shape.{Shape, cells_of, uses, size_of}
-use Rattle.rs_tree_page.specs.Layouts.{form_with, entry_bytes}
-use Rattle.rs_tree_page.specs.Node.{IsNode}
-use Rattle.rs_tree_page.specs.declared.layout.Layout.{Layout}
-use Rattle.rs_tree_page.specs.declared.node.Node.TheVariants.{Inner}
-use Rattle.rs_tree_search.specs.Reading.{HasNoNode}
-use Rattle.rs_tree_search.specs.Walking.{IsPart}
-use Rattle.rs_tree_search.proofs.Entering.{no_node-no_part, inner_no_leaf, entry_there}
+use Rattle.rs_tree.specs.Layouts.{form_with, entry_bytes}
+use Rattle.rs_tree.specs.Node.{IsNode}
+use Rattle.rs_tree.specs.declared.layout.Layout.{Layout}
+use Rattle.rs_tree.specs.declared.node.Node.TheVariants.{Inner}
+use Rattle.rs_tree.specs.Reading.{HasNoNode}
+use Rattle.rs_tree.specs.Walking.{IsPart}
+use Rattle.rs_tree.proofs.Entering.{no_node-no_part, inner_no_leaf, entry_there}
 use Rattle.rs_tree_edit.specs.Choosing.{IsEntryFor}
 use Rattle.rs_tree_insert.specs.Inserting.{HasNoShared}
 use Rattle.rs_tree_insert.specs.Writing.{is_found}

@@ -7,9 +7,9 @@ use Rattle.std.specs.List.{AllByRecursion, Contains, flat_map}
 use Rattle.rs_page.specs.declared.header.PageKind.TheVariants as kind
 use Rattle.rs_pages.specs.PageMap.{PageMap}
 use Rattle.rs_records.specs.Order.{Ascends}
-use Rattle.rs_owners.specs.Counts.{one_at, no_pages, ◌&◌}
-use Rattle.rs_owners.specs.Owners.{Shares, Moves}
-use Rattle.rs_owners.proofs.Moving.{shares_same, moves_trans, moves_same, moves_part, same_pages-moves}
+use Rattle.rs_page_owners.specs.Counts.{one_at, no_pages, ◌&◌}
+use Rattle.rs_page_owners.specs.Owners.{Shares, Moves}
+use Rattle.rs_page_owners.proofs.Moving.{shares_same, moves_trans, moves_same, moves_part, same_pages-moves}
 use Rattle.rs_tree.specs.Calls.{Changes, Becomes, IsNotShared}
 use Rattle.rs_tree.specs.Cells.{with_cell}
 use Rattle.rs_tree.specs.Form.{Form}
@@ -17,7 +17,7 @@ use Rattle.rs_tree.specs.Shape.{Shape, Lies, page_of, cells_of, uses, child_of}
 use Rattle.rs_tree.specs.Tree.{IsTree, Stands}
 use Rattle.rs_tree.proofs.Bounds.{size-le, size-ge}
 use Rattle.rs_tree.proofs.Lists.{zip_lengths}
-use Rattle.rs_tree_search.specs.Walking.{IsPart}
+use Rattle.rs_tree.specs.Walking.{IsPart}
 use Rattle.rs_tree_edit.specs.Editing.{AddsPage, HasNoFreeList, Lists}
 use Rattle.rs_tree_edit.specs.Parts.{TakesPlace, SaysPart, uses_all}
 use Rattle.rs_tree_edit.proofs.Replacing.{parts_kept, parts_same}

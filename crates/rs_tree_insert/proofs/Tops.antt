@@ -12,11 +12,11 @@ use Rattle.rs_records.specs.Records.{records}
 use Rattle.rs_records.proofs.RecordLists.{records_more, records_none, records-take}
 use Rattle.rs_tree.specs.Form.{Form}
 use Rattle.rs_tree.specs.Shape.{Shape, Lies, page_of, size_of}
-use Rattle.rs_tree_page.specs.Layouts.{form_with}
-use Rattle.rs_tree_page.specs.declared.layout.Layout.{Layout}
-use Rattle.rs_tree_search.specs.Reading.{HasNoNode}
-use Rattle.rs_tree_search.specs.Walking.{IsPart}
-use Rattle.rs_tree_search.proofs.Entering.{no_node-no_part}
+use Rattle.rs_tree.specs.Layouts.{form_with}
+use Rattle.rs_tree.specs.declared.layout.Layout.{Layout}
+use Rattle.rs_tree.specs.Reading.{HasNoNode}
+use Rattle.rs_tree.specs.Walking.{IsPart}
+use Rattle.rs_tree.proofs.Entering.{no_node-no_part}
 use Rattle.rs_tree_edit.specs.Parts.{SaysPart}
 use Rattle.rs_tree_insert.specs.Inserting.{tops, HasNoTops, SaysTops}
 use Rattle.rs_tree_insert.specs.declared.answer.Put.{Put}

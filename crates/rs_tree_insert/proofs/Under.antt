@@ -11,9 +11,9 @@ use Rattle.rs_pages.proofs.Stores.{SamePages-refl, SamePages-trans}
 use Rattle.rs_records.specs.Order.{Ascends}
 use Rattle.rs_records.specs.Records.{records, keys}
 use Rattle.rs_records.proofs.RecordLists.{length-records}
-use Rattle.rs_owners.specs.Counts.{◌&◌}
-use Rattle.rs_owners.specs.Owners.{Shares}
-use Rattle.rs_owners.proofs.Moving.{same_pages-moves, moves_same}
+use Rattle.rs_page_owners.specs.Counts.{◌&◌}
+use Rattle.rs_page_owners.specs.Owners.{Shares}
+use Rattle.rs_page_owners.proofs.Moving.{same_pages-moves, moves_same}
 use Rattle.rs_tree.specs.Cells.{with_cell}
 use Rattle.rs_tree.specs.Form.{Form, child_bytes, least_from}
 use Rattle.rs_tree.specs.Content.{SaysChild, HasRecords, content}
@@ -21,14 +21,14 @@ use Rattle.rs_tree.specs.Shape.{Shape, Lies, page_of, cells_of, uses, child_of}
 use Rattle.rs_tree.proofs.Lists.{has_inside}
 use Rattle.rs_tree.proofs.Parts.{leasts_ascend}
 use Rattle.rs_tree.proofs.Shapes.{lies_same, entries_leasts, part_ascends}
-use Rattle.rs_tree_page.specs.Layouts.{form_with, entry_bytes}
-use Rattle.rs_tree_page.specs.Node.{IsNode}
-use Rattle.rs_tree_page.specs.declared.layout.Layout.{Layout}
-use Rattle.rs_tree_page.specs.declared.node.Node.TheVariants.{Inner}
-use Rattle.rs_tree_search.specs.Walking.{IsPart, AreEntriesOf, IsEntryOf}
-use Rattle.rs_tree_search.proofs.Entering.{inner_no_leaf, inner_parts}
-use Rattle.rs_tree_search.proofs.Entries.{part_at}
-use Rattle.rs_tree_search.proofs.Loading.{no_fit-no_node}
+use Rattle.rs_tree.specs.Layouts.{form_with, entry_bytes}
+use Rattle.rs_tree.specs.Node.{IsNode}
+use Rattle.rs_tree.specs.declared.layout.Layout.{Layout}
+use Rattle.rs_tree.specs.declared.node.Node.TheVariants.{Inner}
+use Rattle.rs_tree.specs.Walking.{IsPart, AreEntriesOf, IsEntryOf}
+use Rattle.rs_tree.proofs.Entering.{inner_no_leaf, inner_parts}
+use Rattle.rs_tree.proofs.Entries.{part_at}
+use Rattle.rs_tree.proofs.Loading.{no_fit-no_node}
 use Rattle.rs_tree_edit.specs.Choosing.{IsEntryFor}
 use Rattle.rs_tree_edit.specs.Editing.{Lists, Splices}
 use Rattle.rs_tree_edit.specs.Parts.{TakesPlace, SaysPart, uses_all}

@@ -5,10 +5,10 @@ use Rattle.rs_records.specs.Order.{Ascends}
 use Rattle.rs_records.specs.Records.{records, keys, IsPlace}
 use Rattle.rs_tree.specs.Content.{content}
 use Rattle.rs_tree.specs.Form.{least_from}
-use Rattle.rs_tree_page.specs.Layouts.{entry_bytes}
-use Rattle.rs_tree_page.specs.Node.{IsNode}
-use Rattle.rs_tree_page.specs.declared.layout.Layout.{Layout}
-use Rattle.rs_tree_page.specs.declared.node.Node.TheVariants as node
+use Rattle.rs_tree.specs.Layouts.{entry_bytes}
+use Rattle.rs_tree.specs.Node.{IsNode}
+use Rattle.rs_tree.specs.declared.layout.Layout.{Layout}
+use Rattle.rs_tree.specs.declared.node.Node.TheVariants as node
 use Rattle.rs_tree_edit.specs.Choosing.{IsEntryFor}
 use Rattle.rs_tree_insert.specs.declared.finding.Spot.{Spot}
 use Rattle.rs_tree_insert.specs.declared.finding.Spot.TheVariants as spot

@@ -4,14 +4,14 @@ use Rattle.std.specs.List.{AllByRecursion, AllZip}
 use Rattle.rs_page.specs.declared.header.PageKind.TheVariants as kind
 use Rattle.rs_pages.specs.PageMap.{PageMap, SamePages}
 use Rattle.rs_records.specs.Order.{Ascends}
-use Rattle.rs_owners.specs.Counts.{◌&◌}
-use Rattle.rs_owners.specs.Owners.{Shares}
+use Rattle.rs_page_owners.specs.Counts.{◌&◌}
+use Rattle.rs_page_owners.specs.Owners.{Shares}
 use Rattle.rs_tree.specs.Cells.{with_cell}
 use Rattle.rs_records.specs.Records.{records}
 use Rattle.rs_tree.specs.Content.{content}
 use Rattle.rs_tree.specs.Form.{Form, child_bytes, entry_width}
 use Rattle.rs_tree.specs.Shape.{Shape, Lies, page_of, cells_of, uses}
-use Rattle.rs_tree_search.specs.Walking.{IsPart}
+use Rattle.rs_tree.specs.Walking.{IsPart}
 use Rattle.rs_tree_edit.specs.Editing.{AddsPage}
 use Rattle.rs_tree_edit.specs.Parts.{TakesPlace, SaysPart}
 use Rattle.rs_tree_insert.specs.Writing.{PutsRecords, is_found}

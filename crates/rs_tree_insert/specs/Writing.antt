@@ -3,8 +3,8 @@ use Rattle.std.specs.Prelude.{◌≡◌, ◌⊎◌, ◌<◌, ◌≤◌, ◌+◌,
 use Rattle.rs_page.specs.declared.header.PageKind.{PageKind}
 use Rattle.rs_pages.specs.PageMap.{PageMap, HasNoFit}
 use Rattle.rs_records.specs.Records.{records}
-use Rattle.rs_owners.specs.Counts.{one_at, ◌&◌}
-use Rattle.rs_owners.specs.Owners.{Moves}
+use Rattle.rs_page_owners.specs.Counts.{one_at, ◌&◌}
+use Rattle.rs_page_owners.specs.Owners.{Moves}
 use Rattle.rs_tree.specs.Content.{content}
 use Rattle.rs_tree_edit.specs.Editing.{Lists, Splices, HasNoFreeList}
 use Rattle.rs_tree_insert.specs.declared.answer.Put.{Put}

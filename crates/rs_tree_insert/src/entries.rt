@@ -1,20 +1,19 @@
 //! The entries of a page below, and of the one that was split off it.
 
 ghost use Rattle.std.specs.Prelude.{◌≡◌, ◌*◌, IfOk, length};
-ghost use Rattle.rs_owners.specs.Changes.{WorksAfter};
+ghost use Rattle.rs_page_owners.specs.Changes.{WorksAfter};
 ghost use Rattle.rs_pages.specs.Lending.{RestsAfter};
 ghost use Rattle.rs_records.specs.Records.{records};
 ghost use Rattle.rs_tree.specs.Form.{form_of};
-ghost use Rattle.rs_tree_page.specs.Layouts.{entry_bytes};
+ghost use Rattle.rs_tree.specs.Layouts.{entry_bytes};
 ghost use Rattle.rs_tree_insert.specs.Inserting.{HasNoTops, SaysTops, tops};
 
 use crate::answer::Put;
-use rs_measure::Refusal;
 use rs_page::PageNumber;
 use rs_pages::Pages;
-use rs_tree::Summary;
+use rs_refusal::Refusal;
+use rs_tree::{Layout, Summary};
 use rs_tree_edit::write_entry_of;
-use rs_tree_page::Layout;
 
 /// The bytes of an entry at the most.
 pub const ONE_ENTRY: usize = 1360;

@@ -3,19 +3,19 @@
 //! The page is only lent: of an inner page the one entry that the cell belongs under is copied, and of a leaf nothing.
 
 ghost use Rattle.std.specs.Prelude.{◌≡◌, ◌≤◌, ◌*◌, ℕ, List, IfOk, OnErr, IsOkUnless, length};
-ghost use Rattle.rs_owners.specs.Changes.{WorksAfter};
+ghost use Rattle.rs_page_owners.specs.Changes.{WorksAfter};
 ghost use Rattle.rs_pages.specs.Lending.{RestsAfter};
-ghost use Rattle.rs_tree_page.specs.Layouts.{entry_bytes};
-ghost use Rattle.rs_tree_page.specs.Node.{IsNode};
-ghost use Rattle.rs_tree_page.specs.declared.node.Node.{Node};
-ghost use Rattle.rs_tree_search.specs.Reading.{HasNoNode};
+ghost use Rattle.rs_tree.specs.Layouts.{entry_bytes};
+ghost use Rattle.rs_tree.specs.Node.{IsNode};
+ghost use Rattle.rs_tree.specs.declared.node.Node.{Node};
+ghost use Rattle.rs_tree.specs.Reading.{HasNoNode};
 
-use rs_measure::Refusal;
 use rs_page::{Page, PageNumber};
 use rs_pages::Pages;
 use rs_records::{place, record_at};
+use rs_refusal::Refusal;
+use rs_tree::{Layout, Node, content, read_node};
 use rs_tree_edit::{entry_for, has_key};
-use rs_tree_page::{Layout, Node, content, read_node};
 
 /// A cell is in a leaf; or it belongs in a leaf of so many cells, at a place; or under one of so many entries, by its place.
 #[derive(Clone, Copy)]

@@ -1,12 +1,12 @@
 //! The path of a cell: down to its leaf, and up again.
 
 ghost use Rattle.std.specs.Prelude.{◌≡◌, ◌⊎◌, ◌<◌, ◌≤◌, ◌*◌, ℕ, List, Some, true, false, [], ◌∷◌, IfOk, IsTrue, length, take, drop, slice_get};
-ghost use Rattle.rs_owners.specs.Changes.{WorksAfter};
+ghost use Rattle.rs_page_owners.specs.Changes.{WorksAfter};
 ghost use Rattle.rs_pages.specs.PageMap.{SamePages};
 ghost use Rattle.rs_records.specs.Records.{records};
 ghost use Rattle.rs_tree.specs.Content.{content};
 ghost use Rattle.rs_tree.specs.Form.{child_bytes, form_of};
-ghost use Rattle.rs_tree_page.specs.Layouts.{entry_bytes};
+ghost use Rattle.rs_tree.specs.Layouts.{entry_bytes};
 ghost use Rattle.rs_tree_insert.specs.Finding.{BelongsAt, BelongsUnder};
 ghost use Rattle.rs_tree_insert.specs.Inserting.{HasNoShared, HasNoTops, PutsBelow, TellsBelow, WritesAbove, tops};
 ghost use Rattle.rs_tree_insert.specs.Writing.{IsBroken, is_found};
@@ -15,12 +15,11 @@ use crate::answer::Put;
 use crate::entries::{ONE_ENTRY, TWO_ENTRIES, write_entries};
 use crate::finding::{Spot, find_spot};
 use crate::writing::put_records;
-use rs_measure::Refusal;
 use rs_page::{ContentKind, PageNumber};
 use rs_pages::Pages;
-use rs_tree::Summary;
-use rs_tree_page::Layout;
-use rs_tree_page::entry::{child, summary};
+use rs_refusal::Refusal;
+use rs_tree::entry::{child, summary};
+use rs_tree::{Layout, Summary};
 
 /// Puts a cell into the part of a tree with this page at its top, which is the last of its level or not. Entries are written
 /// into `entries` on the way up.

@@ -1,7 +1,7 @@
 //! A cell put into a whole tree, from its root.
 
 ghost use Rattle.std.specs.Prelude.{◌≡◌, ◌⊎◌, ◌↔◌, ℕ, true, false, List, Contains, IsTrue, IfOk, length};
-ghost use Rattle.rs_owners.specs.Changes.{WorksAfter};
+ghost use Rattle.rs_page_owners.specs.Changes.{WorksAfter};
 ghost use Rattle.rs_pages.specs.PageMap.{SamePages};
 ghost use Rattle.rs_tree.specs.Calls.{Changes, IsNotShared};
 ghost use Rattle.rs_tree.specs.Cells.{with_cell};
@@ -14,13 +14,11 @@ ghost use Rattle.rs_tree_edit.specs.Editing.{HasNoFreeList};
 use crate::answer::Put;
 use crate::entries::{TWO_ENTRIES, write_entries};
 use crate::path::insert_below;
-use rs_measure::Refusal;
 use rs_page::{ContentKind, PageNumber};
 use rs_pages::Pages;
-use rs_tree::Summary;
+use rs_refusal::Refusal;
+use rs_tree::{LEVELS, Layout, Summary};
 use rs_tree_edit::add_page;
-use rs_tree_page::Layout;
-use rs_tree_search::LEVELS;
 
 /// What became of a tree: its root, and whether the cell was not there before.
 #[derive(Clone, Copy)]

@@ -1,7 +1,7 @@
 //! Records that fit no page, put into two.
 
 ghost use Rattle.std.specs.Prelude.{◌≡◌, ◌≤◌, ◌<◌, ◌+◌, ◌-◌, ◌*◌, ℕ, List, Some, true, IfOk, OnOk, length, take};
-ghost use Rattle.rs_owners.specs.Changes.{WorksAfter};
+ghost use Rattle.rs_page_owners.specs.Changes.{WorksAfter};
 ghost use Rattle.rs_page.specs.Header.{page_kind};
 ghost use Rattle.rs_pages.specs.PageMap.{HasNoFit};
 ghost use Rattle.rs_records.specs.Records.{records};
@@ -9,12 +9,12 @@ ghost use Rattle.rs_tree.specs.Content.{content, tree_header};
 ghost use Rattle.rs_tree_edit.specs.Editing.{Splices};
 ghost use Rattle.rs_tree_insert.specs.Writing.{IsBroken, SplitsPage, spliced};
 
-use rs_measure::Refusal;
 use rs_page::{ContentKind, Page, PageHeader, PageNumber};
 use rs_pages::Pages;
 use rs_records::splice;
+use rs_refusal::Refusal;
+use rs_tree::{content, splice_page};
 use rs_tree_edit::add_page;
-use rs_tree_page::{content, splice_page};
 
 /// The bytes that two pages have for records.
 const TWO_PAGES: usize = 2 * 4080;

@@ -1,16 +1,16 @@
 //! Records of a page put in the place of others, in one page or two.
 
 ghost use Rattle.std.specs.Prelude.{◌≡◌, ◌≤◌, ◌<◌, ◌+◌, ◌*◌, ℕ, List, Some, true, false, IfOk, length};
-ghost use Rattle.rs_owners.specs.Changes.{WorksAfter};
+ghost use Rattle.rs_page_owners.specs.Changes.{WorksAfter};
 ghost use Rattle.rs_page.specs.Header.{page_kind};
 ghost use Rattle.rs_records.specs.Records.{records};
 ghost use Rattle.rs_tree_insert.specs.Writing.{IsBroken, PutsRecords, is_found};
 
 use crate::answer::Put;
 use crate::splitting::split_page;
-use rs_measure::Refusal;
 use rs_page::{ContentKind, PageNumber};
 use rs_pages::Pages;
+use rs_refusal::Refusal;
 use rs_tree_edit::edit_page;
 
 /// Puts records in the place of some of the page with this number, one more than before at the most. Where they fit it no

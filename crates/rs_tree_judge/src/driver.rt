@@ -7,13 +7,13 @@ use crate::cells::{NARROWEST, WIDEST, put_cell};
 use rs_btree::Tree;
 use rs_disk::{FailingDisk, MemoryDisk};
 use rs_interval::{GreatestEnd, overlapping};
-use rs_measure::Refusal;
 use rs_page::PageNumber;
+use rs_page_marks::Reached;
 use rs_pager::Pager;
 use rs_pages::Pages;
-use rs_reached::Reached;
 use rs_records::Cells;
-use rs_tree_page::Layout;
+use rs_refusal::Refusal;
+use rs_tree::Layout;
 use std::alloc::Global;
 
 /// A disk in memory of which one call may fail.

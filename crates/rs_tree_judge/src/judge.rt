@@ -7,8 +7,8 @@ use crate::cells::{are_cells, route_of, start_of};
 use crate::driver::{TestDisk, TreeAt, TreeDriver};
 use crate::plain::{KEYS, PlainKeys};
 use rs_disk::Disk;
-use rs_measure::Refusal;
-use rs_reached::Reached;
+use rs_page_marks::Reached;
+use rs_refusal::Refusal;
 use std::alloc::Global;
 
 /// A call, and what it is given. It goes to one of the two trees.

@@ -1,3 +1,9 @@
+pub mod Leaves
+pub mod Refusing
+pub mod Written
+pub mod Joining
+pub mod Lonely
+pub mod Sharing
 pub mod Passing
 pub mod Under
 pub mod Whole

@@ -2,24 +2,24 @@
 use Rattle.std.proofs.Common.{◌≡◌, ◌≤◌, ℕ, zero, suc, Some, List, [], ◌∷◌, sym, ◌∙◌, arith}
 use Rattle.rs_pages.specs.PageMap.{PageMap, SamePages}
 use Rattle.rs_pages.proofs.Stores.{SamePages-trans}
-use Rattle.rs_owners.specs.Counts.{◌&◌, no_pages}
-use Rattle.rs_owners.specs.Owners.{Shares}
-use Rattle.rs_owners.proofs.Moving.{shares_same, moves_trans, same_pages-moves}
+use Rattle.rs_page_owners.specs.Counts.{◌&◌, no_pages}
+use Rattle.rs_page_owners.specs.Owners.{Shares}
+use Rattle.rs_page_owners.proofs.Moving.{shares_same, moves_trans, same_pages-moves}
 use Rattle.rs_records.specs.Order.{Ascends}
 use Rattle.rs_tree.specs.Form.{Form}
 use Rattle.rs_tree.specs.Shape.{Shape, cells_of, uses, size_of}
 use Rattle.rs_tree.proofs.Shapes.{lies_same}
-use Rattle.rs_tree_page.specs.Layouts.{form_with}
-use Rattle.rs_tree_page.specs.Node.{IsNode}
-use Rattle.rs_tree_page.specs.declared.layout.Layout.{Layout}
-use Rattle.rs_tree_page.specs.declared.node.Node.TheVariants.{Inner}
-use Rattle.rs_tree_search.specs.Reading.{HasNoNode}
-use Rattle.rs_tree_search.specs.Walking.{IsPart}
-use Rattle.rs_tree_search.proofs.Entering.{no_node-no_part, inner_no_leaf}
+use Rattle.rs_tree.specs.Layouts.{form_with}
+use Rattle.rs_tree.specs.Node.{IsNode}
+use Rattle.rs_tree.specs.declared.layout.Layout.{Layout}
+use Rattle.rs_tree.specs.declared.node.Node.TheVariants.{Inner}
+use Rattle.rs_tree.specs.Reading.{HasNoNode}
+use Rattle.rs_tree.specs.Walking.{IsPart}
+use Rattle.rs_tree.proofs.Entering.{no_node-no_part, inner_no_leaf}
 use Rattle.rs_tree_edit.specs.Parts.{TakesPlace, uses_all}
-use Rattle.rs_tree_shrink.specs.Leaving.{IsLeft, IsOut, IsRemoved, RemovesPart, HasNoOwnPart}
-use Rattle.rs_tree_shrink.specs.declared.answer.Removed.{Removed}
-use Rattle.rs_tree_shrink.specs.declared.answer.Removed.TheVariants.{Missing, Kept, Gone, Single}
+use Rattle.rs_tree_remove.specs.Leaving.{IsLeft, IsOut, IsRemoved, RemovesPart, HasNoOwnPart}
+use Rattle.rs_tree_remove.specs.declared.answer.Removed.{Removed}
+use Rattle.rs_tree_remove.specs.declared.answer.Removed.TheVariants.{Missing, Kept, Gone, Single}
 
 pub shares_later : (old mid : PageMap) (used : ℕ → ℕ) → SamePages mid old → Shares old used → Shares mid used
 shares_later old mid used same shares =

@@ -5,8 +5,8 @@ use Rattle.rs_page.specs.Number.{number_at}
 use Rattle.rs_pages.specs.PageMap.{PageMap}
 use Rattle.rs_pages.proofs.FreeLists.{page_one}
 use Rattle.rs_pages.proofs.Stores.{SamePages-refl}
-use Rattle.rs_owners.specs.Counts.{one_at, ◌&◌}
-use Rattle.rs_owners.specs.Owners.{Shares, Moves}
+use Rattle.rs_page_owners.specs.Counts.{one_at, ◌&◌}
+use Rattle.rs_page_owners.specs.Owners.{Shares, Moves}
 use Rattle.rs_records.specs.Order.{Ascends}
 use Rattle.rs_records.specs.Records.{records, keys}
 use Rattle.rs_tree.specs.Cells.{without_cell}
@@ -15,24 +15,24 @@ use Rattle.rs_tree.specs.Form.{Form, entry_width, least_from}
 use Rattle.rs_tree.specs.Shape.{Shape, Lies, cells_of, uses}
 use Rattle.rs_tree.proofs.Parts.{leasts_ascend}
 use Rattle.rs_tree.proofs.Shapes.{entries_leasts, part_ascends}
-use Rattle.rs_tree_page.specs.Layouts.{form_with}
-use Rattle.rs_tree_page.specs.Node.{IsNode}
-use Rattle.rs_tree_page.specs.declared.layout.Layout.{Layout}
-use Rattle.rs_tree_page.specs.declared.node.Node.TheVariants.{Inner}
-use Rattle.rs_tree_search.specs.Walking.{IsPart, IsEntryOf, AreEntriesOf}
-use Rattle.rs_tree_search.proofs.Entering.{inner_no_leaf, inner_parts}
-use Rattle.rs_tree_search.proofs.Entries.{part_at}
+use Rattle.rs_tree.specs.Layouts.{form_with}
+use Rattle.rs_tree.specs.Node.{IsNode}
+use Rattle.rs_tree.specs.declared.layout.Layout.{Layout}
+use Rattle.rs_tree.specs.declared.node.Node.TheVariants.{Inner}
+use Rattle.rs_tree.specs.Walking.{IsPart, IsEntryOf, AreEntriesOf}
+use Rattle.rs_tree.proofs.Entering.{inner_no_leaf, inner_parts}
+use Rattle.rs_tree.proofs.Entries.{part_at}
 use Rattle.rs_tree_edit.specs.Choosing.{IsEntryFor}
 use Rattle.rs_tree_edit.specs.Parts.{TakesPlace, uses_all}
 use Rattle.rs_tree_edit.proofs.Between.{LiesBetween, lies_between, among_between, among_all}
 use Rattle.rs_tree_edit.proofs.Pieces.{flat_at, flat_between}
 use Rattle.rs_tree_edit.proofs.Replacing.{part_replaced, part_shares, beside_part}
-use Rattle.rs_tree_shrink.specs.Finishing.{GaveWay, Finishes, NoneGaveWay}
-use Rattle.rs_tree_shrink.specs.Leaving.{LeavesOne, IsLeft, IsRemoved, RemovesPart, HasNoOwnPart}
-use Rattle.rs_tree_shrink.specs.declared.answer.Removed.{Removed}
-use Rattle.rs_tree_shrink.specs.declared.answer.Removed.TheVariants.{Missing, Kept, Gone, Single}
-use Rattle.rs_tree_shrink.proofs.Leaves.{without_between}
-use Rattle.rs_tree_mend.specs.Mending.{IsLonely, Mends, NoneLonely}
+use Rattle.rs_tree_remove.specs.Finishing.{GaveWay, Finishes, NoneGaveWay}
+use Rattle.rs_tree_remove.specs.Leaving.{LeavesOne, IsLeft, IsRemoved, RemovesPart, HasNoOwnPart}
+use Rattle.rs_tree_remove.specs.declared.answer.Removed.{Removed}
+use Rattle.rs_tree_remove.specs.declared.answer.Removed.TheVariants.{Missing, Kept, Gone, Single}
+use Rattle.rs_tree_remove.proofs.Leaves.{without_between}
+use Rattle.rs_tree_remove.specs.Mending.{IsLonely, Mends, NoneLonely}
 use Rattle.rs_tree_remove.proofs.Passing.{out_removed}
 
 module _ (says : List ℕ → List (List ℕ) → Type 0) (layout : Layout) (old : PageMap) (number : ℕ) (page : List ℕ) (count at below : ℕ) (cell entry : List ℕ) (node : IsNode page number layout (Inner count)) (lent : old.page number ≡ Some page)

@@ -11,9 +11,9 @@ use Rattle.rs_pages.specs.Uses.{ReleasesPage}
 use Rattle.rs_pages.proofs.Stores.{SamePages-refl}
 use Rattle.rs_records.specs.Order.{is_below, Ascends}
 use Rattle.rs_records.proofs.Orders.{is_below-trans, is_below-cases}
-use Rattle.rs_owners.specs.Counts.{one_at, ◌&◌, no_pages}
-use Rattle.rs_owners.specs.Owners.{Shares, Moves}
-use Rattle.rs_owners.proofs.Moving.{shares_same, moves_same, moves_trans, moves_part, same_pages-moves, releases-moves}
+use Rattle.rs_page_owners.specs.Counts.{one_at, ◌&◌, no_pages}
+use Rattle.rs_page_owners.specs.Owners.{Shares, Moves}
+use Rattle.rs_page_owners.proofs.Moving.{shares_same, moves_same, moves_trans, moves_part, same_pages-moves, releases-moves}
 use Rattle.rs_tree.specs.Calls.{Becomes, Changes, IsNotShared}
 use Rattle.rs_tree.specs.Cells.{without_cell, cells_above}
 use Rattle.rs_tree.specs.Form.{Form}
@@ -26,12 +26,12 @@ use Rattle.rs_tree.proofs.Shapes.{lies_same}
 use Rattle.rs_tree_edit.specs.Parts.{uses_all}
 use Rattle.rs_tree_edit.proofs.Between.{AllAbove, below_none, above_all}
 use Rattle.rs_tree_edit.proofs.Replacing.{used_there}
-use Rattle.rs_tree_shrink.specs.Leaving.{IsRemoved, RemovesPart, HasNoOwnPart}
-use Rattle.rs_tree_shrink.specs.declared.answer.Removed.{Removed}
-use Rattle.rs_tree_shrink.specs.declared.answer.Removed.TheVariants.{Missing, Kept, Gone, Single}
-use Rattle.rs_tree_shrink.proofs.Leaves.{without_at}
-use Rattle.rs_tree_shrink.proofs.Refusing.{NotReleased, part_lent, lent-released}
-use Rattle.rs_tree_shrink.proofs.Written.{one_of, none_of}
+use Rattle.rs_tree_remove.specs.Leaving.{IsRemoved, RemovesPart, HasNoOwnPart}
+use Rattle.rs_tree_remove.specs.declared.answer.Removed.{Removed}
+use Rattle.rs_tree_remove.specs.declared.answer.Removed.TheVariants.{Missing, Kept, Gone, Single}
+use Rattle.rs_tree_remove.proofs.Leaves.{without_at}
+use Rattle.rs_tree_remove.proofs.Refusing.{NotReleased, part_lent, lent-released}
+use Rattle.rs_tree_remove.proofs.Written.{one_of, none_of}
 
 all_above_from : (cell first : List ℕ) (cs : List (List ℕ)) → is_below cell first ≡ true → AllByRecursion (λ other. IsTrue (is_below first other)) cs → AllAbove cell cs
 all_above_from cell first [] h all = tt

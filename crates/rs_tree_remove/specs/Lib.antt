@@ -1,0 +1,3 @@
+pub mod Leaving
+pub mod Finishing
+pub mod Mending

@@ -1,23 +1,21 @@
 //! The path of a cell: down to its leaf, and up again.
 
 ghost use Rattle.std.specs.Prelude.{◌≡◌, ◌≢◌, ◌≤◌, ◌<◌, Some, true, IfOk, Err};
-ghost use Rattle.rs_owners.specs.Changes.{WorksAfter};
+ghost use Rattle.rs_page_owners.specs.Changes.{WorksAfter};
 ghost use Rattle.rs_tree.specs.Form.{form_of};
-ghost use Rattle.rs_tree_page.specs.Node.{IsNode};
-ghost use Rattle.rs_tree_shrink.specs.Leaving.{RemovesPart, HasNoOwnPart};
+ghost use Rattle.rs_tree.specs.Node.{IsNode};
+ghost use Rattle.rs_tree_remove.specs.Leaving.{RemovesPart, HasNoOwnPart};
 
-use rs_measure::Refusal;
+use crate::finishing::{drop_entry, renew_entry};
+use crate::leaf::remove_from_leaf;
+use crate::{Removed, mend};
 use rs_page::{Page, PageNumber};
 use rs_pages::Pages;
 use rs_records::record_at;
-use rs_tree::Summary;
+use rs_refusal::Refusal;
+use rs_tree::entry::child;
+use rs_tree::{Layout, Node, Summary, content};
 use rs_tree_edit::{entry_for, read_part};
-use rs_tree_mend::mend;
-use rs_tree_page::entry::child;
-use rs_tree_page::{Layout, Node, content};
-use rs_tree_shrink::Removed;
-use rs_tree_shrink::finishing::{drop_entry, renew_entry};
-use rs_tree_shrink::leaf::remove_from_leaf;
 
 /// Takes a cell out of the part of a tree with this page at its top.
 #[cycle(removing)]

@@ -1,22 +1,20 @@
 //! A cell taken out of a whole tree, from its root.
 
 ghost use Rattle.std.specs.Prelude.{◌≡◌, ◌≢◌, ◌↔◌, ℕ, true, List, Contains, IsTrue, IfOk, Err};
-ghost use Rattle.rs_owners.specs.Changes.{WorksAfter};
-ghost use Rattle.rs_owners.specs.Counts.{◌&◌};
-ghost use Rattle.rs_owners.specs.Owners.{Shares};
+ghost use Rattle.rs_page_owners.specs.Changes.{WorksAfter};
+ghost use Rattle.rs_page_owners.specs.Counts.{◌&◌};
+ghost use Rattle.rs_page_owners.specs.Owners.{Shares};
 ghost use Rattle.rs_tree.specs.Calls.{Changes, IsNotShared};
 ghost use Rattle.rs_tree.specs.Cells.{without_cell};
 ghost use Rattle.rs_tree.specs.Form.{form_of};
 ghost use Rattle.rs_tree.specs.Tree.{IsTree};
 
+use crate::Removed;
 use crate::path::remove_below;
-use rs_measure::Refusal;
 use rs_page::PageNumber;
 use rs_pages::Pages;
-use rs_tree::Summary;
-use rs_tree_page::Layout;
-use rs_tree_search::LEVELS;
-use rs_tree_shrink::Removed;
+use rs_refusal::Refusal;
+use rs_tree::{LEVELS, Layout, Summary};
 
 /// Takes a cell out of the tree with this root (0: the empty one), and answers the root of what is left and whether the cell was
 /// there. No page is needed. It is refused with 90, with 91, and with 94 only where no tree stands there whose pages are its

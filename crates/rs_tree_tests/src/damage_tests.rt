@@ -3,7 +3,7 @@
 
 use crate::expect::expect;
 use crate::one_tree::OneTree;
-use rs_measure::Refusal;
+use rs_refusal::Refusal;
 use std::alloc::Global;
 use std::test::Fail;
 

@@ -6,12 +6,12 @@ ghost use Rattle.std.specs.Prelude.{◌≡◌};
 use crate::expect::expect;
 use rs_btree::Tree;
 use rs_interval::{GreatestEnd, overlapping};
-use rs_measure::Refusal;
 use rs_page::{ContentKind, PageNumber};
+use rs_page_marks::Reached;
 use rs_pages::{Pages, PlainPages};
-use rs_reached::Reached;
 use rs_records::Cells;
-use rs_tree_page::Layout;
+use rs_refusal::Refusal;
+use rs_tree::Layout;
 use std::alloc::Global;
 use std::test::Fail;
 

@@ -2,7 +2,7 @@
 
 use crate::expect::expect;
 use crate::one_tree::OneTree;
-use rs_measure::Refusal;
+use rs_refusal::Refusal;
 use rs_tree_judge::are_cells;
 use std::alloc::Global;
 use std::test::Fail;

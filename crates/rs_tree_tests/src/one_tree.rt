@@ -4,8 +4,8 @@ ghost use Rattle.std.specs.Prelude.{◌≤◌};
 ghost use Rattle.rs_tree_judge.specs.declared.cells.TheConstants.{NARROWEST, WIDEST};
 
 use rs_disk::{FailedCut, FailingDisk, MemoryDisk};
-use rs_measure::Refusal;
-use rs_reached::Reached;
+use rs_page_marks::Reached;
+use rs_refusal::Refusal;
 use rs_tree_judge::{TreeAt, TreeDriver};
 use std::alloc::Global;
 

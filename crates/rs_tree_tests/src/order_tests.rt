@@ -2,7 +2,7 @@
 
 use crate::expect::expect;
 use crate::one_tree::OneTree;
-use rs_measure::Refusal;
+use rs_refusal::Refusal;
 use std::test::Fail;
 
 /// How many cells come in each order. A leaf has room for 145 of them.

@@ -10,7 +10,7 @@ ghost use Rattle.rs_value.specs.Fitting.{has_type, has_room, each_passes, misfit
 use crate::column::{COLUMNS, ColumnType, Schema, TEXT_BYTES};
 use crate::value::{Literal, Tuple, Value};
 use arrayvec::ArrayString;
-use rs_measure::Refusal;
+use rs_refusal::Refusal;
 
 /// The row of the literals, where they fit the columns. It is refused with `Refusal::WrongValues` (33)
 /// where their number or a type is wrong, and else with `Refusal::TextTooLong` (34) where a text is

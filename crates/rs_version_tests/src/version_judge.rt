@@ -7,7 +7,7 @@ use rand_pcg::Pcg32;
 use rs_file_judge::{
     Kind, LIVES, PlainRecord, Search, Told, VersionedFile, are_cells_of, are_found, file_in_memory,
 };
-use rs_measure::Refusal;
+use rs_refusal::Refusal;
 use std::alloc::{AllocError, Global};
 use std::test::Fail;
 

@@ -3,7 +3,7 @@
 use crate::expect::expect;
 use crate::version_judge::{Change, VersionJudge};
 use rs_file_judge::Kind;
-use rs_measure::Refusal;
+use rs_refusal::Refusal;
 use std::test::Fail;
 
 /// How many turns the tables grow for, and how many there are.

@@ -4,7 +4,7 @@ use Rattle.std.proofs.lemmas.List.{append_assoc, length-append, drop_at, take_at
 use Rattle.std.specs.Int.{w32, w64, to_be_bytes}
 use Rattle.byteorder.specs.Endian.{big_number}
 use Rattle.byteorder.specs.Numbers.{big_number-reads_back}
-use Rattle.rs_versions.specs.Version.{born_of, died_of, ended, lasting}
+use Rattle.rs_cell_versions.specs.Version.{born_of, died_of, ended, lasting}
 
 -- the cell is these bytes, and then the numbers
 pub record IsVersioned (cell front : List ℕ) (born middle died : ℕ) : Type 0 where

@@ -6,18 +6,18 @@ use Rattle.std.proofs.lemmas.List.Elements.{All-take, filter_passes, recursion_f
 use Rattle.std.proofs.lemmas.List.Sorted.{IsPermutation-filter_both, IsPermutation-refl, IsPermutation-trans}
 use Rattle.std.specs.List.{AllByRecursion, AllZip, Contains, count_by}
 use Rattle.std.specs.List.Sorted.{IsPermutation}
-use Rattle.rs_owners.specs.Counts.{◌&◌}
-use Rattle.rs_owners.specs.Owners.{Shares}
+use Rattle.rs_page_owners.specs.Counts.{◌&◌}
+use Rattle.rs_page_owners.specs.Owners.{Shares}
 use Rattle.rs_pages.specs.PageMap.{PageMap}
 use Rattle.rs_records.specs.Order.{Ascends}
 use Rattle.rs_tree.specs.Cells.{with_cell, without_cell}
 use Rattle.rs_tree.specs.Form.{Form}
-use Rattle.rs_versions.specs.Changes.{Ends, cleared, with_end, without_cells}
-use Rattle.rs_versions.specs.Version.{IsDated, born_of, died_of, ended, is_clearable, is_dead, is_living}
-use Rattle.rs_versions.specs.Versioned.{ChangesCells, HoldsCells, Standing}
-use Rattle.rs_versions.proofs.Among.{among, with_present}
-use Rattle.rs_versions.proofs.Dated.{all_cleared, all_with, dated_ended}
-use Rattle.rs_versions.proofs.Seen.{cleared_count, ended_early, ended_late, without-ascends}
+use Rattle.rs_cell_versions.specs.Changes.{Ends, cleared, with_end, without_cells}
+use Rattle.rs_cell_versions.specs.Version.{IsDated, born_of, died_of, ended, is_clearable, is_dead, is_living}
+use Rattle.rs_cell_versions.specs.Versioned.{ChangesCells, HoldsCells, Standing}
+use Rattle.rs_cell_versions.proofs.Among.{among, with_present}
+use Rattle.rs_cell_versions.proofs.Dated.{all_cleared, all_with, dated_ended}
+use Rattle.rs_cell_versions.proofs.Seen.{cleared_count, ended_early, ended_late, without-ascends}
 use Rattle.rs_versioned.specs.Records.{ChangesRecords, HasEnded, WasEnded, HasNone, HasOneMore, HasCleared, HoldsRecords, Kept}
 use Rattle.rs_versioned.proofs.KeptRecords.{IsKept}
 use Rattle.rs_versioned.proofs.Lifting.{cell_there, joins, leave_all, leaves, record_there, zip_all, zip_count}

@@ -4,8 +4,8 @@ use Rattle.std.proofs.lemmas.List.Elements.{All-contains, All-from_recursion}
 use Rattle.std.proofs.lemmas.List.Sorted.{Contains-permutation, IsPermutation-sym}
 use Rattle.std.specs.List.{Contains}
 use Rattle.rs_pages.specs.PageMap.{PageMap}
-use Rattle.rs_versions.specs.declared.cell.TheConstants.{LIVING}
-use Rattle.rs_versions.specs.Versioned.{Standing}
+use Rattle.rs_cell_versions.specs.declared.cell.TheConstants.{LIVING}
+use Rattle.rs_cell_versions.specs.Versioned.{Standing}
 use Rattle.rs_versioned.specs.Records.{HasEnded, HasOneMore, HoldsRecords, Kept}
 use Rattle.rs_versioned.proofs.KeptRecords.{IsKept}
 use Rattle.rs_versioned.proofs.Present.{IsDatedRecord, held_dated}

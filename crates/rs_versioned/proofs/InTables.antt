@@ -3,7 +3,7 @@ use Rattle.std.proofs.Common.{◌≡◌, ℕ, List, [], sym, ◌∙◌, subst}
 use Rattle.rs_tree.specs.declared.summary.NoSummary.{NoSummary}
 use Rattle.rs_tree.specs.Form.{Form, form_of}
 use Rattle.rs_value.specs.declared.column.ColumnType.{ColumnType}
-use Rattle.rs_versions.specs.Versioned.{Standing}
+use Rattle.rs_cell_versions.specs.Versioned.{Standing}
 use Rattle.rs_versioned.specs.Events.{Event, SaysEvent, event_width}
 use Rattle.rs_versioned.specs.Referents.{referent_form, referent_width}
 use Rattle.rs_versioned.specs.Tables.{EventTableState, ReferentTableState}

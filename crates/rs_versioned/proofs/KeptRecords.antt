@@ -2,7 +2,7 @@
 use Rattle.std.proofs.Common.{◌≡◌, ◌<◌, ◌≤◌, ◌^◌, ℕ, List, ◌++◌, length, arith}
 use Rattle.std.specs.Int.{w32, to_be_bytes}
 use Rattle.rs_value.specs.declared.column.ColumnType.{ColumnType}
-use Rattle.rs_versions.specs.Version.{born_of, died_of, ended}
+use Rattle.rs_cell_versions.specs.Version.{born_of, died_of, ended}
 use Rattle.rs_versioned.specs.Events.{Event, SaysEvent, ended_event, kept_events}
 use Rattle.rs_versioned.specs.Records.{Kept}
 use Rattle.rs_versioned.proofs.EventCells.{event_has_one_cell, event_said_once}

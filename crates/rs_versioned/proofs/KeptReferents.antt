@@ -1,7 +1,7 @@
 -- Referents are kept so that what becomes of their cells becomes of them.
 use Rattle.std.proofs.Common.{◌≡◌, ◌<◌, ◌-◌, ◌^◌, ℕ, List, ◌++◌, length, replicate, arith}
 use Rattle.std.specs.Int.{w32, to_be_bytes}
-use Rattle.rs_versions.specs.Version.{ended}
+use Rattle.rs_cell_versions.specs.Version.{ended}
 use Rattle.rs_versioned.specs.Referents.{ReferentRecord, SaysReferent, ended_referent, kept_referents}
 use Rattle.rs_versioned.proofs.CellVersions.{IsVersioned, born_read, died_read, ended_read}
 use Rattle.rs_versioned.proofs.KeptRecords.{IsKept}

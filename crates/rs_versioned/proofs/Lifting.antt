@@ -6,11 +6,11 @@ use Rattle.std.specs.List.{AllByRecursion, AllZip, Contains, count_by}
 use Rattle.std.specs.List.Sorted.{IsPermutation}
 use Rattle.rs_records.specs.Order.{Ascends}
 use Rattle.rs_tree.specs.Cells.{cells_above, cells_below, with_cell, without_cell}
-use Rattle.rs_versions.specs.Changes.{without_cells}
-use Rattle.rs_versions.specs.Version.{is_dead}
-use Rattle.rs_versions.proofs.Among.{filter-with_yes, filtered, with_present, without_absent}
-use Rattle.rs_versions.proofs.Permutations.{IsPermutation-rest}
-use Rattle.rs_versions.proofs.Seen.{without-ascends}
+use Rattle.rs_cell_versions.specs.Changes.{without_cells}
+use Rattle.rs_cell_versions.specs.Version.{is_dead}
+use Rattle.rs_cell_versions.proofs.Among.{filter-with_yes, filtered, with_present, without_absent}
+use Rattle.rs_cell_versions.proofs.Permutations.{IsPermutation-rest}
+use Rattle.rs_cell_versions.proofs.Seen.{without-ascends}
 use Rattle.rs_versioned.specs.Records.{Kept}
 use Rattle.rs_versioned.proofs.KeptRecords.{IsKept}
 

@@ -15,7 +15,7 @@ use Rattle.std.specs.declared.cmp.Ordering.TheVariants.{Less, Equal, Greater}
 use Rattle.rs_facts.specs.Fact.{name_cmp}
 use Rattle.rs_pages.specs.PageMap.{PageMap}
 use Rattle.rs_records.specs.Order.{Ascends, is_below}
-use Rattle.rs_versions.specs.Versioned.{Standing}
+use Rattle.rs_cell_versions.specs.Versioned.{Standing}
 use Rattle.rs_versioned.specs.Records.{HoldsRecords, is_seen}
 use Rattle.rs_versioned.specs.Referents.{AreInNameOrder, ReferentRecord, SaysReferent, is_referent_of, kept_referents, referents_at}
 use Rattle.rs_versioned.proofs.PrintingOrder.{equal, fronts_cmp, not_more, word_cmp}

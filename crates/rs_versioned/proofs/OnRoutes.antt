@@ -12,7 +12,7 @@ use Rattle.std.specs.declared.cmp.Ordering.{Ordering}
 use Rattle.std.specs.declared.cmp.Ordering.TheVariants.{Less, Equal, Greater}
 use Rattle.rs_records.specs.Order.{is_below}
 use Rattle.rs_tree.specs.Cells.{cells_within, is_within}
-use Rattle.rs_versions.specs.Version.{sees}
+use Rattle.rs_cell_versions.specs.Version.{sees}
 use Rattle.rs_versioned.specs.Referents.{ReferentRecord, SaysReferent, is_referent_of, kept_referents, name_width}
 use Rattle.rs_versioned.specs.Records.{is_seen}
 use Rattle.rs_versioned.proofs.KeptReferents.{referents_are_kept}

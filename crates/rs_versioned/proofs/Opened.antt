@@ -7,16 +7,16 @@ use Rattle.rs_tree.specs.Cells.{cells_below}
 use Rattle.rs_tree.specs.Form.{Form}
 use Rattle.rs_tree.specs.Tree.{IsTree}
 use Rattle.rs_tree.proofs.Lists.{take_next}
-use Rattle.rs_tree_check.specs.Validating.{HasNoFreshTree, Validates}
-use Rattle.rs_tree_check.proofs.Joins.{all_push}
+use Rattle.rs_tree_whole.specs.Validating.{HasNoFreshTree, Validates}
+use Rattle.rs_tree_whole.proofs.Joins.{all_push}
 use Rattle.rs_versioned.specs.declared.told.ToldRecords.{ToldRecords}
 use Rattle.rs_versioned.specs.Opening.{OpensNone, OpensRecords, StandsAs}
 use Rattle.rs_versioned.specs.Records.{Kept}
-use Rattle.rs_versions.specs.Opening.{StandsOtherwise, StandsTold, Told}
-use Rattle.rs_versions.specs.Versioned.{Standing}
-use Rattle.rs_versions.proofs.Dated.{all_both, all_kept}
-use Rattle.rs_versions.proofs.Looks.{FindsWithin, below_parted, cells_from, none_below_nothing}
-use Rattle.rs_versions.proofs.Staying.{tree_same}
+use Rattle.rs_cell_versions.specs.Opening.{StandsOtherwise, StandsTold, Told}
+use Rattle.rs_cell_versions.specs.Versioned.{Standing}
+use Rattle.rs_cell_versions.proofs.Dated.{all_both, all_kept}
+use Rattle.rs_cell_versions.proofs.Looks.{FindsWithin, below_parted, cells_from, none_below_nothing}
+use Rattle.rs_cell_versions.proofs.Staying.{tree_same}
 
 -- what holds of those that pass a test, and of those that don't, holds of all
 pub all_of_parts : (P : List ℕ → Type 0) (test : List ℕ → Bool) (cells : List (List ℕ)) → AllByRecursion P (filter test cells) → AllByRecursion P (filter (λ cell. not (test cell)) cells)

@@ -6,8 +6,8 @@ use Rattle.rs_interval.specs.Finding.{FindsOverlapping}
 use Rattle.rs_interval.proofs.EventLaws.{record_has_one}
 use Rattle.rs_pages.specs.PageMap.{PageMap}
 use Rattle.rs_value.specs.declared.column.ColumnType.{ColumnType}
-use Rattle.rs_versions.specs.Version.{died_of, sees}
-use Rattle.rs_versions.specs.Versioned.{Standing}
+use Rattle.rs_cell_versions.specs.Version.{died_of, sees}
+use Rattle.rs_cell_versions.specs.Versioned.{Standing}
 use Rattle.rs_versioned.specs.Events.{Event, SaysEvent, event_width, is_visible, kept_events, sees_event}
 use Rattle.rs_versioned.specs.Records.{HoldsRecords, Kept, is_seen}
 use Rattle.rs_versioned.proofs.KeptRecords.{IsKept, events_are_kept}

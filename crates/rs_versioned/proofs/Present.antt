@@ -3,10 +3,10 @@ use Rattle.std.proofs.Common.{◌≡◌, ◌⊎◌, ◌<◌, ◌≤◌, ◌&&◌
 use Rattle.std.proofs.lemmas.Bool.Decides.{nat_tests}
 use Rattle.std.specs.List.{AllByRecursion, count_by}
 use Rattle.rs_pages.specs.PageMap.{PageMap}
-use Rattle.rs_versions.specs.declared.cell.TheConstants.{LIVING}
-use Rattle.rs_versions.specs.Version.{IsDated, died_of, is_clearable, is_living}
-use Rattle.rs_versions.specs.Versioned.{Standing}
-use Rattle.rs_versions.proofs.Dated.{dated_listed}
+use Rattle.rs_cell_versions.specs.declared.cell.TheConstants.{LIVING}
+use Rattle.rs_cell_versions.specs.Version.{IsDated, died_of, is_clearable, is_living}
+use Rattle.rs_cell_versions.specs.Versioned.{Standing}
+use Rattle.rs_cell_versions.proofs.Dated.{dated_listed}
 use Rattle.rs_versioned.specs.Records.{HoldsRecords, Kept, is_seen}
 use Rattle.rs_versioned.proofs.KeptRecords.{IsKept}
 use Rattle.rs_versioned.proofs.Lifting.{zip_all, zip_count}

@@ -19,7 +19,7 @@ use Rattle.rs_records.specs.Order.{Ascends, is_below}
 use Rattle.rs_value.specs.declared.column.ColumnType.{ColumnType}
 use Rattle.rs_value.specs.Row.{row_cmp}
 use Rattle.rs_value.proofs.EncodingOrder.{row_wide, rows_cmp}
-use Rattle.rs_versions.specs.Versioned.{Standing}
+use Rattle.rs_cell_versions.specs.Versioned.{Standing}
 use Rattle.rs_versioned.specs.Events.{AreInPrintingOrder, Event, SaysEvent, is_on, is_visible, kept_events, sees_event, span_of, spans_at}
 use Rattle.rs_versioned.specs.Records.{HoldsRecords}
 

@@ -13,8 +13,8 @@ use Rattle.rs_pages.specs.PageMap.{PageMap}
 use Rattle.rs_value.specs.Row.{Row}
 use Rattle.rs_value.specs.declared.column.ColumnType.{ColumnType}
 use Rattle.rs_value.specs.declared.column.Kind.{Kind}
-use Rattle.rs_versions.specs.declared.cell.TheConstants.{LIVING}
-use Rattle.rs_versions.specs.Versioned.{Standing}
+use Rattle.rs_cell_versions.specs.declared.cell.TheConstants.{LIVING}
+use Rattle.rs_cell_versions.specs.Versioned.{Standing}
 use Rattle.rs_versioned.specs.Events.{Event, facts_at, is_on, kept_events, sees_event, span_of, spans_at}
 use Rattle.rs_versioned.specs.Records.{HasCleared, HasEnded, HasOneMore, HoldsRecords}
 use Rattle.rs_versioned.specs.Runs.{AreRunsAt, AreRunsBeside, AreRunsFrom, ChangesAll, ChangesOne}

@@ -13,7 +13,7 @@ use Rattle.rs_pages.specs.PageMap.{PageMap}
 use Rattle.rs_value.specs.declared.column.ColumnType.{ColumnType}
 use Rattle.rs_value.specs.declared.column.Kind.{Kind}
 use Rattle.rs_value.specs.declared.column.Kind.TheVariants.{Point, Line}
-use Rattle.rs_versions.specs.Versioned.{Standing}
+use Rattle.rs_cell_versions.specs.Versioned.{Standing}
 use Rattle.rs_versioned.specs.Events.{AreInPrintingOrder, Event, facts_at, is_on, is_visible, kept_events, span_of, spans_at}
 use Rattle.rs_versioned.specs.Records.{HoldsRecords}
 use Rattle.rs_versioned.specs.Runs.{AreRunsAt}

@@ -3,13 +3,13 @@ use Rattle.std.proofs.Common.{◌≡◌, ◌≤◌, ◌+◌, ℕ, Bool, true, fa
 use Rattle.std.proofs.lemmas.List.Sorted.{length_permutation}
 use Rattle.std.proofs.lemmas.List.Sums.{length-filter, sum_by-cons}
 use Rattle.std.specs.List.{AllByRecursion, AllZip, count_by}
-use Rattle.rs_owners.specs.Owners.{KeepsPages}
+use Rattle.rs_page_owners.specs.Owners.{KeepsPages}
 use Rattle.rs_pages.specs.PageMap.{PageMap}
 use Rattle.rs_tree.specs.Tree.{IsTree}
 use Rattle.rs_tree.proofs.Framed.{kept_tree_stays}
 use Rattle.rs_tree.proofs.Ones.{tree_has_its_cells}
-use Rattle.rs_versions.specs.Version.{IsDated, is_dead, is_living}
-use Rattle.rs_versions.specs.Versioned.{Standing, nothing_stands}
+use Rattle.rs_cell_versions.specs.Version.{IsDated, is_dead, is_living}
+use Rattle.rs_cell_versions.specs.Versioned.{Standing, nothing_stands}
 use Rattle.rs_versioned.specs.Records.{HoldsRecords, Kept}
 use Rattle.rs_versioned.proofs.KeptRecords.{IsKept}
 

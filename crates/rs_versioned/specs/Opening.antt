@@ -1,10 +1,10 @@
 -- Records that lie in a file already, and what the file says of them.
 use Rattle.std.specs.Prelude.{◌≡◌, ◌≤◌, ℕ, List, length}
-use Rattle.rs_owners.specs.Counts.{◌&◌}
+use Rattle.rs_page_owners.specs.Counts.{◌&◌}
 use Rattle.rs_pages.specs.PageMap.{PageMap}
 use Rattle.rs_versioned.specs.declared.told.ToldRecords.{ToldRecords}
 use Rattle.rs_versioned.specs.Records.{HoldsRecords, Kept}
-use Rattle.rs_versions.specs.Versioned.{Standing}
+use Rattle.rs_cell_versions.specs.Versioned.{Standing}
 
 -- records stand as they were told: at this root, and so many live and are dead
 pub record StandsAs (told : ToldRecords) (standing : Standing) : Type 0 where

@@ -1,12 +1,12 @@
 -- Records by version: what the cells of a tree say.
 use Rattle.std.specs.Prelude.{◌≡◌, ◌≤◌, ◌<◌, ℕ, Bool, ◌&&◌, nat_le, nat_lt, List, [], ◌∷◌, ◌++◌, ◌⊎◌, Contains, IsPermutation}
 use Rattle.std.specs.List.{AllByRecursion, AllZip}
-use Rattle.rs_owners.specs.Counts.{◌&◌}
-use Rattle.rs_owners.specs.Owners.{Moves, Shares}
+use Rattle.rs_page_owners.specs.Counts.{◌&◌}
+use Rattle.rs_page_owners.specs.Owners.{Moves, Shares}
 use Rattle.rs_pages.specs.PageMap.{PageMap}
 use Rattle.rs_tree.specs.Form.{Form}
-use Rattle.rs_versions.specs.Version.{IsDated}
-use Rattle.rs_versions.specs.Versioned.{HoldsCells, Standing}
+use Rattle.rs_cell_versions.specs.Version.{IsDated}
+use Rattle.rs_cell_versions.specs.Versioned.{HoldsCells, Standing}
 
 -- how records are kept: the form of their tree, which cells say which record, and from which version up to which one is seen
 pub record Kept (R : Type 0) : Type 1 where

@@ -3,7 +3,7 @@ use Rattle.std.specs.Prelude.{◌≡◌, ◌≤◌, ◌⊎◌, ℕ, List, [], �
 use Rattle.rs_facts.specs.Spans.{AreAllRunsOf}
 use Rattle.rs_value.specs.declared.column.ColumnType.{ColumnType}
 use Rattle.rs_value.specs.declared.column.Kind.{Kind}
-use Rattle.rs_versions.specs.declared.cell.TheConstants.{LIVING}
+use Rattle.rs_cell_versions.specs.declared.cell.TheConstants.{LIVING}
 use Rattle.rs_versioned.specs.Events.{Event, facts_at, kept_events, spans_at}
 use Rattle.rs_versioned.specs.Records.{HasEnded, HasOneMore}
 

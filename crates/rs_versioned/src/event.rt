@@ -5,19 +5,19 @@
 
 ghost use Rattle.std.specs.Prelude.{◌≡◌, ◌⊎◌, ◌+◌, ◌≤◌, ◌++◌, ◌↔◌, ℕ, List, IfOk, IfErr, OnOk, IsTrue, length};
 ghost use Rattle.rs_facts.specs.Spans.{seen};
-ghost use Rattle.rs_measure.specs.declared.refusal.Refusal.TheVariants as refusals;
+ghost use Rattle.rs_refusal.specs.declared.refusal.Refusal.TheVariants as refusals;
 ghost use Rattle.rs_value.specs.declared.column.ColumnType.{ColumnType};
 ghost use Rattle.rs_value.specs.Encoding.{SaysRow, row_width};
 ghost use Rattle.rs_value.specs.Values.{IsRowOf};
 ghost use Rattle.rs_value.specs.View.{row_of};
 ghost use Rattle.rs_versioned.specs.Events.{Event, SaysEvent, event_width, span_of};
-ghost use Rattle.rs_versions.specs.declared.cell.TheConstants.{LIVING};
+ghost use Rattle.rs_cell_versions.specs.declared.cell.TheConstants.{LIVING};
 
 use byteorder::{BigEndian, ByteOrder};
+use rs_cell_versions::LIVING;
 use rs_facts::fact::Span;
-use rs_measure::Refusal;
+use rs_refusal::Refusal;
 use rs_value::{Schema, Tuple, decode, encode, row_width};
-use rs_versions::LIVING;
 use std::alloc::{AllocError, Global};
 
 /// The bytes of an event's cell beside those of its row.

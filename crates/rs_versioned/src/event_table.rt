@@ -5,9 +5,9 @@
 
 ghost use Rattle.std.specs.Prelude.{◌≡◌, ◌≢◌, ◌<◌, ◌≤◌, ◌↔◌, ◌*◌, ◌+◌, ℕ, List, [], Contains, IsTrue, IfOk, IfErr, OnOk, OnErr, count_by, false, filter, length, min, nat_le, true, Err};
 ghost use Rattle.std.specs.List.{AllByRecursion, AllZip};
-ghost use Rattle.rs_owners.specs.Changes.{WorksAfter};
-ghost use Rattle.rs_owners.specs.Counts.{◌&◌, no_pages};
-ghost use Rattle.rs_owners.specs.Owners.{Shares};
+ghost use Rattle.rs_page_owners.specs.Changes.{WorksAfter};
+ghost use Rattle.rs_page_owners.specs.Counts.{◌&◌, no_pages};
+ghost use Rattle.rs_page_owners.specs.Owners.{Shares};
 ghost use Rattle.rs_pages.specs.Lending.{RestsAfter};
 ghost use Rattle.rs_pages.specs.PageMap.{PageMap, SamePages};
 ghost use Rattle.rs_records.specs.Listed.{listed, record_width};
@@ -18,22 +18,22 @@ ghost use Rattle.rs_value.specs.View.{row_of};
 ghost use Rattle.rs_interval.specs.Finding.{event_form};
 ghost use Rattle.rs_versioned.specs.Events.{Event, SaysEvent, event_width, is_visible, kept_events};
 ghost use Rattle.rs_versioned.specs.Records.{ChangesRecords, HasEnded, HasNone, HasOneMore, HasCleared, HoldsRecords};
-ghost use Rattle.rs_versions.specs.Changes.{Ends, cleared, without_cells};
-ghost use Rattle.rs_versions.specs.Version.{died_of, is_living};
-ghost use Rattle.rs_versions.specs.declared.cell.TheConstants.{LIVING};
-ghost use Rattle.rs_versions.specs.Versioned.{ChangesCells, HoldsNone, nothing_stands};
+ghost use Rattle.rs_cell_versions.specs.Changes.{Ends, cleared, without_cells};
+ghost use Rattle.rs_cell_versions.specs.Version.{died_of, is_living};
+ghost use Rattle.rs_cell_versions.specs.declared.cell.TheConstants.{LIVING};
+ghost use Rattle.rs_cell_versions.specs.Versioned.{ChangesCells, HoldsNone, nothing_stands};
 
 use crate::event::{EVENT_BYTES, cell_of};
 use crate::seeing::seen_by;
+use rs_cell_versions::Versions;
 use rs_facts::fact::Span;
 use rs_interval::{GreatestEnd, overlapping};
-use rs_measure::Refusal;
 use rs_page::PageNumber;
 use rs_pages::Pages;
 use rs_records::Cells;
-use rs_tree_page::Layout;
+use rs_refusal::Refusal;
+use rs_tree::Layout;
 use rs_value::{Schema, row_width};
-use rs_versions::Versions;
 use std::alloc::Global;
 use std::marker::Model;
 

@@ -5,7 +5,7 @@ ghost use Rattle.std.specs.Prelude.{◌≡◌, ◌⊎◌, ◌<◌, ◌≤◌, �
 ghost use Rattle.std.specs.List.{AllByRecursion};
 ghost use Rattle.rs_facts.specs.Runs.{Stretch};
 ghost use Rattle.rs_facts.specs.Spans.{AreAllRunsOf, places_of};
-ghost use Rattle.rs_owners.specs.Owners.{KeepsPages};
+ghost use Rattle.rs_page_owners.specs.Owners.{KeepsPages};
 ghost use Rattle.rs_pages.specs.PageMap.{PageMap};
 ghost use Rattle.rs_value.specs.declared.column.ColumnType.{ColumnType};
 ghost use Rattle.rs_value.specs.declared.column.Kind.{Kind};
@@ -14,9 +14,9 @@ ghost use Rattle.rs_versioned.specs.Referents.{AreInNameOrder, ReferentRecord, S
 ghost use Rattle.rs_versioned.specs.Records.{WasAdded, HasEnded, WasEnded, HasOneMore, HasCleared, HoldsRecords, is_seen};
 ghost use Rattle.rs_versioned.specs.declared.event.TheConstants.{EVENT_BYTES};
 ghost use Rattle.rs_versioned.specs.declared.referent.TheConstants.{REFERENT_BYTES};
-ghost use Rattle.rs_versions.specs.Version.{born_of, died_of, ended};
-ghost use Rattle.rs_versions.specs.Versioned.{Standing, nothing_stands};
-ghost use Rattle.rs_versions.specs.declared.cell.TheConstants.{LIVING};
+ghost use Rattle.rs_cell_versions.specs.Version.{born_of, died_of, ended};
+ghost use Rattle.rs_cell_versions.specs.Versioned.{Standing, nothing_stands};
+ghost use Rattle.rs_cell_versions.specs.declared.cell.TheConstants.{LIVING};
 
 /// The bytes of a cell are so many.
 pub fn limits_are_those()

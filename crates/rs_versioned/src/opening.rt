@@ -6,21 +6,21 @@
 ghost use Rattle.std.specs.Prelude.{◌≡◌, ◌⊎◌, ◌≤◌, Err, IfOk, IfErr, IsOkUnless, OnErr, OnOk, length};
 ghost use Rattle.std.specs.List.{AllByRecursion};
 ghost use Rattle.rs_pages.specs.Lending.{RestsAfter};
-ghost use Rattle.rs_reached.specs.Marks.{taken};
+ghost use Rattle.rs_page_marks.specs.Marks.{taken};
 ghost use Rattle.rs_records.specs.Listed.{listed, record_width};
 ghost use Rattle.rs_versioned.specs.Opening.{OpensNone, OpensRecords};
 ghost use Rattle.rs_versioned.specs.Referents.{ReferentRecord, SaysReferent, kept_referents, referent_width};
-ghost use Rattle.rs_versions.specs.Version.{died_of};
+ghost use Rattle.rs_cell_versions.specs.Version.{died_of};
 
 use crate::referent::{REFERENT_BYTES, says_referent};
 use crate::referent_table::ReferentTable;
 use crate::told::ToldRecords;
-use rs_measure::Refusal;
+use rs_cell_versions::Opening;
+use rs_page_marks::Reached;
 use rs_pages::Pages;
-use rs_reached::Reached;
 use rs_records::Cells;
+use rs_refusal::Refusal;
 use rs_tree::NoSummary;
-use rs_versions::Opening;
 use std::alloc::Global;
 
 impl ReferentTable {

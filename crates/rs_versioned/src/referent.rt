@@ -7,11 +7,11 @@ ghost use Rattle.std.specs.Prelude.{◌≡◌, ◌<◌, ◌==◌, ◌↔◌, IfO
 ghost use Rattle.std.specs.Int.{w32, to_be_bytes};
 ghost use Rattle.std.specs.List.{AllByRecursion, position_or_len};
 ghost use Rattle.rs_versioned.specs.Referents.{ReferentRecord, SaysReferent, referent_width};
-ghost use Rattle.rs_versions.specs.declared.cell.TheConstants.{LIVING};
+ghost use Rattle.rs_cell_versions.specs.declared.cell.TheConstants.{LIVING};
 
 use byteorder::{BigEndian, ByteOrder};
+use rs_cell_versions::LIVING;
 use rs_methods::Referent;
-use rs_versions::LIVING;
 use std::alloc::{AllocError, Global};
 
 /// The bytes of a referent's cell.

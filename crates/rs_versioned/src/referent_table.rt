@@ -5,9 +5,9 @@
 
 ghost use Rattle.std.specs.Prelude.{◌≡◌, ◌≢◌, ◌<◌, ◌≤◌, ◌↔◌, ◌+◌, ◌^◌, ℕ, List, [], Contains, IsTrue, IfOk, IfErr, OnOk, OnErr, count_by, false, filter, length, min, nat_le, true, Err};
 ghost use Rattle.std.specs.List.{AllByRecursion, AllZip};
-ghost use Rattle.rs_owners.specs.Changes.{WorksAfter};
-ghost use Rattle.rs_owners.specs.Counts.{◌&◌, no_pages};
-ghost use Rattle.rs_owners.specs.Owners.{Shares};
+ghost use Rattle.rs_page_owners.specs.Changes.{WorksAfter};
+ghost use Rattle.rs_page_owners.specs.Counts.{◌&◌, no_pages};
+ghost use Rattle.rs_page_owners.specs.Owners.{Shares};
 ghost use Rattle.rs_pages.specs.Lending.{RestsAfter};
 ghost use Rattle.rs_pages.specs.PageMap.{PageMap, SamePages};
 ghost use Rattle.rs_records.specs.Listed.{listed, record_width};
@@ -15,22 +15,20 @@ ghost use Rattle.rs_tree.specs.Calls.{RefusesToRead};
 ghost use Rattle.rs_tree.specs.Cells.{with_cell};
 ghost use Rattle.rs_versioned.specs.Referents.{ReferentRecord, SaysReferent, is_referent_of, kept_referents, referent_form, referent_width};
 ghost use Rattle.rs_versioned.specs.Records.{ChangesRecords, HasEnded, HasNone, HasOneMore, HasCleared, HoldsRecords};
-ghost use Rattle.rs_versions.specs.Changes.{Ends, cleared, without_cells};
-ghost use Rattle.rs_versions.specs.Version.{died_of, is_living};
-ghost use Rattle.rs_versions.specs.declared.cell.TheConstants.{LIVING};
-ghost use Rattle.rs_versions.specs.Versioned.{ChangesCells, HoldsNone, nothing_stands};
+ghost use Rattle.rs_cell_versions.specs.Changes.{Ends, cleared, without_cells};
+ghost use Rattle.rs_cell_versions.specs.Version.{died_of, is_living};
+ghost use Rattle.rs_cell_versions.specs.declared.cell.TheConstants.{LIVING};
+ghost use Rattle.rs_cell_versions.specs.Versioned.{ChangesCells, HoldsNone, nothing_stands};
 
 use crate::referent::{REFERENT_BYTES, beginning, cell_of};
 use crate::seeing::seen_by;
-use rs_measure::Refusal;
+use rs_cell_versions::Versions;
 use rs_methods::Referent;
 use rs_page::PageNumber;
 use rs_pages::Pages;
 use rs_records::Cells;
-use rs_tree::NoSummary;
-use rs_tree_page::Layout;
-use rs_tree_search::range;
-use rs_versions::Versions;
+use rs_refusal::Refusal;
+use rs_tree::{Layout, NoSummary, range};
 use std::alloc::Global;
 use std::marker::Model;
 

@@ -10,8 +10,8 @@ ghost use Rattle.rs_value.specs.declared.column.Kind.{Kind};
 ghost use Rattle.rs_versioned.specs.Events.{Event, facts_at, is_visible, kept_events, span_of, spans_at};
 ghost use Rattle.rs_versioned.specs.Records.{HasCleared, HasEnded, HasOneMore, HoldsRecords};
 ghost use Rattle.rs_versioned.specs.Runs.{AreRunsAt, AreRunsBeside, AreRunsFrom, ChangesAll};
-ghost use Rattle.rs_versions.specs.Versioned.{Standing};
-ghost use Rattle.rs_versions.specs.declared.cell.TheConstants.{LIVING};
+ghost use Rattle.rs_cell_versions.specs.Versioned.{Standing};
+ghost use Rattle.rs_cell_versions.specs.declared.cell.TheConstants.{LIVING};
 
 /// A version after the one that was accepted last has the spans of that one until something changes, and so its runs.
 pub fn version_without_changes_has_the_same_runs()

@@ -2,10 +2,10 @@
 
 ghost use Rattle.std.specs.Prelude.{◌≡◌, ◌≤◌, IfOk, filter};
 ghost use Rattle.rs_records.specs.Listed.{listed, record_width};
-ghost use Rattle.rs_versions.specs.Version.{sees};
+ghost use Rattle.rs_cell_versions.specs.Version.{sees};
 
+use rs_cell_versions::sees;
 use rs_records::Cells;
-use rs_versions::sees;
 use std::alloc::{AllocError, Global};
 
 /// Those of the cells that the version sees, in the same order.

@@ -12,8 +12,8 @@ ghost use Rattle.rs_catalog.specs.Definitions.{routes_of, pieces_of};
 use crate::engine::Engine;
 use rs_checker::check_pieces;
 use rs_machine::limits::{ALIGNMENTS, PIECES};
-use rs_measure::Refusal;
 use rs_methods::Name;
+use rs_refusal::Refusal;
 use rs_syntax::Piece;
 use std::alloc::AllocError;
 

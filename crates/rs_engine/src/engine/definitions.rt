@@ -13,8 +13,9 @@ ghost use Rattle.rs_machine.specs.declared.limits.TheConstants.{CHANGES};
 
 use crate::engine::Engine;
 use rs_machine::limits::{ROUTES, TABLES};
-use rs_measure::{Measure, Refusal};
+use rs_measure::Measure;
 use rs_methods::Name;
+use rs_refusal::Refusal;
 use rs_syntax::ColumnDefinition;
 use rs_value::{COLUMNS, Kind};
 use std::alloc::AllocError;

@@ -12,8 +12,8 @@ ghost use Rattle.rs_engine.specs.Tables.{HasTable};
 
 use crate::engine::Engine;
 use rs_catalog::RouteEntry;
-use rs_measure::Refusal;
 use rs_methods::Name;
+use rs_refusal::Refusal;
 
 impl Engine {
     ghost use Rattle.rs_engine.specs.Held.{state_of};

@@ -16,8 +16,9 @@ ghost use Rattle.rs_engine.specs.Referents.{route_of_referent, with_referent, wi
 use crate::engine::Engine;
 use rs_catalog::RouteEntry;
 use rs_machine::limits::REFERENTS;
-use rs_measure::{Measure, Refusal};
+use rs_measure::Measure;
 use rs_methods::{Name, Position, START};
+use rs_refusal::Refusal;
 use std::alloc::AllocError;
 
 impl Engine {

@@ -10,8 +10,8 @@ ghost use Rattle.rs_machine.specs.declared.limits.TheConstants.{CHANGES};
 use crate::engine::Engine;
 use rs_checker::check;
 use rs_machine::limits::VIEWS;
-use rs_measure::Refusal;
 use rs_methods::Name;
+use rs_refusal::Refusal;
 use rs_syntax::Query;
 use std::alloc::AllocError;
 

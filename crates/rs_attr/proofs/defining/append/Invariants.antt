@@ -1,7 +1,7 @@
 -- The first cells have come.
 use Rattle.std.proofs.Common.{◌≡◌}
 use Rattle.rs_attr.proofs.Parts.{AppendsFirst}
-use Rattle.rs_owners.specs.Changes.{Works, CountsNothing}
+use Rattle.rs_page_owners.specs.Changes.{Works, CountsNothing}
 use Rattle.rs_records.specs.Listed.{listed}
 use Rattle.rs_attr.proofs.defining.append.Given as goal
 

@@ -3,7 +3,7 @@ use Rattle.std.proofs.Common.{◌≡◌}
 use Rattle.rs_attr.proofs.Parts.{Defines}
 use Rattle.rs_attr.specs.Entries.{IsColumn}
 use Rattle.rs_attr.proofs.Parts.{SaysRoute}
-use Rattle.rs_owners.specs.Changes.{Works, CountsNothing}
+use Rattle.rs_page_owners.specs.Changes.{Works, CountsNothing}
 use Rattle.rs_attr.proofs.defining.define.Given as goal
 
 abbrev pub invariant-loop-route : goal.invariant-loop-route

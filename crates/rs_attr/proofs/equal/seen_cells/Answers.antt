@@ -3,7 +3,7 @@ use Rattle.std.proofs.Common.{◌≡◌, ◌∙◌, ◌++◌, ◌+◌, ◌-◌, 
 use Rattle.std.proofs.lemmas.List.{append-nil, length-drop, take_all}
 use Rattle.rs_records.specs.Listed.{listed, record_width}
 use Rattle.rs_tree.proofs.Lists.{map_at}
-use Rattle.rs_versions.specs.Version.{sees}
+use Rattle.rs_cell_versions.specs.Version.{sees}
 use Rattle.rs_versioned.proofs.CellsWide.{cell_wide, filter_next}
 use Rattle.rs_attr.proofs.equal.seen_cells.Goals as goal
 use Rattle.rs_attr.proofs.equal.seen_cells.Goals.{then-sees+in_ok-push, else-sees}

@@ -1,7 +1,7 @@
 -- Those that are seen of the cells so far.
 use Rattle.std.proofs.Common.{◌≡◌, ◌+◌, take, drop, map, filter}
 use Rattle.rs_records.specs.Listed.{listed, record_width}
-use Rattle.rs_versions.specs.Version.{sees}
+use Rattle.rs_cell_versions.specs.Version.{sees}
 use Rattle.rs_attr.proofs.equal.seen_cells.Given as goal
 
 abbrev pub invariant-loop-index : goal.invariant-loop-index

@@ -5,7 +5,7 @@ use Rattle.std.proofs.lemmas.List.{take_all}
 use Rattle.std.specs.List.{AllByRecursion}
 use Rattle.rs_records.specs.Listed.{listed}
 use Rattle.rs_tree.proofs.Lists.{all_at, take_next}
-use Rattle.rs_tree_check.proofs.Joins.{all_push}
+use Rattle.rs_tree_whole.proofs.Joins.{all_push}
 use Rattle.rs_versioned.specs.Events.{Event, SaysEvent}
 use Rattle.rs_versioned.proofs.CellsWide.{cell_wide}
 use Rattle.rs_attr.proofs.opening.check_events.Goals as goal

@@ -6,9 +6,9 @@ use Rattle.std.proofs.lemmas.Result.{err_from_is_err_and}
 use Rattle.rs_attr.specs.Opening.{HaveAllEntries}
 use Rattle.rs_attr.specs.Tables.{IndexState}
 use Rattle.rs_attr.proofs.PartsChecked.{entered_next, no_part_at}
-use Rattle.rs_measure.specs.declared.refusal.Refusal.TheVariants as refusal
+use Rattle.rs_refusal.specs.declared.refusal.Refusal.TheVariants as refusal
 use Rattle.rs_records.specs.Listed.{listed}
-use Rattle.rs_tree_search.proofs.Resting.{rests_none, rests_then}
+use Rattle.rs_tree.proofs.Resting.{rests_none, rests_then}
 use Rattle.rs_attr.proofs.opening.check_part.Goals as goal
 
 pub loop-index-init : goal.loop-index-init

@@ -6,20 +6,20 @@ use Rattle.rs_attr.specs.Opening.{OpensTable}
 use Rattle.rs_attr.proofs.Opened.{below_all, below_next, below_none, found_back, no_fresh_table, no_indexes_table, no_part_table, no_told_table, opens_table, otherwise_as, passed_as, passed_then, stands_back, told_so}
 use Rattle.rs_attr.proofs.PartsChecked.{no_part_back, part_back}
 use Rattle.rs_interval.specs.Finding.{event_form}
-use Rattle.rs_measure.specs.declared.refusal.Refusal.TheVariants as refusal
-use Rattle.rs_reached.specs.Marks.{taken}
+use Rattle.rs_refusal.specs.declared.refusal.Refusal.TheVariants as refusal
+use Rattle.rs_page_marks.specs.Marks.{taken}
 use Rattle.rs_records.specs.Listed.{listed}
 use Rattle.rs_records.specs.Order.{is_below}
 use Rattle.rs_tree.specs.Cells.{cells_within, is_within}
-use Rattle.rs_tree_check.specs.Validating.{HasNoFreshTree, Validates}
-use Rattle.rs_tree_search.proofs.Resting.{rests_then}
+use Rattle.rs_tree_whole.specs.Validating.{HasNoFreshTree, Validates}
+use Rattle.rs_tree.proofs.Resting.{rests_then}
 use Rattle.rs_versioned.specs.Events.{event_width}
 use Rattle.rs_versioned.proofs.Opened.{told_of}
-use Rattle.rs_versions.specs.Opening.{Told}
-use Rattle.rs_versions.specs.Version.{died_of}
-use Rattle.rs_versions.specs.Versioned.{Standing}
-use Rattle.rs_versions.proofs.Looks.{cells_from, passed_same}
-use Rattle.rs_versions.proofs.Refusing.{rests_err, rests_ok}
+use Rattle.rs_cell_versions.specs.Opening.{Told}
+use Rattle.rs_cell_versions.specs.Version.{died_of}
+use Rattle.rs_cell_versions.specs.Versioned.{Standing}
+use Rattle.rs_cell_versions.proofs.Looks.{cells_from, passed_same}
+use Rattle.rs_cell_versions.proofs.Refusing.{rests_err, rests_ok}
 use Rattle.rs_attr.proofs.opening.open.Goals.{then-not-is_past+in_ok-cells+in_ok-check_part, else-not-is_past}
 use Rattle.rs_attr.proofs.opening.open.Goals as goal
 

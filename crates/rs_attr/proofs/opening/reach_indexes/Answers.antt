@@ -9,10 +9,10 @@ use Rattle.std.specs.Option.{option_eq}
 use Rattle.rs_attr.specs.Opening.{ReachesIndexes}
 use Rattle.rs_attr.specs.Tables.{IndexState}
 use Rattle.rs_attr.proofs.Counted.{reaches_missing, reaches_next, reaches_none, reaches_other, sum_is, sum_isnt}
-use Rattle.rs_measure.specs.declared.refusal.Refusal.TheVariants as refusal
-use Rattle.rs_reached.specs.Marks.{taken}
-use Rattle.rs_tree_search.proofs.Resting.{rests_none, rests_then}
-use Rattle.rs_versions.proofs.Refusing.{rests_err, rests_ok, rests_refused}
+use Rattle.rs_refusal.specs.declared.refusal.Refusal.TheVariants as refusal
+use Rattle.rs_page_marks.specs.Marks.{taken}
+use Rattle.rs_tree.proofs.Resting.{rests_none, rests_then}
+use Rattle.rs_cell_versions.proofs.Refusing.{rests_err, rests_ok, rests_refused}
 use Rattle.rs_attr.proofs.opening.reach_indexes.Goals as goal
 
 pub loop-index-init : goal.loop-index-init

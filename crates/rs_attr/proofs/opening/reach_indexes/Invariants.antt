@@ -2,7 +2,7 @@
 use Rattle.std.proofs.Common.{◌≡◌, ◌+◌, Ok, length, take}
 use Rattle.rs_attr.specs.Opening.{ReachesIndexes}
 use Rattle.rs_pages.specs.Lending.{RestsAfter}
-use Rattle.rs_reached.specs.Marks.{taken}
+use Rattle.rs_page_marks.specs.Marks.{taken}
 use Rattle.rs_attr.proofs.opening.reach_indexes.Given as goal
 
 abbrev pub invariant-loop-index : goal.invariant-loop-index

@@ -7,13 +7,13 @@ use Rattle.rs_attr.proofs.Tabled.{alone_among, cells_become, cells_move, cells_s
 use Rattle.rs_attr.proofs.Together.{AreOf}
 use Rattle.rs_interval.specs.Finding.{event_form}
 use Rattle.rs_tree.specs.Cells.{with_cell}
-use Rattle.rs_tree_clear.proofs.Working.{CountsNothing-refl, Works-refl, works_err}
+use Rattle.rs_tree_whole.proofs.Working.{CountsNothing-refl, Works-refl, works_err}
 use Rattle.rs_value.specs.View.{row_of}
 use Rattle.rs_versioned.specs.Events.{Event, SaysEvent, event_width}
 use Rattle.rs_versioned.specs.Records.{HasOneMore}
 use Rattle.rs_versioned.specs.Tables.{EventTableState}
 use Rattle.rs_versioned.proofs.EventCells.{event_wide}
-use Rattle.rs_versions.specs.Versioned.{HoldsNone}
+use Rattle.rs_cell_versions.specs.Versioned.{HoldsNone}
 use Rattle.rs_attr.proofs.table.add.Goals as goal
 use Rattle.rs_attr.proofs.table.add.Goals.{else-new-via-then-new+else-not-is_empty, else-new-via-else-new}
 

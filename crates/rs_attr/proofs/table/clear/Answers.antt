@@ -6,10 +6,10 @@ use Rattle.rs_attr.specs.Tables.{HoldsNoTable}
 use Rattle.rs_attr.proofs.Tabled.{cells_become, cells_move, no_table, no_table_before, together}
 use Rattle.rs_attr.proofs.Together.{kept_next, missing_at, partly_at, partly_done, partly_none, rootless_next, wide_at}
 use Rattle.rs_interval.specs.Finding.{event_form}
-use Rattle.rs_tree_clear.proofs.Working.{CountsNothing-refl, CountsNothing-trans, Works-refl, Works-trans, works_err}
+use Rattle.rs_tree_whole.proofs.Working.{CountsNothing-refl, CountsNothing-trans, Works-refl, Works-trans, works_err}
 use Rattle.rs_versioned.specs.Events.{Event, event_width}
 use Rattle.rs_versioned.specs.Records.{HasNone}
-use Rattle.rs_versions.specs.Versioned.{HoldsNone}
+use Rattle.rs_cell_versions.specs.Versioned.{HoldsNone}
 use Rattle.rs_attr.proofs.table.clear.Goals as goal
 
 pub returns-in_err-clear-clause-works : goal.returns-in_err-clear-clause-works

@@ -3,7 +3,7 @@ use Rattle.std.proofs.Common.{◌≡◌, [], take, drop}
 use Rattle.std.specs.List.{AllByRecursion}
 use Rattle.rs_attr.proofs.Together.{ChangePartly}
 use Rattle.rs_attr.specs.Tables.{kept_parts}
-use Rattle.rs_owners.specs.Changes.{Works, CountsNothing}
+use Rattle.rs_page_owners.specs.Changes.{Works, CountsNothing}
 use Rattle.rs_versioned.specs.Events.{event_width}
 use Rattle.rs_attr.proofs.table.clear.Given as goal
 

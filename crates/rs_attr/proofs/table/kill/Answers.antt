@@ -7,14 +7,14 @@ use Rattle.rs_attr.proofs.Tabled.{alone_among, become_as, changes_then, ends_bec
 use Rattle.rs_attr.proofs.Together.{AreOf, still_of}
 use Rattle.rs_interval.specs.Finding.{event_form}
 use Rattle.rs_tree.specs.Cells.{with_cell, without_cell}
-use Rattle.rs_tree_clear.proofs.Working.{CountsNothing-refl, CountsNothing-trans, Works-refl, Works-trans, works_err}
+use Rattle.rs_tree_whole.proofs.Working.{CountsNothing-refl, CountsNothing-trans, Works-refl, Works-trans, works_err}
 use Rattle.rs_versioned.specs.Events.{event_width, kept_events}
 use Rattle.rs_versioned.specs.Records.{HasEnded}
-use Rattle.rs_versions.specs.Changes.{with_end}
-use Rattle.rs_versions.specs.Version.{born_of, ended}
-use Rattle.rs_versions.specs.Versioned.{HoldsNone}
-use Rattle.rs_versions.proofs.Ending.{length-ended}
-use Rattle.rs_versions.proofs.Seen.{ended_early, ended_late}
+use Rattle.rs_cell_versions.specs.Changes.{with_end}
+use Rattle.rs_cell_versions.specs.Version.{born_of, ended}
+use Rattle.rs_cell_versions.specs.Versioned.{HoldsNone}
+use Rattle.rs_cell_versions.proofs.Ending.{length-ended}
+use Rattle.rs_cell_versions.proofs.Seen.{ended_early, ended_late}
 use Rattle.rs_attr.proofs.table.kill.Goals as goal
 use Rattle.rs_attr.proofs.table.kill.Goals.{else-found-via-then-found+else-not-is_empty, else-found-via-else-found}
 

@@ -2,7 +2,7 @@
 use Rattle.std.proofs.Common.{◌≡◌, length, take, drop}
 use Rattle.rs_attr.proofs.Together.{ChangePartly}
 use Rattle.rs_attr.specs.Tables.{kept_parts}
-use Rattle.rs_owners.specs.Changes.{Works, CountsNothing}
+use Rattle.rs_page_owners.specs.Changes.{Works, CountsNothing}
 use Rattle.rs_tree.specs.Cells.{without_cell}
 use Rattle.rs_attr.proofs.table.take_out_of_each.Given as goal
 

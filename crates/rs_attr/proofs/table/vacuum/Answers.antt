@@ -10,12 +10,12 @@ use Rattle.rs_interval.specs.Finding.{event_form}
 use Rattle.rs_records.specs.Listed.{listed}
 use Rattle.rs_tree.specs.Cells.{without_cell}
 use Rattle.rs_tree.proofs.Lists.{take_next}
-use Rattle.rs_tree_clear.proofs.Working.{CountsNothing-refl, CountsNothing-trans, Works-refl, Works-trans, works_err}
+use Rattle.rs_tree_whole.proofs.Working.{CountsNothing-refl, CountsNothing-trans, Works-refl, Works-trans, works_err}
 use Rattle.rs_versioned.specs.Events.{event_width, kept_events}
 use Rattle.rs_versioned.specs.Records.{HasCleared}
 use Rattle.rs_versioned.proofs.CellsWide.{cell_wide}
-use Rattle.rs_versions.specs.Changes.{cleared, without_cells}
-use Rattle.rs_versions.specs.Versioned.{HoldsNone}
+use Rattle.rs_cell_versions.specs.Changes.{cleared, without_cells}
+use Rattle.rs_cell_versions.specs.Versioned.{HoldsNone}
 use Rattle.rs_attr.proofs.table.vacuum.Goals as goal
 
 pub returns-in_err-taken-clause-works : goal.returns-in_err-taken-clause-works

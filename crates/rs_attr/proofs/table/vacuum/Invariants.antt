@@ -2,10 +2,10 @@
 use Rattle.std.proofs.Common.{◌≡◌, take}
 use Rattle.rs_attr.specs.Inner.{ChangeIndexes}
 use Rattle.rs_attr.specs.Tables.{kept_parts}
-use Rattle.rs_owners.specs.Changes.{Works, CountsNothing}
+use Rattle.rs_page_owners.specs.Changes.{Works, CountsNothing}
 use Rattle.rs_records.specs.Listed.{listed}
 use Rattle.rs_versioned.specs.Events.{event_width}
-use Rattle.rs_versions.specs.Changes.{without_cells}
+use Rattle.rs_cell_versions.specs.Changes.{without_cells}
 use Rattle.rs_attr.proofs.table.vacuum.Given as goal
 
 abbrev pub invariant-loop-place : goal.invariant-loop-place

@@ -1,10 +1,10 @@
 -- One page after the other, each reached once; the rest of any catalogue's pages begins at the next one.
 use Rattle.std.proofs.Common.{◌≡◌, ◌≤◌, ◌-◌, ℕ, [], Ok, Err, length, sym, ap, subst, refl, ◌∙◌, arith}
 use Rattle.std.proofs.lemmas.Result.{err_from_is_err_and}
-use Rattle.rs_measure.specs.declared.refusal.Refusal.TheVariants as refusal
-use Rattle.rs_owners.specs.Counts.{times}
-use Rattle.rs_reached.specs.Marks.{taken}
-use Rattle.rs_reached.proofs.Marking.{taken-le}
+use Rattle.rs_refusal.specs.declared.refusal.Refusal.TheVariants as refusal
+use Rattle.rs_page_owners.specs.Counts.{times}
+use Rattle.rs_page_marks.specs.Marks.{taken}
+use Rattle.rs_page_marks.proofs.Marking.{taken-le}
 use Rattle.rs_catalog_pages.specs.Inner.{HoldsUpTo}
 use Rattle.rs_catalog_pages.proofs.Chains.{up_to_none, up_to_next, none_next, none_short, reads_all}
 use Rattle.rs_catalog_pages.proofs.Counting.{times-none, times-push, fewer_left}

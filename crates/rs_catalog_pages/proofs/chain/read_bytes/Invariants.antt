@@ -1,8 +1,8 @@
 -- The pages so far hold the bytes so far, and were reached once more.
 use Rattle.std.proofs.Common.{◌≡◌, ◌≤◌, ℕ, Ok, length}
-use Rattle.rs_owners.specs.Counts.{◌&◌, times}
+use Rattle.rs_page_owners.specs.Counts.{◌&◌, times}
 use Rattle.rs_pages.specs.Lending.{RestsAfter}
-use Rattle.rs_reached.specs.Marks.{taken, unmarked}
+use Rattle.rs_page_marks.specs.Marks.{taken, unmarked}
 use Rattle.rs_catalog_pages.specs.Inner.{HoldsUpTo}
 use Rattle.rs_catalog_pages.proofs.chain.read_bytes.Given as goal
 

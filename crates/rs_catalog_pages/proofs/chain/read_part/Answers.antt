@@ -1,8 +1,8 @@
 -- The page that is lent is the working page with this number.
 use Rattle.std.proofs.Common.{◌≡◌, subst}
 use Rattle.std.proofs.lemmas.Result.{IfOk-weaker}
-use Rattle.rs_measure.specs.declared.refusal.Refusal.TheVariants as refusal
-use Rattle.rs_reached.specs.Marks.{taken}
+use Rattle.rs_refusal.specs.declared.refusal.Refusal.TheVariants as refusal
+use Rattle.rs_page_marks.specs.Marks.{taken}
 use Rattle.rs_catalog_pages.specs.Parts.{HasNoPart, AppendsPart, ReadsPart}
 use Rattle.rs_catalog_pages.proofs.Parts.{no_fit-no_part, page-no_part, appends-reads}
 use Rattle.rs_catalog_pages.proofs.chain.read_part.Goals as goal

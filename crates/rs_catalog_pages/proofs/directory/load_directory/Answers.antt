@@ -1,6 +1,6 @@
 -- Page 1 is one page.
 use Rattle.std.proofs.Common.{◌≡◌, Some, subst}
-use Rattle.rs_measure.specs.declared.refusal.Refusal.TheVariants as refusal
+use Rattle.rs_refusal.specs.declared.refusal.Refusal.TheVariants as refusal
 use Rattle.rs_pages.specs.PageMap.{HasNoFit}
 use Rattle.rs_catalog_pages.proofs.Directories.{no_fit-no_directory, page-no_directory}
 use Rattle.rs_catalog_pages.proofs.directory.load_directory.Goals as goal

@@ -1,8 +1,8 @@
 -- What was read says no catalogue, and no other bytes are there.
 use Rattle.std.proofs.Common.{◌≡◌, sym, subst}
 use Rattle.std.proofs.lemmas.Result.{err_from_is_err_and}
-use Rattle.rs_measure.specs.declared.refusal.Refusal.TheVariants as refusal
-use Rattle.rs_reached.specs.Marks.{taken}
+use Rattle.rs_refusal.specs.declared.refusal.Refusal.TheVariants as refusal
+use Rattle.rs_page_marks.specs.Marks.{taken}
 use Rattle.rs_catalog_pages.specs.Items.{SaysCatalogue}
 use Rattle.rs_catalog_pages.specs.Laws.{catalogue_fits}
 use Rattle.rs_catalog_pages.specs.Said.{said_catalogue}

@@ -1,6 +1,6 @@
 -- The pages so far are in use where those before were.
 use Rattle.std.proofs.Common.{◌≡◌, ◌≤◌, ◌+◌, ◌-◌, Ok, length, max, take}
-use Rattle.rs_owners.specs.Changes.{WorksAfter}
+use Rattle.rs_page_owners.specs.Changes.{WorksAfter}
 use Rattle.rs_catalog_pages.specs.Storing.{MovesPages}
 use Rattle.rs_catalog_pages.proofs.placing.grow.Given as goal
 

@@ -1,7 +1,7 @@
 -- The pages that are there now are in use; then the bytes are written into them.
 use Rattle.std.proofs.Common.{◌≡◌, ◌<◌, ◌+◌, ◌*◌, ◌^◌, ◌++◌, List, ℕ, Ok, Err, length, sym, ap, subst, ◌∙◌, arith, rules}
 use Rattle.std.proofs.lemmas.Result.{err_from_is_err_and}
-use Rattle.rs_measure.specs.declared.refusal.Refusal.TheVariants as refusal
+use Rattle.rs_refusal.specs.declared.refusal.Refusal.TheVariants as refusal
 use Rattle.rs_pages.specs.Uses.{SetsCatalogue}
 use Rattle.rs_catalog_pages.specs.Items.{SaysCatalogue}
 use Rattle.rs_catalog_pages.specs.Said.{said_catalogue}

@@ -2,8 +2,8 @@
 use Rattle.std.proofs.Common.{◌≡◌, ◌<◌, ◌+◌, ◌-◌, Ok, Err, length, drop, get_or, refl, sym, ap, subst, ◌∙◌, arith}
 use Rattle.std.proofs.lemmas.List.{get_or_read}
 use Rattle.std.proofs.lemmas.Result.{err_from_is_err_and}
-use Rattle.rs_owners.specs.Counts.{times}
-use Rattle.rs_owners.proofs.Moving.{same_pages-moves}
+use Rattle.rs_page_owners.specs.Counts.{times}
+use Rattle.rs_page_owners.proofs.Moving.{same_pages-moves}
 use Rattle.rs_pages.specs.PageMap.{HasNoFit}
 use Rattle.rs_pages.proofs.Stores.{SamePages-refl}
 use Rattle.rs_catalog_pages.specs.Chain.{HoldsFrom}

@@ -1,6 +1,6 @@
 -- From this page on the bytes are written.
 use Rattle.std.proofs.Common.{◌≡◌, ◌≤◌, Ok, length, drop}
-use Rattle.rs_owners.specs.Changes.{WorksAfter}
+use Rattle.rs_page_owners.specs.Changes.{WorksAfter}
 use Rattle.rs_catalog_pages.specs.Chain.{HoldsFrom}
 use Rattle.rs_catalog_pages.specs.Inner.{parts_from}
 use Rattle.rs_catalog_pages.specs.Places.{number_from}

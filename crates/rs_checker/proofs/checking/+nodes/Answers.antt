@@ -1,6 +1,6 @@
 use Rattle.std.proofs.Common.{IfOk, IfErr, ◌≡◌, ◌⊎◌, inr, sym, ap, subst, ◌∙◌, arith}
 use Rattle.std.proofs.lemmas.Result.{err_from_is_err_and, IfOk-weaker, IfErr-weaker}
-use Rattle.rs_measure.specs.declared.refusal.Refusal.TheVariants.{OutOfMemory}
+use Rattle.rs_refusal.specs.declared.refusal.Refusal.TheVariants.{OutOfMemory}
 use Rattle.rs_syntax.specs.QueryView.{query_tree}
 use Rattle.rs_machine.specs.Opening as size
 use Rattle.rs_machine.specs.Opening.{opened_times}

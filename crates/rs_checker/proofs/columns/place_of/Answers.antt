@@ -1,6 +1,6 @@
 use Rattle.std.proofs.Common.{◌≡◌, true, false, get_or, sym, ap, ◌∙◌, arith}
 use borrow.Author.Count.{below_more}
-use Rattle.rs_measure.specs.declared.refusal.Refusal.TheVariants.{NoSuchColumn}
+use Rattle.rs_refusal.specs.declared.refusal.Refusal.TheVariants.{NoSuchColumn}
 use Rattle.rs_facts.specs.Insert.{same_name}
 use Rattle.rs_syntax.specs.declared.commands.ColumnDefinition.{ColumnDefinition}
 use Rattle.rs_machine.specs.Checks.{found}

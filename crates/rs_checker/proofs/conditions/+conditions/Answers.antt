@@ -1,6 +1,6 @@
 use Rattle.std.proofs.Common.{map, List, sym, ap, subst, ◌∙◌, Err, Ok, IfOk, IfErr, ◌≡◌, ◌⊎◌, inr, Vec, Global, arith}
 use Rattle.std.proofs.lemmas.Result.{err_from_is_err_and, IfOk-weaker, IfErr-weaker}
-use Rattle.rs_measure.specs.declared.refusal.Refusal.TheVariants.{OutOfMemory}
+use Rattle.rs_refusal.specs.declared.refusal.Refusal.TheVariants.{OutOfMemory}
 use Rattle.rs_facts.specs.ConditionView.{condition_of}
 use Rattle.rs_syntax.specs.declared.queries.Atom.{Atom}
 use Rattle.rs_syntax.specs.View.{column_tree}

@@ -1,7 +1,7 @@
 use Rattle.std.proofs.Common.{not, Ok, inr, map, sym, ap, ◌∙◌, arith}
 use Rattle.std.proofs.lemmas.List.{length-map}
 use Rattle.std.proofs.lemmas.Result.{err_from_is_err_and}
-use Rattle.rs_measure.specs.declared.refusal.Refusal.TheVariants.{ColumnTwice}
+use Rattle.rs_refusal.specs.declared.refusal.Refusal.TheVariants.{ColumnTwice}
 use Rattle.rs_facts.specs.Query.{dissolve_rows}
 use Rattle.rs_syntax.specs.View.{column_tree}
 use Rattle.rs_machine.specs.Checks.{◌>>=◌, unless, some_name_twice}

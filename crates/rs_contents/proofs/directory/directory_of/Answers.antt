@@ -11,7 +11,7 @@ use Rattle.rs_catalog_pages.specs.declared.items.StoredTable.{StoredTable}
 use Rattle.rs_contents.specs.Contents.{item_of}
 use Rattle.rs_contents.specs.Slots.{AreRoots, AreTrees, HasAsMany, IsOfItem, said_roots}
 use Rattle.rs_contents.proofs.Slotted.{as_many, said_of}
-use Rattle.rs_owners.specs.Counts.{times}
+use Rattle.rs_page_owners.specs.Counts.{times}
 use Rattle.rs_tree.proofs.Lists.{zip_lengths}
 use Rattle.rs_contents.proofs.directory.directory_of.Goals as goal
 

@@ -2,7 +2,7 @@
 use Rattle.std.proofs.Common.{◌≡◌, Ok, length}
 use Rattle.rs_contents.proofs.Walked.{HasWalked}
 use Rattle.rs_pages.specs.Lending.{RestsAfter}
-use Rattle.rs_reached.specs.Marks.{taken}
+use Rattle.rs_page_marks.specs.Marks.{taken}
 use Rattle.rs_contents.proofs.free_pages.reach_free.Given as goal
 
 abbrev pub invariant-loop-next : goal.invariant-loop-next

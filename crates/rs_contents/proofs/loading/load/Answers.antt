@@ -5,11 +5,11 @@ use Rattle.rs_catalog_pages.specs.Directory.{DirectoryItems}
 use Rattle.rs_catalog_pages.specs.Said.{said_catalogue, said_directory}
 use Rattle.rs_contents.specs.Opening.{OpensNoParts, OpensParts}
 use Rattle.rs_contents.proofs.Loaded.{are_there, no_parts, nothing_said, same_map, unreached}
-use Rattle.rs_measure.specs.declared.refusal.Refusal.TheVariants as refusal
-use Rattle.rs_owners.specs.Counts.{◌&◌, one_at}
-use Rattle.rs_reached.specs.Marks.{taken}
-use Rattle.rs_tree_search.proofs.Resting.{rests_then}
-use Rattle.rs_versions.proofs.Refusing.{rests_err, rests_ok}
+use Rattle.rs_refusal.specs.declared.refusal.Refusal.TheVariants as refusal
+use Rattle.rs_page_owners.specs.Counts.{◌&◌, one_at}
+use Rattle.rs_page_marks.specs.Marks.{taken}
+use Rattle.rs_tree.proofs.Resting.{rests_then}
+use Rattle.rs_cell_versions.proofs.Refusing.{rests_err, rests_ok}
 use Rattle.rs_contents.proofs.loading.load.Goals as goal
 
 pub returns-in_err-numbers-clause-damaged : goal.returns-in_err-numbers-clause-damaged

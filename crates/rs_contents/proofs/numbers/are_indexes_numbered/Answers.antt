@@ -3,7 +3,7 @@ use Rattle.std.proofs.Common.{◌≡◌, ◌<◌, map, refl, true, arith}
 use Rattle.std.proofs.lemmas.Bool.{false≢true}
 use Rattle.rs_catalog_pages.specs.declared.items.StoredIndex.{StoredIndex}
 use Rattle.rs_catalog_pages.specs.declared.items.StoredTable.{StoredTable}
-use Rattle.rs_owners.specs.Counts.{times}
+use Rattle.rs_page_owners.specs.Counts.{times}
 use Rattle.rs_contents.proofs.Numbering.{each_all, each_at, once_all, once_at}
 use Rattle.rs_contents.proofs.numbers.are_indexes_numbered.Goals as goal
 

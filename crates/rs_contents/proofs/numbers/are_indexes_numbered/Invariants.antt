@@ -1,7 +1,7 @@
 -- The indexes so far have numbers of their own, and are of tables.
 use Rattle.std.proofs.Common.{◌≡◌, ◌<◌, map}
 use Rattle.std.specs.List.{AllWithin}
-use Rattle.rs_owners.specs.Counts.{times}
+use Rattle.rs_page_owners.specs.Counts.{times}
 use Rattle.rs_contents.proofs.numbers.are_indexes_numbered.Given as goal
 
 abbrev pub invariant-loop-index : goal.invariant-loop-index

@@ -1,7 +1,7 @@
 -- The tables so far have numbers of their own.
 use Rattle.std.proofs.Common.{◌≡◌, ◌<◌, map}
 use Rattle.std.specs.List.{AllWithin}
-use Rattle.rs_owners.specs.Counts.{times}
+use Rattle.rs_page_owners.specs.Counts.{times}
 use Rattle.rs_contents.proofs.numbers.are_tables_numbered.Given as goal
 
 abbrev pub invariant-loop-table : goal.invariant-loop-table

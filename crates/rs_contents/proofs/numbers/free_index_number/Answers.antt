@@ -4,7 +4,7 @@ use borrow.Author.Count.{below_more}
 use Rattle.rs_catalog_pages.specs.declared.items.StoredIndex.{StoredIndex}
 use Rattle.rs_catalog_pages.specs.declared.directory_items.TheConstants.{INDEXES}
 use Rattle.rs_contents.proofs.Numbering.{all_given}
-use Rattle.rs_owners.specs.Counts.{times}
+use Rattle.rs_page_owners.specs.Counts.{times}
 use Rattle.rs_contents.proofs.numbers.free_index_number.Goals as goal
 
 pub loop-number-preserved : goal.loop-number-preserved

@@ -3,7 +3,7 @@ use Rattle.std.proofs.Common.{◌≡◌, ◌∙◌, ℕ, Some, map, slice_get, s
 use borrow.Author.Count.{below_more}
 use Rattle.rs_catalog_pages.specs.declared.directory_items.StoredRoot.{StoredRoot}
 use Rattle.rs_catalog_pages.specs.declared.items.StoredIndex.{StoredIndex}
-use Rattle.rs_owners.specs.Counts.{times}
+use Rattle.rs_page_owners.specs.Counts.{times}
 use Rattle.rs_contents.proofs.Numbering.{said_at}
 use Rattle.rs_contents.proofs.numbers.has_no_other_index.Goals as goal
 use Rattle.rs_contents.proofs.numbers.has_no_other_index.Goals.{else-number-ne0-via-then-number-ne0+else-indexes_with-eq0, else-number-ne0-via-else-number-ne0}

@@ -4,7 +4,7 @@ use borrow.Author.Count.{below_more}
 use Rattle.rs_catalog_pages.specs.Said.{said_tree}
 use Rattle.rs_catalog_pages.specs.declared.items.StoredTable.{StoredTable}
 use Rattle.rs_contents.specs.Contents.{no_tree}
-use Rattle.rs_owners.specs.Counts.{times}
+use Rattle.rs_page_owners.specs.Counts.{times}
 use Rattle.rs_contents.proofs.Numbering.{said_at}
 use Rattle.rs_contents.proofs.numbers.has_no_other_table.Goals as goal
 use Rattle.rs_contents.proofs.numbers.has_no_other_table.Goals.{else-not-is_no_tree-via-then-not-is_no_tree+else-tables_with-eq0, else-not-is_no_tree-via-else-not-is_no_tree}

@@ -2,7 +2,7 @@
 use Rattle.std.proofs.Common.{◌≡◌, ◌<◌, ℕ, Some, map, slice_get}
 use Rattle.rs_catalog_pages.specs.Said.{said_tree}
 use Rattle.rs_contents.specs.Contents.{no_tree}
-use Rattle.rs_owners.specs.Counts.{times}
+use Rattle.rs_page_owners.specs.Counts.{times}
 use Rattle.rs_contents.proofs.numbers.has_no_other_table.Given as goal
 
 abbrev pub invariant-loop-number : goal.invariant-loop-number

@@ -6,14 +6,14 @@ use Rattle.std.specs.List.{AllByRecursion}
 use Rattle.rs_catalog_pages.specs.Said.{said_catalogue, said_directory}
 use Rattle.rs_contents.specs.FreePages.{HasNoFreshFreeList, ReachesFree}
 use Rattle.rs_contents.proofs.Loaded.{no_free, no_referents, no_tables, same_map, some_left}
-use Rattle.rs_measure.specs.declared.refusal.Refusal.TheVariants as refusal
-use Rattle.rs_reached.specs.Marks.{taken}
-use Rattle.rs_tree_search.proofs.Resting.{rests_then}
+use Rattle.rs_refusal.specs.declared.refusal.Refusal.TheVariants as refusal
+use Rattle.rs_page_marks.specs.Marks.{taken}
+use Rattle.rs_tree.proofs.Resting.{rests_then}
 use Rattle.rs_versioned.specs.declared.told.ToldRecords.{ToldRecords}
 use Rattle.rs_versioned.specs.Opening.{OpensNone, OpensRecords}
 use Rattle.rs_versioned.specs.Referents.{kept_referents}
-use Rattle.rs_versions.specs.Version.{died_of}
-use Rattle.rs_versions.proofs.Refusing.{rests_err, rests_ok, rests_refused}
+use Rattle.rs_cell_versions.specs.Version.{died_of}
+use Rattle.rs_cell_versions.proofs.Refusing.{rests_err, rests_ok, rests_refused}
 use Rattle.rs_contents.proofs.opening.open_parts.Goals as goal
 
 pub returns-in_err-tables-clause-damaged : goal.returns-in_err-tables-clause-damaged

@@ -11,12 +11,12 @@ use Rattle.rs_contents.specs.Contents.{IsIndex}
 use Rattle.rs_contents.specs.Opening.{told_of}
 use Rattle.rs_contents.proofs.Numbering.{said_at}
 use Rattle.rs_contents.proofs.OneOpened.{are_on, none_of_indexes, none_of_pages, one_of_pages}
-use Rattle.rs_measure.specs.declared.refusal.Refusal.TheVariants as refusal
-use Rattle.rs_reached.specs.Marks.{taken}
+use Rattle.rs_refusal.specs.declared.refusal.Refusal.TheVariants as refusal
+use Rattle.rs_page_marks.specs.Marks.{taken}
 use Rattle.rs_value.specs.declared.column.ColumnType.{ColumnType}
 use Rattle.rs_versioned.specs.Events.{event_width}
 use Rattle.rs_versioned.specs.declared.told.ToldRecords.{ToldRecords}
-use Rattle.rs_versions.specs.Version.{died_of}
+use Rattle.rs_cell_versions.specs.Version.{died_of}
 use Rattle.rs_contents.proofs.opening.open_table.Goals as goal
 
 pub returns-in_err-indexes-clause-damaged : goal.returns-in_err-indexes-clause-damaged

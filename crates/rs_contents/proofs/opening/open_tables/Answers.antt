@@ -10,9 +10,9 @@ use Rattle.rs_contents.specs.declared.opened.OpenedTable.{OpenedTable}
 use Rattle.rs_contents.proofs.Loaded.{same_map}
 use Rattle.rs_contents.proofs.Numbering.{said_at}
 use Rattle.rs_contents.proofs.TablesOpened.{opens_missing, opens_next, zip_next}
-use Rattle.rs_measure.specs.declared.refusal.Refusal.TheVariants as refusal
+use Rattle.rs_refusal.specs.declared.refusal.Refusal.TheVariants as refusal
 use Rattle.rs_pages.specs.PageMap.{PageMap}
-use Rattle.rs_reached.specs.Marks.{taken}
+use Rattle.rs_page_marks.specs.Marks.{taken}
 use Rattle.rs_contents.proofs.opening.open_tables.Goals as goal
 
 pub returns-in_err-table-clause-rests : goal.returns-in_err-table-clause-rests

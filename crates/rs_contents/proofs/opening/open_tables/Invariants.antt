@@ -4,7 +4,7 @@ use Rattle.std.specs.List.{AllZip}
 use Rattle.rs_catalog_pages.specs.Said.{said_catalogue, said_directory}
 use Rattle.rs_contents.specs.Opening.{IsTableOf, OpensTables}
 use Rattle.rs_pages.specs.Lending.{RestsAfter}
-use Rattle.rs_reached.specs.Marks.{taken}
+use Rattle.rs_page_marks.specs.Marks.{taken}
 use Rattle.rs_contents.proofs.opening.open_tables.Given as goal
 
 abbrev pub invariant-loop-item : goal.invariant-loop-item

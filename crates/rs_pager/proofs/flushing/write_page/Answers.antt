@@ -1,7 +1,7 @@
 -- A page that is held at its place is the disk's.
 use Rattle.std.proofs.Common.{◌≡◌, ◌*◌, ◌+◌, ◌≤◌, length, rules, arith, Result, Ok, Err, OnOk, ℕ, List}
 use Rattle.rs_disk.specs.Content.{Content, Holds}
-use Rattle.rs_disk.specs.declared.disk.TheConstants.{PAGE_SIZE}
+use Rattle.rs_page.specs.declared.page.TheConstants.{PAGE_SIZE}
 use Rattle.rs_pager.specs.Writing.{HasPage}
 use Rattle.rs_pager.proofs.DiskBytes.{held-page}
 use Rattle.rs_pager.proofs.Writing.{page-writes}

@@ -1,7 +1,7 @@
 use Rattle.std.proofs.Common.{◌≡◌, Ok, Err, sym, subst, inl, inr, ⊎_elim}
 use Rattle.std.specs.Prelude.{◌⊎◌}
 use Rattle.std.proofs.lemmas.Result.{IfOk-weaker, IfErr-weaker, err_from_is_err_and}
-use Rattle.rs_measure.specs.declared.refusal.Refusal.TheVariants.{OutOfMemory}
+use Rattle.rs_refusal.specs.declared.refusal.Refusal.TheVariants.{OutOfMemory}
 use Rattle.rs_syntax.specs.View.{tree_of}
 use Rattle.rs_syntax.specs.Verdict.{Parses, Reads, has_no_tokens, has_tokens}
 use Rattle.rs_parser.proofs.parser.command_of.Goals as goal

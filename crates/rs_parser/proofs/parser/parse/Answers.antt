@@ -1,7 +1,7 @@
 use Rattle.std.proofs.Common.{◌≡◌, Ok, Err, sym, subst, inl, inr, ⊎_elim}
 use Rattle.std.specs.Prelude.{◌⊎◌}
 use Rattle.std.proofs.lemmas.Result.{IfOk-weaker, IfErr-weaker}
-use Rattle.rs_measure.specs.declared.refusal.Refusal.TheVariants.{OutOfMemory, NumberOutOfRange}
+use Rattle.rs_refusal.specs.declared.refusal.Refusal.TheVariants.{OutOfMemory, NumberOutOfRange}
 use Rattle.rs_syntax.specs.Tree.{CommandTree}
 use Rattle.rs_syntax.specs.View.{tree_of, written_of}
 use Rattle.rs_syntax.specs.Written.{Says, AreToldOf}

@@ -1,9 +1,9 @@
 use Rattle.std.proofs.Common.{◌-◌, ◌<◌, ◌≤◌, [], length, take, Some, Ok, sym, ap, ◌∙◌, subst, inr, arith}
 use Rattle.std.proofs.lemmas.List.{take_rest}
-use Rattle.rs_measure.specs.declared.refusal.Refusal.TheVariants.{Syntax}
+use Rattle.rs_refusal.specs.declared.refusal.Refusal.TheVariants.{Syntax}
 use Rattle.rs_lexer.specs.Lexis.{kinds_of}
 use Rattle.rs_grammar.specs.Grammar.{command_form}
-use Rattle.rs_query_parser.specs.Reading.{Runs, halt_of, StopsAt}
+use Rattle.rs_descent.specs.Reading.{Runs, halt_of, StopsAt}
 use Rattle.rs_syntax.specs.View.{written_of}
 use Rattle.rs_syntax.specs.Verdict.{fault_column, FitsNoRule}
 use Rattle.rs_syntax.proofs.BracketLaws.{length-kinds_of, take-kinds_of}

@@ -1,8 +1,8 @@
 use Rattle.std.proofs.lemmas.Result.{err_from_is_err_and}
 use Rattle.rs_grammar.specs.declared.kind.TokenKind.TheVariants as kinds
 use Rattle.rs_grammar.specs.Grammar.{fail, pick, need, define_form, drop_form, move_form, insert_form, remove_form, translate_form, select_form, total_form}
-use Rattle.rs_query_parser.specs.Reading.{skips}
-use Rattle.rs_query_parser.proofs.Steps.{misses, RunsTo-skips, RunsTo-takes}
+use Rattle.rs_descent.specs.Reading.{skips}
+use Rattle.rs_descent.proofs.Steps.{misses, RunsTo-skips, RunsTo-takes}
 use Rattle.rs_parser.proofs.reading.command.Goals as goal
 
 pub returns-in-Some-clause-runs : goal.returns-in-Some-clause-runs

@@ -1,7 +1,7 @@
 use Rattle.std.proofs.Common.{append_assoc}
 use Rattle.std.proofs.lemmas.Result.{err_from_is_err_and}
 use Rattle.rs_grammar.specs.Grammar.{rules}
-use Rattle.rs_query_parser.specs.Reading.{through, stops_in}
+use Rattle.rs_descent.specs.Reading.{through, stops_in}
 use Rattle.rs_parser.proofs.reading.select.Goals as goal
 
 pub returns-in_err-query-clause-runs : goal.returns-in_err-query-clause-runs

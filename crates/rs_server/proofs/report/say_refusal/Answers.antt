@@ -1,6 +1,6 @@
 use Rattle.std.proofs.Common.{◌≡◌}
 use Rattle.std.specs.Prelude.{decimal}
-use Rattle.rs_measure.specs.Refusal.{number_of, words_of}
+use Rattle.rs_refusal.specs.Refusal.{number_of, words_of}
 use Rattle.rs_server.proofs.Saying.{line_from_parts}
 use Rattle.rs_server.proofs.report.say_refusal.Goals as goal
 

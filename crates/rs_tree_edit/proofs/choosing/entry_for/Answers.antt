@@ -5,7 +5,7 @@ use Rattle.rs_records.specs.Records.{records, keys, IsPlace}
 use Rattle.rs_records.proofs.RecordLists.{length-keys}
 use Rattle.rs_tree.specs.Form.{least_from}
 use Rattle.rs_tree.proofs.Lists.{has_inside}
-use Rattle.rs_tree_page.specs.Layouts.{entry_bytes}
+use Rattle.rs_tree.specs.Layouts.{entry_bytes}
 use Rattle.rs_tree_edit.specs.Choosing.{IsEntryFor}
 use Rattle.rs_tree_edit.proofs.Between.{same_keys, entry_here, entry_before}
 use Rattle.rs_tree_edit.proofs.choosing.entry_for.Goals as goal

@@ -1,10 +1,10 @@
 -- Whichever part has the page at its top, its page is what was lent.
 use Rattle.std.proofs.Common.{◌≡◌, Result, Err, inl, inr, rules}
-use Rattle.rs_measure.specs.declared.refusal.Refusal.{Refusal}
+use Rattle.rs_refusal.specs.declared.refusal.Refusal.{Refusal}
 use Rattle.rs_pages.specs.Lending.{RestsAfter}
 use Rattle.rs_tree.specs.Form.{form_of}
-use Rattle.rs_tree_search.specs.Reading.{HasNoNode}
-use Rattle.rs_tree_search.proofs.Loading.{no_fit-no_node, on_ok}
+use Rattle.rs_tree.specs.Reading.{HasNoNode}
+use Rattle.rs_tree.proofs.Loading.{no_fit-no_node, on_ok}
 use Rattle.rs_tree_edit.proofs.Saying.{part_said}
 use Rattle.rs_tree_edit.proofs.Working.{ReadRefusal, rests-work}
 use Rattle.rs_tree_edit.proofs.entries.write_entry_of.Goals as goal

@@ -4,8 +4,8 @@ use Rattle.std.proofs.lemmas.List.{take_rest}
 use Rattle.rs_page.specs.declared.header.PageKind.TheVariants as kind
 use Rattle.rs_tree.specs.Content.{content}
 use Rattle.rs_tree.specs.Form.{least_from}
-use Rattle.rs_tree_page.specs.Layouts.{entry_bytes}
-use Rattle.rs_tree_search.proofs.Entering.{records_fit, entry_there}
+use Rattle.rs_tree.specs.Layouts.{entry_bytes}
+use Rattle.rs_tree.proofs.Entering.{records_fit, entry_there}
 use Rattle.rs_tree_edit.proofs.Saying.{inner_said}
 use Rattle.rs_tree_edit.proofs.entries.write_inner_entry.Goals as goal
 

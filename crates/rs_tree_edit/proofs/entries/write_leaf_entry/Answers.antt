@@ -4,7 +4,7 @@ use Rattle.rs_page.specs.declared.header.PageKind.TheVariants as kind
 use Rattle.rs_records.specs.Records.{records}
 use Rattle.rs_tree.specs.Content.{content}
 use Rattle.rs_tree.specs.Form.{least_from}
-use Rattle.rs_tree_search.proofs.Entering.{records_fit}
+use Rattle.rs_tree.proofs.Entering.{records_fit}
 use Rattle.rs_tree_edit.proofs.Saying.{leaf_said}
 use Rattle.rs_tree_edit.proofs.entries.write_leaf_entry.Goals as goal
 

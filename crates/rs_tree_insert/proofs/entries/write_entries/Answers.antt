@@ -5,8 +5,8 @@ use Rattle.std.proofs.lemmas.List.{length-take-le, length-take, length-drop, len
 use borrow.Rule.Slice.PartMut.{post_of}
 use Rattle.rs_records.specs.Records.{records}
 use Rattle.rs_tree.specs.Form.{Form, form_of, joined}
-use Rattle.rs_tree_page.specs.Layouts.{entry_bytes}
-use Rattle.rs_tree_search.specs.Reading.{HasNoNode}
+use Rattle.rs_tree.specs.Layouts.{entry_bytes}
+use Rattle.rs_tree.specs.Reading.{HasNoNode}
 use Rattle.rs_tree_edit.proofs.Working.{works_then, works_err, works_ok}
 use Rattle.rs_tree_insert.specs.Inserting.{HasNoTops, tops}
 use Rattle.rs_tree_insert.specs.declared.answer.Put.{Put}

@@ -1,9 +1,9 @@
 -- Where no page is lent, none of a tree's has the number.
 use Rattle.std.proofs.Common.{Result, Err, inl, inr, rules}
-use Rattle.rs_measure.specs.declared.refusal.Refusal.{Refusal}
+use Rattle.rs_refusal.specs.declared.refusal.Refusal.{Refusal}
 use Rattle.rs_pages.specs.Lending.{RestsAfter}
-use Rattle.rs_tree_search.specs.Reading.{HasNoNode}
-use Rattle.rs_tree_search.proofs.Loading.{no_fit-no_node}
+use Rattle.rs_tree.specs.Reading.{HasNoNode}
+use Rattle.rs_tree.proofs.Loading.{no_fit-no_node}
 use Rattle.rs_tree_edit.proofs.Working.{ReadRefusal, rests-work}
 use Rattle.rs_tree_insert.specs.declared.finding.Spot.{Spot}
 use Rattle.rs_tree_insert.proofs.finding.find_spot.Goals as goal

@@ -1,10 +1,10 @@
 -- What was read is a leaf or an inner page.
 use Rattle.std.proofs.Common.{subst}
 use Rattle.rs_page.specs.declared.header.PageKind.TheVariants as kind
-use Rattle.rs_tree_page.specs.Layouts.{entry_bytes}
-use Rattle.rs_tree_page.specs.Node.{IsNode}
-use Rattle.rs_tree_page.specs.declared.node.Node.TheVariants.{Leaf, Inner}
-use Rattle.rs_tree_search.proofs.Entering.{records_fit}
+use Rattle.rs_tree.specs.Layouts.{entry_bytes}
+use Rattle.rs_tree.specs.Node.{IsNode}
+use Rattle.rs_tree.specs.declared.node.Node.TheVariants.{Leaf, Inner}
+use Rattle.rs_tree.proofs.Entering.{records_fit}
 use Rattle.rs_tree_insert.proofs.finding.spot_in.Goals as goal
 
 pub leaf_spot-requires : goal.leaf_spot-requires

@@ -2,7 +2,7 @@
 use Rattle.std.proofs.Common.{◌≡◌, ◌⊎◌, ◌<◌, ◌≤◌, ◌-◌, ◌*◌, ℕ, List, Some, Err, sym, ap, ◌∙◌, subst, arith, rules}
 use Rattle.std.proofs.lemmas.Bool.{false≢true}
 use Rattle.std.proofs.lemmas.Result.{err_from_is_err_and}
-use Rattle.rs_measure.specs.declared.refusal.Refusal.TheVariants as refusal
+use Rattle.rs_refusal.specs.declared.refusal.Refusal.TheVariants as refusal
 use Rattle.rs_page.specs.declared.header.PageKind.TheVariants as kind
 use Rattle.rs_pages.proofs.Stores.{SamePages-trans}
 use Rattle.rs_records.specs.Records.{records}
@@ -10,9 +10,9 @@ use Rattle.rs_records.proofs.RecordLists.{length-keys, length-records}
 use Rattle.rs_tree.specs.Content.{content}
 use Rattle.rs_tree.specs.Form.{Form, form_of, joined}
 use Rattle.rs_tree.proofs.Lists.{has_inside}
-use Rattle.rs_tree_page.specs.Layouts.{entry_bytes}
-use Rattle.rs_tree_search.specs.Reading.{HasNoNode}
-use Rattle.rs_tree_search.proofs.Entering.{records_fit}
+use Rattle.rs_tree.specs.Layouts.{entry_bytes}
+use Rattle.rs_tree.specs.Reading.{HasNoNode}
+use Rattle.rs_tree.proofs.Entering.{records_fit}
 use Rattle.rs_tree_edit.proofs.Working.{works_then, works_err, works_ok}
 use Rattle.rs_tree_insert.specs.Finding.{HasCell, BelongsAt, BelongsUnder, IsSpot}
 use Rattle.rs_tree_insert.specs.Inserting.{tops, PutsBelow, TellsBelow, HasNoShared, HasNoTops, WritesAbove}

@@ -3,7 +3,7 @@ use Rattle.std.proofs.Common.{◌≡◌, ◌⊎◌, ◌*◌, inr, refl, ap, ◌�
 use Rattle.rs_pages.proofs.Stores.{SamePages-refl}
 use Rattle.rs_records.specs.Records.{records}
 use Rattle.rs_tree.specs.Form.{Form, form_of, joined}
-use Rattle.rs_tree_page.specs.Layouts.{entry_bytes}
+use Rattle.rs_tree.specs.Layouts.{entry_bytes}
 use Rattle.rs_tree_edit.proofs.Working.{works_then, works_ok}
 use Rattle.rs_tree_insert.specs.Inserting.{HasNoTops, tops}
 use Rattle.rs_tree_insert.specs.Writing.{IsBroken}

@@ -2,7 +2,7 @@
 use Rattle.std.proofs.Common.{◌⊎◌, inr}
 use Rattle.rs_records.specs.Records.{records}
 use Rattle.rs_tree.specs.Form.{Form, form_of}
-use Rattle.rs_tree_page.specs.Layouts.{entry_bytes}
+use Rattle.rs_tree.specs.Layouts.{entry_bytes}
 use Rattle.rs_tree_edit.specs.Editing.{HasNoFreeList}
 use Rattle.rs_tree_edit.proofs.Working.{works_then}
 use Rattle.rs_tree_insert.specs.Inserting.{HasNoTops, tops}

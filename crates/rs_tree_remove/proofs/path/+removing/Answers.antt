@@ -5,18 +5,18 @@ use Rattle.rs_records.specs.Order.{Ascends}
 use Rattle.rs_records.specs.Records.{records, keys}
 use Rattle.rs_tree.specs.Content.{content}
 use Rattle.rs_tree.specs.Form.{Form, form_of, joined, least_from}
-use Rattle.rs_tree_page.specs.Layouts.{entry_bytes}
-use Rattle.rs_tree_page.specs.Node.{IsNode}
-use Rattle.rs_tree_page.specs.declared.node.Node.TheVariants.{Inner}
-use Rattle.rs_tree_search.specs.Reading.{HasNoNode}
-use Rattle.rs_tree_search.proofs.Entering.{entry_there}
+use Rattle.rs_tree.specs.Layouts.{entry_bytes}
+use Rattle.rs_tree.specs.Node.{IsNode}
+use Rattle.rs_tree.specs.declared.node.Node.TheVariants.{Inner}
+use Rattle.rs_tree.specs.Reading.{HasNoNode}
+use Rattle.rs_tree.proofs.Entering.{entry_there}
 use Rattle.rs_tree_edit.specs.Choosing.{IsEntryFor}
 use Rattle.rs_tree_edit.proofs.Working.{works_err, works_then}
-use Rattle.rs_tree_shrink.specs.Finishing.{NoneGaveWay}
-use Rattle.rs_tree_shrink.specs.Leaving.{RemovesPart, HasNoOwnPart}
-use Rattle.rs_tree_mend.specs.Mending.{NoneLonely}
-use Rattle.rs_tree_mend.proofs.Joining.{if_ok}
-use Rattle.rs_tree_mend.proofs.Lonely.{damaged_after}
+use Rattle.rs_tree_remove.specs.Finishing.{NoneGaveWay}
+use Rattle.rs_tree_remove.specs.Leaving.{RemovesPart, HasNoOwnPart}
+use Rattle.rs_tree_remove.specs.Mending.{NoneLonely}
+use Rattle.rs_tree_remove.proofs.Joining.{if_ok}
+use Rattle.rs_tree_remove.proofs.Lonely.{damaged_after}
 use Rattle.rs_tree_remove.proofs.Passing.{removes_before, none_before, no_node-none, no_level-none}
 use Rattle.rs_tree_remove.proofs.Under.{under_missing, under_kept, kept_none, under_gone, gone_none, under_single, single_none, below_none}
 use Rattle.rs_tree_remove.proofs.path.+removing.Goals as goal

@@ -6,9 +6,9 @@ use Rattle.rs_tree.specs.Calls.{Changes, IsNotShared}
 use Rattle.rs_tree.specs.Cells.{without_cell}
 use Rattle.rs_tree.specs.Form.{Form, form_of}
 use Rattle.rs_tree_edit.proofs.Working.{works_err, works_then}
-use Rattle.rs_tree_shrink.specs.Leaving.{RemovesPart, HasNoOwnPart}
-use Rattle.rs_tree_shrink.specs.declared.answer.Removed.TheVariants.{Kept, Gone, Single}
-use Rattle.rs_tree_shrink.proofs.Refusing.{NotReleased, release-works}
+use Rattle.rs_tree_remove.specs.Leaving.{RemovesPart, HasNoOwnPart}
+use Rattle.rs_tree_remove.specs.declared.answer.Removed.TheVariants.{Kept, Gone, Single}
+use Rattle.rs_tree_remove.proofs.Refusing.{NotReleased, release-works}
 use Rattle.rs_tree_remove.proofs.Whole.{empty_changes, empty_found, missing_changes, missing_of, kept_changes, gone_changes, single_changes, single_none, found_of, none_shared}
 use Rattle.rs_tree_remove.proofs.roots.remove.Goals as goal
 

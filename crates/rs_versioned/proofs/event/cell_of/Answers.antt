@@ -4,7 +4,7 @@ use Rattle.std.proofs.lemmas.List.{append_assoc}
 use Rattle.std.specs.Int.{w32, w64, to_be_bytes}
 use Rattle.rs_value.specs.Encoding.{SaysRow}
 use Rattle.rs_value.specs.View.{row_of}
-use Rattle.rs_versions.specs.declared.cell.TheConstants.{LIVING}
+use Rattle.rs_cell_versions.specs.declared.cell.TheConstants.{LIVING}
 use Rattle.rs_versioned.proofs.CellParts.{last_put}
 use Rattle.rs_versioned.proofs.event.cell_of.Goals as goal
 

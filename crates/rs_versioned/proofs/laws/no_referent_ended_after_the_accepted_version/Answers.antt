@@ -1,6 +1,6 @@
 -- Its end is none that was accepted.
 use Rattle.std.proofs.Common.{◌≡◌, ◌<◌, ℕ, refl, sym, ap, ◌∙◌, arith}
-use Rattle.rs_versions.specs.declared.cell.TheConstants.{LIVING}
+use Rattle.rs_cell_versions.specs.declared.cell.TheConstants.{LIVING}
 use Rattle.rs_versioned.specs.Referents.{ReferentRecord, ended_referent, kept_referents}
 use Rattle.rs_versioned.proofs.EndedLater.{missing_come, missing_ended, none_ended_later}
 use Rattle.rs_versioned.proofs.KeptReferents.{referents_are_kept}

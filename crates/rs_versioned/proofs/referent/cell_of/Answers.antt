@@ -3,7 +3,7 @@ use Rattle.std.proofs.Common.{◌≡◌, ◌≤◌, ◌-◌, ◌∙◌, ◌++◌
 use Rattle.std.proofs.lemmas.List.{append_assoc}
 use Rattle.std.specs.Int.{w32, w64, to_be_bytes}
 use Rattle.std.specs.Vec.{vec_len}
-use Rattle.rs_versions.specs.declared.cell.TheConstants.{LIVING}
+use Rattle.rs_cell_versions.specs.declared.cell.TheConstants.{LIVING}
 use Rattle.rs_versioned.proofs.CellParts.{filled_name, last_put}
 use Rattle.rs_versioned.proofs.referent.cell_of.Goals as goal
 

@@ -2,7 +2,7 @@
 use Rattle.std.proofs.Common.{◌∙◌, ◌++◌, [], ◌∷◌, List, ℕ, true, false, take, filter, sym, ap, arith}
 use Rattle.std.proofs.lemmas.List.{append-nil}
 use Rattle.rs_records.specs.Listed.{listed, record_width}
-use Rattle.rs_versions.specs.Version.{sees}
+use Rattle.rs_cell_versions.specs.Version.{sees}
 use Rattle.rs_versioned.proofs.CellsWide.{cell_wide, filter_next}
 use Rattle.rs_versioned.proofs.seeing.seen_by.Goals as goal
 use Rattle.rs_versioned.proofs.seeing.seen_by.Goals.{then-sees+in_ok-push, else-sees}

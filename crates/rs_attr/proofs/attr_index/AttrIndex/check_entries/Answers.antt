@@ -3,11 +3,11 @@ use Rattle.std.proofs.Common.{◌≡◌, ◌∙◌, ◌+◌, ℕ, suc, Bool, tru
 use Rattle.std.proofs.lemmas.Result.{err_from_is_err_and}
 use Rattle.rs_attr.specs.Opening.{HasEntries}
 use Rattle.rs_attr.proofs.Checked.{Tells, entries_lack, entries_next, no_tree_lacks}
-use Rattle.rs_measure.specs.declared.refusal.Refusal.TheVariants as refusal
+use Rattle.rs_refusal.specs.declared.refusal.Refusal.TheVariants as refusal
 use Rattle.rs_records.specs.Listed.{listed}
-use Rattle.rs_tree_search.proofs.Resting.{rests_then}
+use Rattle.rs_tree.proofs.Resting.{rests_then}
 use Rattle.rs_versioned.proofs.CellsWide.{cell_wide}
-use Rattle.rs_versions.proofs.Refusing.{rests_ok}
+use Rattle.rs_cell_versions.proofs.Refusing.{rests_ok}
 use Rattle.rs_attr.proofs.attr_index.AttrIndex.check_entries.Goals as goal
 
 pub has_entry-requires : goal.has_entry-requires

@@ -4,9 +4,9 @@ use Rattle.std.proofs.lemmas.Result.{IfOk-weaker}
 use Rattle.rs_attr.specs.Entries.{Field, index_form, plain_form}
 use Rattle.rs_attr.specs.Opening.{HasSoMany}
 use Rattle.rs_attr.proofs.Indexes.{in_index}
-use Rattle.rs_reached.specs.Marks.{taken}
+use Rattle.rs_page_marks.specs.Marks.{taken}
 use Rattle.rs_tree.specs.Tree.{IsTree}
-use Rattle.rs_tree_check.specs.Validating.{HasNoFreshTree, Validates}
+use Rattle.rs_tree_whole.specs.Validating.{HasNoFreshTree, Validates}
 use Rattle.rs_attr.proofs.attr_index.AttrIndex.validate.Goals as goal
 
 pub returns-clause-validates : goal.returns-clause-validates

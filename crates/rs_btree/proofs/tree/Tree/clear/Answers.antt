@@ -1,7 +1,7 @@
 -- The empty tree takes the place of the one that was cleared.
 use Rattle.std.proofs.Common.{ℕ, List, refl, subst, arith}
-use Rattle.rs_owners.specs.Counts.{no_pages}
-use Rattle.rs_owners.specs.Owners.{Moves}
+use Rattle.rs_page_owners.specs.Counts.{no_pages}
+use Rattle.rs_page_owners.specs.Owners.{Moves}
 use Rattle.rs_tree.specs.Form.{form_of}
 use Rattle.rs_tree.specs.Tree.{IsTree}
 use Rattle.rs_btree.specs.Rooted.{Rooted}

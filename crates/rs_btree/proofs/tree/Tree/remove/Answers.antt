@@ -1,7 +1,7 @@
 -- The tree's form is that of its layout.
 use Rattle.std.proofs.Common.{◌↔◌, ℕ, List, IsTrue, Contains, subst}
-use Rattle.rs_owners.specs.Counts.{◌&◌}
-use Rattle.rs_owners.specs.Owners.{Shares}
+use Rattle.rs_page_owners.specs.Counts.{◌&◌}
+use Rattle.rs_page_owners.specs.Owners.{Shares}
 use Rattle.rs_tree.specs.Form.{form_of}
 use Rattle.rs_tree.specs.Tree.{IsTree}
 use Rattle.rs_btree.specs.Rooted.{Rooted}

@@ -1,6 +1,6 @@
 use Rattle.std.proofs.Common.{◌≡◌, map, refl}
 use Rattle.std.proofs.lemmas.Result.{IfOk-weaker, IfErr-weaker, err_from_is_err_and}
-use Rattle.rs_measure.specs.declared.refusal.Refusal.TheVariants as refusals
+use Rattle.rs_refusal.specs.declared.refusal.Refusal.TheVariants as refusals
 use Rattle.rs_bytes.specs.Codes.{Reads, ReadsNone, SaysEach, SaysMany, SaysCounted}
 use Rattle.rs_bytes.proofs.Reading.{none_counted, none_behind, counted_read}
 use Rattle.rs_bytes.proofs.lists.VecItem.read.Goals as goal

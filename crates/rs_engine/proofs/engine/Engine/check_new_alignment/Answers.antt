@@ -1,5 +1,5 @@
 use Rattle.std.proofs.Common.{◌≡◌, Err, map, false, refl, sym, subst, ◌∙◌}
-use Rattle.rs_measure.specs.declared.refusal.Refusal.TheVariants.{NameTaken}
+use Rattle.rs_refusal.specs.declared.refusal.Refusal.TheVariants.{NameTaken}
 use Rattle.rs_syntax.specs.View.{piece_tree}
 use Rattle.rs_machine.specs.Step.{alignment_defined}
 use Rattle.rs_engine.specs.Held.{Held, state_of}

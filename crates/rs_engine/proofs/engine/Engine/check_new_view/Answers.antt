@@ -1,7 +1,7 @@
 use Rattle.std.proofs.Common.{◌≡◌, ◌⊎◌, ⊎_elim, inl, inr, Ok, Err, sym, ap, subst, ◌∙◌, arith}
 use Rattle.std.specs.Prelude.{OnOk, IfErr}
 use Rattle.std.proofs.lemmas.Result.{err_from_is_err_and}
-use Rattle.rs_measure.specs.declared.refusal.Refusal.TheVariants.{NameTaken, Limit, OutOfMemory}
+use Rattle.rs_refusal.specs.declared.refusal.Refusal.TheVariants.{NameTaken, Limit, OutOfMemory}
 use Rattle.rs_syntax.specs.QueryView.{query_tree}
 use Rattle.rs_machine.specs.Step.{counted, may_change, view_defined, with_view}
 use Rattle.rs_event_lists.specs.Held.{spans_on}

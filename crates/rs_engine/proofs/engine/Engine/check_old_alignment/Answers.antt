@@ -1,6 +1,6 @@
 use Rattle.std.proofs.Common.{◌≡◌, true, false, Ok, Err, sym, ap, subst, ◌∙◌}
 use Rattle.std.specs.Prelude.{OnOk, IfErr}
-use Rattle.rs_measure.specs.declared.refusal.Refusal.TheVariants.{NoSuchName, InUse}
+use Rattle.rs_refusal.specs.declared.refusal.Refusal.TheVariants.{NoSuchName, InUse}
 use Rattle.rs_machine.specs.Step.{counted, may_change, alignment_dropped, without_alignment}
 use Rattle.rs_engine.specs.Held.{Held, state_of}
 use Rattle.rs_engine.proofs.Outcomes.{drops_no_alignment, drops_seen_alignment, drops_alignment, last_accepted, last_refused, none_there, lent_there, some_of}

@@ -1,7 +1,7 @@
 use Rattle.std.proofs.Common.{◌≡◌, Ok, Err, sym, ap, subst, ◌∙◌}
 use Rattle.std.specs.FinMap as names
 use Rattle.std.proofs.lemmas.Result.{err_from_is_err_and}
-use Rattle.rs_measure.specs.declared.refusal.Refusal.TheVariants.{NoSuchRoute}
+use Rattle.rs_refusal.specs.declared.refusal.Refusal.TheVariants.{NoSuchRoute}
 use Rattle.rs_event_lists.specs.Changed.{HasSpansOn, HasNoSpansOn}
 use Rattle.rs_machine.specs.Step.{counted, may_change, route_dropped, without_route}
 use Rattle.rs_engine.specs.Held.{Held, state_of}

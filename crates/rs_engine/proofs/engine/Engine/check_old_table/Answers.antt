@@ -1,7 +1,7 @@
 use Rattle.std.proofs.Common.{◌≡◌, Ok, Err, sym, ap, subst, ◌∙◌}
 use Rattle.std.specs.FinMap as names
 use Rattle.std.proofs.lemmas.Result.{err_from_is_err_and}
-use Rattle.rs_measure.specs.declared.refusal.Refusal.TheVariants.{NoSuchName, InUse}
+use Rattle.rs_refusal.specs.declared.refusal.Refusal.TheVariants.{NoSuchName, InUse}
 use Rattle.rs_machine.specs.Step.{counted, may_change, table_dropped, without_table}
 use Rattle.rs_engine.specs.Held.{Held, state_of}
 use Rattle.rs_engine.proofs.Outcomes.{found_some, found_none, drops_no_table, drops_seen_table, drops_table, may_ok, may_err}

@@ -1,6 +1,6 @@
 use Rattle.std.proofs.Common.{◌≡◌, true, false, Ok, Err, sym, ap, subst, ◌∙◌}
 use Rattle.std.specs.Prelude.{OnOk, IfErr}
-use Rattle.rs_measure.specs.declared.refusal.Refusal.TheVariants.{NoSuchName, InUse}
+use Rattle.rs_refusal.specs.declared.refusal.Refusal.TheVariants.{NoSuchName, InUse}
 use Rattle.rs_machine.specs.Step.{counted, may_change, view_dropped, without_view}
 use Rattle.rs_engine.specs.Held.{Held, state_of}
 use Rattle.rs_engine.proofs.Outcomes.{drops_no_view, drops_seen_view, drops_view, last_accepted, last_refused, none_there, lent_there, some_of}

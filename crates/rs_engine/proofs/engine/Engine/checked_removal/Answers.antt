@@ -2,7 +2,7 @@ use Rattle.std.proofs.Common.{◌≡◌, ◌≤◌, length, inl, inr, Ok, Err, �
 use Rattle.std.proofs.lemmas.List.{length-map}
 use Rattle.std.proofs.lemmas.Result.{err_from_is_err_and}
 use Rattle.std.specs.FinMap as names
-use Rattle.rs_measure.specs.declared.refusal.Refusal.TheVariants.{OutOfMemory, NoSuchRoute, NoSuchName}
+use Rattle.rs_refusal.specs.declared.refusal.Refusal.TheVariants.{OutOfMemory, NoSuchRoute, NoSuchName}
 use Rattle.rs_value.specs.declared.column.TheConstants.{COLUMNS}
 use Rattle.rs_syntax.specs.View.{column_tree, removal_tree}
 use Rattle.rs_syntax.specs.QueryView.{window_tree}

@@ -2,7 +2,7 @@ use Rattle.std.proofs.Common.{◌≡◌, Some, Ok, Err, sym, ap, subst, ◌∙�
 use Rattle.std.specs.FinMap as names
 use Rattle.std.proofs.Common.{◌≤◌, ◌<◌}
 use Rattle.std.proofs.lemmas.Result.{err_from_is_err_and}
-use Rattle.rs_measure.specs.declared.refusal.Refusal.TheVariants.{NameTaken, Limit}
+use Rattle.rs_refusal.specs.declared.refusal.Refusal.TheVariants.{NameTaken, Limit}
 use Rattle.rs_methods.specs.Position.{expression_of}
 use Rattle.rs_machine.specs.declared.limits.TheConstants.{REFERENTS}
 use Rattle.rs_machine.specs.Checks.{has_referent}

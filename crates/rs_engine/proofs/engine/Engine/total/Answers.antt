@@ -1,6 +1,6 @@
 use Rattle.std.proofs.Common.{◌≡◌, inl, inr, ⊎_elim, map, subst, ◌∙◌}
 use Rattle.std.proofs.lemmas.Result.{IfOk-weaker, IfErr-weaker}
-use Rattle.rs_measure.specs.declared.refusal.Refusal.TheVariants.{OutOfMemory}
+use Rattle.rs_refusal.specs.declared.refusal.Refusal.TheVariants.{OutOfMemory}
 use Rattle.rs_syntax.specs.QueryView.{query_tree}
 use Rattle.rs_syntax.specs.View.{summed_tree}
 use Rattle.rs_checker.specs.Checks.{IsChecked}

@@ -1,7 +1,7 @@
 use Rattle.std.proofs.Common.{◌≡◌, ◌∷◌, [], length, inr, Ok, Err, sym, ap, subst, ◌∙◌}
 use Rattle.std.proofs.lemmas.Result.{err_from_is_err_and}
 use Rattle.std.specs.FinMap as names
-use Rattle.rs_measure.specs.declared.refusal.Refusal.TheVariants.{NoSuchRoute}
+use Rattle.rs_refusal.specs.declared.refusal.Refusal.TheVariants.{NoSuchRoute}
 use Rattle.rs_methods.specs.Position.{expression_of}
 use Rattle.rs_machine.specs.Step.{effect, position_text, position_translated}
 use Rattle.rs_serve.specs.ReplyView.{rows_of}

@@ -4,8 +4,8 @@ use Rattle.std.specs.List.{AllByRecursion}
 use Rattle.rs_file_judge.proofs.Indexed.{kept_written}
 use Rattle.rs_value.specs.declared.column.ColumnType.TheVariants.{Int, Text}
 use Rattle.rs_versioned.specs.Events.{event_width}
-use Rattle.rs_versions.specs.Version.{died_of}
-use Rattle.rs_versions.specs.Versioned.{Standing}
+use Rattle.rs_cell_versions.specs.Version.{died_of}
+use Rattle.rs_cell_versions.specs.Versioned.{Standing}
 use Rattle.rs_file_judge.proofs.versioned_file.VersionedFile.add.Goals as goal
 
 pub invariant_of-self-2-clause-indexed : goal.invariant_of-self-2-clause-indexed

@@ -1,7 +1,7 @@
 -- The page that was read is the disk's, and the others were held before.
 use Rattle.std.proofs.Common.{◌≡◌, ◌*◌, length, Contains, subst, refl, arith, rules}
 use Rattle.rs_disk.specs.Content.{Gives}
-use Rattle.rs_disk.specs.declared.disk.TheConstants.{PAGE_SIZE}
+use Rattle.rs_page.specs.declared.page.TheConstants.{PAGE_SIZE}
 use Rattle.rs_page_cache.specs.Clean.{Clean, kept_pages}
 use Rattle.rs_page_cache.specs.Stored.{disk_page}
 use Rattle.rs_page_cache.proofs.CleanLists.{read-loads, stays-loads, in-all}

@@ -1,8 +1,8 @@
 -- A page after the last, and a full file.
 use Rattle.std.proofs.Common.{◌≡◌, ◌+◌, ℕ, subst, sym, arith}
 use Rattle.std.proofs.lemmas.Bool.Decides.{nat_tests}
-use Rattle.rs_disk.specs.Counts.{counted_on}
-use Rattle.rs_measure.specs.declared.refusal.Refusal.TheVariants as refusal
+use Rattle.rs_refusal.specs.Counts.{counted_on}
+use Rattle.rs_refusal.specs.declared.refusal.Refusal.TheVariants as refusal
 use Rattle.rs_page_cache.specs.Changes.{PutsBlank}
 use Rattle.rs_pages.specs.Uses.{AllocatesPage, RefusesPage}
 use Rattle.rs_pager.specs.Paged.{Paged}

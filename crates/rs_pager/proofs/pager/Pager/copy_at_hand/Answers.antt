@@ -1,6 +1,6 @@
 -- A copy is put in place, where there is none yet.
 use Rattle.std.proofs.Common.{rules, ◌≡◌, ◌≢◌, ℕ, subst, sym}
-use Rattle.rs_measure.specs.declared.refusal.Refusal.TheVariants as refusal
+use Rattle.rs_refusal.specs.declared.refusal.Refusal.TheVariants as refusal
 use Rattle.rs_pages.specs.Held.{with_copy}
 use Rattle.rs_page_cache.specs.Changes.{held_at}
 use Rattle.std.proofs.lemmas.Result.{err_from_is_err_and}

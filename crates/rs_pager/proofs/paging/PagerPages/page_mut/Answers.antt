@@ -1,6 +1,6 @@
 -- What is lent is the copy, and what is written into it is the working page.
 use Rattle.std.proofs.Common.{◌≡◌, ◌∙◌, true, Err, MutBor, refl, sym, subst}
-use Rattle.rs_measure.specs.declared.refusal.Refusal.TheVariants as refusal
+use Rattle.rs_refusal.specs.declared.refusal.Refusal.TheVariants as refusal
 use Rattle.rs_page.specs.declared.page.Page.{Page}
 use Rattle.rs_pages.specs.Lending.{RestsAfter}
 use Rattle.rs_pager.specs.Maps.{pager_store, KeepsBelow, IsTied}

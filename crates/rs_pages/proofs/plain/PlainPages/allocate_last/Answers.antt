@@ -1,7 +1,7 @@
 -- A page after the last, and a full file.
 use Rattle.std.proofs.Common.{◌≡◌, ◌++◌, [], ◌∷◌, ◌∙◌, length, subst, arith, rules}
 use Rattle.std.proofs.lemmas.Bool.Decides.{nat_tests}
-use Rattle.rs_disk.specs.Counts.{counted_on}
+use Rattle.rs_refusal.specs.Counts.{counted_on}
 use Rattle.rs_page.specs.PageBytes.{IsBlank}
 use Rattle.rs_pages.proofs.PlainStore.{last-allocated, full-refused}
 use Rattle.rs_pages.proofs.plain.PlainPages.allocate_last.Goals as goal

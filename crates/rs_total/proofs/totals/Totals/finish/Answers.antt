@@ -1,8 +1,8 @@
 use Rattle.std.proofs.Common.{◌≡◌, ◌⊎◌, inl, inr, ℕ, true, List, Option, Ok, Err, map, sym, subst}
 use Rattle.std.proofs.lemmas.Result.{IfOk-weaker, IfErr-weaker}
 use Rattle.std.specs.Global.{Vec}
-use Rattle.rs_measure.specs.declared.refusal.Refusal.{Refusal}
-use Rattle.rs_measure.specs.declared.refusal.Refusal.TheVariants.{OutOfMemory, TotalTooLarge}
+use Rattle.rs_refusal.specs.declared.refusal.Refusal.{Refusal}
+use Rattle.rs_refusal.specs.declared.refusal.Refusal.TheVariants.{OutOfMemory, TotalTooLarge}
 use Rattle.rs_facts.specs.Totals.{Along, totalled}
 use Rattle.rs_total.specs.declared.total.Total.{Total}
 use Rattle.rs_total.specs.Answer.{answered, some_passed, AreOfGroups}

@@ -3,12 +3,12 @@ use Rattle.std.proofs.Common.{◌↔◌, ◌-◌, ◌^◌, ℕ, List, Contains, 
 use Rattle.std.proofs.lemmas.Bool.{eq-eqb}
 use Rattle.std.proofs.lemmas.Result.{IfOk-weaker, on_ok_weaker}
 use Rattle.rs_interval.specs.Finding.{event_form}
-use Rattle.rs_owners.specs.Counts.{◌&◌}
-use Rattle.rs_owners.specs.Owners.{Shares}
+use Rattle.rs_page_owners.specs.Counts.{◌&◌}
+use Rattle.rs_page_owners.specs.Owners.{Shares}
 use Rattle.rs_tree.specs.Cells.{with_cell}
 use Rattle.rs_value.specs.View.{row_of}
-use Rattle.rs_versions.specs.Version.{died_of}
-use Rattle.rs_versions.specs.Versioned.{ChangesCells}
+use Rattle.rs_cell_versions.specs.Version.{died_of}
+use Rattle.rs_cell_versions.specs.Versioned.{ChangesCells}
 use Rattle.rs_versioned.specs.Events.{Event, SaysEvent, kept_events}
 use Rattle.rs_versioned.specs.Records.{HoldsRecords}
 use Rattle.rs_versioned.proofs.Changing.{TellsNewCell, adds_record, missed_record}

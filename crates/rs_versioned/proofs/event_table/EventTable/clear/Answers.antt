@@ -2,7 +2,7 @@
 use Rattle.std.proofs.Common.{[]}
 use Rattle.std.proofs.lemmas.Result.{on_ok_weaker}
 use Rattle.rs_interval.specs.Finding.{event_form}
-use Rattle.rs_versions.specs.Versioned.{ChangesCells}
+use Rattle.rs_cell_versions.specs.Versioned.{ChangesCells}
 use Rattle.rs_versioned.specs.Events.{kept_events}
 use Rattle.rs_versioned.proofs.Changing.{clears_all}
 use Rattle.rs_versioned.proofs.InTables.{in_table}

@@ -2,9 +2,9 @@
 use Rattle.std.proofs.Common.{◌↔◌, ℕ, List, Contains, IsTrue}
 use Rattle.std.proofs.lemmas.Result.{IfOk-weaker, on_ok_weaker}
 use Rattle.rs_interval.specs.Finding.{event_form}
-use Rattle.rs_owners.specs.Counts.{◌&◌}
-use Rattle.rs_owners.specs.Owners.{Shares}
-use Rattle.rs_versions.specs.Changes.{Ends}
+use Rattle.rs_page_owners.specs.Counts.{◌&◌}
+use Rattle.rs_page_owners.specs.Owners.{Shares}
+use Rattle.rs_cell_versions.specs.Changes.{Ends}
 use Rattle.rs_versioned.specs.Events.{Event, SaysEvent, kept_events}
 use Rattle.rs_versioned.specs.Records.{HoldsRecords}
 use Rattle.rs_versioned.proofs.Changing.{TellsCell, ends_record, found_record}

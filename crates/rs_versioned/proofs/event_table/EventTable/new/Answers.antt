@@ -1,8 +1,8 @@
 -- No events are in a tree of no cells.
 use Rattle.std.proofs.Common.{◌≡◌, ◌+◌, ℕ, [], subst, rules}
 use Rattle.rs_interval.specs.Finding.{event_form}
-use Rattle.rs_owners.specs.Counts.{no_pages}
-use Rattle.rs_versions.specs.Versioned.{HoldsCells}
+use Rattle.rs_page_owners.specs.Counts.{no_pages}
+use Rattle.rs_cell_versions.specs.Versioned.{HoldsCells}
 use Rattle.rs_versioned.specs.Events.{event_width}
 use Rattle.rs_versioned.proofs.event_table.EventTable.new.Goals as goal
 

@@ -3,8 +3,8 @@ use Rattle.std.proofs.Common.{◌≡◌, ◌<◌, ◌-◌, ◌^◌, ℕ, List, c
 use Rattle.std.proofs.lemmas.Result.{IfOk-weaker, on_ok_weaker}
 use Rattle.rs_interval.specs.Finding.{event_form}
 use Rattle.rs_records.specs.Listed.{listed}
-use Rattle.rs_versions.specs.Changes.{cleared, without_cells}
-use Rattle.rs_versions.specs.Versioned.{ChangesCells}
+use Rattle.rs_cell_versions.specs.Changes.{cleared, without_cells}
+use Rattle.rs_cell_versions.specs.Versioned.{ChangesCells}
 use Rattle.rs_versioned.specs.Events.{Event, kept_events}
 use Rattle.rs_versioned.specs.Records.{ChangesRecords, HasCleared, HoldsRecords}
 use Rattle.rs_versioned.proofs.Answering.{if_ok_both}

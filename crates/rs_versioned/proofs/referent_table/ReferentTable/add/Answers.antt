@@ -2,12 +2,12 @@
 use Rattle.std.proofs.Common.{◌↔◌, ◌-◌, ◌^◌, ℕ, List, Contains, IsTrue, length, subst, sym, refl, ap, ◌∙◌, rules}
 use Rattle.std.proofs.lemmas.Bool.{eq-eqb}
 use Rattle.std.proofs.lemmas.Result.{IfOk-weaker, on_ok_weaker}
-use Rattle.rs_owners.specs.Changes.{WorksAfter}
-use Rattle.rs_owners.specs.Counts.{◌&◌}
-use Rattle.rs_owners.specs.Owners.{Shares}
+use Rattle.rs_page_owners.specs.Changes.{WorksAfter}
+use Rattle.rs_page_owners.specs.Counts.{◌&◌}
+use Rattle.rs_page_owners.specs.Owners.{Shares}
 use Rattle.rs_tree.specs.Cells.{with_cell}
-use Rattle.rs_versions.specs.Version.{died_of}
-use Rattle.rs_versions.specs.Versioned.{ChangesCells, HoldsNone}
+use Rattle.rs_cell_versions.specs.Version.{died_of}
+use Rattle.rs_cell_versions.specs.Versioned.{ChangesCells, HoldsNone}
 use Rattle.rs_versioned.specs.Referents.{ReferentRecord, SaysReferent, kept_referents}
 use Rattle.rs_versioned.specs.Records.{HoldsRecords}
 use Rattle.rs_versioned.proofs.Changing.{TellsNewCell, adds_record, missed_record}

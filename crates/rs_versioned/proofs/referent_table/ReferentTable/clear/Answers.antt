@@ -1,8 +1,8 @@
 -- No cells are left, and so no referents.
 use Rattle.std.proofs.Common.{[], OnOk}
 use Rattle.std.proofs.lemmas.Result.{on_ok_weaker}
-use Rattle.rs_owners.specs.Changes.{WorksAfter}
-use Rattle.rs_versions.specs.Versioned.{ChangesCells, HoldsNone}
+use Rattle.rs_page_owners.specs.Changes.{WorksAfter}
+use Rattle.rs_cell_versions.specs.Versioned.{ChangesCells, HoldsNone}
 use Rattle.rs_versioned.specs.Referents.{kept_referents}
 use Rattle.rs_versioned.proofs.Changing.{clears_all}
 use Rattle.rs_versioned.proofs.InTables.{in_referents, plain_form}

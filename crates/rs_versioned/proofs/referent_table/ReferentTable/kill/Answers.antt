@@ -1,11 +1,11 @@
 -- The referent of the cell ends as the cell does.
 use Rattle.std.proofs.Common.{◌↔◌, ℕ, List, Contains, IsTrue, OnOk}
 use Rattle.std.proofs.lemmas.Result.{IfOk-weaker, on_ok_weaker}
-use Rattle.rs_owners.specs.Changes.{WorksAfter}
-use Rattle.rs_owners.specs.Counts.{◌&◌}
-use Rattle.rs_owners.specs.Owners.{Shares}
-use Rattle.rs_versions.specs.Changes.{Ends}
-use Rattle.rs_versions.specs.Versioned.{HoldsNone}
+use Rattle.rs_page_owners.specs.Changes.{WorksAfter}
+use Rattle.rs_page_owners.specs.Counts.{◌&◌}
+use Rattle.rs_page_owners.specs.Owners.{Shares}
+use Rattle.rs_cell_versions.specs.Changes.{Ends}
+use Rattle.rs_cell_versions.specs.Versioned.{HoldsNone}
 use Rattle.rs_versioned.specs.Referents.{ReferentRecord, SaysReferent, kept_referents}
 use Rattle.rs_versioned.specs.Records.{HoldsRecords}
 use Rattle.rs_versioned.proofs.Changing.{TellsCell, ends_record, found_record}

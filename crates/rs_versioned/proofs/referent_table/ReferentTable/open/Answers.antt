@@ -2,22 +2,22 @@
 use Rattle.std.proofs.Common.{◌≡◌, ◌≤◌, ◌∙◌, ℕ, List, Ok, Err, length, not, sym, ap, subst}
 use Rattle.std.proofs.lemmas.Result.{err_from_is_err_and}
 use Rattle.std.specs.List.{AllByRecursion}
-use Rattle.rs_measure.specs.declared.refusal.Refusal.TheVariants as refusal
-use Rattle.rs_reached.specs.Marks.{taken}
+use Rattle.rs_refusal.specs.declared.refusal.Refusal.TheVariants as refusal
+use Rattle.rs_page_marks.specs.Marks.{taken}
 use Rattle.rs_records.specs.Listed.{listed}
 use Rattle.rs_records.specs.Order.{is_below}
 use Rattle.rs_tree.specs.Cells.{is_within}
 use Rattle.rs_tree.specs.Tree.{IsTree}
-use Rattle.rs_tree_check.proofs.Entries.{same_back}
-use Rattle.rs_tree_search.proofs.Resting.{rests_then}
+use Rattle.rs_tree_whole.proofs.Entries.{same_back}
+use Rattle.rs_tree.proofs.Resting.{rests_then}
 use Rattle.rs_versioned.specs.Referents.{SaysReferent, kept_referents, referent_form, referent_width}
 use Rattle.rs_versioned.proofs.InTables.{plain_form}
 use Rattle.rs_versioned.proofs.Opened.{FindsWhere, SaysBelow, finds_back, none_fresh, none_otherwise, none_unsaid, opens_records, says_more, says_none, stands_back, told_of}
-use Rattle.rs_versions.specs.Opening.{HasPassed, StandsOtherwise, StandsTold, Told}
-use Rattle.rs_versions.specs.Version.{died_of}
-use Rattle.rs_versions.specs.Versioned.{Standing}
-use Rattle.rs_versions.proofs.Looks.{otherwise_back, passed_same}
-use Rattle.rs_versions.proofs.Refusing.{rests_err, rests_ok, rests_refused}
+use Rattle.rs_cell_versions.specs.Opening.{HasPassed, StandsOtherwise, StandsTold, Told}
+use Rattle.rs_cell_versions.specs.Version.{died_of}
+use Rattle.rs_cell_versions.specs.Versioned.{Standing}
+use Rattle.rs_cell_versions.proofs.Looks.{otherwise_back, passed_same}
+use Rattle.rs_cell_versions.proofs.Refusing.{rests_err, rests_ok, rests_refused}
 use Rattle.rs_versioned.proofs.referent_table.ReferentTable.open.Goals.{then-not-is_past+in_ok-cells+in_ok-check_referents, else-not-is_past}
 use Rattle.rs_versioned.proofs.referent_table.ReferentTable.open.Goals as goal
 

@@ -1,10 +1,10 @@
 -- The referents of the cells that are cleared are gone.
 use Rattle.std.proofs.Common.{◌≡◌, ◌<◌, ◌-◌, ◌^◌, ℕ, List, count_by, length, min, nat_le, subst, sym, ap, ◌∙◌}
 use Rattle.std.proofs.lemmas.Result.{IfOk-weaker, on_ok_weaker}
-use Rattle.rs_owners.specs.Changes.{WorksAfter}
+use Rattle.rs_page_owners.specs.Changes.{WorksAfter}
 use Rattle.rs_records.specs.Listed.{listed}
-use Rattle.rs_versions.specs.Changes.{cleared, without_cells}
-use Rattle.rs_versions.specs.Versioned.{ChangesCells, HoldsNone}
+use Rattle.rs_cell_versions.specs.Changes.{cleared, without_cells}
+use Rattle.rs_cell_versions.specs.Versioned.{ChangesCells, HoldsNone}
 use Rattle.rs_versioned.specs.Referents.{ReferentRecord, kept_referents}
 use Rattle.rs_versioned.specs.Records.{ChangesRecords, HasCleared, HoldsRecords}
 use Rattle.rs_versioned.proofs.Answering.{if_ok_both}

@@ -1,0 +1,7 @@
+-- Nothing is below no bytes.
+use Rattle.std.proofs.Common.{rules}
+use Rattle.rs_cell_versions.proofs.Looks.{passed_none}
+use Rattle.rs_cell_versions.proofs.opening.Opening.begin.Goals as goal
+
+pub returns-clause-passed : goal.returns-clause-passed
+returns-clause-passed g c = λ pages. passed_none _ pages _ (search rules) (search rules) (search rules) (search rules)

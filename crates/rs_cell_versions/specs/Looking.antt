@@ -1,0 +1,43 @@
+-- What the steps of a look at cells leave.
+use Rattle.std.specs.Prelude.{◌≡◌, ◌≤◌, ◌+◌, ◌++◌, ℕ, IsTrue, List, count_by, filter, length}
+use Rattle.std.specs.List.{AllByRecursion}
+use Rattle.rs_pages.specs.PageMap.{PageMap}
+use Rattle.rs_records.specs.Order.{is_below}
+use Rattle.rs_tree.specs.Form.{Form}
+use Rattle.rs_tree.specs.Tree.{IsTree}
+use Rattle.rs_cell_versions.specs.Opening.{HasCounted, Looked}
+use Rattle.rs_cell_versions.specs.Version.{IsDated, died_of, is_dead, is_living}
+
+-- up to which version cells are dated, how many living and dead ones are still to come, and the dead ones that came
+pub record Tallied : Type 0 where
+  pub accepted : ℕ
+  pub living_left : ℕ
+  pub garbage_left : ℕ
+  pub dead : List (List ℕ)
+
+-- of so many dead cells those are listed that came, and none died after the version that was accepted last
+pub record HoldsTally (all : Tallied) (garbage : ℕ) : Type 0 where
+  pub counted : length all.dead + all.garbage_left ≡ garbage
+  pub died : AllByRecursion (λ dead. died_of dead ≤ all.accepted) all.dead
+
+-- the cells are dated and were counted, and the dead ones among them are listed after the others
+pub record Counts (old new : Tallied) (cells : List (List ℕ)) : Type 0 where
+  pub accepted : new.accepted ≡ old.accepted
+  pub dated : AllByRecursion (IsDated old.accepted) cells
+  pub living : count_by is_living cells + new.living_left ≡ old.living_left
+  pub garbage : count_by is_dead cells + new.garbage_left ≡ old.garbage_left
+  pub dead : new.dead ≡ old.dead ++ filter is_dead cells
+
+-- the cells are not those that are to come: one is not dated, or more of them live or are dead
+pub record AreOthers (old : Tallied) (cells : List (List ℕ)) : Type 0 where
+  pub none : AllByRecursion (IsDated old.accepted) cells → count_by is_living cells ≤ old.living_left
+      → count_by is_dead cells ≤ old.garbage_left → ⊥
+
+-- all cells are below the bound, whatever tree stands there
+pub record IsAbove (form : Form) (pages : PageMap) (root : ℕ) (bound : List ℕ) : Type 0 where
+  pub each : (cells : List (List ℕ)) (used : ℕ → ℕ) → IsTree form pages root cells used
+      → AllByRecursion (λ cell. IsTrue (is_below cell bound)) cells
+
+-- all cells were looked at, whatever tree stands there
+pub record HasPassedAll (form : Form) (pages : PageMap) (looked : Looked) : Type 0 where
+  pub each : (cells : List (List ℕ)) (used : ℕ → ℕ) → IsTree form pages looked.told.root cells used → HasCounted looked cells

@@ -1,0 +1,176 @@
+//! The steps of a change of cells with versions, in their tree, whatever cells are dead.
+//!
+//! A step that is refused may have changed pages, and the tree.
+
+ghost use Rattle.std.specs.Prelude.{◌≡◌, ◌≢◌, ◌<◌, ◌↔◌, ℕ, List, [], ◌∷◌, Contains, IsTrue, IfOk, OnOk, OnErr, true, false, length, Err};
+ghost use Rattle.rs_page_owners.specs.Changes.{WorksAfter};
+ghost use Rattle.rs_page_owners.specs.Counts.{◌&◌};
+ghost use Rattle.rs_page_owners.specs.Owners.{Shares};
+ghost use Rattle.rs_pages.specs.PageMap.{SamePages};
+ghost use Rattle.rs_records.specs.Listed.{listed};
+ghost use Rattle.rs_tree.specs.Calls.{IsNotShared};
+ghost use Rattle.rs_tree.specs.Form.{form_of};
+ghost use Rattle.rs_tree.specs.Tree.{IsTree};
+ghost use Rattle.rs_cell_versions.specs.Inner.{Adds, EndsOne, FitsPages, HoldsNoneFirst, TakesOut};
+ghost use Rattle.rs_cell_versions.specs.Version.{ended, is_living};
+
+use crate::cell::{LIVING, born_of};
+use rs_btree::Tree;
+use rs_pages::Pages;
+use rs_records::Cells;
+use rs_refusal::Refusal;
+use rs_tree::Summary;
+
+/// What became of a living cell that was to be ended.
+#[derive(Clone, Copy)]
+pub(crate) struct Ended {
+    /// How many cells live now.
+    pub living: u64,
+    /// It was there.
+    pub found: bool,
+    /// It is dead now and to be listed: the same dead cell was not there before.
+    pub listed: bool,
+}
+
+/// The same tree.
+pub(crate) fn copy_of<S: Summary>(tree: &Tree<S>, width: usize) -> Tree<S>
+    requires width { width ≡ tree.now.width }
+    requires fits { FitsPages S.WIDTH width }
+    ensures { result ≡ tree.now }
+{
+    Tree::at(width, tree.root())
+}
+
+/// Puts a living cell among the others. It answers whether it was not there before, and how many cells live.
+pub(crate) fn put<P: Pages, S: Summary>(
+    pages: &mut P,
+    tree: &mut Tree<S>,
+    living: u64,
+    cell: &[u8],
+) -> Result<(bool, u64), Refusal>
+    requires begun { (P.store pages.old).is_begun ≡ true }
+    requires fits { FitsPages S.WIDTH tree.old.width }
+    requires width { length cell.now ≡ tree.old.width }
+    requires living { IsTrue (is_living cell.now) }
+    ensures keeps { P.keeps pages.old pages.new }
+    ensures works { WorksAfter (P.is_tied pages.old → IsNotShared
+        (form_of S.says S.unit S.join S.of S.WIDTH tree.old.width) (P.store pages.old).map tree.old.root)
+        result (P.store pages.old) (P.store pages.new) }
+    ensures added { P.is_tied pages.old → IfOk result (λ answer. Adds
+        (form_of S.says S.unit S.join S.of S.WIDTH tree.old.width) (P.store pages.old).map (P.store pages.new).map
+        tree.old.root living tree.new.root answer.1 cell.now) }
+    ensures found { P.is_tied pages.old → IfOk result (λ answer. (cells : List (List ℕ)) (used : ℕ → ℕ)
+        → IsTree (form_of S.says S.unit S.join S.of S.WIDTH tree.old.width) (P.store pages.old).map tree.old.root cells used
+        → (IsTrue answer.0 ↔ (Contains cells cell.now → ⊥))) }
+    ensures rests { P.is_tied pages.old → IfOk result (λ answer. answer.0 ≡ false
+        → SamePages (P.store pages.new).map (P.store pages.old).map) }
+    ensures width { tree.new.width ≡ tree.old.width }
+    ensures stays { OnErr result (tree.new ≡ tree.old) }
+{
+    let _count = pages.count();
+    let new = tree.insert(pages, cell)?;
+    if new {
+        Ok((new, living.saturating_add(1)))
+    } else {
+        Ok((new, living))
+    }
+}
+
+/// Ends a living cell at a version. The same cell with that end is given beside it.
+pub(crate) fn end<P: Pages, S: Summary>(
+    pages: &mut P,
+    tree: &mut Tree<S>,
+    living: u64,
+    version: u64,
+    cell: &[u8],
+    last: &[u8],
+) -> Result<Ended, Refusal>
+    requires begun { (P.store pages.old).is_begun ≡ true }
+    requires fits { FitsPages S.WIDTH tree.old.width }
+    requires width { length cell.now ≡ tree.old.width }
+    requires living { IsTrue (is_living cell.now) }
+    requires version { version < LIVING }
+    requires last { last.now ≡ ended version cell.now }
+    ensures keeps { P.keeps pages.old pages.new }
+    ensures works { WorksAfter (P.is_tied pages.old → IsNotShared
+        (form_of S.says S.unit S.join S.of S.WIDTH tree.old.width) (P.store pages.old).map tree.old.root)
+        result (P.store pages.old) (P.store pages.new) }
+    ensures ended { P.is_tied pages.old → IfOk result (λ answer. EndsOne
+        (form_of S.says S.unit S.join S.of S.WIDTH tree.old.width) (P.store pages.old).map (P.store pages.new).map
+        tree.old.root living tree.new.root answer.living answer.listed version cell.now) }
+    ensures found { P.is_tied pages.old → IfOk result (λ answer. (cells : List (List ℕ)) (used others : ℕ → ℕ)
+        → IsTree (form_of S.says S.unit S.join S.of S.WIDTH tree.old.width) (P.store pages.old).map tree.old.root cells used
+        → Shares (P.store pages.old).map (used & others) → (IsTrue answer.found ↔ Contains cells cell.now)) }
+    ensures width { tree.new.width ≡ tree.old.width }
+{
+    let found = tree.remove(pages, cell)?;
+    if !found {
+        return Ok(Ended {
+            living,
+            found,
+            listed: false,
+        });
+    }
+    let living = living.saturating_sub(1);
+    if version <= born_of(cell) {
+        return Ok(Ended {
+            living,
+            found,
+            listed: false,
+        });
+    }
+    let new = tree.insert(pages, last)?;
+    Ok(Ended {
+        living,
+        found,
+        listed: new,
+    })
+}
+
+/// Takes out cells, which are the first of the dead. It is refused with 94 too where one of them isn't there.
+pub(crate) fn take_out<P: Pages, S: Summary>(
+    pages: &mut P,
+    tree: &mut Tree<S>,
+    cells: &Cells,
+) -> Result<(), Refusal>
+    requires begun { (P.store pages.old).is_begun ≡ true }
+    ensures keeps { P.keeps pages.old pages.new }
+    ensures works { WorksAfter (P.is_tied pages.old → HoldsNoneFirst
+        (form_of S.says S.unit S.join S.of S.WIDTH tree.old.width) (P.store pages.old).map tree.old.root (listed cells.now))
+        result (P.store pages.old) (P.store pages.new) }
+    ensures room { result ≢ Err Refusal.FileFull }
+    ensures taken { P.is_tied pages.old → OnOk result (TakesOut
+        (form_of S.says S.unit S.join S.of S.WIDTH tree.old.width) (P.store pages.old).map (P.store pages.new).map
+        tree.old.root tree.new.root (listed cells.now)) }
+    ensures width { tree.new.width ≡ tree.old.width }
+{
+    for index in 0..cells.len() {
+        take_one(pages, tree, cells.get(index))?;
+    }
+    Ok(())
+}
+
+/// Takes out a cell, which is the first of the dead. It is refused with 94 too where it isn't there.
+fn take_one<P: Pages, S: Summary>(
+    pages: &mut P,
+    tree: &mut Tree<S>,
+    cell: &[u8],
+) -> Result<(), Refusal>
+    requires begun { (P.store pages.old).is_begun ≡ true }
+    ensures keeps { P.keeps pages.old pages.new }
+    ensures works { WorksAfter (P.is_tied pages.old → HoldsNoneFirst
+        (form_of S.says S.unit S.join S.of S.WIDTH tree.old.width) (P.store pages.old).map tree.old.root (cell.now ∷ []))
+        result (P.store pages.old) (P.store pages.new) }
+    ensures room { result ≢ Err Refusal.FileFull }
+    ensures taken { P.is_tied pages.old → OnOk result (TakesOut
+        (form_of S.says S.unit S.join S.of S.WIDTH tree.old.width) (P.store pages.old).map (P.store pages.new).map
+        tree.old.root tree.new.root (cell.now ∷ [])) }
+    ensures width { tree.new.width ≡ tree.old.width }
+{
+    let found = tree.remove(pages, cell)?;
+    if found {
+        Ok(())
+    } else {
+        Err(Refusal::DamagedFile)
+    }
+}

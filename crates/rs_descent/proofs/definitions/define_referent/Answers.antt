@@ -1,0 +1,36 @@
+use Rattle.std.proofs.lemmas.Result.{err_from_is_err_and}
+use Rattle.rs_grammar.specs.Grammar.{rules}
+use Rattle.rs_descent.specs.Reading.{is_done, through, stops_in}
+use Rattle.rs_descent.proofs.Steps.{takes_as, misses}
+use Rattle.rs_descent.proofs.definitions.define_referent.Goals as goal
+
+pub returns-in_err-route-clause-runs : goal.returns-in_err-route-clause-runs
+unfolding rules
+returns-in_err-route-clause-runs c =
+    let p = err_from_is_err_and c.from_residual.result c.from_residual.ensures.1 in
+    rw (p.1, p.2) (misses c.in_err-route.ensures.found)
+
+pub returns-in_err-name-clause-runs : goal.returns-in_err-name-clause-runs
+unfolding rules
+returns-in_err-name-clause-runs c =
+    let p = err_from_is_err_and c.from_residual-in_err-name.result c.from_residual-in_err-name.ensures.1 in
+    rw (p.1, p.2) (takes_as c.in_ok-route.ensures.found (misses c.in_err-name.ensures.found))
+
+pub returns-in_err-rest-clause-runs : goal.returns-in_err-rest-clause-runs
+unfolding rules
+returns-in_err-rest-clause-runs c =
+    let p = err_from_is_err_and c.from_residual-in_err-rest.result c.from_residual-in_err-rest.ensures.1 in
+    rw (p.1, p.2) (takes_as c.in_ok-route.ensures.found (takes_as c.in_ok-name.ensures.found (misses c.in_err-rest.ensures.found)))
+
+pub returns-in_err-position-clause-runs : goal.returns-in_err-position-clause-runs
+unfolding rules
+returns-in_err-position-clause-runs c =
+    let p = err_from_is_err_and c.from_residual-in_err-position.result c.from_residual-in_err-position.ensures.1 in
+    rw (p.1, p.2) (takes_as c.in_ok-route.ensures.found (takes_as c.in_ok-name.ensures.found (takes_as c.in_ok-rest.ensures.found (stops_in c.in_err-position.ensures.runs))))
+
+pub returns-clause-runs : goal.returns-clause-runs
+unfolding rules
+returns-clause-runs c = takes_as c.in_ok-route.ensures.found (takes_as c.in_ok-name.ensures.found (takes_as c.in_ok-rest.ensures.found (through c.in_ok-position.ensures.runs is_done)))
+
+pub returns-clause-spelled : goal.returns-clause-spelled
+returns-clause-spelled c = rw (c.in_ok-route.ensures.spelled, c.in_ok-name.ensures.spelled, c.in_ok-rest.ensures.spelled, c.in_ok-position.ensures.spelled)

@@ -1,0 +1,5 @@
+pub mod MeaningLaws
+mod SayingLaws
+mod OperandLaws
+mod ViewTexts
+mod CommandLaws

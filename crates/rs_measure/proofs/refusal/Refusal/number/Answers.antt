@@ -1,5 +1,0 @@
-use Rattle.std.proofs.Common.{rules}
-use Rattle.rs_measure.proofs.refusal.Refusal.number.Goals as goal
-
-pub returns-in-Disk : goal.returns-in-Disk
-returns-in-Disk c = search rules

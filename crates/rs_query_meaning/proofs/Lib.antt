@@ -1,4 +1,0 @@
-pub mod MeaningLaws
-mod SayingLaws
-mod OperandLaws
-mod ViewTexts

@@ -1,9 +1,0 @@
-use Rattle.rs_query_parser.specs.Reading.{is_done, is_fail, skips}
-use Rattle.rs_query_parser.proofs.Steps.{takes_as}
-use Rattle.rs_query_parser.proofs.queries.closed.Goals as goal
-
-pub returns-in-Some-clause-runs : goal.returns-in-Some-clause-runs
-returns-in-Some-clause-runs c = takes_as c.in-Some.ensures.found is_done
-
-pub returns-in-None-clause-runs : goal.returns-in-None-clause-runs
-returns-in-None-clause-runs c = skips c.in-None.ensures.found is_fail

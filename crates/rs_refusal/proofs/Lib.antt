@@ -1,0 +1,2 @@
+pub mod CountLemmas
+mod RefusalWords

@@ -1,0 +1,3 @@
+pub mod Refusal
+pub mod Counts
+pub mod Inner

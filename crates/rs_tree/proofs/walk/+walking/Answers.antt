@@ -1,0 +1,180 @@
+-- What was read is a leaf or an inner page; of that each entry is gone through, and into the part that it says.
+use Rattle.std.proofs.Common.{◌≡◌, ◌≤◌, ◌*◌, ◌+◌, ◌-◌, true, false, Ok, Err, [], take, drop, sym, ap, ◌∙◌, subst, arith, rules}
+use Rattle.std.proofs.lemmas.Result.{err_from_is_err_and}
+use Rattle.std.specs.Fn.{FnReturnsAt}
+use Rattle.rs_refusal.specs.declared.refusal.Refusal.TheVariants as refusal
+use Rattle.rs_page.specs.declared.header.PageKind.TheVariants as kind
+use Rattle.rs_records.specs.Listed.{listed}
+use Rattle.rs_records.proofs.RecordLists.{times_upto, length-keys}
+use Rattle.rs_tree.specs.Form.{Form, form_of, joined, least_from, child_bytes}
+use Rattle.rs_tree.specs.Content.{content}
+use Rattle.rs_tree.specs.Layouts.{entry_bytes}
+use Rattle.rs_tree.specs.Node.{IsNode}
+use Rattle.rs_tree.specs.declared.node.Node.TheVariants.{Leaf, Inner}
+use Rattle.rs_tree.specs.Walking.{HasNoPart, Walks}
+use Rattle.rs_tree.proofs.Loading.{on_ok}
+use Rattle.rs_tree.proofs.Resting.{rests_then}
+use Rattle.rs_tree.proofs.Entries.{walks_next, walks_all, reads_next, reads_all, no_entry-no_parts}
+use Rattle.rs_tree.proofs.Entering.{walks_leaf, walks_inner, once_inner, no_parts-no_part, no_level-no_part, no_node-no_part, walks_accepted, walks_rejected, answer_told, records_fit, entry_there}
+use Rattle.rs_tree.proofs.walk.+walking.Goals as goal
+
+pub walk-returns-in_err-node-clause-damaged : goal.walk-returns-in_err-node-clause-damaged
+walk-returns-in_err-node-clause-damaged g t c = λ is tied.
+    let p = err_from_is_err_and c.from_residual.result c.from_residual.ensures.1 in
+    let why : c.in_err-node.field-0.0 ≡ refusal.DamagedFile = cc (p.1, p.2, is) in
+    no_node-no_part (λ bytes cells. g.S.Summary.says bytes (joined g.S.Summary.unit g.S.Summary.join g.S.Summary.of cells)) c.args.layout
+    (g.P.Pages.store c.args.pages.now).map c.args.number c.args.levels c.args.left.now (λ some. c.in_err-node.ensures.refused.damaged tied why some)
+
+pub walk-collect-requires-clause-fit : goal.walk-collect-requires-clause-fit
+walk-collect-requires-clause-fit g t c =
+    let node : IsNode c.load_into.new.copy.bytes c.args.number c.args.layout (Leaf c.in-Leaf.count) =
+    subst (IsNode c.load_into.new.copy.bytes c.args.number c.args.layout) c.in-Leaf.is c.in_ok-node.ensures.loaded.node in
+    records_fit c.load_into.new.copy.bytes kind.Leaf c.args.number c.in-Leaf.count c.args.layout.width node.0
+
+pub walk-returns-then-levels-eq0-clause-damaged : goal.walk-returns-then-levels-eq0-clause-damaged
+walk-returns-then-levels-eq0-clause-damaged g t c = λ is tied.
+    let form : Form = form_of g.S.Summary.says g.S.Summary.unit g.S.Summary.join g.S.Summary.of c.args.layout.summary c.args.layout.width in
+    let node : IsNode c.load_into.new.copy.bytes c.args.number c.args.layout (Inner c.in-Inner.count) =
+    subst (IsNode c.load_into.new.copy.bytes c.args.number c.args.layout) c.in-Inner.is c.in_ok-node.ensures.loaded.node in
+    let none = no_level-no_part (λ bytes cells. g.S.Summary.says bytes (joined g.S.Summary.unit g.S.Summary.join g.S.Summary.of cells)) c.args.layout
+    (g.P.Pages.store c.args.pages.now).map c.args.number c.load_into.new.copy.bytes [] [] (λ _. true) [] [] c.args.left.now c.load_into.new.left 0
+    c.in_ok-node.ensures.counted (c.in_ok-node.ensures.loaded.bytes tied) c.in-Inner.count node in
+    subst (λ levels. HasNoPart form (g.P.Pages.store c.args.pages.now).map c.args.number levels c.args.left.now) (sym c.if-levels-eq0.true) none
+
+pub walk-walk_entries-requires : goal.walk-walk_entries-requires
+walk-walk_entries-requires g t c κs within =
+    let node : IsNode c.load_into.new.copy.bytes c.args.number c.args.layout (Inner c.in-Inner.count) =
+    subst (IsNode c.load_into.new.copy.bytes c.args.number c.args.layout) c.in-Inner.is c.in_ok-node.ensures.loaded.node in
+    let fit : c.in-Inner.count * entry_bytes c.args.layout ≤ 4080 = records_fit c.load_into.new.copy.bytes kind.Inner c.args.number c.in-Inner.count (entry_bytes c.args.layout) node.0 in
+    search rules
+
+pub walk-returns-in-Leaf-clause-walks : goal.walk-returns-in-Leaf-clause-walks
+walk-returns-in-Leaf-clause-walks g t c =
+    let node : IsNode c.load_into.new.copy.bytes c.args.number c.args.layout (Leaf c.in-Leaf.count) =
+    subst (IsNode c.load_into.new.copy.bytes c.args.number c.args.layout) c.in-Leaf.is c.in_ok-node.ensures.loaded.node in
+    on_ok c.collect.result c.collect.ensures.found (λ found tied test computes accepts.
+    walks_leaf (λ bytes cells. g.S.Summary.says bytes (joined g.S.Summary.unit g.S.Summary.join g.S.Summary.of cells)) c.args.layout
+    (g.P.Pages.store c.args.pages.now).map c.args.number c.load_into.new.copy.bytes c.args.low.now c.args.high.now (λ cell. test (g.S.Summary.of cell))
+    (listed c.args.cells.now) (listed c.collect.new.cells) c.args.left.now c.load_into.new.left c.load_into.new.left
+    c.in_ok-node.ensures.counted (c.in_ok-node.ensures.loaded.bytes tied) c.in-Leaf.count node (found test computes))
+
+pub walk-returns-else-levels-eq0-clause-walks : goal.walk-returns-else-levels-eq0-clause-walks
+walk-returns-else-levels-eq0-clause-walks g t c =
+    let node : IsNode c.load_into.new.copy.bytes c.args.number c.args.layout (Inner c.in-Inner.count) =
+    subst (IsNode c.load_into.new.copy.bytes c.args.number c.args.layout) c.in-Inner.is c.in_ok-node.ensures.loaded.node in
+    on_ok c.walk_entries.result c.walk_entries.ensures.walks (λ walks tied test computes accepts.
+    let later = g.met.P.Pages.keeps_tied c.args.pages.now c.load_into.new.pages c.in_ok-node.ensures.rests.below tied in
+    walks_inner (λ bytes cells. g.S.Summary.says bytes (joined g.S.Summary.unit g.S.Summary.join g.S.Summary.of cells)) c.args.layout
+    (g.P.Pages.store c.args.pages.now).map c.args.number c.load_into.new.copy.bytes c.args.low.now c.args.high.now (λ cell. test (g.S.Summary.of cell))
+    (listed c.args.cells.now) (listed c.walk_entries.new.cells) c.args.left.now c.load_into.new.left c.walk_entries.new.left
+    c.in_ok-node.ensures.counted (c.in_ok-node.ensures.loaded.bytes tied) c.in-Inner.count (g.P.Pages.store c.load_into.new.pages).map
+    (c.in_ok-node.ensures.rests.rests.keeps.pages tied) node (walks later test computes accepts))
+
+pub walk-returns-else-levels-eq0-clause-once : goal.walk-returns-else-levels-eq0-clause-once
+walk-returns-else-levels-eq0-clause-once g t c =
+    let node : IsNode c.load_into.new.copy.bytes c.args.number c.args.layout (Inner c.in-Inner.count) =
+    subst (IsNode c.load_into.new.copy.bytes c.args.number c.args.layout) c.in-Inner.is c.in_ok-node.ensures.loaded.node in
+    on_ok c.walk_entries.result c.walk_entries.ensures.once (λ once tied.
+    let later = g.met.P.Pages.keeps_tied c.args.pages.now c.load_into.new.pages c.in_ok-node.ensures.rests.below tied in
+    once_inner (λ bytes cells. g.S.Summary.says bytes (joined g.S.Summary.unit g.S.Summary.join g.S.Summary.of cells)) c.args.layout
+    (g.P.Pages.store c.args.pages.now).map c.args.number c.load_into.new.copy.bytes [] [] (λ _. true) [] [] c.args.left.now c.load_into.new.left c.walk_entries.new.left
+    c.in_ok-node.ensures.counted (c.in_ok-node.ensures.loaded.bytes tied) c.in-Inner.count (g.P.Pages.store c.load_into.new.pages).map
+    (c.in_ok-node.ensures.rests.rests.keeps.pages tied) node (once later))
+
+pub walk-returns-else-levels-eq0-clause-damaged : goal.walk-returns-else-levels-eq0-clause-damaged
+walk-returns-else-levels-eq0-clause-damaged g t c = λ is tied.
+    let node : IsNode c.load_into.new.copy.bytes c.args.number c.args.layout (Inner c.in-Inner.count) =
+    subst (IsNode c.load_into.new.copy.bytes c.args.number c.args.layout) c.in-Inner.is c.in_ok-node.ensures.loaded.node in
+    let later = g.met.P.Pages.keeps_tied c.args.pages.now c.load_into.new.pages c.in_ok-node.ensures.rests.below tied in
+    no_parts-no_part (λ bytes cells. g.S.Summary.says bytes (joined g.S.Summary.unit g.S.Summary.join g.S.Summary.of cells)) c.args.layout
+    (g.P.Pages.store c.args.pages.now).map c.args.number c.load_into.new.copy.bytes [] [] (λ _. true) [] [] c.args.left.now c.load_into.new.left 0
+    c.in_ok-node.ensures.counted (c.in_ok-node.ensures.loaded.bytes tied) c.in-Inner.count c.args.levels (g.P.Pages.store c.load_into.new.pages).map
+    (c.in_ok-node.ensures.rests.rests.keeps.pages tied) node (c.walk_entries.ensures.damaged is later)
+
+pub walk_entries-record_at-entry-requires : goal.walk_entries-record_at-entry-requires
+walk_entries-record_at-entry-requires g t c =
+    let inside : c.entries_within-from.result.1 ≤ c.args.count =
+    omega (arith, c.entries_within-from.ensures.last.within, length-keys (least_from c.args.layout.summary) c.args.count (entry_bytes c.args.layout) c.content-bytes.result.now) in
+    let bound = times_upto (c.loop-index.index + 1) c.args.count (entry_bytes c.args.layout) (omega arith) in
+    let same : (c.loop-index.index + 1) * c.entry_width.result ≡ (c.loop-index.index + 1) * entry_bytes c.args.layout = ap (λ w. (c.loop-index.index + 1) * w) c.entry_width.ensures.width in
+    omega (arith, bound, same, c.requires.fit, c.content-bytes.ensures.size)
+
+pub walk_entries-returns-in_err-walk_entry-clause-damaged : goal.walk_entries-returns-in_err-walk_entry-clause-damaged
+walk_entries-returns-in_err-walk_entry-clause-damaged g t c = λ is tied.
+    let form : Form = form_of g.S.Summary.says g.S.Summary.unit g.S.Summary.join g.S.Summary.of c.args.layout.summary c.args.layout.width in
+    let p = err_from_is_err_and c.from_residual.result c.from_residual.ensures.1 in
+    let why : c.in_err-walk_entry.field-0.0 ≡ refusal.DamagedFile = cc (p.1, p.2, is) in
+    let inside : c.entries_within-from.result.1 ≤ c.args.count =
+    omega (arith, c.entries_within-from.ensures.last.within, length-keys (least_from c.args.layout.summary) c.args.count (entry_bytes c.args.layout) c.content-bytes.result.now) in
+    let there = entry_there c.args.count c.entry_width.result (entry_bytes c.args.layout) c.content-bytes.result.now (content c.args.page.now.bytes) c.loop-index.index c.record_at-entry.result.now
+    c.entry_width.ensures.width c.content-bytes.ensures.bytes (c.record_at-entry.ensures.one c.args.count (omega arith)) in
+    let later = g.met.P.Pages.keeps_tied c.args.pages.now c.loop-index.pages c.loop-index.invariant.rests.below tied in
+    no_entry-no_parts form (g.P.Pages.store c.args.pages.now).map c.args.page.now.bytes c.args.count c.args.levels c.entries_within-from.result.0 c.loop-index.index c.record_at-entry.result.now
+    (g.P.Pages.store c.loop-index.pages).map c.args.left.now c.loop-index.left c.loop-index.auto.index there (c.loop-index.invariant.rests.rests.keeps.pages tied)
+    (c.loop-index.invariant.once tied) (c.in_err-walk_entry.ensures.damaged (ap Err why) later)
+
+pub walk_entries-loop-index-preserved : goal.walk_entries-loop-index-preserved
+walk_entries-loop-index-preserved g t c =
+    let form : Form = form_of g.S.Summary.says g.S.Summary.unit g.S.Summary.join g.S.Summary.of c.args.layout.summary c.args.layout.width in
+    let inside : c.entries_within-from.result.1 ≤ c.args.count =
+    omega (arith, c.entries_within-from.ensures.last.within, length-keys (least_from c.args.layout.summary) c.args.count (entry_bytes c.args.layout) c.content-bytes.result.now) in
+    let there = entry_there c.args.count c.entry_width.result (entry_bytes c.args.layout) c.content-bytes.result.now (content c.args.page.now.bytes) c.loop-index.index c.record_at-entry.result.now
+    c.entry_width.ensures.width c.content-bytes.ensures.bytes (c.record_at-entry.ensures.one c.args.count (omega arith)) in
+    record {
+      rests = rests_then g.P.Pages.is_tied g.P.Pages.store g.P.Pages.keeps tt (Ok tt) c.args.pages.now c.loop-index.pages c.walk_entry.new.pages
+          g.met.P.Pages.keeps_trans g.met.P.Pages.keeps_tied c.loop-index.invariant.rests c.in_ok-walk_entry.ensures.rests;
+      width = c.in_ok-walk_entry.ensures.width;
+      ends = omega arith;
+      fewer = omega (arith, c.loop-index.invariant.fewer, c.in_ok-walk_entry.ensures.fewer);
+      walks = λ tied test computes accepts.
+          let later = g.met.P.Pages.keeps_tied c.args.pages.now c.loop-index.pages c.loop-index.invariant.rests.below tied in
+          walks_next form (g.P.Pages.store c.args.pages.now).map c.args.page.now.bytes c.args.count c.args.low.now c.args.high.now (λ cell. test (g.S.Summary.of cell))
+          c.entries_within-from.result.0 c.loop-index.index c.record_at-entry.result.now (g.P.Pages.store c.loop-index.pages).map
+          (listed c.args.cells.now) (listed c.loop-index.cells) (listed c.walk_entry.new.cells) c.args.left.now c.loop-index.left c.walk_entry.new.left
+          c.loop-index.auto.index there (c.loop-index.invariant.rests.rests.keeps.pages tied) (c.loop-index.invariant.walks tied test computes accepts)
+          (c.in_ok-walk_entry.ensures.walks later test computes accepts);
+      once = λ tied.
+          let later = g.met.P.Pages.keeps_tied c.args.pages.now c.loop-index.pages c.loop-index.invariant.rests.below tied in
+          reads_next form (g.P.Pages.store c.args.pages.now).map c.args.page.now.bytes c.args.count c.entries_within-from.result.0 c.loop-index.index c.record_at-entry.result.now
+          (g.P.Pages.store c.loop-index.pages).map c.args.left.now c.loop-index.left c.walk_entry.new.left
+          c.loop-index.auto.index there (c.loop-index.invariant.rests.rests.keeps.pages tied) (c.loop-index.invariant.once tied) (c.in_ok-walk_entry.ensures.once later);
+    }
+
+pub walk_entries-returns-clause-walks : goal.walk_entries-returns-clause-walks
+walk_entries-returns-clause-walks g t c = λ tied test computes accepts.
+    let form : Form = form_of g.S.Summary.says g.S.Summary.unit g.S.Summary.join g.S.Summary.of c.args.layout.summary c.args.layout.width in
+    walks_all form (g.P.Pages.store c.args.pages.now).map c.args.page.now.bytes c.args.count c.args.low.now c.args.high.now (λ cell. test (g.S.Summary.of cell))
+    c.entries_within-from.result.0 c.entries_within-from.result.1 c.loop-index.index (listed c.args.cells.now) (listed c.loop-index.cells) c.args.left.now c.loop-index.left
+    c.content-bytes.result.now c.content-bytes.ensures.bytes c.entries_within-from.ensures c.loop-index.invariant.ends c.loop-index.auto.index (omega arith)
+    (c.loop-index.invariant.walks tied test computes accepts)
+
+pub walk_entries-returns-clause-once : goal.walk_entries-returns-clause-once
+walk_entries-returns-clause-once g t c = λ tied.
+    let form : Form = form_of g.S.Summary.says g.S.Summary.unit g.S.Summary.join g.S.Summary.of c.args.layout.summary c.args.layout.width in
+    reads_all form (g.P.Pages.store c.args.pages.now).map c.args.page.now.bytes c.args.count c.entries_within-from.result.0 (c.loop-index.index - c.entries_within-from.result.0)
+    c.args.left.now c.loop-index.left (c.loop-index.invariant.once tied)
+
+pub walk_entry-returns-then-not-accepts-clause-walks : goal.walk_entry-returns-then-not-accepts-clause-walks
+walk_entry-returns-then-not-accepts-clause-walks g t c = λ tied test computes accepts.
+    let form : Form = form_of g.S.Summary.says g.S.Summary.unit g.S.Summary.join g.S.Summary.of c.args.layout.summary c.args.layout.width in
+    let reads = λ (s : g.row.S.Denot) (says : g.S.Summary.says (take c.args.layout.summary (drop child_bytes c.args.entry.now)) s).
+    c.read.ensures s (subst (λ bytes. g.S.Summary.says bytes s) (sym c.summary.ensures.bytes) says) in
+    let answered : c.accepts.result ≡ false = search rules in
+    walks_rejected form (g.P.Pages.store c.args.pages.now).map c.args.entry.now c.args.low.now c.args.high.now (λ cell. test (g.S.Summary.of cell)) (listed c.args.cells.now) c.args.left.now
+    (λ height part told.
+    answer_told g.S.Summary.unit g.S.Summary.join g.S.Summary.of g.S.Summary.says c.args.layout.summary c.args.layout.width (FnReturnsAt g.F.Fn c.args.keep.now) test c.read.result c.accepts.result c.args.entry.now
+    g.met.S.Summary.unit_last accepts computes c.accepts.ensures reads height part told ∙ answered)
+
+pub walk_entry-returns-clause-walks : goal.walk_entry-returns-clause-walks
+walk_entry-returns-clause-walks g t c =
+    let form : Form = form_of g.S.Summary.says g.S.Summary.unit g.S.Summary.join g.S.Summary.of c.args.layout.summary c.args.layout.width in
+    let reads = λ (s : g.row.S.Denot) (says : g.S.Summary.says (take c.args.layout.summary (drop child_bytes c.args.entry.now)) s).
+    c.read.ensures s (subst (λ bytes. g.S.Summary.says bytes s) (sym c.summary.ensures.bytes) says) in
+    let answered : c.accepts.result ≡ true = search rules in
+    on_ok c.walk.result c.walk.ensures.walks (λ walks tied test computes accepts.
+    let here = subst (λ n. Walks form (g.P.Pages.store c.args.pages.now).map n c.args.low.now c.args.high.now (λ cell. test (g.S.Summary.of cell)) (listed c.args.cells.now) (listed c.walk.new.cells) c.args.left.now c.walk.new.left)
+    c.child-number.ensures (walks tied test computes accepts) in
+    walks_accepted form (g.P.Pages.store c.args.pages.now).map c.args.entry.now c.args.low.now c.args.high.now (λ cell. test (g.S.Summary.of cell)) (listed c.args.cells.now) (listed c.walk.new.cells) c.args.left.now c.walk.new.left
+    (λ height part told.
+    answer_told g.S.Summary.unit g.S.Summary.join g.S.Summary.of g.S.Summary.says c.args.layout.summary c.args.layout.width (FnReturnsAt g.F.Fn c.args.keep.now) test c.read.result c.accepts.result c.args.entry.now
+    g.met.S.Summary.unit_last accepts computes c.accepts.ensures reads height part told ∙ answered) here)

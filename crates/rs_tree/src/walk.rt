@@ -1,0 +1,184 @@
+//! The walk through a tree: into each page below that may have a cell within the bounds, and whose summary is accepted.
+//!
+//! It goes down so many levels at the most and reads so many pages, so that it ends on pages that are no tree.
+
+ghost use Rattle.std.specs.Prelude.{◌≡◌, ◌<◌, ◌≤◌, ◌*◌, Bool, IfErr, OnOk, Err, length};
+ghost use Rattle.std.specs.Fn.{FnReturnsAt};
+ghost use Rattle.rs_pages.specs.Lending.{RestsAfter};
+ghost use Rattle.rs_records.specs.Listed.{listed, record_width};
+ghost use Rattle.rs_records.specs.Records.{records, keys};
+ghost use Rattle.rs_tree.specs.Calls.{AcceptsParts};
+ghost use Rattle.rs_tree.specs.Content.{content};
+ghost use Rattle.rs_tree.specs.Form.{form_of, least_from};
+ghost use Rattle.rs_tree.specs.Layouts.{entry_bytes};
+ghost use Rattle.rs_tree.specs.Asking.{Computes};
+ghost use Rattle.rs_tree.specs.Walking.{Walks, WalksEntry, WalksEntries, ReadsOnce, ReadsEntryOnce, ReadsEntriesOnce, IsWalkRefusal, HasNoPart, HasNoPartOfEntry, HasNoPartsOfEntries, IsRange};
+
+use crate::asking::accepts;
+use crate::collect::collect;
+use crate::entry::{child, summary};
+use crate::load::load_into;
+use crate::{Layout, Node, Summary, content};
+use rs_page::{Page, PageNumber};
+use rs_pages::Pages;
+use rs_records::{Cells, place, record_at};
+use rs_refusal::Refusal;
+
+/// Walks through the part of a tree with this page at its top.
+#[cycle(walking)]
+pub fn walk<P: Pages, S: Summary, F: Fn(&S) -> bool>(
+    pages: &mut P,
+    layout: Layout,
+    number: PageNumber,
+    levels: u32,
+    low: &[u8],
+    high: &[u8],
+    keep: &F,
+    left: &mut u32,
+    cells: &mut Cells,
+) -> Result<(), Refusal>
+    requires callable { F.IsAlwaysCallable keep.now }
+    requires width { record_width cells.old ≡ layout.width }
+    requires summary { layout.summary ≡ S.WIDTH }
+    ensures rests { RestsAfter P.is_tied P.store P.keeps result pages.old pages.new }
+    ensures width { record_width cells.new ≡ layout.width }
+    ensures fewer { left.new ≤ left.old }
+    ensures walks { OnOk result (P.is_tied pages.old → (test : S → Bool) → Computes (FnReturnsAt F.Fn keep.now) test
+        → AcceptsParts S.join test
+        → Walks (form_of S.says S.unit S.join S.of layout.summary layout.width) (P.store pages.old).map number
+        low.now high.now (λ cell. test (S.of cell)) (listed cells.old) (listed cells.new) left.old left.new) }
+    ensures once { OnOk result (P.is_tied pages.old
+        → ReadsOnce (form_of S.says S.unit S.join S.of layout.summary layout.width) (P.store pages.old).map number
+        left.old left.new) }
+    ensures refused { IfErr result IsWalkRefusal }
+    ensures damaged { result ≡ Err Refusal.DamagedFile → P.is_tied pages.old
+        → HasNoPart (form_of S.says S.unit S.join S.of layout.summary layout.width) (P.store pages.old).map number
+        levels left.old }
+{
+    let mut page = Page::new();
+    let node = load_into(pages, number, layout, left, &mut page)?;
+    match node {
+        Node::Leaf(count) => collect(&page, count, layout, low, high, keep, cells),
+        Node::Inner(count) => {
+            if levels == 0 {
+                return Err(Refusal::DamagedFile);
+            }
+            walk_entries(
+                pages, layout, &page, count, levels, low, high, keep, left, cells,
+            )
+        }
+    }
+}
+
+/// Walks through what the entries of an inner page say.
+#[cycle(walking)]
+fn walk_entries<P: Pages, S: Summary, F: Fn(&S) -> bool>(
+    pages: &mut P,
+    layout: Layout,
+    page: &Page,
+    count: usize,
+    levels: u32,
+    low: &[u8],
+    high: &[u8],
+    keep: &F,
+    left: &mut u32,
+    cells: &mut Cells,
+) -> Result<(), Refusal>
+    requires callable { F.IsAlwaysCallable keep.now }
+    requires width { record_width cells.old ≡ layout.width }
+    requires summary { layout.summary ≡ S.WIDTH }
+    requires fit { count * entry_bytes layout ≤ 4080 }
+    requires levels { 0 < levels }
+    ensures rests { RestsAfter P.is_tied P.store P.keeps result pages.old pages.new }
+    ensures width { record_width cells.new ≡ layout.width }
+    ensures fewer { left.new ≤ left.old }
+    ensures walks { OnOk result (P.is_tied pages.old → (test : S → Bool) → Computes (FnReturnsAt F.Fn keep.now) test
+        → AcceptsParts S.join test
+        → WalksEntries (form_of S.says S.unit S.join S.of layout.summary layout.width) (P.store pages.old).map
+        page.now.bytes count low.now high.now (λ cell. test (S.of cell)) (listed cells.old) (listed cells.new)
+        left.old left.new) }
+    ensures once { OnOk result (P.is_tied pages.old
+        → ReadsEntriesOnce (form_of S.says S.unit S.join S.of layout.summary layout.width) (P.store pages.old).map
+        page.now.bytes count left.old left.new) }
+    ensures refused { IfErr result IsWalkRefusal }
+    ensures damaged { result ≡ Err Refusal.DamagedFile → P.is_tied pages.old
+        → HasNoPartsOfEntries (form_of S.says S.unit S.join S.of layout.summary layout.width) (P.store pages.old).map
+        page.now.bytes count levels left.old }
+{
+    let bytes = content(page);
+    let (from, to) = entries_within(bytes, layout, count, low, high);
+    for index in from..to {
+        let entry = record_at(bytes, layout.entry_width(), index);
+        walk_entry(pages, layout, entry, levels, low, high, keep, left, cells)?;
+    }
+    Ok(())
+}
+
+/// Walks through what an entry says, where its summary is accepted.
+#[cycle(walking)]
+fn walk_entry<P: Pages, S: Summary, F: Fn(&S) -> bool>(
+    pages: &mut P,
+    layout: Layout,
+    entry: &[u8],
+    levels: u32,
+    low: &[u8],
+    high: &[u8],
+    keep: &F,
+    left: &mut u32,
+    cells: &mut Cells,
+) -> Result<(), Refusal>
+    requires callable { F.IsAlwaysCallable keep.now }
+    requires width { record_width cells.old ≡ layout.width }
+    requires summary { layout.summary ≡ S.WIDTH }
+    requires entry { length entry.now ≡ entry_bytes layout }
+    requires levels { 0 < levels }
+    ensures rests { RestsAfter P.is_tied P.store P.keeps result pages.old pages.new }
+    ensures width { record_width cells.new ≡ layout.width }
+    ensures fewer { left.new ≤ left.old }
+    ensures walks { OnOk result (P.is_tied pages.old → (test : S → Bool) → Computes (FnReturnsAt F.Fn keep.now) test
+        → AcceptsParts S.join test
+        → WalksEntry (form_of S.says S.unit S.join S.of layout.summary layout.width) (P.store pages.old).map entry.now
+        low.now high.now (λ cell. test (S.of cell)) (listed cells.old) (listed cells.new) left.old left.new) }
+    ensures once { OnOk result (P.is_tied pages.old
+        → ReadsEntryOnce (form_of S.says S.unit S.join S.of layout.summary layout.width) (P.store pages.old).map
+        entry.now left.old left.new) }
+    ensures refused { IfErr result IsWalkRefusal }
+    ensures damaged { result ≡ Err Refusal.DamagedFile → P.is_tied pages.old
+        → HasNoPartOfEntry (form_of S.says S.unit S.join S.of layout.summary layout.width) (P.store pages.old).map
+        entry.now levels left.old }
+{
+    if !accepts(keep, &S::read(summary(entry, layout))) {
+        return Ok(());
+    }
+    let number = child(entry, layout);
+    walk(
+        pages,
+        layout,
+        number,
+        levels - 1,
+        low,
+        high,
+        keep,
+        left,
+        cells,
+    )
+}
+
+/// The first entry that may say a cell within the bounds, and the one after the last.
+fn entries_within(
+    bytes: &[u8],
+    layout: Layout,
+    count: usize,
+    low: &[u8],
+    high: &[u8],
+) -> (usize, usize)
+    requires { count * entry_bytes layout ≤ length bytes.now }
+    ensures { IsRange (keys (least_from layout.summary) (records count (entry_bytes layout) bytes.now)) low.now high.now
+        result.0 result.1 }
+{
+    let width = layout.entry_width();
+    let least = layout.least_from();
+    let from = place(bytes, width, count, least, low).saturating_sub(1);
+    let to = place(bytes, width, count, least, high);
+    (from, to)
+}

@@ -1,8 +1,0 @@
-pub mod Counting
-pub mod Entries
-pub mod Fresh
-pub mod Joins
-pub mod Orders
-pub mod Reaching
-pub mod Sizes
-pub mod Uniques

@@ -1,7 +1,0 @@
--- Each record so far is below the next.
-use Rattle.rs_records.specs.Records.{records}
-use Rattle.rs_tree_check.proofs.Orders.{StepsUp}
-use Rattle.rs_tree_check.proofs.order.ascends.Given as goal
-
-abbrev pub invariant-loop-index : goal.invariant-loop-index
-invariant-loop-index l = StepsUp (records l.count l.width l.bytes) l.index

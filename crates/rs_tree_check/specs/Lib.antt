@@ -1,4 +1,0 @@
-pub mod Bounds
-pub mod Checking
-pub mod Entering
-pub mod Validating

@@ -1,2 +1,0 @@
-pub mod Freeing
-pub mod Working

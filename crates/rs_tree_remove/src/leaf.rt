@@ -1,0 +1,59 @@
+//! A cell taken out of a leaf.
+
+ghost use Rattle.std.specs.Prelude.{◌≡◌, ◌≢◌, ℕ, true, Some, IfOk, Err};
+ghost use Rattle.rs_page_owners.specs.Changes.{WorksAfter};
+ghost use Rattle.rs_tree.specs.Form.{form_of};
+ghost use Rattle.rs_tree.specs.Node.{IsNode};
+ghost use Rattle.rs_tree_remove.specs.Leaving.{RemovesPart, HasNoOwnPart};
+
+use crate::answer::Removed;
+use rs_page::{ContentKind, Page, PageNumber};
+use rs_pages::Pages;
+use rs_records::place;
+use rs_refusal::Refusal;
+use rs_tree::{Layout, Node, Summary, content};
+use rs_tree_edit::choosing::has_key;
+use rs_tree_edit::edit_page;
+
+/// Takes a cell out of a leaf, whose bytes are told. The last cell goes with the page.
+pub fn remove_from_leaf<P: Pages, S: Summary>(
+    pages: &mut P,
+    layout: Layout,
+    number: PageNumber,
+    page: &Page,
+    count: usize,
+    cell: &[u8],
+) -> Result<Removed, Refusal>
+    requires begun { (P.store pages.old).is_begun ≡ true }
+    requires node { IsNode page.now.bytes number layout (Node.Leaf count) }
+    ensures keeps { P.keeps pages.old pages.new }
+    ensures works { WorksAfter (P.is_tied pages.old → (P.store pages.old).map.page number ≡ Some page.now.bytes → (levels : ℕ)
+        → HasNoOwnPart (form_of S.says S.unit S.join S.of layout.summary layout.width) (P.store pages.old).map number levels)
+        result (P.store pages.old) (P.store pages.new) }
+    ensures room { result ≢ Err Refusal.FileFull }
+    ensures removed { P.is_tied pages.old → (P.store pages.old).map.page number ≡ Some page.now.bytes → IfOk result (RemovesPart
+        (form_of S.says S.unit S.join S.of layout.summary layout.width) (P.store pages.old).map (P.store pages.new).map number
+        cell.now) }
+{
+    let bytes = content(page);
+    let at = place(bytes, layout.width, count, 0, cell);
+    if !has_key(bytes, layout.width, count, 0, at, cell) {
+        return Ok(Removed::Missing);
+    }
+    if count == 1 {
+        pages.release(number)?;
+        return Ok(Removed::Gone);
+    }
+    edit_page(
+        pages,
+        number,
+        ContentKind::Leaf,
+        layout.width,
+        count,
+        at,
+        1,
+        0,
+        &[],
+    )?;
+    Ok(Removed::Kept)
+}

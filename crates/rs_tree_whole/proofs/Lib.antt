@@ -1,0 +1,10 @@
+pub mod Counting
+pub mod Entries
+pub mod Fresh
+pub mod Joins
+pub mod Orders
+pub mod Reaching
+pub mod Sizes
+pub mod Uniques
+pub mod Freeing
+pub mod Working

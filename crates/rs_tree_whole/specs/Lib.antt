@@ -1,0 +1,5 @@
+pub mod Bounds
+pub mod Checking
+pub mod Entering
+pub mod Validating
+pub mod Clearing

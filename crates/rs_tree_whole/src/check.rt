@@ -1,0 +1,159 @@
+//! The check of a part of a tree, page by page.
+//!
+//! A part is checked against what the entry above says: its least cell, its summary, and what the next entry begins with.
+
+ghost use Rattle.std.specs.Prelude.{◌≡◌, ◌⊎◌, ◌<◌, ◌≤◌, ◌+◌, ◌*◌, ◌^◌, IfOk, IfErr, Err, length};
+ghost use Rattle.std.specs.Option.{option_copied};
+ghost use Rattle.rs_pages.specs.Lending.{RestsAfter};
+ghost use Rattle.rs_page_marks.specs.Marks.{taken};
+ghost use Rattle.rs_tree.specs.Form.{form_of, joined};
+ghost use Rattle.rs_tree.specs.Layouts.{entry_bytes};
+ghost use Rattle.rs_tree_whole.specs.Checking.{Reaches, HasNoSound, ReachesEntry, HasNoSoundEntry, ReachesEntries, HasNoSoundEntries};
+
+use crate::enter::enter;
+use crate::keys::{bound_at, least};
+use crate::order::{begins_with, is_in_order};
+use crate::saying::says;
+use rs_page::{Page, PageNumber};
+use rs_page_marks::Reached;
+use rs_pages::Pages;
+use rs_records::record_at;
+use rs_refusal::Refusal;
+use rs_tree::entry::{child, summary};
+use rs_tree::{Layout, Node, Summary, content, inner_summary, leaf_summary};
+
+/// Checks the part with this page at its top, whose cells are to ascend from the first one that is given up to the bound.
+/// Answers its height, the number of its cells and their summary.
+#[cycle(checking)]
+pub fn check_part<P: Pages, S: Summary>(
+    pages: &mut P,
+    layout: Layout,
+    number: PageNumber,
+    levels: u32,
+    first: Option<&[u8]>,
+    bound: Option<&[u8]>,
+    reached: &mut Reached,
+) -> Result<(u32, u64, S), Refusal>
+    requires summary { layout.summary ≡ S.WIDTH }
+    ensures rests { RestsAfter P.is_tied P.store P.keeps result pages.old pages.new }
+    ensures size { length reached.new ≡ length reached.old }
+    ensures few { (P.store pages.old).map.fields.pages < 2 ^ 32 }
+    ensures height { IfOk result (λ part. part.0 ≤ levels) }
+    ensures reaches { IfOk result (λ part. P.is_tied pages.old → Reaches (joined S.unit S.join S.of)
+        (form_of S.says S.unit S.join S.of layout.summary layout.width) (P.store pages.old).map number
+        (option_copied first.entry) (option_copied bound.entry) (taken reached.old) (taken reached.new) part.0 part.1 part.2) }
+    ensures refused { IfErr result (λ why. (why ≡ Refusal.Disk) ⊎ (why ≡ Refusal.DamagedFile)) }
+    ensures damaged { result ≡ Err Refusal.DamagedFile → P.is_tied pages.old
+        → HasNoSound (form_of S.says S.unit S.join S.of layout.summary layout.width) (P.store pages.old).map number
+        (option_copied first.entry) (option_copied bound.entry) levels (taken reached.old) }
+{
+    let loaded = enter(pages, layout, number, reached)?;
+    match loaded.node {
+        Node::Leaf(count) => {
+            if !is_in_order(&loaded.page, count, layout, first, bound) {
+                return Err(Refusal::DamagedFile);
+            }
+            let whole = leaf_summary::<S>(&loaded.page, count, layout);
+            Ok((0, count as u64, whole))
+        }
+        Node::Inner(count) => {
+            if levels == 0 || !begins_with(&loaded.page, count, layout, first) {
+                return Err(Refusal::DamagedFile);
+            }
+            let (height, total) = check_entries::<P, S>(
+                pages,
+                layout,
+                &loaded.page,
+                count,
+                levels,
+                bound,
+                reached,
+            )?;
+            let whole = inner_summary::<S>(&loaded.page, count, layout);
+            Ok((height + 1, total, whole))
+        }
+    }
+}
+
+/// Checks what the entries of an inner page say, each part up to what the next entry begins with. Answers the height of
+/// the parts and the number of their cells.
+#[cycle(checking)]
+fn check_entries<P: Pages, S: Summary>(
+    pages: &mut P,
+    layout: Layout,
+    page: &Page,
+    count: usize,
+    levels: u32,
+    bound: Option<&[u8]>,
+    reached: &mut Reached,
+) -> Result<(u32, u64), Refusal>
+    requires summary { layout.summary ≡ S.WIDTH }
+    requires fit { count * entry_bytes layout ≤ 4080 }
+    requires levels { 0 < levels }
+    ensures rests { RestsAfter P.is_tied P.store P.keeps result pages.old pages.new }
+    ensures size { length reached.new ≡ length reached.old }
+    ensures height { IfOk result (λ parts. parts.0 < levels) }
+    ensures reaches { IfOk result (λ parts. P.is_tied pages.old → ReachesEntries
+        (form_of S.says S.unit S.join S.of layout.summary layout.width) (P.store pages.old).map page.now.bytes count count
+        (option_copied bound.entry) (taken reached.old) (taken reached.new) parts.0 parts.1) }
+    ensures refused { IfErr result (λ why. (why ≡ Refusal.Disk) ⊎ (why ≡ Refusal.DamagedFile)) }
+    ensures damaged { result ≡ Err Refusal.DamagedFile → P.is_tied pages.old
+        → HasNoSoundEntries (form_of S.says S.unit S.join S.of layout.summary layout.width) (P.store pages.old).map
+        page.now.bytes count (option_copied bound.entry) levels (taken reached.old) }
+{
+    let bytes = content(page);
+    let mut height = 0;
+    let mut total: u64 = 0;
+    for index in 0..count {
+        let entry = record_at(bytes, layout.entry_width(), index);
+        let next = bound_at(bytes, layout, count, index + 1, bound);
+        let (found, more) = check_entry::<P, S>(pages, layout, entry, levels, next, reached)?;
+        if index > 0 && found != height {
+            return Err(Refusal::DamagedFile);
+        }
+        height = found;
+        total = total.saturating_add(more);
+    }
+    Ok((height, total))
+}
+
+/// Checks what an entry says, up to a bound. Answers the height of the part below it and the number of its cells.
+#[cycle(checking)]
+fn check_entry<P: Pages, S: Summary>(
+    pages: &mut P,
+    layout: Layout,
+    entry: &[u8],
+    levels: u32,
+    bound: Option<&[u8]>,
+    reached: &mut Reached,
+) -> Result<(u32, u64), Refusal>
+    requires summary { layout.summary ≡ S.WIDTH }
+    requires entry { length entry.now ≡ entry_bytes layout }
+    requires levels { 0 < levels }
+    ensures rests { RestsAfter P.is_tied P.store P.keeps result pages.old pages.new }
+    ensures size { length reached.new ≡ length reached.old }
+    ensures height { IfOk result (λ part. part.0 < levels) }
+    ensures reaches { IfOk result (λ part. P.is_tied pages.old → ReachesEntry
+        (form_of S.says S.unit S.join S.of layout.summary layout.width) (P.store pages.old).map entry.now
+        (option_copied bound.entry) (taken reached.old) (taken reached.new) part.0 part.1) }
+    ensures refused { IfErr result (λ why. (why ≡ Refusal.Disk) ⊎ (why ≡ Refusal.DamagedFile)) }
+    ensures damaged { result ≡ Err Refusal.DamagedFile → P.is_tied pages.old
+        → HasNoSoundEntry (form_of S.says S.unit S.join S.of layout.summary layout.width) (P.store pages.old).map entry.now
+        (option_copied bound.entry) levels (taken reached.old) }
+{
+    let number = child(entry, layout);
+    let first = Some(least(entry, layout));
+    let (height, total, whole) = check_part::<P, S>(
+        pages,
+        layout,
+        number,
+        levels - 1,
+        first,
+        bound,
+        reached,
+    )?;
+    if !says(summary(entry, layout), whole) {
+        return Err(Refusal::DamagedFile);
+    }
+    Ok((height, total))
+}

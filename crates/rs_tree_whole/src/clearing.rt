@@ -1,0 +1,109 @@
+//! Clearing a tree: what is below a page goes first, then the page.
+//!
+//! It goes down so many levels at the most and reads so many pages, so that it ends on pages that are no tree.
+
+ghost use Rattle.std.specs.Prelude.{◌≡◌, ◌≢◌, ◌<◌, ◌≤◌, ◌*◌, ℕ, true, List, Err, OnOk, length};
+ghost use Rattle.rs_page_owners.specs.Changes.{WorksAfter};
+ghost use Rattle.rs_page_owners.specs.Counts.{no_pages};
+ghost use Rattle.rs_page_owners.specs.Owners.{Moves};
+ghost use Rattle.rs_tree.specs.Calls.{IsNotShared};
+ghost use Rattle.rs_tree.specs.Form.{form_of};
+ghost use Rattle.rs_tree.specs.Tree.{IsTree};
+ghost use Rattle.rs_tree.specs.Layouts.{entry_bytes};
+ghost use Rattle.rs_tree_whole.specs.Clearing.{ClearsPart, ClearsEntries, HasNoOwnPart, HasNoOwnParts};
+
+use rs_page::{Page, PageNumber};
+use rs_pages::Pages;
+use rs_records::record_at;
+use rs_refusal::Refusal;
+use rs_tree::entry::child;
+use rs_tree::load::load;
+use rs_tree::{LEVELS, Layout, Node, Summary, content};
+
+/// Frees all pages of a tree; of the empty one, at root 0, there are none. It is refused with 90, with 91, and with 94 only
+/// where no tree stands there with pages of its own.
+pub fn clear<P: Pages, S: Summary>(
+    pages: &mut P,
+    layout: Layout,
+    root: PageNumber,
+) -> Result<(), Refusal>
+    requires begun { (P.store pages.old).is_begun ≡ true }
+    ensures keeps { P.keeps pages.old pages.new }
+    ensures works { WorksAfter
+        (P.is_tied pages.old → IsNotShared (form_of S.says S.unit S.join S.of layout.summary layout.width) (P.store pages.old).map root)
+        result (P.store pages.old) (P.store pages.new) }
+    ensures room { result ≢ Err Refusal.FileFull }
+    ensures cleared { P.is_tied pages.old → OnOk result ((cells : List (List ℕ)) (used : ℕ → ℕ)
+        → IsTree (form_of S.says S.unit S.join S.of layout.summary layout.width) (P.store pages.old).map root cells used
+        → Moves (P.store pages.old).map (P.store pages.new).map used no_pages) }
+{
+    if root.number() == 0 {
+        return Ok(());
+    }
+    let mut left = pages.count();
+    clear_part::<P, S>(pages, layout, root, LEVELS, &mut left)
+}
+
+/// Frees the pages of the part of a tree with this page at its top.
+#[cycle(clearing)]
+fn clear_part<P: Pages, S: Summary>(
+    pages: &mut P,
+    layout: Layout,
+    number: PageNumber,
+    levels: u32,
+    left: &mut u32,
+) -> Result<(), Refusal>
+    requires begun { (P.store pages.old).is_begun ≡ true }
+    ensures keeps { P.keeps pages.old pages.new }
+    ensures works { WorksAfter
+        (P.is_tied pages.old → HasNoOwnPart (form_of S.says S.unit S.join S.of layout.summary layout.width)
+        (P.store pages.old).map number levels left.old)
+        result (P.store pages.old) (P.store pages.new) }
+    ensures room { result ≢ Err Refusal.FileFull }
+    ensures clears { OnOk result (P.is_tied pages.old → ClearsPart
+        (form_of S.says S.unit S.join S.of layout.summary layout.width) (P.store pages.old).map (P.store pages.new).map number
+        left.old left.new) }
+{
+    let loaded = load(pages, number, layout, left)?;
+    match loaded.node {
+        Node::Leaf(_) => pages.release(number),
+        Node::Inner(count) => {
+            if levels == 0 {
+                return Err(Refusal::DamagedFile);
+            }
+            clear_entries::<P, S>(pages, layout, &loaded.page, count, levels, left)?;
+            pages.release(number)
+        }
+    }
+}
+
+/// Frees the pages of the parts that the entries of an inner page say.
+#[cycle(clearing)]
+fn clear_entries<P: Pages, S: Summary>(
+    pages: &mut P,
+    layout: Layout,
+    page: &Page,
+    count: usize,
+    levels: u32,
+    left: &mut u32,
+) -> Result<(), Refusal>
+    requires begun { (P.store pages.old).is_begun ≡ true }
+    requires fit { count * entry_bytes layout ≤ 4080 }
+    requires levels { 0 < levels }
+    ensures keeps { P.keeps pages.old pages.new }
+    ensures works { WorksAfter
+        (P.is_tied pages.old → HasNoOwnParts (form_of S.says S.unit S.join S.of layout.summary layout.width)
+        (P.store pages.old).map page.now.bytes count levels left.old)
+        result (P.store pages.old) (P.store pages.new) }
+    ensures room { result ≢ Err Refusal.FileFull }
+    ensures clears { OnOk result (P.is_tied pages.old → ClearsEntries
+        (form_of S.says S.unit S.join S.of layout.summary layout.width) (P.store pages.old).map (P.store pages.new).map
+        page.now.bytes count left.old left.new) }
+{
+    let bytes = content(page);
+    for index in 0..count {
+        let entry = record_at(bytes, layout.entry_width(), index);
+        clear_part::<P, S>(pages, layout, child(entry, layout), levels - 1, left)?;
+    }
+    Ok(())
+}

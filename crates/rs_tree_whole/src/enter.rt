@@ -1,0 +1,38 @@
+//! Pages of a tree, reached once and read.
+
+ghost use Rattle.std.specs.Prelude.{◌≡◌, ◌<◌, ◌⊎◌, ◌^◌, ℕ, IfOk, IfErr, OnOk, Err, length};
+ghost use Rattle.rs_page_owners.specs.Counts.{◌&◌, one_at};
+ghost use Rattle.rs_pages.specs.Lending.{RestsAfter};
+ghost use Rattle.rs_page_marks.specs.Marks.{taken};
+ghost use Rattle.rs_tree_whole.specs.Entering.{Enters, HasNoFreshNode};
+
+use rs_page::PageNumber;
+use rs_page_marks::Reached;
+use rs_pages::Pages;
+use rs_refusal::Refusal;
+use rs_tree::Layout;
+use rs_tree::load::{Loaded, load};
+
+/// Marks the page with this number and reads it. It is refused with 94 where it was reached before, or is no page of a tree.
+pub fn enter<P: Pages>(
+    pages: &mut P,
+    layout: Layout,
+    number: PageNumber,
+    reached: &mut Reached,
+) -> Result<Loaded, Refusal>
+    ensures rests { RestsAfter P.is_tied P.store P.keeps result pages.old pages.new }
+    ensures size { length reached.new ≡ length reached.old }
+    ensures few { (P.store pages.old).map.fields.pages < 2 ^ 32 }
+    ensures enters { IfOk result (Enters (P.is_tied pages.old) (P.store pages.old).map number layout) }
+    ensures reaches { OnOk result ((n : ℕ) → taken reached.new n ≡ (taken reached.old & one_at number) n) }
+    ensures refused { IfErr result (λ why. (why ≡ Refusal.Disk) ⊎ (why ≡ Refusal.DamagedFile)) }
+    ensures damaged { result ≡ Err Refusal.DamagedFile → P.is_tied pages.old
+        → HasNoFreshNode (P.store pages.old).map number layout (taken reached.old) }
+{
+    let count = pages.count();
+    if number.number() < 2 || number.number() >= count || !reached.reach(number) {
+        return Err(Refusal::DamagedFile);
+    }
+    let mut reads = 1;
+    load(pages, number, layout, &mut reads)
+}

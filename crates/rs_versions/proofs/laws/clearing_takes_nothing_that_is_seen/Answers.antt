@@ -1,6 +1,0 @@
--- The lemma says it.
-use Rattle.rs_versions.proofs.Seen.{cleared_seen}
-use Rattle.rs_versions.proofs.laws.clearing_takes_nothing_that_is_seen.Goals as goal
-
-pub returns : goal.returns
-returns c = cleared_seen
