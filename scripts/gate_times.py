@@ -3,15 +3,16 @@
 
     gate_times.py [COMMAND ..]     (default: bash scripts/test.sh)
 
-For each crate it prints the seconds and the processor seconds of its proof, its tests and its must-fail edits, and
-then the longest chain of proofs, each crate after those that it stands on, in processor seconds: the seconds have waits
-for a free processor in them. It looks at the running processes several
-times a second, so a figure may lack what a process did since it was last seen. The command's own output goes to
-standard error.
+What was proved and tried in this run is read off the gate's own log, which goes to standard error as it comes. For each
+crate it prints the seconds and the processor seconds of its proof, its tests and its must-fail edits, and then the longest
+chain of proofs, each crate after those that it stands on, in processor seconds: the seconds have waits for a free processor
+in them. The processor seconds are those of the running checks, looked at several times a second from outside, so a figure
+may lack what a check did since it was last seen.
 """
 
 import collections
 import os
+import re
 import resource
 import subprocess
 import sys
@@ -22,6 +23,9 @@ ROOT = os.path.join(os.path.dirname(os.path.abspath(__file__)), "..")
 TICK = os.sysconf("SC_CLK_TCK")
 SECONDS_BETWEEN_LOOKS = 0.25
 KINDS = ["proof", "tests", "edits"]
+LOG_LINE = re.compile(r"(?P<tests>: its tests are proved$)|(?P<proved>^(rt: )?\w+ proved$)|(?P<kept>\w+ is kept: )|(?P<refused>^(rt: )?must-fail \S+: refused, )")
+LOG_GROUPS = LOG_LINE.groupindex
+SUMMARY = re.compile(r"\d+ passed, \d+ failed.*")
 
 
 class Span:
@@ -91,9 +95,9 @@ def look(spans, session, start):
 
 
 def run(command):
-    """The exit status, the seconds, and what was seen of each crate's work."""
-    spans, start = collections.defaultdict(Span), time.monotonic()
-    gate = subprocess.Popen(command, cwd=ROOT, stdin=subprocess.DEVNULL, stdout=sys.stderr, start_new_session=True)
+    """The exit status, the seconds, what was seen of each crate's work, and the gate's log."""
+    spans, start, log = collections.defaultdict(Span), time.monotonic(), []
+    gate = subprocess.Popen(command, cwd=ROOT, stdin=subprocess.DEVNULL, stdout=subprocess.PIPE, errors="replace", start_new_session=True)
     ended = threading.Event()
 
     def watch():
@@ -102,10 +106,24 @@ def run(command):
 
     watcher = threading.Thread(target=watch)
     watcher.start()
+    for line in gate.stdout:
+        log.append(line.rstrip("\n"))
+        print(log[-1], file=sys.stderr)
     status = gate.wait()
     ended.set()
     watcher.join()
-    return status, time.monotonic() - start, spans
+    return status, time.monotonic() - start, spans, log
+
+
+def told(log):
+    """What the log says was done in this run, and the counts of each part."""
+    counts = collections.Counter()
+    for line in log:
+        found = LOG_LINE.search(line)
+        if found:
+            counts[found.lastgroup] += 1
+    yield "by the log: %(proved)d crates proved, %(tests)d proved with tests, %(kept)d kept, %(refused)d edits refused" % {**dict.fromkeys(LOG_GROUPS, 0), **counts}
+    yield from (line for line in log if SUMMARY.fullmatch(line))
 
 
 def longest_chain(below, seconds):
@@ -133,13 +151,14 @@ def table(below, spans):
 
 
 def main():
-    status, seconds, spans = run(sys.argv[1:] or ["bash", "scripts/test.sh"])
+    status, seconds, spans, log = run(sys.argv[1:] or ["bash", "scripts/test.sh"])
     used = resource.getrusage(resource.RUSAGE_CHILDREN)
     below = crates()
     print("\n".join(table(below, spans)))
     for kind in KINDS:
         print("%s: %.1f processor minutes" % (kind, sum(it.processor_seconds() for key, it in spans.items() if key[1] == kind) / 60))
     names, length = longest_chain(below, lambda name: spans[name, "proof"].processor_seconds())
+    print("\n".join(told(log)))
     print("longest chain of proofs: %.1f processor minutes: %s" % (length / 60, ", ".join(names)))
     print("whole: %.1f minutes, %.1f processor minutes, status %d" % (seconds / 60, (used.ru_utime + used.ru_stime) / 60, status))
     return status
