@@ -41,7 +41,7 @@ impl CallLog {
     }
 
     /// Notes a read, and passes on what it answered.
-    #[tactic(auto, unfolding(crate::specs::Counts::counted_on))]
+    #[tactic(auto, unfolding(rs_refusal::specs::Counts::counted_on))]
     pub(crate) fn note_read(&mut self, outcome: Result<(), DiskFault>) -> Result<(), DiskFault>
         ensures same { result ≡ outcome }
         ensures count { Counts outcome self.old.failures self.new.failures }
