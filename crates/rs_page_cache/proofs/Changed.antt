@@ -12,7 +12,7 @@ use Rattle.std.proofs.lemmas.Map.Lookups.{exact_unsigned}
 use Rattle.std.proofs.lemmas.Map.Views.{Contains-from_lookup, lookup-from_Contains}
 use Rattle.std.proofs.lemmas.Map.Keys.{IsDistinct-from_sorted}
 use Rattle.std.proofs.lemmas.Cmp.{eq_by_cmp_equiv, nat_cmp_total}
-use Rattle.rs_pages.specs.Held.{HeldPage, nothing_held, page_or, held_change}
+use Rattle.rs_pages.specs.Held.{HeldPage, nothing_held, page_or, held_change, with_copy}
 use Rattle.rs_page_cache.specs.Changes.{Changes, held_at, committed_held, abandoned_held, HasCopied, HoldsEach, ListsHeld}
 
 -- another number is found at another place
@@ -93,12 +93,30 @@ none_some None is some = cc
 none_some (Some page) is some = cc
 
 pub lists_nothing : (changes : Changes) → ((n : ℕ) → (held_at changes n).copy ≡ None) → HasCopied changes []
-lists_nothing changes none = record { among = λ n some. absurd (none_some (held_at changes n).copy (none n) some) }
+lists_nothing changes none = record { among = λ n some. absurd (none_some (held_at changes n).copy (none n) some); only = λ k lt. absurd (omega (arith, lt)) }
+
+-- those that are listed have copies, where one more has its copy
+only_listed : (old new : Changes) (copied : List ℕ) (number : ℕ) → HasCopied old copied → IsSome (held_at new number).copy
+    → ((other : ℕ) → other ≢ number → held_at new other ≡ held_at old other) → (k : ℕ) → k < length copied → IsSome (held_at new (slice_index copied k)).copy
+only_listed old new copied number lists there others k lt = elim (cases_eq (slice_index copied k) number) [
+  | inl same ↦ subst (λ i. IsSome (held_at new i).copy) (sym same) there
+  | inr ne ↦ subst (λ (h : HeldPage). IsSome h.copy) (sym (others (slice_index copied k) ne)) (lists.only k lt)
+]
+
+has_copy : (page : List ℕ) (old new : HeldPage) → new ≡ with_copy page old → IsSome new.copy
+has_copy page old new is = subst (λ (h : HeldPage). IsSome h.copy) (sym is) refl
 
 -- a number is listed before its copy is put in place
-pub lists_more : (old new : Changes) (copied : List ℕ) (number : ℕ) → HasCopied old copied
+pub lists_more : (old new : Changes) (copied : List ℕ) (number : ℕ) (page : List ℕ) → HasCopied old copied → held_at new number ≡ with_copy page (held_at old number)
     → ((other : ℕ) → other ≢ number → held_at new other ≡ held_at old other) → HasCopied new (copied ++ number ∷ [])
-lists_more old new copied number lists others = record {
+lists_more old new copied number page lists there others = record {
+  only = λ k lt. elim (cases_eq k (length copied)) [
+    | inl end ↦ let last : slice_index (copied ++ number ∷ []) k ≡ number = ap (slice_index (copied ++ number ∷ [])) end ∙ grind (arith, common_steps) in
+        subst (λ i. IsSome (held_at new i).copy) (sym last) (has_copy page (held_at old number) (held_at new number) there)
+    | inr before ↦ let inside : k < length copied = grind (arith, common_steps) in
+        let same : slice_index (copied ++ number ∷ []) k ≡ slice_index copied k = grind (arith, common_steps) in
+        subst (λ i. IsSome (held_at new i).copy) (sym same) (only_listed old new copied number lists (has_copy page (held_at old number) (held_at new number) there) others k inside)
+  ];
   among = λ n some. elim (cases_eq n number) [
     | inl same ↦
         (length copied, grind (arith, common_steps), let last : slice_index (copied ++ number ∷ []) (length copied) ≡ number = grind (arith, common_steps) in last ∙ sym same)
@@ -110,9 +128,10 @@ lists_more old new copied number lists others = record {
 }
 
 -- a listed number stays listed where its copy was there before
-pub lists_same : (old new : Changes) (copied : List ℕ) (number : ℕ) → HasCopied old copied → IsSome (held_at old number).copy
-    → ((other : ℕ) → other ≢ number → held_at new other ≡ held_at old other) → HasCopied new copied
-lists_same old new copied number lists there others = record {
+pub lists_same : (old new : Changes) (copied : List ℕ) (number : ℕ) (page : List ℕ) → HasCopied old copied → IsSome (held_at old number).copy
+    → held_at new number ≡ with_copy page (held_at old number) → ((other : ℕ) → other ≢ number → held_at new other ≡ held_at old other) → HasCopied new copied
+lists_same old new copied number page lists there put others = record {
+  only = only_listed old new copied number lists (has_copy page (held_at old number) (held_at new number) put) others;
   among = λ n some. elim (cases_eq n number) [
     | inl same ↦ lists.among n (subst (λ i. IsSome (held_at old i).copy) (sym same) there)
     | inr ne ↦ lists.among n (subst (λ (h : HeldPage). IsSome h.copy) (others n ne) some)

@@ -33,9 +33,10 @@ committed_held held = record { committed = held_change held; copy = None }
 abbrev pub abandoned_held : HeldPage → HeldPage
 abandoned_held held = record held { copy = None }
 
--- each number with a working copy is among these
+-- each number with a working copy is among these, and no other
 pub record HasCopied (changes : Changes) (copied : List ℕ) : Type 0 where
   pub among : (number : ℕ) → IsSome (held_at changes number).copy → (k : ℕ) × (k < length copied) × (slice_index copied k ≡ number)
+  pub only : (k : ℕ) → k < length copied → IsSome (held_at changes (slice_index copied k)).copy
 
 -- each entry holds something
 pub record HoldsEach (changes : Changes) : Type 0 where
