@@ -26,7 +26,7 @@ import tempfile
 from copies import make_repository, output_of
 
 PROGRAM = "pager_bench"
-STANDS_ON = ["rs_pager_judge", "rs_page", "rs_disk", "rs_measure"]
+STANDS_ON = ["rs_pager_judge", "rs_page", "rs_disk", "rs_refusal"]
 LINE = re.compile(r"pages=(\d+) scattered=(\d+) in_runs=(\d+)")
 
 

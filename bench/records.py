@@ -34,7 +34,7 @@ import time
 from copies import instructions_of, make_repository, output_of
 
 PROGRAM = "records_bench"
-STANDS_ON = ["rs_contents", "rs_attr", "rs_versioned", "rs_cell_versions", "rs_facts", "rs_value", "rs_pager", "rs_pages", "rs_page", "rs_disk", "rs_measure", "arrayvec"]
+STANDS_ON = ["rs_contents", "rs_attr", "rs_versioned", "rs_cell_versions", "rs_facts", "rs_value", "rs_pager", "rs_pages", "rs_page", "rs_disk", "rs_refusal", "arrayvec"]
 FILES = ["main.rt", "spans.rt", "table.rt", "whole_file.rt", "Fitting.antt"]
 LOADS = ["ordered", "shuffled", "searches", "check", "pass", "define", "indexed_check", "indexed_pass"]
 SEARCHES = 1_000

@@ -30,7 +30,7 @@ import tempfile
 from copies import ROOT, instructions_of, make_repository, output_of
 
 PROGRAM = "trees_bench"
-STANDS_ON = ["rs_interval", "rs_tree_insert", "rs_tree", "rs_tree", "rs_pager", "rs_page", "rs_disk", "rs_measure"]
+STANDS_ON = ["rs_interval", "rs_tree_insert", "rs_tree", "rs_pager", "rs_page", "rs_disk", "rs_refusal"]
 FILES = ["main.rt", "records.rt", "table.rt"]
 LOADS = ["ordered", "shuffled", "searches", "intervals"]
 COUNTS = ["found", "hits"]
