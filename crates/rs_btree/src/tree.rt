@@ -4,19 +4,19 @@
 
 ghost use Rattle.std.specs.Prelude.{◌≡◌, ◌≢◌, ◌⊎◌, ◌↔◌, ◌<◌, ◌≤◌, ◌+◌, ◌*◌, ℕ, Bool, IsTrue, Contains, List, [], IfOk, IfErr, OnOk, OnErr, Err, true, false, length};
 ghost use Rattle.std.specs.Fn.{FnReturnsAt};
-ghost use Rattle.rs_page_owners.specs.Changes.{WorksAfter};
 ghost use Rattle.rs_page_owners.specs.Counts.{◌&◌, no_pages};
 ghost use Rattle.rs_page_owners.specs.Owners.{Shares};
-ghost use Rattle.rs_pages.specs.Lending.{RestsAfter};
+ghost use Rattle.rs_page_owners.specs.Calls.{WorksOn};
 ghost use Rattle.rs_pages.specs.PageMap.{PageMap, SamePages};
+ghost use Rattle.rs_pages.specs.Calls.{OnlyReads};
 ghost use Rattle.rs_page_marks.specs.Marks.{taken};
 ghost use Rattle.rs_records.specs.Listed.{listed, record_width};
 ghost use Rattle.rs_tree.specs.Calls.{AcceptsParts, Changes, Finds, IsNotShared, RefusesToRead};
 ghost use Rattle.rs_tree.specs.Cells.{cells_within, with_cell, without_cell};
-ghost use Rattle.rs_tree.specs.Form.{form_of};
 ghost use Rattle.rs_tree.specs.Tree.{IsTree};
 ghost use Rattle.rs_tree_whole.specs.Validating.{Validates, HasNoFreshTree};
 ghost use Rattle.rs_tree.specs.Asking.{Computes};
+ghost use Rattle.rs_tree.specs.Forms.{form};
 ghost use Rattle.rs_btree.specs.Replacing.{Replaces};
 ghost use Rattle.rs_btree.specs.Rooted.{Rooted};
 
@@ -56,7 +56,7 @@ impl<S: Summary> Tree<S> {
         requires fits { 3 * (4 + S.WIDTH + width) ≤ 4080 }
         ensures width { result.width ≡ width }
         ensures empty { (pages : PageMap)
-            → IsTree (form_of S.says S.unit S.join S.of S.WIDTH width) pages result.root [] no_pages }
+            → IsTree (form S.Summary width) pages result.root [] no_pages }
     {
         Tree::at(width, PageNumber::new(0))
     }
@@ -90,13 +90,13 @@ impl<S: Summary> Tree<S> {
         low: &[u8],
         high: &[u8],
     ) -> Result<Cells, Refusal>
-        ensures rests { RestsAfter P.is_tied P.store P.keeps result pages.old pages.new }
+        ensures rests { OnlyReads P.Pages result pages.old pages.new }
         ensures width { IfOk result (λ found. record_width found ≡ self.now.width) }
         ensures found { P.is_tied pages.old → IfOk result (λ found. (cells : List (List ℕ)) (used : ℕ → ℕ)
-            → IsTree (form_of S.says S.unit S.join S.of S.WIDTH self.now.width) (P.store pages.old).map self.now.root cells used
+            → IsTree (form S.Summary self.now.width) (P.store pages.old).map self.now.root cells used
             → listed found ≡ cells_within low.now high.now cells) }
         ensures refused { IfErr result (λ why. RefusesToRead (P.is_tied pages.old)
-            (form_of S.says S.unit S.join S.of S.WIDTH self.now.width) self.now.root why
+            (form S.Summary self.now.width) self.now.root why
             (P.store pages.old) (P.store pages.new)) }
     {
         range::<P, S>(alloc, pages, self.layout, self.root, low, high)
@@ -114,14 +114,14 @@ impl<S: Summary> Tree<S> {
         keep: &F,
     ) -> Result<(Cells, u32), Refusal>
         requires callable { F.IsAlwaysCallable keep.now }
-        ensures rests { RestsAfter P.is_tied P.store P.keeps result pages.old pages.new }
+        ensures rests { OnlyReads P.Pages result pages.old pages.new }
         ensures width { IfOk result (λ found. record_width found.0 ≡ self.now.width) }
         ensures found { P.is_tied pages.old → (test : S → Bool) → Computes (FnReturnsAt F.Fn keep.now) test
             → AcceptsParts S.join test → IfOk result (λ found. Finds
-            (form_of S.says S.unit S.join S.of S.WIDTH self.now.width) (P.store pages.old).map self.now.root
+            (form S.Summary self.now.width) (P.store pages.old).map self.now.root
             low.now high.now (λ cell. test (S.of cell)) (listed found.0) found.1) }
         ensures refused { IfErr result (λ why. RefusesToRead (P.is_tied pages.old)
-            (form_of S.says S.unit S.join S.of S.WIDTH self.now.width) self.now.root why
+            (form S.Summary self.now.width) self.now.root why
             (P.store pages.old) (P.store pages.new)) }
     {
         descend::<P, S, F>(alloc, pages, self.layout, self.root, low, high, keep)
@@ -130,17 +130,17 @@ impl<S: Summary> Tree<S> {
     /// Marks the tree's pages, and answers how many cells it has, exactly where a well formed tree stands there none of whose
     /// pages was reached before; 94 where none does; 91 where a page couldn't be read. What is marked after a refusal is open.
     pub fn validate<P: Pages>(&self, pages: &mut P, reached: &mut Reached) -> Result<u64, Refusal>
-        ensures rests { RestsAfter P.is_tied P.store P.keeps result pages.old pages.new }
+        ensures rests { OnlyReads P.Pages result pages.old pages.new }
         ensures size { length reached.new ≡ length reached.old }
         ensures validates { P.is_tied pages.old → OnOk result (Validates
-            (form_of S.says S.unit S.join S.of S.WIDTH self.now.width) (P.store pages.old).map self.now.root
+            (form S.Summary self.now.width) (P.store pages.old).map self.now.root
             (taken reached.old) (taken reached.new)) }
         ensures counted { P.is_tied pages.old → IfOk result (λ count. (cells : List (List ℕ)) (used : ℕ → ℕ)
-            → IsTree (form_of S.says S.unit S.join S.of S.WIDTH self.now.width) (P.store pages.old).map self.now.root cells used
+            → IsTree (form S.Summary self.now.width) (P.store pages.old).map self.now.root cells used
             → count ≡ length cells) }
         ensures refused { IfErr result (λ why. (why ≡ Refusal.Disk) ⊎ (why ≡ Refusal.DamagedFile)) }
         ensures damaged { P.is_tied pages.old → result ≡ Err Refusal.DamagedFile → HasNoFreshTree
-            (form_of S.says S.unit S.join S.of S.WIDTH self.now.width) (P.store pages.old).map self.now.root
+            (form S.Summary self.now.width) (P.store pages.old).map self.now.root
             (taken reached.old) }
     {
         validate::<P, S>(pages, self.layout, self.root, reached)
@@ -153,14 +153,13 @@ impl<S: Summary> Tree<S> {
         requires begun { (P.store pages.old).is_begun ≡ true }
         requires cell { length cell.now ≡ self.old.width }
         ensures keeps { P.keeps pages.old pages.new }
-        ensures works { WorksAfter (P.is_tied pages.old → IsNotShared
-            (form_of S.says S.unit S.join S.of S.WIDTH self.old.width) (P.store pages.old).map self.old.root)
-            result (P.store pages.old) (P.store pages.new) }
+        ensures works { WorksOn P.Pages (IsNotShared
+            (form S.Summary self.old.width) (P.store pages.old).map self.old.root) result pages.old pages.new }
         ensures inserted { P.is_tied pages.old → OnOk result (Changes
-            (form_of S.says S.unit S.join S.of S.WIDTH self.old.width) (P.store pages.old).map (P.store pages.new).map
+            (form S.Summary self.old.width) (P.store pages.old).map (P.store pages.new).map
             self.old.root self.new.root (with_cell cell.now)) }
         ensures found { P.is_tied pages.old → IfOk result (λ new. (cells : List (List ℕ)) (used : ℕ → ℕ)
-            → IsTree (form_of S.says S.unit S.join S.of S.WIDTH self.old.width) (P.store pages.old).map self.old.root cells used
+            → IsTree (form S.Summary self.old.width) (P.store pages.old).map self.old.root cells used
             → (IsTrue new ↔ (Contains cells cell.now → ⊥))) }
         ensures rests { P.is_tied pages.old → IfOk result (λ new. new ≡ false
             → SamePages (P.store pages.new).map (P.store pages.old).map) }
@@ -178,15 +177,14 @@ impl<S: Summary> Tree<S> {
     pub fn remove<P: Pages>(&mut self, pages: &mut P, cell: &[u8]) -> Result<bool, Refusal>
         requires begun { (P.store pages.old).is_begun ≡ true }
         ensures keeps { P.keeps pages.old pages.new }
-        ensures works { WorksAfter (P.is_tied pages.old → IsNotShared
-            (form_of S.says S.unit S.join S.of S.WIDTH self.old.width) (P.store pages.old).map self.old.root)
-            result (P.store pages.old) (P.store pages.new) }
+        ensures works { WorksOn P.Pages (IsNotShared
+            (form S.Summary self.old.width) (P.store pages.old).map self.old.root) result pages.old pages.new }
         ensures room { result ≢ Err Refusal.FileFull }
         ensures removed { P.is_tied pages.old → OnOk result (Changes
-            (form_of S.says S.unit S.join S.of S.WIDTH self.old.width) (P.store pages.old).map (P.store pages.new).map
+            (form S.Summary self.old.width) (P.store pages.old).map (P.store pages.new).map
             self.old.root self.new.root (without_cell cell.now)) }
         ensures found { P.is_tied pages.old → IfOk result (λ found. (cells : List (List ℕ)) (used others : ℕ → ℕ)
-            → IsTree (form_of S.says S.unit S.join S.of S.WIDTH self.old.width) (P.store pages.old).map self.old.root cells used
+            → IsTree (form S.Summary self.old.width) (P.store pages.old).map self.old.root cells used
             → Shares (P.store pages.old).map (used & others) → (IsTrue found ↔ Contains cells cell.now)) }
         ensures width { self.new.width ≡ self.old.width }
         ensures stays { OnErr result (self.new ≡ self.old) }
@@ -208,14 +206,13 @@ impl<S: Summary> Tree<S> {
         requires begun { (P.store pages.old).is_begun ≡ true }
         requires cell { length other.now ≡ self.old.width }
         ensures keeps { P.keeps pages.old pages.new }
-        ensures works { WorksAfter (P.is_tied pages.old → IsNotShared
-            (form_of S.says S.unit S.join S.of S.WIDTH self.old.width) (P.store pages.old).map self.old.root)
-            result (P.store pages.old) (P.store pages.new) }
+        ensures works { WorksOn P.Pages (IsNotShared
+            (form S.Summary self.old.width) (P.store pages.old).map self.old.root) result pages.old pages.new }
         ensures replaced { P.is_tied pages.old → OnOk result (Replaces
-            (form_of S.says S.unit S.join S.of S.WIDTH self.old.width) (P.store pages.old).map (P.store pages.new).map
+            (form S.Summary self.old.width) (P.store pages.old).map (P.store pages.new).map
             self.old.root self.new.root cell.now other.now) }
         ensures found { P.is_tied pages.old → IfOk result (λ found. (cells : List (List ℕ)) (used others : ℕ → ℕ)
-            → IsTree (form_of S.says S.unit S.join S.of S.WIDTH self.old.width) (P.store pages.old).map self.old.root cells used
+            → IsTree (form S.Summary self.old.width) (P.store pages.old).map self.old.root cells used
             → Shares (P.store pages.old).map (used & others) → (IsTrue found ↔ Contains cells cell.now)) }
         ensures width { self.new.width ≡ self.old.width }
         ensures stays { OnErr result (self.new ≡ self.old) }
@@ -230,12 +227,11 @@ impl<S: Summary> Tree<S> {
     pub fn clear<P: Pages>(&mut self, pages: &mut P) -> Result<(), Refusal>
         requires begun { (P.store pages.old).is_begun ≡ true }
         ensures keeps { P.keeps pages.old pages.new }
-        ensures works { WorksAfter (P.is_tied pages.old → IsNotShared
-            (form_of S.says S.unit S.join S.of S.WIDTH self.old.width) (P.store pages.old).map self.old.root)
-            result (P.store pages.old) (P.store pages.new) }
+        ensures works { WorksOn P.Pages (IsNotShared
+            (form S.Summary self.old.width) (P.store pages.old).map self.old.root) result pages.old pages.new }
         ensures room { result ≢ Err Refusal.FileFull }
         ensures cleared { P.is_tied pages.old → OnOk result (Changes
-            (form_of S.says S.unit S.join S.of S.WIDTH self.old.width) (P.store pages.old).map (P.store pages.new).map
+            (form S.Summary self.old.width) (P.store pages.old).map (P.store pages.new).map
             self.old.root self.new.root (λ _. [])) }
         ensures width { self.new.width ≡ self.old.width }
         ensures stays { OnErr result (self.new ≡ self.old) }

@@ -2,10 +2,10 @@
 
 ghost use Rattle.std.specs.Prelude.{◌≡◌, ◌++◌, IfOk, IfErr};
 ghost use Rattle.std.specs.Int.{w32, to_be_bytes};
-ghost use Rattle.rs_pages.specs.Lending.{RestsAfter};
 ghost use Rattle.rs_records.specs.Listed.{listed, record_width};
 ghost use Rattle.rs_tree.specs.Calls.{RefusesToRead};
 ghost use Rattle.rs_interval.specs.Finding.{event_form, FindsOverlapping};
+ghost use Rattle.rs_pages.specs.Calls.{OnlyReads};
 
 use crate::greatest_end::GreatestEnd;
 use rs_page::PageNumber;
@@ -28,7 +28,7 @@ pub fn overlapping<P: Pages>(
     b: u32,
 ) -> Result<(Cells, u32), Refusal>
     requires summary { layout.summary ≡ 4 }
-    ensures rests { RestsAfter P.is_tied P.store P.keeps result pages.old pages.new }
+    ensures rests { OnlyReads P.Pages result pages.old pages.new }
     ensures width { IfOk result (λ found. record_width found.0 ≡ layout.width) }
     ensures found { P.is_tied pages.old → IfOk result (λ found.
         FindsOverlapping layout.width (P.store pages.old).map root route a b (listed found.0) found.1) }

@@ -9,17 +9,20 @@ use Rattle.rs_page_owners.specs.Owners.{Shares, Moves}
 use Rattle.rs_tree.specs.Form.{Form}
 use Rattle.rs_tree.specs.Tree.{IsTree, IsNoTree}
 use Rattle.rs_tree.specs.Cells.{cells_within}
+use Rattle.rs_tree.specs.Leading.{pages_leading}
 
 -- why a call that reads a tree is refused: want of memory, a call of the disk that failed, or no tree stands there
 pub record RefusesToRead (tied : Type 0) (form : Form) (root : ℕ) (why : Refusal) (old new : Store) : Type 0 where
   pub cause : (why ≡ refusal.OutOfMemory) ⊎ (why ≡ refusal.Disk) ⊎ ((why ≡ refusal.DamagedFile) × (tied → IsNoTree form old.map root))
   pub count : CountsFailure why old new
 
--- what was found: where a tree stands, just its cells within the bounds that pass the test, by no more reads of pages than
--- two for each level and as many more for each cell
+-- what was found: where a tree stands, just its cells within the bounds that pass the test. At least the root and each page
+-- that leads to one of them was read, and no more pages than two for each level and as many more for each cell
 pub record Finds (form : Form) (pages : PageMap) (root : ℕ) (low high : List ℕ) (passes : List ℕ → Bool) (found : List (List ℕ)) (reads : ℕ) : Type 0 where
   pub exact : (cells : List (List ℕ)) (used : ℕ → ℕ) → IsTree form pages root cells used → found ≡ filter passes (cells_within low high cells)
   pub bounded : (cells : List (List ℕ)) (used : ℕ → ℕ) (tree : IsTree form pages root cells used) → reads ≤ tree.height * (length found + 2)
+  pub least : (cells : List (List ℕ)) (used : ℕ → ℕ) (tree : IsTree form pages root cells used)
+      → pages_leading low high passes form pages tree.height root cells used tree.stands ≤ reads
 
 -- a test of summaries accepts a join exactly where it accepts a part
 pub record AcceptsParts {S : Type 0} (join : S → S → S) (test : S → Bool) : Type 0 where

@@ -2,13 +2,13 @@
 
 ghost use Rattle.std.specs.Prelude.{◌≡◌, ℕ, Bool, List, IfOk, IfErr};
 ghost use Rattle.std.specs.Fn.{FnReturnsAt};
-ghost use Rattle.rs_pages.specs.Lending.{RestsAfter};
 ghost use Rattle.rs_records.specs.Listed.{listed, record_width};
 ghost use Rattle.rs_tree.specs.Calls.{AcceptsParts, Finds, RefusesToRead};
 ghost use Rattle.rs_tree.specs.Cells.{cells_within};
-ghost use Rattle.rs_tree.specs.Form.{form_of};
 ghost use Rattle.rs_tree.specs.Tree.{IsTree};
 ghost use Rattle.rs_tree.specs.Asking.{Computes};
+ghost use Rattle.rs_tree.specs.Forms.{form_in};
+ghost use Rattle.rs_pages.specs.Calls.{OnlyReads};
 
 use crate::walk::walk;
 use crate::{Layout, Summary};
@@ -35,14 +35,14 @@ pub fn descend<P: Pages, S: Summary, F: Fn(&S) -> bool>(
 ) -> Result<(Cells, u32), Refusal>
     requires callable { F.IsAlwaysCallable keep.now }
     requires summary { layout.summary ≡ S.WIDTH }
-    ensures rests { RestsAfter P.is_tied P.store P.keeps result pages.old pages.new }
+    ensures rests { OnlyReads P.Pages result pages.old pages.new }
     ensures width { IfOk result (λ found. record_width found.0 ≡ layout.width) }
     ensures found { P.is_tied pages.old → (test : S → Bool) → Computes (FnReturnsAt F.Fn keep.now) test
         → AcceptsParts S.join test
-        → IfOk result (λ found. Finds (form_of S.says S.unit S.join S.of layout.summary layout.width)
+        → IfOk result (λ found. Finds (form_in S.Summary layout)
         (P.store pages.old).map root low.now high.now (λ cell. test (S.of cell)) (listed found.0) found.1) }
     ensures refused { IfErr result (λ why. RefusesToRead (P.is_tied pages.old)
-        (form_of S.says S.unit S.join S.of layout.summary layout.width) root why
+        (form_in S.Summary layout) root why
         (P.store pages.old) (P.store pages.new)) }
 {
     let mut cells = Cells::new(alloc, layout.width);
@@ -67,13 +67,13 @@ pub fn range<P: Pages, S: Summary>(
     high: &[u8],
 ) -> Result<Cells, Refusal>
     requires summary { layout.summary ≡ S.WIDTH }
-    ensures rests { RestsAfter P.is_tied P.store P.keeps result pages.old pages.new }
+    ensures rests { OnlyReads P.Pages result pages.old pages.new }
     ensures width { IfOk result (λ found. record_width found ≡ layout.width) }
     ensures found { P.is_tied pages.old → IfOk result (λ found. (cells : List (List ℕ)) (used : ℕ → ℕ)
-        → IsTree (form_of S.says S.unit S.join S.of layout.summary layout.width) (P.store pages.old).map root cells used
+        → IsTree (form_in S.Summary layout) (P.store pages.old).map root cells used
         → listed found ≡ cells_within low.now high.now cells) }
     ensures refused { IfErr result (λ why. RefusesToRead (P.is_tied pages.old)
-        (form_of S.says S.unit S.join S.of layout.summary layout.width) root why
+        (form_in S.Summary layout) root why
         (P.store pages.old) (P.store pages.new)) }
 {
     let all = |_: &S| true;

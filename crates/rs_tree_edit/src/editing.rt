@@ -1,13 +1,13 @@
 //! Records of a working page put in the place of others.
 
 ghost use Rattle.std.specs.Prelude.{◌≡◌, ◌≢◌, ◌≤◌, ◌<◌, ◌+◌, ◌-◌, ◌*◌, None, true, IfErr, OnOk, length, Err};
-ghost use Rattle.rs_page_owners.specs.Changes.{WorksAfter};
 ghost use Rattle.rs_page.specs.Header.{page_kind};
 ghost use Rattle.rs_pages.specs.PageMap.{HasNoFit};
 ghost use Rattle.rs_pages.specs.Uses.{HoldsUsed};
 ghost use Rattle.rs_records.specs.Records.{records};
 ghost use Rattle.rs_tree.specs.Content.{tree_header};
 ghost use Rattle.rs_tree_edit.specs.Editing.{Splices};
+ghost use Rattle.rs_page_owners.specs.Calls.{WorksOn};
 
 use rs_page::{ContentKind, PageHeader, PageNumber};
 use rs_pages::Pages;
@@ -35,8 +35,7 @@ pub fn edit_page<P: Pages>(
     requires whole { length added.now ≡ more * width }
     requires room { (count - removed + more) * width ≤ 4080 }
     ensures keeps { P.keeps pages.old pages.new }
-    ensures works { WorksAfter (P.is_tied pages.old → HasNoFit (P.store pages.old).map number) result
-        (P.store pages.old) (P.store pages.new) }
+    ensures works { WorksOn P.Pages (HasNoFit (P.store pages.old).map number) result pages.old pages.new }
     ensures room { result ≢ Err Refusal.FileFull }
     ensures edited { P.is_tied pages.old → OnOk result (Splices (P.store pages.old).map (P.store pages.new).map number
         (page_kind kind) width count at removed (records more width added.now)) }
@@ -50,7 +49,7 @@ pub fn edit_page<P: Pages>(
 }
 
 /// The header of a page of so many records.
-fn header_of(kind: ContentKind, number: PageNumber, count: usize, width: usize) -> PageHeader
+pub fn header_of(kind: ContentKind, number: PageNumber, count: usize, width: usize) -> PageHeader
     requires wide { 0 < width }
     requires room { count * width ≤ 4080 }
     ensures { result ≡ tree_header (page_kind kind) count number }

@@ -1,15 +1,16 @@
 //! The path of a cell: down to its leaf, and up again.
 
 ghost use Rattle.std.specs.Prelude.{◌≡◌, ◌⊎◌, ◌<◌, ◌≤◌, ◌*◌, ℕ, List, Some, true, false, [], ◌∷◌, IfOk, IsTrue, length, take, drop, slice_get};
-ghost use Rattle.rs_page_owners.specs.Changes.{WorksAfter};
 ghost use Rattle.rs_pages.specs.PageMap.{SamePages};
 ghost use Rattle.rs_records.specs.Records.{records};
 ghost use Rattle.rs_tree.specs.Content.{content};
-ghost use Rattle.rs_tree.specs.Form.{child_bytes, form_of};
+ghost use Rattle.rs_tree.specs.Form.{child_bytes};
 ghost use Rattle.rs_tree.specs.Layouts.{entry_bytes};
+ghost use Rattle.rs_tree.specs.Forms.{form_in};
 ghost use Rattle.rs_tree_insert.specs.Finding.{BelongsAt, BelongsUnder};
 ghost use Rattle.rs_tree_insert.specs.Inserting.{HasNoShared, HasNoTops, PutsBelow, TellsBelow, WritesAbove, tops};
 ghost use Rattle.rs_tree_insert.specs.Writing.{IsBroken, is_found};
+ghost use Rattle.rs_page_owners.specs.Calls.{WorksOn};
 
 use crate::answer::Put;
 use crate::entries::{ONE_ENTRY, TWO_ENTRIES, write_entries};
@@ -37,14 +38,12 @@ pub fn insert_below<P: Pages, S: Summary>(
     requires summary { layout.summary ≡ S.WIDTH }
     requires width { length cell.now ≡ layout.width }
     ensures keeps { P.keeps pages.old pages.new }
-    ensures works { WorksAfter (P.is_tied pages.old
-        → HasNoShared (form_of S.says S.unit S.join S.of layout.summary layout.width) (P.store pages.old).map number levels)
-        result (P.store pages.old) (P.store pages.new) }
+    ensures works { WorksOn P.Pages (HasNoShared (form_in S.Summary layout) (P.store pages.old).map number levels) result pages.old pages.new }
     ensures puts { P.is_tied pages.old → IfOk result (λ put.
-        PutsBelow (form_of S.says S.unit S.join S.of layout.summary layout.width) (P.store pages.old).map (P.store pages.new).map
+        PutsBelow (form_in S.Summary layout) (P.store pages.old).map (P.store pages.new).map
         number cell.now put) }
     ensures found { P.is_tied pages.old → IfOk result (λ put.
-        TellsBelow (form_of S.says S.unit S.join S.of layout.summary layout.width) (P.store pages.old).map number cell.now put) }
+        TellsBelow (form_in S.Summary layout) (P.store pages.old).map number cell.now put) }
     ensures same { P.is_tied pages.old → IfOk result (λ put. is_found put ≡ true
         → SamePages (P.store pages.new).map (P.store pages.old).map) }
 {
@@ -82,11 +81,10 @@ fn insert_here<P: Pages, S: Summary>(
     requires fit { count * layout.width ≤ 4080 }
     requires at { at ≤ count }
     ensures keeps { P.keeps pages.old pages.new }
-    ensures works { WorksAfter (P.is_tied pages.old → IsBroken (P.store pages.old).map number)
-        result (P.store pages.old) (P.store pages.new) }
+    ensures works { WorksOn P.Pages (IsBroken (P.store pages.old).map number) result pages.old pages.new }
     ensures puts { P.is_tied pages.old → (page : List ℕ) → (P.store pages.old).map.page number ≡ Some page
         → BelongsAt page number layout cell.now count at → IfOk result (λ put.
-        PutsBelow (form_of S.says S.unit S.join S.of layout.summary layout.width) (P.store pages.old).map (P.store pages.new).map
+        PutsBelow (form_in S.Summary layout) (P.store pages.old).map (P.store pages.new).map
         number cell.now put) }
     ensures placed { IfOk result (λ put. is_found put ≡ false) }
 {
@@ -126,16 +124,15 @@ fn insert_under<P: Pages, S: Summary>(
     requires at { at < count }
     requires entry { length entry.now ≡ entry_bytes layout }
     ensures keeps { P.keeps pages.old pages.new }
-    ensures works { WorksAfter (P.is_tied pages.old → (page : List ℕ) → (P.store pages.old).map.page number ≡ Some page
-        → BelongsUnder page number layout cell.now entry.now count at → HasNoShared (form_of S.says S.unit S.join S.of layout.summary layout.width) (P.store pages.old).map number levels)
-        result (P.store pages.old) (P.store pages.new) }
+    ensures works { WorksOn P.Pages ((page : List ℕ) → (P.store pages.old).map.page number ≡ Some page
+        → BelongsUnder page number layout cell.now entry.now count at → HasNoShared (form_in S.Summary layout) (P.store pages.old).map number levels) result pages.old pages.new }
     ensures puts { P.is_tied pages.old → (page : List ℕ) → (P.store pages.old).map.page number ≡ Some page
         → BelongsUnder page number layout cell.now entry.now count at → IfOk result (λ put.
-        PutsBelow (form_of S.says S.unit S.join S.of layout.summary layout.width) (P.store pages.old).map (P.store pages.new).map
+        PutsBelow (form_in S.Summary layout) (P.store pages.old).map (P.store pages.new).map
         number cell.now put) }
     ensures found { P.is_tied pages.old → (page : List ℕ) → (P.store pages.old).map.page number ≡ Some page
         → BelongsUnder page number layout cell.now entry.now count at → IfOk result (λ put.
-        TellsBelow (form_of S.says S.unit S.join S.of layout.summary layout.width) (P.store pages.old).map number cell.now put) }
+        TellsBelow (form_in S.Summary layout) (P.store pages.old).map number cell.now put) }
     ensures same { P.is_tied pages.old → IfOk result (λ put. is_found put ≡ true
         → SamePages (P.store pages.new).map (P.store pages.old).map) }
 {
@@ -178,14 +175,12 @@ fn write_above<P: Pages, S: Summary>(
     requires at { at < count }
     requires entry { length entry.now ≡ entry_bytes layout }
     ensures keeps { P.keeps pages.old pages.new }
-    ensures works { WorksAfter (P.is_tied pages.old
-        → HasNoTops (form_of S.says S.unit S.join S.of layout.summary layout.width) (P.store pages.old).map (tops below put)
-        ⊎ IsBroken (P.store pages.old).map number)
-        result (P.store pages.old) (P.store pages.new) }
+    ensures works { WorksOn P.Pages (HasNoTops (form_in S.Summary layout) (P.store pages.old).map (tops below put)
+        ⊎ IsBroken (P.store pages.old).map number) result pages.old pages.new }
     ensures placed { IfOk result (λ above. is_found above ≡ false) }
     ensures above { P.is_tied pages.old → (page : List ℕ) → (P.store pages.old).map.page number ≡ Some page
         → slice_get (records count (entry_bytes layout) (content page)) at ≡ Some entry.now → IfOk result (λ above.
-        WritesAbove (form_of S.says S.unit S.join S.of layout.summary layout.width) (P.store pages.old).map
+        WritesAbove (form_in S.Summary layout) (P.store pages.old).map
         (P.store pages.new).map number page count at (tops below put) above) }
 {
     let width = layout.entry_width();

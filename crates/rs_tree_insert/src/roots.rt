@@ -1,15 +1,15 @@
 //! A cell put into a whole tree, from its root.
 
 ghost use Rattle.std.specs.Prelude.{◌≡◌, ◌⊎◌, ◌↔◌, ℕ, true, false, List, Contains, IsTrue, IfOk, length};
-ghost use Rattle.rs_page_owners.specs.Changes.{WorksAfter};
 ghost use Rattle.rs_pages.specs.PageMap.{SamePages};
 ghost use Rattle.rs_tree.specs.Calls.{Changes, IsNotShared};
 ghost use Rattle.rs_tree.specs.Cells.{with_cell};
-ghost use Rattle.rs_tree.specs.Form.{form_of};
 ghost use Rattle.rs_tree.specs.Tree.{IsTree};
+ghost use Rattle.rs_tree.specs.Forms.{form_in};
 ghost use Rattle.rs_tree_insert.specs.Inserting.{AddsAbove, HasNoTops, tops};
 ghost use Rattle.rs_tree_insert.specs.declared.answer.Put.TheVariants as put;
 ghost use Rattle.rs_tree_edit.specs.Editing.{HasNoFreeList};
+ghost use Rattle.rs_page_owners.specs.Calls.{WorksOn};
 
 use crate::answer::Put;
 use crate::entries::{TWO_ENTRIES, write_entries};
@@ -40,14 +40,12 @@ pub fn insert<P: Pages, S: Summary>(
     requires summary { layout.summary ≡ S.WIDTH }
     requires width { length cell.now ≡ layout.width }
     ensures keeps { P.keeps pages.old pages.new }
-    ensures works { WorksAfter (P.is_tied pages.old
-        → IsNotShared (form_of S.says S.unit S.join S.of layout.summary layout.width) (P.store pages.old).map root)
-        result (P.store pages.old) (P.store pages.new) }
+    ensures works { WorksOn P.Pages (IsNotShared (form_in S.Summary layout) (P.store pages.old).map root) result pages.old pages.new }
     ensures inserted { P.is_tied pages.old → IfOk result (λ answer.
-        Changes (form_of S.says S.unit S.join S.of layout.summary layout.width) (P.store pages.old).map (P.store pages.new).map
+        Changes (form_in S.Summary layout) (P.store pages.old).map (P.store pages.new).map
         root answer.root (with_cell cell.now)) }
     ensures found { P.is_tied pages.old → IfOk result (λ answer. (cells : List (List ℕ)) (used : ℕ → ℕ)
-        → IsTree (form_of S.says S.unit S.join S.of layout.summary layout.width) (P.store pages.old).map root cells used
+        → IsTree (form_in S.Summary layout) (P.store pages.old).map root cells used
         → (IsTrue answer.new ↔ (Contains cells cell.now → ⊥))) }
     ensures rests { P.is_tied pages.old → IfOk result (λ answer. answer.new ≡ false
         → SamePages (P.store pages.new).map (P.store pages.old).map) }
@@ -79,12 +77,10 @@ fn add_root<P: Pages, S: Summary>(
     requires begun { (P.store pages.old).is_begun ≡ true }
     requires summary { layout.summary ≡ S.WIDTH }
     ensures keeps { P.keeps pages.old pages.new }
-    ensures works { WorksAfter (P.is_tied pages.old
-        → HasNoTops (form_of S.says S.unit S.join S.of layout.summary layout.width) (P.store pages.old).map
-        (tops first (put.Split second)) ⊎ HasNoFreeList (P.store pages.old).map)
-        result (P.store pages.old) (P.store pages.new) }
+    ensures works { WorksOn P.Pages (HasNoTops (form_in S.Summary layout) (P.store pages.old).map
+        (tops first (put.Split second)) ⊎ HasNoFreeList (P.store pages.old).map) result pages.old pages.new }
     ensures above { P.is_tied pages.old → IfOk result (λ root.
-        AddsAbove (form_of S.says S.unit S.join S.of layout.summary layout.width) (P.store pages.old).map
+        AddsAbove (form_in S.Summary layout) (P.store pages.old).map
         (P.store pages.new).map root (tops first (put.Split second))) }
 {
     let mut entries = [0; TWO_ENTRIES];

@@ -1,20 +1,20 @@
 //! Records that fit no page, put into two.
 
 ghost use Rattle.std.specs.Prelude.{◌≡◌, ◌≤◌, ◌<◌, ◌+◌, ◌-◌, ◌*◌, ℕ, List, Some, true, IfOk, OnOk, length, take};
-ghost use Rattle.rs_page_owners.specs.Changes.{WorksAfter};
 ghost use Rattle.rs_page.specs.Header.{page_kind};
 ghost use Rattle.rs_pages.specs.PageMap.{HasNoFit};
 ghost use Rattle.rs_records.specs.Records.{records};
-ghost use Rattle.rs_tree.specs.Content.{content, tree_header};
+ghost use Rattle.rs_tree.specs.Content.{content};
 ghost use Rattle.rs_tree_edit.specs.Editing.{Splices};
 ghost use Rattle.rs_tree_insert.specs.Writing.{IsBroken, SplitsPage, spliced};
+ghost use Rattle.rs_page_owners.specs.Calls.{WorksOn};
 
-use rs_page::{ContentKind, Page, PageHeader, PageNumber};
+use rs_page::{ContentKind, Page, PageNumber};
 use rs_pages::Pages;
 use rs_records::splice;
 use rs_refusal::Refusal;
 use rs_tree::{content, splice_page};
-use rs_tree_edit::add_page;
+use rs_tree_edit::{add_page, header_of};
 
 /// The bytes that two pages have for records.
 const TWO_PAGES: usize = 2 * 4080;
@@ -42,8 +42,7 @@ pub fn split_page<P: Pages>(
     requires whole { length added.now ≡ more * width }
     requires full { 4080 < (count - removed + more) * width }
     ensures keeps { P.keeps pages.old pages.new }
-    ensures works { WorksAfter (P.is_tied pages.old → IsBroken (P.store pages.old).map number) result
-        (P.store pages.old) (P.store pages.new) }
+    ensures works { WorksOn P.Pages (IsBroken (P.store pages.old).map number) result pages.old pages.new }
     ensures splits { P.is_tied pages.old → (page : List ℕ) → (P.store pages.old).map.page number ≡ Some page
         → IfOk result (λ other. SplitsPage (P.store pages.old).map (P.store pages.new).map number other (page_kind kind)
         width (spliced (records count width (content page)) at removed (records more width added.now))) }
@@ -97,8 +96,7 @@ fn keep_first<P: Pages>(
     requires first { first * width ≤ 4080 }
     requires size { length both.old ≡ 8160 }
     ensures keeps { P.keeps pages.old pages.new }
-    ensures works { WorksAfter (P.is_tied pages.old → HasNoFit (P.store pages.old).map number) result
-        (P.store pages.old) (P.store pages.new) }
+    ensures works { WorksOn P.Pages (HasNoFit (P.store pages.old).map number) result pages.old pages.new }
     ensures edited { P.is_tied pages.old → OnOk result (Splices (P.store pages.old).map (P.store pages.new).map number
         (page_kind kind) width count 0 count (records first width (take (first * width) both.new))) }
     ensures both { P.is_tied pages.old → (page : List ℕ) → (P.store pages.old).map.page number ≡ Some page
@@ -110,20 +108,6 @@ fn keep_first<P: Pages>(
     splice_beside(page, both, width, count, at, removed, more, added);
     splice_page(page, header, width, count, 0, count, &both[..first * width]);
     Ok(())
-}
-
-/// The header of a page of so many records.
-fn header_of(kind: ContentKind, number: PageNumber, count: usize, width: usize) -> PageHeader
-    requires wide { 0 < width }
-    requires room { count * width ≤ 4080 }
-    ensures { result ≡ tree_header (page_kind kind) count number }
-{
-    PageHeader {
-        kind: kind.kind(),
-        count: count as u16,
-        number,
-        next: PageNumber::new(0),
-    }
 }
 
 /// Copies the records of a page to the beginning of other bytes, and puts records in the place of some there.

@@ -1,10 +1,10 @@
 //! Records of a page put in the place of others, in one page or two.
 
 ghost use Rattle.std.specs.Prelude.{◌≡◌, ◌≤◌, ◌<◌, ◌+◌, ◌*◌, ℕ, List, Some, true, false, IfOk, length};
-ghost use Rattle.rs_page_owners.specs.Changes.{WorksAfter};
 ghost use Rattle.rs_page.specs.Header.{page_kind};
 ghost use Rattle.rs_records.specs.Records.{records};
 ghost use Rattle.rs_tree_insert.specs.Writing.{IsBroken, PutsRecords, is_found};
+ghost use Rattle.rs_page_owners.specs.Calls.{WorksOn};
 
 use crate::answer::Put;
 use crate::splitting::split_page;
@@ -35,8 +35,7 @@ pub fn put_records<P: Pages>(
     requires one_more { more ≤ removed + 1 }
     requires whole { length added.now ≡ more * width }
     ensures keeps { P.keeps pages.old pages.new }
-    ensures works { WorksAfter (P.is_tied pages.old → IsBroken (P.store pages.old).map number) result
-        (P.store pages.old) (P.store pages.new) }
+    ensures works { WorksOn P.Pages (IsBroken (P.store pages.old).map number) result pages.old pages.new }
     ensures placed { IfOk result (λ put. is_found put ≡ false) }
     ensures puts { P.is_tied pages.old → (page : List ℕ) → (P.store pages.old).map.page number ≡ Some page
         → IfOk result (λ put. PutsRecords (P.store pages.old).map (P.store pages.new).map number page

@@ -17,7 +17,7 @@ use Rattle.rs_tree.specs.Form.{Form}
 use Rattle.rs_tree.specs.Shape.{Shape, child_of}
 use Rattle.rs_tree.specs.Walking.{IsPart}
 use Rattle.rs_tree_edit.proofs.Replacing.{used_there}
-use Rattle.rs_tree_edit.proofs.Working.{Rests-works}
+use Rattle.rs_page_owners.proofs.Working.{Rests-works}
 
 -- the page with this number is in use and fits its number, and is one of the file's
 pub record IsLent (map : PageMap) (number : ℕ) : Type 0 where

@@ -1,10 +1,10 @@
 //! An inner page whose parts gave way to fewer, or to others.
 
 ghost use Rattle.std.specs.Prelude.{◌≡◌, ◌≢◌, ◌≤◌, ◌<◌, ◌+◌, ◌-◌, ◌*◌, true, [], ◌∷◌, IfOk, OnOk, length, Err};
-ghost use Rattle.rs_page_owners.specs.Changes.{WorksAfter};
-ghost use Rattle.rs_tree.specs.Form.{form_of};
 ghost use Rattle.rs_tree.specs.Layouts.{entry_bytes};
+ghost use Rattle.rs_tree.specs.Forms.{form_in};
 ghost use Rattle.rs_tree_remove.specs.Finishing.{CantRenew, Finishes, NoneGaveWay, Renews};
+ghost use Rattle.rs_page_owners.specs.Calls.{WorksOn};
 
 use crate::answer::Removed;
 use rs_page::{ContentKind, Page, PageNumber};
@@ -30,11 +30,11 @@ pub fn drop_entry<P: Pages, S: Summary>(
     requires two { 2 ≤ count }
     requires inside { at < count }
     ensures keeps { P.keeps pages.old pages.new }
-    ensures works { WorksAfter (P.is_tied pages.old → NoneGaveWay (form_of S.says S.unit S.join S.of layout.summary layout.width)
-        (P.store pages.old).map number page.now.bytes count at 1 []) result (P.store pages.old) (P.store pages.new) }
+    ensures works { WorksOn P.Pages (NoneGaveWay (form_in S.Summary layout)
+        (P.store pages.old).map number page.now.bytes count at 1 []) result pages.old pages.new }
     ensures room { result ≢ Err Refusal.FileFull }
     ensures finishes { P.is_tied pages.old → IfOk result (Finishes
-        (form_of S.says S.unit S.join S.of layout.summary layout.width) (P.store pages.old).map (P.store pages.new).map number
+        (form_in S.Summary layout) (P.store pages.old).map (P.store pages.new).map number
         page.now.bytes count at 1 []) }
     ensures kept { 2 < count → IfOk result (λ answer. answer ≡ Removed.Kept) }
 {
@@ -76,12 +76,11 @@ pub fn renew_entry<P: Pages, S: Summary>(
     requires inside { at + removed ≤ count }
     requires room { (count - removed + 1) * entry_bytes layout ≤ 4080 }
     ensures keeps { P.keeps pages.old pages.new }
-    ensures works { WorksAfter (P.is_tied pages.old → NoneGaveWay (form_of S.says S.unit S.join S.of layout.summary layout.width)
-        (P.store pages.old).map number page.now.bytes count at removed (top ∷ [])) result
-        (P.store pages.old) (P.store pages.new) }
+    ensures works { WorksOn P.Pages (NoneGaveWay (form_in S.Summary layout)
+        (P.store pages.old).map number page.now.bytes count at removed (top ∷ [])) result pages.old pages.new }
     ensures room { result ≢ Err Refusal.FileFull }
     ensures finishes { P.is_tied pages.old → IfOk result (Finishes
-        (form_of S.says S.unit S.join S.of layout.summary layout.width) (P.store pages.old).map (P.store pages.new).map number
+        (form_in S.Summary layout) (P.store pages.old).map (P.store pages.new).map number
         page.now.bytes count at removed (top ∷ [])) }
     ensures kept { removed < count → IfOk result (λ answer. answer ≡ Removed.Kept) }
 {
@@ -119,12 +118,11 @@ pub fn renew_two<P: Pages, S: Summary>(
     requires fit { count * entry_bytes layout ≤ 4080 }
     requires inside { at + 2 ≤ count }
     ensures keeps { P.keeps pages.old pages.new }
-    ensures works { WorksAfter (P.is_tied pages.old → NoneGaveWay (form_of S.says S.unit S.join S.of layout.summary layout.width)
-        (P.store pages.old).map number page.now.bytes count at 2 (first ∷ second ∷ [])) result
-        (P.store pages.old) (P.store pages.new) }
+    ensures works { WorksOn P.Pages (NoneGaveWay (form_in S.Summary layout)
+        (P.store pages.old).map number page.now.bytes count at 2 (first ∷ second ∷ [])) result pages.old pages.new }
     ensures room { result ≢ Err Refusal.FileFull }
     ensures finishes { P.is_tied pages.old → OnOk result (Finishes
-        (form_of S.says S.unit S.join S.of layout.summary layout.width) (P.store pages.old).map (P.store pages.new).map number
+        (form_in S.Summary layout) (P.store pages.old).map (P.store pages.new).map number
         page.now.bytes count at 2 (first ∷ second ∷ []) Removed.Kept) }
 {
     let mut buffer = [0; 1_360];
@@ -169,11 +167,10 @@ fn renew<P: Pages, S: Summary>(
     requires inside { at + removed ≤ count }
     requires room { (count - removed + 1) * entry_bytes layout ≤ 4080 }
     ensures keeps { P.keeps pages.old pages.new }
-    ensures works { WorksAfter (P.is_tied pages.old → CantRenew (P.store pages.old).map number top layout) result
-        (P.store pages.old) (P.store pages.new) }
+    ensures works { WorksOn P.Pages (CantRenew (P.store pages.old).map number top layout) result pages.old pages.new }
     ensures room { result ≢ Err Refusal.FileFull }
     ensures renews { P.is_tied pages.old → OnOk result (Renews
-        (form_of S.says S.unit S.join S.of layout.summary layout.width) (P.store pages.old).map (P.store pages.new).map number
+        (form_in S.Summary layout) (P.store pages.old).map (P.store pages.new).map number
         count at removed top) }
 {
     write_entry_of::<P, S>(pages, layout, top, entry)?;

@@ -1,11 +1,11 @@
 //! The page with one part left and its neighbour: one takes in what is below the other, or both have two parts at least.
 
 ghost use Rattle.std.specs.Prelude.{◌≡◌, ◌≢◌, ◌≤◌, ◌<◌, ◌+◌, ◌*◌, true, IfOk, Err};
-ghost use Rattle.rs_page_owners.specs.Changes.{WorksAfter};
-ghost use Rattle.rs_tree.specs.Form.{form_of};
 ghost use Rattle.rs_tree.specs.Layouts.{entry_bytes};
 ghost use Rattle.rs_tree.specs.Node.{IsNode};
+ghost use Rattle.rs_tree.specs.Forms.{form_in};
 ghost use Rattle.rs_tree_remove.specs.Mending.{Mends, NoneLonely, Pairs, NonePairs};
+ghost use Rattle.rs_page_owners.specs.Calls.{WorksOn};
 
 use crate::Removed;
 use crate::finishing::{drop_entry, renew_entry, renew_two};
@@ -34,11 +34,11 @@ pub fn mend<P: Pages, S: Summary>(
     requires node { IsNode page.now.bytes number layout (Node.Inner count) }
     requires inside { index < count }
     ensures keeps { P.keeps pages.old pages.new }
-    ensures works { WorksAfter (P.is_tied pages.old → NoneLonely (form_of S.says S.unit S.join S.of layout.summary layout.width)
-        (P.store pages.old).map number page.now.bytes index lonely only) result (P.store pages.old) (P.store pages.new) }
+    ensures works { WorksOn P.Pages (NoneLonely (form_in S.Summary layout)
+        (P.store pages.old).map number page.now.bytes index lonely only) result pages.old pages.new }
     ensures room { result ≢ Err Refusal.FileFull }
     ensures mends { P.is_tied pages.old → IfOk result (Mends
-        (form_of S.says S.unit S.join S.of layout.summary layout.width) (P.store pages.old).map (P.store pages.new).map number
+        (form_in S.Summary layout) (P.store pages.old).map (P.store pages.new).map number
         page.now.bytes index lonely only) }
 {
     let (is_first, at, near) = neighbour(index, count);
@@ -85,12 +85,11 @@ fn even<P: Pages, S: Summary>(
     requires near_fit { size * entry_bytes layout ≤ 4080 }
     requires two { 2 ≤ size }
     ensures keeps { P.keeps pages.old pages.new }
-    ensures works { WorksAfter (P.is_tied pages.old → NonePairs (form_of S.says S.unit S.join S.of layout.summary layout.width)
-        (P.store pages.old).map number page.now.bytes count at is_first lonely only other near.now.bytes size) result
-        (P.store pages.old) (P.store pages.new) }
+    ensures works { WorksOn P.Pages (NonePairs (form_in S.Summary layout)
+        (P.store pages.old).map number page.now.bytes count at is_first lonely only other near.now.bytes size) result pages.old pages.new }
     ensures room { result ≢ Err Refusal.FileFull }
     ensures pairs { P.is_tied pages.old → IfOk result (Pairs
-        (form_of S.says S.unit S.join S.of layout.summary layout.width) (P.store pages.old).map (P.store pages.new).map number
+        (form_in S.Summary layout) (P.store pages.old).map (P.store pages.new).map number
         page.now.bytes count at is_first lonely only other near.now.bytes size) }
 {
     if size == 2 {
@@ -123,12 +122,11 @@ fn join<P: Pages, S: Summary>(
     requires fit { count * entry_bytes layout ≤ 4080 }
     requires inside { at + 2 ≤ count }
     ensures keeps { P.keeps pages.old pages.new }
-    ensures works { WorksAfter (P.is_tied pages.old → NonePairs (form_of S.says S.unit S.join S.of layout.summary layout.width)
-        (P.store pages.old).map number page.now.bytes count at is_first lonely only other near.now.bytes 2) result
-        (P.store pages.old) (P.store pages.new) }
+    ensures works { WorksOn P.Pages (NonePairs (form_in S.Summary layout)
+        (P.store pages.old).map number page.now.bytes count at is_first lonely only other near.now.bytes 2) result pages.old pages.new }
     ensures room { result ≢ Err Refusal.FileFull }
     ensures pairs { P.is_tied pages.old → IfOk result (Pairs
-        (form_of S.says S.unit S.join S.of layout.summary layout.width) (P.store pages.old).map (P.store pages.new).map number
+        (form_in S.Summary layout) (P.store pages.old).map (P.store pages.new).map number
         page.now.bytes count at is_first lonely only other near.now.bytes 2) }
 {
     let _fits = layout.entry_width();
@@ -160,12 +158,11 @@ fn share<P: Pages, S: Summary>(
     requires near_fit { size * entry_bytes layout ≤ 4080 }
     requires more { 2 < size }
     ensures keeps { P.keeps pages.old pages.new }
-    ensures works { WorksAfter (P.is_tied pages.old → NonePairs (form_of S.says S.unit S.join S.of layout.summary layout.width)
-        (P.store pages.old).map number page.now.bytes count at is_first lonely only other near.now.bytes size) result
-        (P.store pages.old) (P.store pages.new) }
+    ensures works { WorksOn P.Pages (NonePairs (form_in S.Summary layout)
+        (P.store pages.old).map number page.now.bytes count at is_first lonely only other near.now.bytes size) result pages.old pages.new }
     ensures room { result ≢ Err Refusal.FileFull }
     ensures pairs { P.is_tied pages.old → IfOk result (Pairs
-        (form_of S.says S.unit S.join S.of layout.summary layout.width) (P.store pages.old).map (P.store pages.new).map number
+        (form_in S.Summary layout) (P.store pages.old).map (P.store pages.new).map number
         page.now.bytes count at is_first lonely only other near.now.bytes size) }
 {
     let place = end(is_first, size - 1);

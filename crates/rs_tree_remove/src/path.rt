@@ -1,10 +1,10 @@
 //! The path of a cell: down to its leaf, and up again.
 
 ghost use Rattle.std.specs.Prelude.{◌≡◌, ◌≢◌, ◌≤◌, ◌<◌, Some, true, IfOk, Err};
-ghost use Rattle.rs_page_owners.specs.Changes.{WorksAfter};
-ghost use Rattle.rs_tree.specs.Form.{form_of};
 ghost use Rattle.rs_tree.specs.Node.{IsNode};
+ghost use Rattle.rs_tree.specs.Forms.{form_in};
 ghost use Rattle.rs_tree_remove.specs.Leaving.{RemovesPart, HasNoOwnPart};
+ghost use Rattle.rs_page_owners.specs.Calls.{WorksOn};
 
 use crate::finishing::{drop_entry, renew_entry};
 use crate::leaf::remove_from_leaf;
@@ -29,12 +29,10 @@ pub fn remove_below<P: Pages, S: Summary>(
     requires begun { (P.store pages.old).is_begun ≡ true }
     requires summary { layout.summary ≡ S.WIDTH }
     ensures keeps { P.keeps pages.old pages.new }
-    ensures works { WorksAfter (P.is_tied pages.old
-        → HasNoOwnPart (form_of S.says S.unit S.join S.of layout.summary layout.width) (P.store pages.old).map number levels)
-        result (P.store pages.old) (P.store pages.new) }
+    ensures works { WorksOn P.Pages (HasNoOwnPart (form_in S.Summary layout) (P.store pages.old).map number levels) result pages.old pages.new }
     ensures room { result ≢ Err Refusal.FileFull }
     ensures removed { P.is_tied pages.old → IfOk result (RemovesPart
-        (form_of S.says S.unit S.join S.of layout.summary layout.width) (P.store pages.old).map (P.store pages.new).map number
+        (form_in S.Summary layout) (P.store pages.old).map (P.store pages.new).map number
         cell.now) }
 {
     let loaded = read_part(pages, number, layout)?;
@@ -67,12 +65,11 @@ fn remove_under<P: Pages, S: Summary>(
     requires levels { 0 < levels }
     requires node { IsNode page.now.bytes number layout (Node.Inner count) }
     ensures keeps { P.keeps pages.old pages.new }
-    ensures works { WorksAfter (P.is_tied pages.old → (P.store pages.old).map.page number ≡ Some page.now.bytes
-        → HasNoOwnPart (form_of S.says S.unit S.join S.of layout.summary layout.width) (P.store pages.old).map number levels)
-        result (P.store pages.old) (P.store pages.new) }
+    ensures works { WorksOn P.Pages ((P.store pages.old).map.page number ≡ Some page.now.bytes
+        → HasNoOwnPart (form_in S.Summary layout) (P.store pages.old).map number levels) result pages.old pages.new }
     ensures room { result ≢ Err Refusal.FileFull }
     ensures removed { P.is_tied pages.old → (P.store pages.old).map.page number ≡ Some page.now.bytes → IfOk result (RemovesPart
-        (form_of S.says S.unit S.join S.of layout.summary layout.width) (P.store pages.old).map (P.store pages.new).map number
+        (form_in S.Summary layout) (P.store pages.old).map (P.store pages.new).map number
         cell.now) }
 {
     let bytes = content(page);

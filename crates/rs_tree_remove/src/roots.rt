@@ -1,13 +1,13 @@
 //! A cell taken out of a whole tree, from its root.
 
 ghost use Rattle.std.specs.Prelude.{◌≡◌, ◌≢◌, ◌↔◌, ℕ, true, List, Contains, IsTrue, IfOk, Err};
-ghost use Rattle.rs_page_owners.specs.Changes.{WorksAfter};
 ghost use Rattle.rs_page_owners.specs.Counts.{◌&◌};
 ghost use Rattle.rs_page_owners.specs.Owners.{Shares};
+ghost use Rattle.rs_page_owners.specs.Calls.{WorksOn};
 ghost use Rattle.rs_tree.specs.Calls.{Changes, IsNotShared};
 ghost use Rattle.rs_tree.specs.Cells.{without_cell};
-ghost use Rattle.rs_tree.specs.Form.{form_of};
 ghost use Rattle.rs_tree.specs.Tree.{IsTree};
+ghost use Rattle.rs_tree.specs.Forms.{form_in};
 
 use crate::Removed;
 use crate::path::remove_below;
@@ -28,15 +28,13 @@ pub fn remove<P: Pages, S: Summary>(
     requires begun { (P.store pages.old).is_begun ≡ true }
     requires summary { layout.summary ≡ S.WIDTH }
     ensures keeps { P.keeps pages.old pages.new }
-    ensures works { WorksAfter (P.is_tied pages.old
-        → IsNotShared (form_of S.says S.unit S.join S.of layout.summary layout.width) (P.store pages.old).map root)
-        result (P.store pages.old) (P.store pages.new) }
+    ensures works { WorksOn P.Pages (IsNotShared (form_in S.Summary layout) (P.store pages.old).map root) result pages.old pages.new }
     ensures room { result ≢ Err Refusal.FileFull }
     ensures removed { P.is_tied pages.old → IfOk result (λ answer.
-        Changes (form_of S.says S.unit S.join S.of layout.summary layout.width) (P.store pages.old).map (P.store pages.new).map
+        Changes (form_in S.Summary layout) (P.store pages.old).map (P.store pages.new).map
         root answer.0 (without_cell cell.now)) }
     ensures found { P.is_tied pages.old → IfOk result (λ answer. (cells : List (List ℕ)) (used others : ℕ → ℕ)
-        → IsTree (form_of S.says S.unit S.join S.of layout.summary layout.width) (P.store pages.old).map root cells used
+        → IsTree (form_in S.Summary layout) (P.store pages.old).map root cells used
         → Shares (P.store pages.old).map (used & others) → (IsTrue answer.1 ↔ Contains cells cell.now)) }
 {
     if root.number() == 0 {

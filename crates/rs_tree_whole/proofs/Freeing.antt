@@ -39,7 +39,7 @@ use Rattle.rs_tree.specs.Reading.{HasNoNode}
 use Rattle.rs_tree.specs.Walking.{IsPart, IsEntryOf, AreEntriesOf}
 use Rattle.rs_tree.proofs.Entering.{inner_no_leaf, inner_parts, no_node-no_part as no_part}
 use Rattle.rs_tree.proofs.Entries.{part_at}
-use Rattle.rs_tree_whole.proofs.Working.{NotReleased}
+use Rattle.rs_page_owners.proofs.Working.{NotReleased}
 use Rattle.rs_tree_whole.specs.Clearing.{ClearedBeside, ClearsPart, ClearsEntries, HasNoOwnPart, HasNoOwnParts, uses_of_all}
 
 -- what is kept of two owners is kept of one

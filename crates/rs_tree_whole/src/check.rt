@@ -4,11 +4,12 @@
 
 ghost use Rattle.std.specs.Prelude.{◌≡◌, ◌⊎◌, ◌<◌, ◌≤◌, ◌+◌, ◌*◌, ◌^◌, IfOk, IfErr, Err, length};
 ghost use Rattle.std.specs.Option.{option_copied};
-ghost use Rattle.rs_pages.specs.Lending.{RestsAfter};
 ghost use Rattle.rs_page_marks.specs.Marks.{taken};
-ghost use Rattle.rs_tree.specs.Form.{form_of, joined};
+ghost use Rattle.rs_tree.specs.Form.{joined};
 ghost use Rattle.rs_tree.specs.Layouts.{entry_bytes};
+ghost use Rattle.rs_tree.specs.Forms.{form_in};
 ghost use Rattle.rs_tree_whole.specs.Checking.{Reaches, HasNoSound, ReachesEntry, HasNoSoundEntry, ReachesEntries, HasNoSoundEntries};
+ghost use Rattle.rs_pages.specs.Calls.{OnlyReads};
 
 use crate::enter::enter;
 use crate::keys::{bound_at, least};
@@ -35,16 +36,16 @@ pub fn check_part<P: Pages, S: Summary>(
     reached: &mut Reached,
 ) -> Result<(u32, u64, S), Refusal>
     requires summary { layout.summary ≡ S.WIDTH }
-    ensures rests { RestsAfter P.is_tied P.store P.keeps result pages.old pages.new }
+    ensures rests { OnlyReads P.Pages result pages.old pages.new }
     ensures size { length reached.new ≡ length reached.old }
     ensures few { (P.store pages.old).map.fields.pages < 2 ^ 32 }
     ensures height { IfOk result (λ part. part.0 ≤ levels) }
     ensures reaches { IfOk result (λ part. P.is_tied pages.old → Reaches (joined S.unit S.join S.of)
-        (form_of S.says S.unit S.join S.of layout.summary layout.width) (P.store pages.old).map number
+        (form_in S.Summary layout) (P.store pages.old).map number
         (option_copied first.entry) (option_copied bound.entry) (taken reached.old) (taken reached.new) part.0 part.1 part.2) }
     ensures refused { IfErr result (λ why. (why ≡ Refusal.Disk) ⊎ (why ≡ Refusal.DamagedFile)) }
     ensures damaged { result ≡ Err Refusal.DamagedFile → P.is_tied pages.old
-        → HasNoSound (form_of S.says S.unit S.join S.of layout.summary layout.width) (P.store pages.old).map number
+        → HasNoSound (form_in S.Summary layout) (P.store pages.old).map number
         (option_copied first.entry) (option_copied bound.entry) levels (taken reached.old) }
 {
     let loaded = enter(pages, layout, number, reached)?;
@@ -90,15 +91,15 @@ fn check_entries<P: Pages, S: Summary>(
     requires summary { layout.summary ≡ S.WIDTH }
     requires fit { count * entry_bytes layout ≤ 4080 }
     requires levels { 0 < levels }
-    ensures rests { RestsAfter P.is_tied P.store P.keeps result pages.old pages.new }
+    ensures rests { OnlyReads P.Pages result pages.old pages.new }
     ensures size { length reached.new ≡ length reached.old }
     ensures height { IfOk result (λ parts. parts.0 < levels) }
     ensures reaches { IfOk result (λ parts. P.is_tied pages.old → ReachesEntries
-        (form_of S.says S.unit S.join S.of layout.summary layout.width) (P.store pages.old).map page.now.bytes count count
+        (form_in S.Summary layout) (P.store pages.old).map page.now.bytes count count
         (option_copied bound.entry) (taken reached.old) (taken reached.new) parts.0 parts.1) }
     ensures refused { IfErr result (λ why. (why ≡ Refusal.Disk) ⊎ (why ≡ Refusal.DamagedFile)) }
     ensures damaged { result ≡ Err Refusal.DamagedFile → P.is_tied pages.old
-        → HasNoSoundEntries (form_of S.says S.unit S.join S.of layout.summary layout.width) (P.store pages.old).map
+        → HasNoSoundEntries (form_in S.Summary layout) (P.store pages.old).map
         page.now.bytes count (option_copied bound.entry) levels (taken reached.old) }
 {
     let bytes = content(page);
@@ -130,15 +131,15 @@ fn check_entry<P: Pages, S: Summary>(
     requires summary { layout.summary ≡ S.WIDTH }
     requires entry { length entry.now ≡ entry_bytes layout }
     requires levels { 0 < levels }
-    ensures rests { RestsAfter P.is_tied P.store P.keeps result pages.old pages.new }
+    ensures rests { OnlyReads P.Pages result pages.old pages.new }
     ensures size { length reached.new ≡ length reached.old }
     ensures height { IfOk result (λ part. part.0 < levels) }
     ensures reaches { IfOk result (λ part. P.is_tied pages.old → ReachesEntry
-        (form_of S.says S.unit S.join S.of layout.summary layout.width) (P.store pages.old).map entry.now
+        (form_in S.Summary layout) (P.store pages.old).map entry.now
         (option_copied bound.entry) (taken reached.old) (taken reached.new) part.0 part.1) }
     ensures refused { IfErr result (λ why. (why ≡ Refusal.Disk) ⊎ (why ≡ Refusal.DamagedFile)) }
     ensures damaged { result ≡ Err Refusal.DamagedFile → P.is_tied pages.old
-        → HasNoSoundEntry (form_of S.says S.unit S.join S.of layout.summary layout.width) (P.store pages.old).map entry.now
+        → HasNoSoundEntry (form_in S.Summary layout) (P.store pages.old).map entry.now
         (option_copied bound.entry) levels (taken reached.old) }
 {
     let number = child(entry, layout);

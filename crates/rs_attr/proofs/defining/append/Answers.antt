@@ -6,7 +6,8 @@ use Rattle.rs_attr.specs.Entries.{ChangesIndex, Field, HoldsNoIndex}
 use Rattle.rs_attr.proofs.Parts.{appends_all, appends_missing, appends_next, appends_none}
 use Rattle.rs_records.specs.Listed.{listed}
 use Rattle.rs_tree.specs.Cells.{with_cell}
-use Rattle.rs_tree_whole.proofs.Working.{CountsNothing-refl, CountsNothing-trans, Works-refl, Works-trans, works_err}
+use Rattle.rs_page_owners.proofs.Working.{CountsNothing-refl, CountsNothing-trans, Works-refl, Works-trans}
+use Rattle.rs_page_owners.proofs.Following.{works_err}
 use Rattle.rs_versioned.proofs.CellsWide.{cell_wide}
 use Rattle.rs_attr.proofs.defining.append.Goals as goal
 

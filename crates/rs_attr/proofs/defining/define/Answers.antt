@@ -6,7 +6,8 @@ use Rattle.rs_attr.specs.Entries.{Field, IsColumn}
 use Rattle.rs_attr.proofs.Parts.{Defines, defines_all, defines_missing, defines_next, defines_none, none_wide, route_below}
 use Rattle.rs_interval.specs.Finding.{event_form}
 use Rattle.rs_tree.proofs.Below.{below_one_way}
-use Rattle.rs_tree_whole.proofs.Working.{CountsNothing-refl, CountsNothing-trans, Works-refl, Works-trans, works_err}
+use Rattle.rs_page_owners.proofs.Working.{CountsNothing-refl, CountsNothing-trans, Works-refl, Works-trans}
+use Rattle.rs_page_owners.proofs.Following.{works_err}
 use Rattle.rs_versioned.specs.Events.{event_width}
 use Rattle.rs_cell_versions.specs.Versioned.{HoldsNone}
 use Rattle.rs_attr.proofs.defining.define.Goals.{then-is_below+in_ok-enter, else-is_below}

@@ -6,7 +6,7 @@ use Rattle.rs_attr.proofs.Parts.{enters_all, enters_missing, enters_no_tree}
 use Rattle.rs_interval.specs.Finding.{event_form}
 use Rattle.rs_records.specs.Listed.{listed}
 use Rattle.rs_tree.specs.Tree.{IsTree}
-use Rattle.rs_tree_edit.proofs.Working.{ReadRefusal, rests-work, works_err, works_then}
+use Rattle.rs_page_owners.proofs.Working.{ReadRefusal, rests-work, works_err, works_then}
 use Rattle.rs_cell_versions.proofs.Looks.{on_both}
 use Rattle.rs_attr.proofs.defining.enter.Goals as goal
 

@@ -12,7 +12,7 @@ use Rattle.rs_records.specs.Listed.{listed}
 use Rattle.rs_records.specs.Order.{is_below}
 use Rattle.rs_tree.specs.Cells.{cells_within, is_within}
 use Rattle.rs_tree_whole.specs.Validating.{HasNoFreshTree, Validates}
-use Rattle.rs_tree.proofs.Resting.{rests_then}
+use Rattle.rs_pages.proofs.Resting.{rests_then}
 use Rattle.rs_versioned.specs.Events.{event_width}
 use Rattle.rs_versioned.proofs.Opened.{told_of}
 use Rattle.rs_cell_versions.specs.Opening.{Told}

@@ -11,7 +11,7 @@ use Rattle.rs_attr.specs.Tables.{IndexState}
 use Rattle.rs_attr.proofs.Counted.{reaches_missing, reaches_next, reaches_none, reaches_other, sum_is, sum_isnt}
 use Rattle.rs_refusal.specs.declared.refusal.Refusal.TheVariants as refusal
 use Rattle.rs_page_marks.specs.Marks.{taken}
-use Rattle.rs_tree.proofs.Resting.{rests_none, rests_then}
+use Rattle.rs_pages.proofs.Resting.{rests_none, rests_then}
 use Rattle.rs_cell_versions.proofs.Refusing.{rests_err, rests_ok, rests_refused}
 use Rattle.rs_attr.proofs.opening.reach_indexes.Goals as goal
 

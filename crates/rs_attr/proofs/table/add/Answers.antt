@@ -7,7 +7,8 @@ use Rattle.rs_attr.proofs.Tabled.{alone_among, cells_become, cells_move, cells_s
 use Rattle.rs_attr.proofs.Together.{AreOf}
 use Rattle.rs_interval.specs.Finding.{event_form}
 use Rattle.rs_tree.specs.Cells.{with_cell}
-use Rattle.rs_tree_whole.proofs.Working.{CountsNothing-refl, Works-refl, works_err}
+use Rattle.rs_page_owners.proofs.Working.{CountsNothing-refl, Works-refl}
+use Rattle.rs_page_owners.proofs.Following.{works_err}
 use Rattle.rs_value.specs.View.{row_of}
 use Rattle.rs_versioned.specs.Events.{Event, SaysEvent, event_width}
 use Rattle.rs_versioned.specs.Records.{HasOneMore}

@@ -6,7 +6,8 @@ use Rattle.rs_attr.specs.Tables.{HoldsNoTable}
 use Rattle.rs_attr.proofs.Tabled.{cells_become, cells_move, no_table, no_table_before, together}
 use Rattle.rs_attr.proofs.Together.{kept_next, missing_at, partly_at, partly_done, partly_none, rootless_next, wide_at}
 use Rattle.rs_interval.specs.Finding.{event_form}
-use Rattle.rs_tree_whole.proofs.Working.{CountsNothing-refl, CountsNothing-trans, Works-refl, Works-trans, works_err}
+use Rattle.rs_page_owners.proofs.Working.{CountsNothing-refl, CountsNothing-trans, Works-refl, Works-trans}
+use Rattle.rs_page_owners.proofs.Following.{works_err}
 use Rattle.rs_versioned.specs.Events.{Event, event_width}
 use Rattle.rs_versioned.specs.Records.{HasNone}
 use Rattle.rs_cell_versions.specs.Versioned.{HoldsNone}

@@ -7,7 +7,8 @@ use Rattle.rs_attr.proofs.Tabled.{alone_among, become_as, changes_then, ends_bec
 use Rattle.rs_attr.proofs.Together.{AreOf, still_of}
 use Rattle.rs_interval.specs.Finding.{event_form}
 use Rattle.rs_tree.specs.Cells.{with_cell, without_cell}
-use Rattle.rs_tree_whole.proofs.Working.{CountsNothing-refl, CountsNothing-trans, Works-refl, Works-trans, works_err}
+use Rattle.rs_page_owners.proofs.Working.{CountsNothing-refl, CountsNothing-trans, Works-refl, Works-trans}
+use Rattle.rs_page_owners.proofs.Following.{works_err}
 use Rattle.rs_versioned.specs.Events.{event_width, kept_events}
 use Rattle.rs_versioned.specs.Records.{HasEnded}
 use Rattle.rs_cell_versions.specs.Changes.{with_end}

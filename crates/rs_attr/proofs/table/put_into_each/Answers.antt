@@ -5,7 +5,8 @@ use Rattle.rs_attr.specs.Entries.{HoldsNoIndex}
 use Rattle.rs_attr.specs.Inner.{HoldNoIndexes}
 use Rattle.rs_attr.proofs.Together.{kept_next, missing_at, partly_at, partly_done, partly_none, wide_at}
 use Rattle.rs_tree.specs.Cells.{with_cell}
-use Rattle.rs_tree_whole.proofs.Working.{CountsNothing-refl, CountsNothing-trans, Works-refl, Works-trans, works_err}
+use Rattle.rs_page_owners.proofs.Working.{CountsNothing-refl, CountsNothing-trans, Works-refl, Works-trans}
+use Rattle.rs_page_owners.proofs.Following.{works_err}
 use Rattle.rs_attr.proofs.table.put_into_each.Goals as goal
 
 pub loop-place-init : goal.loop-place-init

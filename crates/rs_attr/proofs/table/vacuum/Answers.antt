@@ -10,7 +10,8 @@ use Rattle.rs_interval.specs.Finding.{event_form}
 use Rattle.rs_records.specs.Listed.{listed}
 use Rattle.rs_tree.specs.Cells.{without_cell}
 use Rattle.rs_tree.proofs.Lists.{take_next}
-use Rattle.rs_tree_whole.proofs.Working.{CountsNothing-refl, CountsNothing-trans, Works-refl, Works-trans, works_err}
+use Rattle.rs_page_owners.proofs.Working.{CountsNothing-refl, CountsNothing-trans, Works-refl, Works-trans}
+use Rattle.rs_page_owners.proofs.Following.{works_err}
 use Rattle.rs_versioned.specs.Events.{event_width, kept_events}
 use Rattle.rs_versioned.specs.Records.{HasCleared}
 use Rattle.rs_versioned.proofs.CellsWide.{cell_wide}

@@ -3,14 +3,15 @@ use Rattle.std.proofs.Common.{Bool}
 use Rattle.std.proofs.lemmas.Result.{err_from_is_err_and}
 use Rattle.rs_page.specs.declared.number.PageNumber.{PageNumber}
 use Rattle.rs_tree.specs.Calls.{IsNotShared}
-use Rattle.rs_tree.specs.Form.{Form, form_of}
-use Rattle.rs_tree_edit.proofs.Working.{works_then, works_err}
+use Rattle.rs_tree.specs.Form.{Form}
+use Rattle.rs_tree.specs.Forms.{form, form_in}
+use Rattle.rs_page_owners.proofs.Working.{works_then, works_err}
 use Rattle.rs_btree.proofs.Exchanging.{replaced, rested, none_before}
 use Rattle.rs_btree.proofs.replacing.replace.Goals as goal
 
 pub returns-in_err-inserted-clause-works : goal.returns-in_err-inserted-clause-works
 returns-in_err-inserted-clause-works g c =
-    let form : Form = form_of g.S.Summary.says g.S.Summary.unit g.S.Summary.join g.S.Summary.of c.args.layout.summary c.args.layout.width in
+    let form : Form = form_in g.S.Summary c.args.layout in
     let old = (g.P.Pages.store c.args.pages.now).map in
     let mid = (g.P.Pages.store c.remove.new.pages).map in
     let p = err_from_is_err_and c.from_residual-in_err-inserted.result c.from_residual-in_err-inserted.ensures.1 in
@@ -21,7 +22,7 @@ returns-in_err-inserted-clause-works g c =
 
 pub returns-in_ok-inserted-clause-replaced : goal.returns-in_ok-inserted-clause-replaced
 returns-in_ok-inserted-clause-replaced g c = λ tied.
-    let form : Form = form_of g.S.Summary.says g.S.Summary.unit g.S.Summary.join g.S.Summary.of c.args.layout.summary c.args.layout.width in
+    let form : Form = form_in g.S.Summary c.args.layout in
     let old = (g.P.Pages.store c.args.pages.now).map in
     let mid = (g.P.Pages.store c.remove.new.pages).map in
     let later = g.met.P.Pages.keeps_tied c.args.pages.now c.remove.new.pages c.in_ok-below.ensures.keeps tied in
@@ -30,6 +31,6 @@ returns-in_ok-inserted-clause-replaced g c = λ tied.
 
 pub returns-else-found-clause-replaced : goal.returns-else-found-clause-replaced
 returns-else-found-clause-replaced g c = λ tied.
-    let form : Form = form_of g.S.Summary.says g.S.Summary.unit g.S.Summary.join g.S.Summary.of c.args.layout.summary c.args.layout.width in
+    let form : Form = form_in g.S.Summary c.args.layout in
     rested form (g.P.Pages.store c.args.pages.now).map (g.P.Pages.store c.remove.new.pages).map c.args.root c.in_ok-below.below c.args.cell.now (c.in_ok-below.ensures.removed tied)
     c.args.other.now c.in_ok-below.found c.if-found.false (c.in_ok-below.ensures.found tied)

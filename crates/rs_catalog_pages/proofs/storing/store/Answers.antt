@@ -9,7 +9,8 @@ use Rattle.rs_catalog_pages.specs.Places.{number_from}
 use Rattle.rs_catalog_pages.specs.Storing.{AreNotOwn, MovesPages, HasNoOwnBytes, WritesParts}
 use Rattle.rs_catalog_pages.proofs.Fronts.{kept_both}
 use Rattle.rs_catalog_pages.proofs.Moving.{MovesPages-trans, not_own_before}
-use Rattle.rs_catalog_pages.proofs.Working.{works_then, works_ok, works-stores}
+use Rattle.rs_page_owners.proofs.Working.{works_then, works_ok}
+use Rattle.rs_catalog_pages.proofs.Refused.{works-stores}
 use Rattle.rs_catalog_pages.proofs.Writing.{not_own-no_bytes, stores}
 use Rattle.rs_catalog_pages.proofs.storing.store.Goals as goal
 

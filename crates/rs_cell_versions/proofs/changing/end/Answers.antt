@@ -5,7 +5,7 @@ use Rattle.rs_btree.proofs.Exchanging.{none_before}
 use Rattle.rs_tree.specs.Calls.{Changes, IsNotShared}
 use Rattle.rs_tree.specs.Cells.{with_cell}
 use Rattle.rs_tree.specs.Form.{Form, form_of}
-use Rattle.rs_tree_whole.proofs.Working.{works_err}
+use Rattle.rs_page_owners.proofs.Following.{works_err}
 use Rattle.rs_cell_versions.proofs.Ending.{length-ended}
 use Rattle.rs_cell_versions.proofs.Steps.{TellsNew, ends_gone, ends_last, ends_missing}
 use Rattle.rs_cell_versions.proofs.changing.end.Goals as goal

@@ -3,7 +3,8 @@ use Rattle.std.proofs.Common.{Bool, [], ◌∷◌}
 use Rattle.std.proofs.lemmas.Result.{err_from_is_err_and}
 use Rattle.rs_tree.specs.Calls.{IsNotShared}
 use Rattle.rs_tree.specs.Form.{Form, form_of}
-use Rattle.rs_tree_whole.proofs.Working.{CountsNothing-refl, Works-refl, damaged_err, works_err}
+use Rattle.rs_page_owners.proofs.Working.{CountsNothing-refl, Works-refl}
+use Rattle.rs_page_owners.proofs.Following.{damaged_err, works_err}
 use Rattle.rs_cell_versions.specs.Inner.{HoldsNoneFirst}
 use Rattle.rs_cell_versions.proofs.Steps.{none_first, none_found, takes_one}
 use Rattle.rs_cell_versions.proofs.changing.take_one.Goals as goal

@@ -2,7 +2,7 @@
 use Rattle.std.proofs.Common.{◌≡◌, ◌-◌, [], Ok, Err, true≢false, sym, ap, subst, refl, ◌∙◌, arith}
 use Rattle.std.proofs.lemmas.Result.{err_from_is_err_and}
 use Rattle.rs_catalog_pages.proofs.Counting.{times-cons, times-none}
-use Rattle.rs_catalog_pages.proofs.Resting.{rests_none, rests_then, rests_ok}
+use Rattle.rs_pages.proofs.Resting.{rests_none, rests_then, rests_ok}
 use Rattle.rs_contents.proofs.Walked.{HasWalked, free_after, free_before, walked_all, walked_more, walked_none, walked_short, walked_wrong}
 use Rattle.rs_refusal.specs.declared.refusal.Refusal.TheVariants as refusal
 use Rattle.rs_page_marks.specs.Marks.{taken}

@@ -8,7 +8,7 @@ use Rattle.rs_contents.proofs.Loaded.{are_there, no_parts, nothing_said, same_ma
 use Rattle.rs_refusal.specs.declared.refusal.Refusal.TheVariants as refusal
 use Rattle.rs_page_owners.specs.Counts.{◌&◌, one_at}
 use Rattle.rs_page_marks.specs.Marks.{taken}
-use Rattle.rs_tree.proofs.Resting.{rests_then}
+use Rattle.rs_pages.proofs.Resting.{rests_then}
 use Rattle.rs_cell_versions.proofs.Refusing.{rests_err, rests_ok}
 use Rattle.rs_contents.proofs.loading.load.Goals as goal
 

@@ -9,7 +9,7 @@ use Rattle.rs_catalog_pages.specs.declared.items.StoredRoute.{StoredRoute}
 use Rattle.rs_contents.proofs.Loaded.{all_from_said, all_said, no_catalogue_said, no_directory_said, no_numbers_said, no_versions_said, same_map}
 use Rattle.rs_refusal.specs.declared.refusal.Refusal.TheVariants as refusal
 use Rattle.rs_page_marks.specs.Marks.{taken}
-use Rattle.rs_tree.proofs.Resting.{rests_then}
+use Rattle.rs_pages.proofs.Resting.{rests_then}
 use Rattle.rs_cell_versions.proofs.Refusing.{rests_ok, rests_refused}
 use Rattle.rs_contents.proofs.loading.load_said.Goals as goal
 

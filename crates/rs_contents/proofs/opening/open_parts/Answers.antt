@@ -8,7 +8,7 @@ use Rattle.rs_contents.specs.FreePages.{HasNoFreshFreeList, ReachesFree}
 use Rattle.rs_contents.proofs.Loaded.{no_free, no_referents, no_tables, same_map, some_left}
 use Rattle.rs_refusal.specs.declared.refusal.Refusal.TheVariants as refusal
 use Rattle.rs_page_marks.specs.Marks.{taken}
-use Rattle.rs_tree.proofs.Resting.{rests_then}
+use Rattle.rs_pages.proofs.Resting.{rests_then}
 use Rattle.rs_versioned.specs.declared.told.ToldRecords.{ToldRecords}
 use Rattle.rs_versioned.specs.Opening.{OpensNone, OpensRecords}
 use Rattle.rs_versioned.specs.Referents.{kept_referents}

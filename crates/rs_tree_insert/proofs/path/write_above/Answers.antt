@@ -2,9 +2,10 @@
 use Rattle.std.proofs.Common.{◌≡◌, ◌⊎◌, ◌*◌, inr, refl, ap, ◌∙◌, subst, arith}
 use Rattle.rs_pages.proofs.Stores.{SamePages-refl}
 use Rattle.rs_records.specs.Records.{records}
-use Rattle.rs_tree.specs.Form.{Form, form_of, joined}
+use Rattle.rs_tree.specs.Form.{Form, joined}
 use Rattle.rs_tree.specs.Layouts.{entry_bytes}
-use Rattle.rs_tree_edit.proofs.Working.{works_then, works_ok}
+use Rattle.rs_tree.specs.Forms.{form_in}
+use Rattle.rs_page_owners.proofs.Working.{works_then, works_ok}
 use Rattle.rs_tree_insert.specs.Inserting.{HasNoTops, tops}
 use Rattle.rs_tree_insert.specs.Writing.{IsBroken}
 use Rattle.rs_tree_insert.specs.declared.answer.Put.TheVariants.{Kept}
@@ -20,7 +21,7 @@ put_records-requires-clause-fit g c =
 
 pub returns-then-says_same-clause-works : goal.returns-then-says_same-clause-works
 returns-then-says_same-clause-works g c =
-    let form : Form = form_of g.S.Summary.says g.S.Summary.unit g.S.Summary.join g.S.Summary.of c.args.layout.summary c.args.layout.width in
+    let form : Form = form_in g.S.Summary c.args.layout in
     let old = (g.P.Pages.store c.args.pages.now).map in
     works_ok (g.P.Pages.is_tied c.args.pages.now → HasNoTops form old (tops c.args.below c.args.put))
     (g.P.Pages.is_tied c.args.pages.now → HasNoTops form old (tops c.args.below c.args.put) ⊎ IsBroken old c.args.number)
@@ -49,7 +50,7 @@ returns-then-says_same-clause-above g c = λ tied page there found.
 
 pub returns-clause-works : goal.returns-clause-works
 returns-clause-works g c =
-    let form : Form = form_of g.S.Summary.says g.S.Summary.unit g.S.Summary.join g.S.Summary.of c.args.layout.summary c.args.layout.width in
+    let form : Form = form_in g.S.Summary c.args.layout in
     let old = (g.P.Pages.store c.args.pages.now).map in
     let mid = (g.P.Pages.store c.write_entries.new.pages).map in
     works_then (g.P.Pages.is_tied c.args.pages.now → HasNoTops form old (tops c.args.below c.args.put))

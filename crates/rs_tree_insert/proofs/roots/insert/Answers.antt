@@ -3,9 +3,10 @@ use Rattle.std.proofs.Common.{◌≡◌, ◌⊎◌, refl, subst, arith}
 use Rattle.std.proofs.lemmas.Result.{err_from_is_err_and}
 use Rattle.rs_records.specs.Records.{records}
 use Rattle.rs_tree.specs.Calls.{IsNotShared}
-use Rattle.rs_tree.specs.Form.{Form, form_of}
+use Rattle.rs_tree.specs.Form.{Form}
+use Rattle.rs_tree.specs.Forms.{form_in}
 use Rattle.rs_tree_edit.specs.Editing.{HasNoFreeList}
-use Rattle.rs_tree_edit.proofs.Working.{works_then, works_err}
+use Rattle.rs_page_owners.proofs.Working.{works_then, works_err}
 use Rattle.rs_tree_insert.specs.Inserting.{tops, PutsBelow, TellsBelow, HasNoShared, HasNoTops}
 use Rattle.rs_tree_insert.specs.declared.answer.Put.TheVariants.{Found, Placed, Kept, Split}
 use Rattle.rs_tree_insert.proofs.Cells.{one_record}
@@ -15,7 +16,7 @@ use Rattle.rs_tree_insert.proofs.roots.insert.Goals as goal
 pub returns-then-number-eq0-clause-inserted : goal.returns-then-number-eq0-clause-inserted
 returns-then-number-eq0-clause-inserted g c =
     λ tied.
-    let form : Form = form_of g.S.Summary.says g.S.Summary.unit g.S.Summary.join g.S.Summary.of c.args.layout.summary c.args.layout.width in
+    let form : Form = form_in g.S.Summary c.args.layout in
     let old = (g.P.Pages.store c.args.pages.now).map in
     let zero : c.args.root ≡ 0 = omega (arith, c.number.ensures, c.if-number-eq0.true) in
     planted form old (g.P.Pages.store c.add_page.new.pages).map c.args.root c.in_ok-root.root c.args.cell.now (records 1 c.args.layout.width c.args.cell.now) zero
@@ -24,14 +25,14 @@ returns-then-number-eq0-clause-inserted g c =
 pub returns-then-number-eq0-clause-found : goal.returns-then-number-eq0-clause-found
 returns-then-number-eq0-clause-found g c =
     λ tied.
-    let form : Form = form_of g.S.Summary.says g.S.Summary.unit g.S.Summary.join g.S.Summary.of c.args.layout.summary c.args.layout.width in
+    let form : Form = form_in g.S.Summary c.args.layout in
     let old = (g.P.Pages.store c.args.pages.now).map in
     let zero : c.args.root ≡ 0 = omega (arith, c.number.ensures, c.if-number-eq0.true) in
     empty_new form old c.args.root c.args.cell.now zero
 
 pub returns-in_err-insert_below-clause-works : goal.returns-in_err-insert_below-clause-works
 returns-in_err-insert_below-clause-works g c =
-    let form : Form = form_of g.S.Summary.says g.S.Summary.unit g.S.Summary.join g.S.Summary.of c.args.layout.summary c.args.layout.width in
+    let form : Form = form_in g.S.Summary c.args.layout in
     let old = (g.P.Pages.store c.args.pages.now).map in
     let some : c.args.root ≡ 0 → ⊥ = λ zero. omega (arith, c.number.ensures, zero, c.if-number-eq0.false) in
     let p = err_from_is_err_and c.from_residual-in_err-insert_below.result c.from_residual-in_err-insert_below.ensures.1 in
@@ -40,7 +41,7 @@ returns-in_err-insert_below-clause-works g c =
 
 pub returns-in_err-root-in-Split-clause-works : goal.returns-in_err-root-in-Split-clause-works
 returns-in_err-root-in-Split-clause-works g c =
-    let form : Form = form_of g.S.Summary.says g.S.Summary.unit g.S.Summary.join g.S.Summary.of c.args.layout.summary c.args.layout.width in
+    let form : Form = form_in g.S.Summary c.args.layout in
     let old = (g.P.Pages.store c.args.pages.now).map in
     let mid = (g.P.Pages.store c.insert_below.new.pages).map in
     let some : c.args.root ≡ 0 → ⊥ = λ zero. omega (arith, c.number.ensures, zero, c.if-number-eq0.false) in
@@ -56,7 +57,7 @@ returns-in_err-root-in-Split-clause-works g c =
 pub returns-in-Found-clause-inserted : goal.returns-in-Found-clause-inserted
 returns-in-Found-clause-inserted g c =
     λ tied.
-    let form : Form = form_of g.S.Summary.says g.S.Summary.unit g.S.Summary.join g.S.Summary.of c.args.layout.summary c.args.layout.width in
+    let form : Form = form_in g.S.Summary c.args.layout in
     let old = (g.P.Pages.store c.args.pages.now).map in
     let mid = (g.P.Pages.store c.insert_below.new.pages).map in
     let some : c.args.root ≡ 0 → ⊥ = λ zero. omega (arith, c.number.ensures, zero, c.if-number-eq0.false) in
@@ -66,7 +67,7 @@ returns-in-Found-clause-inserted g c =
 pub returns-in-Found-clause-found : goal.returns-in-Found-clause-found
 returns-in-Found-clause-found g c =
     λ tied.
-    let form : Form = form_of g.S.Summary.says g.S.Summary.unit g.S.Summary.join g.S.Summary.of c.args.layout.summary c.args.layout.width in
+    let form : Form = form_in g.S.Summary c.args.layout in
     let old = (g.P.Pages.store c.args.pages.now).map in
     let some : c.args.root ≡ 0 → ⊥ = λ zero. omega (arith, c.number.ensures, zero, c.if-number-eq0.false) in
     let tells = subst (TellsBelow form old c.args.root c.args.cell.now) c.in-Found.is (c.in_ok-insert_below.ensures.found tied) in
@@ -75,7 +76,7 @@ returns-in-Found-clause-found g c =
 pub returns-in-Placed-clause-inserted : goal.returns-in-Placed-clause-inserted
 returns-in-Placed-clause-inserted g c =
     λ tied.
-    let form : Form = form_of g.S.Summary.says g.S.Summary.unit g.S.Summary.join g.S.Summary.of c.args.layout.summary c.args.layout.width in
+    let form : Form = form_in g.S.Summary c.args.layout in
     let old = (g.P.Pages.store c.args.pages.now).map in
     let mid = (g.P.Pages.store c.insert_below.new.pages).map in
     let some : c.args.root ≡ 0 → ⊥ = λ zero. omega (arith, c.number.ensures, zero, c.if-number-eq0.false) in
@@ -85,7 +86,7 @@ returns-in-Placed-clause-inserted g c =
 pub returns-in-Placed-clause-found : goal.returns-in-Placed-clause-found
 returns-in-Placed-clause-found g c =
     λ tied.
-    let form : Form = form_of g.S.Summary.says g.S.Summary.unit g.S.Summary.join g.S.Summary.of c.args.layout.summary c.args.layout.width in
+    let form : Form = form_in g.S.Summary c.args.layout in
     let old = (g.P.Pages.store c.args.pages.now).map in
     let some : c.args.root ≡ 0 → ⊥ = λ zero. omega (arith, c.number.ensures, zero, c.if-number-eq0.false) in
     let tells = subst (TellsBelow form old c.args.root c.args.cell.now) c.in-Placed.is (c.in_ok-insert_below.ensures.found tied) in
@@ -94,7 +95,7 @@ returns-in-Placed-clause-found g c =
 pub returns-in-Kept-clause-inserted : goal.returns-in-Kept-clause-inserted
 returns-in-Kept-clause-inserted g c =
     λ tied.
-    let form : Form = form_of g.S.Summary.says g.S.Summary.unit g.S.Summary.join g.S.Summary.of c.args.layout.summary c.args.layout.width in
+    let form : Form = form_in g.S.Summary c.args.layout in
     let old = (g.P.Pages.store c.args.pages.now).map in
     let mid = (g.P.Pages.store c.insert_below.new.pages).map in
     let some : c.args.root ≡ 0 → ⊥ = λ zero. omega (arith, c.number.ensures, zero, c.if-number-eq0.false) in
@@ -104,7 +105,7 @@ returns-in-Kept-clause-inserted g c =
 pub returns-in-Kept-clause-found : goal.returns-in-Kept-clause-found
 returns-in-Kept-clause-found g c =
     λ tied.
-    let form : Form = form_of g.S.Summary.says g.S.Summary.unit g.S.Summary.join g.S.Summary.of c.args.layout.summary c.args.layout.width in
+    let form : Form = form_in g.S.Summary c.args.layout in
     let old = (g.P.Pages.store c.args.pages.now).map in
     let some : c.args.root ≡ 0 → ⊥ = λ zero. omega (arith, c.number.ensures, zero, c.if-number-eq0.false) in
     let tells = subst (TellsBelow form old c.args.root c.args.cell.now) c.in-Kept.is (c.in_ok-insert_below.ensures.found tied) in
@@ -113,7 +114,7 @@ returns-in-Kept-clause-found g c =
 pub returns-in_ok-root-in-Split-clause-inserted : goal.returns-in_ok-root-in-Split-clause-inserted
 returns-in_ok-root-in-Split-clause-inserted g c =
     λ tied.
-    let form : Form = form_of g.S.Summary.says g.S.Summary.unit g.S.Summary.join g.S.Summary.of c.args.layout.summary c.args.layout.width in
+    let form : Form = form_in g.S.Summary c.args.layout in
     let old = (g.P.Pages.store c.args.pages.now).map in
     let mid = (g.P.Pages.store c.insert_below.new.pages).map in
     let some : c.args.root ≡ 0 → ⊥ = λ zero. omega (arith, c.number.ensures, zero, c.if-number-eq0.false) in
@@ -124,7 +125,7 @@ returns-in_ok-root-in-Split-clause-inserted g c =
 pub returns-in_ok-root-in-Split-clause-found : goal.returns-in_ok-root-in-Split-clause-found
 returns-in_ok-root-in-Split-clause-found g c =
     λ tied.
-    let form : Form = form_of g.S.Summary.says g.S.Summary.unit g.S.Summary.join g.S.Summary.of c.args.layout.summary c.args.layout.width in
+    let form : Form = form_in g.S.Summary c.args.layout in
     let old = (g.P.Pages.store c.args.pages.now).map in
     let some : c.args.root ≡ 0 → ⊥ = λ zero. omega (arith, c.number.ensures, zero, c.if-number-eq0.false) in
     let tells = subst (TellsBelow form old c.args.root c.args.cell.now) c.in-Split.is (c.in_ok-insert_below.ensures.found tied) in

@@ -6,7 +6,7 @@ use Rattle.rs_pages.specs.PageMap.{HasNoFit}
 use Rattle.rs_records.specs.Records.{records}
 use Rattle.rs_tree.specs.Content.{content}
 use Rattle.rs_tree_edit.specs.Editing.{HasNoFreeList}
-use Rattle.rs_tree_edit.proofs.Working.{works_then}
+use Rattle.rs_page_owners.proofs.Working.{works_then}
 use Rattle.rs_tree_insert.specs.Writing.{IsBroken, spliced}
 use Rattle.rs_tree_insert.proofs.Halves.{split_done, no_list_before, four, parts_fit, last_length, if_ok}
 use Rattle.rs_tree_insert.proofs.splitting.split_page.Goals as goal

@@ -3,13 +3,14 @@ use Rattle.std.proofs.Common.{Err, ap, ◌∙◌, subst}
 use Rattle.std.proofs.lemmas.Result.{err_from_is_err_and}
 use Rattle.rs_page.specs.declared.header.PageKind.TheVariants as kind
 use Rattle.rs_tree.specs.Content.{content}
-use Rattle.rs_tree.specs.Form.{Form, form_of, joined}
+use Rattle.rs_tree.specs.Form.{Form, joined}
 use Rattle.rs_tree.specs.Layouts.{entry_bytes}
 use Rattle.rs_tree.specs.Node.{IsNode}
 use Rattle.rs_tree.specs.declared.node.Node.TheVariants.{Leaf, Inner}
 use Rattle.rs_tree.specs.Reading.{HasNoNode}
 use Rattle.rs_tree.proofs.Entering.{entry_there, records_fit}
-use Rattle.rs_tree_edit.proofs.Working.{works_err, works_then}
+use Rattle.rs_tree.specs.Forms.{form, form_in}
+use Rattle.rs_page_owners.proofs.Working.{works_err, works_then}
 use Rattle.rs_tree_remove.specs.Mending.{NonePairs, NoneLonely, Pairs, Mends}
 use Rattle.rs_tree_remove.proofs.Joining.{if_ok}
 use Rattle.rs_tree_remove.proofs.Lonely.{no_near, no_leaf_near, no_pairs, mends_all, damaged_after}
@@ -17,7 +18,7 @@ use Rattle.rs_tree_remove.proofs.pairing.mend.Goals as goal
 
 pub returns-in_err-loaded-clause-works : goal.returns-in_err-loaded-clause-works
 returns-in_err-loaded-clause-works g c =
-    let form : Form = form_of g.S.Summary.says g.S.Summary.unit g.S.Summary.join g.S.Summary.of c.args.layout.summary c.args.layout.width in
+    let form : Form = form_in g.S.Summary c.args.layout in
     let there = entry_there c.args.count c.entry_width.result (entry_bytes c.args.layout) c.content.result.now (content c.args.page.now.bytes) c.neighbour-is_first.result.2 c.record_at.result.now
     c.entry_width.ensures.width c.content.ensures.bytes (c.record_at.ensures.one c.args.count c.neighbour-is_first.ensures.near) in
     let p = err_from_is_err_and c.from_residual.result c.from_residual.ensures.1 in
@@ -33,7 +34,7 @@ even-requires-clause-near_fit g c =
 
 pub returns-in-Leaf-clause-works : goal.returns-in-Leaf-clause-works
 returns-in-Leaf-clause-works g c =
-    let form : Form = form_of g.S.Summary.says g.S.Summary.unit g.S.Summary.join g.S.Summary.of c.args.layout.summary c.args.layout.width in
+    let form : Form = form_in g.S.Summary c.args.layout in
     let there = entry_there c.args.count c.entry_width.result (entry_bytes c.args.layout) c.content.result.now (content c.args.page.now.bytes) c.neighbour-is_first.result.2 c.record_at.result.now
     c.entry_width.ensures.width c.content.ensures.bytes (c.record_at.ensures.one c.args.count c.neighbour-is_first.ensures.near) in
     let near_node : IsNode c.in_ok-loaded.loaded.page.bytes c.child-other.result c.args.layout (Leaf c.in-Leaf.field-0) =
@@ -42,7 +43,7 @@ returns-in-Leaf-clause-works g c =
 
 pub returns-in-Inner-clause-works : goal.returns-in-Inner-clause-works
 returns-in-Inner-clause-works g c =
-    let form : Form = form_of g.S.Summary.says g.S.Summary.unit g.S.Summary.join g.S.Summary.of c.args.layout.summary c.args.layout.width in
+    let form : Form = form_in g.S.Summary c.args.layout in
     let there = entry_there c.args.count c.entry_width.result (entry_bytes c.args.layout) c.content.result.now (content c.args.page.now.bytes) c.neighbour-is_first.result.2 c.record_at.result.now
     c.entry_width.ensures.width c.content.ensures.bytes (c.record_at.ensures.one c.args.count c.neighbour-is_first.ensures.near) in
     let near_node : IsNode c.in_ok-loaded.loaded.page.bytes c.child-other.result c.args.layout (Inner c.in-Inner.size) =
@@ -54,7 +55,7 @@ returns-in-Inner-clause-works g c =
 
 pub returns-in-Inner-clause-mends : goal.returns-in-Inner-clause-mends
 returns-in-Inner-clause-mends g c = λ tied.
-    let form : Form = form_of g.S.Summary.says g.S.Summary.unit g.S.Summary.join g.S.Summary.of c.args.layout.summary c.args.layout.width in
+    let form : Form = form_in g.S.Summary c.args.layout in
     let there = entry_there c.args.count c.entry_width.result (entry_bytes c.args.layout) c.content.result.now (content c.args.page.now.bytes) c.neighbour-is_first.result.2 c.record_at.result.now
     c.entry_width.ensures.width c.content.ensures.bytes (c.record_at.ensures.one c.args.count c.neighbour-is_first.ensures.near) in
     let near_node : IsNode c.in_ok-loaded.loaded.page.bytes c.child-other.result c.args.layout (Inner c.in-Inner.size) =

@@ -2,11 +2,12 @@
 use Rattle.std.proofs.Common.{◌≡◌, ◌<◌, ◌-◌, ℕ, Bool, true, false, cond, Ok, Err, [], ◌∷◌, ap, ◌∙◌, subst, arith}
 use Rattle.std.proofs.lemmas.Result.{err_from_is_err_and}
 use Rattle.rs_tree.specs.Content.{content}
-use Rattle.rs_tree.specs.Form.{Form, form_of, joined}
+use Rattle.rs_tree.specs.Form.{Form, joined}
 use Rattle.rs_tree.specs.Layouts.{entry_bytes}
 use Rattle.rs_tree.specs.Reading.{HasNoNode}
 use Rattle.rs_tree.proofs.Entering.{entry_there}
-use Rattle.rs_tree_edit.proofs.Working.{works_err, works_then}
+use Rattle.rs_tree.specs.Forms.{form, form_in}
+use Rattle.rs_page_owners.proofs.Working.{works_err, works_then}
 use Rattle.rs_tree_remove.specs.Finishing.{Finishes, NoneGaveWay}
 use Rattle.rs_tree_remove.specs.Mending.{NonePairs}
 use Rattle.rs_tree_remove.proofs.Sharing.{no_held, no_two, no_less, no_above, shares_all}
@@ -18,7 +19,7 @@ place_inside false size place more is = omega arith
 
 pub returns-in_err-held-clause-works : goal.returns-in_err-held-clause-works
 returns-in_err-held-clause-works g c =
-    let form : Form = form_of g.S.Summary.says g.S.Summary.unit g.S.Summary.join g.S.Summary.of c.args.layout.summary c.args.layout.width in
+    let form : Form = form_in g.S.Summary c.args.layout in
     let p = err_from_is_err_and c.from_residual.result c.from_residual.ensures.1 in
     works_err (g.P.Pages.is_tied c.args.pages.now → HasNoNode (g.P.Pages.store c.args.pages.now).map c.args.lonely c.args.layout) (g.P.Pages.is_tied c.args.pages.now → NonePairs form (g.P.Pages.store c.args.pages.now).map c.args.number c.args.page.now.bytes c.args.count c.args.at c.args.is_first c.args.lonely c.args.only c.args.other c.args.near.now.bytes c.args.size) c.from_residual.result c.in_err-held.field-0.0 (g.P.Pages.store c.args.pages.now) (g.P.Pages.store c.read_part.new.pages)
     (λ none tied. no_held (λ bytes cells. g.S.Summary.says bytes (joined g.S.Summary.unit g.S.Summary.join g.S.Summary.of cells)) c.args.layout (g.P.Pages.store c.args.pages.now).map c.args.number c.args.page.now.bytes c.args.count c.args.at c.args.is_first c.args.lonely c.args.only c.args.other c.args.near.now.bytes c.args.size (none tied))
@@ -26,7 +27,7 @@ returns-in_err-held-clause-works g c =
 
 pub returns-in_err-renew_two-clause-works : goal.returns-in_err-renew_two-clause-works
 returns-in_err-renew_two-clause-works g c =
-    let form : Form = form_of g.S.Summary.says g.S.Summary.unit g.S.Summary.join g.S.Summary.of c.args.layout.summary c.args.layout.width in
+    let form : Form = form_in g.S.Summary c.args.layout in
     let there = entry_there c.args.size c.entry_width.result (entry_bytes c.args.layout) c.content.result.now (content c.args.near.now.bytes) c.end-place.result c.record_at.result.now
     c.entry_width.ensures.width c.content.ensures.bytes (c.record_at.ensures.one c.args.size (place_inside c.args.is_first c.args.size c.end-place.result c.requires.more c.end-place.ensures)) in
     let p = err_from_is_err_and c.from_residual-in_err-renew_two.result c.from_residual-in_err-renew_two.ensures.1 in
@@ -37,7 +38,7 @@ returns-in_err-renew_two-clause-works g c =
 
 pub returns-in_err-_kept-clause-works : goal.returns-in_err-_kept-clause-works
 returns-in_err-_kept-clause-works g c =
-    let form : Form = form_of g.S.Summary.says g.S.Summary.unit g.S.Summary.join g.S.Summary.of c.args.layout.summary c.args.layout.width in
+    let form : Form = form_in g.S.Summary c.args.layout in
     let there = entry_there c.args.size c.entry_width.result (entry_bytes c.args.layout) c.content.result.now (content c.args.near.now.bytes) c.end-place.result c.record_at.result.now
     c.entry_width.ensures.width c.content.ensures.bytes (c.record_at.ensures.one c.args.size (place_inside c.args.is_first c.args.size c.end-place.result c.requires.more c.end-place.ensures)) in
     let p = err_from_is_err_and c.from_residual-in_err-_kept.result c.from_residual-in_err-_kept.ensures.1 in
@@ -50,7 +51,7 @@ returns-in_err-_kept-clause-works g c =
 
 pub returns-in_err-renew_two-2-clause-works : goal.returns-in_err-renew_two-2-clause-works
 returns-in_err-renew_two-2-clause-works g c =
-    let form : Form = form_of g.S.Summary.says g.S.Summary.unit g.S.Summary.join g.S.Summary.of c.args.layout.summary c.args.layout.width in
+    let form : Form = form_in g.S.Summary c.args.layout in
     let there = entry_there c.args.size c.entry_width.result (entry_bytes c.args.layout) c.content.result.now (content c.args.near.now.bytes) c.end-place.result c.record_at.result.now
     c.entry_width.ensures.width c.content.ensures.bytes (c.record_at.ensures.one c.args.size (place_inside c.args.is_first c.args.size c.end-place.result c.requires.more c.end-place.ensures)) in
     let p = err_from_is_err_and c.from_residual-in_err-renew_two-2.result c.from_residual-in_err-renew_two-2.ensures.1 in
@@ -65,7 +66,7 @@ returns-in_err-renew_two-2-clause-works g c =
 
 pub returns-clause-pairs : goal.returns-clause-pairs
 returns-clause-pairs g c = λ tied.
-    let form : Form = form_of g.S.Summary.says g.S.Summary.unit g.S.Summary.join g.S.Summary.of c.args.layout.summary c.args.layout.width in
+    let form : Form = form_in g.S.Summary c.args.layout in
     let there = entry_there c.args.size c.entry_width.result (entry_bytes c.args.layout) c.content.result.now (content c.args.near.now.bytes) c.end-place.result c.record_at.result.now
     c.entry_width.ensures.width c.content.ensures.bytes (c.record_at.ensures.one c.args.size (place_inside c.args.is_first c.args.size c.end-place.result c.requires.more c.end-place.ensures)) in
     let one = g.met.P.Pages.keeps_tied c.args.pages.now c.read_part.new.pages c.in_ok-held.ensures.rests.below tied in let two = g.met.P.Pages.keeps_tied c.read_part.new.pages c.renew_two.new.pages c.in_ok-renew_two.ensures.keeps one in let three = g.met.P.Pages.keeps_tied c.renew_two.new.pages c.drop_entry.new.pages c.in_ok-_kept.ensures.keeps two in

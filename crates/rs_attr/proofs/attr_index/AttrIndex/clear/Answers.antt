@@ -4,7 +4,8 @@ use Rattle.std.proofs.lemmas.Result.{err_from_is_err_and}
 use Rattle.rs_attr.specs.Entries.{ChangesIndex, Field, HoldsNoIndex, plain_form}
 use Rattle.rs_attr.proofs.Indexes.{clear_index, in_index, none_indexed}
 use Rattle.rs_tree.specs.Calls.{Changes, IsNotShared}
-use Rattle.rs_tree_whole.proofs.Working.{CountsNothing-refl, Works-refl, works_err}
+use Rattle.rs_page_owners.proofs.Working.{CountsNothing-refl, Works-refl}
+use Rattle.rs_page_owners.proofs.Following.{works_err}
 use Rattle.rs_attr.proofs.attr_index.AttrIndex.clear.Goals as goal
 
 pub returns-in_err-clear-clause-works : goal.returns-in_err-clear-clause-works

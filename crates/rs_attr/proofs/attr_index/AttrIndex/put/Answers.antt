@@ -6,7 +6,8 @@ use Rattle.rs_attr.specs.Tables.{IndexState}
 use Rattle.rs_attr.proofs.Indexes.{in_index, none_indexed, put_index}
 use Rattle.rs_tree.specs.Calls.{Changes, IsNotShared}
 use Rattle.rs_tree.specs.Cells.{with_cell}
-use Rattle.rs_tree_whole.proofs.Working.{CountsNothing-refl, Works-refl, works_err}
+use Rattle.rs_page_owners.proofs.Working.{CountsNothing-refl, Works-refl}
+use Rattle.rs_page_owners.proofs.Following.{works_err}
 use Rattle.rs_attr.proofs.attr_index.AttrIndex.put.Goals as goal
 
 pub returns-in_err-insert-clause-works : goal.returns-in_err-insert-clause-works

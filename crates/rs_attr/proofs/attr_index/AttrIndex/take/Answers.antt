@@ -6,7 +6,8 @@ use Rattle.rs_attr.specs.Tables.{IndexState}
 use Rattle.rs_attr.proofs.Indexes.{in_index, none_indexed, take_index}
 use Rattle.rs_tree.specs.Calls.{Changes, IsNotShared}
 use Rattle.rs_tree.specs.Cells.{without_cell}
-use Rattle.rs_tree_whole.proofs.Working.{CountsNothing-refl, Works-refl, works_err}
+use Rattle.rs_page_owners.proofs.Working.{CountsNothing-refl, Works-refl}
+use Rattle.rs_page_owners.proofs.Following.{works_err}
 use Rattle.rs_attr.proofs.attr_index.AttrIndex.take.Goals as goal
 
 pub returns-in_err-remove-clause-works : goal.returns-in_err-remove-clause-works

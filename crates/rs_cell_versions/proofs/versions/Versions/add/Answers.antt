@@ -7,7 +7,8 @@ use Rattle.rs_btree.specs.Rooted.{Rooted}
 use Rattle.rs_tree.specs.Calls.{IsNotShared}
 use Rattle.rs_tree.specs.Cells.{with_cell}
 use Rattle.rs_tree.specs.Form.{form_of}
-use Rattle.rs_tree_whole.proofs.Working.{CountsNothing-refl, Works-refl, works_err}
+use Rattle.rs_page_owners.proofs.Working.{CountsNothing-refl, Works-refl}
+use Rattle.rs_page_owners.proofs.Following.{works_err}
 use Rattle.rs_cell_versions.specs.Inner.{standing}
 use Rattle.rs_cell_versions.specs.Versioned.{ChangesCells, HoldsCells, HoldsNone, Versioned}
 use Rattle.rs_cell_versions.proofs.Steps.{TellsNew, none_shared}

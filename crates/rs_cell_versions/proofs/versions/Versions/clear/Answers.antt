@@ -3,7 +3,8 @@ use Rattle.std.proofs.Common.{◌≡◌, ℕ, [], subst, sym, ap, ◌∙◌, rul
 use Rattle.std.proofs.lemmas.Result.{err_from_is_err_and}
 use Rattle.rs_tree.specs.Calls.{IsNotShared}
 use Rattle.rs_tree.specs.Form.{form_of}
-use Rattle.rs_tree_whole.proofs.Working.{CountsNothing-refl, Works-refl, works_err}
+use Rattle.rs_page_owners.proofs.Working.{CountsNothing-refl, Works-refl}
+use Rattle.rs_page_owners.proofs.Following.{works_err}
 use Rattle.rs_cell_versions.specs.Inner.{standing}
 use Rattle.rs_cell_versions.specs.Versioned.{ChangesCells, HoldsNone, Standing, Versioned, nothing_stands}
 use Rattle.rs_cell_versions.proofs.Steps.{cleared_cells, none_shared}

@@ -7,7 +7,8 @@ use Rattle.rs_page_owners.specs.Counts.{◌&◌}
 use Rattle.rs_page_owners.specs.Owners.{Shares}
 use Rattle.rs_tree.specs.Calls.{IsNotShared}
 use Rattle.rs_tree.specs.Form.{form_of}
-use Rattle.rs_tree_whole.proofs.Working.{CountsNothing-refl, Works-refl, works_err}
+use Rattle.rs_page_owners.proofs.Working.{CountsNothing-refl, Works-refl}
+use Rattle.rs_page_owners.proofs.Following.{works_err}
 use Rattle.rs_cell_versions.specs.Changes.{Ends}
 use Rattle.rs_cell_versions.specs.Inner.{EndsOne, standing, with_last}
 use Rattle.rs_cell_versions.specs.Version.{died_of, ended}

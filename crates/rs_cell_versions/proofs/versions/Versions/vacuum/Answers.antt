@@ -5,7 +5,8 @@ use Rattle.std.proofs.lemmas.Result.{err_from_is_err_and}
 use Rattle.rs_btree.specs.Rooted.{Rooted}
 use Rattle.rs_records.specs.Listed.{listed}
 use Rattle.rs_tree.specs.Form.{form_of}
-use Rattle.rs_tree_whole.proofs.Working.{CountsNothing-refl, Works-refl, works_err}
+use Rattle.rs_page_owners.proofs.Working.{CountsNothing-refl, Works-refl}
+use Rattle.rs_page_owners.proofs.Following.{works_err}
 use Rattle.rs_cell_versions.specs.Changes.{cleared, without_cells}
 use Rattle.rs_cell_versions.specs.Inner.{HoldsNoneFirst, TakesOut, standing}
 use Rattle.rs_cell_versions.specs.Versioned.{ChangesCells, HoldsNone, Versioned}

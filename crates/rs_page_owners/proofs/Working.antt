@@ -11,7 +11,6 @@ use Rattle.rs_pages.specs.FreeList.{IsFreeList, TakesFree, TakesLast}
 use Rattle.rs_pages.specs.PageMap.{HasNoFit}
 use Rattle.rs_pages.specs.Uses.{Wants, AllocatesPage, RefusesPage, IsFull, ReleasesPage, RefusesToRelease}
 use Rattle.rs_pages.proofs.Stores.{KeepsCounts-refl, KeepsCounts-trans, CountsFailure-refl}
-use Rattle.rs_catalog_pages.specs.Storing.{StoresAfter}
 use Rattle.rs_page_owners.specs.Changes.{Works, WorksAfter, EndsFull, CountsNothing}
 
 pub Works-trans : (a b c : Store) → Works a b → Works b c → Works a c
@@ -42,7 +41,8 @@ counts_after why a b c same counts = record {
   other = λ isnt. counts.other isnt ∙ same;
 }
 
-wants_after : (damaged later : Type 0) (why : Refusal) (a b c : Store) → (later → damaged) → CountsNothing a b → Wants later (EndsFull b c) why b c → Wants damaged (EndsFull a c) why a c
+-- a refusal after what counted nothing
+pub wants_after : (damaged later : Type 0) (why : Refusal) (a b c : Store) → (later → damaged) → CountsNothing a b → Wants later (EndsFull b c) why b c → Wants damaged (EndsFull a c) why a c
 wants_after damaged later why a b c then nothing wants = record { cause = by_cause wants.cause; count = counts_after why a b c nothing.failures wants.count } where
   by_cause : (why ≡ refusal.OutOfMemory) ⊎ (why ≡ refusal.Disk) ⊎ ((why ≡ refusal.FileFull) × EndsFull b c) ⊎ ((why ≡ refusal.DamagedFile) × later)
       → (why ≡ refusal.OutOfMemory) ⊎ (why ≡ refusal.Disk) ⊎ ((why ≡ refusal.FileFull) × EndsFull a c) ⊎ ((why ≡ refusal.DamagedFile) × damaged)
@@ -107,6 +107,13 @@ edits-work is_tied store keeps damaged x n page a b edits = record {
   works = Edits-works (is_tied a) n page (store a) (store b) edits.edits;
   ends = record { failures = edits.count; full = edits.edits.full };
 }
+
+-- nothing is counted
+pub CountsNothing-refl : (s : Store) → CountsNothing s s
+CountsNothing-refl s = record { failures = refl; full = refl }
+
+pub CountsNothing-trans : (a b c : Store) → CountsNothing a b → CountsNothing b c → CountsNothing a c
+CountsNothing-trans a b c one other = record { failures = other.failures ∙ one.failures; full = other.full ∙ one.full }
 
 -- nothing was called yet
 pub Works-refl : (s : Store) → Works s s
@@ -193,11 +200,3 @@ release-works tied damaged number (Err why) a b then releases rests refused = re
   by_cause (inr (inl disk)) = inr (inl disk)
   by_cause (inr (inr (inl is))) = absurd is.1
   by_cause (inr (inr (inr is))) = inr (inr (inr (is.0, then is.1)))
-
--- a refusal before the place of the catalogue is set
-pub works-stores : {T U : Type 0} (later damaged : Type 0) (why : Refusal) (a b : Store) → (later → damaged) → WorksAfter {T = U} later (Err why) a b → StoresAfter {T = T} damaged (Err why) a b
-works-stores later damaged why a b then one = record {
-  counts = one.works.counts;
-  no_fewer = one.works.no_fewer;
-  ends = wants_after damaged later why a a b then (record { failures = refl; full = refl }) one.ends;
-}
