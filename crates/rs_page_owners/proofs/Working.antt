@@ -200,3 +200,8 @@ release-works tied damaged number (Err why) a b then releases rests refused = re
   by_cause (inr (inl disk)) = inr (inl disk)
   by_cause (inr (inr (inl is))) = absurd is.1
   by_cause (inr (inr (inr is))) = inr (inr (inr (is.0, then is.1)))
+
+-- the same, where that is what is told
+pub released-works : {T : Type 0} (tied : Type 0) (number : ℕ) (r : Result T Refusal) (a b : Store) → OnOk r (ReleasesPage tied number a b)
+    → OnErr r (Rests tied a b) → IfErr r (λ why. RefusesToRelease tied number why a b) → WorksAfter (NotReleased tied number a) r a b
+released-works tied number r a b = release-works tied (NotReleased tied number a) number r a b (λ refused. refused)

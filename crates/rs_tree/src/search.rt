@@ -1,12 +1,9 @@
 //! Searches in a whole tree, from its root.
 
-ghost use Rattle.std.specs.Prelude.{◌≡◌, ℕ, Bool, List, IfOk, IfErr};
+ghost use Rattle.std.specs.Prelude.{◌≡◌, IfOk};
 ghost use Rattle.std.specs.Fn.{FnReturnsAt};
-ghost use Rattle.rs_records.specs.Listed.{listed, record_width};
-ghost use Rattle.rs_tree.specs.Calls.{AcceptsParts, Finds, RefusesToRead};
-ghost use Rattle.rs_tree.specs.Cells.{cells_within};
-ghost use Rattle.rs_tree.specs.Tree.{IsTree};
-ghost use Rattle.rs_tree.specs.Asking.{Computes};
+ghost use Rattle.rs_records.specs.Listed.{record_width};
+ghost use Rattle.rs_tree.specs.Calls.{Descends, Ranges, RefusesReading};
 ghost use Rattle.rs_tree.specs.Forms.{form_in};
 ghost use Rattle.rs_pages.specs.Calls.{OnlyReads};
 
@@ -37,13 +34,8 @@ pub fn descend<P: Pages, S: Summary, F: Fn(&S) -> bool>(
     requires summary { layout.summary ≡ S.WIDTH }
     ensures rests { OnlyReads P.Pages result pages.old pages.new }
     ensures width { IfOk result (λ found. record_width found.0 ≡ layout.width) }
-    ensures found { P.is_tied pages.old → (test : S → Bool) → Computes (FnReturnsAt F.Fn keep.now) test
-        → AcceptsParts S.join test
-        → IfOk result (λ found. Finds (form_in S.Summary layout)
-        (P.store pages.old).map root low.now high.now (λ cell. test (S.of cell)) (listed found.0) found.1) }
-    ensures refused { IfErr result (λ why. RefusesToRead (P.is_tied pages.old)
-        (form_in S.Summary layout) root why
-        (P.store pages.old) (P.store pages.new)) }
+    ensures found { Descends P.Pages S.Summary (form_in S.Summary layout) root low.now high.now (FnReturnsAt F.Fn keep.now) result pages.old }
+    ensures refused { RefusesReading P.Pages (form_in S.Summary layout) root result pages.old pages.new }
 {
     let mut cells = Cells::new(alloc, layout.width);
     if root.number() == 0 {
@@ -69,12 +61,8 @@ pub fn range<P: Pages, S: Summary>(
     requires summary { layout.summary ≡ S.WIDTH }
     ensures rests { OnlyReads P.Pages result pages.old pages.new }
     ensures width { IfOk result (λ found. record_width found ≡ layout.width) }
-    ensures found { P.is_tied pages.old → IfOk result (λ found. (cells : List (List ℕ)) (used : ℕ → ℕ)
-        → IsTree (form_in S.Summary layout) (P.store pages.old).map root cells used
-        → listed found ≡ cells_within low.now high.now cells) }
-    ensures refused { IfErr result (λ why. RefusesToRead (P.is_tied pages.old)
-        (form_in S.Summary layout) root why
-        (P.store pages.old) (P.store pages.new)) }
+    ensures found { Ranges P.Pages (form_in S.Summary layout) root low.now high.now result pages.old }
+    ensures refused { RefusesReading P.Pages (form_in S.Summary layout) root result pages.old pages.new }
 {
     let all = |_: &S| true;
     let (cells, _) = descend::<P, S, _>(alloc, pages, layout, root, low, high, &all)?;

@@ -1,6 +1,6 @@
 //! The path of a cell: down to its leaf, and up again.
 
-ghost use Rattle.std.specs.Prelude.{◌≡◌, ◌⊎◌, ◌<◌, ◌≤◌, ◌*◌, ℕ, List, Some, true, false, [], ◌∷◌, IfOk, IsTrue, length, take, drop, slice_get};
+ghost use Rattle.std.specs.Prelude.{◌≡◌, ◌⊎◌, ◌<◌, ◌≤◌, ◌+◌, ◌*◌, ℕ, List, Some, true, false, [], ◌∷◌, IfOk, IsTrue, length, take, drop, slice_get};
 ghost use Rattle.rs_pages.specs.PageMap.{SamePages};
 ghost use Rattle.rs_records.specs.Records.{records};
 ghost use Rattle.rs_tree.specs.Content.{content};
@@ -151,6 +151,8 @@ fn insert_under<P: Pages, S: Summary>(
 /// Whether the page below the entry at this place of so many is the last of its level, where this one is or isn't.
 fn is_last_below(is_last: bool, count: usize, at: usize) -> bool
     requires { at < count }
+    ensures last { is_last ≡ true → at + 1 ≡ count → result ≡ true }
+    ensures other { (is_last ≡ true → at + 1 ≡ count → ⊥) → result ≡ false }
 {
     is_last && at + 1 == count
 }

@@ -1,6 +1,6 @@
 //! Records that fit no page, put into two.
 
-ghost use Rattle.std.specs.Prelude.{◌≡◌, ◌≤◌, ◌<◌, ◌+◌, ◌-◌, ◌*◌, ℕ, List, Some, true, IfOk, OnOk, length, take};
+ghost use Rattle.std.specs.Prelude.{◌≡◌, ◌≤◌, ◌<◌, ◌+◌, ◌-◌, ◌*◌, ◌/◌, ℕ, List, Some, true, IfOk, OnOk, length, take};
 ghost use Rattle.rs_page.specs.Header.{page_kind};
 ghost use Rattle.rs_pages.specs.PageMap.{HasNoFit};
 ghost use Rattle.rs_records.specs.Records.{records};
@@ -62,6 +62,8 @@ pub fn split_page<P: Pages>(
 /// other page that would leave two records in each where pairs of cells come in falling order.
 fn staying(is_last: bool, end: usize, total: usize) -> usize
     requires { 4 ≤ total }
+    ensures all_but_two { is_last ≡ true → end ≡ total → result + 2 ≡ total }
+    ensures half { (is_last ≡ true → end ≡ total → ⊥) → result ≡ total / 2 }
     ensures some { 2 ≤ result }
     ensures some_more { result + 2 ≤ total }
 {

@@ -14,6 +14,7 @@ use Rattle.rs_records.proofs.Orders.{is_below-trans, is_below-cases}
 use Rattle.rs_page_owners.specs.Counts.{one_at, ◌&◌, no_pages}
 use Rattle.rs_page_owners.specs.Owners.{Shares, Moves}
 use Rattle.rs_page_owners.proofs.Moving.{shares_same, moves_same, moves_trans, moves_part, same_pages-moves, releases-moves}
+use Rattle.rs_page_owners.proofs.Working.{NotReleased}
 use Rattle.rs_tree.specs.Calls.{Becomes, Changes, IsNotShared}
 use Rattle.rs_tree.specs.Cells.{without_cell, cells_above}
 use Rattle.rs_tree.specs.Form.{Form}
@@ -30,7 +31,7 @@ use Rattle.rs_tree_remove.specs.Leaving.{IsRemoved, RemovesPart, HasNoOwnPart}
 use Rattle.rs_tree_remove.specs.declared.answer.Removed.{Removed}
 use Rattle.rs_tree_remove.specs.declared.answer.Removed.TheVariants.{Missing, Kept, Gone, Single}
 use Rattle.rs_tree_remove.proofs.Leaves.{without_at}
-use Rattle.rs_tree_remove.proofs.Refusing.{NotReleased, part_lent, lent-released}
+use Rattle.rs_tree_remove.proofs.Refusing.{part_lent, lent-released}
 use Rattle.rs_tree_remove.proofs.Written.{one_of, none_of}
 
 all_above_from : (cell first : List ℕ) (cs : List (List ℕ)) → is_below cell first ≡ true → AllByRecursion (λ other. IsTrue (is_below first other)) cs → AllAbove cell cs

@@ -7,10 +7,10 @@ use Rattle.rs_records.proofs.RecordLists.{length-keys}
 use Rattle.rs_tree.specs.Form.{Form, joined}
 use Rattle.rs_tree.proofs.Lists.{has_inside}
 use Rattle.rs_tree.specs.Forms.{form, form_in}
-use Rattle.rs_page_owners.proofs.Working.{works_err}
+use Rattle.rs_page_owners.proofs.Working.{NotReleased, released-works, works_err}
 use Rattle.rs_tree_remove.specs.Leaving.{HasNoOwnPart}
 use Rattle.rs_tree_remove.proofs.Leaves.{leaf_missing, leaf_gone, leaf_kept}
-use Rattle.rs_tree_remove.proofs.Refusing.{NotReleased, part_lent, lent-released, lent-fits, release-works}
+use Rattle.rs_tree_remove.proofs.Refusing.{part_lent, lent-released, lent-fits}
 use Rattle.rs_tree_remove.proofs.leaf.remove_from_leaf.Goals as goal
 
 pub returns-then-not-has_key-clause-removed : goal.returns-then-not-has_key-clause-removed
@@ -32,7 +32,7 @@ returns-in_err-release-clause-works g c =
           lent-released (g.P.Pages.is_tied c.args.pages.now) (g.P.Pages.store c.args.pages.now) c.args.number _ tied (part_lent form (g.P.Pages.store c.args.pages.now).map c.args.number height shape part) shares refused;
     })
     (p.1 ∙ ap Err p.2)
-    (release-works (g.P.Pages.is_tied c.args.pages.now) c.args.number (Err c.in_err-release.field-0.0) (g.P.Pages.store c.args.pages.now) (g.P.Pages.store c.release.new.self)
+    (released-works (g.P.Pages.is_tied c.args.pages.now) c.args.number (Err c.in_err-release.field-0.0) (g.P.Pages.store c.args.pages.now) (g.P.Pages.store c.release.new.self)
     c.in_err-release.ensures.releases c.in_err-release.ensures.rests c.in_err-release.ensures.refused)
 
 pub returns-then-count-eq1-clause-removed : goal.returns-then-count-eq1-clause-removed

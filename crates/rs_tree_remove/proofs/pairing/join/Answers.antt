@@ -3,9 +3,8 @@ use Rattle.std.proofs.Common.{◌*◌, Ok, Err, [], ◌∷◌, ap, ◌∙◌, su
 use Rattle.std.proofs.lemmas.Result.{err_from_is_err_and}
 use Rattle.rs_tree.specs.Form.{Form}
 use Rattle.rs_tree.specs.Forms.{form, form_in}
-use Rattle.rs_page_owners.proofs.Working.{works_err, works_then}
+use Rattle.rs_page_owners.proofs.Working.{NotReleased, released-works, works_err, works_then}
 use Rattle.rs_tree_remove.specs.Finishing.{Finishes, NoneGaveWay}
-use Rattle.rs_tree_remove.proofs.Refusing.{NotReleased, release-works}
 use Rattle.rs_tree_remove.specs.Mending.{NonePairs}
 use Rattle.rs_tree_remove.proofs.Joining.{joins, no_joining, no_release, no_writing, if_ok}
 use Rattle.rs_tree_remove.proofs.pairing.join.Goals as goal
@@ -32,7 +31,7 @@ returns-in_err-release-clause-works g c =
     (λ refused tied. let later = g.met.P.Pages.keeps_tied c.args.pages.now c.renew_entry.new.pages c.in_ok-_kept.ensures.keeps tied in
     no_release form (g.P.Pages.store c.args.pages.now).map c.args.number c.args.page.now.bytes c.args.count c.args.at c.args.is_first c.args.lonely c.args.only c.args.other c.args.near.now.bytes c.end-place.result c.end-place.ensures (g.P.Pages.is_tied c.renew_entry.new.pages) (g.P.Pages.store c.renew_entry.new.pages) later (subst (Finishes form (g.P.Pages.store c.args.pages.now).map (g.P.Pages.store c.renew_entry.new.pages).map c.args.other c.args.near.now.bytes 2 c.end-place.result 0 (c.args.only ∷ [])) (c.in_ok-_kept.ensures.kept (omega arith)) (c.in_ok-_kept.ensures.finishes tied)) refused)
     c.in_ok-_kept.ensures.works
-    (release-works (g.P.Pages.is_tied c.renew_entry.new.pages) c.args.lonely (Err c.in_err-release.field-0.0) (g.P.Pages.store c.renew_entry.new.pages) (g.P.Pages.store c.release.new.self) c.in_err-release.ensures.releases c.in_err-release.ensures.rests c.in_err-release.ensures.refused))
+    (released-works (g.P.Pages.is_tied c.renew_entry.new.pages) c.args.lonely (Err c.in_err-release.field-0.0) (g.P.Pages.store c.renew_entry.new.pages) (g.P.Pages.store c.release.new.self) c.in_err-release.ensures.releases c.in_err-release.ensures.rests c.in_err-release.ensures.refused))
 
 pub returns-clause-works : goal.returns-clause-works
 returns-clause-works g c =
@@ -46,7 +45,7 @@ returns-clause-works g c =
     (λ refused tied. let later = g.met.P.Pages.keeps_tied c.args.pages.now c.renew_entry.new.pages c.in_ok-_kept.ensures.keeps tied in
     no_release form (g.P.Pages.store c.args.pages.now).map c.args.number c.args.page.now.bytes c.args.count c.args.at c.args.is_first c.args.lonely c.args.only c.args.other c.args.near.now.bytes c.end-place.result c.end-place.ensures (g.P.Pages.is_tied c.renew_entry.new.pages) (g.P.Pages.store c.renew_entry.new.pages) later (subst (Finishes form (g.P.Pages.store c.args.pages.now).map (g.P.Pages.store c.renew_entry.new.pages).map c.args.other c.args.near.now.bytes 2 c.end-place.result 0 (c.args.only ∷ [])) (c.in_ok-_kept.ensures.kept (omega arith)) (c.in_ok-_kept.ensures.finishes tied)) refused)
     c.in_ok-_kept.ensures.works
-    (release-works (g.P.Pages.is_tied c.renew_entry.new.pages) c.args.lonely (Ok tt) (g.P.Pages.store c.renew_entry.new.pages) (g.P.Pages.store c.release.new.self) c.in_ok-release.ensures.releases c.in_ok-release.ensures.rests c.in_ok-release.ensures.refused))
+    (released-works (g.P.Pages.is_tied c.renew_entry.new.pages) c.args.lonely (Ok tt) (g.P.Pages.store c.renew_entry.new.pages) (g.P.Pages.store c.release.new.self) c.in_ok-release.ensures.releases c.in_ok-release.ensures.rests c.in_ok-release.ensures.refused))
     c.renew_entry-2.ensures.works
 
 pub returns-clause-pairs : goal.returns-clause-pairs

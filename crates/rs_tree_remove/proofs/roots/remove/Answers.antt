@@ -6,10 +6,9 @@ use Rattle.rs_tree.specs.Calls.{Changes, IsNotShared}
 use Rattle.rs_tree.specs.Cells.{without_cell}
 use Rattle.rs_tree.specs.Form.{Form}
 use Rattle.rs_tree.specs.Forms.{form, form_in}
-use Rattle.rs_page_owners.proofs.Working.{works_err, works_then}
+use Rattle.rs_page_owners.proofs.Working.{NotReleased, released-works, works_err, works_then}
 use Rattle.rs_tree_remove.specs.Leaving.{RemovesPart, HasNoOwnPart}
 use Rattle.rs_tree_remove.specs.declared.answer.Removed.TheVariants.{Kept, Gone, Single}
-use Rattle.rs_tree_remove.proofs.Refusing.{NotReleased, release-works}
 use Rattle.rs_tree_remove.proofs.Whole.{empty_changes, empty_found, missing_changes, missing_of, kept_changes, gone_changes, single_changes, single_none, found_of, none_shared}
 use Rattle.rs_tree_remove.proofs.roots.remove.Goals as goal
 
@@ -40,7 +39,7 @@ returns-in_err-release-in-Single-clause-works g c =
     (λ refused tied. let later = g.met.P.Pages.keeps_tied c.args.pages.now c.remove_below.new.pages c.in_ok-remove_below.ensures.keeps tied in
     single_none form (g.P.Pages.store c.args.pages.now).map c.args.root c.args.cell.now (λ zero. omega (arith, c.number.ensures, zero)) (g.P.Pages.is_tied c.remove_below.new.pages) (g.P.Pages.store c.remove_below.new.pages) c.in-Single.top later (subst (RemovesPart form (g.P.Pages.store c.args.pages.now).map (g.P.Pages.store c.remove_below.new.pages).map c.args.root c.args.cell.now) c.in-Single.is (c.in_ok-remove_below.ensures.removed tied)) refused)
     c.in_ok-remove_below.ensures.works
-    (release-works (g.P.Pages.is_tied c.remove_below.new.pages) c.args.root (Err c.in_err-release-in-Single.field-0.0) (g.P.Pages.store c.remove_below.new.pages) (g.P.Pages.store c.release.new.self)
+    (released-works (g.P.Pages.is_tied c.remove_below.new.pages) c.args.root (Err c.in_err-release-in-Single.field-0.0) (g.P.Pages.store c.remove_below.new.pages) (g.P.Pages.store c.release.new.self)
     c.in_err-release-in-Single.ensures.releases c.in_err-release-in-Single.ensures.rests c.in_err-release-in-Single.ensures.refused))
 
 pub returns-in-Missing-clause-removed : goal.returns-in-Missing-clause-removed

@@ -12,7 +12,7 @@ use Rattle.rs_tree.proofs.Entering.{records_fit, entry_there}
 use Rattle.rs_tree.specs.Forms.{form, form_in}
 use Rattle.rs_tree_whole.specs.Clearing.{ClearsPart, HasNoOwnPart, HasNoOwnParts}
 use Rattle.rs_tree_whole.proofs.Freeing.{ClearsSome, ClearsBelow, clears_next, clears_all, no_part-no_parts, clears_leaf, clears_inner, no_parts-no_part, clears_top, not_released-no_part, no_node-no_part, no_level-no_part}
-use Rattle.rs_page_owners.proofs.Working.{Works-trans, Rests-works, CountsNothing-trans, NotReleased, release-works}
+use Rattle.rs_page_owners.proofs.Working.{Works-trans, Rests-works, CountsNothing-trans, NotReleased, released-works}
 use Rattle.rs_page_owners.proofs.Following.{works_then, works_err, reads_err, damaged_err}
 use Rattle.rs_tree_whole.proofs.clearing.+clearing.Goals as goal
 
@@ -111,7 +111,7 @@ clear_part-returns-in-Leaf-clause-works g t c =
     (NotReleased (g.P.Pages.is_tied c.load.new.pages) c.args.number (g.P.Pages.store c.load.new.pages)) c.release.result (g.P.Pages.store c.args.pages.now) (g.P.Pages.store c.load.new.pages) (g.P.Pages.store c.release.new.self) (Rests-works (g.P.Pages.is_tied c.args.pages.now) (g.P.Pages.store c.args.pages.now) (g.P.Pages.store c.load.new.pages) c.in_ok-loaded.ensures.rests.rests) (record { failures = c.in_ok-loaded.ensures.rests.count; full = c.in_ok-loaded.ensures.rests.rests.full })
     (λ refused tied. let later = g.met.P.Pages.keeps_tied c.args.pages.now c.load.new.pages c.in_ok-loaded.ensures.rests.below tied in
     not_released-no_part (λ bytes cells. g.S.Summary.says bytes (joined g.S.Summary.unit g.S.Summary.join g.S.Summary.of cells)) c.args.layout (g.P.Pages.store c.args.pages.now).map c.args.number c.in_ok-loaded.loaded.page.bytes (g.P.Pages.is_tied c.load.new.pages) (g.P.Pages.store c.load.new.pages) c.args.levels c.args.left.now c.load.new.left later (below tied) refused)
-    (release-works (g.P.Pages.is_tied c.load.new.pages) (NotReleased (g.P.Pages.is_tied c.load.new.pages) c.args.number (g.P.Pages.store c.load.new.pages)) c.args.number c.release.result (g.P.Pages.store c.load.new.pages) (g.P.Pages.store c.release.new.self) (λ refused. refused)
+    (released-works (g.P.Pages.is_tied c.load.new.pages) c.args.number c.release.result (g.P.Pages.store c.load.new.pages) (g.P.Pages.store c.release.new.self)
     c.release.ensures.releases c.release.ensures.rests c.release.ensures.refused)
 
 pub clear_part-returns-in-Leaf-clause-clears : goal.clear_part-returns-in-Leaf-clause-clears
@@ -141,7 +141,7 @@ clear_part-returns-in_ok-clear_entries-in-Inner-clause-works g t c =
     (λ refused tied. let later = g.met.P.Pages.keeps_tied c.args.pages.now c.load.new.pages c.in_ok-loaded.ensures.rests.below tied in
     let last = g.met.P.Pages.keeps_tied c.load.new.pages c.clear_entries.new.pages c.in_ok-clear_entries-in-Inner.ensures.keeps later in
     not_released-no_part (λ bytes cells. g.S.Summary.says bytes (joined g.S.Summary.unit g.S.Summary.join g.S.Summary.of cells)) c.args.layout (g.P.Pages.store c.args.pages.now).map c.args.number c.in_ok-loaded.loaded.page.bytes (g.P.Pages.is_tied c.clear_entries.new.pages) (g.P.Pages.store c.clear_entries.new.pages) c.args.levels c.args.left.now c.clear_entries.new.left last (below tied) refused)
-    (release-works (g.P.Pages.is_tied c.clear_entries.new.pages) (NotReleased (g.P.Pages.is_tied c.clear_entries.new.pages) c.args.number (g.P.Pages.store c.clear_entries.new.pages)) c.args.number c.release-in-Inner.result (g.P.Pages.store c.clear_entries.new.pages) (g.P.Pages.store c.release-in-Inner.new.self) (λ refused. refused)
+    (released-works (g.P.Pages.is_tied c.clear_entries.new.pages) c.args.number c.release-in-Inner.result (g.P.Pages.store c.clear_entries.new.pages) (g.P.Pages.store c.release-in-Inner.new.self)
     c.release-in-Inner.ensures.releases c.release-in-Inner.ensures.rests c.release-in-Inner.ensures.refused)
 
 pub clear_part-returns-in_ok-clear_entries-in-Inner-clause-clears : goal.clear_part-returns-in_ok-clear_entries-in-Inner-clause-clears
