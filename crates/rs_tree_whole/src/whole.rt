@@ -1,11 +1,10 @@
 //! The check of a whole tree, from its root.
 
-ghost use Rattle.std.specs.Prelude.{◌≡◌, ◌⊎◌, ℕ, List, IfErr, IfOk, OnOk, Err, length};
-ghost use Rattle.rs_page_marks.specs.Marks.{taken};
-ghost use Rattle.rs_tree.specs.Tree.{IsTree};
-ghost use Rattle.rs_tree.specs.Forms.{form_in};
-ghost use Rattle.rs_tree_whole.specs.Validating.{Validates, HasNoFreshTree};
+ghost use Rattle.std.specs.Prelude.{◌≡◌, length};
 ghost use Rattle.rs_pages.specs.Calls.{OnlyReads};
+ghost use Rattle.rs_page_marks.specs.Marks.{taken};
+ghost use Rattle.rs_tree.specs.Forms.{form_in};
+ghost use Rattle.rs_tree_whole.specs.Calls.{Checks, RefusesToCheck};
 
 use crate::check::check_part;
 use rs_page::PageNumber;
@@ -26,15 +25,8 @@ pub fn validate<P: Pages, S: Summary>(
     requires summary { layout.summary ≡ S.WIDTH }
     ensures rests { OnlyReads P.Pages result pages.old pages.new }
     ensures size { length reached.new ≡ length reached.old }
-    ensures validates { P.is_tied pages.old → OnOk result (Validates
-        (form_in S.Summary layout) (P.store pages.old).map root
-        (taken reached.old) (taken reached.new)) }
-    ensures counted { P.is_tied pages.old → IfOk result (λ count. (cells : List (List ℕ)) (used : ℕ → ℕ)
-        → IsTree (form_in S.Summary layout) (P.store pages.old).map root cells used
-        → count ≡ length cells) }
-    ensures refused { IfErr result (λ why. (why ≡ Refusal.Disk) ⊎ (why ≡ Refusal.DamagedFile)) }
-    ensures damaged { P.is_tied pages.old → result ≡ Err Refusal.DamagedFile → HasNoFreshTree
-        (form_in S.Summary layout) (P.store pages.old).map root (taken reached.old) }
+    ensures checks { Checks P.Pages (form_in S.Summary layout) root (taken reached.old) (taken reached.new) result pages.old }
+    ensures refused { RefusesToCheck result }
 {
     if root.number() == 0 {
         return Ok(0);
