@@ -1,4 +1,4 @@
-//! Texts after the number of their bytes, in one byte or in two.
+//! Reads and writes texts after the number of their bytes, in one byte or in two.
 
 ghost use Rattle.std.specs.Prelude.{◌≡◌, ◌⊎◌, ◌<◌, ◌^◌, ℕ, List, length, string_bytes, IfOk, IfErr, OnOk};
 ghost use Rattle.rs_refusal.specs.declared.refusal.Refusal.TheVariants as refusals;
