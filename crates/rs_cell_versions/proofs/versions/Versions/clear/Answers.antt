@@ -20,7 +20,7 @@ returns-in_err-clear-clause-works g c =
     (g.P.Pages.store c.args.pages.now) (g.P.Pages.store c.args.pages.now) (g.P.Pages.store c.clear.new.pages) (Works-refl (g.P.Pages.store c.args.pages.now)) (CountsNothing-refl (g.P.Pages.store c.args.pages.now))
     (λ none tied. subst (λ (v : Versioned). HoldsNone (form_of g.S.Summary.says g.S.Summary.unit g.S.Summary.join g.S.Summary.of g.S.Summary.WIDTH v.width) old v.working) c.self.view_is
     (none_shared (form_of g.S.Summary.says g.S.Summary.unit g.S.Summary.join g.S.Summary.of g.S.Summary.WIDTH d.tree.width) old (standing d.tree.root d.living d.dead.working) (none tied)))
-    c.in_err-clear.ensures.works)
+    c.in_err-clear.ensures.leaves.works)
 
 pub returns-clause-cleared : goal.returns-clause-cleared
 returns-clause-cleared g c = λ tied.
@@ -32,4 +32,4 @@ returns-clause-cleared g c = λ tied.
     ap (λ (r : ℕ). standing r 0 c.clear-2.new.self.working) none ∙ ap (standing 0 0) c.clear-2.ensures.working in
     subst (λ (v : Versioned). ChangesCells (form_of g.S.Summary.says g.S.Summary.unit g.S.Summary.join g.S.Summary.of g.S.Summary.WIDTH v.width) old new v.working (standing c.at-self-inside.result.root 0 c.clear-2.new.self.working) (λ _. [])) c.self.view_is
     (subst (λ (s : Standing). ChangesCells (form_of g.S.Summary.says g.S.Summary.unit g.S.Summary.join g.S.Summary.of g.S.Summary.WIDTH d.tree.width) old new (standing d.tree.root d.living d.dead.working) s (λ _. [])) (sym same)
-    (cleared_cells (form_of g.S.Summary.says g.S.Summary.unit g.S.Summary.join g.S.Summary.of g.S.Summary.WIDTH d.tree.width) old new (standing d.tree.root d.living d.dead.working) c.clear.new.self.root (c.in_ok-clear.ensures.cleared tied)))
+    (cleared_cells (form_of g.S.Summary.says g.S.Summary.unit g.S.Summary.join g.S.Summary.of g.S.Summary.WIDTH d.tree.width) old new (standing d.tree.root d.living d.dead.working) c.clear.new.self.root (c.in_ok-clear.ensures.clears tied)))
