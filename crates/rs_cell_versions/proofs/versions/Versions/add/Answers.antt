@@ -25,12 +25,12 @@ returns-in_err-new-clause-leaves g c =
     record {
       keeps = c.in_err-new.ensures.keeps;
       works = rw (p.1, p.2) (works_err {U = Bool × ℕ} (g.P.Pages.is_tied c.args.pages.now → HoldsNone (form g.S.Summary c.args.self.now.width) old c.args.self.now.working)
-    (g.P.Pages.is_tied c.args.pages.now → IsNotShared (form g.S.Summary c.copy_of-tree.result.width) old c.copy_of-tree.result.root) c.in_err-new.field-0.0
-    (g.P.Pages.store c.args.pages.now) (g.P.Pages.store c.args.pages.now) (g.P.Pages.store c.put.new.pages) (Works-refl (g.P.Pages.store c.args.pages.now)) (CountsNothing-refl (g.P.Pages.store c.args.pages.now))
-    (λ none tied. subst (λ (v : Versioned). HoldsNone (form g.S.Summary v.width) old v.working) c.self.view_is
-    (none_shared (form g.S.Summary d.tree.width) old (standing d.tree.root d.living d.dead.working)
-    (subst (λ (t : Rooted). IsNotShared (form g.S.Summary t.width) old t.root) c.copy_of-tree.ensures (none tied))))
-    c.in_err-new.ensures.works);
+          (g.P.Pages.is_tied c.args.pages.now → IsNotShared (form g.S.Summary c.copy_of-tree.result.width) old c.copy_of-tree.result.root) c.in_err-new.field-0.0
+          (g.P.Pages.store c.args.pages.now) (g.P.Pages.store c.args.pages.now) (g.P.Pages.store c.put.new.pages) (Works-refl (g.P.Pages.store c.args.pages.now)) (CountsNothing-refl (g.P.Pages.store c.args.pages.now))
+          (λ none tied. subst (λ (v : Versioned). HoldsNone (form g.S.Summary v.width) old v.working) c.self.view_is
+          (none_shared (form g.S.Summary d.tree.width) old (standing d.tree.root d.living d.dead.working)
+          (subst (λ (t : Rooted). IsNotShared (form g.S.Summary t.width) old t.root) c.copy_of-tree.ensures (none tied))))
+          c.in_err-new.ensures.works);
     }
 
 -- it is told of the cells what is told of their tree

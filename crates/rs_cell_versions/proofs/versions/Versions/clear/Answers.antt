@@ -18,11 +18,11 @@ returns-in_err-clear-clause-leaves g c =
     record {
       keeps = c.in_err-clear.ensures.leaves.keeps;
       works = rw (p.1, p.2) (works_err {U = Unit {0}} (g.P.Pages.is_tied c.args.pages.now → HoldsNone (form g.S.Summary c.args.self.now.width) old c.args.self.now.working)
-    (g.P.Pages.is_tied c.args.pages.now → IsNotShared (form g.S.Summary d.tree.width) old d.tree.root) c.in_err-clear.field-0.0
-    (g.P.Pages.store c.args.pages.now) (g.P.Pages.store c.args.pages.now) (g.P.Pages.store c.clear.new.pages) (Works-refl (g.P.Pages.store c.args.pages.now)) (CountsNothing-refl (g.P.Pages.store c.args.pages.now))
-    (λ none tied. subst (λ (v : Versioned). HoldsNone (form g.S.Summary v.width) old v.working) c.self.view_is
-    (none_shared (form g.S.Summary d.tree.width) old (standing d.tree.root d.living d.dead.working) (none tied)))
-    c.in_err-clear.ensures.leaves.works);
+          (g.P.Pages.is_tied c.args.pages.now → IsNotShared (form g.S.Summary d.tree.width) old d.tree.root) c.in_err-clear.field-0.0
+          (g.P.Pages.store c.args.pages.now) (g.P.Pages.store c.args.pages.now) (g.P.Pages.store c.clear.new.pages) (Works-refl (g.P.Pages.store c.args.pages.now)) (CountsNothing-refl (g.P.Pages.store c.args.pages.now))
+          (λ none tied. subst (λ (v : Versioned). HoldsNone (form g.S.Summary v.width) old v.working) c.self.view_is
+          (none_shared (form g.S.Summary d.tree.width) old (standing d.tree.root d.living d.dead.working) (none tied)))
+          c.in_err-clear.ensures.leaves.works);
     }
 
 pub returns-clause-clears : goal.returns-clause-clears

@@ -32,12 +32,12 @@ returns-in_err-ended-clause-leaves g c =
     record {
       keeps = c.in_err-ended.ensures.keeps;
       works = rw (p.1, p.2) (works_err {U = Ended} (g.P.Pages.is_tied c.args.pages.now → HoldsNone (form g.S.Summary c.args.self.now.width) old c.args.self.now.working)
-    (g.P.Pages.is_tied c.args.pages.now → IsNotShared (form g.S.Summary c.copy_of-tree.result.width) old c.copy_of-tree.result.root) c.in_err-ended.field-0.0
-    (g.P.Pages.store c.args.pages.now) (g.P.Pages.store c.args.pages.now) (g.P.Pages.store c.end.new.pages) (Works-refl (g.P.Pages.store c.args.pages.now)) (CountsNothing-refl (g.P.Pages.store c.args.pages.now))
-    (λ none tied. subst (λ (v : Versioned). HoldsNone (form g.S.Summary v.width) old v.working) c.self.view_is
-    (none_shared (form g.S.Summary d.tree.width) old (standing d.tree.root d.living d.dead.working)
-    (subst (λ (t : Rooted). IsNotShared (form g.S.Summary t.width) old t.root) c.copy_of-tree.ensures (none tied))))
-    c.in_err-ended.ensures.works);
+          (g.P.Pages.is_tied c.args.pages.now → IsNotShared (form g.S.Summary c.copy_of-tree.result.width) old c.copy_of-tree.result.root) c.in_err-ended.field-0.0
+          (g.P.Pages.store c.args.pages.now) (g.P.Pages.store c.args.pages.now) (g.P.Pages.store c.end.new.pages) (Works-refl (g.P.Pages.store c.args.pages.now)) (CountsNothing-refl (g.P.Pages.store c.args.pages.now))
+          (λ none tied. subst (λ (v : Versioned). HoldsNone (form g.S.Summary v.width) old v.working) c.self.view_is
+          (none_shared (form g.S.Summary d.tree.width) old (standing d.tree.root d.living d.dead.working)
+          (subst (λ (t : Rooted). IsNotShared (form g.S.Summary t.width) old t.root) c.copy_of-tree.ensures (none tied))))
+          c.in_err-ended.ensures.works);
     }
 
 pub list_written-requires-clause-whole : goal.list_written-requires-clause-whole
@@ -83,7 +83,6 @@ returns-then-ended-clause-kills g c = λ tied.
       tells = subst (λ (v : Versioned). TellsOf (form g.S.Summary v.width) old v.working c.args.cell.now c.in_ok-ended.ended.found) c.self.view_is
           (tells_of (form g.S.Summary d.tree.width) old (standing d.tree.root d.living d.dead.working) c.args.cell.now c.in_ok-ended.ended.found tells);
     }
-
 
 pub returns-else-ended-clause-kills : goal.returns-else-ended-clause-kills
 returns-else-ended-clause-kills g c = λ tied.

@@ -26,13 +26,13 @@ returns-in_err-take_out-clause-leaves g c =
     record {
       keeps = c.in_err-take_out.ensures.keeps;
       works = rw (p.1, p.2) (works_err {U = Unit {0}} (g.P.Pages.is_tied c.args.pages.now → HoldsNone (form g.S.Summary c.args.self.now.width) old c.args.self.now.working)
-    (g.P.Pages.is_tied c.args.pages.now → HoldsNoneFirst (form g.S.Summary c.copy_of-tree.result.width) old c.copy_of-tree.result.root gone) c.in_err-take_out.field-0.0
-    (g.P.Pages.store c.args.pages.now) (g.P.Pages.store c.args.pages.now) (g.P.Pages.store c.take_out.new.pages) (Works-refl (g.P.Pages.store c.args.pages.now)) (CountsNothing-refl (g.P.Pages.store c.args.pages.now))
-    (λ none tied. let here = subst (λ (t : Rooted). HoldsNoneFirst (form g.S.Summary t.width) old t.root gone) c.copy_of-tree.ensures (none tied) in
-    subst (λ (v : Versioned). HoldsNone (form g.S.Summary v.width) old v.working) c.self.view_is
-    (subst (λ (dead : List (List ℕ)). HoldsNone (form g.S.Summary d.tree.width) old (standing d.tree.root d.living dead)) (parted gone d.dead.working first)
-    (here.each d.living (drop (length gone) d.dead.working))))
-    c.in_err-take_out.ensures.works);
+          (g.P.Pages.is_tied c.args.pages.now → HoldsNoneFirst (form g.S.Summary c.copy_of-tree.result.width) old c.copy_of-tree.result.root gone) c.in_err-take_out.field-0.0
+          (g.P.Pages.store c.args.pages.now) (g.P.Pages.store c.args.pages.now) (g.P.Pages.store c.take_out.new.pages) (Works-refl (g.P.Pages.store c.args.pages.now)) (CountsNothing-refl (g.P.Pages.store c.args.pages.now))
+          (λ none tied. let here = subst (λ (t : Rooted). HoldsNoneFirst (form g.S.Summary t.width) old t.root gone) c.copy_of-tree.ensures (none tied) in
+          subst (λ (v : Versioned). HoldsNone (form g.S.Summary v.width) old v.working) c.self.view_is
+          (subst (λ (dead : List (List ℕ)). HoldsNone (form g.S.Summary d.tree.width) old (standing d.tree.root d.living dead)) (parted gone d.dead.working first)
+          (here.each d.living (drop (length gone) d.dead.working))))
+          c.in_err-take_out.ensures.works);
     }
 
 pub returns-clause-vacuums : goal.returns-clause-vacuums
