@@ -19,7 +19,7 @@ returns-in_err-clear-clause-works g c =
     (g.P.Pages.is_tied c.args.pages.now → IsNotShared (plain_form d.tree.width) before.map d.tree.root) c.in_err-clear.field-0.0 before before after (Works-refl before) (CountsNothing-refl before)
     (λ none tied. in_index (λ (f : Field) (working : ℕ). HoldsNoIndex f before.map working) d.column d.start d.cell_width d.tree.root d.committed c.args.self.now c.self.view_is
     (none_indexed field before.map d.tree.root (subst (λ (w : ℕ). IsNotShared (plain_form w) before.map d.tree.root) c.self.invariant.0 (none tied))))
-    c.in_err-clear.ensures.works)
+    c.in_err-clear.ensures.leaves.works)
 
 pub returns-clause-cleared : goal.returns-clause-cleared
 returns-clause-cleared g c = λ tied.
@@ -31,4 +31,4 @@ returns-clause-cleared g c = λ tied.
     in_index (λ (f : Field) (working : ℕ). ChangesIndex f old new working c.at-self-inside.result.root (λ _. [])) d.column d.start d.cell_width d.tree.root d.committed c.args.self.now c.self.view_is
     (subst (λ (to : ℕ). ChangesIndex field old new d.tree.root to (λ _. [])) (sym none)
     (clear_index field old new d.tree.root c.clear.new.self.root
-    (subst (λ (w : ℕ). Changes (plain_form w) old new d.tree.root c.clear.new.self.root (λ _. [])) c.self.invariant.0 (c.in_ok-clear.ensures.cleared tied))))
+    (subst (λ (w : ℕ). Changes (plain_form w) old new d.tree.root c.clear.new.self.root (λ _. [])) c.self.invariant.0 (c.in_ok-clear.ensures.clears tied))))

@@ -21,7 +21,7 @@ returns-in_err-remove-clause-works g c =
     (g.P.Pages.is_tied c.args.pages.now → IsNotShared (plain_form d.tree.width) before.map d.tree.root) c.in_err-remove.field-0.0 before before after (Works-refl before) (CountsNothing-refl before)
     (λ none tied. in_index (λ (f : Field) (working : ℕ). HoldsNoIndex f before.map working) d.column d.start d.cell_width d.tree.root d.committed c.args.self.now c.self.view_is
     (none_indexed field before.map d.tree.root (subst (λ (w : ℕ). IsNotShared (plain_form w) before.map d.tree.root) c.self.invariant.0 (none tied))))
-    c.in_err-remove.ensures.works)
+    c.in_err-remove.ensures.leaves.works)
 
 pub returns-clause-taken : goal.returns-clause-taken
 returns-clause-taken g c = λ tied.
@@ -36,4 +36,4 @@ returns-clause-taken g c = λ tied.
     in_index (λ (f : Field) (working : ℕ). ChangesIndex f old new working to (without_cell cell)) d.column d.start d.cell_width d.tree.root d.committed c.args.self.now c.self.view_is
     (take_index field old new d.tree.root to cell long
     (subst (λ (x : List ℕ). Changes (index_form field) old new d.tree.root to (without_cell x)) (c.deref.ensures.value ∙ items)
-    (subst (λ (w : ℕ). Changes (plain_form w) old new d.tree.root to (without_cell c.deref.result.now)) c.self.invariant.0 (c.in_ok-remove.ensures.removed tied))))
+    (subst (λ (w : ℕ). Changes (plain_form w) old new d.tree.root to (without_cell c.deref.result.now)) c.self.invariant.0 (c.in_ok-remove.ensures.removes tied).changes)))

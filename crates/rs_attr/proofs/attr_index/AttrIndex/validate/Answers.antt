@@ -16,7 +16,7 @@ returns-clause-validates g c = λ tied.
     let before = taken c.args.reached.now in
     let after = taken c.validate.new.reached in
     in_index (λ (f : Field) (working : ℕ). OnOk c.validate.result (Validates (index_form f) pages working before after)) d.column d.start d.cell_width d.tree.root d.committed c.args.self.now c.self.view_is
-    (subst (λ (w : ℕ). OnOk c.validate.result (Validates (plain_form w) pages d.tree.root before after)) c.self.invariant.0 (c.validate.ensures.validates tied))
+    (subst (λ (w : ℕ). OnOk c.validate.result (Validates (plain_form w) pages d.tree.root before after)) c.self.invariant.0 (c.validate.ensures.checks tied).validates)
 
 pub returns-clause-counted : goal.returns-clause-counted
 returns-clause-counted g c = λ tied.
@@ -27,7 +27,7 @@ returns-clause-counted g c = λ tied.
     (IfOk-weaker c.validate.result (λ (count : ℕ). (entries : List (List ℕ)) (used : ℕ → ℕ) → IsTree (plain_form d.tree.width) pages d.tree.root entries used → count ≡ length entries)
     (HasSoMany field pages d.tree.root)
     (λ count told. record { each = λ entries used tree. told entries used (subst (λ (w : ℕ). IsTree (plain_form w) pages d.tree.root entries used) (sym c.self.invariant.0) tree) })
-    (c.validate.ensures.counted tied))
+    (c.validate.ensures.checks tied).counted)
 
 pub returns-clause-damaged : goal.returns-clause-damaged
 returns-clause-damaged g c = λ tied is.
@@ -35,4 +35,4 @@ returns-clause-damaged g c = λ tied is.
     let pages = (g.P.Pages.store c.args.pages.now).map in
     let before = taken c.args.reached.now in
     in_index (λ (f : Field) (working : ℕ). HasNoFreshTree (index_form f) pages working before) d.column d.start d.cell_width d.tree.root d.committed c.args.self.now c.self.view_is
-    (subst (λ (w : ℕ). HasNoFreshTree (plain_form w) pages d.tree.root before) c.self.invariant.0 (c.validate.ensures.damaged tied is))
+    (subst (λ (w : ℕ). HasNoFreshTree (plain_form w) pages d.tree.root before) c.self.invariant.0 ((c.validate.ensures.checks tied).damaged is))
