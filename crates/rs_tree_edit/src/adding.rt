@@ -6,7 +6,7 @@ ghost use Rattle.rs_records.specs.Records.{records};
 ghost use Rattle.rs_tree_edit.specs.Editing.{AddsPage, HasNoFreeList};
 ghost use Rattle.rs_page_owners.specs.Calls.{WorksOn};
 
-use crate::editing::edit_page;
+use crate::editing::{Edit, EditedPage, edit_page};
 use rs_page::{ContentKind, PageNumber};
 use rs_pages::Pages;
 use rs_refusal::Refusal;
@@ -29,6 +29,17 @@ pub fn add_page<P: Pages>(
         number (page_kind kind) width (records count width bytes.now)) }
 {
     let number = pages.allocate(kind)?;
-    edit_page(pages, number, kind, width, 0, 0, 0, count, bytes)?;
+    let edited = EditedPage {
+        number,
+        kind,
+        width,
+        count: 0,
+    };
+    let edit = Edit {
+        at: 0,
+        removed: 0,
+        more: count,
+    };
+    edit_page(pages, edited, edit, bytes)?;
     Ok(number)
 }
