@@ -34,7 +34,8 @@ pub fn descend<P: Pages, S: Summary, F: Fn(&S) -> bool>(
     requires summary { layout.summary ≡ S.WIDTH }
     ensures rests { OnlyReads P.Pages result pages.old pages.new }
     ensures width { IfOk result (λ found. record_width found.0 ≡ layout.width) }
-    ensures found { Descends P.Pages S.Summary (form_in S.Summary layout) root low.now high.now (FnReturnsAt F.Fn keep.now) result pages.old }
+    ensures found { Descends P.Pages S.Summary (form_in S.Summary layout) root low.now high.now
+        (FnReturnsAt F.Fn keep.now) result pages.old }
     ensures refused { RefusesReading P.Pages (form_in S.Summary layout) root result pages.old pages.new }
 {
     let mut cells = Cells::new(alloc, layout.width);

@@ -4,7 +4,7 @@ ghost use Rattle.std.specs.Prelude.{◌≡◌, ◌≤◌, ◌<◌, ◌*◌, true
 ghost use Rattle.rs_page.specs.Header.{page_kind};
 ghost use Rattle.rs_records.specs.Records.{records};
 ghost use Rattle.rs_tree_edit.specs.Editing.{AddsPage, HasNoFreeList};
-ghost use Rattle.rs_page_owners.specs.Calls.{WorksOn};
+ghost use Rattle.rs_page_owners.specs.Calls.{Makes, WorksOn};
 
 use crate::editing::{Edit, EditedPage, edit_page};
 use rs_page::{ContentKind, PageNumber};
@@ -25,8 +25,8 @@ pub fn add_page<P: Pages>(
     requires fit { count * width ≤ 4080 }
     ensures keeps { P.keeps pages.old pages.new }
     ensures works { WorksOn P.Pages (HasNoFreeList (P.store pages.old).map) result pages.old pages.new }
-    ensures added { P.is_tied pages.old → IfOk result (λ number. AddsPage (P.store pages.old).map (P.store pages.new).map
-        number (page_kind kind) width (records count width bytes.now)) }
+    ensures added { Makes P.Pages (λ old new number. AddsPage old new number (page_kind kind) width
+        (records count width bytes.now)) result pages.old pages.new }
 {
     let number = pages.allocate(kind)?;
     let edited = EditedPage {

@@ -10,7 +10,7 @@ ghost use Rattle.rs_tree.specs.Forms.{form_in};
 ghost use Rattle.rs_tree_insert.specs.Finding.{BelongsAt, BelongsUnder};
 ghost use Rattle.rs_tree_insert.specs.Inserting.{HasNoShared, HasNoTops, PutsBelow, TellsBelow, WritesAbove, tops};
 ghost use Rattle.rs_tree_insert.specs.Writing.{IsBroken, is_found};
-ghost use Rattle.rs_page_owners.specs.Calls.{WorksOn};
+ghost use Rattle.rs_page_owners.specs.Calls.{Makes, WorksOn};
 
 use crate::answer::Put;
 use crate::entries::{ONE_ENTRY, TWO_ENTRIES, write_entries};
@@ -48,14 +48,13 @@ pub fn insert_below<P: Pages, S: Summary>(
     requires summary { layout.summary ≡ S.WIDTH }
     requires width { length cell.now ≡ layout.width }
     ensures keeps { P.keeps pages.old pages.new }
-    ensures works { WorksOn P.Pages (HasNoShared (form_in S.Summary layout) (P.store pages.old).map number levels) result pages.old pages.new }
-    ensures puts { P.is_tied pages.old → IfOk result (λ put.
-        PutsBelow (form_in S.Summary layout) (P.store pages.old).map (P.store pages.new).map
-        number cell.now put) }
+    ensures works { WorksOn P.Pages (HasNoShared (form_in S.Summary layout)
+        (P.store pages.old).map number levels) result pages.old pages.new }
+    ensures puts { Makes P.Pages (λ old new put. PutsBelow (form_in S.Summary layout) old new number cell.now put) result
+        pages.old pages.new }
     ensures found { P.is_tied pages.old → IfOk result (λ put.
         TellsBelow (form_in S.Summary layout) (P.store pages.old).map number cell.now put) }
-    ensures same { P.is_tied pages.old → IfOk result (λ put. is_found put ≡ true
-        → SamePages (P.store pages.new).map (P.store pages.old).map) }
+    ensures same { Makes P.Pages (λ old new put. is_found put ≡ true → SamePages new old) result pages.old pages.new }
 {
     let mut bytes = [0; ONE_ENTRY];
     let entry = &mut bytes[..layout.entry_width()];
@@ -139,7 +138,8 @@ fn insert_under<P: Pages, S: Summary>(
     requires entry { length entry.now ≡ entry_bytes layout }
     ensures keeps { P.keeps pages.old pages.new }
     ensures works { WorksOn P.Pages ((page : List ℕ) → (P.store pages.old).map.page place.number ≡ Some page
-        → BelongsUnder page place.number layout cell.now entry.now place.count place.at → HasNoShared (form_in S.Summary layout) (P.store pages.old).map place.number levels) result pages.old pages.new }
+        → BelongsUnder page place.number layout cell.now entry.now place.count place.at
+        → HasNoShared (form_in S.Summary layout) (P.store pages.old).map place.number levels) result pages.old pages.new }
     ensures puts { P.is_tied pages.old → (page : List ℕ) → (P.store pages.old).map.page place.number ≡ Some page
         → BelongsUnder page place.number layout cell.now entry.now place.count place.at → IfOk result (λ put.
         PutsBelow (form_in S.Summary layout) (P.store pages.old).map (P.store pages.new).map
@@ -147,8 +147,7 @@ fn insert_under<P: Pages, S: Summary>(
     ensures found { P.is_tied pages.old → (page : List ℕ) → (P.store pages.old).map.page place.number ≡ Some page
         → BelongsUnder page place.number layout cell.now entry.now place.count place.at → IfOk result (λ put.
         TellsBelow (form_in S.Summary layout) (P.store pages.old).map place.number cell.now put) }
-    ensures same { P.is_tied pages.old → IfOk result (λ put. is_found put ≡ true
-        → SamePages (P.store pages.new).map (P.store pages.old).map) }
+    ensures same { Makes P.Pages (λ old new put. is_found put ≡ true → SamePages new old) result pages.old pages.new }
 {
     let below = child(entry, layout);
     let below_last = is_last_below(place.is_last, place.count, place.at);
@@ -222,7 +221,7 @@ fn says_same<S: Summary>(layout: Layout, entry: &[u8], more: usize, entries: &[u
     ensures one { (one other : S) → S.says (take layout.summary (drop child_bytes entry.now)) one
         → S.says (take layout.summary (drop child_bytes entry.now)) other → one ≡ other }
 {
-    // That bytes say one summary at the most is known of bytes that are read: the clause `one` is by this call.
+    // For the proof: bytes that are read say one summary at the most, which is the clause `one`.
     let _whole = S::read(summary(entry, layout));
     if more != 1 {
         return false;

@@ -39,8 +39,10 @@ pub fn split_page<P: Pages>(
     ensures keeps { P.keeps pages.old pages.new }
     ensures works { WorksOn P.Pages (IsBroken (P.store pages.old).map edited.number) result pages.old pages.new }
     ensures splits { P.is_tied pages.old → (page : List ℕ) → (P.store pages.old).map.page edited.number ≡ Some page
-        → IfOk result (λ other. SplitsPage (P.store pages.old).map (P.store pages.new).map edited.number other (page_kind edited.kind)
-        edited.width (spliced (records edited.count edited.width (content page)) edit.at edit.removed (records edit.more edited.width added.now))) }
+        → IfOk result (λ other. SplitsPage (P.store pages.old).map (P.store pages.new).map edited.number other
+        (page_kind edited.kind)
+        edited.width (spliced (records edited.count edited.width (content page)) edit.at edit.removed
+        (records edit.more edited.width added.now))) }
 {
     let mut both = [0; TWO_PAGES];
     let (kind, width) = (edited.kind, edited.width);
@@ -89,10 +91,12 @@ fn keep_first<P: Pages>(
     ensures keeps { P.keeps pages.old pages.new }
     ensures works { WorksOn P.Pages (HasNoFit (P.store pages.old).map edited.number) result pages.old pages.new }
     ensures edited { P.is_tied pages.old → OnOk result (Splices (P.store pages.old).map (P.store pages.new).map edited.number
-        (page_kind edited.kind) edited.width edited.count 0 edited.count (records first edited.width (take (first * edited.width) both.new))) }
+        (page_kind edited.kind) edited.width edited.count 0 edited.count (records first edited.width (take
+        (first * edited.width) both.new))) }
     ensures both { P.is_tied pages.old → (page : List ℕ) → (P.store pages.old).map.page edited.number ≡ Some page
         → OnOk result (records (edited.count - edit.removed + edit.more) edited.width both.new
-        ≡ spliced (records edited.count edited.width (content page)) edit.at edit.removed (records edit.more edited.width added.now)) }
+        ≡ spliced (records edited.count edited.width (content page)) edit.at edit.removed
+        (records edit.more edited.width added.now)) }
 {
     let (width, count) = (edited.width, edited.count);
     let header = header_of(edited.kind, edited.number, first, width);

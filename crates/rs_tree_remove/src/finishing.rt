@@ -4,7 +4,7 @@ ghost use Rattle.std.specs.Prelude.{◌≡◌, ◌≢◌, ◌≤◌, ◌<◌, �
 ghost use Rattle.rs_tree.specs.Layouts.{entry_bytes};
 ghost use Rattle.rs_tree.specs.Forms.{form_in};
 ghost use Rattle.rs_tree_remove.specs.Finishing.{CantRenew, Finishes, NoneGaveWay, Renews};
-ghost use Rattle.rs_page_owners.specs.Calls.{WorksOn};
+ghost use Rattle.rs_page_owners.specs.Calls.{Makes, WorksOn};
 
 use crate::answer::Removed;
 use crate::sides::Two;
@@ -47,9 +47,8 @@ pub fn drop_entry<P: Pages, S: Summary>(
     ensures works { WorksOn P.Pages (NoneGaveWay (form_in S.Summary layout)
         (P.store pages.old).map inner.number page.now.bytes inner.count at 1 []) result pages.old pages.new }
     ensures room { result ≢ Err Refusal.FileFull }
-    ensures finishes { P.is_tied pages.old → IfOk result (Finishes
-        (form_in S.Summary layout) (P.store pages.old).map (P.store pages.new).map inner.number
-        page.now.bytes inner.count at 1 []) }
+    ensures finishes { Makes P.Pages (λ old new. Finishes (form_in S.Summary layout) old new inner.number page.now.bytes
+        inner.count at 1 []) result pages.old pages.new }
     ensures kept { 2 < inner.count → IfOk result (λ answer. answer ≡ Removed.Kept) }
 {
     let width = layout.entry_width();
@@ -91,11 +90,11 @@ pub fn renew_entry<P: Pages, S: Summary>(
     requires room { (inner.count - stretch.removed + 1) * entry_bytes layout ≤ 4080 }
     ensures keeps { P.keeps pages.old pages.new }
     ensures works { WorksOn P.Pages (NoneGaveWay (form_in S.Summary layout)
-        (P.store pages.old).map inner.number page.now.bytes inner.count stretch.at stretch.removed (top ∷ [])) result pages.old pages.new }
+        (P.store pages.old).map inner.number page.now.bytes inner.count stretch.at stretch.removed
+        (top ∷ [])) result pages.old pages.new }
     ensures room { result ≢ Err Refusal.FileFull }
-    ensures finishes { P.is_tied pages.old → IfOk result (Finishes
-        (form_in S.Summary layout) (P.store pages.old).map (P.store pages.new).map inner.number
-        page.now.bytes inner.count stretch.at stretch.removed (top ∷ [])) }
+    ensures finishes { Makes P.Pages (λ old new. Finishes (form_in S.Summary layout) old new inner.number page.now.bytes
+        inner.count stretch.at stretch.removed (top ∷ [])) result pages.old pages.new }
     ensures kept { stretch.removed < inner.count → IfOk result (λ answer. answer ≡ Removed.Kept) }
 {
     let (count, removed) = (inner.count, stretch.removed);
@@ -123,7 +122,8 @@ pub fn renew_two<P: Pages, S: Summary>(
     requires inside { at + 2 ≤ inner.count }
     ensures keeps { P.keeps pages.old pages.new }
     ensures works { WorksOn P.Pages (NoneGaveWay (form_in S.Summary layout)
-        (P.store pages.old).map inner.number page.now.bytes inner.count at 2 (tops.first ∷ tops.second ∷ [])) result pages.old pages.new }
+        (P.store pages.old).map inner.number page.now.bytes inner.count at 2
+        (tops.first ∷ tops.second ∷ [])) result pages.old pages.new }
     ensures room { result ≢ Err Refusal.FileFull }
     ensures finishes { P.is_tied pages.old → OnOk result (Finishes
         (form_in S.Summary layout) (P.store pages.old).map (P.store pages.new).map inner.number

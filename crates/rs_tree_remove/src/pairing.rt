@@ -5,7 +5,7 @@ ghost use Rattle.rs_tree.specs.Layouts.{entry_bytes};
 ghost use Rattle.rs_tree.specs.Node.{IsNode};
 ghost use Rattle.rs_tree.specs.Forms.{form_in};
 ghost use Rattle.rs_tree_remove.specs.Mending.{Mends, NoneLonely, Pairs, NonePairs};
-ghost use Rattle.rs_page_owners.specs.Calls.{WorksOn};
+ghost use Rattle.rs_page_owners.specs.Calls.{Makes, WorksOn};
 
 use crate::Removed;
 use crate::finishing::{InnerPage, Stretch, drop_entry, renew_entry, renew_two};
@@ -54,9 +54,8 @@ pub fn mend<P: Pages, S: Summary>(
     ensures works { WorksOn P.Pages (NoneLonely (form_in S.Summary layout)
         (P.store pages.old).map inner.number page.now.bytes index lonely.number lonely.only) result pages.old pages.new }
     ensures room { result ≢ Err Refusal.FileFull }
-    ensures mends { P.is_tied pages.old → IfOk result (Mends
-        (form_in S.Summary layout) (P.store pages.old).map (P.store pages.new).map inner.number
-        page.now.bytes index lonely.number lonely.only) }
+    ensures mends { Makes P.Pages (λ old new. Mends (form_in S.Summary layout) old new inner.number page.now.bytes index
+        lonely.number lonely.only) result pages.old pages.new }
 {
     let beside = neighbour(index, inner.count);
     let entry = record_at(content(page), layout.entry_width(), beside.near);
@@ -95,11 +94,12 @@ fn even<P: Pages, S: Summary>(
     requires two { 2 ≤ pair.size }
     ensures keeps { P.keeps pages.old pages.new }
     ensures works { WorksOn P.Pages (NonePairs (form_in S.Summary layout)
-        (P.store pages.old).map inner.number page.now.bytes inner.count pair.at pair.is_first pair.lonely pair.only pair.other near.now.bytes pair.size) result pages.old pages.new }
+        (P.store pages.old).map inner.number page.now.bytes inner.count pair.at pair.is_first pair.lonely pair.only
+        pair.other near.now.bytes pair.size) result pages.old pages.new }
     ensures room { result ≢ Err Refusal.FileFull }
-    ensures pairs { P.is_tied pages.old → IfOk result (Pairs
-        (form_in S.Summary layout) (P.store pages.old).map (P.store pages.new).map inner.number
-        page.now.bytes inner.count pair.at pair.is_first pair.lonely pair.only pair.other near.now.bytes pair.size) }
+    ensures pairs { Makes P.Pages (λ old new. Pairs (form_in S.Summary layout) old new inner.number page.now.bytes
+        inner.count pair.at pair.is_first pair.lonely pair.only pair.other near.now.bytes pair.size) result pages.old
+        pages.new }
 {
     if pair.size == 2 {
         join::<P, S>(pages, layout, inner, page, pair, near)
@@ -123,12 +123,13 @@ fn join<P: Pages, S: Summary>(
     requires inside { pair.at + 2 ≤ inner.count }
     ensures keeps { P.keeps pages.old pages.new }
     ensures works { WorksOn P.Pages (NonePairs (form_in S.Summary layout)
-        (P.store pages.old).map inner.number page.now.bytes inner.count pair.at pair.is_first pair.lonely pair.only pair.other near.now.bytes 2) result pages.old pages.new }
+        (P.store pages.old).map inner.number page.now.bytes inner.count pair.at pair.is_first pair.lonely pair.only
+        pair.other near.now.bytes 2) result pages.old pages.new }
     ensures room { result ≢ Err Refusal.FileFull }
-    ensures pairs { P.is_tied pages.old → IfOk result (Pairs
-        (form_in S.Summary layout) (P.store pages.old).map (P.store pages.new).map inner.number
-        page.now.bytes inner.count pair.at pair.is_first pair.lonely pair.only pair.other near.now.bytes 2) }
+    ensures pairs { Makes P.Pages (λ old new. Pairs (form_in S.Summary layout) old new inner.number page.now.bytes
+        inner.count pair.at pair.is_first pair.lonely pair.only pair.other near.now.bytes 2) result pages.old pages.new }
 {
+    // For the proof: three entries fit a page.
     let _fits = layout.entry_width();
     let (at, lonely, only, other) = (pair.at, pair.lonely, pair.only, pair.other);
     let taker = InnerPage {
@@ -163,11 +164,12 @@ fn share<P: Pages, S: Summary>(
     requires more { 2 < pair.size }
     ensures keeps { P.keeps pages.old pages.new }
     ensures works { WorksOn P.Pages (NonePairs (form_in S.Summary layout)
-        (P.store pages.old).map inner.number page.now.bytes inner.count pair.at pair.is_first pair.lonely pair.only pair.other near.now.bytes pair.size) result pages.old pages.new }
+        (P.store pages.old).map inner.number page.now.bytes inner.count pair.at pair.is_first pair.lonely pair.only
+        pair.other near.now.bytes pair.size) result pages.old pages.new }
     ensures room { result ≢ Err Refusal.FileFull }
-    ensures pairs { P.is_tied pages.old → IfOk result (Pairs
-        (form_in S.Summary layout) (P.store pages.old).map (P.store pages.new).map inner.number
-        page.now.bytes inner.count pair.at pair.is_first pair.lonely pair.only pair.other near.now.bytes pair.size) }
+    ensures pairs { Makes P.Pages (λ old new. Pairs (form_in S.Summary layout) old new inner.number page.now.bytes
+        inner.count pair.at pair.is_first pair.lonely pair.only pair.other near.now.bytes pair.size) result pages.old
+        pages.new }
 {
     let (at, is_first, size) = (pair.at, pair.is_first, pair.size);
     let (lonely, only, other) = (pair.lonely, pair.only, pair.other);

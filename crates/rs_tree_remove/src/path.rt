@@ -4,7 +4,7 @@ ghost use Rattle.std.specs.Prelude.{◌≡◌, ◌≢◌, ◌≤◌, ◌<◌, So
 ghost use Rattle.rs_tree.specs.Node.{IsNode};
 ghost use Rattle.rs_tree.specs.Forms.{form_in};
 ghost use Rattle.rs_tree_remove.specs.Leaving.{RemovesPart, HasNoOwnPart};
-ghost use Rattle.rs_page_owners.specs.Calls.{WorksOn};
+ghost use Rattle.rs_page_owners.specs.Calls.{Makes, WorksOn};
 
 use crate::finishing::{InnerPage, Stretch, drop_entry, renew_entry};
 use crate::leaf::remove_from_leaf;
@@ -30,11 +30,11 @@ pub fn remove_below<P: Pages, S: Summary>(
     requires begun { (P.store pages.old).is_begun ≡ true }
     requires summary { layout.summary ≡ S.WIDTH }
     ensures keeps { P.keeps pages.old pages.new }
-    ensures works { WorksOn P.Pages (HasNoOwnPart (form_in S.Summary layout) (P.store pages.old).map number levels) result pages.old pages.new }
+    ensures works { WorksOn P.Pages (HasNoOwnPart (form_in S.Summary layout)
+        (P.store pages.old).map number levels) result pages.old pages.new }
     ensures room { result ≢ Err Refusal.FileFull }
-    ensures removed { P.is_tied pages.old → IfOk result (RemovesPart
-        (form_in S.Summary layout) (P.store pages.old).map (P.store pages.new).map number
-        cell.now) }
+    ensures removed { Makes P.Pages (λ old new. RemovesPart (form_in S.Summary layout) old new number cell.now) result
+        pages.old pages.new }
 {
     let loaded = read_part(pages, number, layout)?;
     match loaded.node {
@@ -69,7 +69,8 @@ fn remove_under<P: Pages, S: Summary>(
     ensures works { WorksOn P.Pages ((P.store pages.old).map.page inner.number ≡ Some page.now.bytes
         → HasNoOwnPart (form_in S.Summary layout) (P.store pages.old).map inner.number levels) result pages.old pages.new }
     ensures room { result ≢ Err Refusal.FileFull }
-    ensures removed { P.is_tied pages.old → (P.store pages.old).map.page inner.number ≡ Some page.now.bytes → IfOk result (RemovesPart
+    ensures removed { P.is_tied pages.old → (P.store pages.old).map.page inner.number ≡ Some page.now.bytes
+        → IfOk result (RemovesPart
         (form_in S.Summary layout) (P.store pages.old).map (P.store pages.new).map inner.number
         cell.now) }
 {
