@@ -31,6 +31,6 @@ pub fn validate<P: Pages, S: Summary>(
     if root.number() == 0 {
         return Ok(0);
     }
-    let (_, total, _) = check_part::<P, S>(pages, layout, root, LEVELS, None, None, reached)?;
-    Ok(total)
+    let part = check_part::<P, S>(pages, layout, root, LEVELS, None, None, reached)?;
+    Ok(part.total)
 }
