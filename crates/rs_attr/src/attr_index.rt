@@ -7,8 +7,6 @@ ghost use Rattle.std.specs.Prelude.{◌≡◌, ◌≢◌, ◌⊎◌, ◌↔◌, 
 ghost use Rattle.rs_attr.specs.Entries.{ChangesIndex, FitsPages, HoldsNoIndex, IsColumn, entry_of, index_form};
 ghost use Rattle.rs_attr.specs.Finding.{FindsEqual};
 ghost use Rattle.rs_attr.specs.Opening.{HasSoMany};
-ghost use Rattle.rs_page_owners.specs.Changes.{WorksAfter};
-ghost use Rattle.rs_pages.specs.Lending.{RestsAfter};
 ghost use Rattle.rs_page_marks.specs.Marks.{taken};
 ghost use Rattle.rs_records.specs.Listed.{listed, record_width};
 ghost use Rattle.rs_tree.specs.Calls.{RefusesToRead};
@@ -19,6 +17,8 @@ ghost use Rattle.rs_value.specs.declared.column.ColumnType.{ColumnType};
 ghost use Rattle.rs_value.specs.Encoding.{row_width};
 ghost use Rattle.rs_value.specs.Values.{IsValue};
 ghost use Rattle.rs_value.specs.View.{datum_of};
+ghost use Rattle.rs_pages.specs.Calls.{OnlyReads};
+ghost use Rattle.rs_page_owners.specs.Calls.{WorksOn};
 
 use crate::entry::{entry_of, is_of_type, value_bytes, write_entry_and_zero};
 use crate::equal::{entries_with, seen_cells};
@@ -61,7 +61,8 @@ impl Model for AttrIndex {
       committed = index.committed;
     } };
 
-    ghost invariant = { λ index. (index.tree.width ≡ width index.column + index.cell_width) × (index.start + (width index.column + 20) ≤ index.cell_width)
+    ghost invariant = { λ index. (index.tree.width ≡ width index.column + index.cell_width) × (index.start +
+        (width index.column + 20) ≤ index.cell_width)
         × (3 * (4 + (width index.column + index.cell_width)) ≤ 4080) };
 }
 
@@ -106,7 +107,7 @@ impl AttrIndex {
         version: u64,
     ) -> Result<(Cells, u32), Refusal>
         requires value { IsValue (datum_of value.now) }
-        ensures rests { RestsAfter P.is_tied P.store P.keeps result pages.old pages.new }
+        ensures rests { OnlyReads P.Pages result pages.old pages.new }
         ensures width { IfOk result (λ found. record_width found.0 ≡ self.now.field.cell_width) }
         ensures found { P.is_tied pages.old → IfOk result (λ found. (types : List ColumnType) (column : ℕ)
             → IsColumn types column self.now.field → FindsEqual types column self.now.field (P.store pages.old).map
@@ -129,11 +130,12 @@ impl AttrIndex {
     /// none of whose pages was reached before; 94 where none does; 91 where a page couldn't be read. Which pages are
     /// marked after a refusal is unspecified.
     pub fn validate<P: Pages>(&self, pages: &mut P, reached: &mut Reached) -> Result<u64, Refusal>
-        ensures rests { RestsAfter P.is_tied P.store P.keeps result pages.old pages.new }
+        ensures rests { OnlyReads P.Pages result pages.old pages.new }
         ensures size { length reached.new ≡ length reached.old }
         ensures validates { P.is_tied pages.old → OnOk result (Validates (index_form self.now.field) (P.store pages.old).map
             self.now.working (taken reached.old) (taken reached.new)) }
-        ensures counted { P.is_tied pages.old → IfOk result (HasSoMany self.now.field (P.store pages.old).map self.now.working) }
+        ensures counted { P.is_tied pages.old → IfOk result (HasSoMany self.now.field
+            (P.store pages.old).map self.now.working) }
         ensures refused { IfErr result (λ why. (why ≡ Refusal.Disk) ⊎ (why ≡ Refusal.DamagedFile)) }
         ensures damaged { P.is_tied pages.old → result ≡ Err Refusal.DamagedFile → HasNoFreshTree
             (index_form self.now.field) (P.store pages.old).map self.now.working (taken reached.old) }
@@ -151,7 +153,7 @@ impl AttrIndex {
         cell: &[u8],
     ) -> Result<bool, Refusal>
         requires width { length cell.now ≡ self.now.field.cell_width }
-        ensures rests { RestsAfter P.is_tied P.store P.keeps result pages.old pages.new }
+        ensures rests { OnlyReads P.Pages result pages.old pages.new }
         ensures found { P.is_tied pages.old → IfOk result (λ found. (entries : List (List ℕ)) (used : ℕ → ℕ)
             → IsTree (index_form self.now.field) (P.store pages.old).map self.now.working entries used
             → (IsTrue found ↔ Contains entries (entry_of self.now.field cell.now))) }
@@ -177,9 +179,8 @@ impl AttrIndex {
         requires begun { (P.store pages.old).is_begun ≡ true }
         requires width { length cell.now ≡ self.old.field.cell_width }
         ensures keeps { P.keeps pages.old pages.new }
-        ensures works { WorksAfter (P.is_tied pages.old
-            → HoldsNoIndex self.old.field (P.store pages.old).map self.old.working)
-            result (P.store pages.old) (P.store pages.new) }
+        ensures works { WorksOn P.Pages (HoldsNoIndex self.old.field
+            (P.store pages.old).map self.old.working) result pages.old pages.new }
         ensures put { P.is_tied pages.old → OnOk result (ChangesIndex self.old.field
             (P.store pages.old).map (P.store pages.new).map self.old.working self.new.working
             (with_cell cell.now)) }
@@ -203,9 +204,8 @@ impl AttrIndex {
         requires begun { (P.store pages.old).is_begun ≡ true }
         requires width { length cell.now ≡ self.old.field.cell_width }
         ensures keeps { P.keeps pages.old pages.new }
-        ensures works { WorksAfter (P.is_tied pages.old
-            → HoldsNoIndex self.old.field (P.store pages.old).map self.old.working)
-            result (P.store pages.old) (P.store pages.new) }
+        ensures works { WorksOn P.Pages (HoldsNoIndex self.old.field
+            (P.store pages.old).map self.old.working) result pages.old pages.new }
         ensures room { result ≢ Err Refusal.FileFull }
         ensures taken { P.is_tied pages.old → OnOk result (ChangesIndex self.old.field
             (P.store pages.old).map (P.store pages.new).map self.old.working self.new.working
@@ -225,9 +225,8 @@ impl AttrIndex {
     pub fn clear<P: Pages>(&mut self, pages: &mut P) -> Result<(), Refusal>
         requires begun { (P.store pages.old).is_begun ≡ true }
         ensures keeps { P.keeps pages.old pages.new }
-        ensures works { WorksAfter (P.is_tied pages.old
-            → HoldsNoIndex self.old.field (P.store pages.old).map self.old.working)
-            result (P.store pages.old) (P.store pages.new) }
+        ensures works { WorksOn P.Pages (HoldsNoIndex self.old.field
+            (P.store pages.old).map self.old.working) result pages.old pages.new }
         ensures room { result ≢ Err Refusal.FileFull }
         ensures cleared { P.is_tied pages.old → OnOk result (ChangesIndex self.old.field
             (P.store pages.old).map (P.store pages.new).map self.old.working self.new.working (λ _. [])) }

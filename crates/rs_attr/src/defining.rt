@@ -7,9 +7,9 @@ ghost use Rattle.std.specs.Prelude.{◌≡◌, ◌<◌, ℕ, List, IfOk, OnOk, f
 ghost use Rattle.rs_attr.specs.Inner.{Appends, AppendsNone, Enters, EntersNone};
 ghost use Rattle.rs_attr.specs.Entries.{BecomesIndex, FitsPages, IsColumn};
 ghost use Rattle.rs_interval.specs.Finding.{event_form};
-ghost use Rattle.rs_page_owners.specs.Changes.{WorksAfter};
 ghost use Rattle.rs_page_owners.specs.Counts.{◌&◌, no_pages};
 ghost use Rattle.rs_page_owners.specs.Owners.{Shares};
+ghost use Rattle.rs_page_owners.specs.Calls.{WorksOn};
 ghost use Rattle.rs_records.specs.Listed.{listed, record_width};
 ghost use Rattle.rs_records.specs.Order.{is_below};
 ghost use Rattle.rs_versioned.specs.Events.{Event, event_width, kept_events};
@@ -41,9 +41,8 @@ pub fn define<P: Pages>(
     requires column { column < length table.now.types }
     requires fits { FitsPages table.now.types column }
     ensures keeps { P.keeps pages.old pages.new }
-    ensures works { WorksAfter (P.is_tied pages.old → HoldsNone
-        (event_form (event_width table.now.types)) (P.store pages.old).map table.now.working)
-        result (P.store pages.old) (P.store pages.new) }
+    ensures works { WorksOn P.Pages (HoldsNone
+        (event_form (event_width table.now.types)) (P.store pages.old).map table.now.working) result pages.old pages.new }
     ensures column { IfOk result (λ index. IsColumn table.now.types column index.field) }
     ensures committed { IfOk result (λ index. index.committed ≡ 0) }
     ensures defined { P.is_tied pages.old → IfOk result (λ index. (accepted : ℕ) (events : List Event) (used others : ℕ → ℕ)
@@ -78,9 +77,8 @@ fn enter<P: Pages>(
     requires width { cells.now.width ≡ index.old.field.cell_width }
     requires order { is_below high.now low.now ≡ false }
     ensures keeps { P.keeps pages.old pages.new }
-    ensures works { WorksAfter (P.is_tied pages.old
-        → EntersNone index.old.field (P.store pages.old).map cells.now.root index.old.working low.now)
-        result (P.store pages.old) (P.store pages.new) }
+    ensures works { WorksOn P.Pages (EntersNone index.old.field
+        (P.store pages.old).map cells.now.root index.old.working low.now) result pages.old pages.new }
     ensures entered { P.is_tied pages.old → OnOk result (Enters index.old.field (P.store pages.old).map (P.store pages.new).map
         cells.now.root index.old.working index.new.working low.now high.now) }
     ensures field { index.new.field ≡ index.old.field }
@@ -100,10 +98,10 @@ fn append<P: Pages>(
     requires begun { (P.store pages.old).is_begun ≡ true }
     requires width { record_width cells.now ≡ index.old.field.cell_width }
     ensures keeps { P.keeps pages.old pages.new }
-    ensures works { WorksAfter (P.is_tied pages.old
-        → AppendsNone index.old.field (P.store pages.old).map index.old.working (listed cells.now))
-        result (P.store pages.old) (P.store pages.new) }
-    ensures appended { P.is_tied pages.old → OnOk result (Appends index.old.field (P.store pages.old).map (P.store pages.new).map
+    ensures works { WorksOn P.Pages (AppendsNone index.old.field (P.store pages.old).map index.old.working
+        (listed cells.now)) result pages.old pages.new }
+    ensures appended { P.is_tied pages.old → OnOk result (Appends index.old.field (P.store pages.old).map
+        (P.store pages.new).map
         index.old.working index.new.working (listed cells.now)) }
     ensures field { index.new.field ≡ index.old.field }
     ensures committed { index.new.committed ≡ index.old.committed }

@@ -5,10 +5,10 @@
 
 ghost use Rattle.std.specs.Prelude.{◌≡◌, ◌≤◌, ◌+◌, ◌++◌, ℕ, IfOk, IfErr, IsTrue, List, drop, filter, length, map, replicate, true};
 ghost use Rattle.rs_attr.specs.Entries.{plain_form};
-ghost use Rattle.rs_pages.specs.Lending.{RestsAfter};
 ghost use Rattle.rs_records.specs.Listed.{listed, record_width};
 ghost use Rattle.rs_tree.specs.Calls.{Finds, RefusesToRead};
 ghost use Rattle.rs_cell_versions.specs.Version.{sees};
+ghost use Rattle.rs_pages.specs.Calls.{OnlyReads};
 
 use rs_btree::Tree;
 use rs_cell_versions::sees;
@@ -28,7 +28,7 @@ pub(crate) fn entries_with<P: Pages>(
     tree: &Tree<NoSummary>,
     bytes: &[u8],
 ) -> Result<(Cells, u32), Refusal>
-    ensures rests { RestsAfter P.is_tied P.store P.keeps result pages.old pages.new }
+    ensures rests { OnlyReads P.Pages result pages.old pages.new }
     ensures width { IfOk result (λ found. record_width found.0 ≡ tree.now.width) }
     ensures found { P.is_tied pages.old → IfOk result (λ found. Finds (plain_form tree.now.width) (P.store pages.old).map
         tree.now.root bytes.now (bytes.now ++ replicate 9 255) (λ _. true) (listed found.0) found.1) }

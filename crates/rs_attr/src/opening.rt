@@ -9,11 +9,11 @@ ghost use Rattle.std.specs.Prelude.{◌≡◌, ◌⊎◌, ◌≤◌, ◌+◌, �
 ghost use Rattle.std.specs.List.{AllByRecursion};
 ghost use Rattle.rs_attr.specs.Opening.{AreNoPart, ArePart, HasEntries, LacksEntries, OpensNoTable, OpensTable, ReachesIndexes, ReachesNoIndexes};
 ghost use Rattle.rs_attr.specs.Tables.{AreOn};
-ghost use Rattle.rs_pages.specs.Lending.{RestsAfter};
 ghost use Rattle.rs_page_marks.specs.Marks.{taken};
 ghost use Rattle.rs_records.specs.Listed.{listed, record_width};
 ghost use Rattle.rs_versioned.specs.Events.{Event, SaysEvent, event_width};
 ghost use Rattle.rs_cell_versions.specs.Version.{died_of};
+ghost use Rattle.rs_pages.specs.Calls.{OnlyReads};
 
 use crate::attr_index::AttrIndex;
 use rs_cell_versions::Opening;
@@ -42,7 +42,7 @@ pub fn open<P: Pages>(
 ) -> Result<EventTable, Refusal>
     requires fits { 3 * (8 + event_width schema.items) ≤ 4080 }
     requires indexes { AreOn schema.items indexes.now }
-    ensures rests { RestsAfter P.is_tied P.store P.keeps result pages.old pages.new }
+    ensures rests { OnlyReads P.Pages result pages.old pages.new }
     ensures size { length reached.new ≡ length reached.old }
     ensures types { IfOk result (λ table. table.types ≡ schema.items) }
     ensures committed { IfOk result (λ table. table.committed ≡ table.working) }
@@ -85,7 +85,7 @@ fn reach_indexes<P: Pages>(
     told: ToldRecords,
     reached: &mut Reached,
 ) -> Result<(), Refusal>
-    ensures rests { RestsAfter P.is_tied P.store P.keeps result pages.old pages.new }
+    ensures rests { OnlyReads P.Pages result pages.old pages.new }
     ensures size { length reached.new ≡ length reached.old }
     ensures reaches { P.is_tied pages.old → OnOk result (ReachesIndexes (P.store pages.old).map indexes.now
         (told.living + told.garbage) (taken reached.old) (taken reached.new)) }
@@ -113,7 +113,7 @@ fn check_part<P: Pages>(
 ) -> Result<(), Refusal>
     requires width { record_width cells.now ≡ event_width schema.now.items }
     requires indexes { AreOn schema.now.items indexes.now }
-    ensures rests { RestsAfter P.is_tied P.store P.keeps result pages.old pages.new }
+    ensures rests { OnlyReads P.Pages result pages.old pages.new }
     ensures part { P.is_tied pages.old → OnOk result (ArePart schema.now.items (P.store pages.old).map indexes.now
         (listed cells.now)) }
     ensures refused { IfErr result (λ why. (why ≡ Refusal.OutOfMemory) ⊎ (why ≡ Refusal.Disk) ⊎ (why ≡ Refusal.DamagedFile)) }
@@ -154,10 +154,11 @@ impl AttrIndex {
         cells: &Cells,
     ) -> Result<(), Refusal>
         requires width { record_width cells.now ≡ self.now.field.cell_width }
-        ensures rests { RestsAfter P.is_tied P.store P.keeps result pages.old pages.new }
+        ensures rests { OnlyReads P.Pages result pages.old pages.new }
         ensures entered { P.is_tied pages.old → OnOk result (HasEntries self.now.field (P.store pages.old).map self.now.working
             (listed cells.now)) }
-        ensures refused { IfErr result (λ why. (why ≡ Refusal.OutOfMemory) ⊎ (why ≡ Refusal.Disk) ⊎ (why ≡ Refusal.DamagedFile)) }
+        ensures refused { IfErr result (λ why. (why ≡ Refusal.OutOfMemory) ⊎ (why ≡ Refusal.Disk) ⊎
+            (why ≡ Refusal.DamagedFile)) }
         ensures damaged { P.is_tied pages.old → result ≡ Err Refusal.DamagedFile → LacksEntries self.now.field
             (P.store pages.old).map self.now.working (listed cells.now) }
     {

@@ -7,9 +7,9 @@ ghost use Rattle.std.specs.Prelude.{◌≡◌, ◌≢◌, ◌<◌, ◌≤◌, �
 ghost use Rattle.std.specs.List.{AllByRecursion};
 ghost use Rattle.rs_attr.specs.Inner.{ChangeIndexes, HoldNoIndexes};
 ghost use Rattle.rs_attr.specs.Tables.{AreOn, ChangesTable, HoldsNoTable, kept_parts};
-ghost use Rattle.rs_page_owners.specs.Changes.{WorksAfter};
 ghost use Rattle.rs_page_owners.specs.Counts.{◌&◌};
 ghost use Rattle.rs_page_owners.specs.Owners.{Shares};
+ghost use Rattle.rs_page_owners.specs.Calls.{WorksOn};
 ghost use Rattle.rs_pages.specs.PageMap.{SamePages};
 ghost use Rattle.rs_records.specs.Listed.{listed, record_width};
 ghost use Rattle.rs_tree.specs.Cells.{with_cell, without_cell};
@@ -49,16 +49,31 @@ pub fn add<P: Pages>(
     requires row { IsRowOf table.old.types (row_of span.now.tuple.value) }
     requires indexes { AreOn table.old.types indexes.old }
     ensures keeps { P.keeps pages.old pages.new }
-    ensures works { WorksAfter (P.is_tied pages.old → HoldsNoTable table.old.types (P.store pages.old).map table.old.working indexes.old)
-        result (P.store pages.old) (P.store pages.new) }
+    ensures works { WorksOn P.Pages (HoldsNoTable table.old.types
+        (P.store pages.old).map table.old.working indexes.old) result pages.old pages.new }
     ensures added { P.is_tied pages.old → OnOk result ((accepted : ℕ) → accepted ≤ version → ChangesTable
-        table.old.types (P.store pages.old).map (P.store pages.new).map table.old.working table.new.working indexes.old indexes.new
+        table.old.types (P.store pages.old).map (P.store pages.new).map table.old.working table.new.working indexes.old
+        indexes.new
         accepted version (HasOneMore
-        (record { route = route; lo = span.now.lo; hi = span.now.hi; row = row_of span.now.tuple.value; born = version; died = LIVING }))) }
+        (record {
+          route = route;
+          lo = span.now.lo;
+          hi = span.now.hi;
+          row = row_of span.now.tuple.value;
+          born = version;
+          died = LIVING;
+        }))) }
     ensures found { P.is_tied pages.old → IfOk result (λ new. (events : List Event) (used others : ℕ → ℕ) (accepted : ℕ)
         → HoldsRecords (kept_events table.old.types) (P.store pages.old).map table.old.working accepted events used
         → Shares (P.store pages.old).map (used & others) → (IsTrue new ↔ (Contains events
-        (record { route = route; lo = span.now.lo; hi = span.now.hi; row = row_of span.now.tuple.value; born = version; died = LIVING }) → ⊥))) }
+        (record {
+          route = route;
+          lo = span.now.lo;
+          hi = span.now.hi;
+          row = row_of span.now.tuple.value;
+          born = version;
+          died = LIVING;
+        }) → ⊥))) }
     ensures rests { P.is_tied pages.old → IfOk result (λ new. new ≡ false
         → SamePages (P.store pages.new).map (P.store pages.old).map × (table.new ≡ table.old) × (indexes.new ≡ indexes.old)) }
     ensures types { table.new.types ≡ table.old.types }
@@ -94,11 +109,12 @@ pub fn kill<P: Pages>(
     requires order { AllByRecursion (λ dead. died_of dead ≤ version) table.old.working.dead }
     requires indexes { AreOn table.old.types indexes.old }
     ensures keeps { P.keeps pages.old pages.new }
-    ensures works { WorksAfter (P.is_tied pages.old → HoldsNoTable table.old.types (P.store pages.old).map table.old.working indexes.old)
-        result (P.store pages.old) (P.store pages.new) }
+    ensures works { WorksOn P.Pages (HoldsNoTable table.old.types
+        (P.store pages.old).map table.old.working indexes.old) result pages.old pages.new }
     ensures killed { P.is_tied pages.old → OnOk result ((accepted : ℕ) (event : Event) → accepted ≤ version
         → SaysEvent table.old.types cell.now event → ChangesTable
-        table.old.types (P.store pages.old).map (P.store pages.new).map table.old.working table.new.working indexes.old indexes.new
+        table.old.types (P.store pages.old).map (P.store pages.new).map table.old.working table.new.working indexes.old
+        indexes.new
         accepted version (HasEnded (kept_events table.old.types) version event)) }
     ensures found { P.is_tied pages.old → IfOk result (λ found. (events : List Event) (used others : ℕ → ℕ) (accepted : ℕ)
         → HoldsRecords (kept_events table.old.types) (P.store pages.old).map table.old.working accepted events used
@@ -134,13 +150,14 @@ pub fn vacuum<P: Pages>(
     requires begun { (P.store pages.old).is_begun ≡ true }
     requires indexes { AreOn table.old.types indexes.old }
     ensures keeps { P.keeps pages.old pages.new }
-    ensures works { WorksAfter (P.is_tied pages.old → HoldsNoTable table.old.types (P.store pages.old).map table.old.working indexes.old)
-        result (P.store pages.old) (P.store pages.new) }
+    ensures works { WorksOn P.Pages (HoldsNoTable table.old.types
+        (P.store pages.old).map table.old.working indexes.old) result pages.old pages.new }
     ensures room { result ≢ Err Refusal.FileFull }
     ensures taken { IfOk result (λ taken. listed taken ≡ cleared oldest most table.old.working.dead) }
     ensures taken_width { IfOk result (λ taken. record_width taken ≡ event_width table.old.types) }
     ensures vacuumed { P.is_tied pages.old → IfOk result (λ taken. (accepted : ℕ) → ChangesTable
-        table.old.types (P.store pages.old).map (P.store pages.new).map table.old.working table.new.working indexes.old indexes.new
+        table.old.types (P.store pages.old).map (P.store pages.new).map table.old.working table.new.working indexes.old
+        indexes.new
         accepted accepted (HasCleared (kept_events table.old.types) oldest (listed taken))) }
     ensures as_many { P.is_tied pages.old → IfOk result (λ taken. (events : List Event) (used : ℕ → ℕ) (accepted : ℕ)
         → HoldsRecords (kept_events table.old.types) (P.store pages.old).map table.old.working accepted events used
@@ -168,11 +185,12 @@ pub fn clear<P: Pages>(
     requires begun { (P.store pages.old).is_begun ≡ true }
     requires indexes { AreOn table.old.types indexes.old }
     ensures keeps { P.keeps pages.old pages.new }
-    ensures works { WorksAfter (P.is_tied pages.old → HoldsNoTable table.old.types (P.store pages.old).map table.old.working indexes.old)
-        result (P.store pages.old) (P.store pages.new) }
+    ensures works { WorksOn P.Pages (HoldsNoTable table.old.types
+        (P.store pages.old).map table.old.working indexes.old) result pages.old pages.new }
     ensures room { result ≢ Err Refusal.FileFull }
     ensures cleared { P.is_tied pages.old → OnOk result ((accepted : ℕ) → ChangesTable
-        table.old.types (P.store pages.old).map (P.store pages.new).map table.old.working table.new.working indexes.old indexes.new
+        table.old.types (P.store pages.old).map (P.store pages.new).map table.old.working table.new.working indexes.old
+        indexes.new
         accepted accepted HasNone) }
     ensures working { OnOk result (table.new.working ≡ nothing_stands) }
     ensures roots { OnOk result (AllByRecursion (λ index. index.working ≡ 0) indexes.new) }
@@ -197,8 +215,8 @@ fn put_into_each<P: Pages>(
     requires begun { (P.store pages.old).is_begun ≡ true }
     requires width { AllByRecursion (λ index. index.field.cell_width ≡ length cell.now) indexes.old }
     ensures keeps { P.keeps pages.old pages.new }
-    ensures works { WorksAfter (P.is_tied pages.old → HoldNoIndexes (P.store pages.old).map indexes.old (length cell.now))
-        result (P.store pages.old) (P.store pages.new) }
+    ensures works { WorksOn P.Pages (HoldNoIndexes (P.store pages.old).map indexes.old
+        (length cell.now)) result pages.old pages.new }
     ensures put { P.is_tied pages.old → OnOk result (ChangeIndexes (P.store pages.old).map (P.store pages.new).map
         indexes.old indexes.new (length cell.now) (with_cell cell.now)) }
     ensures kept { kept_parts indexes.new ≡ kept_parts indexes.old }
@@ -219,8 +237,8 @@ fn take_out_of_each<P: Pages>(
     requires begun { (P.store pages.old).is_begun ≡ true }
     requires width { AllByRecursion (λ index. index.field.cell_width ≡ length cell.now) indexes.old }
     ensures keeps { P.keeps pages.old pages.new }
-    ensures works { WorksAfter (P.is_tied pages.old → HoldNoIndexes (P.store pages.old).map indexes.old (length cell.now))
-        result (P.store pages.old) (P.store pages.new) }
+    ensures works { WorksOn P.Pages (HoldNoIndexes (P.store pages.old).map indexes.old
+        (length cell.now)) result pages.old pages.new }
     ensures room { result ≢ Err Refusal.FileFull }
     ensures taken { P.is_tied pages.old → OnOk result (ChangeIndexes (P.store pages.old).map (P.store pages.new).map
         indexes.old indexes.new (length cell.now) (without_cell cell.now)) }

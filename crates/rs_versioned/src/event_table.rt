@@ -5,11 +5,11 @@
 
 ghost use Rattle.std.specs.Prelude.{◌≡◌, ◌≢◌, ◌<◌, ◌≤◌, ◌↔◌, ◌*◌, ◌+◌, ℕ, List, [], Contains, IsTrue, IfOk, IfErr, OnOk, OnErr, count_by, false, filter, length, min, nat_le, true, Err};
 ghost use Rattle.std.specs.List.{AllByRecursion, AllZip};
-ghost use Rattle.rs_page_owners.specs.Changes.{WorksAfter};
 ghost use Rattle.rs_page_owners.specs.Counts.{◌&◌, no_pages};
 ghost use Rattle.rs_page_owners.specs.Owners.{Shares};
-ghost use Rattle.rs_pages.specs.Lending.{RestsAfter};
+ghost use Rattle.rs_page_owners.specs.Calls.{WorksOn};
 ghost use Rattle.rs_pages.specs.PageMap.{PageMap, SamePages};
+ghost use Rattle.rs_pages.specs.Calls.{OnlyReads};
 ghost use Rattle.rs_records.specs.Listed.{listed, record_width};
 ghost use Rattle.rs_tree.specs.Calls.{RefusesToRead};
 ghost use Rattle.rs_tree.specs.Cells.{with_cell};
@@ -138,21 +138,42 @@ impl EventTable {
         requires begun { (P.store pages.old).is_begun ≡ true }
         requires row { IsRowOf self.old.types (row_of span.now.tuple.value) }
         ensures keeps { P.keeps pages.old pages.new }
-        ensures works { WorksAfter (P.is_tied pages.old → HoldsNone
-            (event_form (event_width self.old.types)) (P.store pages.old).map self.old.working)
-            result (P.store pages.old) (P.store pages.new) }
+        ensures works { WorksOn P.Pages (HoldsNone
+            (event_form (event_width self.old.types)) (P.store pages.old).map self.old.working) result pages.old pages.new }
         ensures added { P.is_tied pages.old → OnOk result ((accepted : ℕ) → accepted ≤ version → ChangesRecords
             (kept_events self.old.types) (P.store pages.old).map (P.store pages.new).map
             self.old.working self.new.working accepted version (HasOneMore
-            (record { route = route; lo = span.now.lo; hi = span.now.hi; row = row_of span.now.tuple.value; born = version; died = LIVING }))) }
+            (record {
+              route = route;
+              lo = span.now.lo;
+              hi = span.now.hi;
+              row = row_of span.now.tuple.value;
+              born = version;
+              died = LIVING;
+            }))) }
         ensures inserted { P.is_tied pages.old → OnOk result ((cell : List ℕ)
-            → SaysEvent self.old.types cell (record { route = route; lo = span.now.lo; hi = span.now.hi; row = row_of span.now.tuple.value; born = version; died = LIVING })
+            → SaysEvent self.old.types cell (record {
+              route = route;
+              lo = span.now.lo;
+              hi = span.now.hi;
+              row = row_of
+                  span.now.tuple.value;
+              born = version;
+              died = LIVING;
+            })
             → ChangesCells (event_form (event_width self.old.types)) (P.store pages.old).map (P.store pages.new).map
             self.old.working self.new.working (with_cell cell)) }
         ensures found { P.is_tied pages.old → IfOk result (λ new. (events : List Event) (used others : ℕ → ℕ) (accepted : ℕ)
             → HoldsRecords (kept_events self.old.types) (P.store pages.old).map self.old.working accepted events used
             → Shares (P.store pages.old).map (used & others) → (IsTrue new ↔ (Contains events
-            (record { route = route; lo = span.now.lo; hi = span.now.hi; row = row_of span.now.tuple.value; born = version; died = LIVING }) → ⊥))) }
+            (record {
+              route = route;
+              lo = span.now.lo;
+              hi = span.now.hi;
+              row = row_of span.now.tuple.value;
+              born = version;
+              died = LIVING;
+            }) → ⊥))) }
         ensures rests { P.is_tied pages.old → IfOk result (λ new. new ≡ false
             → SamePages (P.store pages.new).map (P.store pages.old).map × (self.new ≡ self.old)) }
         ensures types { self.new.types ≡ self.old.types }
@@ -182,9 +203,8 @@ impl EventTable {
         requires version { version < LIVING }
         requires order { AllByRecursion (λ dead. died_of dead ≤ version) self.old.working.dead }
         ensures keeps { P.keeps pages.old pages.new }
-        ensures works { WorksAfter (P.is_tied pages.old → HoldsNone
-            (event_form (event_width self.old.types)) (P.store pages.old).map self.old.working)
-            result (P.store pages.old) (P.store pages.new) }
+        ensures works { WorksOn P.Pages (HoldsNone
+            (event_form (event_width self.old.types)) (P.store pages.old).map self.old.working) result pages.old pages.new }
         ensures killed { P.is_tied pages.old → OnOk result ((accepted : ℕ) (event : Event) → accepted ≤ version
             → SaysEvent self.old.types cell.now event → ChangesRecords
             (kept_events self.old.types) (P.store pages.old).map (P.store pages.new).map
@@ -216,7 +236,7 @@ impl EventTable {
         a: u32,
         b: u32,
     ) -> Result<Cells, Refusal>
-        ensures rests { RestsAfter P.is_tied P.store P.keeps result pages.old pages.new }
+        ensures rests { OnlyReads P.Pages result pages.old pages.new }
         ensures width { IfOk result (λ found. record_width found ≡ event_width self.now.types) }
         ensures found { P.is_tied pages.old → IfOk result (λ found. (events : List Event) (used : ℕ → ℕ) (accepted : ℕ)
             → HoldsRecords (kept_events self.now.types) (P.store pages.old).map self.now.working accepted events used
@@ -244,15 +264,15 @@ impl EventTable {
     ) -> Result<Cells, Refusal>
         requires begun { (P.store pages.old).is_begun ≡ true }
         ensures keeps { P.keeps pages.old pages.new }
-        ensures works { WorksAfter (P.is_tied pages.old → HoldsNone
-            (event_form (event_width self.old.types)) (P.store pages.old).map self.old.working)
-            result (P.store pages.old) (P.store pages.new) }
+        ensures works { WorksOn P.Pages (HoldsNone
+            (event_form (event_width self.old.types)) (P.store pages.old).map self.old.working) result pages.old pages.new }
         ensures room { result ≢ Err Refusal.FileFull }
         ensures taken { IfOk result (λ taken. listed taken ≡ cleared oldest most self.old.working.dead) }
         ensures taken_width { IfOk result (λ taken. record_width taken ≡ event_width self.old.types) }
         ensures vacuumed { P.is_tied pages.old → IfOk result (λ taken. (accepted : ℕ) → ChangesRecords
             (kept_events self.old.types) (P.store pages.old).map (P.store pages.new).map
-            self.old.working self.new.working accepted accepted (HasCleared (kept_events self.old.types) oldest (listed taken))) }
+            self.old.working self.new.working accepted accepted (HasCleared (kept_events self.old.types) oldest
+            (listed taken))) }
         ensures cleared_cells { P.is_tied pages.old → OnOk result (ChangesCells
             (event_form (event_width self.old.types)) (P.store pages.old).map (P.store pages.new).map
             self.old.working self.new.working (without_cells (cleared oldest most self.old.working.dead))) }
@@ -273,9 +293,8 @@ impl EventTable {
     pub fn clear<P: Pages>(&mut self, pages: &mut P) -> Result<(), Refusal>
         requires begun { (P.store pages.old).is_begun ≡ true }
         ensures keeps { P.keeps pages.old pages.new }
-        ensures works { WorksAfter (P.is_tied pages.old → HoldsNone
-            (event_form (event_width self.old.types)) (P.store pages.old).map self.old.working)
-            result (P.store pages.old) (P.store pages.new) }
+        ensures works { WorksOn P.Pages (HoldsNone
+            (event_form (event_width self.old.types)) (P.store pages.old).map self.old.working) result pages.old pages.new }
         ensures room { result ≢ Err Refusal.FileFull }
         ensures cleared { P.is_tied pages.old → OnOk result ((accepted : ℕ) → ChangesRecords
             (kept_events self.old.types) (P.store pages.old).map (P.store pages.new).map

@@ -5,11 +5,11 @@
 
 ghost use Rattle.std.specs.Prelude.{◌≡◌, ◌≢◌, ◌<◌, ◌≤◌, ◌↔◌, ◌+◌, ◌^◌, ℕ, List, [], Contains, IsTrue, IfOk, IfErr, OnOk, OnErr, count_by, false, filter, length, min, nat_le, true, Err};
 ghost use Rattle.std.specs.List.{AllByRecursion, AllZip};
-ghost use Rattle.rs_page_owners.specs.Changes.{WorksAfter};
 ghost use Rattle.rs_page_owners.specs.Counts.{◌&◌, no_pages};
 ghost use Rattle.rs_page_owners.specs.Owners.{Shares};
-ghost use Rattle.rs_pages.specs.Lending.{RestsAfter};
+ghost use Rattle.rs_page_owners.specs.Calls.{WorksOn};
 ghost use Rattle.rs_pages.specs.PageMap.{PageMap, SamePages};
+ghost use Rattle.rs_pages.specs.Calls.{OnlyReads};
 ghost use Rattle.rs_records.specs.Listed.{listed, record_width};
 ghost use Rattle.rs_tree.specs.Calls.{RefusesToRead};
 ghost use Rattle.rs_tree.specs.Cells.{with_cell};
@@ -58,7 +58,8 @@ impl ReferentTable {
     pub fn new(alloc: Global) -> ReferentTable
         ensures working { result.working ≡ nothing_stands }
         ensures committed { result.committed ≡ nothing_stands }
-        ensures empty { (pages : PageMap) (accepted : ℕ) → HoldsRecords kept_referents pages result.working accepted [] no_pages }
+        ensures empty { (pages : PageMap) (accepted : ℕ) → HoldsRecords kept_referents pages result.working accepted []
+            no_pages }
     {
         ReferentTable {
             versions: Versions::new(alloc, REFERENT_BYTES),
@@ -109,20 +110,42 @@ impl ReferentTable {
         requires begun { (P.store pages.old).is_begun ≡ true }
         requires name { AllByRecursion (λ byte. 0 < byte) referent.now.name.bytes }
         ensures keeps { P.keeps pages.old pages.new }
-        ensures works { WorksAfter (P.is_tied pages.old → HoldsNone
-            referent_form (P.store pages.old).map self.old.working)
-            result (P.store pages.old) (P.store pages.new) }
+        ensures works { WorksOn P.Pages (HoldsNone
+            referent_form (P.store pages.old).map self.old.working) result pages.old pages.new }
         ensures added { P.is_tied pages.old → OnOk result ((accepted : ℕ) → accepted ≤ version → ChangesRecords
             kept_referents (P.store pages.old).map (P.store pages.new).map
             self.old.working self.new.working accepted version (HasOneMore
-            (record { route = referent.now.route; name = referent.now.name.bytes; measure = referent.now.measure; born = version; died = LIVING }))) }
-        ensures inserted { P.is_tied pages.old → OnOk result ((cell : List ℕ) → SaysReferent cell (record { route = referent.now.route; name = referent.now.name.bytes; measure = referent.now.measure; born = version; died = LIVING })
+            (record {
+              route = referent.now.route;
+              name = referent.now.name.bytes;
+              measure = referent.now.measure;
+              born =
+                  version;
+              died = LIVING;
+            }))) }
+        ensures inserted { P.is_tied pages.old → OnOk result ((cell : List ℕ)
+            → SaysReferent cell (record {
+              route = referent.now.route;
+              name = referent.now.name.bytes;
+              measure =
+                  referent.now.measure;
+              born = version;
+              died = LIVING;
+            })
             → ChangesCells referent_form (P.store pages.old).map (P.store pages.new).map
             self.old.working self.new.working (with_cell cell)) }
-        ensures found { P.is_tied pages.old → IfOk result (λ new. (referents : List ReferentRecord) (used others : ℕ → ℕ) (accepted : ℕ)
+        ensures found { P.is_tied pages.old → IfOk result (λ new. (referents : List ReferentRecord) (used others : ℕ
+            → ℕ) (accepted : ℕ)
             → HoldsRecords kept_referents (P.store pages.old).map self.old.working accepted referents used
             → Shares (P.store pages.old).map (used & others) → (IsTrue new ↔ (Contains referents
-            (record { route = referent.now.route; name = referent.now.name.bytes; measure = referent.now.measure; born = version; died = LIVING }) → ⊥))) }
+            (record {
+              route = referent.now.route;
+              name = referent.now.name.bytes;
+              measure = referent.now.measure;
+              born =
+                  version;
+              died = LIVING;
+            }) → ⊥))) }
         ensures rests { P.is_tied pages.old → IfOk result (λ new. new ≡ false
             → SamePages (P.store pages.new).map (P.store pages.old).map × (self.new ≡ self.old)) }
         ensures committed { self.new.committed ≡ self.old.committed }
@@ -149,9 +172,8 @@ impl ReferentTable {
         requires version { version < LIVING }
         requires order { AllByRecursion (λ dead. died_of dead ≤ version) self.old.working.dead }
         ensures keeps { P.keeps pages.old pages.new }
-        ensures works { WorksAfter (P.is_tied pages.old → HoldsNone
-            referent_form (P.store pages.old).map self.old.working)
-            result (P.store pages.old) (P.store pages.new) }
+        ensures works { WorksOn P.Pages (HoldsNone
+            referent_form (P.store pages.old).map self.old.working) result pages.old pages.new }
         ensures killed { P.is_tied pages.old → OnOk result ((accepted : ℕ) (referent : ReferentRecord) → accepted ≤ version
             → SaysReferent cell.now referent → ChangesRecords
             kept_referents (P.store pages.old).map (P.store pages.new).map
@@ -159,7 +181,8 @@ impl ReferentTable {
         ensures ended { P.is_tied pages.old → OnOk result (Ends
             referent_form (P.store pages.old).map (P.store pages.new).map
             self.old.working self.new.working version cell.now) }
-        ensures found { P.is_tied pages.old → IfOk result (λ found. (referents : List ReferentRecord) (used others : ℕ → ℕ) (accepted : ℕ)
+        ensures found { P.is_tied pages.old → IfOk result (λ found. (referents : List ReferentRecord) (used others : ℕ
+            → ℕ) (accepted : ℕ)
             → HoldsRecords kept_referents (P.store pages.old).map self.old.working accepted referents used
             → Shares (P.store pages.old).map (used & others)
             → (referent : ReferentRecord) → SaysReferent cell.now referent → (IsTrue found ↔ Contains referents referent)) }
@@ -181,9 +204,10 @@ impl ReferentTable {
         route: u32,
     ) -> Result<Cells, Refusal>
         requires route { route + 1 < 2 ^ 32 }
-        ensures rests { RestsAfter P.is_tied P.store P.keeps result pages.old pages.new }
+        ensures rests { OnlyReads P.Pages result pages.old pages.new }
         ensures width { IfOk result (λ found. record_width found ≡ referent_width) }
-        ensures found { P.is_tied pages.old → IfOk result (λ found. (referents : List ReferentRecord) (used : ℕ → ℕ) (accepted : ℕ)
+        ensures found { P.is_tied pages.old → IfOk result (λ found. (referents : List ReferentRecord) (used : ℕ
+            → ℕ) (accepted : ℕ)
             → HoldsRecords kept_referents (P.store pages.old).map self.now.working accepted referents used
             → AllZip SaysReferent (listed found) (filter (is_referent_of version route) referents)) }
         ensures refused { IfErr result (λ why. RefusesToRead (P.is_tied pages.old) referent_form
@@ -211,9 +235,8 @@ impl ReferentTable {
     ) -> Result<Cells, Refusal>
         requires begun { (P.store pages.old).is_begun ≡ true }
         ensures keeps { P.keeps pages.old pages.new }
-        ensures works { WorksAfter (P.is_tied pages.old → HoldsNone
-            referent_form (P.store pages.old).map self.old.working)
-            result (P.store pages.old) (P.store pages.new) }
+        ensures works { WorksOn P.Pages (HoldsNone
+            referent_form (P.store pages.old).map self.old.working) result pages.old pages.new }
         ensures room { result ≢ Err Refusal.FileFull }
         ensures taken { IfOk result (λ taken. listed taken ≡ cleared oldest most self.old.working.dead) }
         ensures taken_width { IfOk result (λ taken. record_width taken ≡ referent_width) }
@@ -223,9 +246,11 @@ impl ReferentTable {
         ensures cleared_cells { P.is_tied pages.old → OnOk result (ChangesCells
             referent_form (P.store pages.old).map (P.store pages.new).map
             self.old.working self.new.working (without_cells (cleared oldest most self.old.working.dead))) }
-        ensures as_many { P.is_tied pages.old → IfOk result (λ taken. (referents : List ReferentRecord) (used : ℕ → ℕ) (accepted : ℕ)
+        ensures as_many { P.is_tied pages.old → IfOk result (λ taken. (referents : List ReferentRecord) (used : ℕ
+            → ℕ) (accepted : ℕ)
             → HoldsRecords kept_referents (P.store pages.old).map self.old.working accepted referents used
-            → oldest < LIVING → length (listed taken) ≡ min most (count_by (λ referent. nat_le referent.died oldest) referents)) }
+            → oldest < LIVING → length (listed taken) ≡ min most (count_by
+            (λ referent. nat_le referent.died oldest) referents)) }
         ensures order { (version : ℕ) → AllByRecursion (λ dead. died_of dead ≤ version) self.old.working.dead
             → AllByRecursion (λ dead. died_of dead ≤ version) self.new.working.dead }
         ensures committed { self.new.committed ≡ self.old.committed }
@@ -239,9 +264,8 @@ impl ReferentTable {
     pub fn clear<P: Pages>(&mut self, pages: &mut P) -> Result<(), Refusal>
         requires begun { (P.store pages.old).is_begun ≡ true }
         ensures keeps { P.keeps pages.old pages.new }
-        ensures works { WorksAfter (P.is_tied pages.old → HoldsNone
-            referent_form (P.store pages.old).map self.old.working)
-            result (P.store pages.old) (P.store pages.new) }
+        ensures works { WorksOn P.Pages (HoldsNone
+            referent_form (P.store pages.old).map self.old.working) result pages.old pages.new }
         ensures room { result ≢ Err Refusal.FileFull }
         ensures cleared { P.is_tied pages.old → OnOk result ((accepted : ℕ) → ChangesRecords
             kept_referents (P.store pages.old).map (P.store pages.new).map
