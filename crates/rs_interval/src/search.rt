@@ -16,8 +16,8 @@ use rs_tree::{Layout, descend};
 use std::alloc::Global;
 
 /// The records of a route that begin before `b` and end after `a`, in thousandths, of whatever version, in the order of
-/// their cells; and how many pages were read: for each level of the tree two and as many more for each record at the
-/// most. It is refused with 90, with 91, and with 94 only where no tree stands there. No page changes.
+/// their cells; and how many pages were read: the root and each page that leads to one of the records at least, for each
+/// level of the tree two and as many more for each record at the most. It is refused with 90, with 91, and with 94 only where no tree stands there. No page changes.
 pub fn overlapping<P: Pages>(
     alloc: Global,
     pages: &mut P,
