@@ -18,7 +18,7 @@ use Rattle.rs_versioned.specs.Calls.{TellsNew, TellsOf}
 use Rattle.rs_versioned.specs.Events.{Event, SaysEvent, kept_events}
 use Rattle.rs_versioned.specs.Records.{HasCleared, HasEnded, HasNone, HasOneMore, HoldsRecords}
 use Rattle.rs_versioned.specs.Tables.{EventTableState}
-use Rattle.rs_versioned.specs.declared.told.ToldRecords.{ToldRecords}
+use Rattle.rs_cell_versions.specs.declared.told.ToldRecords.{ToldRecords}
 use Rattle.rs_attr.specs.Entries.{BecomesIndex, IsColumn}
 use Rattle.rs_attr.specs.Opening.{OpensNoTable, OpensTable}
 use Rattle.rs_attr.specs.Tables.{ChangesTable, HoldsNoTable, IndexState, kept_parts}

@@ -1,4 +1,4 @@
-//! An attribute index: the entries of a table's cells in a tree, by the values of one column.
+//! An attribute index keeps the entries of a table's cells in a tree, by the values of one column.
 //!
 //! Changes are made together or not at all: `commit` keeps them, `abandon` takes them back, and neither takes memory. The
 //! pages are to be committed or abandoned with them.

@@ -1,4 +1,4 @@
-//! The index of a table that has events already.
+//! This module makes the index of a table that has events already.
 //!
 //! The table's cells are read part by part, so that no more than one part is in memory at a time: a part ends where the next of
 //! the given routes begins. Whatever routes are given, each cell is in one part.

@@ -1,4 +1,4 @@
-//! The search for entries with a value.
+//! This module finds the entries with a value.
 //!
 //! Entries with a value lie one after another: from the bytes of the value on, up to these and nine bytes of 255. A cell
 //! begins with two numbers of four bytes and a byte that is 0 or 1, so it is below nine bytes of 255.

@@ -1,4 +1,4 @@
-//! A table with its indexes that lies in a file already, checked against what the file says of it.
+//! This module checks a table with its indexes, which lies in a file already, against what the file says of it.
 //!
 //! The trees are checked first: their pages are marked and the entries of the indexes counted. Then the cells of the table are
 //! read part by part, so that no more than one part is in memory at a time: a part ends where the next of the given routes
@@ -49,16 +49,7 @@ pub fn open<P: Pages>(
     ensures refused { IfErr result (λ why. (why ≡ Refusal.OutOfMemory) ⊎ (why ≡ Refusal.Disk) ⊎ (why ≡ Refusal.DamagedFile)) }
 {
     let width = row_width(&schema) + EVENT_BYTES;
-    let mut opening = Opening::<GreatestEnd>::begin(
-        alloc,
-        pages,
-        width,
-        told.root,
-        told.living,
-        told.garbage,
-        told.accepted,
-        reached,
-    )?;
+    let mut opening = Opening::<GreatestEnd>::begin(alloc, pages, width, &told, reached)?;
     reach_indexes(pages, indexes, told, reached)?;
     for route in routes {
         let high = route.to_be_bytes();

@@ -1,4 +1,4 @@
-//! Changes of a table together with its indexes.
+//! This module changes a table together with its indexes.
 //!
 //! Each changes the table and then each index in turn. After a refusal some of them may have changed: they and the working
 //! pages are to be abandoned.

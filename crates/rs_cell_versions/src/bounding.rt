@@ -1,4 +1,4 @@
-//! A bound above all cells of a tree: the greatest of them and one byte more.
+//! This module finds a bound above all cells of a tree: the greatest of them and one byte more.
 //!
 //! The way to it goes by the last entry of each inner page, so that one page of each level is read.
 

@@ -1,4 +1,4 @@
-//! The steps of a change of cells with versions, in their tree, whatever cells are dead.
+//! This module takes the steps of a change of cells with versions, in their tree, whatever cells are dead.
 //!
 //! A step that is refused may have changed pages, and the tree.
 
@@ -66,6 +66,7 @@ pub(crate) fn put<P: Pages, S: Summary>(
     ensures width { tree.new.width ≡ tree.old.width }
     ensures stays { OnErr result (tree.new ≡ tree.old) }
 {
+    // For the proof: there are fewer than 2^32 pages, and so fewer cells than a count can say.
     let _count = pages.count();
     let new = tree.insert(pages, cell)?;
     if new {

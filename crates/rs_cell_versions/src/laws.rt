@@ -1,4 +1,4 @@
-//! What follows of cells with versions: what each version sees after a cell is added, ended or cleared.
+//! These laws say what each version sees after a cell is added, ended or cleared.
 
 ghost use Rattle.std.specs.Prelude.{◌≡◌, ◌<◌, ◌≤◌, ◌-◌, ◌^◌, ◌↔◌, ℕ, List, Contains, IsPermutation, IsTrue, count_by, filter, length, map, min};
 ghost use Rattle.std.specs.List.{AllByRecursion};

@@ -15,15 +15,15 @@ ghost use Rattle.rs_tree.specs.Tree.{IsTree};
 ghost use Rattle.rs_tree.specs.Forms.{form};
 ghost use Rattle.rs_tree_whole.specs.Validating.{HasNoFreshTree, Validates};
 ghost use Rattle.rs_cell_versions.specs.Looking.{HasPassedAll};
-ghost use Rattle.rs_cell_versions.specs.Opening.{HasPassed, StandsOtherwise, StandsTold};
-ghost use Rattle.rs_cell_versions.specs.Version.{IsDated, died_of};
+ghost use Rattle.rs_cell_versions.specs.Opening.{HasPassed, StandsOtherwise, StandsTold, told_of};
+ghost use Rattle.rs_cell_versions.specs.Version.{HaveDiedBy, IsDated};
 
 use crate::bounding::bound_above;
 use crate::dying::by_death;
 use crate::tally::Tally;
+use crate::told::ToldRecords;
 use crate::versions::Versions;
 use rs_btree::Tree;
-use rs_page::PageNumber;
 use rs_page_marks::Reached;
 use rs_pages::Pages;
 use rs_records::{Cells, is_below};
@@ -71,42 +71,37 @@ impl<S: Summary> Model for Opening<S> {
 }
 
 impl<S: Summary> Opening<S> {
-    /// Checks the tree with this root and marks its pages. It is told how many of its cells live, how many are dead, and the
-    /// version that was accepted last. It is refused with 91, and with 94 where no well formed tree stands there none of whose
-    /// pages was reached before.
+    /// Checks the tree that it is told of, of cells of this width, and marks its pages. It is refused with 91, and with 94 where
+    /// no well formed tree stands there none of whose pages was reached before.
     pub fn begin<P: Pages>(
         alloc: Global,
         pages: &mut P,
         width: usize,
-        root: PageNumber,
-        living: u64,
-        garbage: u64,
-        accepted: u64,
+        told: &ToldRecords,
         reached: &mut Reached,
     ) -> Result<Opening<S>, Refusal>
         requires some { 20 ≤ width }
         requires fits { 3 * (4 + S.WIDTH + width) ≤ 4080 }
         ensures rests { OnlyReads P.Pages result pages.old pages.new }
         ensures size { length reached.new ≡ length reached.old }
-        ensures told { IfOk result (λ opening. opening.told
-            ≡ record { width = width; root = root; living = living; garbage = garbage; accepted = accepted }) }
+        ensures told { IfOk result (λ opening. opening.told ≡ told_of width told.now) }
         ensures low { IfOk result (λ opening. opening.low ≡ []) }
         ensures passed { IfOk result (λ opening. (pages : PageMap)
             → HasPassed (form S.Summary width) pages opening) }
         ensures validates { P.is_tied pages.old → OnOk result (Validates
-            (form S.Summary width) (P.store pages.old).map root (taken reached.old) (taken reached.new)) }
+            (form S.Summary width) (P.store pages.old).map told.now.root (taken reached.old) (taken reached.new)) }
         ensures refused { IfErr result (λ why. (why ≡ Refusal.Disk) ⊎ (why ≡ Refusal.DamagedFile)) }
         ensures damaged { P.is_tied pages.old → result ≡ Err Refusal.DamagedFile → HasNoFreshTree
-            (form S.Summary width) (P.store pages.old).map root (taken reached.old) }
+            (form S.Summary width) (P.store pages.old).map told.now.root (taken reached.old) }
     {
-        let tree = Tree::at(width, root);
+        let tree = Tree::at(width, told.root);
         let _cells = tree.validate(pages, reached)?;
         Ok(Opening {
             tree,
-            living,
-            garbage,
+            living: told.living,
+            garbage: told.garbage,
             low: Vec::new(alloc),
-            tally: Tally::new(alloc, width, accepted, living, garbage),
+            tally: Tally::new(alloc, width, told.accepted, told.living, told.garbage),
         })
     }
 
@@ -163,8 +158,7 @@ impl<S: Summary> Opening<S> {
         ensures root { IfOk result (λ answer. answer.0.working.root ≡ self.told.root) }
         ensures living { IfOk result (λ answer. answer.0.working.living ≡ self.told.living) }
         ensures garbage { IfOk result (λ answer. length answer.0.working.dead ≡ self.told.garbage) }
-        ensures order { IfOk result (λ answer. AllByRecursion
-            (λ dead. died_of dead ≤ self.told.accepted) answer.0.working.dead) }
+        ensures order { IfOk result (λ answer. HaveDiedBy self.told.accepted answer.0.working.dead) }
         ensures committed { IfOk result (λ answer. answer.0.committed ≡ answer.0.working) }
         ensures left { P.is_tied pages.old → IfOk result (λ answer. (cells : List (List ℕ)) (used : ℕ → ℕ)
             → IsTree (form S.Summary self.told.width) (P.store pages.old).map self.told.root cells used

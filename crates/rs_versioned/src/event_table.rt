@@ -1,4 +1,4 @@
-//! The event records of a table, by version.
+//! This module keeps the event records of a table by version.
 //!
 //! Changes are made together or not at all: `commit` keeps them, `abandon` takes them back, and neither takes memory. The
 //! pages are to be committed or abandoned with them.

@@ -1,4 +1,4 @@
-//! The referent records of a file, by version.
+//! This module keeps the referent records of a file by version.
 //!
 //! Changes are made together or not at all: `commit` keeps them, `abandon` takes them back, and neither takes memory. The
 //! pages are to be committed or abandoned with them.

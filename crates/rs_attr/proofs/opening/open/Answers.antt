@@ -18,11 +18,10 @@ use Rattle.rs_records.specs.Order.{is_below}
 use Rattle.rs_tree.specs.Cells.{cells_within, is_within}
 use Rattle.rs_tree_whole.specs.Validating.{HasNoFreshTree, Validates}
 use Rattle.rs_pages.proofs.Resting.{rests_then}
-use Rattle.rs_versioned.specs.declared.told.ToldRecords.{ToldRecords}
+use Rattle.rs_cell_versions.specs.declared.told.ToldRecords.{ToldRecords}
 use Rattle.rs_versioned.specs.Tables.{EventTableState}
 use Rattle.rs_versioned.specs.Events.{event_width}
-use Rattle.rs_versioned.proofs.Opened.{told_of}
-use Rattle.rs_cell_versions.specs.Opening.{Told}
+use Rattle.rs_cell_versions.specs.Opening.{Told, told_of}
 use Rattle.rs_cell_versions.specs.Version.{died_of}
 use Rattle.rs_cell_versions.specs.Versioned.{Standing}
 use Rattle.rs_cell_versions.proofs.Looks.{cells_from, passed_same}
