@@ -15,20 +15,8 @@ use Rattle.rs_tree.specs.Tree.{IsTree}
 use Rattle.rs_tree.proofs.Below.{below_one_way}
 use Rattle.rs_tree_edit.proofs.Between.{AllAbove, all_above_trans, below_none, above_all}
 use Rattle.rs_tree_remove.specs.Calls.{TellsOf}
+use Rattle.rs_tree_remove.proofs.Whole.{without_absent}
 use Rattle.rs_btree.specs.Replacing.{Replaces}
-
--- without a cell that isn't there
-without_absent : (cell : List ℕ) (cs : List (List ℕ)) → Ascends cs → (Contains cs cell → ⊥) → without_cell cell cs ≡ cs
-without_absent cell [] up none = refl
-without_absent cell (c ∷ cs) up none = elim (is_below-cases c cell) [
-  | inl less ↦
-      let isnt : is_below cell c ≡ false = below_one_way c cell less in
-      rw (less, isnt) (ap (λ xs. c ∷ xs) (without_absent cell cs up.1 (λ has. none (suc has.0, omega (arith, has.1), has.2))))
-  | inr (inl same) ↦ absurd (none (0, omega arith, same))
-  | inr (inr more) ↦
-      let all : AllAbove cell (c ∷ cs) = (more, all_above_trans cell c cs more up.0) in
-      ap (λ xs. xs ++ cells_above cell (c ∷ cs)) (below_none cell (c ∷ cs) all) ∙ above_all cell (c ∷ cs) all
-]
 
 module _ (form : Form) (old mid : PageMap) (root below : ℕ) (one : List ℕ) (removed : Changes form old mid root below (without_cell one)) where
   -- where it is, the other is put in

@@ -2,6 +2,7 @@
 //!
 //! The first is taken out, and the other is put in where the first was there.
 
+ghost use Rattle.rs_page_owners.specs.Calls.{Makes};
 ghost use Rattle.std.specs.Prelude.{◌≡◌, true, IfOk, length};
 ghost use Rattle.rs_tree.specs.Calls.{LeavesTree};
 ghost use Rattle.rs_tree.specs.Forms.{form_in};
@@ -28,8 +29,8 @@ pub fn replace<P: Pages, S: Summary>(
     requires summary { layout.summary ≡ S.WIDTH }
     requires width { length other.now ≡ layout.width }
     ensures leaves { LeavesTree P.Pages (form_in S.Summary layout) root result pages.old pages.new }
-    ensures replaces { P.is_tied pages.old → IfOk result (λ answer. IsReplaced (form_in S.Summary layout)
-        (P.store pages.old).map (P.store pages.new).map root answer.0 cell.now other.now answer.1) }
+    ensures replaces { Makes P.Pages (λ old new answer. IsReplaced
+        (form_in S.Summary layout) old new root answer.0 cell.now other.now answer.1) result pages.old pages.new }
 {
     let (below, found) = remove::<P, S>(pages, layout, root, cell)?;
     if found {

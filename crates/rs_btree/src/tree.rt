@@ -93,9 +93,9 @@ impl<S: Summary> Tree<S> {
         range::<P, S>(alloc, pages, self.layout, self.root, low, high)
     }
 
-    /// The cells of `range` whose own summary `keep` accepts, and how many pages were read: two for each level of the tree
-    /// and as many more for each cell at the most, where `keep` accepts a join exactly where it accepts one of its parts.
-    /// It is refused as `range` is.
+    /// The cells of `range` whose own summary `keep` accepts, and how many pages were read: the root and each page that leads to
+    /// one of the cells at least, two for each level of the tree and as many more for each cell at the most, where `keep`
+    /// accepts a join exactly where it accepts one of its parts. It is refused as `range` is.
     pub fn descend<P: Pages, F: Fn(&S) -> bool>(
         &self,
         alloc: Global,
@@ -114,7 +114,7 @@ impl<S: Summary> Tree<S> {
     }
 
     /// Marks the tree's pages, and answers how many cells it has, exactly where a well formed tree stands there none of whose
-    /// pages was reached before; 94 where none does; 91 where a page couldn't be read. What is marked after a refusal is open.
+    /// pages was reached before; 94 where none does; 91 where a page couldn't be read. What is marked after a refusal is unspecified.
     pub fn validate<P: Pages>(&self, pages: &mut P, reached: &mut Reached) -> Result<u64, Refusal>
         ensures rests { OnlyReads P.Pages result pages.old pages.new }
         ensures size { length reached.new ≡ length reached.old }

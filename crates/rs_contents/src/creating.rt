@@ -1,4 +1,4 @@
-//! A file in which there are no definitions yet.
+//! This module makes a file in which there are no definitions yet.
 
 ghost use Rattle.std.specs.Prelude.{◌≡◌, ◌≢◌, ◌≤◌, [], Err, IfOk, OnOk, length, true};
 ghost use Rattle.rs_catalog_pages.specs.Storing.{HasNoOwnBytes, StoresAfter};

@@ -50,7 +50,7 @@ module _ (says : List ℕ → List (List ℕ) → Type 0) (layout : Layout) (pag
   here top is other there lent = page_one pages number other page (subst (λ n. pages.page n ≡ Some other) is there) lent
 
   -- a page with cells is no inner one
-  leaf_no_inner : (count height : ℕ) (shape : Shape (suc height)) → IsPart form pages number (suc height) shape → pages.page number ≡ Some page → IsNode page number layout (Leaf count) → ⊥
+  pub leaf_no_inner : (count height : ℕ) (shape : Shape (suc height)) → IsPart form pages number (suc height) shape → pages.page number ≡ Some page → IsNode page number layout (Leaf count) → ⊥
   leaf_no_inner count height shape part lent node =
       let same = here shape.page part.top part.lies.0.page part.lies.0.there lent in
       let header = one_header page part.lies.0.page page (tree_header kind.Leaf count number) (tree_header kind.Inner (length (map (child_of height) shape.parts)) shape.page) refl same node.0.header part.lies.0.inner.has.header in

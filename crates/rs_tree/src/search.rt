@@ -18,9 +18,9 @@ use std::alloc::Global;
 /// The most levels of inner pages that a tree can have: with one more it would have more pages than there are numbers.
 pub const LEVELS: u32 = 31;
 
-/// The cells of the tree from `low` on, below `high`, whose own summary `keep` accepts, and how many pages were read: two
-/// for each level of the tree and as many more for each cell at the most. That is so of a `keep` that accepts a join
-/// exactly where it accepts one of its parts. It is refused with 90, with 91, and with 94 only where no tree stands there.
+/// The cells of the tree from `low` on, below `high`, whose own summary `keep` accepts, and how many pages were read: the
+/// root and each page that leads to one of the cells at least, two for each level of the tree and as many more for each cell
+/// at the most. That is so of a `keep` that accepts a join exactly where it accepts one of its parts. It is refused with 90, with 91, and with 94 only where no tree stands there.
 pub fn descend<P: Pages, S: Summary, F: Fn(&S) -> bool>(
     alloc: Global,
     pages: &mut P,
@@ -34,7 +34,8 @@ pub fn descend<P: Pages, S: Summary, F: Fn(&S) -> bool>(
     requires summary { layout.summary ≡ S.WIDTH }
     ensures rests { OnlyReads P.Pages result pages.old pages.new }
     ensures width { IfOk result (λ found. record_width found.0 ≡ layout.width) }
-    ensures found { Descends P.Pages S.Summary (form_in S.Summary layout) root low.now high.now (FnReturnsAt F.Fn keep.now) result pages.old }
+    ensures found { Descends P.Pages S.Summary (form_in S.Summary layout) root low.now high.now
+        (FnReturnsAt F.Fn keep.now) result pages.old }
     ensures refused { RefusesReading P.Pages (form_in S.Summary layout) root result pages.old pages.new }
 {
     let mut cells = Cells::new(alloc, layout.width);

@@ -4,9 +4,9 @@ ghost use Rattle.std.specs.Prelude.{◌≡◌, ◌≤◌, ◌<◌, ◌*◌, true
 ghost use Rattle.rs_page.specs.Header.{page_kind};
 ghost use Rattle.rs_records.specs.Records.{records};
 ghost use Rattle.rs_tree_edit.specs.Editing.{AddsPage, HasNoFreeList};
-ghost use Rattle.rs_page_owners.specs.Calls.{WorksOn};
+ghost use Rattle.rs_page_owners.specs.Calls.{Makes, WorksOn};
 
-use crate::editing::edit_page;
+use crate::editing::{Edit, EditedPage, edit_page};
 use rs_page::{ContentKind, PageNumber};
 use rs_pages::Pages;
 use rs_refusal::Refusal;
@@ -25,10 +25,21 @@ pub fn add_page<P: Pages>(
     requires fit { count * width ≤ 4080 }
     ensures keeps { P.keeps pages.old pages.new }
     ensures works { WorksOn P.Pages (HasNoFreeList (P.store pages.old).map) result pages.old pages.new }
-    ensures added { P.is_tied pages.old → IfOk result (λ number. AddsPage (P.store pages.old).map (P.store pages.new).map
-        number (page_kind kind) width (records count width bytes.now)) }
+    ensures added { Makes P.Pages (λ old new number. AddsPage old new number (page_kind kind) width
+        (records count width bytes.now)) result pages.old pages.new }
 {
     let number = pages.allocate(kind)?;
-    edit_page(pages, number, kind, width, 0, 0, 0, count, bytes)?;
+    let edited = EditedPage {
+        number,
+        kind,
+        width,
+        count: 0,
+    };
+    let edit = Edit {
+        at: 0,
+        removed: 0,
+        more: count,
+    };
+    edit_page(pages, edited, edit, bytes)?;
     Ok(number)
 }

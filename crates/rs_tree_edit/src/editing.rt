@@ -14,37 +14,57 @@ use rs_pages::Pages;
 use rs_refusal::Refusal;
 use rs_tree::splice_page;
 
-/// Puts whole records in the place of some of the page with this number, and counts them: of `count` records those from
-/// `at` on, as many as `removed` says, give way to `more` added ones. It is refused as `page_mut` is; nothing has changed
+/// A page of records that is edited: its number and its kind, the bytes of a record, and how many records it has.
+#[derive(Clone, Copy)]
+pub struct EditedPage {
+    pub number: PageNumber,
+    pub kind: ContentKind,
+    pub width: usize,
+    pub count: usize,
+}
+
+/// The records that give way: those from `at` on, as many as `removed` says, to `more` others.
+#[derive(Clone, Copy)]
+pub struct Edit {
+    pub at: usize,
+    pub removed: usize,
+    pub more: usize,
+}
+
+/// Puts whole records in the place of some of a page, and counts them. It is refused as `page_mut` is; nothing has changed
 /// then.
 pub fn edit_page<P: Pages>(
     pages: &mut P,
-    number: PageNumber,
-    kind: ContentKind,
-    width: usize,
-    count: usize,
-    at: usize,
-    removed: usize,
-    more: usize,
+    edited: EditedPage,
+    edit: Edit,
     added: &[u8],
 ) -> Result<(), Refusal>
     requires begun { (P.store pages.old).is_begun ≡ true }
-    requires wide { 0 < width }
-    requires fit { count * width ≤ 4080 }
-    requires part { at + removed ≤ count }
-    requires whole { length added.now ≡ more * width }
-    requires room { (count - removed + more) * width ≤ 4080 }
+    requires wide { 0 < edited.width }
+    requires fit { edited.count * edited.width ≤ 4080 }
+    requires part { edit.at + edit.removed ≤ edited.count }
+    requires whole { length added.now ≡ edit.more * edited.width }
+    requires room { (edited.count - edit.removed + edit.more) * edited.width ≤ 4080 }
     ensures keeps { P.keeps pages.old pages.new }
-    ensures works { WorksOn P.Pages (HasNoFit (P.store pages.old).map number) result pages.old pages.new }
+    ensures works { WorksOn P.Pages (HasNoFit (P.store pages.old).map edited.number) result pages.old pages.new }
     ensures room { result ≢ Err Refusal.FileFull }
-    ensures edited { P.is_tied pages.old → OnOk result (Splices (P.store pages.old).map (P.store pages.new).map number
-        (page_kind kind) width count at removed (records more width added.now)) }
-    ensures copied { IfErr result (λ _. HoldsUsed (P.store pages.old) number
-        → ((P.store pages.old).held number).copy ≡ None) }
+    ensures edited { P.is_tied pages.old → OnOk result (Splices (P.store pages.old).map (P.store pages.new).map edited.number
+        (page_kind edited.kind) edited.width edited.count edit.at edit.removed (records edit.more edited.width added.now)) }
+    ensures copied { IfErr result (λ _. HoldsUsed (P.store pages.old) edited.number
+        → ((P.store pages.old).held edited.number).copy ≡ None) }
 {
-    let header = header_of(kind, number, count - removed + more, width);
-    let page = pages.page_mut(number)?;
-    splice_page(page, header, width, count, at, removed, added);
+    let total = edited.count - edit.removed + edit.more;
+    let header = header_of(edited.kind, edited.number, total, edited.width);
+    let page = pages.page_mut(edited.number)?;
+    splice_page(
+        page,
+        header,
+        edited.width,
+        edited.count,
+        edit.at,
+        edit.removed,
+        added,
+    );
     Ok(())
 }
 

@@ -32,7 +32,8 @@ pub fn write_entries<P: Pages, S: Summary>(
     requires room { length entries.old ≡ TWO_ENTRIES }
     requires summary { layout.summary ≡ S.WIDTH }
     ensures rests { OnlyReads P.Pages result pages.old pages.new }
-    ensures works { WorksOn P.Pages (HasNoTops (form_in S.Summary layout) (P.store pages.old).map (tops first put)) result pages.old pages.new }
+    ensures works { WorksOn P.Pages (HasNoTops (form_in S.Summary layout) (P.store pages.old).map
+        (tops first put)) result pages.old pages.new }
     ensures count { IfOk result (λ more. more ≡ length (tops first put)) }
     ensures says { P.is_tied pages.old → IfOk result (λ more.
         SaysTops (form_in S.Summary layout) (P.store pages.old).map (tops first put)

@@ -1,7 +1,7 @@
 //! A cell put into a whole tree, from its root.
 
 ghost use Rattle.std.specs.Prelude.{◌≡◌, ◌⊎◌, true, IfOk, length};
-ghost use Rattle.rs_page_owners.specs.Calls.{WorksOn};
+ghost use Rattle.rs_page_owners.specs.Calls.{Makes, WorksOn};
 ghost use Rattle.rs_tree.specs.Calls.{LeavesTree};
 ghost use Rattle.rs_tree.specs.Forms.{form_in};
 ghost use Rattle.rs_tree_edit.specs.Editing.{HasNoFreeList};
@@ -45,6 +45,7 @@ pub fn insert<P: Pages, S: Summary>(
         let root = add_page(pages, ContentKind::Leaf, layout.width, 1, cell)?;
         return Ok(Inserted { root, new: true });
     }
+    // For the proof: there are fewer pages than a tree of more levels would have.
     let _count = pages.count();
     let mut entries = [0; TWO_ENTRIES];
     match insert_below::<P, S>(pages, layout, root, LEVELS, cell, &mut entries, true)? {
@@ -70,9 +71,8 @@ fn add_root<P: Pages, S: Summary>(
     ensures keeps { P.keeps pages.old pages.new }
     ensures works { WorksOn P.Pages (HasNoTops (form_in S.Summary layout) (P.store pages.old).map
         (tops first (put.Split second)) ⊎ HasNoFreeList (P.store pages.old).map) result pages.old pages.new }
-    ensures above { P.is_tied pages.old → IfOk result (λ root.
-        AddsAbove (form_in S.Summary layout) (P.store pages.old).map
-        (P.store pages.new).map root (tops first (put.Split second))) }
+    ensures above { Makes P.Pages (λ old new root. AddsAbove (form_in S.Summary layout) old new root (tops first
+        (put.Split second))) result pages.old pages.new }
 {
     let mut entries = [0; TWO_ENTRIES];
     let width = layout.entry_width();

@@ -5,12 +5,12 @@ use Rattle.rs_page.specs.declared.header.PageKind.TheVariants as kind
 use Rattle.rs_pages.specs.PageMap.{PageMap, HasNoFit}
 use Rattle.rs_pages.specs.Store.{Store}
 use Rattle.rs_pages.proofs.FreeLists.{free_list_is_shorter_than_the_count}
+use Rattle.rs_pages.proofs.Stores.{used_there}
 use Rattle.rs_page_owners.specs.Owners.{Shares}
 use Rattle.rs_tree.specs.Content.{tree_header}
 use Rattle.rs_tree.specs.Form.{Form}
 use Rattle.rs_tree.specs.Shape.{Shape, child_of}
 use Rattle.rs_tree.specs.Walking.{IsPart}
-use Rattle.rs_tree_edit.proofs.Replacing.{used_there}
 use Rattle.rs_page_owners.proofs.Working.{NotReleased}
 
 -- the page with this number is in use and fits its number, and is one of the file's

@@ -13,7 +13,7 @@ use rs_records::place;
 use rs_refusal::Refusal;
 use rs_tree::{Layout, Node, Summary, content};
 use rs_tree_edit::choosing::has_key;
-use rs_tree_edit::edit_page;
+use rs_tree_edit::{Edit, EditedPage, edit_page};
 
 /// Takes a cell out of a leaf, whose bytes are told. The last cell goes with the page.
 pub fn remove_from_leaf<P: Pages, S: Summary>(
@@ -43,16 +43,17 @@ pub fn remove_from_leaf<P: Pages, S: Summary>(
         pages.release(number)?;
         return Ok(Removed::Gone);
     }
-    edit_page(
-        pages,
+    let edited = EditedPage {
         number,
-        ContentKind::Leaf,
-        layout.width,
+        kind: ContentKind::Leaf,
+        width: layout.width,
         count,
+    };
+    let edit = Edit {
         at,
-        1,
-        0,
-        &[],
-    )?;
+        removed: 1,
+        more: 0,
+    };
+    edit_page(pages, edited, edit, &[])?;
     Ok(Removed::Kept)
 }

@@ -30,6 +30,7 @@ pub fn remove<P: Pages, S: Summary>(
     if root.number() == 0 {
         return Ok((root, false));
     }
+    // For the proof: there are fewer pages than a tree of more levels would have.
     let _count = pages.count();
     match remove_below::<P, S>(pages, layout, root, LEVELS, cell)? {
         Removed::Missing => Ok((root, false)),

@@ -15,7 +15,7 @@ use rs_tree::{LEVELS, Layout, Summary};
 
 /// Marks the pages of the tree with this root, and answers how many cells it has, exactly where a well formed tree stands
 /// there none of whose pages was reached before; 94 where none does; 91 where a page couldn't be read. No page changes. What
-/// is marked after a refusal is open. No page is read twice.
+/// is marked after a refusal is unspecified. No page is read twice.
 pub fn validate<P: Pages, S: Summary>(
     pages: &mut P,
     layout: Layout,
@@ -31,6 +31,6 @@ pub fn validate<P: Pages, S: Summary>(
     if root.number() == 0 {
         return Ok(0);
     }
-    let (_, total, _) = check_part::<P, S>(pages, layout, root, LEVELS, None, None, reached)?;
-    Ok(total)
+    let part = check_part::<P, S>(pages, layout, root, LEVELS, None, None, reached)?;
+    Ok(part.total)
 }

@@ -190,14 +190,14 @@ insert_under-returns-in_err-put-clause-works g t c =
     let form : Form = form_in g.S.Summary c.args.layout in
     let old = (g.P.Pages.store c.args.pages.now).map in
     let p = err_from_is_err_and c.from_residual.result c.from_residual.ensures.1 in
-    works_err (g.P.Pages.is_tied c.args.pages.now → HasNoShared form old c.child-below.result (c.args.levels - 1)) (g.P.Pages.is_tied c.args.pages.now → (page : List ℕ) → old.page c.args.number ≡ Some page → BelongsUnder page c.args.number c.args.layout c.args.cell.now c.args.entry.now c.args.count c.args.at → HasNoShared form old c.args.number c.args.levels) c.from_residual.result c.in_err-put.field-0.0 (g.P.Pages.store c.args.pages.now) (g.P.Pages.store c.insert_below.new.pages)
-    (λ none tied page there spot. none_below (λ bytes cells. g.S.Summary.says bytes (joined g.S.Summary.unit g.S.Summary.join g.S.Summary.of cells)) c.args.layout old c.args.number c.args.count c.args.at page c.args.entry.now c.args.cell.now spot.node there spot.chosen spot.found c.args.levels c.requires.levels (subst (λ n. HasNoShared form old n (c.args.levels - 1)) c.child-below.ensures (none tied))) (cc (p.1, p.2)) c.in_err-put.ensures.works
+    works_err (g.P.Pages.is_tied c.args.pages.now → HasNoShared form old c.child-below.result (c.args.levels - 1)) (g.P.Pages.is_tied c.args.pages.now → (page : List ℕ) → old.page c.args.place.number ≡ Some page → BelongsUnder page c.args.place.number c.args.layout c.args.cell.now c.args.entry.now c.args.place.count c.args.place.at → HasNoShared form old c.args.place.number c.args.levels) c.from_residual.result c.in_err-put.field-0.0 (g.P.Pages.store c.args.pages.now) (g.P.Pages.store c.insert_below.new.pages)
+    (λ none tied page there spot. none_below (λ bytes cells. g.S.Summary.says bytes (joined g.S.Summary.unit g.S.Summary.join g.S.Summary.of cells)) c.args.layout old c.args.place.number c.args.place.count c.args.place.at page c.args.entry.now c.args.cell.now spot.node there spot.chosen spot.found c.args.levels c.requires.levels (subst (λ n. HasNoShared form old n (c.args.levels - 1)) c.child-below.ensures (none tied))) (cc (p.1, p.2)) c.in_err-put.ensures.works
 
 pub insert_under-returns-in-Found-clause-works : goal.insert_under-returns-in-Found-clause-works
 insert_under-returns-in-Found-clause-works g t c =
     let form : Form = form_in g.S.Summary c.args.layout in
     let old = (g.P.Pages.store c.args.pages.now).map in
-    works_ok (g.P.Pages.is_tied c.args.pages.now → HasNoShared form old c.child-below.result (c.args.levels - 1)) (g.P.Pages.is_tied c.args.pages.now → (page : List ℕ) → old.page c.args.number ≡ Some page → BelongsUnder page c.args.number c.args.layout c.args.cell.now c.args.entry.now c.args.count c.args.at → HasNoShared form old c.args.number c.args.levels) c.in_ok-put.put Found (g.P.Pages.store c.args.pages.now) (g.P.Pages.store c.insert_below.new.pages) c.in_ok-put.ensures.works
+    works_ok (g.P.Pages.is_tied c.args.pages.now → HasNoShared form old c.child-below.result (c.args.levels - 1)) (g.P.Pages.is_tied c.args.pages.now → (page : List ℕ) → old.page c.args.place.number ≡ Some page → BelongsUnder page c.args.place.number c.args.layout c.args.cell.now c.args.entry.now c.args.place.count c.args.place.at → HasNoShared form old c.args.place.number c.args.levels) c.in_ok-put.put Found (g.P.Pages.store c.args.pages.now) (g.P.Pages.store c.insert_below.new.pages) c.in_ok-put.ensures.works
 
 pub insert_under-returns-in-Found-clause-puts : goal.insert_under-returns-in-Found-clause-puts
 insert_under-returns-in-Found-clause-puts g t c =
@@ -206,7 +206,7 @@ insert_under-returns-in-Found-clause-puts g t c =
     let old = (g.P.Pages.store c.args.pages.now).map in
     let mid = (g.P.Pages.store c.insert_below.new.pages).map in
     let tells = subst (λ n. TellsBelow form old n c.args.cell.now c.in_ok-put.put) c.child-below.ensures (c.in_ok-put.ensures.found tied) in
-    puts_found form old mid c.args.number c.args.cell.now (c.in_ok-put.ensures.same tied (ap is_found c.in-Found.is)) (tells_above (λ bytes cells. g.S.Summary.says bytes (joined g.S.Summary.unit g.S.Summary.join g.S.Summary.of cells)) c.args.layout old c.args.number c.args.count c.args.at page c.args.entry.now c.args.cell.now spot.node there spot.chosen spot.found c.in_ok-put.put Found (sym (ap is_found c.in-Found.is)) tells)
+    puts_found form old mid c.args.place.number c.args.cell.now (c.in_ok-put.ensures.same tied (ap is_found c.in-Found.is)) (tells_above (λ bytes cells. g.S.Summary.says bytes (joined g.S.Summary.unit g.S.Summary.join g.S.Summary.of cells)) c.args.layout old c.args.place.number c.args.place.count c.args.place.at page c.args.entry.now c.args.cell.now spot.node there spot.chosen spot.found c.in_ok-put.put Found (sym (ap is_found c.in-Found.is)) tells)
 
 pub insert_under-returns-in-Found-clause-found : goal.insert_under-returns-in-Found-clause-found
 insert_under-returns-in-Found-clause-found g t c =
@@ -214,7 +214,7 @@ insert_under-returns-in-Found-clause-found g t c =
     let form : Form = form_in g.S.Summary c.args.layout in
     let old = (g.P.Pages.store c.args.pages.now).map in
     let tells = subst (λ n. TellsBelow form old n c.args.cell.now c.in_ok-put.put) c.child-below.ensures (c.in_ok-put.ensures.found tied) in
-    tells_above (λ bytes cells. g.S.Summary.says bytes (joined g.S.Summary.unit g.S.Summary.join g.S.Summary.of cells)) c.args.layout old c.args.number c.args.count c.args.at page c.args.entry.now c.args.cell.now spot.node there spot.chosen spot.found c.in_ok-put.put Found (sym (ap is_found c.in-Found.is)) tells
+    tells_above (λ bytes cells. g.S.Summary.says bytes (joined g.S.Summary.unit g.S.Summary.join g.S.Summary.of cells)) c.args.layout old c.args.place.number c.args.place.count c.args.place.at page c.args.entry.now c.args.cell.now spot.node there spot.chosen spot.found c.in_ok-put.put Found (sym (ap is_found c.in-Found.is)) tells
 
 pub insert_under-returns-in-Found-clause-same : goal.insert_under-returns-in-Found-clause-same
 insert_under-returns-in-Found-clause-same g t c = λ tied told. c.in_ok-put.ensures.same tied (ap is_found c.in-Found.is)
@@ -223,7 +223,7 @@ pub insert_under-returns-in-Kept-clause-works : goal.insert_under-returns-in-Kep
 insert_under-returns-in-Kept-clause-works g t c =
     let form : Form = form_in g.S.Summary c.args.layout in
     let old = (g.P.Pages.store c.args.pages.now).map in
-    works_ok (g.P.Pages.is_tied c.args.pages.now → HasNoShared form old c.child-below.result (c.args.levels - 1)) (g.P.Pages.is_tied c.args.pages.now → (page : List ℕ) → old.page c.args.number ≡ Some page → BelongsUnder page c.args.number c.args.layout c.args.cell.now c.args.entry.now c.args.count c.args.at → HasNoShared form old c.args.number c.args.levels) c.in_ok-put.put Kept (g.P.Pages.store c.args.pages.now) (g.P.Pages.store c.insert_below.new.pages) c.in_ok-put.ensures.works
+    works_ok (g.P.Pages.is_tied c.args.pages.now → HasNoShared form old c.child-below.result (c.args.levels - 1)) (g.P.Pages.is_tied c.args.pages.now → (page : List ℕ) → old.page c.args.place.number ≡ Some page → BelongsUnder page c.args.place.number c.args.layout c.args.cell.now c.args.entry.now c.args.place.count c.args.place.at → HasNoShared form old c.args.place.number c.args.levels) c.in_ok-put.put Kept (g.P.Pages.store c.args.pages.now) (g.P.Pages.store c.insert_below.new.pages) c.in_ok-put.ensures.works
 
 pub insert_under-returns-in-Kept-clause-puts : goal.insert_under-returns-in-Kept-clause-puts
 insert_under-returns-in-Kept-clause-puts g t c =
@@ -232,7 +232,7 @@ insert_under-returns-in-Kept-clause-puts g t c =
     let old = (g.P.Pages.store c.args.pages.now).map in
     let mid = (g.P.Pages.store c.insert_below.new.pages).map in
     let puts = subst (λ n. PutsBelow form old mid n c.args.cell.now c.in_ok-put.put) c.child-below.ensures (c.in_ok-put.ensures.puts tied) in
-    puts_kept (λ bytes cells. g.S.Summary.says bytes (joined g.S.Summary.unit g.S.Summary.join g.S.Summary.of cells)) c.args.layout old c.args.number c.args.count c.args.at page c.args.entry.now c.args.cell.now spot.node there spot.chosen spot.found mid c.in_ok-put.put puts c.in-Kept.is
+    puts_kept (λ bytes cells. g.S.Summary.says bytes (joined g.S.Summary.unit g.S.Summary.join g.S.Summary.of cells)) c.args.layout old c.args.place.number c.args.place.count c.args.place.at page c.args.entry.now c.args.cell.now spot.node there spot.chosen spot.found mid c.in_ok-put.put puts c.in-Kept.is
 
 pub insert_under-returns-in-Kept-clause-found : goal.insert_under-returns-in-Kept-clause-found
 insert_under-returns-in-Kept-clause-found g t c =
@@ -240,7 +240,7 @@ insert_under-returns-in-Kept-clause-found g t c =
     let form : Form = form_in g.S.Summary c.args.layout in
     let old = (g.P.Pages.store c.args.pages.now).map in
     let tells = subst (λ n. TellsBelow form old n c.args.cell.now c.in_ok-put.put) c.child-below.ensures (c.in_ok-put.ensures.found tied) in
-    tells_above (λ bytes cells. g.S.Summary.says bytes (joined g.S.Summary.unit g.S.Summary.join g.S.Summary.of cells)) c.args.layout old c.args.number c.args.count c.args.at page c.args.entry.now c.args.cell.now spot.node there spot.chosen spot.found c.in_ok-put.put Kept (sym (ap is_found c.in-Kept.is)) tells
+    tells_above (λ bytes cells. g.S.Summary.says bytes (joined g.S.Summary.unit g.S.Summary.join g.S.Summary.of cells)) c.args.layout old c.args.place.number c.args.place.count c.args.place.at page c.args.entry.now c.args.cell.now spot.node there spot.chosen spot.found c.in_ok-put.put Kept (sym (ap is_found c.in-Kept.is)) tells
 
 pub insert_under-returns-in-Kept-clause-same : goal.insert_under-returns-in-Kept-clause-same
 insert_under-returns-in-Kept-clause-same g t c = λ tied told. absurd (false≢true told)
@@ -250,11 +250,11 @@ insert_under-returns-in_default-clause-works g t c =
     let form : Form = form_in g.S.Summary c.args.layout in
     let old = (g.P.Pages.store c.args.pages.now).map in
     let mid = (g.P.Pages.store c.insert_below.new.pages).map in
-    works_then (g.P.Pages.is_tied c.args.pages.now → HasNoShared form old c.child-below.result (c.args.levels - 1)) (g.P.Pages.is_tied c.args.pages.now → (page : List ℕ) → old.page c.args.number ≡ Some page → BelongsUnder page c.args.number c.args.layout c.args.cell.now c.args.entry.now c.args.count c.args.at → HasNoShared form old c.args.number c.args.levels) (g.P.Pages.is_tied c.insert_below.new.pages → HasNoTops form mid (tops c.child-below.result c.in_ok-put.put) ⊎ IsBroken mid c.args.number) c.in_ok-put.put c.write_above.result (g.P.Pages.store c.args.pages.now) (g.P.Pages.store c.insert_below.new.pages) (g.P.Pages.store c.write_above.new.pages)
+    works_then (g.P.Pages.is_tied c.args.pages.now → HasNoShared form old c.child-below.result (c.args.levels - 1)) (g.P.Pages.is_tied c.args.pages.now → (page : List ℕ) → old.page c.args.place.number ≡ Some page → BelongsUnder page c.args.place.number c.args.layout c.args.cell.now c.args.entry.now c.args.place.count c.args.place.at → HasNoShared form old c.args.place.number c.args.levels) (g.P.Pages.is_tied c.insert_below.new.pages → HasNoTops form mid (tops c.child-below.result c.in_ok-put.put) ⊎ IsBroken mid c.args.place.number) c.in_ok-put.put c.write_above.result (g.P.Pages.store c.args.pages.now) (g.P.Pages.store c.insert_below.new.pages) (g.P.Pages.store c.write_above.new.pages)
     (λ broken tied page there spot.
     let later = g.met.P.Pages.keeps_tied c.args.pages.now c.insert_below.new.pages c.in_ok-put.ensures.keeps tied in
     let puts = subst (λ n. PutsBelow form old mid n c.args.cell.now c.in_ok-put.put) c.child-below.ensures (c.in_ok-put.ensures.puts tied) in
-    none_above (λ bytes cells. g.S.Summary.says bytes (joined g.S.Summary.unit g.S.Summary.join g.S.Summary.of cells)) c.args.layout old c.args.number c.args.count c.args.at page c.args.entry.now c.args.cell.now spot.node there spot.chosen spot.found mid c.in_ok-put.put puts c.args.levels (subst (λ n. HasNoTops form mid (tops n c.in_ok-put.put) ⊎ IsBroken mid c.args.number) c.child-below.ensures (broken later)))
+    none_above (λ bytes cells. g.S.Summary.says bytes (joined g.S.Summary.unit g.S.Summary.join g.S.Summary.of cells)) c.args.layout old c.args.place.number c.args.place.count c.args.place.at page c.args.entry.now c.args.cell.now spot.node there spot.chosen spot.found mid c.in_ok-put.put puts c.args.levels (subst (λ n. HasNoTops form mid (tops n c.in_ok-put.put) ⊎ IsBroken mid c.args.place.number) c.child-below.ensures (broken later)))
     c.in_ok-put.ensures.works c.write_above.ensures.works
 
 pub insert_under-returns-in_default-clause-puts : goal.insert_under-returns-in_default-clause-puts
@@ -266,8 +266,8 @@ insert_under-returns-in_default-clause-puts g t c =
     let later = g.met.P.Pages.keeps_tied c.args.pages.now c.insert_below.new.pages c.in_ok-put.ensures.keeps tied in
     let puts = subst (λ n. PutsBelow form old mid n c.args.cell.now c.in_ok-put.put) c.child-below.ensures (c.in_ok-put.ensures.puts tied) in
     if_ok_after c.write_above.result (λ is. c.write_above.ensures.above later page is spot.found) (λ above writes.
-    puts_above (λ bytes cells. g.S.Summary.says bytes (joined g.S.Summary.unit g.S.Summary.join g.S.Summary.of cells)) c.args.layout old c.args.number c.args.count c.args.at page c.args.entry.now c.args.cell.now spot.node there spot.chosen spot.found mid c.in_ok-put.put puts (g.P.Pages.store c.write_above.new.pages).map above
-    (λ is. subst (λ n. WritesAbove form mid (g.P.Pages.store c.write_above.new.pages).map c.args.number page c.args.count c.args.at (tops n c.in_ok-put.put) above) c.child-below.ensures (writes is)))
+    puts_above (λ bytes cells. g.S.Summary.says bytes (joined g.S.Summary.unit g.S.Summary.join g.S.Summary.of cells)) c.args.layout old c.args.place.number c.args.place.count c.args.place.at page c.args.entry.now c.args.cell.now spot.node there spot.chosen spot.found mid c.in_ok-put.put puts (g.P.Pages.store c.write_above.new.pages).map above
+    (λ is. subst (λ n. WritesAbove form mid (g.P.Pages.store c.write_above.new.pages).map c.args.place.number page c.args.place.count c.args.place.at (tops n c.in_ok-put.put) above) c.child-below.ensures (writes is)))
 
 pub insert_under-returns-in_default-clause-found : goal.insert_under-returns-in_default-clause-found
 insert_under-returns-in_default-clause-found g t c =
@@ -276,7 +276,7 @@ insert_under-returns-in_default-clause-found g t c =
     let old = (g.P.Pages.store c.args.pages.now).map in
     let tells = subst (λ n. TellsBelow form old n c.args.cell.now c.in_ok-put.put) c.child-below.ensures (c.in_ok-put.ensures.found tied) in
     let new = not_found c.in_ok-put.put c.in_default.not-Found in
-    if_ok c.write_above.result c.write_above.ensures.placed (λ above isnt. tells_above (λ bytes cells. g.S.Summary.says bytes (joined g.S.Summary.unit g.S.Summary.join g.S.Summary.of cells)) c.args.layout old c.args.number c.args.count c.args.at page c.args.entry.now c.args.cell.now spot.node there spot.chosen spot.found c.in_ok-put.put above (isnt ∙ sym new) tells)
+    if_ok c.write_above.result c.write_above.ensures.placed (λ above isnt. tells_above (λ bytes cells. g.S.Summary.says bytes (joined g.S.Summary.unit g.S.Summary.join g.S.Summary.of cells)) c.args.layout old c.args.place.number c.args.place.count c.args.place.at page c.args.entry.now c.args.cell.now spot.node there spot.chosen spot.found c.in_ok-put.put above (isnt ∙ sym new) tells)
 
 pub insert_under-returns-in_default-clause-same : goal.insert_under-returns-in_default-clause-same
 insert_under-returns-in_default-clause-same g t c = λ tied. if_ok c.write_above.result c.write_above.ensures.placed (λ above isnt told. absurd (false≢true (sym isnt ∙ told)))

@@ -74,89 +74,89 @@ remove_below-returns-else-levels-eq0-clause-removed g t c = λ tied.
 pub remove_under-returns-in_err-remove_below-clause-works : goal.remove_under-returns-in_err-remove_below-clause-works
 remove_under-returns-in_err-remove_below-clause-works g t c =
     let form : Form = form_in g.S.Summary c.args.layout in
-    let there = entry_there c.args.count c.entry_width.result (entry_bytes c.args.layout) c.content-bytes.result.now (content c.args.page.now.bytes) c.entry_for-at.result c.record_at.result.now
-    c.entry_width.ensures.width c.content-bytes.ensures.bytes (c.record_at.ensures.one c.args.count c.entry_for-at.ensures.within) in
-    let chosen = subst (λ b. Ascends (keys (least_from c.args.layout.summary) (records c.args.count (entry_bytes c.args.layout) b)) → IsEntryFor (keys (least_from c.args.layout.summary) (records c.args.count (entry_bytes c.args.layout) b)) c.args.cell.now c.entry_for-at.result)
+    let there = entry_there c.args.inner.count c.entry_width.result (entry_bytes c.args.layout) c.content-bytes.result.now (content c.args.page.now.bytes) c.entry_for-at.result c.record_at.result.now
+    c.entry_width.ensures.width c.content-bytes.ensures.bytes (c.record_at.ensures.one c.args.inner.count c.entry_for-at.ensures.within) in
+    let chosen = subst (λ b. Ascends (keys (least_from c.args.layout.summary) (records c.args.inner.count (entry_bytes c.args.layout) b)) → IsEntryFor (keys (least_from c.args.layout.summary) (records c.args.inner.count (entry_bytes c.args.layout) b)) c.args.cell.now c.entry_for-at.result)
     c.content-bytes.ensures.bytes c.entry_for-at.ensures.chosen in
     let p = err_from_is_err_and c.from_residual.result c.from_residual.ensures.1 in
-    works_err (g.P.Pages.is_tied c.args.pages.now → HasNoOwnPart form (g.P.Pages.store c.args.pages.now).map c.child-below.result (c.args.levels - 1)) (g.P.Pages.is_tied c.args.pages.now → (g.P.Pages.store c.args.pages.now).map.page c.args.number ≡ Some c.args.page.now.bytes → HasNoOwnPart form (g.P.Pages.store c.args.pages.now).map c.args.number c.args.levels) c.from_residual.result c.in_err-remove_below.field-0.0 (g.P.Pages.store c.args.pages.now) (g.P.Pages.store c.remove_below.new.pages)
-    (λ none tied lent. below_none (λ bytes cells. g.S.Summary.says bytes (joined g.S.Summary.unit g.S.Summary.join g.S.Summary.of cells)) c.args.layout (g.P.Pages.store c.args.pages.now).map c.args.number c.args.page.now.bytes c.args.count c.entry_for-at.result c.child-below.result c.args.cell.now c.record_at.result.now c.requires.node lent chosen there c.child-below.ensures c.args.levels c.requires.levels (none tied))
+    works_err (g.P.Pages.is_tied c.args.pages.now → HasNoOwnPart form (g.P.Pages.store c.args.pages.now).map c.child-below.result (c.args.levels - 1)) (g.P.Pages.is_tied c.args.pages.now → (g.P.Pages.store c.args.pages.now).map.page c.args.inner.number ≡ Some c.args.page.now.bytes → HasNoOwnPart form (g.P.Pages.store c.args.pages.now).map c.args.inner.number c.args.levels) c.from_residual.result c.in_err-remove_below.field-0.0 (g.P.Pages.store c.args.pages.now) (g.P.Pages.store c.remove_below.new.pages)
+    (λ none tied lent. below_none (λ bytes cells. g.S.Summary.says bytes (joined g.S.Summary.unit g.S.Summary.join g.S.Summary.of cells)) c.args.layout (g.P.Pages.store c.args.pages.now).map c.args.inner.number c.args.page.now.bytes c.args.inner.count c.entry_for-at.result c.child-below.result c.args.cell.now c.record_at.result.now c.requires.node lent chosen there c.child-below.ensures c.args.levels c.requires.levels (none tied))
     (p.1 ∙ ap Err p.2) c.in_err-remove_below.ensures.works
 
 pub remove_under-returns-in-Missing-clause-removed : goal.remove_under-returns-in-Missing-clause-removed
 remove_under-returns-in-Missing-clause-removed g t c = λ tied lent.
     let form : Form = form_in g.S.Summary c.args.layout in
-    let there = entry_there c.args.count c.entry_width.result (entry_bytes c.args.layout) c.content-bytes.result.now (content c.args.page.now.bytes) c.entry_for-at.result c.record_at.result.now
-    c.entry_width.ensures.width c.content-bytes.ensures.bytes (c.record_at.ensures.one c.args.count c.entry_for-at.ensures.within) in
-    let chosen = subst (λ b. Ascends (keys (least_from c.args.layout.summary) (records c.args.count (entry_bytes c.args.layout) b)) → IsEntryFor (keys (least_from c.args.layout.summary) (records c.args.count (entry_bytes c.args.layout) b)) c.args.cell.now c.entry_for-at.result)
+    let there = entry_there c.args.inner.count c.entry_width.result (entry_bytes c.args.layout) c.content-bytes.result.now (content c.args.page.now.bytes) c.entry_for-at.result c.record_at.result.now
+    c.entry_width.ensures.width c.content-bytes.ensures.bytes (c.record_at.ensures.one c.args.inner.count c.entry_for-at.ensures.within) in
+    let chosen = subst (λ b. Ascends (keys (least_from c.args.layout.summary) (records c.args.inner.count (entry_bytes c.args.layout) b)) → IsEntryFor (keys (least_from c.args.layout.summary) (records c.args.inner.count (entry_bytes c.args.layout) b)) c.args.cell.now c.entry_for-at.result)
     c.content-bytes.ensures.bytes c.entry_for-at.ensures.chosen in
-    under_missing (λ bytes cells. g.S.Summary.says bytes (joined g.S.Summary.unit g.S.Summary.join g.S.Summary.of cells)) c.args.layout (g.P.Pages.store c.args.pages.now).map c.args.number c.args.page.now.bytes c.args.count c.entry_for-at.result c.child-below.result c.args.cell.now c.record_at.result.now c.requires.node lent chosen there c.child-below.ensures (g.P.Pages.store c.remove_below.new.pages).map (subst (RemovesPart form (g.P.Pages.store c.args.pages.now).map (g.P.Pages.store c.remove_below.new.pages).map c.child-below.result c.args.cell.now) c.in-Missing.is (c.in_ok-remove_below.ensures.removed tied))
+    under_missing (λ bytes cells. g.S.Summary.says bytes (joined g.S.Summary.unit g.S.Summary.join g.S.Summary.of cells)) c.args.layout (g.P.Pages.store c.args.pages.now).map c.args.inner.number c.args.page.now.bytes c.args.inner.count c.entry_for-at.result c.child-below.result c.args.cell.now c.record_at.result.now c.requires.node lent chosen there c.child-below.ensures (g.P.Pages.store c.remove_below.new.pages).map (subst (RemovesPart form (g.P.Pages.store c.args.pages.now).map (g.P.Pages.store c.remove_below.new.pages).map c.child-below.result c.args.cell.now) c.in-Missing.is (c.in_ok-remove_below.ensures.removed tied))
 
 pub remove_under-returns-in-Kept-clause-works : goal.remove_under-returns-in-Kept-clause-works
 remove_under-returns-in-Kept-clause-works g t c =
     let form : Form = form_in g.S.Summary c.args.layout in
-    let there = entry_there c.args.count c.entry_width.result (entry_bytes c.args.layout) c.content-bytes.result.now (content c.args.page.now.bytes) c.entry_for-at.result c.record_at.result.now
-    c.entry_width.ensures.width c.content-bytes.ensures.bytes (c.record_at.ensures.one c.args.count c.entry_for-at.ensures.within) in
-    let chosen = subst (λ b. Ascends (keys (least_from c.args.layout.summary) (records c.args.count (entry_bytes c.args.layout) b)) → IsEntryFor (keys (least_from c.args.layout.summary) (records c.args.count (entry_bytes c.args.layout) b)) c.args.cell.now c.entry_for-at.result)
+    let there = entry_there c.args.inner.count c.entry_width.result (entry_bytes c.args.layout) c.content-bytes.result.now (content c.args.page.now.bytes) c.entry_for-at.result c.record_at.result.now
+    c.entry_width.ensures.width c.content-bytes.ensures.bytes (c.record_at.ensures.one c.args.inner.count c.entry_for-at.ensures.within) in
+    let chosen = subst (λ b. Ascends (keys (least_from c.args.layout.summary) (records c.args.inner.count (entry_bytes c.args.layout) b)) → IsEntryFor (keys (least_from c.args.layout.summary) (records c.args.inner.count (entry_bytes c.args.layout) b)) c.args.cell.now c.entry_for-at.result)
     c.content-bytes.ensures.bytes c.entry_for-at.ensures.chosen in
-    works_then (g.P.Pages.is_tied c.args.pages.now → HasNoOwnPart form (g.P.Pages.store c.args.pages.now).map c.child-below.result (c.args.levels - 1)) (g.P.Pages.is_tied c.args.pages.now → (g.P.Pages.store c.args.pages.now).map.page c.args.number ≡ Some c.args.page.now.bytes → HasNoOwnPart form (g.P.Pages.store c.args.pages.now).map c.args.number c.args.levels) (g.P.Pages.is_tied c.remove_below.new.pages → NoneGaveWay form (g.P.Pages.store c.remove_below.new.pages).map c.args.number c.args.page.now.bytes c.args.count c.entry_for-at.result 1 (c.child-below.result ∷ [])) c.in_ok-remove_below.field-0 c.renew_entry.result (g.P.Pages.store c.args.pages.now) (g.P.Pages.store c.remove_below.new.pages) (g.P.Pages.store c.renew_entry.new.pages)
+    works_then (g.P.Pages.is_tied c.args.pages.now → HasNoOwnPart form (g.P.Pages.store c.args.pages.now).map c.child-below.result (c.args.levels - 1)) (g.P.Pages.is_tied c.args.pages.now → (g.P.Pages.store c.args.pages.now).map.page c.args.inner.number ≡ Some c.args.page.now.bytes → HasNoOwnPart form (g.P.Pages.store c.args.pages.now).map c.args.inner.number c.args.levels) (g.P.Pages.is_tied c.remove_below.new.pages → NoneGaveWay form (g.P.Pages.store c.remove_below.new.pages).map c.args.inner.number c.args.page.now.bytes c.args.inner.count c.entry_for-at.result 1 (c.child-below.result ∷ [])) c.in_ok-remove_below.field-0 c.renew_entry.result (g.P.Pages.store c.args.pages.now) (g.P.Pages.store c.remove_below.new.pages) (g.P.Pages.store c.renew_entry.new.pages)
     (λ none tied lent. let later = g.met.P.Pages.keeps_tied c.args.pages.now c.remove_below.new.pages c.in_ok-remove_below.ensures.keeps tied in
-    kept_none (λ bytes cells. g.S.Summary.says bytes (joined g.S.Summary.unit g.S.Summary.join g.S.Summary.of cells)) c.args.layout (g.P.Pages.store c.args.pages.now).map c.args.number c.args.page.now.bytes c.args.count c.entry_for-at.result c.child-below.result c.args.cell.now c.record_at.result.now c.requires.node lent chosen there c.child-below.ensures (g.P.Pages.store c.remove_below.new.pages).map c.args.levels (subst (RemovesPart form (g.P.Pages.store c.args.pages.now).map (g.P.Pages.store c.remove_below.new.pages).map c.child-below.result c.args.cell.now) c.in-Kept.is (c.in_ok-remove_below.ensures.removed tied)) (none later))
+    kept_none (λ bytes cells. g.S.Summary.says bytes (joined g.S.Summary.unit g.S.Summary.join g.S.Summary.of cells)) c.args.layout (g.P.Pages.store c.args.pages.now).map c.args.inner.number c.args.page.now.bytes c.args.inner.count c.entry_for-at.result c.child-below.result c.args.cell.now c.record_at.result.now c.requires.node lent chosen there c.child-below.ensures (g.P.Pages.store c.remove_below.new.pages).map c.args.levels (subst (RemovesPart form (g.P.Pages.store c.args.pages.now).map (g.P.Pages.store c.remove_below.new.pages).map c.child-below.result c.args.cell.now) c.in-Kept.is (c.in_ok-remove_below.ensures.removed tied)) (none later))
     c.in_ok-remove_below.ensures.works c.renew_entry.ensures.works
 
 pub remove_under-returns-in-Kept-clause-removed : goal.remove_under-returns-in-Kept-clause-removed
 remove_under-returns-in-Kept-clause-removed g t c = λ tied lent.
     let form : Form = form_in g.S.Summary c.args.layout in
-    let there = entry_there c.args.count c.entry_width.result (entry_bytes c.args.layout) c.content-bytes.result.now (content c.args.page.now.bytes) c.entry_for-at.result c.record_at.result.now
-    c.entry_width.ensures.width c.content-bytes.ensures.bytes (c.record_at.ensures.one c.args.count c.entry_for-at.ensures.within) in
-    let chosen = subst (λ b. Ascends (keys (least_from c.args.layout.summary) (records c.args.count (entry_bytes c.args.layout) b)) → IsEntryFor (keys (least_from c.args.layout.summary) (records c.args.count (entry_bytes c.args.layout) b)) c.args.cell.now c.entry_for-at.result)
+    let there = entry_there c.args.inner.count c.entry_width.result (entry_bytes c.args.layout) c.content-bytes.result.now (content c.args.page.now.bytes) c.entry_for-at.result c.record_at.result.now
+    c.entry_width.ensures.width c.content-bytes.ensures.bytes (c.record_at.ensures.one c.args.inner.count c.entry_for-at.ensures.within) in
+    let chosen = subst (λ b. Ascends (keys (least_from c.args.layout.summary) (records c.args.inner.count (entry_bytes c.args.layout) b)) → IsEntryFor (keys (least_from c.args.layout.summary) (records c.args.inner.count (entry_bytes c.args.layout) b)) c.args.cell.now c.entry_for-at.result)
     c.content-bytes.ensures.bytes c.entry_for-at.ensures.chosen in
     let later = g.met.P.Pages.keeps_tied c.args.pages.now c.remove_below.new.pages c.in_ok-remove_below.ensures.keeps tied in
-    if_ok {Q = RemovesPart form (g.P.Pages.store c.args.pages.now).map (g.P.Pages.store c.renew_entry.new.pages).map c.args.number c.args.cell.now} c.renew_entry.result (c.renew_entry.ensures.finishes later) (λ answer done.
-    under_kept (λ bytes cells. g.S.Summary.says bytes (joined g.S.Summary.unit g.S.Summary.join g.S.Summary.of cells)) c.args.layout (g.P.Pages.store c.args.pages.now).map c.args.number c.args.page.now.bytes c.args.count c.entry_for-at.result c.child-below.result c.args.cell.now c.record_at.result.now c.requires.node lent chosen there c.child-below.ensures (g.P.Pages.store c.remove_below.new.pages).map (g.P.Pages.store c.renew_entry.new.pages).map answer (subst (RemovesPart form (g.P.Pages.store c.args.pages.now).map (g.P.Pages.store c.remove_below.new.pages).map c.child-below.result c.args.cell.now) c.in-Kept.is (c.in_ok-remove_below.ensures.removed tied)) done)
+    if_ok {Q = RemovesPart form (g.P.Pages.store c.args.pages.now).map (g.P.Pages.store c.renew_entry.new.pages).map c.args.inner.number c.args.cell.now} c.renew_entry.result (c.renew_entry.ensures.finishes later) (λ answer done.
+    under_kept (λ bytes cells. g.S.Summary.says bytes (joined g.S.Summary.unit g.S.Summary.join g.S.Summary.of cells)) c.args.layout (g.P.Pages.store c.args.pages.now).map c.args.inner.number c.args.page.now.bytes c.args.inner.count c.entry_for-at.result c.child-below.result c.args.cell.now c.record_at.result.now c.requires.node lent chosen there c.child-below.ensures (g.P.Pages.store c.remove_below.new.pages).map (g.P.Pages.store c.renew_entry.new.pages).map answer (subst (RemovesPart form (g.P.Pages.store c.args.pages.now).map (g.P.Pages.store c.remove_below.new.pages).map c.child-below.result c.args.cell.now) c.in-Kept.is (c.in_ok-remove_below.ensures.removed tied)) done)
 
 pub remove_under-returns-in-Gone-clause-works : goal.remove_under-returns-in-Gone-clause-works
 remove_under-returns-in-Gone-clause-works g t c =
     let form : Form = form_in g.S.Summary c.args.layout in
-    let there = entry_there c.args.count c.entry_width.result (entry_bytes c.args.layout) c.content-bytes.result.now (content c.args.page.now.bytes) c.entry_for-at.result c.record_at.result.now
-    c.entry_width.ensures.width c.content-bytes.ensures.bytes (c.record_at.ensures.one c.args.count c.entry_for-at.ensures.within) in
-    let chosen = subst (λ b. Ascends (keys (least_from c.args.layout.summary) (records c.args.count (entry_bytes c.args.layout) b)) → IsEntryFor (keys (least_from c.args.layout.summary) (records c.args.count (entry_bytes c.args.layout) b)) c.args.cell.now c.entry_for-at.result)
+    let there = entry_there c.args.inner.count c.entry_width.result (entry_bytes c.args.layout) c.content-bytes.result.now (content c.args.page.now.bytes) c.entry_for-at.result c.record_at.result.now
+    c.entry_width.ensures.width c.content-bytes.ensures.bytes (c.record_at.ensures.one c.args.inner.count c.entry_for-at.ensures.within) in
+    let chosen = subst (λ b. Ascends (keys (least_from c.args.layout.summary) (records c.args.inner.count (entry_bytes c.args.layout) b)) → IsEntryFor (keys (least_from c.args.layout.summary) (records c.args.inner.count (entry_bytes c.args.layout) b)) c.args.cell.now c.entry_for-at.result)
     c.content-bytes.ensures.bytes c.entry_for-at.ensures.chosen in
-    works_then (g.P.Pages.is_tied c.args.pages.now → HasNoOwnPart form (g.P.Pages.store c.args.pages.now).map c.child-below.result (c.args.levels - 1)) (g.P.Pages.is_tied c.args.pages.now → (g.P.Pages.store c.args.pages.now).map.page c.args.number ≡ Some c.args.page.now.bytes → HasNoOwnPart form (g.P.Pages.store c.args.pages.now).map c.args.number c.args.levels) (g.P.Pages.is_tied c.remove_below.new.pages → NoneGaveWay form (g.P.Pages.store c.remove_below.new.pages).map c.args.number c.args.page.now.bytes c.args.count c.entry_for-at.result 1 []) c.in_ok-remove_below.field-0 c.drop_entry.result (g.P.Pages.store c.args.pages.now) (g.P.Pages.store c.remove_below.new.pages) (g.P.Pages.store c.drop_entry.new.pages)
+    works_then (g.P.Pages.is_tied c.args.pages.now → HasNoOwnPart form (g.P.Pages.store c.args.pages.now).map c.child-below.result (c.args.levels - 1)) (g.P.Pages.is_tied c.args.pages.now → (g.P.Pages.store c.args.pages.now).map.page c.args.inner.number ≡ Some c.args.page.now.bytes → HasNoOwnPart form (g.P.Pages.store c.args.pages.now).map c.args.inner.number c.args.levels) (g.P.Pages.is_tied c.remove_below.new.pages → NoneGaveWay form (g.P.Pages.store c.remove_below.new.pages).map c.args.inner.number c.args.page.now.bytes c.args.inner.count c.entry_for-at.result 1 []) c.in_ok-remove_below.field-0 c.drop_entry.result (g.P.Pages.store c.args.pages.now) (g.P.Pages.store c.remove_below.new.pages) (g.P.Pages.store c.drop_entry.new.pages)
     (λ none tied lent. let later = g.met.P.Pages.keeps_tied c.args.pages.now c.remove_below.new.pages c.in_ok-remove_below.ensures.keeps tied in
-    gone_none (λ bytes cells. g.S.Summary.says bytes (joined g.S.Summary.unit g.S.Summary.join g.S.Summary.of cells)) c.args.layout (g.P.Pages.store c.args.pages.now).map c.args.number c.args.page.now.bytes c.args.count c.entry_for-at.result c.child-below.result c.args.cell.now c.record_at.result.now c.requires.node lent chosen there c.child-below.ensures (g.P.Pages.store c.remove_below.new.pages).map c.args.levels (subst (RemovesPart form (g.P.Pages.store c.args.pages.now).map (g.P.Pages.store c.remove_below.new.pages).map c.child-below.result c.args.cell.now) c.in-Gone.is (c.in_ok-remove_below.ensures.removed tied)) (none later))
+    gone_none (λ bytes cells. g.S.Summary.says bytes (joined g.S.Summary.unit g.S.Summary.join g.S.Summary.of cells)) c.args.layout (g.P.Pages.store c.args.pages.now).map c.args.inner.number c.args.page.now.bytes c.args.inner.count c.entry_for-at.result c.child-below.result c.args.cell.now c.record_at.result.now c.requires.node lent chosen there c.child-below.ensures (g.P.Pages.store c.remove_below.new.pages).map c.args.levels (subst (RemovesPart form (g.P.Pages.store c.args.pages.now).map (g.P.Pages.store c.remove_below.new.pages).map c.child-below.result c.args.cell.now) c.in-Gone.is (c.in_ok-remove_below.ensures.removed tied)) (none later))
     c.in_ok-remove_below.ensures.works c.drop_entry.ensures.works
 
 pub remove_under-returns-in-Gone-clause-removed : goal.remove_under-returns-in-Gone-clause-removed
 remove_under-returns-in-Gone-clause-removed g t c = λ tied lent.
     let form : Form = form_in g.S.Summary c.args.layout in
-    let there = entry_there c.args.count c.entry_width.result (entry_bytes c.args.layout) c.content-bytes.result.now (content c.args.page.now.bytes) c.entry_for-at.result c.record_at.result.now
-    c.entry_width.ensures.width c.content-bytes.ensures.bytes (c.record_at.ensures.one c.args.count c.entry_for-at.ensures.within) in
-    let chosen = subst (λ b. Ascends (keys (least_from c.args.layout.summary) (records c.args.count (entry_bytes c.args.layout) b)) → IsEntryFor (keys (least_from c.args.layout.summary) (records c.args.count (entry_bytes c.args.layout) b)) c.args.cell.now c.entry_for-at.result)
+    let there = entry_there c.args.inner.count c.entry_width.result (entry_bytes c.args.layout) c.content-bytes.result.now (content c.args.page.now.bytes) c.entry_for-at.result c.record_at.result.now
+    c.entry_width.ensures.width c.content-bytes.ensures.bytes (c.record_at.ensures.one c.args.inner.count c.entry_for-at.ensures.within) in
+    let chosen = subst (λ b. Ascends (keys (least_from c.args.layout.summary) (records c.args.inner.count (entry_bytes c.args.layout) b)) → IsEntryFor (keys (least_from c.args.layout.summary) (records c.args.inner.count (entry_bytes c.args.layout) b)) c.args.cell.now c.entry_for-at.result)
     c.content-bytes.ensures.bytes c.entry_for-at.ensures.chosen in
     let later = g.met.P.Pages.keeps_tied c.args.pages.now c.remove_below.new.pages c.in_ok-remove_below.ensures.keeps tied in
-    if_ok {Q = RemovesPart form (g.P.Pages.store c.args.pages.now).map (g.P.Pages.store c.drop_entry.new.pages).map c.args.number c.args.cell.now} c.drop_entry.result (c.drop_entry.ensures.finishes later) (λ answer done.
-    under_gone (λ bytes cells. g.S.Summary.says bytes (joined g.S.Summary.unit g.S.Summary.join g.S.Summary.of cells)) c.args.layout (g.P.Pages.store c.args.pages.now).map c.args.number c.args.page.now.bytes c.args.count c.entry_for-at.result c.child-below.result c.args.cell.now c.record_at.result.now c.requires.node lent chosen there c.child-below.ensures (g.P.Pages.store c.remove_below.new.pages).map (g.P.Pages.store c.drop_entry.new.pages).map answer (subst (RemovesPart form (g.P.Pages.store c.args.pages.now).map (g.P.Pages.store c.remove_below.new.pages).map c.child-below.result c.args.cell.now) c.in-Gone.is (c.in_ok-remove_below.ensures.removed tied)) done)
+    if_ok {Q = RemovesPart form (g.P.Pages.store c.args.pages.now).map (g.P.Pages.store c.drop_entry.new.pages).map c.args.inner.number c.args.cell.now} c.drop_entry.result (c.drop_entry.ensures.finishes later) (λ answer done.
+    under_gone (λ bytes cells. g.S.Summary.says bytes (joined g.S.Summary.unit g.S.Summary.join g.S.Summary.of cells)) c.args.layout (g.P.Pages.store c.args.pages.now).map c.args.inner.number c.args.page.now.bytes c.args.inner.count c.entry_for-at.result c.child-below.result c.args.cell.now c.record_at.result.now c.requires.node lent chosen there c.child-below.ensures (g.P.Pages.store c.remove_below.new.pages).map (g.P.Pages.store c.drop_entry.new.pages).map answer (subst (RemovesPart form (g.P.Pages.store c.args.pages.now).map (g.P.Pages.store c.remove_below.new.pages).map c.child-below.result c.args.cell.now) c.in-Gone.is (c.in_ok-remove_below.ensures.removed tied)) done)
 
 pub remove_under-returns-in-Single-clause-works : goal.remove_under-returns-in-Single-clause-works
 remove_under-returns-in-Single-clause-works g t c =
     let form : Form = form_in g.S.Summary c.args.layout in
-    let there = entry_there c.args.count c.entry_width.result (entry_bytes c.args.layout) c.content-bytes.result.now (content c.args.page.now.bytes) c.entry_for-at.result c.record_at.result.now
-    c.entry_width.ensures.width c.content-bytes.ensures.bytes (c.record_at.ensures.one c.args.count c.entry_for-at.ensures.within) in
-    let chosen = subst (λ b. Ascends (keys (least_from c.args.layout.summary) (records c.args.count (entry_bytes c.args.layout) b)) → IsEntryFor (keys (least_from c.args.layout.summary) (records c.args.count (entry_bytes c.args.layout) b)) c.args.cell.now c.entry_for-at.result)
+    let there = entry_there c.args.inner.count c.entry_width.result (entry_bytes c.args.layout) c.content-bytes.result.now (content c.args.page.now.bytes) c.entry_for-at.result c.record_at.result.now
+    c.entry_width.ensures.width c.content-bytes.ensures.bytes (c.record_at.ensures.one c.args.inner.count c.entry_for-at.ensures.within) in
+    let chosen = subst (λ b. Ascends (keys (least_from c.args.layout.summary) (records c.args.inner.count (entry_bytes c.args.layout) b)) → IsEntryFor (keys (least_from c.args.layout.summary) (records c.args.inner.count (entry_bytes c.args.layout) b)) c.args.cell.now c.entry_for-at.result)
     c.content-bytes.ensures.bytes c.entry_for-at.ensures.chosen in
-    works_then (g.P.Pages.is_tied c.args.pages.now → HasNoOwnPart form (g.P.Pages.store c.args.pages.now).map c.child-below.result (c.args.levels - 1)) (g.P.Pages.is_tied c.args.pages.now → (g.P.Pages.store c.args.pages.now).map.page c.args.number ≡ Some c.args.page.now.bytes → HasNoOwnPart form (g.P.Pages.store c.args.pages.now).map c.args.number c.args.levels) (g.P.Pages.is_tied c.remove_below.new.pages → NoneLonely form (g.P.Pages.store c.remove_below.new.pages).map c.args.number c.args.page.now.bytes c.entry_for-at.result c.child-below.result c.in-Single.only) c.in_ok-remove_below.field-0 c.mend.result (g.P.Pages.store c.args.pages.now) (g.P.Pages.store c.remove_below.new.pages) (g.P.Pages.store c.mend.new.pages)
+    works_then (g.P.Pages.is_tied c.args.pages.now → HasNoOwnPart form (g.P.Pages.store c.args.pages.now).map c.child-below.result (c.args.levels - 1)) (g.P.Pages.is_tied c.args.pages.now → (g.P.Pages.store c.args.pages.now).map.page c.args.inner.number ≡ Some c.args.page.now.bytes → HasNoOwnPart form (g.P.Pages.store c.args.pages.now).map c.args.inner.number c.args.levels) (g.P.Pages.is_tied c.remove_below.new.pages → NoneLonely form (g.P.Pages.store c.remove_below.new.pages).map c.args.inner.number c.args.page.now.bytes c.entry_for-at.result c.child-below.result c.in-Single.only) c.in_ok-remove_below.field-0 c.mend.result (g.P.Pages.store c.args.pages.now) (g.P.Pages.store c.remove_below.new.pages) (g.P.Pages.store c.mend.new.pages)
     (λ none tied lent. let later = g.met.P.Pages.keeps_tied c.args.pages.now c.remove_below.new.pages c.in_ok-remove_below.ensures.keeps tied in
-    single_none (λ bytes cells. g.S.Summary.says bytes (joined g.S.Summary.unit g.S.Summary.join g.S.Summary.of cells)) c.args.layout (g.P.Pages.store c.args.pages.now).map c.args.number c.args.page.now.bytes c.args.count c.entry_for-at.result c.child-below.result c.args.cell.now c.record_at.result.now c.requires.node lent chosen there c.child-below.ensures (g.P.Pages.store c.remove_below.new.pages).map c.in-Single.only c.args.levels (subst (RemovesPart form (g.P.Pages.store c.args.pages.now).map (g.P.Pages.store c.remove_below.new.pages).map c.child-below.result c.args.cell.now) c.in-Single.is (c.in_ok-remove_below.ensures.removed tied)) (none later))
+    single_none (λ bytes cells. g.S.Summary.says bytes (joined g.S.Summary.unit g.S.Summary.join g.S.Summary.of cells)) c.args.layout (g.P.Pages.store c.args.pages.now).map c.args.inner.number c.args.page.now.bytes c.args.inner.count c.entry_for-at.result c.child-below.result c.args.cell.now c.record_at.result.now c.requires.node lent chosen there c.child-below.ensures (g.P.Pages.store c.remove_below.new.pages).map c.in-Single.only c.args.levels (subst (RemovesPart form (g.P.Pages.store c.args.pages.now).map (g.P.Pages.store c.remove_below.new.pages).map c.child-below.result c.args.cell.now) c.in-Single.is (c.in_ok-remove_below.ensures.removed tied)) (none later))
     c.in_ok-remove_below.ensures.works c.mend.ensures.works
 
 pub remove_under-returns-in-Single-clause-removed : goal.remove_under-returns-in-Single-clause-removed
 remove_under-returns-in-Single-clause-removed g t c = λ tied lent.
     let form : Form = form_in g.S.Summary c.args.layout in
-    let there = entry_there c.args.count c.entry_width.result (entry_bytes c.args.layout) c.content-bytes.result.now (content c.args.page.now.bytes) c.entry_for-at.result c.record_at.result.now
-    c.entry_width.ensures.width c.content-bytes.ensures.bytes (c.record_at.ensures.one c.args.count c.entry_for-at.ensures.within) in
-    let chosen = subst (λ b. Ascends (keys (least_from c.args.layout.summary) (records c.args.count (entry_bytes c.args.layout) b)) → IsEntryFor (keys (least_from c.args.layout.summary) (records c.args.count (entry_bytes c.args.layout) b)) c.args.cell.now c.entry_for-at.result)
+    let there = entry_there c.args.inner.count c.entry_width.result (entry_bytes c.args.layout) c.content-bytes.result.now (content c.args.page.now.bytes) c.entry_for-at.result c.record_at.result.now
+    c.entry_width.ensures.width c.content-bytes.ensures.bytes (c.record_at.ensures.one c.args.inner.count c.entry_for-at.ensures.within) in
+    let chosen = subst (λ b. Ascends (keys (least_from c.args.layout.summary) (records c.args.inner.count (entry_bytes c.args.layout) b)) → IsEntryFor (keys (least_from c.args.layout.summary) (records c.args.inner.count (entry_bytes c.args.layout) b)) c.args.cell.now c.entry_for-at.result)
     c.content-bytes.ensures.bytes c.entry_for-at.ensures.chosen in
     let later = g.met.P.Pages.keeps_tied c.args.pages.now c.remove_below.new.pages c.in_ok-remove_below.ensures.keeps tied in
-    if_ok {Q = RemovesPart form (g.P.Pages.store c.args.pages.now).map (g.P.Pages.store c.mend.new.pages).map c.args.number c.args.cell.now} c.mend.result (c.mend.ensures.mends later) (λ answer done.
-    under_single (λ bytes cells. g.S.Summary.says bytes (joined g.S.Summary.unit g.S.Summary.join g.S.Summary.of cells)) c.args.layout (g.P.Pages.store c.args.pages.now).map c.args.number c.args.page.now.bytes c.args.count c.entry_for-at.result c.child-below.result c.args.cell.now c.record_at.result.now c.requires.node lent chosen there c.child-below.ensures (g.P.Pages.store c.remove_below.new.pages).map c.in-Single.only (g.P.Pages.store c.mend.new.pages).map answer (subst (RemovesPart form (g.P.Pages.store c.args.pages.now).map (g.P.Pages.store c.remove_below.new.pages).map c.child-below.result c.args.cell.now) c.in-Single.is (c.in_ok-remove_below.ensures.removed tied)) done)
+    if_ok {Q = RemovesPart form (g.P.Pages.store c.args.pages.now).map (g.P.Pages.store c.mend.new.pages).map c.args.inner.number c.args.cell.now} c.mend.result (c.mend.ensures.mends later) (λ answer done.
+    under_single (λ bytes cells. g.S.Summary.says bytes (joined g.S.Summary.unit g.S.Summary.join g.S.Summary.of cells)) c.args.layout (g.P.Pages.store c.args.pages.now).map c.args.inner.number c.args.page.now.bytes c.args.inner.count c.entry_for-at.result c.child-below.result c.args.cell.now c.record_at.result.now c.requires.node lent chosen there c.child-below.ensures (g.P.Pages.store c.remove_below.new.pages).map c.in-Single.only (g.P.Pages.store c.mend.new.pages).map answer (subst (RemovesPart form (g.P.Pages.store c.args.pages.now).map (g.P.Pages.store c.remove_below.new.pages).map c.child-below.result c.args.cell.now) c.in-Single.is (c.in_ok-remove_below.ensures.removed tied)) done)

@@ -181,8 +181,8 @@ check_entries-loop-index-preserved g t c =
 pub check_entry-returns-then-not-says-clause-damaged : goal.check_entry-returns-then-not-says-clause-damaged
 check_entry-returns-then-not-says-clause-damaged g t c = λ is tied.
     let found = subst (λ least. Reaches (joined g.S.Summary.unit g.S.Summary.join g.S.Summary.of) (form_in g.S.Summary c.args.layout) (g.P.Pages.store c.args.pages.now).map c.child-number.result (Some least) (option_copied c.args.bound)
-    (taken c.args.reached.now) (taken c.check_part.new.reached) c.in_ok-height.height c.in_ok-height.total c.in_ok-height.whole) c.least.ensures (c.in_ok-height.ensures.reaches tied) in
+    (taken c.args.reached.now) (taken c.check_part.new.reached) c.in_ok-part.part.height c.in_ok-part.part.total c.in_ok-part.part.whole) c.least.ensures (c.in_ok-part.ensures.reaches tied) in
     none_said (form_in g.S.Summary c.args.layout) (g.P.Pages.store c.args.pages.now).map c.args.entry.now (option_copied c.args.bound) (joined g.S.Summary.unit g.S.Summary.join g.S.Summary.of)
-    c.args.levels (taken c.args.reached.now) (taken c.check_part.new.reached) c.in_ok-height.height c.in_ok-height.total c.in_ok-height.whole c.child-number.result c.child-number.ensures (taken-le c.check_part.new.reached)
+    c.args.levels (taken c.args.reached.now) (taken c.check_part.new.reached) c.in_ok-part.part.height c.in_ok-part.part.total c.in_ok-part.part.whole c.child-number.result c.child-number.ensures (taken-le c.check_part.new.reached)
     (λ cells same said. fails c.says.result c.if-not-says.true c.says.ensures.1
     (subst (λ one. g.S.Summary.says c.summary.result.now one) (sym same) (subst (λ bytes. g.S.Summary.says bytes (joined g.S.Summary.unit g.S.Summary.join g.S.Summary.of cells)) (sym c.summary.ensures.bytes) said))) found

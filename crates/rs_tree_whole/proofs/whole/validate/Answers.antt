@@ -19,22 +19,22 @@ returns-then-number-eq0-clause-checks g c = λ tied.
       damaged = λ is. absurd (cc);
     }
 
-pub returns-in_err-total-clause-checks : goal.returns-in_err-total-clause-checks
-returns-in_err-total-clause-checks g c = λ tied.
+pub returns-in_err-part-clause-checks : goal.returns-in_err-part-clause-checks
+returns-in_err-part-clause-checks g c = λ tied.
     let p = err_from_is_err_and c.from_residual.result c.from_residual.ensures.1 in
     record {
       validates = rw (p.1) tt;
       counted = rw (p.1) tt;
       damaged = λ is.
-          let why : c.in_err-total.field-0.0 ≡ refusal.DamagedFile = cc (p.1, p.2, is) in
-          none_root (form_in g.S.Summary c.args.layout) (g.P.Pages.store c.args.pages.now).map c.args.root (taken c.args.reached.now) (λ zero. omega (arith, c.number.ensures, zero)) c.in_err-total.ensures.few (c.in_err-total.ensures.damaged (ap Err why) tied);
+          let why : c.in_err-part.field-0.0 ≡ refusal.DamagedFile = cc (p.1, p.2, is) in
+          none_root (form_in g.S.Summary c.args.layout) (g.P.Pages.store c.args.pages.now).map c.args.root (taken c.args.reached.now) (λ zero. omega (arith, c.number.ensures, zero)) c.in_err-part.ensures.few (c.in_err-part.ensures.damaged (ap Err why) tied);
     }
 
 pub returns-clause-checks : goal.returns-clause-checks
 returns-clause-checks g c = λ tied.
     record {
-      validates = validates_root (form_in g.S.Summary c.args.layout) (g.P.Pages.store c.args.pages.now).map c.args.root (joined g.S.Summary.unit g.S.Summary.join g.S.Summary.of) (taken c.args.reached.now) (taken c.check_part.new.reached) c.in_ok-total.field-0-0 c.in_ok-total.total c.in_ok-total.field-0-2 (taken-le c.check_part.new.reached) (c.in_ok-total.ensures.reaches tied);
+      validates = validates_root (form_in g.S.Summary c.args.layout) (g.P.Pages.store c.args.pages.now).map c.args.root (joined g.S.Summary.unit g.S.Summary.join g.S.Summary.of) (taken c.args.reached.now) (taken c.check_part.new.reached) c.in_ok-part.part.height c.in_ok-part.part.total c.in_ok-part.part.whole (taken-le c.check_part.new.reached) (c.in_ok-part.ensures.reaches tied);
       counted = λ cells used tree.
-          counted_root (form_in g.S.Summary c.args.layout) (g.P.Pages.store c.args.pages.now).map c.args.root cells used tree (joined g.S.Summary.unit g.S.Summary.join g.S.Summary.of) (taken c.args.reached.now) (taken c.check_part.new.reached) c.in_ok-total.field-0-0 c.in_ok-total.total c.in_ok-total.field-0-2 c.args.layout.some c.in_ok-total.ensures.few (taken-le c.check_part.new.reached) (c.in_ok-total.ensures.reaches tied);
+          counted_root (form_in g.S.Summary c.args.layout) (g.P.Pages.store c.args.pages.now).map c.args.root cells used tree (joined g.S.Summary.unit g.S.Summary.join g.S.Summary.of) (taken c.args.reached.now) (taken c.check_part.new.reached) c.in_ok-part.part.height c.in_ok-part.part.total c.in_ok-part.part.whole c.args.layout.some c.in_ok-part.ensures.few (taken-le c.check_part.new.reached) (c.in_ok-part.ensures.reaches tied);
       damaged = λ is. absurd (cc);
     }
