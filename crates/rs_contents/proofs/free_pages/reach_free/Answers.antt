@@ -23,20 +23,20 @@ loop-next-init g c =
 
 pub returns-then-left-eq0-clause-reaches : goal.returns-then-left-eq0-clause-reaches
 returns-then-left-eq0-clause-reaches g c = λ tied. record {
-      reaches = tt;
-      damaged = λ is.
+  reaches = tt;
+  damaged = λ is.
       walked_wrong (g.P.Pages.store c.args.pages.now).map c.loop-next.next c.loop-next.left (taken c.args.reached.now) (taken c.loop-next.reached) (c.loop-next.invariant.walked tied)
       (λ none. c.loop-next-test.true (c.number.ensures ∙ none))
       (elim c.then-left-eq0.branch [
-      | then-left-eq0-via-then-left-eq0 w ↦ λ some. absurd (omega (arith, some, w.if-left-eq0.true))
-      | then-left-eq0-via-else-left-eq0+then-not-reach w ↦ λ some fresh. absurd (true≢false (sym (w.reach.ensures.free.1 fresh) ∙ w.if-not-reach.true))
+        | then-left-eq0-via-then-left-eq0 w ↦ λ some. absurd (omega (arith, some, w.if-left-eq0.true))
+        | then-left-eq0-via-else-left-eq0+then-not-reach w ↦ λ some fresh. absurd (true≢false (sym (w.reach.ensures.free.1 fresh) ∙ w.if-not-reach.true))
       ]);
-    }
+}
 
 pub returns-in_err-next-clause-reaches : goal.returns-in_err-next-clause-reaches
 returns-in_err-next-clause-reaches g c = λ tied. record {
-      reaches = let q = err_from_is_err_and c.from_residual.result c.from_residual.ensures.1 in rw (q.1, q.2) tt;
-      damaged = λ is.
+  reaches = let q = err_from_is_err_and c.from_residual.result c.from_residual.ensures.1 in rw (q.1) tt;
+  damaged = λ is.
       let old = (g.P.Pages.store c.args.pages.now).map in
       let mid = (g.P.Pages.store c.loop-next.pages).map in
       let p = err_from_is_err_and c.from_residual.result c.from_residual.ensures.1 in
@@ -45,7 +45,7 @@ returns-in_err-next-clause-reaches g c = λ tied. record {
       walked_wrong old c.loop-next.next c.loop-next.left (taken c.args.reached.now) (taken c.loop-next.reached) (c.loop-next.invariant.walked tied)
       (λ none. c.loop-next-test.true (c.number.ensures ∙ none))
       (λ some fresh following free. c.in_err-next.ensures.damaged later (ap Err why) following (free_after old mid c.loop-next.next following (c.loop-next.invariant.rests.rests.keeps.pages tied) free));
-    }
+}
 
 pub loop-next-preserved : goal.loop-next-preserved
 loop-next-preserved g c =
@@ -67,15 +67,15 @@ loop-next-preserved g c =
 
 pub returns-then-left-ne0-clause-reaches : goal.returns-then-left-ne0-clause-reaches
 returns-then-left-ne0-clause-reaches g c = λ tied. record {
-      reaches = tt;
-      damaged = λ is.
+  reaches = tt;
+  damaged = λ is.
       walked_short (g.P.Pages.store c.args.pages.now).map c.loop-next.next c.loop-next.left (taken c.args.reached.now) (taken c.loop-next.reached) (c.loop-next.invariant.walked tied)
       (sym c.number.ensures ∙ c.loop-next-test.false) c.if-left-ne0.true;
-    }
+}
 
 pub returns-clause-reaches : goal.returns-clause-reaches
 returns-clause-reaches g c = λ tied. record {
-      reaches = walked_all (g.P.Pages.store c.args.pages.now).map c.loop-next.next c.loop-next.left (taken c.args.reached.now) (taken c.loop-next.reached) (c.loop-next.invariant.walked tied)
-    (sym c.number.ensures ∙ c.loop-next-test.false) c.if-left-ne0.false;
-      damaged = λ is. absurd (cc);
-    }
+  reaches = walked_all (g.P.Pages.store c.args.pages.now).map c.loop-next.next c.loop-next.left (taken c.args.reached.now) (taken c.loop-next.reached) (c.loop-next.invariant.walked tied)
+      (sym c.number.ensures ∙ c.loop-next-test.false) c.if-left-ne0.false;
+  damaged = λ is. absurd (cc);
+}

@@ -14,14 +14,14 @@ use Rattle.rs_contents.proofs.loading.load.Goals as goal
 
 pub returns-in_err-numbers-clause-loads : goal.returns-in_err-numbers-clause-loads
 returns-in_err-numbers-clause-loads g c = λ tied. record {
-      loads = let q = err_from_is_err_and c.from_residual-in_err-numbers.result c.from_residual-in_err-numbers.ensures.1 in rw (q.1, q.2) tt;
-      damaged = λ is.
+  loads = let q = err_from_is_err_and c.from_residual-in_err-numbers.result c.from_residual-in_err-numbers.ensures.1 in rw (q.1) tt;
+  damaged = λ is.
       let old = (g.P.Pages.store c.args.pages.now).map in
       let p = err_from_is_err_and c.from_residual-in_err-numbers.result c.from_residual-in_err-numbers.ensures.1 in
       let why : c.in_err-numbers.field-0.0 ≡ refusal.DamagedFile = cc (p.1, p.2, is) in
       nothing_said old (taken c.in_ok-reached.reached) (λ n. c.in_ok-reached.ensures.reached n ∙ ap (λ k. (unreached k & (one_at 0 & one_at 1)) n) c.count.ensures.count)
       (c.in_err-numbers.ensures.damaged tied (ap Err why));
-    }
+}
 
 pub returns-in_err-tables-clause-rests : goal.returns-in_err-tables-clause-rests
 returns-in_err-tables-clause-rests g c =
@@ -32,8 +32,8 @@ returns-in_err-tables-clause-rests g c =
 
 pub returns-in_err-tables-clause-loads : goal.returns-in_err-tables-clause-loads
 returns-in_err-tables-clause-loads g c = λ tied. record {
-      loads = let q = err_from_is_err_and c.from_residual-in_err-tables.result c.from_residual-in_err-tables.ensures.1 in rw (q.1, q.2) tt;
-      damaged = λ is.
+  loads = let q = err_from_is_err_and c.from_residual-in_err-tables.result c.from_residual-in_err-tables.ensures.1 in rw (q.1) tt;
+  damaged = λ is.
       let old = (g.P.Pages.store c.args.pages.now).map in
       let mid = (g.P.Pages.store c.load_said.new.pages).map in
       let later = g.met.P.Pages.keeps_tied c.args.pages.now c.load_said.new.pages c.in_ok-numbers.ensures.rests.below tied in
@@ -46,7 +46,7 @@ returns-in_err-tables-clause-loads g c = λ tied. record {
       (λ n. c.in_ok-reached.ensures.reached n ∙ ap (λ k. (unreached k & (one_at 0 & one_at 1)) n) c.count.ensures.count)
       (c.in_ok-numbers.ensures.loads tied)
       (subst (λ m. OpensNoParts m directory definitions (taken c.load_said.new.reached)) same (c.in_err-tables.ensures.damaged later (ap Err why)));
-    }
+}
 
 pub returns-clause-rests : goal.returns-clause-rests
 returns-clause-rests g c =
@@ -69,13 +69,13 @@ returns-clause-loads g c = λ tied.
     c.in_ok-tables.ensures.whole in
     record {
       loads = record {
-      contents = there.contents;
-      holds = there.holds;
-      definitions = there.definitions;
-      pages = there.pages;
-      tables = there.tables;
-      referents = there.referents;
-      accepted = ap (λ (d : DirectoryItems). d.accepted) there.directory;
-    };
+        contents = there.contents;
+        holds = there.holds;
+        definitions = there.definitions;
+        pages = there.pages;
+        tables = there.tables;
+        referents = there.referents;
+        accepted = ap (λ (d : DirectoryItems). d.accepted) there.directory;
+      };
       damaged = λ is. absurd (cc);
     }
