@@ -18,10 +18,10 @@ use Rattle.rs_tree.specs.Cells.{is_within, cells_within}
 use Rattle.rs_interval.specs.EventRecords.{EventRecord, SaysRecord, overlaps}
 use Rattle.rs_interval.specs.Ends.{end_of}
 
-less : (x y : ℕ) → x < y → nat_cmp x y ≡ Less
+pub less : (x y : ℕ) → x < y → nat_cmp x y ≡ Less
 less x y h = sym (nat_cmp_is x y Less h)
 
-equal : (x y : ℕ) → x ≡ y → nat_cmp x y ≡ Equal
+pub equal : (x y : ℕ) → x ≡ y → nat_cmp x y ≡ Equal
 equal x y h = sym (nat_cmp_is x y Equal h)
 
 greater : (x y : ℕ) → y < x → nat_cmp x y ≡ Greater
@@ -34,7 +34,7 @@ beside a b unit x y h small =
     let apart : (a + 1) * unit ≡ a * unit + 1 * unit = add-mul a 1 unit in
     omega arith
 
-then_assoc : (one two three : Ordering) → ordering_then one (ordering_then two three) ≡ ordering_then (ordering_then one two) three
+pub then_assoc : (one two three : Ordering) → ordering_then one (ordering_then two three) ≡ ordering_then (ordering_then one two) three
 then_assoc Less two three = refl
 then_assoc Equal two three = refl
 then_assoc Greater two three = refl
@@ -79,7 +79,7 @@ front_cmp (suc k) x y xs ys =
     (mod-lt x (above_none k)) (mod-lt y (above_none k)) (digit_more k x) (digit_more k y))
 
 -- of four bytes
-word_cmp : (x y : ℕ) (xs ys : List ℕ) → x < 2 ^ 32 → y < 2 ^ 32
+pub word_cmp : (x y : ℕ) (xs ys : List ℕ) → x < 2 ^ 32 → y < 2 ^ 32
     → slice_cmp nat_cmp (to_be_bytes w32 x ++ xs) (to_be_bytes w32 y ++ ys) ≡ ordering_then (nat_cmp x y) (slice_cmp nat_cmp xs ys)
 word_cmp x y xs ys few small =
     front_cmp 4 x y xs ys ∙ ap (λ n. ordering_then (nat_cmp n (y % 2 ^ 32)) (slice_cmp nat_cmp xs ys)) (mod-eq_of_lt few)

@@ -1,8 +1,7 @@
 -- A search between bounds finds the records that overlap.
-use Rattle.std.proofs.Common.{◌≡◌, ◌<◌, ◌≤◌, ◌^◌, ℕ, true, false, nat_lt, ◌||◌, max, List, ◌++◌, filter, sym, ap, ◌∙◌, subst, inl, inr, arith}
+use Rattle.std.proofs.Common.{◌≡◌, ◌<◌, ◌≤◌, ◌^◌, ℕ, true, false, nat_lt, ◌||◌, max, List, filter, sym, ap, ◌∙◌, subst, inl, inr, arith}
 use Rattle.std.proofs.lemmas.Bool.{cases_lt}
 use Rattle.std.proofs.lemmas.Bool.Decides.{nat_tests}
-use Rattle.std.specs.Int.{w32, to_be_bytes}
 use Rattle.std.specs.List.{AllZip}
 use Rattle.rs_pages.specs.PageMap.{PageMap}
 use Rattle.rs_tree.specs.Calls.{AcceptsParts, Finds}

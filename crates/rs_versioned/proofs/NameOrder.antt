@@ -18,7 +18,8 @@ use Rattle.rs_records.specs.Order.{Ascends, is_below}
 use Rattle.rs_cell_versions.specs.Versioned.{Standing}
 use Rattle.rs_versioned.specs.Records.{HoldsRecords, is_seen}
 use Rattle.rs_versioned.specs.Referents.{AreInNameOrder, ReferentRecord, SaysReferent, is_referent_of, kept_referents, referents_at}
-use Rattle.rs_versioned.proofs.PrintingOrder.{equal, fronts_cmp, not_more, word_cmp}
+use Rattle.rs_interval.proofs.EventOrder.{equal, word_cmp}
+use Rattle.rs_versioned.proofs.PrintingOrder.{fronts_cmp, not_more}
 
 less : (x y : ℕ) → x < y → nat_cmp x y ≡ Less
 less x y h = sym (nat_cmp_is x y Less h)
