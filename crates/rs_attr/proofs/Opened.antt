@@ -21,12 +21,12 @@ use Rattle.rs_tree.proofs.Ones.{tree_has_its_cells, tree_has_its_pages}
 use Rattle.rs_tree_whole.proofs.Entries.{same_back}
 use Rattle.rs_tree_whole.specs.Validating.{HasNoFreshTree, Validates}
 use Rattle.rs_value.specs.declared.column.ColumnType.{ColumnType}
-use Rattle.rs_versioned.specs.declared.told.ToldRecords.{ToldRecords}
+use Rattle.rs_cell_versions.specs.declared.told.ToldRecords.{ToldRecords}
 use Rattle.rs_versioned.specs.Events.{Event, SaysEvent, event_width, kept_events}
 use Rattle.rs_versioned.specs.Opening.{StandsAs}
 use Rattle.rs_versioned.specs.Records.{HoldsRecords}
-use Rattle.rs_versioned.proofs.Opened.{each_of_listed, listed_records, told_of}
-use Rattle.rs_cell_versions.specs.Opening.{HasPassed, Looked, StandsOtherwise, StandsTold, Told}
+use Rattle.rs_versioned.proofs.Opened.{each_of_listed, listed_records}
+use Rattle.rs_cell_versions.specs.Opening.{HasPassed, Looked, StandsOtherwise, StandsTold, Told, told_of}
 use Rattle.rs_cell_versions.specs.Version.{is_dead, is_living}
 use Rattle.rs_cell_versions.specs.Versioned.{Standing}
 use Rattle.rs_cell_versions.proofs.Among.{all_at}

@@ -1,7 +1,6 @@
 -- A table's cells and the entries of its indexes change together.
-use Rattle.std.proofs.Common.{◌≡◌, ◌↔◌, ℕ, Bool, false, IsTrue, List, [], ◌∷◌, ◌++◌, length, refl, sym, ◌∙◌, subst, inl, inr, arith}
+use Rattle.std.proofs.Common.{◌≡◌, ℕ, Bool, false, IsTrue, List, [], ◌∷◌, ◌++◌, length, refl, sym, ◌∙◌, subst, inl, inr, arith}
 use Rattle.std.proofs.lemmas.Bool.{false≢true}
-use Rattle.std.specs.List.{Contains}
 use Rattle.rs_attr.specs.Entries.{AreCells}
 use Rattle.rs_attr.specs.Inner.{BecomeIndexes, ChangeIndexes, HoldNoIndexes}
 use Rattle.rs_attr.specs.Tables.{BecomesTable, ChangesTable, HoldIndexes, HoldsNoTable, IndexState, all_of}
@@ -16,6 +15,7 @@ use Rattle.rs_tree.proofs.Framed.{kept_tree_stays}
 use Rattle.rs_tree.proofs.Ones.{tree_has_its_cells}
 use Rattle.rs_tree.specs.Cells.{without_cell}
 use Rattle.rs_value.specs.declared.column.ColumnType.{ColumnType}
+use Rattle.rs_versioned.specs.Calls.{TellsOf}
 use Rattle.rs_versioned.specs.Events.{Event, SaysEvent, event_width, kept_events}
 use Rattle.rs_versioned.specs.Records.{ChangesRecords, HoldsRecords}
 use Rattle.rs_versioned.proofs.KeptRecords.{events_are_kept}
@@ -76,8 +76,7 @@ module _ (types : List ColumnType) (old new : PageMap) (was : Standing) where
 
 -- it is told whether an event is there, for the cell that says it
 abbrev pub TellsEvent : List ColumnType → PageMap → Standing → List ℕ → Bool → Type 0
-TellsEvent types pages standing cell found = (events : List Event) (used others : ℕ → ℕ) (accepted : ℕ) → HoldsRecords (kept_events types) pages standing accepted events used
-    → Shares pages (used & others) → (event : Event) → SaysEvent types cell event → (IsTrue found ↔ Contains events event)
+TellsEvent types pages standing cell found = (event : Event) → SaysEvent types cell event → TellsOf (kept_events types) pages standing event found
 
 module _ (types : List ColumnType) (old new : PageMap) (was is : Standing) (version : ℕ) (cell : List ℕ) (ends : Ends (event_form (event_width types)) old new was is version cell) where
   pub ends_move : CellsMove types old new was
@@ -93,14 +92,14 @@ module _ (types : List ColumnType) (old new : PageMap) (was is : Standing) (vers
     pub ends_become : IsTrue found → CellsBecome types old new was is from (with_end version cell)
     ends_become there = record {
       each = λ events used others records shares. ends.there records.cells used others records.holds shares
-          (cell_there (kept_events types) (events_are_kept types) records.cells events cell event says records.say ((tells events used others from records shares event says).0 there));
+          (cell_there (kept_events types) (events_are_kept types) records.cells events cell event says records.say ((tells event says events used others from records shares).0 there));
     }
 
     -- and where it isn't there, nothing does
     pub ends_stay : found ≡ false → CellsBecome types old new was is from (λ cells. cells)
     ends_stay missing = record {
       each = λ events used others records shares. ends.missing records.cells used others records.holds shares
-          (λ has. false≢true (sym missing ∙ (tells events used others from records shares event says).1 (record_there (kept_events types) (events_are_kept types) records.cells events cell event says records.say has)));
+          (λ has. false≢true (sym missing ∙ (tells event says events used others from records shares).1 (record_there (kept_events types) (events_are_kept types) records.cells events cell event says records.say has)));
     }
 
 -- the same cells, said in another way

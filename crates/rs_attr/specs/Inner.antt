@@ -1,13 +1,18 @@
 -- What the functions of this crate hand to one another: what a step leaves of a table's indexes, and what is entered into an
 -- index part by part.
-use Rattle.std.specs.Prelude.{ℕ, List, ◌++◌}
+use Rattle.std.specs.Prelude.{ℕ, List, ◌++◌, Result, OnOk}
+use Rattle.rs_attr.specs.declared.attr_index.Change.{Change}
+use Rattle.rs_attr.specs.declared.attr_index.Change.TheVariants as change
 use Rattle.rs_attr.specs.Entries.{AreCells, BecomesIndex, Field, HoldsIndex}
 use Rattle.rs_attr.specs.Tables.{HoldIndexes, IndexState, all_of}
 use Rattle.rs_interval.specs.Finding.{event_form}
+use Rattle.rs_page_owners.specs.Calls as owners
 use Rattle.rs_page_owners.specs.Counts.{◌&◌}
 use Rattle.rs_page_owners.specs.Owners.{Moves, Shares}
 use Rattle.rs_pages.specs.PageMap.{PageMap}
-use Rattle.rs_tree.specs.Cells.{cells_below}
+use Rattle.rs_pages.specs.declared.pages.Pages.{Ghosts}
+use Rattle.rs_refusal.specs.declared.refusal.Refusal.{Refusal}
+use Rattle.rs_tree.specs.Cells.{cells_below, with_cell, without_cell}
 use Rattle.rs_tree.specs.Tree.{IsTree}
 
 -- each index has the entries of other cells now, and their pages have moved beside those of any other owners
@@ -26,6 +31,19 @@ pub record ChangeIndexes (old new : PageMap) (were are : List IndexState) (width
 pub record HoldNoIndexes (pages : PageMap) (indexes : List IndexState) (width : ℕ) : Type 0 where
   pub none : (cells : List (List ℕ)) (uses : List (ℕ → ℕ)) (others : ℕ → ℕ) → AreCells width cells → HoldIndexes pages indexes cells uses
       → Shares pages (all_of uses & others) → ⊥
+
+-- what a change makes of the cells
+abbrev pub changed : Change → List ℕ → List (List ℕ) → List (List ℕ)
+changed change.Put = with_cell
+changed change.Take = without_cell
+
+-- what a step on the indexes leaves on any disk, and what it does on the pages of an honest one
+abbrev pub LeavesEach : {P T : Type 0} → Ghosts P → List IndexState → ℕ → Result T Refusal → P → P → Type 0
+LeavesEach pages were width result old new = owners.Leaves pages (HoldNoIndexes (pages.store old).map were width) result old new
+
+abbrev pub ChangesEach : {P : Type 0} → Ghosts P → List IndexState → List IndexState → ℕ → (List (List ℕ) → List (List ℕ)) → Result (Unit {0}) Refusal → P → P → Type 0
+ChangesEach pages were are width change result old new = pages.is_tied old
+    → OnOk result (ChangeIndexes (pages.store old).map (pages.store new).map were are width change)
 
 -- where a table's tree stands, and the index has the entries of its cells below one bound, it has those below another then
 pub record Enters (field : Field) (old new : PageMap) (table root to : ℕ) (low high : List ℕ) : Type 0 where

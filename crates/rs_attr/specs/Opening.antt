@@ -7,7 +7,7 @@ use Rattle.rs_page_owners.specs.Counts.{◌&◌}
 use Rattle.rs_pages.specs.PageMap.{PageMap}
 use Rattle.rs_tree.specs.Tree.{IsTree}
 use Rattle.rs_value.specs.declared.column.ColumnType.{ColumnType}
-use Rattle.rs_versioned.specs.declared.told.ToldRecords.{ToldRecords}
+use Rattle.rs_cell_versions.specs.declared.told.ToldRecords.{ToldRecords}
 use Rattle.rs_versioned.specs.Events.{Event, SaysEvent}
 use Rattle.rs_versioned.specs.Opening.{StandsAs}
 use Rattle.rs_cell_versions.specs.Versioned.{Standing}

@@ -1,21 +1,18 @@
-//! An attribute index: the entries of a table's cells in a tree, by the values of one column.
+//! An attribute index keeps the entries of a table's cells in a tree, by the values of one column.
 //!
 //! Changes are made together or not at all: `commit` keeps them, `abandon` takes them back, and neither takes memory. The
 //! pages are to be committed or abandoned with them.
 
-ghost use Rattle.std.specs.Prelude.{◌≡◌, ◌≢◌, ◌⊎◌, ◌↔◌, ◌<◌, ◌≤◌, ℕ, List, [], Contains, Err, IfOk, IfErr, IsTrue, OnOk, OnErr, length, true};
-ghost use Rattle.rs_attr.specs.Entries.{ChangesIndex, FitsPages, HoldsNoIndex, IsColumn, entry_of, index_form};
-ghost use Rattle.rs_attr.specs.Finding.{FindsEqual};
-ghost use Rattle.rs_attr.specs.Opening.{HasSoMany};
-ghost use Rattle.rs_page_owners.specs.Changes.{WorksAfter};
-ghost use Rattle.rs_pages.specs.Lending.{RestsAfter};
+ghost use Rattle.std.specs.Prelude.{◌≡◌, ◌≢◌, ◌↔◌, ◌<◌, ◌≤◌, ℕ, List, [], Contains, Err, IfOk, IsTrue, OnOk, length, true};
+ghost use Rattle.rs_attr.specs.Entries.{FitsPages, IsColumn, entry_of, index_form};
+ghost use Rattle.rs_attr.specs.Inner.{changed};
+ghost use Rattle.rs_attr.specs.IndexCalls.{Checks, Edits, Equals, KeepsIndex, Leaves, RefusesReading};
+ghost use Rattle.rs_pages.specs.Calls.{OnlyReads};
 ghost use Rattle.rs_page_marks.specs.Marks.{taken};
-ghost use Rattle.rs_records.specs.Listed.{listed, record_width};
-ghost use Rattle.rs_tree.specs.Calls.{RefusesToRead};
+ghost use Rattle.rs_records.specs.Listed.{record_width};
 ghost use Rattle.rs_tree.specs.Cells.{with_cell, without_cell};
 ghost use Rattle.rs_tree.specs.Tree.{IsTree};
-ghost use Rattle.rs_tree_whole.specs.Validating.{HasNoFreshTree, Validates};
-ghost use Rattle.rs_value.specs.declared.column.ColumnType.{ColumnType};
+ghost use Rattle.rs_tree_whole.specs.Calls.{RefusesToCheck};
 ghost use Rattle.rs_value.specs.Encoding.{row_width};
 ghost use Rattle.rs_value.specs.Values.{IsValue};
 ghost use Rattle.rs_value.specs.View.{datum_of};
@@ -36,6 +33,15 @@ use std::marker::Model;
 
 /// The bytes of an event's cell before its row.
 const FRONT_BYTES: usize = 8;
+
+/// What becomes of the entry of a cell.
+#[derive(Clone, Copy)]
+pub(crate) enum Change {
+    /// It comes into the index.
+    Put,
+    /// It goes out of it.
+    Take,
+}
 
 /// An index of the event records of a table by the values of one column.
 #[derive(Drop)]
@@ -106,13 +112,10 @@ impl AttrIndex {
         version: u64,
     ) -> Result<(Cells, u32), Refusal>
         requires value { IsValue (datum_of value.now) }
-        ensures rests { RestsAfter P.is_tied P.store P.keeps result pages.old pages.new }
+        ensures rests { OnlyReads P.Pages result pages.old pages.new }
         ensures width { IfOk result (λ found. record_width found.0 ≡ self.now.field.cell_width) }
-        ensures found { P.is_tied pages.old → IfOk result (λ found. (types : List ColumnType) (column : ℕ)
-            → IsColumn types column self.now.field → FindsEqual types column self.now.field (P.store pages.old).map
-            self.now.working (datum_of value.now) version (listed found.0) found.1) }
-        ensures refused { IfErr result (λ why. RefusesToRead (P.is_tied pages.old) (index_form self.now.field)
-            self.now.working why (P.store pages.old) (P.store pages.new)) }
+        ensures found { Equals P.Pages self.now (datum_of value.now) version result pages.old }
+        ensures refused { RefusesReading P.Pages self.now result pages.old pages.new }
     {
         if !is_of_type(self.column, value) {
             return Ok((Cells::new(alloc, self.cell_width), 0));
@@ -129,14 +132,10 @@ impl AttrIndex {
     /// none of whose pages was reached before; 94 where none does; 91 where a page couldn't be read. Which pages are
     /// marked after a refusal is unspecified.
     pub fn validate<P: Pages>(&self, pages: &mut P, reached: &mut Reached) -> Result<u64, Refusal>
-        ensures rests { RestsAfter P.is_tied P.store P.keeps result pages.old pages.new }
+        ensures rests { OnlyReads P.Pages result pages.old pages.new }
         ensures size { length reached.new ≡ length reached.old }
-        ensures validates { P.is_tied pages.old → OnOk result (Validates (index_form self.now.field) (P.store pages.old).map
-            self.now.working (taken reached.old) (taken reached.new)) }
-        ensures counted { P.is_tied pages.old → IfOk result (HasSoMany self.now.field (P.store pages.old).map self.now.working) }
-        ensures refused { IfErr result (λ why. (why ≡ Refusal.Disk) ⊎ (why ≡ Refusal.DamagedFile)) }
-        ensures damaged { P.is_tied pages.old → result ≡ Err Refusal.DamagedFile → HasNoFreshTree
-            (index_form self.now.field) (P.store pages.old).map self.now.working (taken reached.old) }
+        ensures checks { Checks P.Pages self.now (taken reached.old) (taken reached.new) result pages.old }
+        ensures refused { RefusesToCheck result }
     {
         self.tree.validate(pages, reached)
     }
@@ -151,12 +150,11 @@ impl AttrIndex {
         cell: &[u8],
     ) -> Result<bool, Refusal>
         requires width { length cell.now ≡ self.now.field.cell_width }
-        ensures rests { RestsAfter P.is_tied P.store P.keeps result pages.old pages.new }
+        ensures rests { OnlyReads P.Pages result pages.old pages.new }
         ensures found { P.is_tied pages.old → IfOk result (λ found. (entries : List (List ℕ)) (used : ℕ → ℕ)
             → IsTree (index_form self.now.field) (P.store pages.old).map self.now.working entries used
             → (IsTrue found ↔ Contains entries (entry_of self.now.field cell.now))) }
-        ensures refused { IfErr result (λ why. RefusesToRead (P.is_tied pages.old) (index_form self.now.field)
-            self.now.working why (P.store pages.old) (P.store pages.new)) }
+        ensures refused { RefusesReading P.Pages self.now result pages.old pages.new }
     {
         let wide = column_width(self.column);
         write_entry_and_zero(buffer, cell, self.start, wide).map_err(|_| Refusal::OutOfMemory)?;
@@ -164,6 +162,27 @@ impl AttrIndex {
         let entry = &after[..after.len() - 1];
         let found = self.tree.range(alloc, pages, entry, after)?;
         Ok(found.len() > 0)
+    }
+
+    /// Puts the entry of a cell into the index, or takes it out. It is refused as `put` and `take` are.
+    pub(crate) fn change<P: Pages>(
+        &mut self,
+        alloc: Global,
+        pages: &mut P,
+        change: Change,
+        cell: &[u8],
+    ) -> Result<(), Refusal>
+        requires begun { (P.store pages.old).is_begun ≡ true }
+        requires width { length cell.now ≡ self.old.field.cell_width }
+        ensures leaves { Leaves P.Pages self.old result pages.old pages.new }
+        ensures changed { Edits P.Pages self.old self.new (changed change cell.now) result pages.old pages.new }
+        ensures index { KeepsIndex result self.old self.new }
+        ensures room { change ≡ Change.Take → result ≢ Err Refusal.FileFull }
+    {
+        match change {
+            Change::Put => self.put(alloc, pages, cell),
+            Change::Take => self.take(alloc, pages, cell),
+        }
     }
 
     /// Puts the entry of a cell into the index. It is refused with 90, with 91, with 92 where the file is full, and with 94 only
@@ -176,16 +195,9 @@ impl AttrIndex {
     ) -> Result<(), Refusal>
         requires begun { (P.store pages.old).is_begun ≡ true }
         requires width { length cell.now ≡ self.old.field.cell_width }
-        ensures keeps { P.keeps pages.old pages.new }
-        ensures works { WorksAfter (P.is_tied pages.old
-            → HoldsNoIndex self.old.field (P.store pages.old).map self.old.working)
-            result (P.store pages.old) (P.store pages.new) }
-        ensures put { P.is_tied pages.old → OnOk result (ChangesIndex self.old.field
-            (P.store pages.old).map (P.store pages.new).map self.old.working self.new.working
-            (with_cell cell.now)) }
-        ensures field { self.new.field ≡ self.old.field }
-        ensures committed { self.new.committed ≡ self.old.committed }
-        ensures stays { OnErr result (self.new ≡ self.old) }
+        ensures leaves { Leaves P.Pages self.old result pages.old pages.new }
+        ensures put { Edits P.Pages self.old self.new (with_cell cell.now) result pages.old pages.new }
+        ensures index { KeepsIndex result self.old self.new }
     {
         let wide = column_width(self.column);
         let entry = entry_of(alloc, cell, self.start, wide).map_err(|_| Refusal::OutOfMemory)?;
@@ -202,17 +214,10 @@ impl AttrIndex {
     ) -> Result<(), Refusal>
         requires begun { (P.store pages.old).is_begun ≡ true }
         requires width { length cell.now ≡ self.old.field.cell_width }
-        ensures keeps { P.keeps pages.old pages.new }
-        ensures works { WorksAfter (P.is_tied pages.old
-            → HoldsNoIndex self.old.field (P.store pages.old).map self.old.working)
-            result (P.store pages.old) (P.store pages.new) }
+        ensures leaves { Leaves P.Pages self.old result pages.old pages.new }
+        ensures taken { Edits P.Pages self.old self.new (without_cell cell.now) result pages.old pages.new }
+        ensures index { KeepsIndex result self.old self.new }
         ensures room { result ≢ Err Refusal.FileFull }
-        ensures taken { P.is_tied pages.old → OnOk result (ChangesIndex self.old.field
-            (P.store pages.old).map (P.store pages.new).map self.old.working self.new.working
-            (without_cell cell.now)) }
-        ensures field { self.new.field ≡ self.old.field }
-        ensures committed { self.new.committed ≡ self.old.committed }
-        ensures stays { OnErr result (self.new ≡ self.old) }
     {
         let wide = column_width(self.column);
         let entry = entry_of(alloc, cell, self.start, wide).map_err(|_| Refusal::OutOfMemory)?;
@@ -224,17 +229,11 @@ impl AttrIndex {
     /// with pages of its own; the index is as it was then, and the working pages are to be abandoned.
     pub fn clear<P: Pages>(&mut self, pages: &mut P) -> Result<(), Refusal>
         requires begun { (P.store pages.old).is_begun ≡ true }
-        ensures keeps { P.keeps pages.old pages.new }
-        ensures works { WorksAfter (P.is_tied pages.old
-            → HoldsNoIndex self.old.field (P.store pages.old).map self.old.working)
-            result (P.store pages.old) (P.store pages.new) }
-        ensures room { result ≢ Err Refusal.FileFull }
-        ensures cleared { P.is_tied pages.old → OnOk result (ChangesIndex self.old.field
-            (P.store pages.old).map (P.store pages.new).map self.old.working self.new.working (λ _. [])) }
+        ensures leaves { Leaves P.Pages self.old result pages.old pages.new }
+        ensures cleared { Edits P.Pages self.old self.new (λ _. []) result pages.old pages.new }
         ensures empty { OnOk result (self.new.working ≡ 0) }
-        ensures field { self.new.field ≡ self.old.field }
-        ensures committed { self.new.committed ≡ self.old.committed }
-        ensures stays { OnErr result (self.new ≡ self.old) }
+        ensures index { KeepsIndex result self.old self.new }
+        ensures room { result ≢ Err Refusal.FileFull }
     {
         self.tree.clear(pages)?;
         let width = column_width(self.column) + self.cell_width;

@@ -1,20 +1,16 @@
-//! The index of a table that has events already.
+//! This module makes the index of a table that has events already.
 //!
 //! The table's cells are read part by part, so that no more than one part is in memory at a time: a part ends where the next of
 //! the given routes begins. Whatever routes are given, each cell is in one part.
 
-ghost use Rattle.std.specs.Prelude.{◌≡◌, ◌<◌, ℕ, List, IfOk, OnOk, false, length, true};
+ghost use Rattle.std.specs.Prelude.{◌≡◌, ◌<◌, IfOk, OnOk, false, length, true};
+ghost use Rattle.rs_attr.specs.Calls.{Defines, IsFresh};
+ghost use Rattle.rs_attr.specs.Entries.{FitsPages};
 ghost use Rattle.rs_attr.specs.Inner.{Appends, AppendsNone, Enters, EntersNone};
-ghost use Rattle.rs_attr.specs.Entries.{BecomesIndex, FitsPages, IsColumn};
-ghost use Rattle.rs_interval.specs.Finding.{event_form};
-ghost use Rattle.rs_page_owners.specs.Changes.{WorksAfter};
-ghost use Rattle.rs_page_owners.specs.Counts.{◌&◌, no_pages};
-ghost use Rattle.rs_page_owners.specs.Owners.{Shares};
+ghost use Rattle.rs_page_owners.specs.Calls as owners;
 ghost use Rattle.rs_records.specs.Listed.{listed, record_width};
 ghost use Rattle.rs_records.specs.Order.{is_below};
-ghost use Rattle.rs_versioned.specs.Events.{Event, event_width, kept_events};
-ghost use Rattle.rs_versioned.specs.Records.{HoldsRecords};
-ghost use Rattle.rs_cell_versions.specs.Versioned.{HoldsNone};
+ghost use Rattle.rs_versioned.specs.EventCalls.{Leaves};
 
 use crate::attr_index::AttrIndex;
 use crate::equal::ABOVE_CELLS;
@@ -40,16 +36,9 @@ pub fn define<P: Pages>(
     requires begun { (P.store pages.old).is_begun ≡ true }
     requires column { column < length table.now.types }
     requires fits { FitsPages table.now.types column }
-    ensures keeps { P.keeps pages.old pages.new }
-    ensures works { WorksAfter (P.is_tied pages.old → HoldsNone
-        (event_form (event_width table.now.types)) (P.store pages.old).map table.now.working)
-        result (P.store pages.old) (P.store pages.new) }
-    ensures column { IfOk result (λ index. IsColumn table.now.types column index.field) }
-    ensures committed { IfOk result (λ index. index.committed ≡ 0) }
-    ensures defined { P.is_tied pages.old → IfOk result (λ index. (accepted : ℕ) (events : List Event) (used others : ℕ → ℕ)
-        → (records : HoldsRecords (kept_events table.now.types) (P.store pages.old).map table.now.working accepted events used)
-        → Shares (P.store pages.old).map (used & others)
-        → BecomesIndex index.field (P.store pages.old).map (P.store pages.new).map index.working no_pages records.cells) }
+    ensures leaves { Leaves P.Pages table.now result pages.old pages.new }
+    ensures defines { Defines P.Pages table.now result pages.old pages.new }
+    ensures index { IfOk result (IsFresh table.now.types column) }
 {
     let cells: Tree<GreatestEnd> = Tree::at(table.width(), table.root());
     let mut index = AttrIndex::with(table.schema(), column, PageNumber::new(0));
@@ -77,10 +66,8 @@ fn enter<P: Pages>(
     requires begun { (P.store pages.old).is_begun ≡ true }
     requires width { cells.now.width ≡ index.old.field.cell_width }
     requires order { is_below high.now low.now ≡ false }
-    ensures keeps { P.keeps pages.old pages.new }
-    ensures works { WorksAfter (P.is_tied pages.old
-        → EntersNone index.old.field (P.store pages.old).map cells.now.root index.old.working low.now)
-        result (P.store pages.old) (P.store pages.new) }
+    ensures leaves { owners.Leaves P.Pages (EntersNone index.old.field (P.store pages.old).map cells.now.root index.old.working low.now)
+        result pages.old pages.new }
     ensures entered { P.is_tied pages.old → OnOk result (Enters index.old.field (P.store pages.old).map (P.store pages.new).map
         cells.now.root index.old.working index.new.working low.now high.now) }
     ensures field { index.new.field ≡ index.old.field }
@@ -99,10 +86,8 @@ fn append<P: Pages>(
 ) -> Result<(), Refusal>
     requires begun { (P.store pages.old).is_begun ≡ true }
     requires width { record_width cells.now ≡ index.old.field.cell_width }
-    ensures keeps { P.keeps pages.old pages.new }
-    ensures works { WorksAfter (P.is_tied pages.old
-        → AppendsNone index.old.field (P.store pages.old).map index.old.working (listed cells.now))
-        result (P.store pages.old) (P.store pages.new) }
+    ensures leaves { owners.Leaves P.Pages (AppendsNone index.old.field (P.store pages.old).map index.old.working (listed cells.now))
+        result pages.old pages.new }
     ensures appended { P.is_tied pages.old → OnOk result (Appends index.old.field (P.store pages.old).map (P.store pages.new).map
         index.old.working index.new.working (listed cells.now)) }
     ensures field { index.new.field ≡ index.old.field }

@@ -1,4 +1,4 @@
-//! The bytes of an index's entries: those of a value, and then those of a cell.
+//! This module writes the bytes of an index's entries: those of a value, and then those of a cell.
 
 ghost use Rattle.std.specs.Prelude.{◌≡◌, ◌≤◌, ◌+◌, ◌++◌, ◌∷◌, [], ◌↔◌, IfOk, IsTrue, OnOk, drop, length, take};
 ghost use Rattle.rs_value.specs.Encoding.{SaysDatum, width};

@@ -1,13 +1,13 @@
-//! The search for entries with a value.
+//! This module finds the entries with a value.
 //!
 //! Entries with a value lie one after another: from the bytes of the value on, up to these and nine bytes of 255. A cell
 //! begins with two numbers of four bytes and a byte that is 0 or 1, so it is below nine bytes of 255.
 
-ghost use Rattle.std.specs.Prelude.{◌≡◌, ◌≤◌, ◌+◌, ◌++◌, ℕ, IfOk, IfErr, IsTrue, List, drop, filter, length, map, replicate, true};
+ghost use Rattle.std.specs.Prelude.{◌≡◌, ◌≤◌, ◌+◌, ◌++◌, ℕ, IfOk, IsTrue, List, drop, filter, length, map, replicate, true};
 ghost use Rattle.rs_attr.specs.Entries.{plain_form};
-ghost use Rattle.rs_pages.specs.Lending.{RestsAfter};
+ghost use Rattle.rs_pages.specs.Calls.{OnlyReads};
 ghost use Rattle.rs_records.specs.Listed.{listed, record_width};
-ghost use Rattle.rs_tree.specs.Calls.{Finds, RefusesToRead};
+ghost use Rattle.rs_tree.specs.Calls.{Finds, RefusesReading};
 ghost use Rattle.rs_cell_versions.specs.Version.{sees};
 
 use rs_btree::Tree;
@@ -28,12 +28,11 @@ pub(crate) fn entries_with<P: Pages>(
     tree: &Tree<NoSummary>,
     bytes: &[u8],
 ) -> Result<(Cells, u32), Refusal>
-    ensures rests { RestsAfter P.is_tied P.store P.keeps result pages.old pages.new }
+    ensures rests { OnlyReads P.Pages result pages.old pages.new }
     ensures width { IfOk result (λ found. record_width found.0 ≡ tree.now.width) }
     ensures found { P.is_tied pages.old → IfOk result (λ found. Finds (plain_form tree.now.width) (P.store pages.old).map
         tree.now.root bytes.now (bytes.now ++ replicate 9 255) (λ _. true) (listed found.0) found.1) }
-    ensures refused { IfErr result (λ why. RefusesToRead (P.is_tied pages.old) (plain_form tree.now.width)
-        tree.now.root why (P.store pages.old) (P.store pages.new)) }
+    ensures refused { RefusesReading P.Pages (plain_form tree.now.width) tree.now.root result pages.old pages.new }
 {
     let mut high = Vec::new(alloc);
     high.extend_from_slice(bytes)

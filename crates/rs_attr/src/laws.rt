@@ -1,4 +1,4 @@
-//! What follows of indexes and of tables with their indexes.
+//! These laws say what follows of indexes, and of tables with their indexes.
 
 ghost use Rattle.std.specs.Prelude.{◌≡◌, ◌≤◌, ◌+◌, ◌++◌, ◌∷◌, [], ℕ, List, length};
 ghost use Rattle.std.specs.List.{AllByRecursion};

@@ -1,4 +1,4 @@
-//! Attribute indexes of tables of events: the records with a value are found without a look at the others.
+//! This crate keeps attribute indexes of tables of events: the records with a value are found without a look at the others.
 //!
 //! An index has an entry for each event record of its table, living or dead, and no other. Events are added, ended and cleared
 //! in a table and its indexes together.

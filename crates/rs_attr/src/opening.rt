@@ -1,4 +1,4 @@
-//! A table with its indexes that lies in a file already, checked against what the file says of it.
+//! This module checks a table with its indexes, which lies in a file already, against what the file says of it.
 //!
 //! The trees are checked first: their pages are marked and the entries of the indexes counted. Then the cells of the table are
 //! read part by part, so that no more than one part is in memory at a time: a part ends where the next of the given routes
@@ -7,13 +7,13 @@
 
 ghost use Rattle.std.specs.Prelude.{◌≡◌, ◌⊎◌, ◌≤◌, ◌+◌, ◌*◌, Err, IfErr, IfOk, IsOkUnless, OnErr, OnOk, length};
 ghost use Rattle.std.specs.List.{AllByRecursion};
-ghost use Rattle.rs_attr.specs.Opening.{AreNoPart, ArePart, HasEntries, LacksEntries, OpensNoTable, OpensTable, ReachesIndexes, ReachesNoIndexes};
+ghost use Rattle.rs_attr.specs.Calls.{IsOpened, Opens};
+ghost use Rattle.rs_attr.specs.Opening.{AreNoPart, ArePart, HasEntries, LacksEntries, ReachesIndexes, ReachesNoIndexes};
 ghost use Rattle.rs_attr.specs.Tables.{AreOn};
-ghost use Rattle.rs_pages.specs.Lending.{RestsAfter};
+ghost use Rattle.rs_pages.specs.Calls.{OnlyReads};
 ghost use Rattle.rs_page_marks.specs.Marks.{taken};
 ghost use Rattle.rs_records.specs.Listed.{listed, record_width};
 ghost use Rattle.rs_versioned.specs.Events.{Event, SaysEvent, event_width};
-ghost use Rattle.rs_cell_versions.specs.Version.{died_of};
 
 use crate::attr_index::AttrIndex;
 use rs_cell_versions::Opening;
@@ -42,28 +42,14 @@ pub fn open<P: Pages>(
 ) -> Result<EventTable, Refusal>
     requires fits { 3 * (8 + event_width schema.items) ≤ 4080 }
     requires indexes { AreOn schema.items indexes.now }
-    ensures rests { RestsAfter P.is_tied P.store P.keeps result pages.old pages.new }
+    ensures rests { OnlyReads P.Pages result pages.old pages.new }
     ensures size { length reached.new ≡ length reached.old }
-    ensures types { IfOk result (λ table. table.types ≡ schema.items) }
-    ensures committed { IfOk result (λ table. table.committed ≡ table.working) }
-    ensures order { IfOk result (λ table. AllByRecursion (λ dead. died_of dead ≤ told.accepted) table.working.dead) }
-    ensures opens { P.is_tied pages.old → IfOk result (λ table. OpensTable schema.items (P.store pages.old).map told
-        table.working indexes.now (taken reached.old) (taken reached.new)) }
+    ensures table { IfOk result (IsOpened schema.items told) }
+    ensures opens { Opens P.Pages schema.items told indexes.now (taken reached.old) (taken reached.new) result pages.old }
     ensures refused { IfErr result (λ why. (why ≡ Refusal.OutOfMemory) ⊎ (why ≡ Refusal.Disk) ⊎ (why ≡ Refusal.DamagedFile)) }
-    ensures damaged { P.is_tied pages.old → result ≡ Err Refusal.DamagedFile → OpensNoTable schema.items
-        (P.store pages.old).map told indexes.now (taken reached.old) }
 {
     let width = row_width(&schema) + EVENT_BYTES;
-    let mut opening = Opening::<GreatestEnd>::begin(
-        alloc,
-        pages,
-        width,
-        told.root,
-        told.living,
-        told.garbage,
-        told.accepted,
-        reached,
-    )?;
+    let mut opening = Opening::<GreatestEnd>::begin(alloc, pages, width, &told, reached)?;
     reach_indexes(pages, indexes, told, reached)?;
     for route in routes {
         let high = route.to_be_bytes();
@@ -85,7 +71,7 @@ fn reach_indexes<P: Pages>(
     told: ToldRecords,
     reached: &mut Reached,
 ) -> Result<(), Refusal>
-    ensures rests { RestsAfter P.is_tied P.store P.keeps result pages.old pages.new }
+    ensures rests { OnlyReads P.Pages result pages.old pages.new }
     ensures size { length reached.new ≡ length reached.old }
     ensures reaches { P.is_tied pages.old → OnOk result (ReachesIndexes (P.store pages.old).map indexes.now
         (told.living + told.garbage) (taken reached.old) (taken reached.new)) }
@@ -113,7 +99,7 @@ fn check_part<P: Pages>(
 ) -> Result<(), Refusal>
     requires width { record_width cells.now ≡ event_width schema.now.items }
     requires indexes { AreOn schema.now.items indexes.now }
-    ensures rests { RestsAfter P.is_tied P.store P.keeps result pages.old pages.new }
+    ensures rests { OnlyReads P.Pages result pages.old pages.new }
     ensures part { P.is_tied pages.old → OnOk result (ArePart schema.now.items (P.store pages.old).map indexes.now
         (listed cells.now)) }
     ensures refused { IfErr result (λ why. (why ≡ Refusal.OutOfMemory) ⊎ (why ≡ Refusal.Disk) ⊎ (why ≡ Refusal.DamagedFile)) }
@@ -154,7 +140,7 @@ impl AttrIndex {
         cells: &Cells,
     ) -> Result<(), Refusal>
         requires width { record_width cells.now ≡ self.now.field.cell_width }
-        ensures rests { RestsAfter P.is_tied P.store P.keeps result pages.old pages.new }
+        ensures rests { OnlyReads P.Pages result pages.old pages.new }
         ensures entered { P.is_tied pages.old → OnOk result (HasEntries self.now.field (P.store pages.old).map self.now.working
             (listed cells.now)) }
         ensures refused { IfErr result (λ why. (why ≡ Refusal.OutOfMemory) ⊎ (why ≡ Refusal.Disk) ⊎ (why ≡ Refusal.DamagedFile)) }

@@ -14,40 +14,25 @@ use Rattle.rs_tree.specs.Form.{Form}
 use Rattle.rs_tree.specs.Tree.{IsTree}
 use Rattle.rs_tree.proofs.Below.{below_one_way}
 use Rattle.rs_tree_edit.proofs.Between.{AllAbove, all_above_trans, below_none, above_all}
+use Rattle.rs_tree_remove.specs.Calls.{TellsOf}
+use Rattle.rs_tree_remove.proofs.Whole.{without_absent}
 use Rattle.rs_btree.specs.Replacing.{Replaces}
-
--- without a cell that isn't there
-without_absent : (cell : List ℕ) (cs : List (List ℕ)) → Ascends cs → (Contains cs cell → ⊥) → without_cell cell cs ≡ cs
-without_absent cell [] up none = refl
-without_absent cell (c ∷ cs) up none = elim (is_below-cases c cell) [
-  | inl less ↦
-      let isnt : is_below cell c ≡ false = below_one_way c cell less in
-      rw (less, isnt) (ap (λ xs. c ∷ xs) (without_absent cell cs up.1 (λ has. none (suc has.0, omega (arith, has.1), has.2))))
-  | inr (inl same) ↦ absurd (none (0, omega arith, same))
-  | inr (inr more) ↦
-      let all : AllAbove cell (c ∷ cs) = (more, all_above_trans cell c cs more up.0) in
-      ap (λ xs. xs ++ cells_above cell (c ∷ cs)) (below_none cell (c ∷ cs) all) ∙ above_all cell (c ∷ cs) all
-]
-
--- it is told whether the cell is there
-abbrev pub Tells : Form → PageMap → ℕ → List ℕ → Bool → Type 0
-Tells form old root one found = (cells : List (List ℕ)) (used others : ℕ → ℕ) → IsTree form old root cells used → Shares old (used & others) → (IsTrue found ↔ Contains cells one)
 
 module _ (form : Form) (old mid : PageMap) (root below : ℕ) (one : List ℕ) (removed : Changes form old mid root below (without_cell one)) where
   -- where it is, the other is put in
-  pub replaced : (new : PageMap) (to : ℕ) (other : List ℕ) (found : Bool) → IsTrue found → Tells form old root one found → Changes form mid new below to (with_cell other) → Replaces form old new root to one other
+  pub replaced : (new : PageMap) (to : ℕ) (other : List ℕ) (found : Bool) → IsTrue found → TellsOf form old root one found → Changes form mid new below to (with_cell other) → Replaces form old new root to one other
   replaced new to other found is tells put = record {
     there = λ cells used others tree shares has.
         let first = removed.each cells used others tree shares in
         let second = put.each (without_cell one cells) first.after others first.tree (first.moves.beside others shares).shares in
         record { after = second.after; tree = second.tree; moves = moves_trans old mid new used first.after second.after first.moves second.moves };
-    missing = λ cells used others tree shares none. absurd (none ((tells cells used others tree shares).0 is));
+    missing = λ cells used others tree shares none. absurd (none ((tells.each cells used others tree shares).0 is));
   }
 
   -- where it isn't, the cells are the same
-  pub rested : (other : List ℕ) (found : Bool) → found ≡ false → Tells form old root one found → Replaces form old mid root below one other
+  pub rested : (other : List ℕ) (found : Bool) → found ≡ false → TellsOf form old root one found → Replaces form old mid root below one other
   rested other found isnt tells = record {
-    there = λ cells used others tree shares has. absurd (false≢true (sym isnt ∙ (tells cells used others tree shares).1 has));
+    there = λ cells used others tree shares has. absurd (false≢true (sym isnt ∙ (tells.each cells used others tree shares).1 has));
     missing = λ cells used others tree shares none.
         subst (Becomes form old mid below used) (without_absent one cells tree.ascends none) (removed.each cells used others tree shares);
   }

@@ -2,14 +2,11 @@
 //!
 //! The first is taken out, and the other is put in where the first was there.
 
-ghost use Rattle.std.specs.Prelude.{◌≡◌, ◌↔◌, ℕ, true, List, Contains, IsTrue, IfOk, length};
-ghost use Rattle.rs_btree.specs.Replacing.{Replaces};
-ghost use Rattle.rs_page_owners.specs.Changes.{WorksAfter};
-ghost use Rattle.rs_page_owners.specs.Counts.{◌&◌};
-ghost use Rattle.rs_page_owners.specs.Owners.{Shares};
-ghost use Rattle.rs_tree.specs.Calls.{IsNotShared};
-ghost use Rattle.rs_tree.specs.Form.{form_of};
-ghost use Rattle.rs_tree.specs.Tree.{IsTree};
+ghost use Rattle.rs_page_owners.specs.Calls.{Makes};
+ghost use Rattle.std.specs.Prelude.{◌≡◌, true, IfOk, length};
+ghost use Rattle.rs_tree.specs.Calls.{LeavesTree};
+ghost use Rattle.rs_tree.specs.Forms.{form_in};
+ghost use Rattle.rs_btree.specs.Calls.{IsReplaced};
 
 use rs_page::PageNumber;
 use rs_pages::Pages;
@@ -31,16 +28,9 @@ pub fn replace<P: Pages, S: Summary>(
     requires begun { (P.store pages.old).is_begun ≡ true }
     requires summary { layout.summary ≡ S.WIDTH }
     requires width { length other.now ≡ layout.width }
-    ensures keeps { P.keeps pages.old pages.new }
-    ensures works { WorksAfter (P.is_tied pages.old
-        → IsNotShared (form_of S.says S.unit S.join S.of layout.summary layout.width) (P.store pages.old).map root)
-        result (P.store pages.old) (P.store pages.new) }
-    ensures replaced { P.is_tied pages.old → IfOk result (λ answer.
-        Replaces (form_of S.says S.unit S.join S.of layout.summary layout.width) (P.store pages.old).map (P.store pages.new).map
-        root answer.0 cell.now other.now) }
-    ensures found { P.is_tied pages.old → IfOk result (λ answer. (cells : List (List ℕ)) (used others : ℕ → ℕ)
-        → IsTree (form_of S.says S.unit S.join S.of layout.summary layout.width) (P.store pages.old).map root cells used
-        → Shares (P.store pages.old).map (used & others) → (IsTrue answer.1 ↔ Contains cells cell.now)) }
+    ensures leaves { LeavesTree P.Pages (form_in S.Summary layout) root result pages.old pages.new }
+    ensures replaces { Makes P.Pages (λ old new answer. IsReplaced
+        (form_in S.Summary layout) old new root answer.0 cell.now other.now answer.1) result pages.old pages.new }
 {
     let (below, found) = remove::<P, S>(pages, layout, root, cell)?;
     if found {

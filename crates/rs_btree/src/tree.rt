@@ -2,22 +2,17 @@
 //!
 //! The calls that only read leave all pages as they are.
 
-ghost use Rattle.std.specs.Prelude.{◌≡◌, ◌≢◌, ◌⊎◌, ◌↔◌, ◌<◌, ◌≤◌, ◌+◌, ◌*◌, ℕ, Bool, IsTrue, Contains, List, [], IfOk, IfErr, OnOk, OnErr, Err, true, false, length};
+ghost use Rattle.std.specs.Prelude.{◌≡◌, ◌≢◌, ◌<◌, ◌≤◌, ◌+◌, ◌*◌, [], IfOk, Err, true, length};
 ghost use Rattle.std.specs.Fn.{FnReturnsAt};
-ghost use Rattle.rs_page_owners.specs.Changes.{WorksAfter};
-ghost use Rattle.rs_page_owners.specs.Counts.{◌&◌, no_pages};
-ghost use Rattle.rs_page_owners.specs.Owners.{Shares};
-ghost use Rattle.rs_pages.specs.Lending.{RestsAfter};
-ghost use Rattle.rs_pages.specs.PageMap.{PageMap, SamePages};
+ghost use Rattle.rs_page_owners.specs.Counts.{no_pages};
+ghost use Rattle.rs_pages.specs.Calls.{OnlyReads};
+ghost use Rattle.rs_pages.specs.PageMap.{PageMap};
 ghost use Rattle.rs_page_marks.specs.Marks.{taken};
-ghost use Rattle.rs_records.specs.Listed.{listed, record_width};
-ghost use Rattle.rs_tree.specs.Calls.{AcceptsParts, Changes, Finds, IsNotShared, RefusesToRead};
-ghost use Rattle.rs_tree.specs.Cells.{cells_within, with_cell, without_cell};
-ghost use Rattle.rs_tree.specs.Form.{form_of};
+ghost use Rattle.rs_records.specs.Listed.{record_width};
+ghost use Rattle.rs_tree.specs.Forms.{form};
 ghost use Rattle.rs_tree.specs.Tree.{IsTree};
-ghost use Rattle.rs_tree_whole.specs.Validating.{Validates, HasNoFreshTree};
-ghost use Rattle.rs_tree.specs.Asking.{Computes};
-ghost use Rattle.rs_btree.specs.Replacing.{Replaces};
+ghost use Rattle.rs_tree_whole.specs.Calls.{RefusesToCheck};
+ghost use Rattle.rs_btree.specs.Calls.{Checks, Clears, Descends, Inserts, KeepsTree, Leaves, Ranges, RefusesReading, Removes, ReplacesOne};
 ghost use Rattle.rs_btree.specs.Rooted.{Rooted};
 
 use crate::replacing::replace;
@@ -56,7 +51,7 @@ impl<S: Summary> Tree<S> {
         requires fits { 3 * (4 + S.WIDTH + width) ≤ 4080 }
         ensures width { result.width ≡ width }
         ensures empty { (pages : PageMap)
-            → IsTree (form_of S.says S.unit S.join S.of S.WIDTH width) pages result.root [] no_pages }
+            → IsTree (form S.Summary width) pages result.root [] no_pages }
     {
         Tree::at(width, PageNumber::new(0))
     }
@@ -90,21 +85,17 @@ impl<S: Summary> Tree<S> {
         low: &[u8],
         high: &[u8],
     ) -> Result<Cells, Refusal>
-        ensures rests { RestsAfter P.is_tied P.store P.keeps result pages.old pages.new }
+        ensures rests { OnlyReads P.Pages result pages.old pages.new }
         ensures width { IfOk result (λ found. record_width found ≡ self.now.width) }
-        ensures found { P.is_tied pages.old → IfOk result (λ found. (cells : List (List ℕ)) (used : ℕ → ℕ)
-            → IsTree (form_of S.says S.unit S.join S.of S.WIDTH self.now.width) (P.store pages.old).map self.now.root cells used
-            → listed found ≡ cells_within low.now high.now cells) }
-        ensures refused { IfErr result (λ why. RefusesToRead (P.is_tied pages.old)
-            (form_of S.says S.unit S.join S.of S.WIDTH self.now.width) self.now.root why
-            (P.store pages.old) (P.store pages.new)) }
+        ensures found { Ranges P.Pages S.Summary self.now low.now high.now result pages.old }
+        ensures refused { RefusesReading P.Pages S.Summary self.now result pages.old pages.new }
     {
         range::<P, S>(alloc, pages, self.layout, self.root, low, high)
     }
 
-    /// The cells of `range` whose own summary `keep` accepts, and how many pages were read: two for each level of the tree
-    /// and as many more for each cell at the most, where `keep` accepts a join exactly where it accepts one of its parts.
-    /// It is refused as `range` is.
+    /// The cells of `range` whose own summary `keep` accepts, and how many pages were read: the root and each page that leads to
+    /// one of the cells at least, two for each level of the tree and as many more for each cell at the most, where `keep`
+    /// accepts a join exactly where it accepts one of its parts. It is refused as `range` is.
     pub fn descend<P: Pages, F: Fn(&S) -> bool>(
         &self,
         alloc: Global,
@@ -114,34 +105,21 @@ impl<S: Summary> Tree<S> {
         keep: &F,
     ) -> Result<(Cells, u32), Refusal>
         requires callable { F.IsAlwaysCallable keep.now }
-        ensures rests { RestsAfter P.is_tied P.store P.keeps result pages.old pages.new }
+        ensures rests { OnlyReads P.Pages result pages.old pages.new }
         ensures width { IfOk result (λ found. record_width found.0 ≡ self.now.width) }
-        ensures found { P.is_tied pages.old → (test : S → Bool) → Computes (FnReturnsAt F.Fn keep.now) test
-            → AcceptsParts S.join test → IfOk result (λ found. Finds
-            (form_of S.says S.unit S.join S.of S.WIDTH self.now.width) (P.store pages.old).map self.now.root
-            low.now high.now (λ cell. test (S.of cell)) (listed found.0) found.1) }
-        ensures refused { IfErr result (λ why. RefusesToRead (P.is_tied pages.old)
-            (form_of S.says S.unit S.join S.of S.WIDTH self.now.width) self.now.root why
-            (P.store pages.old) (P.store pages.new)) }
+        ensures found { Descends P.Pages S.Summary self.now low.now high.now (FnReturnsAt F.Fn keep.now) result pages.old }
+        ensures refused { RefusesReading P.Pages S.Summary self.now result pages.old pages.new }
     {
         descend::<P, S, F>(alloc, pages, self.layout, self.root, low, high, keep)
     }
 
     /// Marks the tree's pages, and answers how many cells it has, exactly where a well formed tree stands there none of whose
-    /// pages was reached before; 94 where none does; 91 where a page couldn't be read. What is marked after a refusal is open.
+    /// pages was reached before; 94 where none does; 91 where a page couldn't be read. What is marked after a refusal is unspecified.
     pub fn validate<P: Pages>(&self, pages: &mut P, reached: &mut Reached) -> Result<u64, Refusal>
-        ensures rests { RestsAfter P.is_tied P.store P.keeps result pages.old pages.new }
+        ensures rests { OnlyReads P.Pages result pages.old pages.new }
         ensures size { length reached.new ≡ length reached.old }
-        ensures validates { P.is_tied pages.old → OnOk result (Validates
-            (form_of S.says S.unit S.join S.of S.WIDTH self.now.width) (P.store pages.old).map self.now.root
-            (taken reached.old) (taken reached.new)) }
-        ensures counted { P.is_tied pages.old → IfOk result (λ count. (cells : List (List ℕ)) (used : ℕ → ℕ)
-            → IsTree (form_of S.says S.unit S.join S.of S.WIDTH self.now.width) (P.store pages.old).map self.now.root cells used
-            → count ≡ length cells) }
-        ensures refused { IfErr result (λ why. (why ≡ Refusal.Disk) ⊎ (why ≡ Refusal.DamagedFile)) }
-        ensures damaged { P.is_tied pages.old → result ≡ Err Refusal.DamagedFile → HasNoFreshTree
-            (form_of S.says S.unit S.join S.of S.WIDTH self.now.width) (P.store pages.old).map self.now.root
-            (taken reached.old) }
+        ensures checks { Checks P.Pages S.Summary self.now (taken reached.old) (taken reached.new) result pages.old }
+        ensures refused { RefusesToCheck result }
     {
         validate::<P, S>(pages, self.layout, self.root, reached)
     }
@@ -152,20 +130,9 @@ impl<S: Summary> Tree<S> {
     pub fn insert<P: Pages>(&mut self, pages: &mut P, cell: &[u8]) -> Result<bool, Refusal>
         requires begun { (P.store pages.old).is_begun ≡ true }
         requires cell { length cell.now ≡ self.old.width }
-        ensures keeps { P.keeps pages.old pages.new }
-        ensures works { WorksAfter (P.is_tied pages.old → IsNotShared
-            (form_of S.says S.unit S.join S.of S.WIDTH self.old.width) (P.store pages.old).map self.old.root)
-            result (P.store pages.old) (P.store pages.new) }
-        ensures inserted { P.is_tied pages.old → OnOk result (Changes
-            (form_of S.says S.unit S.join S.of S.WIDTH self.old.width) (P.store pages.old).map (P.store pages.new).map
-            self.old.root self.new.root (with_cell cell.now)) }
-        ensures found { P.is_tied pages.old → IfOk result (λ new. (cells : List (List ℕ)) (used : ℕ → ℕ)
-            → IsTree (form_of S.says S.unit S.join S.of S.WIDTH self.old.width) (P.store pages.old).map self.old.root cells used
-            → (IsTrue new ↔ (Contains cells cell.now → ⊥))) }
-        ensures rests { P.is_tied pages.old → IfOk result (λ new. new ≡ false
-            → SamePages (P.store pages.new).map (P.store pages.old).map) }
-        ensures width { self.new.width ≡ self.old.width }
-        ensures stays { OnErr result (self.new ≡ self.old) }
+        ensures leaves { Leaves P.Pages S.Summary self.old result pages.old pages.new }
+        ensures inserts { Inserts P.Pages S.Summary self.old self.new cell.now result pages.old pages.new }
+        ensures tree { KeepsTree result self.old self.new }
     {
         let inserted = insert::<P, S>(pages, self.layout, self.root, cell)?;
         self.root = inserted.root;
@@ -177,19 +144,10 @@ impl<S: Summary> Tree<S> {
     /// pages are to be abandoned.
     pub fn remove<P: Pages>(&mut self, pages: &mut P, cell: &[u8]) -> Result<bool, Refusal>
         requires begun { (P.store pages.old).is_begun ≡ true }
-        ensures keeps { P.keeps pages.old pages.new }
-        ensures works { WorksAfter (P.is_tied pages.old → IsNotShared
-            (form_of S.says S.unit S.join S.of S.WIDTH self.old.width) (P.store pages.old).map self.old.root)
-            result (P.store pages.old) (P.store pages.new) }
+        ensures leaves { Leaves P.Pages S.Summary self.old result pages.old pages.new }
+        ensures removes { Removes P.Pages S.Summary self.old self.new cell.now result pages.old pages.new }
+        ensures tree { KeepsTree result self.old self.new }
         ensures room { result ≢ Err Refusal.FileFull }
-        ensures removed { P.is_tied pages.old → OnOk result (Changes
-            (form_of S.says S.unit S.join S.of S.WIDTH self.old.width) (P.store pages.old).map (P.store pages.new).map
-            self.old.root self.new.root (without_cell cell.now)) }
-        ensures found { P.is_tied pages.old → IfOk result (λ found. (cells : List (List ℕ)) (used others : ℕ → ℕ)
-            → IsTree (form_of S.says S.unit S.join S.of S.WIDTH self.old.width) (P.store pages.old).map self.old.root cells used
-            → Shares (P.store pages.old).map (used & others) → (IsTrue found ↔ Contains cells cell.now)) }
-        ensures width { self.new.width ≡ self.old.width }
-        ensures stays { OnErr result (self.new ≡ self.old) }
     {
         let (root, found) = remove::<P, S>(pages, self.layout, self.root, cell)?;
         self.root = root;
@@ -207,18 +165,9 @@ impl<S: Summary> Tree<S> {
     ) -> Result<bool, Refusal>
         requires begun { (P.store pages.old).is_begun ≡ true }
         requires cell { length other.now ≡ self.old.width }
-        ensures keeps { P.keeps pages.old pages.new }
-        ensures works { WorksAfter (P.is_tied pages.old → IsNotShared
-            (form_of S.says S.unit S.join S.of S.WIDTH self.old.width) (P.store pages.old).map self.old.root)
-            result (P.store pages.old) (P.store pages.new) }
-        ensures replaced { P.is_tied pages.old → OnOk result (Replaces
-            (form_of S.says S.unit S.join S.of S.WIDTH self.old.width) (P.store pages.old).map (P.store pages.new).map
-            self.old.root self.new.root cell.now other.now) }
-        ensures found { P.is_tied pages.old → IfOk result (λ found. (cells : List (List ℕ)) (used others : ℕ → ℕ)
-            → IsTree (form_of S.says S.unit S.join S.of S.WIDTH self.old.width) (P.store pages.old).map self.old.root cells used
-            → Shares (P.store pages.old).map (used & others) → (IsTrue found ↔ Contains cells cell.now)) }
-        ensures width { self.new.width ≡ self.old.width }
-        ensures stays { OnErr result (self.new ≡ self.old) }
+        ensures leaves { Leaves P.Pages S.Summary self.old result pages.old pages.new }
+        ensures replaces { ReplacesOne P.Pages S.Summary self.old self.new cell.now other.now result pages.old pages.new }
+        ensures tree { KeepsTree result self.old self.new }
     {
         let (root, found) = replace::<P, S>(pages, self.layout, self.root, cell, other)?;
         self.root = root;
@@ -229,16 +178,10 @@ impl<S: Summary> Tree<S> {
     /// tree stands there with pages of its own; the tree is as it was then, and the working pages are to be abandoned.
     pub fn clear<P: Pages>(&mut self, pages: &mut P) -> Result<(), Refusal>
         requires begun { (P.store pages.old).is_begun ≡ true }
-        ensures keeps { P.keeps pages.old pages.new }
-        ensures works { WorksAfter (P.is_tied pages.old → IsNotShared
-            (form_of S.says S.unit S.join S.of S.WIDTH self.old.width) (P.store pages.old).map self.old.root)
-            result (P.store pages.old) (P.store pages.new) }
+        ensures leaves { Leaves P.Pages S.Summary self.old result pages.old pages.new }
+        ensures clears { Clears P.Pages S.Summary self.old self.new result pages.old pages.new }
+        ensures tree { KeepsTree result self.old self.new }
         ensures room { result ≢ Err Refusal.FileFull }
-        ensures cleared { P.is_tied pages.old → OnOk result (Changes
-            (form_of S.says S.unit S.join S.of S.WIDTH self.old.width) (P.store pages.old).map (P.store pages.new).map
-            self.old.root self.new.root (λ _. [])) }
-        ensures width { self.new.width ≡ self.old.width }
-        ensures stays { OnErr result (self.new ≡ self.old) }
     {
         clear::<P, S>(pages, self.layout, self.root)?;
         self.root = PageNumber::new(0);

@@ -17,6 +17,12 @@ pub record Reads {A : Type 0} (says : Code A) (old : List ℕ) (value : A) (new 
 pub record ReadsNone {A : Type 0} (says : Code A) (old : List ℕ) : Type 0 where
   pub none : (value : A) (new : List ℕ) → Reads says old value new → ⊥
 
+-- Bytes at the front of old say a value.
+pub record ReadsSome {A : Type 0} (says : Code A) (old : List ℕ) : Type 0 where
+  pub value : A
+  pub new : List ℕ
+  pub reads : Reads says old value new
+
 -- New is old and bytes that say the value.
 pub record Writes {A : Type 0} (says : Code A) (old : List ℕ) (value : A) (new : List ℕ) : Type 0 where
   pub back : List ℕ

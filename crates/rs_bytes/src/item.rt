@@ -1,4 +1,4 @@
-//! What is an item: it is read from the front of bytes and appended to bytes.
+//! Says what an item is: it is read from the front of bytes and appended to bytes.
 
 ghost use Rattle.std.specs.Prelude.{◌≡◌, ◌⊎◌, ℕ, List, ◌++◌, IfOk, IfErr, OnOk};
 ghost use Rattle.rs_refusal.specs.declared.refusal.Refusal.TheVariants as refusals;

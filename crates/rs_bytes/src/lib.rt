@@ -1,4 +1,4 @@
-//! Items as bytes: numbers, texts, pairs and lists, read from the front of bytes and appended to them.
+//! It reads items from the front of bytes and appends them: numbers, texts, pairs and lists.
 //!
 //! It promises that reading finds what the bytes say, or that they say nothing.
 #![tactic(auto)]

@@ -1,4 +1,4 @@
-//! Lists after the number of their items, in one byte or in four.
+//! Reads and writes lists after the number of their items, in one byte or in four.
 
 ghost use Rattle.std.specs.Prelude.{◌≡◌, ◌⊎◌, ◌<◌, ◌^◌, List, length, map, All, IfOk, IfErr, OnOk};
 ghost use Rattle.rs_refusal.specs.declared.refusal.Refusal.TheVariants as refusals;

@@ -1,4 +1,4 @@
-//! Numbers of one, two, four and eight bytes, the highest byte first.
+//! Reads and writes numbers of one, two, four and eight bytes, the highest byte first.
 
 ghost use Rattle.std.specs.Prelude.{◌≡◌, ◌⊎◌, ◌<◌, ◌^◌, ℕ, length, IfOk, IfErr, OnOk};
 ghost use Rattle.std.specs.Int.{w64, to_be_bytes};

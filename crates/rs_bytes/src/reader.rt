@@ -1,4 +1,4 @@
-//! A reader of bytes, which a contract sees as the bytes that are left.
+//! It keeps a reader of bytes, which a contract sees as the bytes that are left.
 
 ghost use Rattle.std.specs.Prelude.{◌≡◌, ◌<◌, ◌↔◌, [], ◌++◌, length, IsTrue, IfOk, IfErr, OnErr};
 ghost use Rattle.rs_refusal.specs.declared.refusal.Refusal.TheVariants as refusals;

@@ -1,8 +1,8 @@
-//! Texts after the number of their bytes, in one byte or in two.
+//! Reads and writes texts after the number of their bytes, in one byte or in two.
 
 ghost use Rattle.std.specs.Prelude.{◌≡◌, ◌⊎◌, ◌<◌, ◌^◌, ℕ, List, length, string_bytes, IfOk, IfErr, OnOk};
 ghost use Rattle.rs_refusal.specs.declared.refusal.Refusal.TheVariants as refusals;
-ghost use Rattle.rs_bytes.specs.Codes.{Reads, ReadsNone, Writes, SaysUtf8, SaysMany, SaysCounted};
+ghost use Rattle.rs_bytes.specs.Codes.{Reads, ReadsNone, ReadsSome, Writes, SaysUtf8, SaysMany, SaysCounted};
 ghost use Rattle.rs_bytes.specs.Laws.{utf8_one, counted_one};
 
 use crate::item::Item;
@@ -68,10 +68,11 @@ impl Item for LongText {
     }
 }
 
-// Reads a text of so many bytes.
+// Reads a text of so many bytes. It is refused as `Item::read` is, with 90 only where the bytes say a text, for its copy alone.
 fn read_text(alloc: Global, count: usize, reader: &mut Reader<'_>) -> Result<String, Refusal>
     ensures read { IfOk result (λ text. Reads (SaysMany count SaysUtf8) reader.old (string_bytes text) reader.new) }
     ensures damaged { IfErr result (λ refusal. refusal ≡ refusals.DamagedFile → ReadsNone (SaysMany count SaysUtf8) reader.old) }
+    ensures memory { IfErr result (λ refusal. refusal ≡ refusals.OutOfMemory → ReadsSome (SaysMany count SaysUtf8) reader.old) }
     ensures refused { IfErr result (λ refusal. (refusal ≡ refusals.OutOfMemory) ⊎ (refusal ≡ refusals.DamagedFile)) }
 {
     let bytes = reader.take(count)?;

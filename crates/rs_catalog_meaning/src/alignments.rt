@@ -1,4 +1,4 @@
-//! Alignments: each as a line defines it, its pieces on routes that are there.
+//! Checks alignments: each is as a line defines it, its pieces on routes that are there.
 
 ghost use Rattle.std.specs.Prelude.{◌↔◌, IsTrue, map};
 ghost use Rattle.std.specs.List.{AllByRecursion};

@@ -1,4 +1,4 @@
-//! Routes by their numbers.
+//! Finds routes by their numbers.
 //!
 //! It takes no memory: each number below the limit has its place in an array.
 

@@ -1,4 +1,4 @@
-//! Whether the definitions of a file pass the checks and limits of their DEFINE lines, each beside the others.
+//! Checks whether the definitions of a file pass the checks and limits of their DEFINE lines, each beside the others.
 
 ghost use Rattle.std.specs.Prelude.{◌≡◌, IsOkUnless, OnErr, OnOk};
 ghost use Rattle.rs_catalog_meaning.specs.Meaning.{AreMeant};

@@ -1,4 +1,4 @@
-//! What follows from definitions that are meant, which pass the checks of their DEFINE lines: with them the machine's state is
+//! The laws say what follows from definitions that are meant, which pass the checks of their DEFINE lines: with them the machine's state is
 //! lawful, and they can be stored.
 
 ghost use Rattle.std.specs.Prelude.{◌≡◌, [], false, Contains};

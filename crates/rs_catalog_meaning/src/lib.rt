@@ -1,4 +1,4 @@
-//! What the definitions of a file mean: whether each passes the checks and limits of its DEFINE line, beside the others.
+//! It says what the definitions of a file mean: whether each passes the checks and limits of its DEFINE line, beside the others.
 #![tactic(auto)]
 
 mod alignments;

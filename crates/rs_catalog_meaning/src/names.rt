@@ -1,4 +1,4 @@
-//! Names: whether a text is one, whether the names of a list rise, and whether a list has a name.
+//! Checks names: whether a text is one, whether the names of a list rise, and whether a list has a name.
 //!
 //! Names are in the order of their bytes, and two are the same where their bytes are.
 

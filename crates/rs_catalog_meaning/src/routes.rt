@@ -1,4 +1,4 @@
-//! Routes: each as a line defines it, with a number of its own.
+//! Checks routes: each is as a line defines it, with a number of its own.
 
 ghost use Rattle.std.specs.Prelude.{◌↔◌, IsTrue, map};
 ghost use Rattle.std.specs.List.{AllByRecursion};

@@ -1,4 +1,4 @@
-//! Tables, their indexes, and views: each as a line defines it.
+//! Checks tables, their indexes, and views: each is as a line defines it.
 
 ghost use Rattle.std.specs.Prelude.{◌≡◌, ◌<◌, ◌↔◌, Contains, IsTrue, length, map};
 ghost use Rattle.std.specs.List.{AllByRecursion};

@@ -11,10 +11,10 @@ use Rattle.rs_page.specs.declared.header.PageKind.TheVariants.{Directory}
 use Rattle.rs_page.proofs.Numbers.{byte_at}
 use Rattle.rs_pages.specs.PageMap.{PageMap, HasNoFit, ReplacesPage}
 use Rattle.rs_pages.proofs.FreeLists.{page_one}
+use Rattle.rs_pages.proofs.Stores.{used_there}
 use Rattle.rs_catalog_pages.specs.Directory.{TreeItem, DirectoryItems, SaysTree, SaysDirectory, IsDirectory, HasDirectory, HasNoDirectory, StoresDirectory}
 use Rattle.rs_catalog_pages.specs.Laws.{directory_one}
 use Rattle.rs_catalog_pages.specs.Parts.{content}
-use Rattle.rs_catalog_pages.proofs.Parts.{used_there}
 
 length_high : (k x : ℕ) → length (bytes_high_first k x) ≡ k
 length_high zero x = refl

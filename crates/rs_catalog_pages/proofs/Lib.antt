@@ -6,8 +6,7 @@ pub mod Fronts
 pub mod Moving
 pub mod Parts
 pub mod Pieces
-pub mod Resting
 pub mod Room
 pub mod Short
-pub mod Working
 pub mod Writing
+pub mod Refused

@@ -11,12 +11,13 @@ use Rattle.rs_pages.specs.PageMap.{PageMap, HasNoFit, in_use, used_page}
 use Rattle.rs_pages.specs.Store.{Store}
 use Rattle.rs_pages.specs.Uses.{ReleasesPage}
 use Rattle.rs_pages.proofs.FreeLists.{free_list_is_shorter_than_the_count}
+use Rattle.rs_pages.proofs.Stores.{used_there}
 use Rattle.rs_page_owners.specs.Counts.{◌&◌, one_at, times, no_pages}
 use Rattle.rs_page_owners.specs.Owners.{Moves, Shares}
 use Rattle.rs_page_owners.proofs.Moving.{one_at-same, same_number, moves_trans, moves_same, moves_part, allocates-moves, releases-moves}
 use Rattle.rs_catalog_pages.specs.Storing.{IsInUse, AreInUse, MovesPages, AreNotOwn}
 use Rattle.rs_catalog_pages.proofs.Counting.{times-push, one_at-off, none_or_some}
-use Rattle.rs_catalog_pages.proofs.Parts.{used_there, catalogue_used}
+use Rattle.rs_catalog_pages.proofs.Parts.{catalogue_used}
 
 kind_more : (kind : PageKind) (number count next a b : ℕ) → a ≤ b → FitsKind kind number count next a → FitsKind kind number count next b
 kind_more Header number count next a b more fits = fits

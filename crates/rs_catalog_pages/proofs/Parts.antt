@@ -11,6 +11,7 @@ use Rattle.rs_page.specs.declared.file_header.FileHeader.{FileHeader}
 use Rattle.rs_page.proofs.Headers.{header_is_one}
 use Rattle.rs_pages.specs.PageMap.{PageMap, SamePages, HasNoFit, in_use}
 use Rattle.rs_pages.proofs.FreeLists.{page_one}
+use Rattle.rs_pages.proofs.Stores.{used_there}
 use Rattle.rs_catalog_pages.specs.Chain.{HoldsPart, catalogue_header}
 use Rattle.rs_catalog_pages.specs.Parts.{content, IsPart, HasNoPart, AppendsPart, ReadsPart, HasNoFreshPart}
 
@@ -40,9 +41,6 @@ part_fit page number next pages part size is = record {
 
 pub catalogue_used : (page : List ℕ) (count number next : ℕ) → IsHeader page (catalogue_header count number next) → is_free page ≡ false
 catalogue_used page count number next is = rw is.kind refl
-
-pub used_there : (map : PageMap) (number : ℕ) (page : List ℕ) → map.page number ≡ Some page → is_free page ≡ false → in_use map number ≡ Some page
-used_there map number page there used = rw (there, used) refl
 
 -- what a page that begins with a fitting header holds
 pub part_there : (page : List ℕ) (header : PageHeader) (number pages : ℕ) (bytes : List ℕ) → length page ≡ PAGE_SIZE → IsHeader page header → header.kind ≡ Catalogue → Fits header number pages

@@ -8,6 +8,7 @@ use Rattle.rs_pages.specs.PageMap.{PageMap}
 use Rattle.rs_pages.specs.Store.{Store}
 use Rattle.rs_pages.specs.Uses.{SetsCatalogue}
 use Rattle.rs_pages.proofs.FreeLists.{catalogue_leaves_the_free_list}
+use Rattle.rs_pages.proofs.Stores.{used_there}
 use Rattle.rs_page_owners.specs.Counts.{◌&◌, one_at, times}
 use Rattle.rs_page_owners.specs.Owners.{Moves}
 use Rattle.rs_page_owners.proofs.Moving.{one_at-same, same_number, moves_same, moves_part, replaces-moves}
@@ -19,7 +20,7 @@ use Rattle.rs_catalog_pages.specs.Places.{number_from, part_at}
 use Rattle.rs_catalog_pages.specs.Storing.{IsInUse, AreInUse, MovesPages, AreNotOwn, WritesParts, HasNoOwnBytes, StoresCatalogue}
 use Rattle.rs_catalog_pages.proofs.Chains.{from_kept}
 use Rattle.rs_catalog_pages.proofs.Counting.{times-at, times-there, times-cons, times-none, one_at-off}
-use Rattle.rs_catalog_pages.proofs.Parts.{part_held, part_fit, used_there, catalogue_used, holds_used, holds_fit}
+use Rattle.rs_catalog_pages.proofs.Parts.{part_held, part_fit, catalogue_used, holds_used, holds_fit}
 use Rattle.rs_catalog_pages.proofs.Moving.{in_use_kept}
 
 -- a page of an owner's is written, and the owner's pages stay the owner's

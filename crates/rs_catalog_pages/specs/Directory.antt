@@ -7,6 +7,8 @@ use Rattle.rs_page.specs.Header.{IsHeader}
 use Rattle.rs_page.specs.PageBytes.{empty_header}
 use Rattle.rs_page.specs.declared.header.PageKind.TheVariants.{Directory}
 use Rattle.rs_page.specs.declared.header.TheConstants.{HEADER_SIZE}
+use Rattle.rs_catalog_pages.specs.Parts.{content}
+use Rattle.rs_catalog_pages.specs.declared.directory.TheConstants.{DIRECTORY_SIZE}
 use Rattle.rs_catalog_pages.specs.declared.directory_items.TheConstants.{INDEXES, TABLES}
 use Rattle.rs_pages.specs.PageMap.{PageMap, ReplacesPage}
 
@@ -37,6 +39,11 @@ pub record IsDirectory (page : List ℕ) (directory : DirectoryItems) : Type 0 w
   pub said : List ℕ
   pub says : SaysDirectory said directory
   pub holds : drop HEADER_SIZE page ≡ said ++ replicate (PAGE_SIZE - (HEADER_SIZE + length said)) 0
+
+-- the page has the header of a directory, and zeros past the bytes of one
+pub record BeginsDirectory (page : List ℕ) : Type 0 where
+  pub header : IsHeader page (empty_header Directory 1 0)
+  pub zeros : drop DIRECTORY_SIZE (content page) ≡ replicate (length (drop DIRECTORY_SIZE (content page))) 0
 
 -- page 1 of the file is this directory
 pub record HasDirectory (map : PageMap) (directory : DirectoryItems) : Type 0 where

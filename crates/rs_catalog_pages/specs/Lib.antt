@@ -1,3 +1,4 @@
+pub mod Calls
 pub mod Chain
 pub mod Directory
 pub mod Fitting

@@ -1,10 +1,10 @@
-//! The bytes of the catalogue, read page by page.
+//! Reads the bytes of the catalogue page by page.
 //!
 //! Each page is marked before it is read, so that none is read twice and reading ends on pages that are no catalogue.
 
 ghost use Rattle.std.specs.Prelude.{◌≡◌, ◌⊎◌, ◌≤◌, ◌+◌, ℕ, IfOk, IfErr, OnOk, Err, length};
 ghost use Rattle.rs_page_owners.specs.Counts.{◌&◌, one_at};
-ghost use Rattle.rs_pages.specs.Lending.{RestsAfter};
+ghost use Rattle.rs_pages.specs.Calls.{OnlyReads};
 ghost use Rattle.rs_page_marks.specs.Marks.{taken};
 ghost use Rattle.rs_catalog_pages.specs.Chain.{HoldsNoFreshBytes};
 ghost use Rattle.rs_catalog_pages.specs.Loading.{ReadsBytes};
@@ -25,7 +25,7 @@ pub(crate) fn read_bytes<P: Pages>(
     pages: &mut P,
     reached: &mut Reached,
 ) -> Result<(Vec<PageNumber>, Vec<u8>), Refusal>
-    ensures rests { RestsAfter P.is_tied P.store P.keeps result pages.old pages.new }
+    ensures rests { OnlyReads P.Pages result pages.old pages.new }
     ensures size { length reached.new ≡ length reached.old }
     ensures reads { P.is_tied pages.old → IfOk result (λ read. ReadsBytes (P.store pages.old).map (taken reached.old)
         (taken reached.new) read.0.items read.1.items) }
@@ -59,7 +59,7 @@ fn read_part<P: Pages>(
     reached: &mut Reached,
     bytes: &mut Vec<u8>,
 ) -> Result<PageNumber, Refusal>
-    ensures rests { RestsAfter P.is_tied P.store P.keeps result pages.old pages.new }
+    ensures rests { OnlyReads P.Pages result pages.old pages.new }
     ensures size { length reached.new ≡ length reached.old }
     ensures reads { IfOk result (λ next. P.is_tied pages.old → ReadsPart (P.store pages.old).map number next left
         bytes.old.items bytes.new.items) }

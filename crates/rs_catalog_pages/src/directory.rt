@@ -1,15 +1,15 @@
-//! The directory of a file, read from page 1 and written to it.
+//! Reads the directory of a file from page 1, and writes it there.
 
-ghost use Rattle.std.specs.Prelude.{◌≡◌, ◌≢◌, ◌⊎◌, ◌≤◌, ◌↔◌, ◌-◌, ◌++◌, true, ℕ, List, IsTrue, EachIndex, slice_index, IfOk, IfErr, OnOk, OnErr, Err, length, drop, replicate};
+ghost use Rattle.std.specs.Prelude.{◌≡◌, ◌≢◌, ◌⊎◌, ◌≤◌, ◌↔◌, ◌-◌, ◌++◌, true, IsTrue, EachIndex, slice_index, IfOk, IfErr, Err, length, replicate};
 ghost use Rattle.rs_page.specs.declared.page.TheConstants.{PAGE_SIZE};
-ghost use Rattle.rs_page_owners.specs.Changes.{WorksAfter};
+ghost use Rattle.rs_page_owners.specs.Calls.{Leaves};
 ghost use Rattle.rs_page.specs.Header.{IsHeader};
 ghost use Rattle.rs_page.specs.PageBytes.{empty_header};
 ghost use Rattle.rs_page.specs.declared.header.PageKind.TheVariants as kinds;
-ghost use Rattle.rs_pages.specs.Lending.{RestsAfter};
+ghost use Rattle.rs_pages.specs.Calls.{OnlyReads};
 ghost use Rattle.rs_pages.specs.PageMap.{HasNoFit};
-ghost use Rattle.rs_pages.specs.Store.{Rests};
-ghost use Rattle.rs_catalog_pages.specs.Directory.{DirectoryItems, IsDirectory, HasDirectory, HasNoDirectory, StoresDirectory, SaysDirectory};
+ghost use Rattle.rs_catalog_pages.specs.Calls.{LoadsDirectory, RefusesToLoadDirectory, StaysRefused, StoresNewDirectory};
+ghost use Rattle.rs_catalog_pages.specs.Directory.{DirectoryItems, IsDirectory, BeginsDirectory};
 ghost use Rattle.rs_catalog_pages.specs.Fitting.{FitsDirectory};
 ghost use Rattle.rs_catalog_pages.specs.Parts.{content};
 ghost use Rattle.rs_catalog_pages.specs.Said.{said_directory};
@@ -27,12 +27,10 @@ pub const DIRECTORY_SIZE: usize = 2844;
 
 /// Reads the directory. It is refused with 90, with 91, and with 94 only where page 1 is none. No page changes.
 pub fn load_directory<P: Pages>(alloc: Global, pages: &mut P) -> Result<StoredDirectory, Refusal>
-    ensures rests { RestsAfter P.is_tied P.store P.keeps result pages.old pages.new }
-    ensures loads { P.is_tied pages.old → IfOk result (λ directory. HasDirectory (P.store pages.old).map
-        (said_directory directory)) }
+    ensures rests { OnlyReads P.Pages result pages.old pages.new }
+    ensures loads { LoadsDirectory P.Pages result pages.old }
     ensures fits { IfOk result (λ directory. FitsDirectory (said_directory directory)) }
-    ensures refused { IfErr result (λ why. (why ≡ Refusal.OutOfMemory) ⊎ (why ≡ Refusal.Disk) ⊎ (why ≡ Refusal.DamagedFile)) }
-    ensures damaged { P.is_tied pages.old → result ≡ Err Refusal.DamagedFile → HasNoDirectory (P.store pages.old).map }
+    ensures refused { RefusesToLoadDirectory P.Pages result pages.old }
 {
     match pages.page(PageNumber::new(1)) {
         Ok(page) => directory_of(alloc, page),
@@ -40,12 +38,14 @@ pub fn load_directory<P: Pages>(alloc: Global, pages: &mut P) -> Result<StoredDi
     }
 }
 
-/// The directory that this page is. It is refused with 90, and with 94 only where it is none.
+/// The directory that this page is. It is refused with 90 only where a directory's header is before the bytes and zeros are after
+/// them, and with 94 only where it is none.
 fn directory_of(alloc: Global, page: &Page) -> Result<StoredDirectory, Refusal>
     ensures read { IfOk result (λ directory. IsDirectory page.now.bytes (said_directory directory)) }
     ensures fits { IfOk result (λ directory. FitsDirectory (said_directory directory)) }
     ensures damaged { result ≡ Err Refusal.DamagedFile
         → (directory : DirectoryItems) → IsDirectory page.now.bytes directory → ⊥ }
+    ensures memory { result ≡ Err Refusal.OutOfMemory → BeginsDirectory page.now.bytes }
     ensures refused { IfErr result (λ why. (why ≡ Refusal.OutOfMemory) ⊎ (why ≡ Refusal.DamagedFile)) }
 {
     let (said, rest) = content(page).split_at(DIRECTORY_SIZE);
@@ -84,12 +84,9 @@ pub fn store_directory<P: Pages>(
 ) -> Result<(), Refusal>
     requires begun { (P.store pages.old).is_begun ≡ true }
     requires fits { FitsDirectory (said_directory directory.now) }
-    ensures keeps { P.keeps pages.old pages.new }
-    ensures works { WorksAfter (P.is_tied pages.old → HasNoFit (P.store pages.old).map 1) result
-        (P.store pages.old) (P.store pages.new) }
-    ensures stores { P.is_tied pages.old → OnOk result (StoresDirectory (P.store pages.old).map (P.store pages.new).map
-        (said_directory directory.now)) }
-    ensures stays { OnErr result (Rests (P.is_tied pages.old) (P.store pages.old) (P.store pages.new)) }
+    ensures leaves { Leaves P.Pages (HasNoFit (P.store pages.old).map 1) result pages.old pages.new }
+    ensures stores { StoresNewDirectory P.Pages (said_directory directory.now) result pages.old pages.new }
+    ensures stays { StaysRefused P.Pages result pages.old pages.new }
     ensures room { result ≢ Err Refusal.FileFull }
 {
     let mut bytes = Vec::new(alloc);

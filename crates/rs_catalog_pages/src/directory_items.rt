@@ -1,4 +1,4 @@
-//! The directory of a file as items: the trees of tables and indexes by their numbers, that of the referents, and the
+//! Reads and writes the directory of a file as items: the trees of tables and indexes by their numbers, that of the referents, and the
 //! version that was accepted last.
 
 ghost use Rattle.std.specs.Prelude.{◌≡◌, ◌⊎◌, ◌<◌, ◌^◌, ℕ, List, All, length, map, IfOk, IfErr, OnOk};

@@ -1,4 +1,4 @@
-//! The definitions of a file as items: how each is read from bytes and appended to them.
+//! Reads the definitions of a file as items from bytes, and appends them.
 //!
 //! Numbers and codes are those that are stored. Whether they fit one another is not asked here.
 

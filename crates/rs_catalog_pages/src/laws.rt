@@ -1,4 +1,4 @@
-//! What follows of the catalogue and the directory: pages hold one of each at the most, and both stay where their pages do; few
+//! The laws say that pages hold one catalogue and one directory at the most, that both stay where their pages do, and that few
 //! definitions can be stored.
 
 ghost use Rattle.std.specs.Prelude.{◌≡◌, ◌≤◌, ◌<◌, ℕ, List, length};

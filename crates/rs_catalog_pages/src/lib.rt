@@ -1,4 +1,4 @@
-//! The definitions of a file as bytes in its pages: the catalogue, and the directory of its trees.
+//! It keeps the definitions of a file as bytes in its pages: the catalogue, and the directory of its trees.
 //!
 //! It promises that what is read is what the pages say, or that they say nothing; and that what was stored is read again.
 #![tactic(auto)]

@@ -1,4 +1,4 @@
-//! The limits of the catalogue and the directory, as numbers.
+//! A law states the limits of the catalogue and the directory as numbers.
 
 ghost use Rattle.std.specs.Prelude.{◌≡◌};
 ghost use Rattle.rs_catalog_pages.specs.declared.directory.TheConstants.{DIRECTORY_SIZE};

@@ -1,10 +1,10 @@
-//! The catalogue, read from its pages.
+//! Reads the catalogue from its pages.
 
-ghost use Rattle.std.specs.Prelude.{◌≡◌, ◌⊎◌, IfOk, IfErr, Err, length};
-ghost use Rattle.rs_pages.specs.Lending.{RestsAfter};
+ghost use Rattle.std.specs.Prelude.{◌≡◌, IfOk, length};
+ghost use Rattle.rs_pages.specs.Calls.{OnlyReads};
 ghost use Rattle.rs_page_marks.specs.Marks.{taken};
+ghost use Rattle.rs_catalog_pages.specs.Calls.{Loads, RefusesToLoad};
 ghost use Rattle.rs_catalog_pages.specs.Fitting.{FitsCatalogue};
-ghost use Rattle.rs_catalog_pages.specs.Loading.{LoadsCatalogue, HasNoFreshCatalogue};
 ghost use Rattle.rs_catalog_pages.specs.Said.{said_catalogue};
 
 use crate::chain::read_bytes;
@@ -24,14 +24,11 @@ pub fn load<P: Pages>(
     pages: &mut P,
     reached: &mut Reached,
 ) -> Result<(Vec<PageNumber>, StoredCatalogue), Refusal>
-    ensures rests { RestsAfter P.is_tied P.store P.keeps result pages.old pages.new }
+    ensures rests { OnlyReads P.Pages result pages.old pages.new }
     ensures size { length reached.new ≡ length reached.old }
-    ensures loads { P.is_tied pages.old → IfOk result (λ loaded. LoadsCatalogue (P.store pages.old).map (taken reached.old)
-        (taken reached.new) loaded.0.items (said_catalogue loaded.1)) }
+    ensures loads { Loads P.Pages (taken reached.old) (taken reached.new) result pages.old }
     ensures fits { IfOk result (λ loaded. FitsCatalogue (said_catalogue loaded.1)) }
-    ensures refused { IfErr result (λ why. (why ≡ Refusal.OutOfMemory) ⊎ (why ≡ Refusal.Disk) ⊎ (why ≡ Refusal.DamagedFile)) }
-    ensures damaged { P.is_tied pages.old → result ≡ Err Refusal.DamagedFile
-        → HasNoFreshCatalogue (P.store pages.old).map (taken reached.old) }
+    ensures refused { RefusesToLoad P.Pages (taken reached.old) result pages.old }
 {
     let (numbers, bytes) = read_bytes(alloc, pages, reached)?;
     let catalogue = read_whole::<StoredCatalogue>(alloc, bytes.as_slice())?;

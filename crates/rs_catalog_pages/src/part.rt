@@ -1,4 +1,4 @@
-//! One page of the catalogue: the bytes that it holds, and the page that follows.
+//! Reads and fills one page of the catalogue: the bytes that it holds, and the page that follows.
 
 ghost use Rattle.std.specs.Prelude.{◌≡◌, ◌⊎◌, ◌≤◌, ◌<◌, ◌+◌, ◌++◌, ℕ, IfOk, IfErr, IfSome, IfNone, Err, length, take, drop, List};
 ghost use Rattle.rs_page.specs.declared.page.TheConstants.{PAGE_SIZE};

@@ -1,7 +1,7 @@
-//! The pages of the catalogue: as many as its bytes need.
+//! Brings as many pages into use for the catalogue as its bytes need, and releases the others.
 
 ghost use Rattle.std.specs.Prelude.{◌≡◌, ◌≢◌, ◌≤◌, ◌<◌, ◌+◌, ◌-◌, true, Err, OnOk, length, max, take};
-ghost use Rattle.rs_page_owners.specs.Changes.{WorksAfter};
+ghost use Rattle.rs_page_owners.specs.Calls.{WorksOn};
 ghost use Rattle.rs_catalog_pages.specs.Storing.{MovesPages, AreNotOwn};
 
 use rs_page::{ContentKind, PageNumber};
@@ -17,8 +17,7 @@ pub(crate) fn grow<P: Pages>(
 ) -> Result<(), Refusal>
     requires begun { (P.store pages.old).is_begun ≡ true }
     ensures keeps { P.keeps pages.old pages.new }
-    ensures works { WorksAfter (P.is_tied pages.old → AreNotOwn (P.store pages.old).map numbers.old.items) result
-        (P.store pages.old) (P.store pages.new) }
+    ensures works { WorksOn P.Pages (AreNotOwn (P.store pages.old).map numbers.old.items) result pages.old pages.new }
     ensures moves { P.is_tied pages.old → OnOk result (MovesPages (P.store pages.old).map (P.store pages.new).map
         numbers.old.items numbers.new.items) }
     ensures enough { OnOk result (count ≤ length numbers.new.items) }
@@ -45,8 +44,7 @@ pub(crate) fn shrink<P: Pages>(
     requires begun { (P.store pages.old).is_begun ≡ true }
     requires enough { count ≤ length numbers.old.items }
     ensures keeps { P.keeps pages.old pages.new }
-    ensures works { WorksAfter (P.is_tied pages.old → AreNotOwn (P.store pages.old).map numbers.old.items) result
-        (P.store pages.old) (P.store pages.new) }
+    ensures works { WorksOn P.Pages (AreNotOwn (P.store pages.old).map numbers.old.items) result pages.old pages.new }
     ensures moves { P.is_tied pages.old → OnOk result (MovesPages (P.store pages.old).map (P.store pages.new).map
         numbers.old.items numbers.new.items) }
     ensures enough { OnOk result (length numbers.new.items ≡ count) }
@@ -64,8 +62,7 @@ pub(crate) fn shrink<P: Pages>(
 fn release_last<P: Pages>(pages: &mut P, numbers: &mut Vec<PageNumber>) -> Result<(), Refusal>
     requires begun { (P.store pages.old).is_begun ≡ true }
     ensures keeps { P.keeps pages.old pages.new }
-    ensures works { WorksAfter (P.is_tied pages.old → AreNotOwn (P.store pages.old).map numbers.old.items) result
-        (P.store pages.old) (P.store pages.new) }
+    ensures works { WorksOn P.Pages (AreNotOwn (P.store pages.old).map numbers.old.items) result pages.old pages.new }
     ensures moves { P.is_tied pages.old → OnOk result (MovesPages (P.store pages.old).map (P.store pages.new).map
         numbers.old.items numbers.new.items) }
     ensures fewer { OnOk result (length numbers.new.items ≡ length numbers.old.items - 1) }

@@ -1,15 +1,15 @@
-//! The catalogue, written into its pages.
+//! Writes the catalogue into its pages.
 //!
 //! It keeps the pages that it has, and takes or gives back those that are missing or too many.
 
 ghost use Rattle.std.specs.Prelude.{◌≡◌, ◌≢◌, ◌≤◌, ◌<◌, ◌+◌, ◌-◌, ◌*◌, ◌^◌, true, Err, IfOk, OnOk, OnErr, length};
-ghost use Rattle.rs_page_owners.specs.Changes.{WorksAfter};
+ghost use Rattle.rs_page_owners.specs.Calls.{WorksOn};
 ghost use Rattle.rs_pages.specs.PageMap.{HasNoFit};
-ghost use Rattle.rs_pages.specs.Store.{Rests};
+ghost use Rattle.rs_catalog_pages.specs.Calls.{LeavesCatalogue, StaysRefused, Stores};
 ghost use Rattle.rs_catalog_pages.specs.Fitting.{FitsCatalogue, IsShort};
 ghost use Rattle.rs_catalog_pages.specs.Said.{said_catalogue};
 ghost use Rattle.rs_catalog_pages.specs.Parts.{WritesPart};
-ghost use Rattle.rs_catalog_pages.specs.Storing.{AreNotOwn, WritesParts, HasNoOwnBytes, NeedsMorePages, StoresAfter, StoresCatalogue};
+ghost use Rattle.rs_catalog_pages.specs.Storing.{AreNotOwn, WritesParts, NeedsMorePages};
 ghost use Rattle.rs_catalog_pages.specs.Places.{number_from, part_at};
 
 use crate::items::StoredCatalogue;
@@ -38,11 +38,8 @@ pub fn store<P: Pages>(
     requires begun { (P.store pages.old).is_begun ≡ true }
     requires fits { FitsCatalogue (said_catalogue catalogue.now) }
     requires short { IsShort (said_catalogue catalogue.now) }
-    ensures keeps { P.keeps pages.old pages.new }
-    ensures works { StoresAfter (P.is_tied pages.old → HasNoOwnBytes (P.store pages.old).map numbers.now) result
-        (P.store pages.old) (P.store pages.new) }
-    ensures stores { P.is_tied pages.old → IfOk result (λ after. StoresCatalogue (P.store pages.old).map
-        (P.store pages.new).map numbers.now after.items (said_catalogue catalogue.now)) }
+    ensures leaves { LeavesCatalogue P.Pages numbers.now result pages.old pages.new }
+    ensures stores { Stores P.Pages numbers.now (said_catalogue catalogue.now) result pages.old pages.new }
     ensures count { IfOk result (λ after. (P.store pages.new).map.fields.pages
         ≤ (P.store pages.old).map.fields.pages + (length after.items - length numbers.now)) }
     ensures room { result ≡ Err Refusal.FileFull → NeedsMorePages numbers.now (said_catalogue catalogue.now) }
@@ -78,8 +75,7 @@ fn write_parts<P: Pages>(pages: &mut P, numbers: &[PageNumber], bytes: &[u8]) ->
     requires few { length numbers.now < 2 ^ 40 }
     requires room { length bytes.now ≤ length numbers.now * 4080 }
     ensures keeps { P.keeps pages.old pages.new }
-    ensures works { WorksAfter (P.is_tied pages.old → AreNotOwn (P.store pages.old).map numbers.now) result
-        (P.store pages.old) (P.store pages.new) }
+    ensures works { WorksOn P.Pages (AreNotOwn (P.store pages.old).map numbers.now) result pages.old pages.new }
     ensures writes { P.is_tied pages.old → OnOk result (WritesParts (P.store pages.old).map (P.store pages.new).map
         numbers.now bytes.now (number_from numbers.now 0)) }
     ensures as_many { (P.store pages.new).map.fields.pages ≡ (P.store pages.old).map.fields.pages }
@@ -132,11 +128,10 @@ fn write_part<P: Pages>(
     requires begun { (P.store pages.old).is_begun ≡ true }
     requires fits { length part.now ≤ 4080 }
     ensures keeps { P.keeps pages.old pages.new }
-    ensures works { WorksAfter (P.is_tied pages.old → HasNoFit (P.store pages.old).map number) result
-        (P.store pages.old) (P.store pages.new) }
+    ensures works { WorksOn P.Pages (HasNoFit (P.store pages.old).map number) result pages.old pages.new }
     ensures written { P.is_tied pages.old → OnOk result (WritesPart (P.store pages.old).map (P.store pages.new).map number
         next part.now) }
-    ensures stays { OnErr result (Rests (P.is_tied pages.old) (P.store pages.old) (P.store pages.new)) }
+    ensures stays { StaysRefused P.Pages result pages.old pages.new }
     ensures as_many { (P.store pages.new).map.fields.pages ≡ (P.store pages.old).map.fields.pages }
     ensures room { result ≢ Err Refusal.FileFull }
 {

@@ -93,6 +93,7 @@ holds-more width first end kept_first kept_end bytes holds size last =
       fits = omega (arith, holds.wide, holds.fits);
       begins = omega (arith, holds.begins);
       kept_begins = holds.kept_begins;
+      given_back = holds.given_back;
       within = omega (arith, holds.within);
       in_order = subst AreInOrder (sym (part-more first end width bytes holds.begins size)) (in_order-push (part first end width bytes) (drop (end * width) bytes) holds.in_order last);
       kept_in_order = holds.kept_in_order;
@@ -105,6 +106,7 @@ holds-later width first more end kept_first kept_end bytes holds inside = record
   fits = holds.fits;
   begins = inside;
   kept_begins = holds.kept_begins;
+  given_back = holds.given_back;
   within = holds.within;
   in_order = subst AreInOrder (sym (part-later first more end width bytes)) (in_order-drop more (part first end width bytes) holds.in_order);
   kept_in_order = holds.kept_in_order;
@@ -119,6 +121,7 @@ holds-written width first end kept_first kept_end bytes more holds =
       fits = omega (arith, length-append (take (end * width) bytes) more, length-take-le (end * width) bytes holds.fits);
       begins = holds.begins;
       kept_begins = holds.kept_begins;
+      given_back = holds.given_back;
       within = holds.within;
       in_order = subst AreInOrder (sym (part-front first end width (end * width) bytes more (omega arith) holds.fits)) holds.in_order;
       kept_in_order = subst AreInOrder (sym (part-front kept_first kept_end width (end * width) bytes more kept holds.fits)) holds.kept_in_order;
@@ -148,23 +151,13 @@ holds-none width bytes wide = record {
   fits = omega arith;
   begins = omega arith;
   kept_begins = omega arith;
+  given_back = omega arith;
   within = omega arith;
   in_order = subst AreInOrder (sym (part-none 0 width bytes)) tt;
   kept_in_order = subst AreInOrder (sym (part-none 0 width bytes)) tt;
 }
 
--- the working part is the committed one too, in place or at the front
-pub holds-kept : (width first end kept_first kept_end : ℕ) (bytes : List ℕ) → HoldsDead width first end kept_first kept_end bytes → HoldsDead width first end first end bytes
-holds-kept width first end kept_first kept_end bytes holds = record {
-  wide = holds.wide;
-  fits = holds.fits;
-  begins = holds.begins;
-  kept_begins = holds.begins;
-  within = omega arith;
-  in_order = holds.in_order;
-  kept_in_order = holds.in_order;
-}
-
+-- the working part is the committed one too, at the front
 pub holds-moved : (width first end kept_first kept_end : ℕ) (bytes : List ℕ) → HoldsDead width first end kept_first kept_end bytes
     → HoldsDead width 0 (end - first) 0 (end - first) (take (end * width - first * width) (drop (first * width) bytes))
 holds-moved width first end kept_first kept_end bytes holds =
@@ -177,6 +170,7 @@ holds-moved width first end kept_first kept_end bytes holds =
       fits = omega (arith, less, holds.fits, length-take-le (end * width - first * width) (drop (first * width) bytes) (omega (arith, length-drop (first * width) bytes, holds.fits)));
       begins = omega arith;
       kept_begins = omega arith;
+      given_back = omega arith;
       within = omega arith;
       in_order = order;
       kept_in_order = order;

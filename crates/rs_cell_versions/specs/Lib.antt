@@ -1,3 +1,4 @@
+pub mod Calls
 pub mod Changes
 pub mod DeadCells
 pub mod Dying

@@ -5,6 +5,7 @@ use Rattle.rs_pages.specs.PageMap.{PageMap}
 use Rattle.rs_tree.specs.Cells.{cells_below}
 use Rattle.rs_tree.specs.Form.{Form}
 use Rattle.rs_tree.specs.Tree.{IsTree}
+use Rattle.rs_cell_versions.specs.declared.told.ToldRecords.{ToldRecords}
 use Rattle.rs_cell_versions.specs.Inner.{standing}
 use Rattle.rs_cell_versions.specs.Version.{IsDated, is_dead, is_living}
 use Rattle.rs_cell_versions.specs.Versioned.{HoldsCells}
@@ -16,6 +17,10 @@ pub record Told : Type 0 where
   pub living : ℕ
   pub garbage : ℕ
   pub accepted : ℕ
+
+-- what a file says of the tree, whose cells have this width
+abbrev pub told_of : ℕ → ToldRecords → Told
+told_of width told = record { width = width; root = told.root; living = told.living; garbage = told.garbage; accepted = told.accepted }
 
 -- what was found below a bound: how many living and dead cells are still to come, and the dead ones
 pub record Looked : Type 0 where

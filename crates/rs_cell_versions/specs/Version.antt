@@ -1,5 +1,6 @@
 -- Which versions see a cell.
 use Rattle.std.specs.Prelude.{◌≡◌, ◌⊎◌, ◌<◌, ◌≤◌, ◌-◌, ◌==◌, ◌&&◌, ◌++◌, ℕ, Bool, IsTrue, not, nat_le, nat_lt, List, Contains, take, drop, length}
+use Rattle.std.specs.List.{AllByRecursion}
 use Rattle.std.specs.Int.{w64, to_be_bytes}
 use Rattle.byteorder.specs.Endian.{big_number}
 use Rattle.rs_cell_versions.specs.declared.cell.TheConstants.{END_BYTES, LIVING, VERSION_BYTES}
@@ -38,6 +39,10 @@ ended version cell = lasting cell ++ to_be_bytes w64 version
 -- the cell was born at this version or before it, and lives, or died after its birth at this version or before it
 abbrev pub IsDated : ℕ → List ℕ → Type 0
 IsDated accepted cell = (born_of cell ≤ accepted) × (IsTrue (is_living cell) ⊎ ((born_of cell < died_of cell) × (died_of cell ≤ accepted)))
+
+-- each of the dead died at this version or before it
+abbrev pub HaveDiedBy : ℕ → List (List ℕ) → Type 0
+HaveDiedBy version = AllByRecursion (λ dead. died_of dead ≤ version)
 
 -- no two of the cells are the same but for their ends
 pub record LastsOnce (cells : List (List ℕ)) : Type 0 where

@@ -1,16 +1,16 @@
-//! A bound above all cells of a tree: the greatest of them and one byte more.
+//! This module finds a bound above all cells of a tree: the greatest of them and one byte more.
 //!
 //! The way to it goes by the last entry of each inner page, so that one page of each level is read.
 
 ghost use Rattle.std.specs.Prelude.{◌≡◌, ◌⊎◌, ◌<◌, ◌≤◌, ◌*◌, ◌-◌, ◌++◌, ℕ, List, [], ◌∷◌, Some, Err, IfOk, IfErr, IsOkUnless, slice_get};
 ghost use Rattle.rs_page.specs.Number.{number_at};
-ghost use Rattle.rs_pages.specs.Lending.{RestsAfter};
 ghost use Rattle.rs_records.specs.Records.{records};
 ghost use Rattle.rs_tree.specs.Content.{content};
-ghost use Rattle.rs_tree.specs.Form.{form_of};
 ghost use Rattle.rs_tree.specs.Tree.{IsNoTree};
 ghost use Rattle.rs_tree.specs.Layouts.{entry_bytes};
+ghost use Rattle.rs_tree.specs.Forms.{form_in};
 ghost use Rattle.rs_cell_versions.specs.Looking.{IsAbove};
+ghost use Rattle.rs_pages.specs.Calls.{OnlyReads};
 
 use rs_page::{Page, PageNumber};
 use rs_pages::Pages;
@@ -29,12 +29,12 @@ pub(crate) fn bound_above<P: Pages, S: Summary>(
     layout: Layout,
     root: PageNumber,
 ) -> Result<Vec<u8>, Refusal>
-    ensures rests { RestsAfter P.is_tied P.store P.keeps result pages.old pages.new }
+    ensures rests { OnlyReads P.Pages result pages.old pages.new }
     ensures above { P.is_tied pages.old → IfOk result (λ bound. IsAbove
-        (form_of S.says S.unit S.join S.of layout.summary layout.width) (P.store pages.old).map root bound.items) }
+        (form_in S.Summary layout) (P.store pages.old).map root bound.items) }
     ensures refused { IfErr result (λ why. (why ≡ Refusal.OutOfMemory) ⊎ (why ≡ Refusal.Disk) ⊎ (why ≡ Refusal.DamagedFile)) }
     ensures damaged { P.is_tied pages.old → result ≡ Err Refusal.DamagedFile → IsNoTree
-        (form_of S.says S.unit S.join S.of layout.summary layout.width) (P.store pages.old).map root }
+        (form_in S.Summary layout) (P.store pages.old).map root }
 {
     if root.number() == 0 {
         return Ok(Vec::new(alloc));

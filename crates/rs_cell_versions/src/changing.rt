@@ -1,16 +1,16 @@
-//! The steps of a change of cells with versions, in their tree, whatever cells are dead.
+//! This module takes the steps of a change of cells with versions, in their tree, whatever cells are dead.
 //!
 //! A step that is refused may have changed pages, and the tree.
 
 ghost use Rattle.std.specs.Prelude.{◌≡◌, ◌≢◌, ◌<◌, ◌↔◌, ℕ, List, [], ◌∷◌, Contains, IsTrue, IfOk, OnOk, OnErr, true, false, length, Err};
-ghost use Rattle.rs_page_owners.specs.Changes.{WorksAfter};
 ghost use Rattle.rs_page_owners.specs.Counts.{◌&◌};
 ghost use Rattle.rs_page_owners.specs.Owners.{Shares};
+ghost use Rattle.rs_page_owners.specs.Calls.{WorksOn};
 ghost use Rattle.rs_pages.specs.PageMap.{SamePages};
 ghost use Rattle.rs_records.specs.Listed.{listed};
 ghost use Rattle.rs_tree.specs.Calls.{IsNotShared};
-ghost use Rattle.rs_tree.specs.Form.{form_of};
 ghost use Rattle.rs_tree.specs.Tree.{IsTree};
+ghost use Rattle.rs_tree.specs.Forms.{form};
 ghost use Rattle.rs_cell_versions.specs.Inner.{Adds, EndsOne, FitsPages, HoldsNoneFirst, TakesOut};
 ghost use Rattle.rs_cell_versions.specs.Version.{ended, is_living};
 
@@ -53,20 +53,20 @@ pub(crate) fn put<P: Pages, S: Summary>(
     requires width { length cell.now ≡ tree.old.width }
     requires living { IsTrue (is_living cell.now) }
     ensures keeps { P.keeps pages.old pages.new }
-    ensures works { WorksAfter (P.is_tied pages.old → IsNotShared
-        (form_of S.says S.unit S.join S.of S.WIDTH tree.old.width) (P.store pages.old).map tree.old.root)
-        result (P.store pages.old) (P.store pages.new) }
+    ensures works { WorksOn P.Pages (IsNotShared
+        (form S.Summary tree.old.width) (P.store pages.old).map tree.old.root) result pages.old pages.new }
     ensures added { P.is_tied pages.old → IfOk result (λ answer. Adds
-        (form_of S.says S.unit S.join S.of S.WIDTH tree.old.width) (P.store pages.old).map (P.store pages.new).map
+        (form S.Summary tree.old.width) (P.store pages.old).map (P.store pages.new).map
         tree.old.root living tree.new.root answer.1 cell.now) }
     ensures found { P.is_tied pages.old → IfOk result (λ answer. (cells : List (List ℕ)) (used : ℕ → ℕ)
-        → IsTree (form_of S.says S.unit S.join S.of S.WIDTH tree.old.width) (P.store pages.old).map tree.old.root cells used
+        → IsTree (form S.Summary tree.old.width) (P.store pages.old).map tree.old.root cells used
         → (IsTrue answer.0 ↔ (Contains cells cell.now → ⊥))) }
     ensures rests { P.is_tied pages.old → IfOk result (λ answer. answer.0 ≡ false
         → SamePages (P.store pages.new).map (P.store pages.old).map) }
     ensures width { tree.new.width ≡ tree.old.width }
     ensures stays { OnErr result (tree.new ≡ tree.old) }
 {
+    // For the proof: there are fewer than 2^32 pages, and so fewer cells than a count can say.
     let _count = pages.count();
     let new = tree.insert(pages, cell)?;
     if new {
@@ -92,14 +92,13 @@ pub(crate) fn end<P: Pages, S: Summary>(
     requires version { version < LIVING }
     requires last { last.now ≡ ended version cell.now }
     ensures keeps { P.keeps pages.old pages.new }
-    ensures works { WorksAfter (P.is_tied pages.old → IsNotShared
-        (form_of S.says S.unit S.join S.of S.WIDTH tree.old.width) (P.store pages.old).map tree.old.root)
-        result (P.store pages.old) (P.store pages.new) }
+    ensures works { WorksOn P.Pages (IsNotShared
+        (form S.Summary tree.old.width) (P.store pages.old).map tree.old.root) result pages.old pages.new }
     ensures ended { P.is_tied pages.old → IfOk result (λ answer. EndsOne
-        (form_of S.says S.unit S.join S.of S.WIDTH tree.old.width) (P.store pages.old).map (P.store pages.new).map
+        (form S.Summary tree.old.width) (P.store pages.old).map (P.store pages.new).map
         tree.old.root living tree.new.root answer.living answer.listed version cell.now) }
     ensures found { P.is_tied pages.old → IfOk result (λ answer. (cells : List (List ℕ)) (used others : ℕ → ℕ)
-        → IsTree (form_of S.says S.unit S.join S.of S.WIDTH tree.old.width) (P.store pages.old).map tree.old.root cells used
+        → IsTree (form S.Summary tree.old.width) (P.store pages.old).map tree.old.root cells used
         → Shares (P.store pages.old).map (used & others) → (IsTrue answer.found ↔ Contains cells cell.now)) }
     ensures width { tree.new.width ≡ tree.old.width }
 {
@@ -135,12 +134,11 @@ pub(crate) fn take_out<P: Pages, S: Summary>(
 ) -> Result<(), Refusal>
     requires begun { (P.store pages.old).is_begun ≡ true }
     ensures keeps { P.keeps pages.old pages.new }
-    ensures works { WorksAfter (P.is_tied pages.old → HoldsNoneFirst
-        (form_of S.says S.unit S.join S.of S.WIDTH tree.old.width) (P.store pages.old).map tree.old.root (listed cells.now))
-        result (P.store pages.old) (P.store pages.new) }
+    ensures works { WorksOn P.Pages (HoldsNoneFirst
+        (form S.Summary tree.old.width) (P.store pages.old).map tree.old.root (listed cells.now)) result pages.old pages.new }
     ensures room { result ≢ Err Refusal.FileFull }
     ensures taken { P.is_tied pages.old → OnOk result (TakesOut
-        (form_of S.says S.unit S.join S.of S.WIDTH tree.old.width) (P.store pages.old).map (P.store pages.new).map
+        (form S.Summary tree.old.width) (P.store pages.old).map (P.store pages.new).map
         tree.old.root tree.new.root (listed cells.now)) }
     ensures width { tree.new.width ≡ tree.old.width }
 {
@@ -158,12 +156,11 @@ fn take_one<P: Pages, S: Summary>(
 ) -> Result<(), Refusal>
     requires begun { (P.store pages.old).is_begun ≡ true }
     ensures keeps { P.keeps pages.old pages.new }
-    ensures works { WorksAfter (P.is_tied pages.old → HoldsNoneFirst
-        (form_of S.says S.unit S.join S.of S.WIDTH tree.old.width) (P.store pages.old).map tree.old.root (cell.now ∷ []))
-        result (P.store pages.old) (P.store pages.new) }
+    ensures works { WorksOn P.Pages (HoldsNoneFirst
+        (form S.Summary tree.old.width) (P.store pages.old).map tree.old.root (cell.now ∷ [])) result pages.old pages.new }
     ensures room { result ≢ Err Refusal.FileFull }
     ensures taken { P.is_tied pages.old → OnOk result (TakesOut
-        (form_of S.says S.unit S.join S.of S.WIDTH tree.old.width) (P.store pages.old).map (P.store pages.new).map
+        (form S.Summary tree.old.width) (P.store pages.old).map (P.store pages.new).map
         tree.old.root tree.new.root (cell.now ∷ [])) }
     ensures width { tree.new.width ≡ tree.old.width }
 {

@@ -1,4 +1,4 @@
-//! The dead cells in the order in which they died, now and at the last commit.
+//! This module lists the dead cells in the order in which they died, now and at the last commit.
 //!
 //! They lie one after another in one buffer. Those of the last commit are a part of the same bytes, so that neither a commit
 //! nor an abandonment takes memory.

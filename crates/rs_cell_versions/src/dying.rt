@@ -1,4 +1,4 @@
-//! This module lists dead cells in the order in which they died.
+//! This module puts dead cells in the order in which they died.
 
 ghost use Rattle.std.specs.Prelude.{◌≡◌, ◌≤◌, IfOk, IsPermutation};
 ghost use Rattle.rs_records.specs.Listed.{listed, record_width};

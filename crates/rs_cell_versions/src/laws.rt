@@ -1,11 +1,11 @@
-//! What follows of cells with versions: what each version sees after a cell is added, ended or cleared.
+//! These laws say what each version sees after a cell is added, ended or cleared.
 
 ghost use Rattle.std.specs.Prelude.{◌≡◌, ◌<◌, ◌≤◌, ◌-◌, ◌^◌, ◌↔◌, ℕ, List, Contains, IsPermutation, IsTrue, count_by, filter, length, map, min};
 ghost use Rattle.std.specs.List.{AllByRecursion};
 ghost use Rattle.rs_pages.specs.PageMap.{PageMap};
 ghost use Rattle.rs_records.specs.Order.{Ascends};
 ghost use Rattle.rs_tree.specs.Cells.{with_cell, without_cell};
-ghost use Rattle.rs_tree.specs.Form.{form_of};
+ghost use Rattle.rs_tree.specs.Forms.{form};
 ghost use Rattle.rs_cell_versions.specs.Changes.{cleared, with_end, without_cells};
 ghost use Rattle.rs_cell_versions.specs.Version.{IsDated, LastsOnce, born_of, ended, is_clearable, is_dead, is_living, lasting, sees};
 ghost use Rattle.rs_cell_versions.specs.Versioned.{HoldsCells, Standing};
@@ -62,7 +62,7 @@ pub fn clearing_takes_nothing_that_is_seen()
 /// As many cells are cleared as are wanted, or all that no version from the oldest on sees.
 pub fn clearing_takes_as_many_as_there_are<S: Summary>()
     ensures { (width : ℕ) (pages : PageMap) (standing : Standing) (cells : List (List ℕ)) (used : ℕ → ℕ) (oldest most : ℕ)
-        → HoldsCells (form_of S.says S.unit S.join S.of S.WIDTH width) pages standing cells used
+        → HoldsCells (form S.Summary width) pages standing cells used
         → length (cleared oldest most standing.dead) ≡ min most (count_by (is_clearable oldest) cells) }
 {}
 
@@ -77,7 +77,7 @@ pub fn dead_cells_are_clearable_at_present<S: Summary>()
     ensures all { (version : ℕ) (cells : List (List ℕ)) → AllByRecursion (IsDated version) cells
         → count_by (is_clearable version) cells ≡ count_by is_dead cells }
     ensures listed { (width : ℕ) (pages : PageMap) (standing : Standing) (cells : List (List ℕ)) (used : ℕ → ℕ) (version : ℕ)
-        → HoldsCells (form_of S.says S.unit S.join S.of S.WIDTH width) pages standing cells used
+        → HoldsCells (form S.Summary width) pages standing cells used
         → AllByRecursion (IsDated version) cells → count_by (is_clearable version) cells ≡ length standing.dead }
 {}
 
@@ -111,6 +111,6 @@ pub fn cells_that_are_left_are_the_others()
 /// All cells are of the tree's width.
 pub fn cells_are_of_one_width<S: Summary>()
     ensures { (width : ℕ) (pages : PageMap) (standing : Standing) (cells : List (List ℕ)) (used : ℕ → ℕ)
-        → HoldsCells (form_of S.says S.unit S.join S.of S.WIDTH width) pages standing cells used
+        → HoldsCells (form S.Summary width) pages standing cells used
         → AllByRecursion (λ cell. length cell ≡ width) cells }
 {}

@@ -1,4 +1,4 @@
-//! Cells counted against what was told of them.
+//! This module counts cells against what was told of them.
 
 ghost use Rattle.std.specs.Prelude.{◌≡◌, ◌≤◌, ◌⊎◌, ◌↔◌, ℕ, IsTrue, [], ◌∷◌, Err, IfErr, OnOk, length};
 ghost use Rattle.rs_records.specs.Listed.{listed, record_width};

@@ -3,20 +3,15 @@
 //! Changes are made together or not at all: `commit` keeps them, `abandon` takes them back, and neither takes memory. The
 //! pages are to be committed or abandoned with them.
 
-ghost use Rattle.std.specs.Prelude.{◌≡◌, ◌≢◌, ◌<◌, ◌≤◌, ◌↔◌, ◌*◌, ◌+◌, ℕ, List, [], ◌∷◌, Contains, IsTrue, IfOk, OnOk, OnErr, true, false, drop, length, Err};
-ghost use Rattle.std.specs.List.{AllByRecursion};
-ghost use Rattle.rs_page_owners.specs.Changes.{WorksAfter};
-ghost use Rattle.rs_page_owners.specs.Counts.{◌&◌, no_pages};
-ghost use Rattle.rs_page_owners.specs.Owners.{Shares};
-ghost use Rattle.rs_pages.specs.PageMap.{PageMap, SamePages};
-ghost use Rattle.rs_records.specs.Listed.{listed, record_width};
-ghost use Rattle.rs_tree.specs.Cells.{with_cell};
-ghost use Rattle.rs_tree.specs.Form.{form_of};
-ghost use Rattle.rs_cell_versions.specs.Changes.{Ends, cleared, without_cells};
+ghost use Rattle.std.specs.Prelude.{◌≡◌, ◌≢◌, ◌<◌, ◌≤◌, ◌*◌, ◌+◌, [], IsTrue, IfOk, OnOk, true, length, Err};
+ghost use Rattle.rs_page_owners.specs.Counts.{no_pages};
+ghost use Rattle.rs_pages.specs.PageMap.{PageMap};
+ghost use Rattle.rs_tree.specs.Forms.{form};
+ghost use Rattle.rs_cell_versions.specs.Calls.{Adds, Clears, KeepsCells, Kills, Leaves, TakesFirst, Vacuums};
 ghost use Rattle.rs_cell_versions.specs.Inner.{FitsPages, standing};
-ghost use Rattle.rs_cell_versions.specs.Version.{died_of, is_living};
+ghost use Rattle.rs_cell_versions.specs.Version.{HaveDiedBy, is_living};
 ghost use Rattle.rs_cell_versions.specs.declared.cell.TheConstants.{LIVING};
-ghost use Rattle.rs_cell_versions.specs.Versioned.{ChangesCells, HoldsCells, HoldsNone, Versioned, nothing_stands};
+ghost use Rattle.rs_cell_versions.specs.Versioned.{HoldsCells, Versioned, nothing_stands};
 
 use crate::changing::{copy_of, end, put, take_out};
 use crate::dead::Dead;
@@ -64,7 +59,7 @@ impl<S: Summary> Versions<S> {
         ensures working { result.working ≡ nothing_stands }
         ensures committed { result.committed ≡ nothing_stands }
         ensures empty { (pages : PageMap)
-            → HoldsCells (form_of S.says S.unit S.join S.of S.WIDTH width) pages result.working [] no_pages }
+            → HoldsCells (form S.Summary width) pages result.working [] no_pages }
     {
         Versions {
             tree: Tree::at(width, PageNumber::new(0)),
@@ -130,22 +125,10 @@ impl<S: Summary> Versions<S> {
         requires begun { (P.store pages.old).is_begun ≡ true }
         requires width { length cell.now ≡ self.old.width }
         requires living { IsTrue (is_living cell.now) }
-        ensures keeps { P.keeps pages.old pages.new }
-        ensures works { WorksAfter (P.is_tied pages.old → HoldsNone
-            (form_of S.says S.unit S.join S.of S.WIDTH self.old.width) (P.store pages.old).map self.old.working)
-            result (P.store pages.old) (P.store pages.new) }
-        ensures added { P.is_tied pages.old → OnOk result (ChangesCells
-            (form_of S.says S.unit S.join S.of S.WIDTH self.old.width) (P.store pages.old).map (P.store pages.new).map
-            self.old.working self.new.working (with_cell cell.now)) }
-        ensures found { P.is_tied pages.old → IfOk result (λ new. (cells : List (List ℕ)) (used others : ℕ → ℕ)
-            → HoldsCells (form_of S.says S.unit S.join S.of S.WIDTH self.old.width) (P.store pages.old).map self.old.working cells used
-            → Shares (P.store pages.old).map (used & others) → (IsTrue new ↔ (Contains cells cell.now → ⊥))) }
-        ensures rests { P.is_tied pages.old → IfOk result (λ new. new ≡ false
-            → SamePages (P.store pages.new).map (P.store pages.old).map × (self.new ≡ self.old)) }
-        ensures width { self.new.width ≡ self.old.width }
-        ensures committed { self.new.committed ≡ self.old.committed }
+        ensures leaves { Leaves P.Pages S.Summary self.old result pages.old pages.new }
+        ensures adds { Adds P.Pages S.Summary self.old self.new cell.now result pages.old pages.new }
+        ensures cells { KeepsCells result self.old self.new }
         ensures dead { self.new.working.dead ≡ self.old.working.dead }
-        ensures stays { OnErr result (self.new ≡ self.old) }
     {
         let mut tree = copy_of(&self.tree, self.dead.width());
         let (new, living) = put::<P, S>(pages, &mut tree, self.living, cell)?;
@@ -170,21 +153,11 @@ impl<S: Summary> Versions<S> {
         requires width { length cell.now ≡ self.old.width }
         requires living { IsTrue (is_living cell.now) }
         requires version { version < LIVING }
-        requires order { AllByRecursion (λ dead. died_of dead ≤ version) self.old.working.dead }
-        ensures keeps { P.keeps pages.old pages.new }
-        ensures works { WorksAfter (P.is_tied pages.old → HoldsNone
-            (form_of S.says S.unit S.join S.of S.WIDTH self.old.width) (P.store pages.old).map self.old.working)
-            result (P.store pages.old) (P.store pages.new) }
-        ensures killed { P.is_tied pages.old → OnOk result (Ends
-            (form_of S.says S.unit S.join S.of S.WIDTH self.old.width) (P.store pages.old).map (P.store pages.new).map
-            self.old.working self.new.working version cell.now) }
-        ensures found { P.is_tied pages.old → IfOk result (λ found. (cells : List (List ℕ)) (used others : ℕ → ℕ)
-            → HoldsCells (form_of S.says S.unit S.join S.of S.WIDTH self.old.width) (P.store pages.old).map self.old.working cells used
-            → Shares (P.store pages.old).map (used & others) → (IsTrue found ↔ Contains cells cell.now)) }
-        ensures order { AllByRecursion (λ dead. died_of dead ≤ version) self.new.working.dead }
-        ensures width { self.new.width ≡ self.old.width }
-        ensures committed { self.new.committed ≡ self.old.committed }
-        ensures stays { OnErr result (self.new ≡ self.old) }
+        requires order { HaveDiedBy version self.old.working.dead }
+        ensures leaves { Leaves P.Pages S.Summary self.old result pages.old pages.new }
+        ensures kills { Kills P.Pages S.Summary self.old self.new version cell.now result pages.old pages.new }
+        ensures cells { KeepsCells result self.old self.new }
+        ensures order { HaveDiedBy version self.new.working.dead }
     {
         self.dead
             .write(cell, version)
@@ -211,20 +184,11 @@ impl<S: Summary> Versions<S> {
         most: usize,
     ) -> Result<Cells, Refusal>
         requires begun { (P.store pages.old).is_begun ≡ true }
-        ensures keeps { P.keeps pages.old pages.new }
-        ensures works { WorksAfter (P.is_tied pages.old → HoldsNone
-            (form_of S.says S.unit S.join S.of S.WIDTH self.old.width) (P.store pages.old).map self.old.working)
-            result (P.store pages.old) (P.store pages.new) }
+        ensures leaves { Leaves P.Pages S.Summary self.old result pages.old pages.new }
+        ensures vacuums { Vacuums P.Pages S.Summary self.old self.new oldest most result pages.old pages.new }
+        ensures takes { IfOk result (TakesFirst oldest most self.old self.new) }
+        ensures cells { KeepsCells result self.old self.new }
         ensures room { result ≢ Err Refusal.FileFull }
-        ensures taken { IfOk result (λ taken. listed taken ≡ cleared oldest most self.old.working.dead) }
-        ensures taken_width { IfOk result (λ taken. record_width taken ≡ self.old.width) }
-        ensures vacuumed { P.is_tied pages.old → OnOk result (ChangesCells
-            (form_of S.says S.unit S.join S.of S.WIDTH self.old.width) (P.store pages.old).map (P.store pages.new).map
-            self.old.working self.new.working (without_cells (cleared oldest most self.old.working.dead))) }
-        ensures dead { OnOk result (self.new.working.dead ≡ drop (length (cleared oldest most self.old.working.dead)) self.old.working.dead) }
-        ensures width { self.new.width ≡ self.old.width }
-        ensures committed { self.new.committed ≡ self.old.committed }
-        ensures stays { OnErr result (self.new ≡ self.old) }
     {
         let taken = self
             .dead
@@ -241,18 +205,11 @@ impl<S: Summary> Versions<S> {
     /// were, and the working pages are to be abandoned.
     pub fn clear<P: Pages>(&mut self, pages: &mut P) -> Result<(), Refusal>
         requires begun { (P.store pages.old).is_begun ≡ true }
-        ensures keeps { P.keeps pages.old pages.new }
-        ensures works { WorksAfter (P.is_tied pages.old → HoldsNone
-            (form_of S.says S.unit S.join S.of S.WIDTH self.old.width) (P.store pages.old).map self.old.working)
-            result (P.store pages.old) (P.store pages.new) }
-        ensures room { result ≢ Err Refusal.FileFull }
-        ensures cleared { P.is_tied pages.old → OnOk result (ChangesCells
-            (form_of S.says S.unit S.join S.of S.WIDTH self.old.width) (P.store pages.old).map (P.store pages.new).map
-            self.old.working self.new.working (λ _. [])) }
+        ensures leaves { Leaves P.Pages S.Summary self.old result pages.old pages.new }
+        ensures clears { Clears P.Pages S.Summary self.old self.new result pages.old pages.new }
         ensures working { OnOk result (self.new.working ≡ nothing_stands) }
-        ensures width { self.new.width ≡ self.old.width }
-        ensures committed { self.new.committed ≡ self.old.committed }
-        ensures stays { OnErr result (self.new ≡ self.old) }
+        ensures cells { KeepsCells result self.old self.new }
+        ensures room { result ≢ Err Refusal.FileFull }
     {
         self.tree.clear(pages)?;
         self.tree = Tree::at(self.dead.width(), PageNumber::new(0));

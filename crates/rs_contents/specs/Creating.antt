@@ -2,6 +2,7 @@
 use Rattle.std.specs.Prelude.{ℕ, List, [], replicate}
 use Rattle.rs_catalog_pages.specs.Directory.{DirectoryItems}
 use Rattle.rs_catalog_pages.specs.Items.{CatalogueItems}
+use Rattle.rs_catalog_pages.specs.declared.directory_items.TheConstants.{INDEXES, TABLES}
 use Rattle.rs_contents.specs.Contents.{Contents, no_tree}
 use Rattle.rs_page_owners.specs.Counts.{no_pages}
 use Rattle.rs_cell_versions.specs.Versioned.{nothing_stands}
@@ -10,7 +11,7 @@ abbrev pub no_definitions : CatalogueItems
 no_definitions = record { routes = []; tables = []; indexes = []; views = []; alignments = [] }
 
 abbrev pub no_trees : DirectoryItems
-no_trees = record { tables = replicate 128 no_tree; indexes = replicate 64 0; referents = no_tree; accepted = 0 }
+no_trees = record { tables = replicate TABLES no_tree; indexes = replicate INDEXES 0; referents = no_tree; accepted = 0 }
 
 -- no definitions, in these pages
 abbrev pub no_contents : List ℕ → Contents

@@ -15,7 +15,7 @@ use Rattle.rs_page_owners.specs.Counts.{◌&◌, one_at, times}
 use Rattle.rs_pages.specs.PageMap.{PageMap}
 use Rattle.rs_page_marks.specs.Marks.{taken}
 use Rattle.rs_value.specs.declared.column.TheConstants.{COLUMNS}
-use Rattle.rs_versioned.specs.declared.told.ToldRecords.{ToldRecords}
+use Rattle.rs_cell_versions.specs.declared.told.ToldRecords.{ToldRecords}
 use Rattle.rs_versioned.specs.Events.{event_width}
 use Rattle.rs_versioned.specs.Opening.{OpensRecords}
 use Rattle.rs_versioned.specs.Referents.{kept_referents}

@@ -1,10 +1,8 @@
-//! A file in which there are no definitions yet.
+//! This module makes a file in which there are no definitions yet.
 
-ghost use Rattle.std.specs.Prelude.{◌≡◌, ◌≢◌, ◌≤◌, [], Err, IfOk, OnOk, length, true};
-ghost use Rattle.rs_catalog_pages.specs.Storing.{HasNoOwnBytes, StoresAfter};
-ghost use Rattle.rs_contents.specs.Contents.{HoldsAll};
-ghost use Rattle.rs_contents.specs.Creating.{no_contents};
-ghost use Rattle.rs_pages.specs.PageMap.{IsEmptyFile};
+ghost use Rattle.std.specs.Prelude.{◌≡◌, [], true};
+ghost use Rattle.rs_catalog_pages.specs.Calls.{LeavesCatalogue};
+ghost use Rattle.rs_contents.specs.Calls.{Creates};
 
 use rs_catalog_pages::{StoredCatalogue, store};
 use rs_page::PageNumber;
@@ -13,18 +11,13 @@ use rs_refusal::Refusal;
 use std::alloc::Global;
 
 /// Stores that there are no definitions, in a file of page 0 and an empty directory, and answers which page says so; the file has
-/// three pages then. It is refused with 90, with 91, and with 92 where the file is full, but not with 94; the working pages are to be abandoned then. In
-/// any other file 94 comes only where there are definitions already, or pages that are not each one owner's.
+/// three pages then. It is refused with 90, with 91, and with 92 where the file is full, but not with 94; the working pages are
+/// to be abandoned then. In any other file 94 comes only where there are definitions already, or pages that are not each one
+/// owner's.
 pub fn create<P: Pages>(alloc: Global, pages: &mut P) -> Result<Vec<PageNumber>, Refusal>
     requires begun { (P.store pages.old).is_begun ≡ true }
-    ensures keeps { P.keeps pages.old pages.new }
-    ensures works { StoresAfter (P.is_tied pages.old → HasNoOwnBytes (P.store pages.old).map []) result
-        (P.store pages.old) (P.store pages.new) }
-    ensures creates { P.is_tied pages.old → IsEmptyFile (P.store pages.old).map → IfOk result (λ numbers. HoldsAll
-        (P.store pages.new).map (no_contents numbers.items)) }
-    ensures one { P.is_tied pages.old → IsEmptyFile (P.store pages.old).map → IfOk result (λ numbers. length numbers.items ≡ 1) }
-    ensures few { P.is_tied pages.old → IsEmptyFile (P.store pages.old).map → OnOk result ((P.store pages.new).map.fields.pages ≤ 3) }
-    ensures sound { P.is_tied pages.old → IsEmptyFile (P.store pages.old).map → result ≢ Err Refusal.DamagedFile }
+    ensures leaves { LeavesCatalogue P.Pages [] result pages.old pages.new }
+    ensures creates { Creates P.Pages result pages.old pages.new }
 {
     let none = StoredCatalogue {
         routes: Vec::new(alloc),

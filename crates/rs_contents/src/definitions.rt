@@ -1,4 +1,4 @@
-//! The columns of a table and its indexes, as its definitions and the directory say them.
+//! This module reads the columns of a table and its indexes off its definitions and the directory.
 
 ghost use Rattle.std.specs.Prelude.{◌≡◌, ◌≤◌, ◌+◌, ◌*◌, ◌==◌, ◌⊎◌, Err, IfErr, IfNone, IfOk, IfSome, List, filter, length, map};
 ghost use Rattle.std.specs.List.{AllByRecursion, AllZip};

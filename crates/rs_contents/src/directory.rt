@@ -1,4 +1,4 @@
-//! The directory of what is open: each table's tree and each index's root in the slot of its number.
+//! This module makes the directory of what is open: each table's tree and each index's root is in the slot of its number.
 
 ghost use Rattle.std.specs.Prelude.{◌≡◌, ◌<◌, ◌≤◌, ◌^◌, ℕ, All, IfOk, length, map};
 ghost use Rattle.std.specs.List.{AllByRecursion, AllZip};

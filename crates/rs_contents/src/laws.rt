@@ -1,5 +1,4 @@
-//! What follows of all that stands in a file: a file holds one such thing at the most, and a change of one part of it leaves all
-//! else.
+//! These laws say that a file holds one thing at the most, and that a change of one part of it leaves all else.
 
 ghost use Rattle.std.specs.Prelude.{◌≡◌, ◌≤◌, ◌<◌, ◌+◌, ◌*◌, ◌^◌, ℕ, List, ◌++◌, ◌∷◌, length, map};
 ghost use Rattle.std.specs.List.{AllByRecursion, AllZip};

@@ -1,4 +1,4 @@
-//! What stands in the pages of a file, all of it together: the definitions, the directory, the records of each table with its
+//! This crate says what the pages of a file hold together: the definitions, the directory, the records of each table with its
 //! indexes, the referents, and the free pages.
 #![tactic(auto)]
 

@@ -1,12 +1,13 @@
-//! A file, read and checked as a whole.
+//! This module reads a file and checks it as a whole.
 
-ghost use Rattle.std.specs.Prelude.{◌≡◌, ◌≤◌, ◌<◌, ◌^◌, ◌⊎◌, Err, IfErr, IfOk, IsOkUnless, IsPermutation, OnErr, OnOk, ℕ, false, map, replicate};
+ghost use Rattle.std.specs.Prelude.{◌≡◌, ◌≤◌, ◌<◌, ◌^◌, Err, IfOk, IsOkUnless, IsPermutation, OnErr, OnOk, ℕ, false, map, replicate};
 ghost use Rattle.std.specs.List.{AllByRecursion};
 ghost use Rattle.std.specs.List.Sorted.{IsNonDecreasing};
 ghost use Rattle.rs_catalog_pages.specs.Said.{said_catalogue, said_directory};
-ghost use Rattle.rs_contents.specs.Opening.{AreSound, HoldsNothing, IsFile, LoadsContents, LoadsNothingSaid, LoadsSaid};
+ghost use Rattle.rs_contents.specs.Calls.{Loads, RefusesToLoad};
+ghost use Rattle.rs_contents.specs.Opening.{AreSound, IsFile, LoadsNothingSaid, LoadsSaid};
 ghost use Rattle.rs_page_owners.specs.Counts.{◌&◌, one_at};
-ghost use Rattle.rs_pages.specs.Lending.{RestsAfter};
+ghost use Rattle.rs_pages.specs.Calls.{OnlyReads};
 ghost use Rattle.rs_page_marks.specs.Marks.{taken};
 
 use crate::numbers::check_numbers;
@@ -25,11 +26,10 @@ const VERSIONS: u64 = 0x8000_0000_0000_0000;
 /// Opens all that a file holds, and checks that each page has one owner. Ok only where the file holds contents, which are then
 /// those that are answered; 94 only where it holds none. It may be refused with 90 or 91 instead. No page changes.
 pub fn load<P: Pages>(alloc: Global, pages: &mut P) -> Result<OpenedFile, Refusal>
-    ensures rests { RestsAfter P.is_tied P.store P.keeps result pages.old pages.new }
-    ensures loads { P.is_tied pages.old → IfOk result (LoadsContents (P.store pages.old).map) }
-    ensures is { IfOk result IsFile }
-    ensures refused { IfErr result (λ why. (why ≡ Refusal.OutOfMemory) ⊎ (why ≡ Refusal.Disk) ⊎ (why ≡ Refusal.DamagedFile)) }
-    ensures damaged { P.is_tied pages.old → result ≡ Err Refusal.DamagedFile → HoldsNothing (P.store pages.old).map }
+    ensures rests { OnlyReads P.Pages result pages.old pages.new }
+    ensures loads { Loads P.Pages result pages.old }
+    ensures file { IfOk result IsFile }
+    ensures refused { RefusesToLoad result }
 {
     let mut reached = first_two(alloc, pages.count())?;
     let (numbers, definitions, directory) = load_said(alloc, pages, &mut reached)?;
@@ -71,11 +71,11 @@ fn load_said<P: Pages>(
     pages: &mut P,
     reached: &mut Reached,
 ) -> Result<(Vec<PageNumber>, StoredCatalogue, StoredDirectory), Refusal>
-    ensures rests { RestsAfter P.is_tied P.store P.keeps result pages.old pages.new }
+    ensures rests { OnlyReads P.Pages result pages.old pages.new }
     ensures loads { P.is_tied pages.old → IfOk result (λ said. LoadsSaid (P.store pages.old).map said.0.items
         (said_catalogue said.1) (said_directory said.2) (taken reached.old) (taken reached.new)) }
     ensures sound { IfOk result (λ said. AreSound (said_catalogue said.1) (said_directory said.2)) }
-    ensures refused { IfErr result (λ why. (why ≡ Refusal.OutOfMemory) ⊎ (why ≡ Refusal.Disk) ⊎ (why ≡ Refusal.DamagedFile)) }
+    ensures refused { RefusesToLoad result }
     ensures damaged { P.is_tied pages.old → result ≡ Err Refusal.DamagedFile → LoadsNothingSaid (P.store pages.old).map
         (taken reached.old) }
 {

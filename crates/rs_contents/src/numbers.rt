@@ -1,4 +1,4 @@
-//! The numbers of tables and indexes: each is given once, and the directory has nothing under the others.
+//! This module checks the numbers of tables and indexes: each is given once, and the directory has nothing under the others.
 
 ghost use Rattle.std.specs.Prelude.{◌≡◌, ◌<◌, ◌≤◌, ◌↔◌, ℕ, Some, IfNone, IfSome, IsTrue, IsOkUnless, OnErr, OnOk, length, map, slice_get};
 ghost use Rattle.std.specs.List.{AllByRecursion};
@@ -18,8 +18,8 @@ pub fn check_numbers(
     catalogue: &StoredCatalogue,
     directory: &StoredDirectory,
 ) -> Result<(), Refusal>
-    requires tables { length directory.now.tables.list.items ≡ 128 }
-    requires indexes { length directory.now.indexes.list.items ≡ 64 }
+    requires tables { length directory.now.tables.list.items ≡ TABLES }
+    requires indexes { length directory.now.indexes.list.items ≡ INDEXES }
     ensures numbered { OnOk result (AreNumbered (said_catalogue catalogue.now) (said_directory directory.now)) }
     ensures none { OnErr result (AreNumbered (said_catalogue catalogue.now) (said_directory directory.now) → ⊥) }
     ensures refused { IsOkUnless result Refusal.DamagedFile }
@@ -39,7 +39,7 @@ pub fn check_numbers(
 
 /// Whether each number of a table is below the limit and given once.
 fn are_tables_numbered(tables: &[StoredTable]) -> bool
-    ensures { IsTrue result ↔ (AllByRecursion (λ table. table.number < 128) tables.now
+    ensures { IsTrue result ↔ (AllByRecursion (λ table. table.number < TABLES) tables.now
         × ((number : ℕ) → times (map (λ table. table.number) tables.now) number ≤ 1)) }
 {
     for table in tables {
@@ -52,14 +52,14 @@ fn are_tables_numbered(tables: &[StoredTable]) -> bool
 
 /// Whether the number of a table is below the limit, and one of these tables has it.
 fn is_table_numbered(table: &StoredTable, tables: &[StoredTable]) -> bool
-    ensures { IsTrue result ↔ ((table.now.number < 128) × (times (map (λ other. other.number) tables.now) table.now.number ≡ 1)) }
+    ensures { IsTrue result ↔ ((table.now.number < TABLES) × (times (map (λ other. other.number) tables.now) table.now.number ≡ 1)) }
 {
     table.number < TABLES && tables_with(tables, table.number) == 1
 }
 
 /// Whether each number of an index is below the limit and given once, and each index is of one of the tables.
 fn are_indexes_numbered(indexes: &[StoredIndex], tables: &[StoredTable]) -> bool
-    ensures { IsTrue result ↔ (AllByRecursion (λ index. index.number < 64) indexes.now
+    ensures { IsTrue result ↔ (AllByRecursion (λ index. index.number < INDEXES) indexes.now
         × ((number : ℕ) → times (map (λ index. index.number) indexes.now) number ≤ 1)
         × AllByRecursion (λ index. 0 < times (map (λ table. table.number) tables.now) index.table) indexes.now) }
 {
@@ -73,7 +73,7 @@ fn are_indexes_numbered(indexes: &[StoredIndex], tables: &[StoredTable]) -> bool
 
 /// Whether the number of an index is below the limit, one of these indexes has it, and it is of one of the tables.
 fn is_index_numbered(index: &StoredIndex, indexes: &[StoredIndex], tables: &[StoredTable]) -> bool
-    ensures { IsTrue result ↔ ((index.now.number < 64) × (times (map (λ other. other.number) indexes.now) index.now.number ≡ 1)
+    ensures { IsTrue result ↔ ((index.now.number < INDEXES) × (times (map (λ other. other.number) indexes.now) index.now.number ≡ 1)
         × (0 < times (map (λ table. table.number) tables.now) index.now.table)) }
 {
     index.number < INDEXES
@@ -83,8 +83,8 @@ fn is_index_numbered(index: &StoredIndex, indexes: &[StoredIndex], tables: &[Sto
 
 /// Whether the directory has no tree under a number that no table has.
 fn has_no_other_table(tables: &[StoredTable], trees: &[StoredTree]) -> bool
-    requires { length trees.now ≡ 128 }
-    ensures { IsTrue result ↔ ((number : ℕ) → number < 128 → times (map (λ table. table.number) tables.now) number ≡ 0
+    requires { length trees.now ≡ TABLES }
+    ensures { IsTrue result ↔ ((number : ℕ) → number < TABLES → times (map (λ table. table.number) tables.now) number ≡ 0
         → slice_get (map said_tree trees.now) number ≡ Some no_tree) }
 {
     for number in 0..TABLES {
@@ -104,8 +104,8 @@ fn is_no_tree(tree: &StoredTree) -> bool
 
 /// Whether the directory has no root under a number that no index has.
 fn has_no_other_index(indexes: &[StoredIndex], roots: &[StoredRoot]) -> bool
-    requires { length roots.now ≡ 64 }
-    ensures { IsTrue result ↔ ((number : ℕ) → number < 64 → times (map (λ index. index.number) indexes.now) number ≡ 0
+    requires { length roots.now ≡ INDEXES }
+    ensures { IsTrue result ↔ ((number : ℕ) → number < INDEXES → times (map (λ index. index.number) indexes.now) number ≡ 0
         → slice_get (map (λ (root : StoredRoot). root.root) roots.now) number ≡ Some 0) }
 {
     for number in 0..INDEXES {

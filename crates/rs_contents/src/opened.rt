@@ -1,4 +1,4 @@
-//! What stands in a file, opened.
+//! These structs hold what a file has, opened.
 
 use rs_attr::AttrIndex;
 use rs_catalog_pages::StoredCatalogue;

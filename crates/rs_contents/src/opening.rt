@@ -1,10 +1,11 @@
-//! The tables of a file, its referents and its free pages, opened as the definitions and the directory say them.
+//! This module opens the tables of a file, its referents and its free pages, as the definitions and the directory say them.
 
-ghost use Rattle.std.specs.Prelude.{◌≡◌, ◌≤◌, ◌⊎◌, ◌↔◌, Err, IfErr, IfOk, IsTrue, OnOk, length};
+ghost use Rattle.std.specs.Prelude.{◌≡◌, ◌≤◌, ◌↔◌, Err, IfOk, IsTrue, OnOk, length};
 ghost use Rattle.std.specs.List.{AllByRecursion, AllZip};
 ghost use Rattle.rs_catalog_pages.specs.Said.{said_catalogue, said_directory, said_table, said_tree};
+ghost use Rattle.rs_contents.specs.Calls.{RefusesToLoad};
 ghost use Rattle.rs_contents.specs.Opening.{IsTableOf, OpensNoParts, OpensNoTables, OpensNotOne, OpensOne, OpensParts, OpensTables, told_of};
-ghost use Rattle.rs_pages.specs.Lending.{RestsAfter};
+ghost use Rattle.rs_pages.specs.Calls.{OnlyReads};
 ghost use Rattle.rs_page_marks.specs.Marks.{taken, unmarked};
 ghost use Rattle.rs_cell_versions.specs.Version.{died_of};
 
@@ -29,7 +30,7 @@ pub(crate) fn open_parts<P: Pages>(
     routes: &[u32],
     reached: &mut Reached,
 ) -> Result<(Vec<OpenedTable>, ReferentTable), Refusal>
-    ensures rests { RestsAfter P.is_tied P.store P.keeps result pages.old pages.new }
+    ensures rests { OnlyReads P.Pages result pages.old pages.new }
     ensures opens { P.is_tied pages.old → IfOk result (λ parts. OpensParts (P.store pages.old).map (said_directory directory.now)
         (said_catalogue definitions.now) parts.0.items parts.1 (taken reached.old) (taken reached.new)) }
     ensures tables { IfOk result (λ parts. AllZip (IsTableOf (said_directory directory.now) (said_catalogue definitions.now))
@@ -37,7 +38,7 @@ pub(crate) fn open_parts<P: Pages>(
     ensures whole { OnOk result (unmarked reached.new ≡ 0) }
     ensures committed { IfOk result (λ parts. parts.1.committed ≡ parts.1.working) }
     ensures order { IfOk result (λ parts. AllByRecursion (λ dead. died_of dead ≤ directory.now.accepted) parts.1.working.dead) }
-    ensures refused { IfErr result (λ why. (why ≡ Refusal.OutOfMemory) ⊎ (why ≡ Refusal.Disk) ⊎ (why ≡ Refusal.DamagedFile)) }
+    ensures refused { RefusesToLoad result }
     ensures damaged { P.is_tied pages.old → result ≡ Err Refusal.DamagedFile → OpensNoParts (P.store pages.old).map
         (said_directory directory.now) (said_catalogue definitions.now) (taken reached.old) }
 {
@@ -81,13 +82,13 @@ fn open_tables<P: Pages>(
     routes: &[u32],
     reached: &mut Reached,
 ) -> Result<Vec<OpenedTable>, Refusal>
-    ensures rests { RestsAfter P.is_tied P.store P.keeps result pages.old pages.new }
+    ensures rests { OnlyReads P.Pages result pages.old pages.new }
     ensures size { length reached.new ≡ length reached.old }
     ensures opens { P.is_tied pages.old → IfOk result (λ tables. OpensTables (P.store pages.old).map (said_directory directory.now)
         (said_catalogue definitions.now) (said_catalogue definitions.now).tables tables.items (taken reached.old) (taken reached.new)) }
     ensures tables { IfOk result (λ tables. AllZip (IsTableOf (said_directory directory.now) (said_catalogue definitions.now))
         (said_catalogue definitions.now).tables tables.items) }
-    ensures refused { IfErr result (λ why. (why ≡ Refusal.OutOfMemory) ⊎ (why ≡ Refusal.Disk) ⊎ (why ≡ Refusal.DamagedFile)) }
+    ensures refused { RefusesToLoad result }
     ensures damaged { P.is_tied pages.old → result ≡ Err Refusal.DamagedFile → OpensNoTables (P.store pages.old).map
         (said_directory directory.now) (said_catalogue definitions.now) (taken reached.old) }
 {
@@ -111,12 +112,12 @@ fn open_table<P: Pages>(
     routes: &[u32],
     reached: &mut Reached,
 ) -> Result<OpenedTable, Refusal>
-    ensures rests { RestsAfter P.is_tied P.store P.keeps result pages.old pages.new }
+    ensures rests { OnlyReads P.Pages result pages.old pages.new }
     ensures size { length reached.new ≡ length reached.old }
     ensures opens { P.is_tied pages.old → IfOk result (λ table. OpensOne (P.store pages.old).map (said_directory directory.now)
         (said_catalogue definitions.now) (said_table item.now) table (taken reached.old) (taken reached.new)) }
     ensures table { IfOk result (IsTableOf (said_directory directory.now) (said_catalogue definitions.now) (said_table item.now)) }
-    ensures refused { IfErr result (λ why. (why ≡ Refusal.OutOfMemory) ⊎ (why ≡ Refusal.Disk) ⊎ (why ≡ Refusal.DamagedFile)) }
+    ensures refused { RefusesToLoad result }
     ensures damaged { P.is_tied pages.old → result ≡ Err Refusal.DamagedFile → OpensNotOne (P.store pages.old).map
         (said_directory directory.now) (said_catalogue definitions.now) (said_table item.now) (taken reached.old) }
 {

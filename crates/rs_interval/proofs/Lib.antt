@@ -1,3 +1,4 @@
 pub mod EventLaws
 pub mod EventOrder
 pub mod Finding
+pub mod WordOrder

@@ -1,3 +1,4 @@
+pub mod Calls
 pub mod Ends
 pub mod EventRecords
 pub mod Finding

@@ -1,3 +1,4 @@
 pub mod Changes
 pub mod Counts
 pub mod Owners
+pub mod Calls

@@ -1,11 +1,11 @@
 -- What stays, stays in one call after another.
-use Rattle.std.proofs.Common.{◌≡◌, ℕ, List, Result, Ok, Err, IfSome, IsOkUnless, refl, sym, ap, ◌∙◌, subst, arith}
+use Rattle.std.proofs.Common.{◌≡◌, ℕ, false, Some, List, Result, Ok, Err, IfSome, IsOkUnless, refl, sym, ap, ◌∙◌, subst, arith}
 use Rattle.rs_refusal.specs.declared.refusal.Refusal.{Refusal}
 use Rattle.rs_refusal.specs.declared.refusal.Refusal.TheVariants as refusal
-use Rattle.rs_page.specs.PageBytes.{IsFit}
+use Rattle.rs_page.specs.PageBytes.{is_free, IsFit}
 use Rattle.rs_page.specs.declared.file_header.FileHeader.{FileHeader}
 use Rattle.rs_pages.specs.Held.{HeldPage, held_change}
-use Rattle.rs_pages.specs.PageMap.{PageMap, SamePages, used_page, HasNoFit}
+use Rattle.rs_pages.specs.PageMap.{PageMap, SamePages, in_use, used_page, HasNoFit}
 use Rattle.rs_pages.specs.Store.{Store, KeepsCounts, KeepsPages, Rests, CountsFailure}
 use Rattle.rs_pages.specs.Lending.{RestsAfter}
 use Rattle.rs_pages.specs.Uses.{Lends, HoldsUsed}
@@ -75,3 +75,7 @@ HasNoFit-before old mid n same none = record {
   none = λ page used fit. none.none page (ap used_page (same.pages n) ∙ used)
       (subst (IsFit page n) (sym (ap (λ (f : FileHeader). f.pages) same.fields)) fit);
 }
+
+-- a page that is there and not free is in use
+pub used_there : (map : PageMap) (number : ℕ) (page : List ℕ) → map.page number ≡ Some page → is_free page ≡ false → in_use map number ≡ Some page
+used_there map number page there used = rw (there, used) refl

@@ -5,3 +5,4 @@ pub mod PageMap
 pub mod Plain
 pub mod Store
 pub mod Uses
+pub mod Calls

@@ -17,10 +17,11 @@ use Rattle.rs_records.specs.Records.{records}
 use Rattle.rs_tree.specs.Form.{Form, child_bytes, joined, form_of}
 use Rattle.rs_tree.specs.Calls.{AcceptsParts}
 use Rattle.rs_tree.specs.Content.{SaysChild, content, tree_header, HasRecords}
+use Rattle.rs_tree.specs.Leading.{leading, leading_in, where_some}
 use Rattle.rs_tree.specs.Searches.{wanted, weight}
 use Rattle.rs_tree.specs.Shape.{Shape, Lies, cells_of, size_of, child_of}
 use Rattle.rs_tree.proofs.Shapes.{lies_same, accepts_joined}
-use Rattle.rs_tree.proofs.Weights.{accepted_weight, rejected_wanted}
+use Rattle.rs_tree.proofs.Weights.{accepted_weight, rejected_wanted, where_some-le}
 use Rattle.rs_tree.specs.Layouts.{form_with, entry_bytes}
 use Rattle.rs_tree.specs.Node.{IsNode}
 use Rattle.rs_tree.specs.declared.layout.Layout.{Layout}
@@ -48,6 +49,13 @@ module _ (says : List ℕ → List (List ℕ) → Type 0) (layout : Layout) (pag
   here : (top : ℕ) → top ≡ number → (other : List ℕ) → pages.page top ≡ Some other → pages.page number ≡ Some page → other ≡ page
   here top is other there lent = page_one pages number other page (subst (λ n. pages.page n ≡ Some other) is there) lent
 
+  -- a page with cells is no inner one
+  pub leaf_no_inner : (count height : ℕ) (shape : Shape (suc height)) → IsPart form pages number (suc height) shape → pages.page number ≡ Some page → IsNode page number layout (Leaf count) → ⊥
+  leaf_no_inner count height shape part lent node =
+      let same = here shape.page part.top part.lies.0.page part.lies.0.there lent in
+      let header = one_header page part.lies.0.page page (tree_header kind.Leaf count number) (tree_header kind.Inner (length (map (child_of height) shape.parts)) shape.page) refl same node.0.header part.lies.0.inner.has.header in
+      leaf_not_inner (ap (λ (h : PageHeader). h.kind) header)
+
   -- the cells of a leaf are the records of its page
   pub leaf_cells : (count height : ℕ) (shape : Shape height) → IsPart form pages number height shape → pages.page number ≡ Some page → IsNode page number layout (Leaf count)
       → cells_of height shape ≡ records count layout.width (content page)
@@ -56,10 +64,7 @@ module _ (says : List ℕ → List (List ℕ) → Type 0) (layout : Layout) (pag
       let header = one_header part.lies.page page page (tree_header kind.Leaf (length shape.cells) shape.page) (tree_header kind.Leaf count number) same refl part.lies.leaf.has.header node.0.header in
       let counted : length shape.cells ≡ count = ap (λ (h : PageHeader). h.count) header in
       sym part.lies.leaf.holds ∙ ap (λ n. records n layout.width (content part.lies.page)) counted ∙ ap (λ p. records count layout.width (content p)) same
-  leaf_cells count (suc height) shape part lent node =
-      let same = here shape.page part.top part.lies.0.page part.lies.0.there lent in
-      let header = one_header page part.lies.0.page page (tree_header kind.Leaf count number) (tree_header kind.Inner (length (map (child_of height) shape.parts)) shape.page) refl same node.0.header part.lies.0.inner.has.header in
-      absurd (leaf_not_inner (ap (λ (h : PageHeader). h.kind) header))
+  leaf_cells count (suc height) shape part lent node = absurd (leaf_no_inner count height shape part lent node)
 
   -- a page with entries is no leaf
   pub inner_no_leaf : (count : ℕ) (shape : Shape 0) → IsPart form pages number 0 shape → pages.page number ≡ Some page → IsNode page number layout (Inner count) → ⊥
@@ -90,22 +95,24 @@ module _ (says : List ℕ → List (List ℕ) → Type 0) (layout : Layout) (pag
     pub walks_leaf : (count : ℕ) → IsNode page number layout (Leaf count)
         → (Ascends (records count layout.width (content page)) → after ≡ before ++ wanted low high passes (records count layout.width (content page)))
         → Walks form pages number low high passes before after left mid
-    walks_leaf count node found = record {
-      each = λ height shape part up.
-          let same = leaf_cells count height shape part lent node in
-          record { found = found (subst Ascends same up) ∙ ap (λ cells. before ++ wanted low high passes cells) (sym same); reads = omega arith };
-    }
+    walks_leaf count node found = record { each = at } where
+      at : (height : ℕ) (shape : Shape height) → IsPart form pages number height shape → Ascends (cells_of height shape)
+          → Walked low high passes (cells_of height shape) (leading low high passes height shape) (1 + height * weight low high passes (cells_of height shape)) before after left mid
+      at zero shape part up =
+          let same = leaf_cells count 0 shape part lent node in
+          record { found = found (subst Ascends same up) ∙ ap (λ cells. before ++ wanted low high passes cells) (sym same); reads = omega arith; least = omega arith }
+      at (suc height) shape part up = absurd (leaf_no_inner count height shape part lent node)
 
     -- into an inner page
     pub walks_inner : (count : ℕ) (later : PageMap) → SamePages later pages → IsNode page number layout (Inner count) → WalksEntries form later page count low high passes before after mid left_after
         → Walks form pages number low high passes before after left left_after
     walks_inner count later kept node walks = record { each = at } where
       at : (height : ℕ) (shape : Shape height) → IsPart form pages number height shape → Ascends (cells_of height shape)
-          → Walked low high passes (cells_of height shape) (1 + height * weight low high passes (cells_of height shape)) before after left left_after
+          → Walked low high passes (cells_of height shape) (leading low high passes height shape) (1 + height * weight low high passes (cells_of height shape)) before after left left_after
       at zero shape part up = absurd (inner_no_leaf count shape part lent node)
       at (suc height) shape part up =
           let walked = walks.each height shape.parts (inner_parts count height shape later kept part lent node) up in
-          record { found = walked.found; reads = omega (arith, walked.reads) }
+          record { found = walked.found; reads = omega (arith, walked.reads); least = omega (arith, walked.least) }
 
     pub once_leaf : ReadsOnce form pages number left mid
     once_leaf = record { each = λ height shape part. omega (arith, size-some height shape) }
@@ -153,7 +160,8 @@ module _ (form : Form) (pages : PageMap) (entry : List ℕ) where
     each = λ height part is up.
         let walked = walks.each height part (part_of height part is) up in
         let some = accepted_weight low high passes (cells_of height part) up (accepted height part is.says) in
-        record { found = walked.found; reads = omega (arith, walked.reads, some) };
+        let least = where_some-le (wanted low high passes (cells_of height part)) (leading low high passes height part) in
+        record { found = walked.found; reads = omega (arith, walked.reads, some); least = omega (arith, walked.least, least) };
   }
 
   -- past the part of one that is not
@@ -163,7 +171,8 @@ module _ (form : Form) (pages : PageMap) (entry : List ℕ) where
   walks_rejected low high passes before left rejected = record {
     each = λ height part is up.
         let none = rejected_wanted low high passes (cells_of height part) (rejected height part is.says) in
-        record { found = sym (append-nil before) ∙ ap (λ xs. before ++ xs) (sym none); reads = omega arith };
+        let least : leading_in low high passes height part ≡ 0 = ap (λ cells. where_some cells (leading low high passes height part)) none in
+        record { found = sym (append-nil before) ∙ ap (λ xs. before ++ xs) (sym none); reads = omega arith; least = omega (arith, least) };
   }
 
   pub once_accepted : (left left_after : ℕ) → ReadsOnce form pages (number_at 0 4 entry) left left_after → ReadsEntryOnce form pages entry left left_after

@@ -9,10 +9,11 @@ use Rattle.rs_records.specs.Order.{is_below, Ascends}
 use Rattle.rs_records.specs.Records.{records, keys, IsPlace}
 use Rattle.rs_tree.specs.Form.{Form, entry_width, least_from}
 use Rattle.rs_tree.specs.Content.{SaysChild, content}
+use Rattle.rs_tree.specs.Leading.{leading, leading_in, where_some}
 use Rattle.rs_tree.specs.Searches.{wanted, weight}
 use Rattle.rs_tree.specs.Shape.{Shape, Lies, cells_of, size_of, child_of}
 use Rattle.rs_tree.proofs.Below.{AllBelow, NoneBelow}
-use Rattle.rs_tree.proofs.Lists.{all_at, inside_has, has_inside, zip_at, zip_lengths, map_at, drop_at_place, take_next, flat_push, flat_middle, all_middle, all_drop_more, sum_upto_middle}
+use Rattle.rs_tree.proofs.Lists.{all_at, inside_has, has_inside, zip_at, zip_lengths, map_at, drop_at_place, take_next, flat_push, flat_middle, sum_middle, all_middle, all_drop_more, sum_upto_middle}
 use Rattle.rs_tree.proofs.Parts.{Leasts, place_splits, leasts_ascend, wanted_parts, none_before, none_after}
 use Rattle.rs_tree.proofs.Shapes.{lies_same, entries_leasts, part_ascends}
 use Rattle.rs_tree.proofs.Weights.{suffix_weight, lead_weight, under_weight}
@@ -46,11 +47,12 @@ module _ (form : Form) (pages : PageMap) (page : List ℕ) (count : ℕ) where
       pub each : (height : ℕ) (parts : List (Shape height)) → AreEntriesOf form pages page count height parts → Ascends (flat_map (cells_of height) parts)
           → (after ≡ before ++ flat_map (λ part. wanted low high passes (cells_of height part)) (take k (drop from parts)))
           × (left ≤ left_after + suc height * sum_by (λ part. weight low high passes (cells_of height part)) (take k (drop from parts)))
+          × (left_after + sum_by (leading_in low high passes height) (take k (drop from parts)) ≤ left)
 
     pub walks_none : (from k : ℕ) (cells : List (List ℕ)) (left : ℕ) → k ≡ 0 → WalksSome from k cells cells left left
     walks_none from k cells left none = record {
       each = λ height parts are up.
-          (sym (append-nil cells) ∙ ap (λ i. cells ++ flat_map (has_of height) (take i (drop from parts))) (sym none), omega arith);
+          (sym (append-nil cells) ∙ ap (λ i. cells ++ flat_map (has_of height) (take i (drop from parts))) (sym none), omega arith, subst (λ i. left + sum_by (leading_in low high passes height) (take i (drop from parts)) ≤ left) (sym none) (omega arith));
     }
 
     pub walks_next : (from index : ℕ) (entry : List ℕ) (later : PageMap) (before mid after : List (List ℕ)) (left left_mid left_after : ℕ) → from ≤ index
@@ -71,12 +73,16 @@ module _ (form : Form) (pages : PageMap) (page : List ℕ) (count : ℕ) where
           ap (flat_map (has_of height)) longer ∙ flat_push (has_of height) (take k (drop from parts)) part.0 in
           let total : sum_by (weight_at height) (take (suc k) (drop from parts)) ≡ sum_by (weight_at height) (take k (drop from parts)) + weight_at height part.0 =
           ap (sum_by (weight_at height)) longer ∙ sum_by_push (weight_at height) (take k (drop from parts)) part.0 in
+          let some_more : sum_by (leading_in low high passes height) (take (suc k) (drop from parts)) ≡ sum_by (leading_in low high passes height) (take k (drop from parts)) + leading_in low high passes height part.0 =
+          ap (sum_by (leading_in low high passes height)) longer ∙ sum_by_push (leading_in low high passes height) (take k (drop from parts)) part.0 in
+          let least : left_after + sum_by (leading_in low high passes height) (take (suc k) (drop from parts)) ≤ left = omega (arith, was.2, now.least, some_more) in
           let cost : suc height * sum_by (weight_at height) (take (suc k) (drop from parts)) ≡ suc height * (sum_by (weight_at height) (take k (drop from parts)) + weight_at height part.0) = ap (λ s. suc height * s) total in
           let found : after ≡ before ++ flat_map (has_of height) (take (suc k) (drop from parts)) =
           now.found ∙ ap (λ xs. xs ++ has_of height part.0) was.0 ∙ append_assoc before (flat_map (has_of height) (take k (drop from parts))) (has_of height part.0) ∙ ap (λ xs. before ++ xs) (sym flat) in
           let reads : left ≤ left_after + suc height * sum_by (weight_at height) (take (suc k) (drop from parts)) = omega (arith, was.1, now.reads, cost) in (
             found ∙ ap (λ i. before ++ flat_map (has_of height) (take i (drop from parts))) more,
             subst (λ i. left ≤ left_after + suc height * sum_by (weight_at height) (take i (drop from parts))) more reads,
+            subst (λ i. left_after + sum_by (leading_in low high passes height) (take i (drop from parts)) ≤ left) more least,
           );
     }
 
@@ -90,24 +96,42 @@ module _ (form : Form) (pages : PageMap) (page : List ℕ) (count : ℕ) where
         subst (AllByRecursion (λ part. has_of height part ≡ [])) (sym (drop-drop (to - from) from parts))
         (all_drop_more (λ part. has_of height part ≡ []) parts to (from + (to - from)) (omega arith) (none_after (cells_of height) low high passes ls parts to leasts up none))
 
+    -- the parts outside the two places have nothing that is wanted
+    outside : (height : ℕ) (parts : List (Shape height)) (ls : List (List ℕ)) (p from to : ℕ) → Leasts (cells_of height) ls parts → Ascends (flat_map (cells_of height) parts)
+        → IsPlace ls low p → from ≡ p - 1 → IsPlace ls high to
+        → AllByRecursion (λ part. has_of height part ≡ []) (take from parts) × AllByRecursion (λ part. has_of height part ≡ []) (drop (to - from) (drop from parts))
+    outside height parts ls zero from to leasts up first is last =
+        let highs = place_splits ls high to (leasts_ascend (cells_of height) ls parts leasts up) last in
+        let start : 0 ≡ from = omega arith in
+        (subst (λ i. AllByRecursion (λ part. has_of height part ≡ []) (take i parts)) start tt, rest_after height parts ls from to leasts up highs.1)
+    outside height parts ls (suc p) from to leasts up first is last =
+        let lows_up = leasts_ascend (cells_of height) ls parts leasts up in
+        let highs = place_splits ls high to lows_up last in
+        let lows = place_splits ls low (suc p) lows_up first in
+        let start : p ≡ from = omega arith in (
+          subst (λ i. AllByRecursion (λ part. has_of height part ≡ []) (take i parts)) start (none_before (cells_of height) low high passes ls parts p leasts up first.within lows.0),
+          rest_after height parts ls from to leasts up highs.1,
+        )
+
     -- the parts between the two places have all that is wanted
     pub middle_has : (height : ℕ) (parts : List (Shape height)) (ls : List (List ℕ)) (p from to : ℕ) → Leasts (cells_of height) ls parts → Ascends (flat_map (cells_of height) parts)
         → IsPlace ls low p → from ≡ p - 1 → IsPlace ls high to
         → wanted low high passes (flat_map (cells_of height) parts) ≡ flat_map (has_of height) (take (to - from) (drop from parts))
-    middle_has height parts ls zero from to leasts up first is last =
-        let highs = place_splits ls high to (leasts_ascend (cells_of height) ls parts leasts up) last in
-        let start : 0 ≡ from = omega arith in
-        wanted_parts (cells_of height) low high passes parts
-        ∙ flat_middle (has_of height) parts from (to - from) (subst (λ i. AllByRecursion (λ part. has_of height part ≡ []) (take i parts)) start tt) (rest_after height parts ls from to leasts up highs.1)
-    middle_has height parts ls (suc p) from to leasts up first is last =
-        let lows_up = leasts_ascend (cells_of height) ls parts leasts up in
-        let highs = place_splits ls high to lows_up last in
-        let lows = place_splits ls low (suc p) lows_up first in
-        let start : p ≡ from = omega arith in
-        wanted_parts (cells_of height) low high passes parts
-        ∙ flat_middle (has_of height) parts from (to - from)
-        (subst (λ i. AllByRecursion (λ part. has_of height part ≡ []) (take i parts)) start (none_before (cells_of height) low high passes ls parts p leasts up first.within lows.0))
-        (rest_after height parts ls from to leasts up highs.1)
+    middle_has height parts ls p from to leasts up first is last =
+        let none = outside height parts ls p from to leasts up first is last in
+        wanted_parts (cells_of height) low high passes parts ∙ flat_middle (has_of height) parts from (to - from) none.0 none.1
+
+    none_leads : (height : ℕ) (parts : List (Shape height)) → AllByRecursion (λ part. has_of height part ≡ []) parts → AllByRecursion (λ part. leading_in low high passes height part ≡ 0) parts
+    none_leads height [] all = tt
+    none_leads height (x ∷ xs) all = (ap (λ cells. where_some cells (leading low high passes height x)) all.0, none_leads height xs all.1)
+
+    -- and all pages that lead to it
+    pub middle_leads : (height : ℕ) (parts : List (Shape height)) (ls : List (List ℕ)) (p from to : ℕ) → Leasts (cells_of height) ls parts → Ascends (flat_map (cells_of height) parts)
+        → IsPlace ls low p → from ≡ p - 1 → IsPlace ls high to
+        → sum_by (leading_in low high passes height) parts ≡ sum_by (leading_in low high passes height) (take (to - from) (drop from parts))
+    middle_leads height parts ls p from to leasts up first is last =
+        let none = outside height parts ls p from to leasts up first is last in
+        sum_middle (leading_in low high passes height) parts from (to - from) (none_leads height (take from parts) none.0) (none_leads height (drop (to - from) (drop from parts)) none.1)
 
     -- and weigh no more than all
     pub middle_weight : (height : ℕ) (parts : List (Shape height)) (ls : List (List ℕ)) (p from to : ℕ) → Leasts (cells_of height) ls parts → Ascends (flat_map (cells_of height) parts)
@@ -144,11 +168,15 @@ module _ (form : Form) (pages : PageMap) (page : List ℕ) (count : ℕ) where
           let leasts = entries_leasts form height (records count (entry_width form) (content page)) parts are.says in
           let found = middle_has height parts ls there.place from to leasts up there.first there.before there.last in
           let cost = mul-le-mul_left (suc height) (middle_weight height parts ls there.place from to leasts up there.first there.before there.last) in
+          let leads = middle_leads height parts ls there.place from to leasts up there.first there.before there.last in
+          let led : sum_by (leading_in low high passes height) (take (index - from) (drop from parts)) ≡ sum_by (leading_in low high passes height) (take (to - from) (drop from parts)) =
+          ap (λ k. sum_by (leading_in low high passes height) (take k (drop from parts))) all in
           let count : suc height * sum_by (weight_at height) (take (index - from) (drop from parts)) ≡ suc height * sum_by (weight_at height) (take (to - from) (drop from parts)) =
           ap (λ k. suc height * sum_by (weight_at height) (take k (drop from parts))) all in
           record {
             found = was.0 ∙ ap (λ k. before ++ flat_map (has_of height) (take k (drop from parts))) all ∙ ap (λ xs. before ++ xs) (sym found);
             reads = omega (arith, was.1, cost, count);
+            least = omega (arith, was.2, leads, led);
           };
     }
 

@@ -95,6 +95,20 @@ module _ {X A : Type 0} (has : X → List A) where
     append_assoc' [] b c = refl
     append_assoc' (z ∷ zs) b c = ap (λ ws. z ∷ ws) (append_assoc' zs b c)
 
+-- those that count for nothing before and after the middle
+sum_none : {X : Type 0} (f : X → ℕ) (xs : List X) → AllByRecursion (λ x. f x ≡ 0) xs → sum_by f xs ≡ 0
+sum_none f [] all = refl
+sum_none f (x ∷ xs) all = omega (arith, all.0, sum_none f xs all.1, sum_by-cons f x xs)
+
+pub sum_middle : {X : Type 0} (f : X → ℕ) (xs : List X) (p n : ℕ) → AllByRecursion (λ x. f x ≡ 0) (take p xs) → AllByRecursion (λ x. f x ≡ 0) (drop n (drop p xs))
+    → sum_by f xs ≡ sum_by f (take n (drop p xs))
+sum_middle f xs zero zero before after = sum_none f xs after
+sum_middle f [] zero (suc n) before after = refl
+sum_middle f (x ∷ xs) zero (suc n) before after = omega (arith, sum_middle f xs zero n tt after, sum_by-cons f x xs, sum_by-cons f x (take n xs))
+sum_middle f [] (suc p) zero before after = refl
+sum_middle f [] (suc p) (suc n) before after = refl
+sum_middle f (x ∷ xs) (suc p) n before after = omega (arith, before.0, sum_middle f xs p n before.1 after, sum_by-cons f x xs)
+
 -- an element and those before it are no more than all
 pub sum_upto : {X : Type 0} (f : X → ℕ) (xs : List X) (k : ℕ) (x : X) → slice_get xs k ≡ Some x → sum_by f (take k xs) + f x ≤ sum_by f xs
 sum_upto f [] k x e = absurd (cc)

@@ -3,6 +3,7 @@ use Rattle.std.proofs.Common.{◌≡◌, ◌<◌, ℕ, false, Some, List, Result
 use Rattle.rs_page.specs.PageBytes.{is_free, IsFit}
 use Rattle.rs_page.specs.declared.header.PageKind.TheVariants as kind
 use Rattle.rs_pages.specs.PageMap.{PageMap, in_use, HasNoFit}
+use Rattle.rs_pages.proofs.Stores.{used_there}
 use Rattle.rs_tree.specs.Content.{tree_header}
 use Rattle.rs_tree.specs.Node.{IsNode}
 use Rattle.rs_tree.specs.declared.layout.Layout.{Layout}
@@ -10,16 +11,13 @@ use Rattle.rs_tree.specs.declared.node.Node.{Node}
 use Rattle.rs_tree.specs.declared.node.Node.TheVariants.{Leaf, Inner}
 use Rattle.rs_tree.specs.Reading.{HasNoNode}
 
-node_fits : (page : List ℕ) (number pages : ℕ) (layout : Layout) (node : Node) → 1 < number → IsNode page number layout node → IsFit page number pages
+pub node_fits : (page : List ℕ) (number pages : ℕ) (layout : Layout) (node : Node) → 1 < number → IsNode page number layout node → IsFit page number pages
 node_fits page number pages layout (Leaf count) past is = record { header = tree_header kind.Leaf count number; there = is.0.header; fits = (refl, (past, is.1, refl)) }
 node_fits page number pages layout (Inner count) past is = record { header = tree_header kind.Inner count number; there = is.0.header; fits = (refl, (past, is.1, refl)) }
 
-node_used : (page : List ℕ) (number : ℕ) (layout : Layout) (node : Node) → IsNode page number layout node → is_free page ≡ false
+pub node_used : (page : List ℕ) (number : ℕ) (layout : Layout) (node : Node) → IsNode page number layout node → is_free page ≡ false
 node_used page number layout (Leaf count) is = rw is.0.header.kind refl
 node_used page number layout (Inner count) is = rw is.0.header.kind refl
-
-used_there : (map : PageMap) (number : ℕ) (page : List ℕ) → map.page number ≡ Some page → is_free page ≡ false → in_use map number ≡ Some page
-used_there map number page there used = rw (there, used) refl
 
 pub no_fit-no_node : (map : PageMap) (number : ℕ) (layout : Layout) → HasNoFit map number → HasNoNode map number layout
 no_fit-no_node map number layout none = record {

@@ -15,17 +15,17 @@ use Rattle.rs_tree.specs.Content.{SaysChild, Child, content, tree_header}
 use Rattle.rs_tree.specs.Shape.{Shape, Lies, LeafLies, InnerLies, page_of, cells_of, uses, child_of}
 use Rattle.rs_tree.specs.Tree.{IsTree, Stands}
 
-leaf_not_inner : kind.Leaf ≡ kind.Inner → ⊥
+pub leaf_not_inner : kind.Leaf ≡ kind.Inner → ⊥
 leaf_not_inner e = cc
 
 module _ (form : Form) (pages : PageMap) where
-  same_page : (one other : ℕ) (a b : List ℕ) → one ≡ other → pages.page one ≡ Some a → pages.page other ≡ Some b → a ≡ b
+  pub same_page : (one other : ℕ) (a b : List ℕ) → one ≡ other → pages.page one ≡ Some a → pages.page other ≡ Some b → a ≡ b
   same_page one other a b same first second = page_one pages other a b (subst (λ n. pages.page n ≡ Some a) same first) second
 
-  same_header : (a b : List ℕ) (one other : PageHeader) → a ≡ b → IsHeader a one → IsHeader b other → one ≡ other
+  pub same_header : (a b : List ℕ) (one other : PageHeader) → a ≡ b → IsHeader a one → IsHeader b other → one ≡ other
   same_header a b one other same first second = header_is_one b one other (subst (λ p. IsHeader p one) same first) second
 
-  leaf_apart : (number other : ℕ) (cells : List (List ℕ)) (children : List Child) → number ≡ other → LeafLies form pages number cells → InnerLies form pages other children → ⊥
+  pub leaf_apart : (number other : ℕ) (cells : List (List ℕ)) (children : List Child) → number ≡ other → LeafLies form pages number cells → InnerLies form pages other children → ⊥
   leaf_apart number other cells children same leaf inner =
       let page = same_page number other leaf.page inner.page same leaf.there inner.there in
       let header = same_header leaf.page inner.page (tree_header kind.Leaf (length cells) number) (tree_header kind.Inner (length children) other) page leaf.leaf.has.header inner.inner.has.header in

@@ -8,6 +8,7 @@ use Rattle.rs_pages.specs.PageMap.{PageMap}
 use Rattle.rs_pages.specs.Store.{Store, CountsFailure}
 use Rattle.rs_records.specs.Order.{Ascends}
 use Rattle.rs_tree.specs.Form.{Form}
+use Rattle.rs_tree.specs.Leading.{pages_leading}
 use Rattle.rs_tree.specs.Searches.{wanted, weight}
 use Rattle.rs_tree.specs.Shape.{Shape, Lies, page_of, cells_of, uses}
 use Rattle.rs_tree.specs.Tree.{IsNoTree, Stands}
@@ -23,7 +24,15 @@ page_after form pages (suc height) shape lies = lies.0.after
 module _ (form : Form) (pages : PageMap) (root : ℕ) (low high : List ℕ) (passes : List ℕ → Bool) where
   -- the empty tree has no cells
   pub empty_finds : root ≡ 0 → Finds form pages root low high passes [] 0
-  empty_finds is = record { exact = λ cells used tree. at cells used tree.height tree.stands; bounded = λ cells used tree. omega arith } where
+  empty_finds is = record {
+    exact = λ cells used tree. at cells used tree.height tree.stands;
+    bounded = λ cells used tree. omega arith;
+    least = λ cells used tree. none cells used tree.height tree.stands;
+  } where
+    none : (cells : List (List ℕ)) (used : ℕ → ℕ) (height : ℕ) (stands : Stands form pages height root cells used) → pages_leading low high passes form pages height root cells used stands ≤ 0
+    none cells used zero stands = omega arith
+    none cells used (suc height) stands = absurd (omega (arith, page_after form pages height stands.shape stands.lies, stands.top, is))
+
     at : (cells : List (List ℕ)) (used : ℕ → ℕ) (height : ℕ) → Stands form pages height root cells used → [] ≡ wanted low high passes cells
     at cells used zero stands = ap (wanted low high passes) (sym stands.no_cells)
     at cells used (suc height) stands = absurd (omega (arith, page_after form pages height stands.shape stands.lies, stands.top, is))
@@ -33,16 +42,17 @@ module _ (form : Form) (pages : PageMap) (root : ℕ) (low high : List ℕ) (pas
   walk_finds found count left some walks = record {
     exact = λ cells used tree. (at cells used tree.height tree.stands tree.ascends).0;
     bounded = λ cells used tree. (at cells used tree.height tree.stands tree.ascends).1;
+    least = λ cells used tree. (at cells used tree.height tree.stands tree.ascends).2;
   } where
-    at : (cells : List (List ℕ)) (used : ℕ → ℕ) (height : ℕ) → Stands form pages height root cells used → Ascends cells
-        → (found ≡ wanted low high passes cells) × (count - left ≤ height * (length found + 2))
+    at : (cells : List (List ℕ)) (used : ℕ → ℕ) (height : ℕ) (stands : Stands form pages height root cells used) → Ascends cells
+        → (found ≡ wanted low high passes cells) × (count - left ≤ height * (length found + 2)) × (pages_leading low high passes form pages height root cells used stands ≤ count - left)
     at cells used zero stands up = absurd (some stands.none)
     at cells used (suc height) stands up =
         let walked = walks.each height stands.shape (record { lies = stands.lies; top = stands.top }) (subst Ascends (sym stands.lists) up) in
         let size : length found ≡ length (wanted low high passes (cells_of height stands.shape)) = ap length walked.found in
         let bound : weight low high passes (cells_of height stands.shape) ≤ length found + 2 = omega (arith, weight-le low high passes (cells_of height stands.shape), size) in
         let cost = mul-le-mul_left height bound in
-        (walked.found ∙ ap (wanted low high passes) stands.lists, omega (arith, walked.reads, cost))
+        (walked.found ∙ ap (wanted low high passes) stands.lists, omega (arith, walked.reads, cost), omega (arith, walked.least))
 
 -- where the root is the top of no part that has no more pages than there are, no tree stands there
 pub no_part-no_tree : (form : Form) (pages : PageMap) (root count : ℕ) → (root ≡ 0 → ⊥) → count ≡ pages.fields.pages → count < 4294967296 → HasNoPart form pages root 31 count → IsNoTree form pages root

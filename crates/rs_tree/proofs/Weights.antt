@@ -7,6 +7,7 @@ use Rattle.std.specs.List.{flat_map, sum_by, list_any}
 use Rattle.rs_records.specs.Order.{is_below, Ascends}
 use Rattle.rs_tree.specs.Cells.{is_within, cells_within}
 use Rattle.rs_tree.specs.Searches.{wanted, weight, cut_low, cut_high}
+use Rattle.rs_tree.specs.Leading.{where_some}
 use Rattle.rs_tree.proofs.Below.{AllBelow, NoneBelow, all_below_trans, none_below_after, wanted-append, within_all, ascends_last}
 use Rattle.rs_tree.proofs.Parts.{Leasts, part_below}
 
@@ -168,3 +169,8 @@ rejected_wanted low high passes (c ∷ cs) none = at (is_within low high c) (pas
 pub under_weight : (low high : List ℕ) (passes : List ℕ → Bool) (cells : List (List ℕ)) (n : ℕ) → n ≤ length (wanted low high passes cells) + cut_high high cells → n ≤ weight low high passes cells
 unfolding weight
 under_weight low high passes cells n h = omega arith
+
+-- what counts where there are cells counts no more than it would without them
+pub where_some-le : (cells : List (List ℕ)) (count : ℕ) → where_some cells count ≤ count
+where_some-le [] count = omega arith
+where_some-le (c ∷ cs) count = omega arith

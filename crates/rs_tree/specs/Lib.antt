@@ -1,4 +1,5 @@
 pub mod Calls
+pub mod Leading
 pub mod Cells
 pub mod Content
 pub mod Form
@@ -10,3 +11,4 @@ pub mod Layouts
 pub mod Asking
 pub mod Reading
 pub mod Walking
+pub mod Forms

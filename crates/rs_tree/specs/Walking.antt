@@ -9,6 +9,7 @@ use Rattle.rs_records.specs.Records.{records, IsPlace}
 use Rattle.rs_tree.specs.Form.{Form, entry_width}
 use Rattle.rs_tree.specs.Content.{SaysChild, content}
 use Rattle.rs_tree.specs.Searches.{wanted, weight}
+use Rattle.rs_tree.specs.Leading.{leading, leading_in}
 use Rattle.rs_tree.specs.Shape.{Shape, Lies, page_of, cells_of, size_of, child_of}
 
 -- the part with this page at its top lies in the pages
@@ -26,25 +27,26 @@ pub record AreEntriesOf (form : Form) (pages : PageMap) (page : List ℕ) (count
   pub says : AllZip (SaysChild form) (records count (entry_width form) (content page)) (map (child_of height) parts)
   pub lie : AllByRecursion (Lies form pages height) parts
 
--- those of the cells that are wanted were found, by so many reads at the most
-pub record Walked (low high : List ℕ) (passes : List ℕ → Bool) (cells : List (List ℕ)) (cost : ℕ) (before after : List (List ℕ)) (left left_after : ℕ) : Type 0 where
+-- those of the cells that are wanted were found, by so many reads at least and at the most
+pub record Walked (low high : List ℕ) (passes : List ℕ → Bool) (cells : List (List ℕ)) (leads cost : ℕ) (before after : List (List ℕ)) (left left_after : ℕ) : Type 0 where
   pub found : after ≡ before ++ wanted low high passes cells
   pub reads : left ≤ left_after + cost
+  pub least : left_after + leads ≤ left
 
 -- a walk through the part with this page at its top, whichever it is
 pub record Walks (form : Form) (pages : PageMap) (number : ℕ) (low high : List ℕ) (passes : List ℕ → Bool) (before after : List (List ℕ)) (left left_after : ℕ) : Type 0 where
   pub each : (height : ℕ) (shape : Shape height) → IsPart form pages number height shape → Ascends (cells_of height shape)
-      → Walked low high passes (cells_of height shape) (1 + height * weight low high passes (cells_of height shape)) before after left left_after
+      → Walked low high passes (cells_of height shape) (leading low high passes height shape) (1 + height * weight low high passes (cells_of height shape)) before after left left_after
 
 -- a walk through the part that an entry says, if its summary is accepted
 pub record WalksEntry (form : Form) (pages : PageMap) (entry : List ℕ) (low high : List ℕ) (passes : List ℕ → Bool) (before after : List (List ℕ)) (left left_after : ℕ) : Type 0 where
   pub each : (height : ℕ) (part : Shape height) → IsEntryOf form pages entry height part → Ascends (cells_of height part)
-      → Walked low high passes (cells_of height part) (suc height * weight low high passes (cells_of height part)) before after left left_after
+      → Walked low high passes (cells_of height part) (leading_in low high passes height part) (suc height * weight low high passes (cells_of height part)) before after left left_after
 
 -- a walk through the parts that the entries of a page say
 pub record WalksEntries (form : Form) (pages : PageMap) (page : List ℕ) (count : ℕ) (low high : List ℕ) (passes : List ℕ → Bool) (before after : List (List ℕ)) (left left_after : ℕ) : Type 0 where
   pub each : (height : ℕ) (parts : List (Shape height)) → AreEntriesOf form pages page count height parts → Ascends (flat_map (cells_of height) parts)
-      → Walked low high passes (flat_map (cells_of height) parts) (suc height * weight low high passes (flat_map (cells_of height) parts)) before after left left_after
+      → Walked low high passes (flat_map (cells_of height) parts) (sum_by (leading_in low high passes height) parts) (suc height * weight low high passes (flat_map (cells_of height) parts)) before after left left_after
 
 -- each page of the part was read once at the most
 pub record ReadsOnce (form : Form) (pages : PageMap) (number left left_after : ℕ) : Type 0 where

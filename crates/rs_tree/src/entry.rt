@@ -15,6 +15,7 @@ pub fn child(entry: &[u8], layout: Layout) -> PageNumber
     requires { length entry.now ≡ entry_bytes layout }
     ensures { result ≡ number_at 0 4 entry.now }
 {
+    // For the proof: the bytes of the number are within the entry.
     let _fits = layout.least_from();
     PageNumber::new(number_of_four(entry, 0))
 }

@@ -1,7 +1,6 @@
 //! Pages of trees, read one by one and counted.
 
 ghost use Rattle.std.specs.Prelude.{◌≡◌, ◌≤◌, ◌+◌, IfOk, IfErr, OnOk, OnErr, IsOkUnless};
-ghost use Rattle.rs_pages.specs.Lending.{RestsAfter};
 ghost use Rattle.rs_tree.specs.Node.{IsNode};
 ghost use Rattle.rs_tree.specs.declared.node.Node.{Node};
 
@@ -18,6 +17,7 @@ pub struct Loaded {
 }
 
 ghost use Rattle.rs_tree.specs.Reading.{IsLoaded, RefusesToLoad};
+ghost use Rattle.rs_pages.specs.Calls.{OnlyReads};
 
 /// Reads the page with this number, which is one of a tree's, and counts it: there is one read less left. It is refused
 /// with 94 where it is no page of a tree, or no read is left.
@@ -27,7 +27,7 @@ pub fn load<P: Pages>(
     layout: Layout,
     left: &mut u32,
 ) -> Result<Loaded, Refusal>
-    ensures rests { RestsAfter P.is_tied P.store P.keeps result pages.old pages.new }
+    ensures rests { OnlyReads P.Pages result pages.old pages.new }
     ensures loaded { IfOk result (IsLoaded (P.is_tied pages.old) (P.store pages.old).map number layout) }
     ensures counted { OnOk result (left.old ≡ left.new + 1) }
     ensures fewer { left.new ≤ left.old }
@@ -64,7 +64,7 @@ pub fn load_into<P: Pages>(
     left: &mut u32,
     copy: &mut Page,
 ) -> Result<Node, Refusal>
-    ensures rests { RestsAfter P.is_tied P.store P.keeps result pages.old pages.new }
+    ensures rests { OnlyReads P.Pages result pages.old pages.new }
     ensures loaded { IfOk result (λ node. IsLoaded (P.is_tied pages.old) (P.store pages.old).map number layout
         (record { page = copy.new; node = node })) }
     ensures counted { OnOk result (left.old ≡ left.new + 1) }

@@ -31,6 +31,7 @@ pub fn splice_page(
         ≡ take at (records count width (content page.old.bytes)) ++ (records more width added.now
         ++ drop (at + removed) (records count width (content page.old.bytes))) }
 {
+    // For the proof: how many bytes a page has.
     let _size = content(page).len();
     page.put_header(header);
     splice_content(&mut page.bytes, width, count, at, removed, added);

@@ -5,8 +5,9 @@ ghost use Rattle.std.specs.List.{AllZip, flat_map};
 ghost use Rattle.rs_page.specs.Number.{number_at};
 ghost use Rattle.rs_records.specs.Records.{records};
 ghost use Rattle.rs_tree.specs.Content.{Child, SaysChild, content};
-ghost use Rattle.rs_tree.specs.Form.{child_bytes, form_of, joined, least_from};
+ghost use Rattle.rs_tree.specs.Form.{child_bytes, joined, least_from};
 ghost use Rattle.rs_tree.specs.Layouts.{entry_bytes};
+ghost use Rattle.rs_tree.specs.Forms.{form_in};
 
 use crate::Summary;
 use crate::entry::summary;
@@ -34,7 +35,7 @@ pub fn inner_summary<S: Summary>(page: &Page, count: usize, layout: Layout) -> S
     requires fit { count * entry_bytes layout ≤ 4080 }
     requires summary { layout.summary ≡ S.WIDTH }
     ensures { (children : List Child)
-        → AllZip (SaysChild (form_of S.says S.unit S.join S.of layout.summary layout.width))
+        → AllZip (SaysChild (form_in S.Summary layout))
         (records count (entry_bytes layout) (content page.now.bytes)) children
         → result ≡ joined S.unit S.join S.of (flat_map (λ child. child.cells) children) }
 {

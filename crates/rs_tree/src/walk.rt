@@ -4,15 +4,16 @@
 
 ghost use Rattle.std.specs.Prelude.{◌≡◌, ◌<◌, ◌≤◌, ◌*◌, Bool, IfErr, OnOk, Err, length};
 ghost use Rattle.std.specs.Fn.{FnReturnsAt};
-ghost use Rattle.rs_pages.specs.Lending.{RestsAfter};
 ghost use Rattle.rs_records.specs.Listed.{listed, record_width};
 ghost use Rattle.rs_records.specs.Records.{records, keys};
 ghost use Rattle.rs_tree.specs.Calls.{AcceptsParts};
 ghost use Rattle.rs_tree.specs.Content.{content};
-ghost use Rattle.rs_tree.specs.Form.{form_of, least_from};
+ghost use Rattle.rs_tree.specs.Form.{least_from};
 ghost use Rattle.rs_tree.specs.Layouts.{entry_bytes};
 ghost use Rattle.rs_tree.specs.Asking.{Computes};
 ghost use Rattle.rs_tree.specs.Walking.{Walks, WalksEntry, WalksEntries, ReadsOnce, ReadsEntryOnce, ReadsEntriesOnce, IsWalkRefusal, HasNoPart, HasNoPartOfEntry, HasNoPartsOfEntries, IsRange};
+ghost use Rattle.rs_tree.specs.Forms.{form_in};
+ghost use Rattle.rs_pages.specs.Calls.{OnlyReads};
 
 use crate::asking::accepts;
 use crate::collect::collect;
@@ -40,19 +41,19 @@ pub fn walk<P: Pages, S: Summary, F: Fn(&S) -> bool>(
     requires callable { F.IsAlwaysCallable keep.now }
     requires width { record_width cells.old ≡ layout.width }
     requires summary { layout.summary ≡ S.WIDTH }
-    ensures rests { RestsAfter P.is_tied P.store P.keeps result pages.old pages.new }
+    ensures rests { OnlyReads P.Pages result pages.old pages.new }
     ensures width { record_width cells.new ≡ layout.width }
     ensures fewer { left.new ≤ left.old }
     ensures walks { OnOk result (P.is_tied pages.old → (test : S → Bool) → Computes (FnReturnsAt F.Fn keep.now) test
         → AcceptsParts S.join test
-        → Walks (form_of S.says S.unit S.join S.of layout.summary layout.width) (P.store pages.old).map number
+        → Walks (form_in S.Summary layout) (P.store pages.old).map number
         low.now high.now (λ cell. test (S.of cell)) (listed cells.old) (listed cells.new) left.old left.new) }
     ensures once { OnOk result (P.is_tied pages.old
-        → ReadsOnce (form_of S.says S.unit S.join S.of layout.summary layout.width) (P.store pages.old).map number
+        → ReadsOnce (form_in S.Summary layout) (P.store pages.old).map number
         left.old left.new) }
     ensures refused { IfErr result IsWalkRefusal }
     ensures damaged { result ≡ Err Refusal.DamagedFile → P.is_tied pages.old
-        → HasNoPart (form_of S.says S.unit S.join S.of layout.summary layout.width) (P.store pages.old).map number
+        → HasNoPart (form_in S.Summary layout) (P.store pages.old).map number
         levels left.old }
 {
     let mut page = Page::new();
@@ -89,20 +90,20 @@ fn walk_entries<P: Pages, S: Summary, F: Fn(&S) -> bool>(
     requires summary { layout.summary ≡ S.WIDTH }
     requires fit { count * entry_bytes layout ≤ 4080 }
     requires levels { 0 < levels }
-    ensures rests { RestsAfter P.is_tied P.store P.keeps result pages.old pages.new }
+    ensures rests { OnlyReads P.Pages result pages.old pages.new }
     ensures width { record_width cells.new ≡ layout.width }
     ensures fewer { left.new ≤ left.old }
     ensures walks { OnOk result (P.is_tied pages.old → (test : S → Bool) → Computes (FnReturnsAt F.Fn keep.now) test
         → AcceptsParts S.join test
-        → WalksEntries (form_of S.says S.unit S.join S.of layout.summary layout.width) (P.store pages.old).map
+        → WalksEntries (form_in S.Summary layout) (P.store pages.old).map
         page.now.bytes count low.now high.now (λ cell. test (S.of cell)) (listed cells.old) (listed cells.new)
         left.old left.new) }
     ensures once { OnOk result (P.is_tied pages.old
-        → ReadsEntriesOnce (form_of S.says S.unit S.join S.of layout.summary layout.width) (P.store pages.old).map
+        → ReadsEntriesOnce (form_in S.Summary layout) (P.store pages.old).map
         page.now.bytes count left.old left.new) }
     ensures refused { IfErr result IsWalkRefusal }
     ensures damaged { result ≡ Err Refusal.DamagedFile → P.is_tied pages.old
-        → HasNoPartsOfEntries (form_of S.says S.unit S.join S.of layout.summary layout.width) (P.store pages.old).map
+        → HasNoPartsOfEntries (form_in S.Summary layout) (P.store pages.old).map
         page.now.bytes count levels left.old }
 {
     let bytes = content(page);
@@ -132,19 +133,19 @@ fn walk_entry<P: Pages, S: Summary, F: Fn(&S) -> bool>(
     requires summary { layout.summary ≡ S.WIDTH }
     requires entry { length entry.now ≡ entry_bytes layout }
     requires levels { 0 < levels }
-    ensures rests { RestsAfter P.is_tied P.store P.keeps result pages.old pages.new }
+    ensures rests { OnlyReads P.Pages result pages.old pages.new }
     ensures width { record_width cells.new ≡ layout.width }
     ensures fewer { left.new ≤ left.old }
     ensures walks { OnOk result (P.is_tied pages.old → (test : S → Bool) → Computes (FnReturnsAt F.Fn keep.now) test
         → AcceptsParts S.join test
-        → WalksEntry (form_of S.says S.unit S.join S.of layout.summary layout.width) (P.store pages.old).map entry.now
+        → WalksEntry (form_in S.Summary layout) (P.store pages.old).map entry.now
         low.now high.now (λ cell. test (S.of cell)) (listed cells.old) (listed cells.new) left.old left.new) }
     ensures once { OnOk result (P.is_tied pages.old
-        → ReadsEntryOnce (form_of S.says S.unit S.join S.of layout.summary layout.width) (P.store pages.old).map
+        → ReadsEntryOnce (form_in S.Summary layout) (P.store pages.old).map
         entry.now left.old left.new) }
     ensures refused { IfErr result IsWalkRefusal }
     ensures damaged { result ≡ Err Refusal.DamagedFile → P.is_tied pages.old
-        → HasNoPartOfEntry (form_of S.says S.unit S.join S.of layout.summary layout.width) (P.store pages.old).map
+        → HasNoPartOfEntry (form_in S.Summary layout) (P.store pages.old).map
         entry.now levels left.old }
 {
     if !accepts(keep, &S::read(summary(entry, layout))) {

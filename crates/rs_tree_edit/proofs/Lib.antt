@@ -3,4 +3,3 @@ pub mod Listing
 pub mod Pieces
 pub mod Replacing
 pub mod Saying
-pub mod Working

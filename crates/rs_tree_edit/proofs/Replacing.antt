@@ -9,6 +9,7 @@ use Rattle.rs_page.specs.declared.header.PageKind.{PageKind}
 use Rattle.rs_page.specs.declared.header.PageKind.TheVariants as kind
 use Rattle.rs_pages.specs.PageMap.{PageMap, SamePages, in_use}
 use Rattle.rs_pages.proofs.FreeLists.{page_one}
+use Rattle.rs_pages.proofs.Stores.{used_there}
 use Rattle.rs_records.specs.Records.{records}
 use Rattle.rs_page_owners.specs.Counts.{one_at, ◌&◌}
 use Rattle.rs_page_owners.specs.Owners.{Shares, Keeps, Moves}
@@ -22,9 +23,6 @@ use Rattle.rs_tree.proofs.Lists.{zip_lengths}
 use Rattle.rs_tree_edit.specs.Editing.{Splices, Lists}
 use Rattle.rs_tree_edit.specs.Parts.{uses_all, TakesPlace}
 use Rattle.rs_tree_edit.proofs.Pieces.{sum_at, sum_between, all_take, all_drop, all_append}
-
-pub used_there : (map : PageMap) (number : ℕ) (page : List ℕ) → map.page number ≡ Some page → is_free page ≡ false → in_use map number ≡ Some page
-used_there map number page there used = rw (there, used) refl
 
 -- parts lie where the pages that they use are kept
 pub parts_kept : (form : Form) (old new : PageMap) (used : ℕ → ℕ) → Keeps used old new → (height : ℕ) (parts : List (Shape height)) → ((n : ℕ) → uses_all height parts n ≤ used n)

@@ -1,12 +1,12 @@
 //! Pages of records brought into use.
 
 ghost use Rattle.std.specs.Prelude.{◌≡◌, ◌≤◌, ◌<◌, ◌*◌, true, IfOk, length};
-ghost use Rattle.rs_page_owners.specs.Changes.{WorksAfter};
 ghost use Rattle.rs_page.specs.Header.{page_kind};
 ghost use Rattle.rs_records.specs.Records.{records};
 ghost use Rattle.rs_tree_edit.specs.Editing.{AddsPage, HasNoFreeList};
+ghost use Rattle.rs_page_owners.specs.Calls.{Makes, WorksOn};
 
-use crate::editing::edit_page;
+use crate::editing::{Edit, EditedPage, edit_page};
 use rs_page::{ContentKind, PageNumber};
 use rs_pages::Pages;
 use rs_refusal::Refusal;
@@ -24,12 +24,22 @@ pub fn add_page<P: Pages>(
     requires whole { length bytes.now ≡ count * width }
     requires fit { count * width ≤ 4080 }
     ensures keeps { P.keeps pages.old pages.new }
-    ensures works { WorksAfter (P.is_tied pages.old → HasNoFreeList (P.store pages.old).map) result
-        (P.store pages.old) (P.store pages.new) }
-    ensures added { P.is_tied pages.old → IfOk result (λ number. AddsPage (P.store pages.old).map (P.store pages.new).map
-        number (page_kind kind) width (records count width bytes.now)) }
+    ensures works { WorksOn P.Pages (HasNoFreeList (P.store pages.old).map) result pages.old pages.new }
+    ensures added { Makes P.Pages (λ old new number. AddsPage old new number (page_kind kind) width
+        (records count width bytes.now)) result pages.old pages.new }
 {
     let number = pages.allocate(kind)?;
-    edit_page(pages, number, kind, width, 0, 0, 0, count, bytes)?;
+    let edited = EditedPage {
+        number,
+        kind,
+        width,
+        count: 0,
+    };
+    let edit = Edit {
+        at: 0,
+        removed: 0,
+        more: count,
+    };
+    edit_page(pages, edited, edit, bytes)?;
     Ok(number)
 }

@@ -1,14 +1,14 @@
 //! Entries of inner pages, written anew from the pages that they say.
 
 ghost use Rattle.std.specs.Prelude.{◌≡◌, ◌≢◌, OnOk, OnErr, IsOkUnless, length, Err};
-ghost use Rattle.rs_page_owners.specs.Changes.{WorksAfter};
-ghost use Rattle.rs_pages.specs.Lending.{RestsAfter};
-ghost use Rattle.rs_tree.specs.Form.{form_of};
 ghost use Rattle.rs_tree.specs.Layouts.{entry_bytes};
 ghost use Rattle.rs_tree.specs.Node.{IsNode};
 ghost use Rattle.rs_tree.specs.declared.node.Node.{Node};
 ghost use Rattle.rs_tree.specs.Reading.{HasNoNode};
+ghost use Rattle.rs_tree.specs.Forms.{form_in};
 ghost use Rattle.rs_tree_edit.specs.Parts.{SaysPart, SaysNode};
+ghost use Rattle.rs_pages.specs.Calls.{OnlyReads};
+ghost use Rattle.rs_page_owners.specs.Calls.{WorksOn};
 
 use rs_page::{Page, PageNumber};
 use rs_pages::Pages;
@@ -28,12 +28,11 @@ pub fn write_entry_of<P: Pages, S: Summary>(
 ) -> Result<(), Refusal>
     requires entry { length entry.old ≡ entry_bytes layout }
     requires summary { layout.summary ≡ S.WIDTH }
-    ensures rests { RestsAfter P.is_tied P.store P.keeps result pages.old pages.new }
-    ensures works { WorksAfter (P.is_tied pages.old → HasNoNode (P.store pages.old).map number layout) result
-        (P.store pages.old) (P.store pages.new) }
+    ensures rests { OnlyReads P.Pages result pages.old pages.new }
+    ensures works { WorksOn P.Pages (HasNoNode (P.store pages.old).map number layout) result pages.old pages.new }
     ensures room { result ≢ Err Refusal.FileFull }
     ensures says { P.is_tied pages.old → OnOk result
-        (SaysPart (form_of S.says S.unit S.join S.of layout.summary layout.width) (P.store pages.old).map number entry.new) }
+        (SaysPart (form_in S.Summary layout) (P.store pages.old).map number entry.new) }
 {
     match pages.page(number) {
         Ok(page) => write_node_entry::<S>(page, layout, number, entry),
@@ -51,7 +50,7 @@ fn write_node_entry<S: Summary>(
     requires entry { length entry.old ≡ entry_bytes layout }
     requires summary { layout.summary ≡ S.WIDTH }
     ensures says { OnOk result
-        (SaysNode (form_of S.says S.unit S.join S.of layout.summary layout.width) number page.now.bytes entry.new) }
+        (SaysNode (form_in S.Summary layout) number page.now.bytes entry.new) }
     ensures none { OnErr result ((node : Node) → IsNode page.now.bytes number layout node → ⊥) }
     ensures refused { IsOkUnless result Refusal.DamagedFile }
 {
@@ -74,7 +73,7 @@ fn write_leaf_entry<S: Summary>(
     requires entry { length entry.old ≡ entry_bytes layout }
     requires summary { layout.summary ≡ S.WIDTH }
     requires node { IsNode page.now.bytes number layout (Node.Leaf count) }
-    ensures { SaysNode (form_of S.says S.unit S.join S.of layout.summary layout.width) number page.now.bytes entry.new }
+    ensures { SaysNode (form_in S.Summary layout) number page.now.bytes entry.new }
 {
     let whole = leaf_summary::<S>(page, count, layout);
     let least = record_at(content(page), layout.width, 0);
@@ -92,7 +91,7 @@ fn write_inner_entry<S: Summary>(
     requires entry { length entry.old ≡ entry_bytes layout }
     requires summary { layout.summary ≡ S.WIDTH }
     requires node { IsNode page.now.bytes number layout (Node.Inner count) }
-    ensures { SaysNode (form_of S.says S.unit S.join S.of layout.summary layout.width) number page.now.bytes entry.new }
+    ensures { SaysNode (form_in S.Summary layout) number page.now.bytes entry.new }
 {
     let whole = inner_summary::<S>(page, count, layout);
     let first = record_at(content(page), layout.entry_width(), 0);

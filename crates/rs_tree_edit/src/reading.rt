@@ -1,9 +1,9 @@
 //! One page of a tree, read by itself.
 
 ghost use Rattle.std.specs.Prelude.{◌≢◌, IfOk, Err};
-ghost use Rattle.rs_page_owners.specs.Changes.{WorksAfter};
-ghost use Rattle.rs_pages.specs.Lending.{RestsAfter};
 ghost use Rattle.rs_tree.specs.Reading.{HasNoNode, IsLoaded};
+ghost use Rattle.rs_pages.specs.Calls.{OnlyReads};
+ghost use Rattle.rs_page_owners.specs.Calls.{WorksOn};
 
 use rs_page::{Page, PageNumber};
 use rs_pages::Pages;
@@ -18,9 +18,8 @@ pub fn read_part<P: Pages>(
     number: PageNumber,
     layout: Layout,
 ) -> Result<Loaded, Refusal>
-    ensures rests { RestsAfter P.is_tied P.store P.keeps result pages.old pages.new }
-    ensures works { WorksAfter (P.is_tied pages.old → HasNoNode (P.store pages.old).map number layout) result
-        (P.store pages.old) (P.store pages.new) }
+    ensures rests { OnlyReads P.Pages result pages.old pages.new }
+    ensures works { WorksOn P.Pages (HasNoNode (P.store pages.old).map number layout) result pages.old pages.new }
     ensures room { result ≢ Err Refusal.FileFull }
     ensures loaded { IfOk result (IsLoaded (P.is_tied pages.old) (P.store pages.old).map number layout) }
 {
@@ -35,9 +34,8 @@ pub fn read_into<P: Pages>(
     layout: Layout,
     copy: &mut Page,
 ) -> Result<Node, Refusal>
-    ensures rests { RestsAfter P.is_tied P.store P.keeps result pages.old pages.new }
-    ensures works { WorksAfter (P.is_tied pages.old → HasNoNode (P.store pages.old).map number layout) result
-        (P.store pages.old) (P.store pages.new) }
+    ensures rests { OnlyReads P.Pages result pages.old pages.new }
+    ensures works { WorksOn P.Pages (HasNoNode (P.store pages.old).map number layout) result pages.old pages.new }
     ensures room { result ≢ Err Refusal.FileFull }
     ensures loaded { IfOk result (λ node. IsLoaded (P.is_tied pages.old) (P.store pages.old).map number layout
         (record { page = copy.new; node = node })) }

@@ -10,13 +10,14 @@ use Rattle.rs_page.specs.declared.header.ContentKind.{ContentKind}
 use Rattle.rs_page.specs.declared.header.ContentKind.TheVariants.{Leaf, Inner, Catalogue}
 use Rattle.rs_pages.specs.PageMap.{PageMap, in_use}
 use Rattle.rs_pages.proofs.FreeLists.{page_in_use_leaves_the_free_list}
+use Rattle.rs_pages.proofs.Stores.{used_there}
 use Rattle.rs_records.specs.Records.{records}
 use Rattle.rs_records.proofs.RecordLists.{length-records, records-take, take-records, drop-records, times_upto}
 use Rattle.rs_page_owners.specs.Counts.{one_at, no_pages, ◌&◌}
 use Rattle.rs_page_owners.proofs.Moving.{moves_trans, moves_same, moves_part}
 use Rattle.rs_tree.specs.Content.{content}
 use Rattle.rs_tree_edit.specs.Editing.{Lists, Splices, AddsPage, HasNoFreeList}
-use Rattle.rs_tree_edit.proofs.Replacing.{used_there, splices-moves}
+use Rattle.rs_tree_edit.proofs.Replacing.{splices-moves}
 use Rattle.rs_tree_insert.specs.Writing.{SplitsPage}
 
 -- a page with records is in use

@@ -1,3 +1,4 @@
+pub mod Calls
 pub mod Finding
 pub mod Inserting
 pub mod Writing

@@ -1,12 +1,12 @@
 //! The entries of a page below, and of the one that was split off it.
 
 ghost use Rattle.std.specs.Prelude.{◌≡◌, ◌*◌, IfOk, length};
-ghost use Rattle.rs_page_owners.specs.Changes.{WorksAfter};
-ghost use Rattle.rs_pages.specs.Lending.{RestsAfter};
 ghost use Rattle.rs_records.specs.Records.{records};
-ghost use Rattle.rs_tree.specs.Form.{form_of};
 ghost use Rattle.rs_tree.specs.Layouts.{entry_bytes};
+ghost use Rattle.rs_tree.specs.Forms.{form_in};
 ghost use Rattle.rs_tree_insert.specs.Inserting.{HasNoTops, SaysTops, tops};
+ghost use Rattle.rs_pages.specs.Calls.{OnlyReads};
+ghost use Rattle.rs_page_owners.specs.Calls.{WorksOn};
 
 use crate::answer::Put;
 use rs_page::PageNumber;
@@ -31,13 +31,12 @@ pub fn write_entries<P: Pages, S: Summary>(
 ) -> Result<usize, Refusal>
     requires room { length entries.old ≡ TWO_ENTRIES }
     requires summary { layout.summary ≡ S.WIDTH }
-    ensures rests { RestsAfter P.is_tied P.store P.keeps result pages.old pages.new }
-    ensures works { WorksAfter (P.is_tied pages.old
-        → HasNoTops (form_of S.says S.unit S.join S.of layout.summary layout.width) (P.store pages.old).map (tops first put))
-        result (P.store pages.old) (P.store pages.new) }
+    ensures rests { OnlyReads P.Pages result pages.old pages.new }
+    ensures works { WorksOn P.Pages (HasNoTops (form_in S.Summary layout) (P.store pages.old).map
+        (tops first put)) result pages.old pages.new }
     ensures count { IfOk result (λ more. more ≡ length (tops first put)) }
     ensures says { P.is_tied pages.old → IfOk result (λ more.
-        SaysTops (form_of S.says S.unit S.join S.of layout.summary layout.width) (P.store pages.old).map (tops first put)
+        SaysTops (form_in S.Summary layout) (P.store pages.old).map (tops first put)
         (records more (entry_bytes layout) entries.new)) }
 {
     let width = layout.entry_width();

@@ -3,8 +3,6 @@
 //! The page is only lent: of an inner page the one entry that the cell belongs under is copied, and of a leaf nothing.
 
 ghost use Rattle.std.specs.Prelude.{◌≡◌, ◌≤◌, ◌*◌, ℕ, List, IfOk, OnErr, IsOkUnless, length};
-ghost use Rattle.rs_page_owners.specs.Changes.{WorksAfter};
-ghost use Rattle.rs_pages.specs.Lending.{RestsAfter};
 ghost use Rattle.rs_tree.specs.Layouts.{entry_bytes};
 ghost use Rattle.rs_tree.specs.Node.{IsNode};
 ghost use Rattle.rs_tree.specs.declared.node.Node.{Node};
@@ -26,6 +24,8 @@ pub enum Spot {
 }
 
 ghost use Rattle.rs_tree_insert.specs.Finding.{FindsSpot, IsSpot};
+ghost use Rattle.rs_pages.specs.Calls.{OnlyReads};
+ghost use Rattle.rs_page_owners.specs.Calls.{WorksOn};
 
 /// Where the cell belongs in the page with this number. The entry that it belongs under is copied. It is refused with 91,
 /// and with 94 where it is no page of a tree.
@@ -37,9 +37,8 @@ pub fn find_spot<P: Pages>(
     entry: &mut [u8],
 ) -> Result<Spot, Refusal>
     requires entry { length entry.old ≡ entry_bytes layout }
-    ensures rests { RestsAfter P.is_tied P.store P.keeps result pages.old pages.new }
-    ensures works { WorksAfter (P.is_tied pages.old → HasNoNode (P.store pages.old).map number layout) result
-        (P.store pages.old) (P.store pages.new) }
+    ensures rests { OnlyReads P.Pages result pages.old pages.new }
+    ensures works { WorksOn P.Pages (HasNoNode (P.store pages.old).map number layout) result pages.old pages.new }
     ensures found { IfOk result (FindsSpot (P.is_tied pages.old) (P.store pages.old).map number layout cell.now entry.new) }
 {
     match pages.page(number) {

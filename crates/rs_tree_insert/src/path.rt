@@ -1,15 +1,16 @@
 //! The path of a cell: down to its leaf, and up again.
 
-ghost use Rattle.std.specs.Prelude.{◌≡◌, ◌⊎◌, ◌<◌, ◌≤◌, ◌*◌, ℕ, List, Some, true, false, [], ◌∷◌, IfOk, IsTrue, length, take, drop, slice_get};
-ghost use Rattle.rs_page_owners.specs.Changes.{WorksAfter};
+ghost use Rattle.std.specs.Prelude.{◌≡◌, ◌⊎◌, ◌<◌, ◌≤◌, ◌+◌, ◌*◌, ℕ, List, Some, true, false, [], ◌∷◌, IfOk, IsTrue, length, take, drop, slice_get};
 ghost use Rattle.rs_pages.specs.PageMap.{SamePages};
 ghost use Rattle.rs_records.specs.Records.{records};
 ghost use Rattle.rs_tree.specs.Content.{content};
-ghost use Rattle.rs_tree.specs.Form.{child_bytes, form_of};
+ghost use Rattle.rs_tree.specs.Form.{child_bytes};
 ghost use Rattle.rs_tree.specs.Layouts.{entry_bytes};
+ghost use Rattle.rs_tree.specs.Forms.{form_in};
 ghost use Rattle.rs_tree_insert.specs.Finding.{BelongsAt, BelongsUnder};
 ghost use Rattle.rs_tree_insert.specs.Inserting.{HasNoShared, HasNoTops, PutsBelow, TellsBelow, WritesAbove, tops};
 ghost use Rattle.rs_tree_insert.specs.Writing.{IsBroken, is_found};
+ghost use Rattle.rs_page_owners.specs.Calls.{Makes, WorksOn};
 
 use crate::answer::Put;
 use crate::entries::{ONE_ENTRY, TWO_ENTRIES, write_entries};
@@ -20,6 +21,16 @@ use rs_pages::Pages;
 use rs_refusal::Refusal;
 use rs_tree::entry::{child, summary};
 use rs_tree::{Layout, Summary};
+use rs_tree_edit::{Edit, EditedPage};
+
+/// A place in a page of a tree: the page, how many records it has, which of them, and whether the page is the last of its level.
+#[derive(Clone, Copy)]
+pub struct Place {
+    pub number: PageNumber,
+    pub count: usize,
+    pub at: usize,
+    pub is_last: bool,
+}
 
 /// Puts a cell into the part of a tree with this page at its top, which is the last of its level or not. Entries are written
 /// into `entries` on the way up.
@@ -37,32 +48,39 @@ pub fn insert_below<P: Pages, S: Summary>(
     requires summary { layout.summary ≡ S.WIDTH }
     requires width { length cell.now ≡ layout.width }
     ensures keeps { P.keeps pages.old pages.new }
-    ensures works { WorksAfter (P.is_tied pages.old
-        → HasNoShared (form_of S.says S.unit S.join S.of layout.summary layout.width) (P.store pages.old).map number levels)
-        result (P.store pages.old) (P.store pages.new) }
-    ensures puts { P.is_tied pages.old → IfOk result (λ put.
-        PutsBelow (form_of S.says S.unit S.join S.of layout.summary layout.width) (P.store pages.old).map (P.store pages.new).map
-        number cell.now put) }
+    ensures works { WorksOn P.Pages (HasNoShared (form_in S.Summary layout)
+        (P.store pages.old).map number levels) result pages.old pages.new }
+    ensures puts { Makes P.Pages (λ old new put. PutsBelow (form_in S.Summary layout) old new number cell.now put) result
+        pages.old pages.new }
     ensures found { P.is_tied pages.old → IfOk result (λ put.
-        TellsBelow (form_of S.says S.unit S.join S.of layout.summary layout.width) (P.store pages.old).map number cell.now put) }
-    ensures same { P.is_tied pages.old → IfOk result (λ put. is_found put ≡ true
-        → SamePages (P.store pages.new).map (P.store pages.old).map) }
+        TellsBelow (form_in S.Summary layout) (P.store pages.old).map number cell.now put) }
+    ensures same { Makes P.Pages (λ old new put. is_found put ≡ true → SamePages new old) result pages.old pages.new }
 {
     let mut bytes = [0; ONE_ENTRY];
     let entry = &mut bytes[..layout.entry_width()];
     let spot = find_spot(pages, number, layout, cell, entry)?;
     match spot {
         Spot::Found => Ok(Put::Found),
-        Spot::Leaf(count, at) => insert_here::<P, S>(
-            pages, layout, number, count, at, cell, is_last,
-        ),
+        Spot::Leaf(count, at) => {
+            let place = Place {
+                number,
+                count,
+                at,
+                is_last,
+            };
+            insert_here::<P, S>(pages, layout, place, cell)
+        }
         Spot::Inner(count, at) => {
             if levels == 0 {
                 return Err(Refusal::DamagedFile);
             }
-            insert_under::<P, S>(
-                pages, layout, number, count, at, entry, levels, cell, entries, is_last,
-            )
+            let place = Place {
+                number,
+                count,
+                at,
+                is_last,
+            };
+            insert_under::<P, S>(pages, layout, place, entry, levels, cell, entries)
         }
     }
 }
@@ -71,37 +89,33 @@ pub fn insert_below<P: Pages, S: Summary>(
 fn insert_here<P: Pages, S: Summary>(
     pages: &mut P,
     layout: Layout,
-    number: PageNumber,
-    count: usize,
-    at: usize,
+    place: Place,
     cell: &[u8],
-    is_last: bool,
 ) -> Result<Put, Refusal>
     requires begun { (P.store pages.old).is_begun ≡ true }
     requires width { length cell.now ≡ layout.width }
-    requires fit { count * layout.width ≤ 4080 }
-    requires at { at ≤ count }
+    requires fit { place.count * layout.width ≤ 4080 }
+    requires at { place.at ≤ place.count }
     ensures keeps { P.keeps pages.old pages.new }
-    ensures works { WorksAfter (P.is_tied pages.old → IsBroken (P.store pages.old).map number)
-        result (P.store pages.old) (P.store pages.new) }
-    ensures puts { P.is_tied pages.old → (page : List ℕ) → (P.store pages.old).map.page number ≡ Some page
-        → BelongsAt page number layout cell.now count at → IfOk result (λ put.
-        PutsBelow (form_of S.says S.unit S.join S.of layout.summary layout.width) (P.store pages.old).map (P.store pages.new).map
-        number cell.now put) }
+    ensures works { WorksOn P.Pages (IsBroken (P.store pages.old).map place.number) result pages.old pages.new }
+    ensures puts { P.is_tied pages.old → (page : List ℕ) → (P.store pages.old).map.page place.number ≡ Some page
+        → BelongsAt page place.number layout cell.now place.count place.at → IfOk result (λ put.
+        PutsBelow (form_in S.Summary layout) (P.store pages.old).map (P.store pages.new).map
+        place.number cell.now put) }
     ensures placed { IfOk result (λ put. is_found put ≡ false) }
 {
-    put_records(
-        pages,
-        number,
-        ContentKind::Leaf,
-        layout.width,
-        count,
-        at,
-        0,
-        1,
-        cell,
-        is_last,
-    )
+    let edited = EditedPage {
+        number: place.number,
+        kind: ContentKind::Leaf,
+        width: layout.width,
+        count: place.count,
+    };
+    let edit = Edit {
+        at: place.at,
+        removed: 0,
+        more: 1,
+    };
+    put_records(pages, edited, edit, cell, place.is_last)
 }
 
 /// Puts a cell below an inner page of so many entries, under this one, which is at this place.
@@ -109,51 +123,47 @@ fn insert_here<P: Pages, S: Summary>(
 fn insert_under<P: Pages, S: Summary>(
     pages: &mut P,
     layout: Layout,
-    number: PageNumber,
-    count: usize,
-    at: usize,
+    place: Place,
     entry: &[u8],
     levels: u32,
     cell: &[u8],
     entries: &mut [u8; TWO_ENTRIES],
-    is_last: bool,
 ) -> Result<Put, Refusal>
     requires begun { (P.store pages.old).is_begun ≡ true }
     requires summary { layout.summary ≡ S.WIDTH }
     requires width { length cell.now ≡ layout.width }
     requires levels { 0 < levels }
-    requires fit { count * entry_bytes layout ≤ 4080 }
-    requires at { at < count }
+    requires fit { place.count * entry_bytes layout ≤ 4080 }
+    requires at { place.at < place.count }
     requires entry { length entry.now ≡ entry_bytes layout }
     ensures keeps { P.keeps pages.old pages.new }
-    ensures works { WorksAfter (P.is_tied pages.old → (page : List ℕ) → (P.store pages.old).map.page number ≡ Some page
-        → BelongsUnder page number layout cell.now entry.now count at → HasNoShared (form_of S.says S.unit S.join S.of layout.summary layout.width) (P.store pages.old).map number levels)
-        result (P.store pages.old) (P.store pages.new) }
-    ensures puts { P.is_tied pages.old → (page : List ℕ) → (P.store pages.old).map.page number ≡ Some page
-        → BelongsUnder page number layout cell.now entry.now count at → IfOk result (λ put.
-        PutsBelow (form_of S.says S.unit S.join S.of layout.summary layout.width) (P.store pages.old).map (P.store pages.new).map
-        number cell.now put) }
-    ensures found { P.is_tied pages.old → (page : List ℕ) → (P.store pages.old).map.page number ≡ Some page
-        → BelongsUnder page number layout cell.now entry.now count at → IfOk result (λ put.
-        TellsBelow (form_of S.says S.unit S.join S.of layout.summary layout.width) (P.store pages.old).map number cell.now put) }
-    ensures same { P.is_tied pages.old → IfOk result (λ put. is_found put ≡ true
-        → SamePages (P.store pages.new).map (P.store pages.old).map) }
+    ensures works { WorksOn P.Pages ((page : List ℕ) → (P.store pages.old).map.page place.number ≡ Some page
+        → BelongsUnder page place.number layout cell.now entry.now place.count place.at
+        → HasNoShared (form_in S.Summary layout) (P.store pages.old).map place.number levels) result pages.old pages.new }
+    ensures puts { P.is_tied pages.old → (page : List ℕ) → (P.store pages.old).map.page place.number ≡ Some page
+        → BelongsUnder page place.number layout cell.now entry.now place.count place.at → IfOk result (λ put.
+        PutsBelow (form_in S.Summary layout) (P.store pages.old).map (P.store pages.new).map
+        place.number cell.now put) }
+    ensures found { P.is_tied pages.old → (page : List ℕ) → (P.store pages.old).map.page place.number ≡ Some page
+        → BelongsUnder page place.number layout cell.now entry.now place.count place.at → IfOk result (λ put.
+        TellsBelow (form_in S.Summary layout) (P.store pages.old).map place.number cell.now put) }
+    ensures same { Makes P.Pages (λ old new put. is_found put ≡ true → SamePages new old) result pages.old pages.new }
 {
     let below = child(entry, layout);
-    let below_last = is_last_below(is_last, count, at);
+    let below_last = is_last_below(place.is_last, place.count, place.at);
     let put = insert_below::<P, S>(pages, layout, below, levels - 1, cell, entries, below_last)?;
     match put {
         Put::Found => Ok(Put::Found),
         Put::Kept => Ok(Put::Kept),
-        _ => write_above::<P, S>(
-            pages, layout, number, count, at, entry, below, put, entries, is_last,
-        ),
+        _ => write_above::<P, S>(pages, layout, place, entry, below, put, entries),
     }
 }
 
 /// Whether the page below the entry at this place of so many is the last of its level, where this one is or isn't.
 fn is_last_below(is_last: bool, count: usize, at: usize) -> bool
     requires { at < count }
+    ensures last { is_last ≡ true → at + 1 ≡ count → result ≡ true }
+    ensures other { (is_last ≡ true → at + 1 ≡ count → ⊥) → result ≡ false }
 {
     is_last && at + 1 == count
 }
@@ -163,48 +173,43 @@ fn is_last_below(is_last: bool, count: usize, at: usize) -> bool
 fn write_above<P: Pages, S: Summary>(
     pages: &mut P,
     layout: Layout,
-    number: PageNumber,
-    count: usize,
-    at: usize,
+    place: Place,
     entry: &[u8],
     below: PageNumber,
     put: Put,
     entries: &mut [u8; TWO_ENTRIES],
-    is_last: bool,
 ) -> Result<Put, Refusal>
     requires begun { (P.store pages.old).is_begun ≡ true }
     requires summary { layout.summary ≡ S.WIDTH }
-    requires fit { count * entry_bytes layout ≤ 4080 }
-    requires at { at < count }
+    requires fit { place.count * entry_bytes layout ≤ 4080 }
+    requires at { place.at < place.count }
     requires entry { length entry.now ≡ entry_bytes layout }
     ensures keeps { P.keeps pages.old pages.new }
-    ensures works { WorksAfter (P.is_tied pages.old
-        → HasNoTops (form_of S.says S.unit S.join S.of layout.summary layout.width) (P.store pages.old).map (tops below put)
-        ⊎ IsBroken (P.store pages.old).map number)
-        result (P.store pages.old) (P.store pages.new) }
+    ensures works { WorksOn P.Pages (HasNoTops (form_in S.Summary layout) (P.store pages.old).map (tops below put)
+        ⊎ IsBroken (P.store pages.old).map place.number) result pages.old pages.new }
     ensures placed { IfOk result (λ above. is_found above ≡ false) }
-    ensures above { P.is_tied pages.old → (page : List ℕ) → (P.store pages.old).map.page number ≡ Some page
-        → slice_get (records count (entry_bytes layout) (content page)) at ≡ Some entry.now → IfOk result (λ above.
-        WritesAbove (form_of S.says S.unit S.join S.of layout.summary layout.width) (P.store pages.old).map
-        (P.store pages.new).map number page count at (tops below put) above) }
+    ensures above { P.is_tied pages.old → (page : List ℕ) → (P.store pages.old).map.page place.number ≡ Some page
+        → slice_get (records place.count (entry_bytes layout) (content page)) place.at ≡ Some entry.now → IfOk result (λ above.
+        WritesAbove (form_in S.Summary layout) (P.store pages.old).map
+        (P.store pages.new).map place.number page place.count place.at (tops below put) above) }
 {
     let width = layout.entry_width();
     let more = write_entries::<P, S>(pages, layout, below, put, entries)?;
     if says_same::<S>(layout, entry, more, entries) {
         return Ok(Put::Kept);
     }
-    put_records(
-        pages,
-        number,
-        ContentKind::Inner,
+    let edited = EditedPage {
+        number: place.number,
+        kind: ContentKind::Inner,
         width,
-        count,
-        at,
-        1,
+        count: place.count,
+    };
+    let edit = Edit {
+        at: place.at,
+        removed: 1,
         more,
-        &entries[..more * width],
-        is_last,
-    )
+    };
+    put_records(pages, edited, edit, &entries[..more * width], place.is_last)
 }
 
 /// Whether there is one entry, and it is this one.
@@ -216,7 +221,7 @@ fn says_same<S: Summary>(layout: Layout, entry: &[u8], more: usize, entries: &[u
     ensures one { (one other : S) → S.says (take layout.summary (drop child_bytes entry.now)) one
         → S.says (take layout.summary (drop child_bytes entry.now)) other → one ≡ other }
 {
-    // That bytes say one summary at the most is known of bytes that are read: the clause `one` is by this call.
+    // For the proof: bytes that are read say one summary at the most, which is the clause `one`.
     let _whole = S::read(summary(entry, layout));
     if more != 1 {
         return false;

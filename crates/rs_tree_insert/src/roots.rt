@@ -1,15 +1,12 @@
 //! A cell put into a whole tree, from its root.
 
-ghost use Rattle.std.specs.Prelude.{◌≡◌, ◌⊎◌, ◌↔◌, ℕ, true, false, List, Contains, IsTrue, IfOk, length};
-ghost use Rattle.rs_page_owners.specs.Changes.{WorksAfter};
-ghost use Rattle.rs_pages.specs.PageMap.{SamePages};
-ghost use Rattle.rs_tree.specs.Calls.{Changes, IsNotShared};
-ghost use Rattle.rs_tree.specs.Cells.{with_cell};
-ghost use Rattle.rs_tree.specs.Form.{form_of};
-ghost use Rattle.rs_tree.specs.Tree.{IsTree};
+ghost use Rattle.std.specs.Prelude.{◌≡◌, ◌⊎◌, true, IfOk, length};
+ghost use Rattle.rs_page_owners.specs.Calls.{Makes, WorksOn};
+ghost use Rattle.rs_tree.specs.Calls.{LeavesTree};
+ghost use Rattle.rs_tree.specs.Forms.{form_in};
+ghost use Rattle.rs_tree_edit.specs.Editing.{HasNoFreeList};
 ghost use Rattle.rs_tree_insert.specs.Inserting.{AddsAbove, HasNoTops, tops};
 ghost use Rattle.rs_tree_insert.specs.declared.answer.Put.TheVariants as put;
-ghost use Rattle.rs_tree_edit.specs.Editing.{HasNoFreeList};
 
 use crate::answer::Put;
 use crate::entries::{TWO_ENTRIES, write_entries};
@@ -27,6 +24,8 @@ pub struct Inserted {
     pub new: bool,
 }
 
+ghost use Rattle.rs_tree_insert.specs.Calls.{Inserts};
+
 /// Puts a cell into the tree with this root (0: the empty one). Where the cell was there already nothing changes. It is
 /// refused with 90, with 91, with 92 where the file is full, and with 94 only where no tree stands there whose pages are its
 /// own; some pages may have been changed then.
@@ -39,23 +38,14 @@ pub fn insert<P: Pages, S: Summary>(
     requires begun { (P.store pages.old).is_begun ≡ true }
     requires summary { layout.summary ≡ S.WIDTH }
     requires width { length cell.now ≡ layout.width }
-    ensures keeps { P.keeps pages.old pages.new }
-    ensures works { WorksAfter (P.is_tied pages.old
-        → IsNotShared (form_of S.says S.unit S.join S.of layout.summary layout.width) (P.store pages.old).map root)
-        result (P.store pages.old) (P.store pages.new) }
-    ensures inserted { P.is_tied pages.old → IfOk result (λ answer.
-        Changes (form_of S.says S.unit S.join S.of layout.summary layout.width) (P.store pages.old).map (P.store pages.new).map
-        root answer.root (with_cell cell.now)) }
-    ensures found { P.is_tied pages.old → IfOk result (λ answer. (cells : List (List ℕ)) (used : ℕ → ℕ)
-        → IsTree (form_of S.says S.unit S.join S.of layout.summary layout.width) (P.store pages.old).map root cells used
-        → (IsTrue answer.new ↔ (Contains cells cell.now → ⊥))) }
-    ensures rests { P.is_tied pages.old → IfOk result (λ answer. answer.new ≡ false
-        → SamePages (P.store pages.new).map (P.store pages.old).map) }
+    ensures leaves { LeavesTree P.Pages (form_in S.Summary layout) root result pages.old pages.new }
+    ensures inserts { Inserts P.Pages (form_in S.Summary layout) root cell.now result pages.old pages.new }
 {
     if root.number() == 0 {
         let root = add_page(pages, ContentKind::Leaf, layout.width, 1, cell)?;
         return Ok(Inserted { root, new: true });
     }
+    // For the proof: there are fewer pages than a tree of more levels would have.
     let _count = pages.count();
     let mut entries = [0; TWO_ENTRIES];
     match insert_below::<P, S>(pages, layout, root, LEVELS, cell, &mut entries, true)? {
@@ -79,13 +69,10 @@ fn add_root<P: Pages, S: Summary>(
     requires begun { (P.store pages.old).is_begun ≡ true }
     requires summary { layout.summary ≡ S.WIDTH }
     ensures keeps { P.keeps pages.old pages.new }
-    ensures works { WorksAfter (P.is_tied pages.old
-        → HasNoTops (form_of S.says S.unit S.join S.of layout.summary layout.width) (P.store pages.old).map
-        (tops first (put.Split second)) ⊎ HasNoFreeList (P.store pages.old).map)
-        result (P.store pages.old) (P.store pages.new) }
-    ensures above { P.is_tied pages.old → IfOk result (λ root.
-        AddsAbove (form_of S.says S.unit S.join S.of layout.summary layout.width) (P.store pages.old).map
-        (P.store pages.new).map root (tops first (put.Split second))) }
+    ensures works { WorksOn P.Pages (HasNoTops (form_in S.Summary layout) (P.store pages.old).map
+        (tops first (put.Split second)) ⊎ HasNoFreeList (P.store pages.old).map) result pages.old pages.new }
+    ensures above { Makes P.Pages (λ old new root. AddsAbove (form_in S.Summary layout) old new root (tops first
+        (put.Split second))) result pages.old pages.new }
 {
     let mut entries = [0; TWO_ENTRIES];
     let width = layout.entry_width();

@@ -8,10 +8,11 @@ use Rattle.rs_page.specs.declared.header.PageKind.TheVariants as kind
 use Rattle.rs_pages.specs.PageMap.{PageMap}
 use Rattle.rs_pages.specs.Store.{Store}
 use Rattle.rs_pages.specs.Uses.{ReleasesPage}
-use Rattle.rs_pages.proofs.Stores.{SamePages-refl}
+use Rattle.rs_pages.proofs.Stores.{SamePages-refl, used_there}
 use Rattle.rs_page_owners.specs.Counts.{one_at, ◌&◌, no_pages}
 use Rattle.rs_page_owners.specs.Owners.{Shares, Moves, MovesBeside}
 use Rattle.rs_page_owners.proofs.Moving.{one_at-same, shares_same, moves_trans, moves_same, moves_part, same_pages-moves, releases-moves}
+use Rattle.rs_page_owners.proofs.Working.{NotReleased}
 use Rattle.rs_tree.specs.Content.{SaysChild, content}
 use Rattle.rs_records.specs.Records.{records}
 use Rattle.rs_records.proofs.RecordLists.{length-records}
@@ -21,12 +22,12 @@ use Rattle.rs_tree.specs.Shape.{Shape, Lies, cells_of, uses, child_of}
 use Rattle.rs_tree.specs.Content.{tree_header}
 use Rattle.rs_tree_edit.specs.Parts.{TakesPlace, uses_all}
 use Rattle.rs_tree_edit.proofs.Pieces.{all_append, flat_between, sum_between}
-use Rattle.rs_tree_edit.proofs.Replacing.{parts_kept, used_there}
+use Rattle.rs_tree_edit.proofs.Replacing.{parts_kept}
 use Rattle.rs_tree_remove.specs.Finishing.{GaveWay, Finishes, NoneGaveWay}
 use Rattle.rs_tree_remove.specs.Leaving.{IsLeft}
 use Rattle.rs_tree_remove.specs.declared.answer.Removed.{Removed}
 use Rattle.rs_tree_remove.specs.declared.answer.Removed.TheVariants.{Kept}
-use Rattle.rs_tree_remove.proofs.Refusing.{IsLent, NotReleased, lent-released}
+use Rattle.rs_tree_remove.proofs.Refusing.{IsLent, lent-released}
 use Rattle.rs_tree_remove.proofs.Written.{those_now}
 use Rattle.rs_tree_remove.specs.Mending.{IsPair, Pairs, NonePairs, beside}
 

@@ -9,7 +9,7 @@ use Rattle.rs_page.specs.declared.header.PageKind.TheVariants as kind
 use Rattle.rs_page.proofs.Headers.{header_is_one}
 use Rattle.rs_pages.specs.PageMap.{PageMap}
 use Rattle.rs_pages.proofs.FreeLists.{page_one}
-use Rattle.rs_pages.proofs.Stores.{SamePages-refl}
+use Rattle.rs_pages.proofs.Stores.{SamePages-refl, used_there}
 use Rattle.rs_pages.specs.Store.{Store}
 use Rattle.rs_pages.specs.Uses.{ReleasesPage}
 use Rattle.rs_records.specs.Order.{is_below, Ascends}
@@ -35,7 +35,7 @@ use Rattle.rs_tree_edit.specs.Editing.{Splices}
 use Rattle.rs_tree_edit.specs.Parts.{TakesPlace, uses_all}
 use Rattle.rs_tree_edit.proofs.Between.{LiesBetween, AllAbove, below_between, above_between, among_between}
 use Rattle.rs_tree_edit.proofs.Pieces.{list_at}
-use Rattle.rs_tree_edit.proofs.Replacing.{leaf_written, used_there}
+use Rattle.rs_tree_edit.proofs.Replacing.{leaf_written}
 use Rattle.rs_tree_remove.specs.Leaving.{IsRemoved, RemovesPart}
 use Rattle.rs_tree_remove.specs.declared.answer.Removed.TheVariants.{Missing, Kept, Gone}
 

@@ -1,23 +1,17 @@
 -- Where a page that is the top of a part is not released or not lent.
-use Rattle.std.proofs.Common.{◌≡◌, ◌⊎◌, ◌<◌, ◌≤◌, ℕ, zero, suc, false, Some, List, Result, Ok, Err, OnOk, OnErr, IfErr, length, map, refl, ap, subst, inl, inr, arith}
-use Rattle.rs_refusal.specs.declared.refusal.Refusal.{Refusal}
-use Rattle.rs_refusal.specs.declared.refusal.Refusal.TheVariants as refusal
+use Rattle.std.proofs.Common.{◌≡◌, ◌<◌, ℕ, zero, suc, false, Some, List, length, map, refl, subst, inl, inr, arith}
 use Rattle.rs_page.specs.PageBytes.{is_free, IsFit}
-use Rattle.rs_page.specs.declared.file_header.FileHeader.{FileHeader}
 use Rattle.rs_page.specs.declared.header.PageKind.TheVariants as kind
 use Rattle.rs_pages.specs.PageMap.{PageMap, HasNoFit}
 use Rattle.rs_pages.specs.Store.{Store}
-use Rattle.rs_pages.specs.Uses.{ReleasesPage, RefusesToRelease}
-use Rattle.rs_pages.specs.Store.{Rests}
 use Rattle.rs_pages.proofs.FreeLists.{free_list_is_shorter_than_the_count}
-use Rattle.rs_page_owners.specs.Changes.{Works, EndsFull, WorksAfter}
+use Rattle.rs_pages.proofs.Stores.{used_there}
 use Rattle.rs_page_owners.specs.Owners.{Shares}
 use Rattle.rs_tree.specs.Content.{tree_header}
 use Rattle.rs_tree.specs.Form.{Form}
 use Rattle.rs_tree.specs.Shape.{Shape, child_of}
 use Rattle.rs_tree.specs.Walking.{IsPart}
-use Rattle.rs_tree_edit.proofs.Replacing.{used_there}
-use Rattle.rs_tree_edit.proofs.Working.{Rests-works}
+use Rattle.rs_page_owners.proofs.Working.{NotReleased}
 
 -- the page with this number is in use and fits its number, and is one of the file's
 pub record IsLent (map : PageMap) (number : ℕ) : Type 0 where
@@ -52,36 +46,9 @@ part_lent form pages number (suc height) shape part =
 pub lent-fits : (map : PageMap) (number : ℕ) → IsLent map number → HasNoFit map number → ⊥
 lent-fits map number lent none = none.none lent.page (used_there map number lent.page lent.there lent.used) (lent.fits map.fields.pages)
 
--- why a page may not be released
-abbrev pub NotReleased : Type 0 → ℕ → Store → Type 0
-NotReleased tied number s = (tied → HasNoFit s.map number) ⊎ (number ≡ 1) ⊎ (s.map.fields.pages ≤ s.map.fields.free_pages)
-
 pub lent-released : (tied : Type 0) (s : Store) (number : ℕ) (used : ℕ → ℕ) → tied → IsLent s.map number → Shares s.map used → NotReleased tied number s → ⊥
 lent-released tied s number used is lent shares refused = elim refused [
   | inl none ↦ lent-fits s.map number lent (none is)
   | inr (inl one) ↦ absurd (omega (arith, lent.past, one))
   | inr (inr long) ↦ absurd (omega (arith, free_list_is_shorter_than_the_count s.map shares.free (omega (arith, lent.below)) shares.list))
 ]
-
-releases-works : (tied : Type 0) (number : ℕ) (a b : Store) → ReleasesPage tied number a b → Works a b
-releases-works tied number a b releases = record {
-  counts = releases.counts;
-  no_fewer = omega (arith, ap (λ (f : FileHeader). f.pages) releases.fields);
-  catalogue = ap (λ (f : FileHeader). f.catalogue) releases.fields;
-  catalogue_length = ap (λ (f : FileHeader). f.catalogue_length) releases.fields;
-}
-
-pub release-works : {T : Type 0} (tied : Type 0) (number : ℕ) (result : Result T Refusal) (a b : Store) → OnOk result (ReleasesPage tied number a b)
-    → OnErr result (Rests tied a b) → IfErr result (λ why. RefusesToRelease tied number why a b) → WorksAfter (NotReleased tied number a) result a b
-release-works tied number (Ok x) a b releases rests refused =
-    record { works = releases-works tied number a b releases; ends = record { failures = releases.failures; full = releases.full } }
-release-works tied number (Err why) a b releases rests refused = record {
-  works = Rests-works tied a b rests;
-  ends = record { cause = by_cause refused.wants.cause; count = refused.wants.count };
-} where
-  by_cause : (why ≡ refusal.OutOfMemory) ⊎ (why ≡ refusal.Disk) ⊎ ((why ≡ refusal.FileFull) × ⊥) ⊎ ((why ≡ refusal.DamagedFile) × NotReleased tied number a)
-      → (why ≡ refusal.OutOfMemory) ⊎ (why ≡ refusal.Disk) ⊎ ((why ≡ refusal.FileFull) × EndsFull a b) ⊎ ((why ≡ refusal.DamagedFile) × NotReleased tied number a)
-  by_cause (inl memory) = inl memory
-  by_cause (inr (inl disk)) = inr (inl disk)
-  by_cause (inr (inr (inl full))) = absurd full.1
-  by_cause (inr (inr (inr wrong))) = inr (inr (inr wrong))

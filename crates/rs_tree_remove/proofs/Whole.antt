@@ -8,12 +8,13 @@ use Rattle.std.specs.List.{AllByRecursion, Contains, flat_map}
 use Rattle.rs_pages.specs.PageMap.{PageMap}
 use Rattle.rs_pages.specs.Store.{Store}
 use Rattle.rs_pages.specs.Uses.{ReleasesPage}
-use Rattle.rs_pages.proofs.Stores.{SamePages-refl}
+use Rattle.rs_pages.proofs.Stores.{SamePages-refl, used_there}
 use Rattle.rs_records.specs.Order.{is_below, Ascends}
 use Rattle.rs_records.proofs.Orders.{is_below-trans, is_below-cases}
 use Rattle.rs_page_owners.specs.Counts.{one_at, ◌&◌, no_pages}
 use Rattle.rs_page_owners.specs.Owners.{Shares, Moves}
 use Rattle.rs_page_owners.proofs.Moving.{shares_same, moves_same, moves_trans, moves_part, same_pages-moves, releases-moves}
+use Rattle.rs_page_owners.proofs.Working.{NotReleased}
 use Rattle.rs_tree.specs.Calls.{Becomes, Changes, IsNotShared}
 use Rattle.rs_tree.specs.Cells.{without_cell, cells_above}
 use Rattle.rs_tree.specs.Form.{Form}
@@ -25,12 +26,11 @@ use Rattle.rs_tree.proofs.Framed.{lies_kept}
 use Rattle.rs_tree.proofs.Shapes.{lies_same}
 use Rattle.rs_tree_edit.specs.Parts.{uses_all}
 use Rattle.rs_tree_edit.proofs.Between.{AllAbove, below_none, above_all}
-use Rattle.rs_tree_edit.proofs.Replacing.{used_there}
 use Rattle.rs_tree_remove.specs.Leaving.{IsRemoved, RemovesPart, HasNoOwnPart}
 use Rattle.rs_tree_remove.specs.declared.answer.Removed.{Removed}
 use Rattle.rs_tree_remove.specs.declared.answer.Removed.TheVariants.{Missing, Kept, Gone, Single}
 use Rattle.rs_tree_remove.proofs.Leaves.{without_at}
-use Rattle.rs_tree_remove.proofs.Refusing.{NotReleased, part_lent, lent-released}
+use Rattle.rs_tree_remove.proofs.Refusing.{part_lent, lent-released}
 use Rattle.rs_tree_remove.proofs.Written.{one_of, none_of}
 
 all_above_from : (cell first : List ℕ) (cs : List (List ℕ)) → is_below cell first ≡ true → AllByRecursion (λ other. IsTrue (is_below first other)) cs → AllAbove cell cs
@@ -38,7 +38,7 @@ all_above_from cell first [] h all = tt
 all_above_from cell first (c ∷ cs) h all = (is_below-trans cell first c h all.0, all_above_from cell first cs h all.1)
 
 -- without a cell that isn't there
-without_absent : (cell : List ℕ) (cs : List (List ℕ)) → Ascends cs → (Contains cs cell → ⊥) → without_cell cell cs ≡ cs
+pub without_absent : (cell : List ℕ) (cs : List (List ℕ)) → Ascends cs → (Contains cs cell → ⊥) → without_cell cell cs ≡ cs
 without_absent cell [] up none = refl
 without_absent cell (c ∷ cs) up none = elim (is_below-cases c cell) [
   | inl less ↦

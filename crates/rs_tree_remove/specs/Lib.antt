@@ -1,3 +1,4 @@
+pub mod Calls
 pub mod Leaving
 pub mod Finishing
 pub mod Mending

@@ -1,59 +1,74 @@
 //! An inner page whose parts gave way to fewer, or to others.
 
 ghost use Rattle.std.specs.Prelude.{◌≡◌, ◌≢◌, ◌≤◌, ◌<◌, ◌+◌, ◌-◌, ◌*◌, true, [], ◌∷◌, IfOk, OnOk, length, Err};
-ghost use Rattle.rs_page_owners.specs.Changes.{WorksAfter};
-ghost use Rattle.rs_tree.specs.Form.{form_of};
 ghost use Rattle.rs_tree.specs.Layouts.{entry_bytes};
+ghost use Rattle.rs_tree.specs.Forms.{form_in};
 ghost use Rattle.rs_tree_remove.specs.Finishing.{CantRenew, Finishes, NoneGaveWay, Renews};
+ghost use Rattle.rs_page_owners.specs.Calls.{Makes, WorksOn};
 
 use crate::answer::Removed;
+use crate::sides::Two;
 use rs_page::{ContentKind, Page, PageNumber};
 use rs_pages::Pages;
 use rs_records::record_at;
 use rs_refusal::Refusal;
 use rs_tree::entry::child;
 use rs_tree::{Layout, Summary, content};
-use rs_tree_edit::{edit_page, write_entry_of};
+use rs_tree_edit::{Edit, EditedPage, edit_page, write_entry_of};
+
+/// An inner page by its number, and how many entries it has.
+#[derive(Clone, Copy)]
+pub struct InnerPage {
+    pub number: PageNumber,
+    pub count: usize,
+}
+
+/// Entries of a page that give way: those from `at` on, as many as `removed` says.
+#[derive(Clone, Copy)]
+pub struct Stretch {
+    pub at: usize,
+    pub removed: usize,
+}
 
 /// Takes the entry of a part that is gone out of an inner page, whose bytes are told. Of two parts the other one is told,
 /// and the page doesn't change.
 pub fn drop_entry<P: Pages, S: Summary>(
     pages: &mut P,
     layout: Layout,
-    number: PageNumber,
+    inner: InnerPage,
     page: &Page,
-    count: usize,
     at: usize,
 ) -> Result<Removed, Refusal>
     requires begun { (P.store pages.old).is_begun ≡ true }
-    requires fit { count * entry_bytes layout ≤ 4080 }
-    requires two { 2 ≤ count }
-    requires inside { at < count }
+    requires fit { inner.count * entry_bytes layout ≤ 4080 }
+    requires two { 2 ≤ inner.count }
+    requires inside { at < inner.count }
     ensures keeps { P.keeps pages.old pages.new }
-    ensures works { WorksAfter (P.is_tied pages.old → NoneGaveWay (form_of S.says S.unit S.join S.of layout.summary layout.width)
-        (P.store pages.old).map number page.now.bytes count at 1 []) result (P.store pages.old) (P.store pages.new) }
+    ensures works { WorksOn P.Pages (NoneGaveWay (form_in S.Summary layout)
+        (P.store pages.old).map inner.number page.now.bytes inner.count at 1 []) result pages.old pages.new }
     ensures room { result ≢ Err Refusal.FileFull }
-    ensures finishes { P.is_tied pages.old → IfOk result (Finishes
-        (form_of S.says S.unit S.join S.of layout.summary layout.width) (P.store pages.old).map (P.store pages.new).map number
-        page.now.bytes count at 1 []) }
-    ensures kept { 2 < count → IfOk result (λ answer. answer ≡ Removed.Kept) }
+    ensures finishes { Makes P.Pages (λ old new. Finishes (form_in S.Summary layout) old new inner.number page.now.bytes
+        inner.count at 1 []) result pages.old pages.new }
+    ensures kept { 2 < inner.count → IfOk result (λ answer. answer ≡ Removed.Kept) }
 {
     let width = layout.entry_width();
+    let count = inner.count;
     if count == 2 {
         let other = record_at(content(page), width, 1 - at);
         return Ok(Removed::Single(child(other, layout)));
     }
-    edit_page(
-        pages,
-        number,
-        ContentKind::Inner,
+    let edited = EditedPage {
+        number: inner.number,
+        kind: ContentKind::Inner,
         width,
-        count,
+        count: inner.count,
+    };
+    let edit = Edit {
         at,
-        1,
-        0,
-        &[],
-    )?;
+        removed: 1,
+        more: 0,
+    };
+    edit_page(pages, edited, edit, &[])?;
     Ok(Removed::Kept)
 }
 
@@ -62,44 +77,33 @@ pub fn drop_entry<P: Pages, S: Summary>(
 pub fn renew_entry<P: Pages, S: Summary>(
     pages: &mut P,
     layout: Layout,
-    number: PageNumber,
+    inner: InnerPage,
     page: &Page,
-    count: usize,
-    at: usize,
-    removed: usize,
+    stretch: Stretch,
     top: PageNumber,
 ) -> Result<Removed, Refusal>
     requires begun { (P.store pages.old).is_begun ≡ true }
     requires summary { layout.summary ≡ S.WIDTH }
-    requires fit { count * entry_bytes layout ≤ 4080 }
-    requires few { removed ≤ 2 }
-    requires inside { at + removed ≤ count }
-    requires room { (count - removed + 1) * entry_bytes layout ≤ 4080 }
+    requires fit { inner.count * entry_bytes layout ≤ 4080 }
+    requires few { stretch.removed ≤ 2 }
+    requires inside { stretch.at + stretch.removed ≤ inner.count }
+    requires room { (inner.count - stretch.removed + 1) * entry_bytes layout ≤ 4080 }
     ensures keeps { P.keeps pages.old pages.new }
-    ensures works { WorksAfter (P.is_tied pages.old → NoneGaveWay (form_of S.says S.unit S.join S.of layout.summary layout.width)
-        (P.store pages.old).map number page.now.bytes count at removed (top ∷ [])) result
-        (P.store pages.old) (P.store pages.new) }
+    ensures works { WorksOn P.Pages (NoneGaveWay (form_in S.Summary layout)
+        (P.store pages.old).map inner.number page.now.bytes inner.count stretch.at stretch.removed
+        (top ∷ [])) result pages.old pages.new }
     ensures room { result ≢ Err Refusal.FileFull }
-    ensures finishes { P.is_tied pages.old → IfOk result (Finishes
-        (form_of S.says S.unit S.join S.of layout.summary layout.width) (P.store pages.old).map (P.store pages.new).map number
-        page.now.bytes count at removed (top ∷ [])) }
-    ensures kept { removed < count → IfOk result (λ answer. answer ≡ Removed.Kept) }
+    ensures finishes { Makes P.Pages (λ old new. Finishes (form_in S.Summary layout) old new inner.number page.now.bytes
+        inner.count stretch.at stretch.removed (top ∷ [])) result pages.old pages.new }
+    ensures kept { stretch.removed < inner.count → IfOk result (λ answer. answer ≡ Removed.Kept) }
 {
+    let (count, removed) = (inner.count, stretch.removed);
     if count == removed {
         return Ok(Removed::Single(top));
     }
     let mut buffer = [0; 1_360];
     let width = layout.entry_width();
-    renew::<P, S>(
-        pages,
-        layout,
-        number,
-        count,
-        at,
-        removed,
-        top,
-        &mut buffer[..width],
-    )?;
+    renew::<P, S>(pages, layout, inner, stretch, top, &mut buffer[..width])?;
     Ok(Removed::Kept)
 }
 
@@ -107,85 +111,71 @@ pub fn renew_entry<P: Pages, S: Summary>(
 pub fn renew_two<P: Pages, S: Summary>(
     pages: &mut P,
     layout: Layout,
-    number: PageNumber,
+    inner: InnerPage,
     page: &Page,
-    count: usize,
     at: usize,
-    first: PageNumber,
-    second: PageNumber,
+    tops: Two,
 ) -> Result<(), Refusal>
     requires begun { (P.store pages.old).is_begun ≡ true }
     requires summary { layout.summary ≡ S.WIDTH }
-    requires fit { count * entry_bytes layout ≤ 4080 }
-    requires inside { at + 2 ≤ count }
+    requires fit { inner.count * entry_bytes layout ≤ 4080 }
+    requires inside { at + 2 ≤ inner.count }
     ensures keeps { P.keeps pages.old pages.new }
-    ensures works { WorksAfter (P.is_tied pages.old → NoneGaveWay (form_of S.says S.unit S.join S.of layout.summary layout.width)
-        (P.store pages.old).map number page.now.bytes count at 2 (first ∷ second ∷ [])) result
-        (P.store pages.old) (P.store pages.new) }
+    ensures works { WorksOn P.Pages (NoneGaveWay (form_in S.Summary layout)
+        (P.store pages.old).map inner.number page.now.bytes inner.count at 2
+        (tops.first ∷ tops.second ∷ [])) result pages.old pages.new }
     ensures room { result ≢ Err Refusal.FileFull }
     ensures finishes { P.is_tied pages.old → OnOk result (Finishes
-        (form_of S.says S.unit S.join S.of layout.summary layout.width) (P.store pages.old).map (P.store pages.new).map number
-        page.now.bytes count at 2 (first ∷ second ∷ []) Removed.Kept) }
+        (form_in S.Summary layout) (P.store pages.old).map (P.store pages.new).map inner.number
+        page.now.bytes inner.count at 2 (tops.first ∷ tops.second ∷ []) Removed.Kept) }
 {
     let mut buffer = [0; 1_360];
     let width = layout.entry_width();
-    renew::<P, S>(
-        pages,
-        layout,
-        number,
-        count,
-        at,
-        1,
-        first,
-        &mut buffer[..width],
-    )?;
-    renew::<P, S>(
-        pages,
-        layout,
-        number,
-        count,
-        at + 1,
-        1,
-        second,
-        &mut buffer[..width],
-    )
+    let (first, second) = (tops.first, tops.second);
+    let (number, count) = (inner.number, inner.count);
+    let one = Stretch { at, removed: 1 };
+    renew::<P, S>(pages, layout, inner, one, first, &mut buffer[..width])?;
+    let same = InnerPage { number, count };
+    let next = Stretch {
+        at: at + 1,
+        removed: 1,
+    };
+    renew::<P, S>(pages, layout, same, next, second, &mut buffer[..width])
 }
 
 /// The same of one entry, where others are left; it is written into these bytes first.
 fn renew<P: Pages, S: Summary>(
     pages: &mut P,
     layout: Layout,
-    number: PageNumber,
-    count: usize,
-    at: usize,
-    removed: usize,
+    inner: InnerPage,
+    stretch: Stretch,
     top: PageNumber,
     entry: &mut [u8],
 ) -> Result<(), Refusal>
     requires begun { (P.store pages.old).is_begun ≡ true }
     requires summary { layout.summary ≡ S.WIDTH }
     requires entry { length entry.old ≡ entry_bytes layout }
-    requires fit { count * entry_bytes layout ≤ 4080 }
-    requires inside { at + removed ≤ count }
-    requires room { (count - removed + 1) * entry_bytes layout ≤ 4080 }
+    requires fit { inner.count * entry_bytes layout ≤ 4080 }
+    requires inside { stretch.at + stretch.removed ≤ inner.count }
+    requires room { (inner.count - stretch.removed + 1) * entry_bytes layout ≤ 4080 }
     ensures keeps { P.keeps pages.old pages.new }
-    ensures works { WorksAfter (P.is_tied pages.old → CantRenew (P.store pages.old).map number top layout) result
-        (P.store pages.old) (P.store pages.new) }
+    ensures works { WorksOn P.Pages (CantRenew (P.store pages.old).map inner.number top layout) result pages.old pages.new }
     ensures room { result ≢ Err Refusal.FileFull }
     ensures renews { P.is_tied pages.old → OnOk result (Renews
-        (form_of S.says S.unit S.join S.of layout.summary layout.width) (P.store pages.old).map (P.store pages.new).map number
-        count at removed top) }
+        (form_in S.Summary layout) (P.store pages.old).map (P.store pages.new).map inner.number
+        inner.count stretch.at stretch.removed top) }
 {
     write_entry_of::<P, S>(pages, layout, top, entry)?;
-    edit_page(
-        pages,
-        number,
-        ContentKind::Inner,
-        layout.entry_width(),
-        count,
-        at,
-        removed,
-        1,
-        entry,
-    )
+    let edited = EditedPage {
+        number: inner.number,
+        kind: ContentKind::Inner,
+        width: layout.entry_width(),
+        count: inner.count,
+    };
+    let edit = Edit {
+        at: stretch.at,
+        removed: stretch.removed,
+        more: 1,
+    };
+    edit_page(pages, edited, edit, entry)
 }

@@ -1,10 +1,10 @@
 //! A cell taken out of a leaf.
 
 ghost use Rattle.std.specs.Prelude.{◌≡◌, ◌≢◌, ℕ, true, Some, IfOk, Err};
-ghost use Rattle.rs_page_owners.specs.Changes.{WorksAfter};
-ghost use Rattle.rs_tree.specs.Form.{form_of};
 ghost use Rattle.rs_tree.specs.Node.{IsNode};
+ghost use Rattle.rs_tree.specs.Forms.{form_in};
 ghost use Rattle.rs_tree_remove.specs.Leaving.{RemovesPart, HasNoOwnPart};
+ghost use Rattle.rs_page_owners.specs.Calls.{WorksOn};
 
 use crate::answer::Removed;
 use rs_page::{ContentKind, Page, PageNumber};
@@ -13,7 +13,7 @@ use rs_records::place;
 use rs_refusal::Refusal;
 use rs_tree::{Layout, Node, Summary, content};
 use rs_tree_edit::choosing::has_key;
-use rs_tree_edit::edit_page;
+use rs_tree_edit::{Edit, EditedPage, edit_page};
 
 /// Takes a cell out of a leaf, whose bytes are told. The last cell goes with the page.
 pub fn remove_from_leaf<P: Pages, S: Summary>(
@@ -27,12 +27,11 @@ pub fn remove_from_leaf<P: Pages, S: Summary>(
     requires begun { (P.store pages.old).is_begun ≡ true }
     requires node { IsNode page.now.bytes number layout (Node.Leaf count) }
     ensures keeps { P.keeps pages.old pages.new }
-    ensures works { WorksAfter (P.is_tied pages.old → (P.store pages.old).map.page number ≡ Some page.now.bytes → (levels : ℕ)
-        → HasNoOwnPart (form_of S.says S.unit S.join S.of layout.summary layout.width) (P.store pages.old).map number levels)
-        result (P.store pages.old) (P.store pages.new) }
+    ensures works { WorksOn P.Pages ((P.store pages.old).map.page number ≡ Some page.now.bytes → (levels : ℕ)
+        → HasNoOwnPart (form_in S.Summary layout) (P.store pages.old).map number levels) result pages.old pages.new }
     ensures room { result ≢ Err Refusal.FileFull }
     ensures removed { P.is_tied pages.old → (P.store pages.old).map.page number ≡ Some page.now.bytes → IfOk result (RemovesPart
-        (form_of S.says S.unit S.join S.of layout.summary layout.width) (P.store pages.old).map (P.store pages.new).map number
+        (form_in S.Summary layout) (P.store pages.old).map (P.store pages.new).map number
         cell.now) }
 {
     let bytes = content(page);
@@ -44,16 +43,17 @@ pub fn remove_from_leaf<P: Pages, S: Summary>(
         pages.release(number)?;
         return Ok(Removed::Gone);
     }
-    edit_page(
-        pages,
+    let edited = EditedPage {
         number,
-        ContentKind::Leaf,
-        layout.width,
+        kind: ContentKind::Leaf,
+        width: layout.width,
         count,
+    };
+    let edit = Edit {
         at,
-        1,
-        0,
-        &[],
-    )?;
+        removed: 1,
+        more: 0,
+    };
+    edit_page(pages, edited, edit, &[])?;
     Ok(Removed::Kept)
 }

@@ -1,13 +1,14 @@
 //! The path of a cell: down to its leaf, and up again.
 
 ghost use Rattle.std.specs.Prelude.{◌≡◌, ◌≢◌, ◌≤◌, ◌<◌, Some, true, IfOk, Err};
-ghost use Rattle.rs_page_owners.specs.Changes.{WorksAfter};
-ghost use Rattle.rs_tree.specs.Form.{form_of};
 ghost use Rattle.rs_tree.specs.Node.{IsNode};
+ghost use Rattle.rs_tree.specs.Forms.{form_in};
 ghost use Rattle.rs_tree_remove.specs.Leaving.{RemovesPart, HasNoOwnPart};
+ghost use Rattle.rs_page_owners.specs.Calls.{Makes, WorksOn};
 
-use crate::finishing::{drop_entry, renew_entry};
+use crate::finishing::{InnerPage, Stretch, drop_entry, renew_entry};
 use crate::leaf::remove_from_leaf;
+use crate::pairing::Lonely;
 use crate::{Removed, mend};
 use rs_page::{Page, PageNumber};
 use rs_pages::Pages;
@@ -29,13 +30,11 @@ pub fn remove_below<P: Pages, S: Summary>(
     requires begun { (P.store pages.old).is_begun ≡ true }
     requires summary { layout.summary ≡ S.WIDTH }
     ensures keeps { P.keeps pages.old pages.new }
-    ensures works { WorksAfter (P.is_tied pages.old
-        → HasNoOwnPart (form_of S.says S.unit S.join S.of layout.summary layout.width) (P.store pages.old).map number levels)
-        result (P.store pages.old) (P.store pages.new) }
+    ensures works { WorksOn P.Pages (HasNoOwnPart (form_in S.Summary layout)
+        (P.store pages.old).map number levels) result pages.old pages.new }
     ensures room { result ≢ Err Refusal.FileFull }
-    ensures removed { P.is_tied pages.old → IfOk result (RemovesPart
-        (form_of S.says S.unit S.join S.of layout.summary layout.width) (P.store pages.old).map (P.store pages.new).map number
-        cell.now) }
+    ensures removed { Makes P.Pages (λ old new. RemovesPart (form_in S.Summary layout) old new number cell.now) result
+        pages.old pages.new }
 {
     let loaded = read_part(pages, number, layout)?;
     match loaded.node {
@@ -46,7 +45,8 @@ pub fn remove_below<P: Pages, S: Summary>(
             if levels == 0 {
                 return Err(Refusal::DamagedFile);
             }
-            remove_under::<P, S>(pages, layout, number, &loaded.page, count, levels, cell)
+            let inner = InnerPage { number, count };
+            remove_under::<P, S>(pages, layout, inner, &loaded.page, levels, cell)
         }
     }
 }
@@ -56,34 +56,40 @@ pub fn remove_below<P: Pages, S: Summary>(
 fn remove_under<P: Pages, S: Summary>(
     pages: &mut P,
     layout: Layout,
-    number: PageNumber,
+    inner: InnerPage,
     page: &Page,
-    count: usize,
     levels: u32,
     cell: &[u8],
 ) -> Result<Removed, Refusal>
     requires begun { (P.store pages.old).is_begun ≡ true }
     requires summary { layout.summary ≡ S.WIDTH }
     requires levels { 0 < levels }
-    requires node { IsNode page.now.bytes number layout (Node.Inner count) }
+    requires node { IsNode page.now.bytes inner.number layout (Node.Inner inner.count) }
     ensures keeps { P.keeps pages.old pages.new }
-    ensures works { WorksAfter (P.is_tied pages.old → (P.store pages.old).map.page number ≡ Some page.now.bytes
-        → HasNoOwnPart (form_of S.says S.unit S.join S.of layout.summary layout.width) (P.store pages.old).map number levels)
-        result (P.store pages.old) (P.store pages.new) }
+    ensures works { WorksOn P.Pages ((P.store pages.old).map.page inner.number ≡ Some page.now.bytes
+        → HasNoOwnPart (form_in S.Summary layout) (P.store pages.old).map inner.number levels) result pages.old pages.new }
     ensures room { result ≢ Err Refusal.FileFull }
-    ensures removed { P.is_tied pages.old → (P.store pages.old).map.page number ≡ Some page.now.bytes → IfOk result (RemovesPart
-        (form_of S.says S.unit S.join S.of layout.summary layout.width) (P.store pages.old).map (P.store pages.new).map number
+    ensures removed { P.is_tied pages.old → (P.store pages.old).map.page inner.number ≡ Some page.now.bytes
+        → IfOk result (RemovesPart
+        (form_in S.Summary layout) (P.store pages.old).map (P.store pages.new).map inner.number
         cell.now) }
 {
     let bytes = content(page);
-    let at = entry_for(bytes, layout, count, cell);
+    let at = entry_for(bytes, layout, inner.count, cell);
     let below = child(record_at(bytes, layout.entry_width(), at), layout);
     match remove_below::<P, S>(pages, layout, below, levels - 1, cell)? {
         Removed::Missing => Ok(Removed::Missing),
-        Removed::Kept => renew_entry::<P, S>(pages, layout, number, page, count, at, 1, below),
-        Removed::Gone => drop_entry::<P, S>(pages, layout, number, page, count, at),
+        Removed::Kept => {
+            let one = Stretch { at, removed: 1 };
+            renew_entry::<P, S>(pages, layout, inner, page, one, below)
+        }
+        Removed::Gone => drop_entry::<P, S>(pages, layout, inner, page, at),
         Removed::Single(only) => {
-            mend::<P, S>(pages, layout, number, page, count, at, below, only)
+            let lonely = Lonely {
+                number: below,
+                only,
+            };
+            mend::<P, S>(pages, layout, inner, page, at, lonely)
         }
     }
 }

@@ -1,13 +1,9 @@
 //! A cell taken out of a whole tree, from its root.
 
-ghost use Rattle.std.specs.Prelude.{◌≡◌, ◌≢◌, ◌↔◌, ℕ, true, List, Contains, IsTrue, IfOk, Err};
-ghost use Rattle.rs_page_owners.specs.Changes.{WorksAfter};
-ghost use Rattle.rs_page_owners.specs.Counts.{◌&◌};
-ghost use Rattle.rs_page_owners.specs.Owners.{Shares};
-ghost use Rattle.rs_tree.specs.Calls.{Changes, IsNotShared};
-ghost use Rattle.rs_tree.specs.Cells.{without_cell};
-ghost use Rattle.rs_tree.specs.Form.{form_of};
-ghost use Rattle.rs_tree.specs.Tree.{IsTree};
+ghost use Rattle.std.specs.Prelude.{◌≡◌, ◌≢◌, true, Err};
+ghost use Rattle.rs_tree.specs.Calls.{LeavesTree};
+ghost use Rattle.rs_tree.specs.Forms.{form_in};
+ghost use Rattle.rs_tree_remove.specs.Calls.{Removes};
 
 use crate::Removed;
 use crate::path::remove_below;
@@ -27,21 +23,14 @@ pub fn remove<P: Pages, S: Summary>(
 ) -> Result<(PageNumber, bool), Refusal>
     requires begun { (P.store pages.old).is_begun ≡ true }
     requires summary { layout.summary ≡ S.WIDTH }
-    ensures keeps { P.keeps pages.old pages.new }
-    ensures works { WorksAfter (P.is_tied pages.old
-        → IsNotShared (form_of S.says S.unit S.join S.of layout.summary layout.width) (P.store pages.old).map root)
-        result (P.store pages.old) (P.store pages.new) }
+    ensures leaves { LeavesTree P.Pages (form_in S.Summary layout) root result pages.old pages.new }
+    ensures removes { Removes P.Pages (form_in S.Summary layout) root cell.now result pages.old pages.new }
     ensures room { result ≢ Err Refusal.FileFull }
-    ensures removed { P.is_tied pages.old → IfOk result (λ answer.
-        Changes (form_of S.says S.unit S.join S.of layout.summary layout.width) (P.store pages.old).map (P.store pages.new).map
-        root answer.0 (without_cell cell.now)) }
-    ensures found { P.is_tied pages.old → IfOk result (λ answer. (cells : List (List ℕ)) (used others : ℕ → ℕ)
-        → IsTree (form_of S.says S.unit S.join S.of layout.summary layout.width) (P.store pages.old).map root cells used
-        → Shares (P.store pages.old).map (used & others) → (IsTrue answer.1 ↔ Contains cells cell.now)) }
 {
     if root.number() == 0 {
         return Ok((root, false));
     }
+    // For the proof: there are fewer pages than a tree of more levels would have.
     let _count = pages.count();
     match remove_below::<P, S>(pages, layout, root, LEVELS, cell)? {
         Removed::Missing => Ok((root, false)),

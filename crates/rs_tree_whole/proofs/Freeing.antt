@@ -16,7 +16,7 @@ use Rattle.rs_pages.specs.PageMap.{PageMap, SamePages, in_use}
 use Rattle.rs_pages.specs.Store.{Store}
 use Rattle.rs_pages.specs.Uses.{ReleasesPage}
 use Rattle.rs_pages.proofs.FreeLists.{page_one, free_list_is_shorter_than_the_count}
-use Rattle.rs_pages.proofs.Stores.{SamePages-refl}
+use Rattle.rs_pages.proofs.Stores.{SamePages-refl, used_there}
 use Rattle.rs_records.specs.Records.{records}
 use Rattle.rs_records.proofs.RecordLists.{length-records}
 use Rattle.rs_page_owners.specs.Counts.{one_at, ◌&◌, no_pages}
@@ -37,9 +37,10 @@ use Rattle.rs_tree.specs.declared.node.Node.{Node}
 use Rattle.rs_tree.specs.declared.node.Node.TheVariants.{Leaf, Inner}
 use Rattle.rs_tree.specs.Reading.{HasNoNode}
 use Rattle.rs_tree.specs.Walking.{IsPart, IsEntryOf, AreEntriesOf}
-use Rattle.rs_tree.proofs.Entering.{inner_no_leaf, inner_parts, no_node-no_part as no_part}
+use Rattle.rs_tree.proofs.Entering.{leaf_no_inner, inner_no_leaf, inner_parts, no_node-no_part as no_part}
 use Rattle.rs_tree.proofs.Entries.{part_at}
-use Rattle.rs_tree_whole.proofs.Working.{NotReleased}
+use Rattle.rs_tree.proofs.Loading.{node_fits, node_used}
+use Rattle.rs_page_owners.proofs.Working.{NotReleased}
 use Rattle.rs_tree_whole.specs.Clearing.{ClearedBeside, ClearsPart, ClearsEntries, HasNoOwnPart, HasNoOwnParts, uses_of_all}
 
 -- what is kept of two owners is kept of one
@@ -144,17 +145,6 @@ module _ (form : Form) (old : PageMap) (page : List ℕ) (count : ℕ) where
         (omega (arith, was.reads, small, sum_upto (size_of height) parts index part.0 part.1))
         (shares_same now (no_pages & (uses height part.0 & rest)) (uses height part.0 & rest) (λ n. omega arith) was.moves.shares)
 
-node_fits : (page : List ℕ) (number pages : ℕ) (layout : Layout) (node : Node) → 1 < number → IsNode page number layout node → IsFit page number pages
-node_fits page number pages layout (Leaf count) past is = record { header = tree_header kind.Leaf count number; there = is.0.header; fits = (refl, (past, is.1, refl)) }
-node_fits page number pages layout (Inner count) past is = record { header = tree_header kind.Inner count number; there = is.0.header; fits = (refl, (past, is.1, refl)) }
-
-node_used : (page : List ℕ) (number : ℕ) (layout : Layout) (node : Node) → IsNode page number layout node → is_free page ≡ false
-node_used page number layout (Leaf count) is = rw is.0.header.kind refl
-node_used page number layout (Inner count) is = rw is.0.header.kind refl
-
-used_there : (map : PageMap) (number : ℕ) (page : List ℕ) → map.page number ≡ Some page → is_free page ≡ false → in_use map number ≡ Some page
-used_there map number page there used = rw (there, used) refl
-
 module _ (says : List ℕ → List (List ℕ) → Type 0) (layout : Layout) (old : PageMap) (number : ℕ) (page : List ℕ) where
   abbrev form : Form
   form = form_with says layout
@@ -163,14 +153,6 @@ module _ (says : List ℕ → List (List ℕ) → Type 0) (layout : Layout) (old
   pub record ClearsBelow (now : PageMap) (left left_now : ℕ) : Type 0 where
     pub each : (height : ℕ) (shape : Shape height) (others : ℕ → ℕ) → IsPart form old number height shape → Shares old (uses height shape & others)
         → Shares now (one_at number & others) × Keeps (one_at number & others) old now × (left ≤ left_now + size_of height shape)
-
-  -- a leaf has nothing below
-  leaf_no_inner : (count height : ℕ) (shape : Shape (suc height)) → IsPart form old number (suc height) shape → old.page number ≡ Some page → IsNode page number layout (Leaf count) → ⊥
-  leaf_no_inner count height shape part lent node =
-      let same = page_one old number part.lies.0.page page (subst (λ n. old.page n ≡ Some part.lies.0.page) part.top part.lies.0.there) lent in
-      let header = header_is_one page (tree_header kind.Leaf count number) (tree_header kind.Inner (length (map (child_of height) shape.parts)) shape.page) node.0.header
-      (subst (λ p. IsHeader p (tree_header kind.Inner (length (map (child_of height) shape.parts)) shape.page)) same part.lies.0.inner.has.header) in
-      let wrong : kind.Leaf ≡ kind.Inner = ap (λ (h : PageHeader). h.kind) header in cc
 
   same_keeps : (now : PageMap) (others : ℕ → ℕ) → SamePages now old → Keeps others old now
   same_keeps now others same = record {
@@ -195,7 +177,7 @@ module _ (says : List ℕ → List (List ℕ) → Type 0) (layout : Layout) (old
       same_keeps now (one_at number & others) same,
       omega arith,
     )
-    at (suc height) shape others part shares = absurd (leaf_no_inner count height shape part lent node)
+    at (suc height) shape others part shares = absurd (leaf_no_inner says layout old number page count height shape part lent node)
 
   module _ (mid : PageMap) (count left left_mid : ℕ) (lent : old.page number ≡ Some page) (node : IsNode page number layout (Inner count)) (same : SamePages mid old) (counted : left ≡ left_mid + 1) where
     top_shares : (height : ℕ) (shape : Shape (suc height)) (others : ℕ → ℕ) → IsPart form old number (suc height) shape → Shares old (uses (suc height) shape & others)

@@ -7,4 +7,3 @@ pub mod Reaching
 pub mod Sizes
 pub mod Uniques
 pub mod Freeing
-pub mod Working

@@ -16,25 +16,10 @@ use Rattle.rs_tree.specs.Content.{SaysChild, Child, content, tree_header}
 use Rattle.rs_tree.specs.Shape.{Shape, Lies, LeafLies, InnerLies, page_of, cells_of, uses, child_of}
 use Rattle.rs_tree.specs.Tree.{IsTree}
 use Rattle.rs_tree.proofs.Below.{ascends_first, ascends_last}
-use Rattle.rs_tree.proofs.Ones.{tree_has_its_cells, tree_has_its_pages}
+use Rattle.rs_tree.proofs.Ones.{leaf_apart, same_header, same_page, tree_has_its_cells, tree_has_its_pages}
 use Rattle.rs_tree_whole.specs.Checking.{uses_of}
 
-leaf_not_inner : kind.Leaf ≡ kind.Inner → ⊥
-leaf_not_inner e = cc
-
 module _ (form : Form) (pages : PageMap) where
-  same_page : (one other : ℕ) (a b : List ℕ) → one ≡ other → pages.page one ≡ Some a → pages.page other ≡ Some b → a ≡ b
-  same_page one other a b same first second = page_one pages other a b (subst (λ n. pages.page n ≡ Some a) same first) second
-
-  same_header : (a b : List ℕ) (one other : PageHeader) → a ≡ b → IsHeader a one → IsHeader b other → one ≡ other
-  same_header a b one other same first second = header_is_one b one other (subst (λ p. IsHeader p one) same first) second
-
-  leaf_apart : (number other : ℕ) (cells : List (List ℕ)) (children : List Child) → number ≡ other → LeafLies form pages number cells → InnerLies form pages other children → ⊥
-  leaf_apart number other cells children same leaf inner =
-      let page = same_page number other leaf.page inner.page same leaf.there inner.there in
-      let header = same_header leaf.page inner.page (tree_header kind.Leaf (length cells) number) (tree_header kind.Inner (length children) other) page leaf.leaf.has.header inner.inner.has.header in
-      leaf_not_inner (ap (λ (h : PageHeader). h.kind) header)
-
   -- parts that the same entries say have one height, if there are some and each has
   pub firsts : (height level : ℕ) (entries : List (List ℕ)) (xs : List (Shape height)) (ys : List (Shape level)) → 1 ≤ length xs
       → AllZip (SaysChild form) entries (map (child_of height) xs) → AllZip (SaysChild form) entries (map (child_of level) ys)
@@ -48,11 +33,11 @@ module _ (form : Form) (pages : PageMap) where
 
   pub same_height : (height : ℕ) (one : Shape height) (level : ℕ) (other : Shape level) → Lies form pages height one → Lies form pages level other → page_of height one ≡ page_of level other → height ≡ level
   same_height zero one zero other lies lie top = refl
-  same_height zero one (suc level) other lies lie top = absurd (leaf_apart one.page other.page one.cells (map (child_of level) other.parts) top lies lie.0)
-  same_height (suc height) one zero other lies lie top = absurd (leaf_apart other.page one.page other.cells (map (child_of height) one.parts) (sym top) lie lies.0)
+  same_height zero one (suc level) other lies lie top = absurd (leaf_apart form pages one.page other.page one.cells (map (child_of level) other.parts) top lies lie.0)
+  same_height (suc height) one zero other lies lie top = absurd (leaf_apart form pages other.page one.page other.cells (map (child_of height) one.parts) (sym top) lie lies.0)
   same_height (suc height) one (suc level) other lies lie top =
-      let page = same_page one.page other.page lies.0.page lie.0.page top lies.0.there lie.0.there in
-      let header = same_header lies.0.page lie.0.page (tree_header kind.Inner (length (map (child_of height) one.parts)) one.page) (tree_header kind.Inner (length (map (child_of level) other.parts)) other.page) page lies.0.inner.has.header lie.0.inner.has.header in
+      let page = same_page form pages one.page other.page lies.0.page lie.0.page top lies.0.there lie.0.there in
+      let header = same_header form pages lies.0.page lie.0.page (tree_header kind.Inner (length (map (child_of height) one.parts)) one.page) (tree_header kind.Inner (length (map (child_of level) other.parts)) other.page) page lies.0.inner.has.header lie.0.inner.has.header in
       let count : length (map (child_of height) one.parts) ≡ length (map (child_of level) other.parts) = ap (λ (h : PageHeader). h.count) header in
       let says = subst (λ p. AllZip (SaysChild form) (records (length (map (child_of level) other.parts)) (entry_width form) (content p)) (map (child_of height) one.parts)) page
       (subst (λ n. AllZip (SaysChild form) (records n (entry_width form) (content lies.0.page)) (map (child_of height) one.parts)) count lies.0.inner.entries) in

@@ -1,3 +1,4 @@
+pub mod Calls
 pub mod Bounds
 pub mod Checking
 pub mod Entering

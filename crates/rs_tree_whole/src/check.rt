@@ -4,11 +4,12 @@
 
 ghost use Rattle.std.specs.Prelude.{◌≡◌, ◌⊎◌, ◌<◌, ◌≤◌, ◌+◌, ◌*◌, ◌^◌, IfOk, IfErr, Err, length};
 ghost use Rattle.std.specs.Option.{option_copied};
-ghost use Rattle.rs_pages.specs.Lending.{RestsAfter};
 ghost use Rattle.rs_page_marks.specs.Marks.{taken};
-ghost use Rattle.rs_tree.specs.Form.{form_of, joined};
+ghost use Rattle.rs_tree.specs.Form.{joined};
 ghost use Rattle.rs_tree.specs.Layouts.{entry_bytes};
+ghost use Rattle.rs_tree.specs.Forms.{form_in};
 ghost use Rattle.rs_tree_whole.specs.Checking.{Reaches, HasNoSound, ReachesEntry, HasNoSoundEntry, ReachesEntries, HasNoSoundEntries};
+ghost use Rattle.rs_pages.specs.Calls.{OnlyReads};
 
 use crate::enter::enter;
 use crate::keys::{bound_at, least};
@@ -22,8 +23,15 @@ use rs_refusal::Refusal;
 use rs_tree::entry::{child, summary};
 use rs_tree::{Layout, Node, Summary, content, inner_summary, leaf_summary};
 
+/// What was found of a part: its height, how many cells it has, and their summary.
+#[derive(Clone, Copy)]
+pub struct Checked<S: Summary> {
+    pub height: u32,
+    pub total: u64,
+    pub whole: S,
+}
+
 /// Checks the part with this page at its top, whose cells are to ascend from the first one that is given up to the bound.
-/// Answers its height, the number of its cells and their summary.
 #[cycle(checking)]
 pub fn check_part<P: Pages, S: Summary>(
     pages: &mut P,
@@ -33,18 +41,18 @@ pub fn check_part<P: Pages, S: Summary>(
     first: Option<&[u8]>,
     bound: Option<&[u8]>,
     reached: &mut Reached,
-) -> Result<(u32, u64, S), Refusal>
+) -> Result<Checked<S>, Refusal>
     requires summary { layout.summary ≡ S.WIDTH }
-    ensures rests { RestsAfter P.is_tied P.store P.keeps result pages.old pages.new }
+    ensures rests { OnlyReads P.Pages result pages.old pages.new }
     ensures size { length reached.new ≡ length reached.old }
     ensures few { (P.store pages.old).map.fields.pages < 2 ^ 32 }
-    ensures height { IfOk result (λ part. part.0 ≤ levels) }
+    ensures height { IfOk result (λ part. part.height ≤ levels) }
     ensures reaches { IfOk result (λ part. P.is_tied pages.old → Reaches (joined S.unit S.join S.of)
-        (form_of S.says S.unit S.join S.of layout.summary layout.width) (P.store pages.old).map number
-        (option_copied first.entry) (option_copied bound.entry) (taken reached.old) (taken reached.new) part.0 part.1 part.2) }
+        (form_in S.Summary layout) (P.store pages.old).map number
+        (option_copied first.entry) (option_copied bound.entry) (taken reached.old) (taken reached.new) part.height part.total part.whole) }
     ensures refused { IfErr result (λ why. (why ≡ Refusal.Disk) ⊎ (why ≡ Refusal.DamagedFile)) }
     ensures damaged { result ≡ Err Refusal.DamagedFile → P.is_tied pages.old
-        → HasNoSound (form_of S.says S.unit S.join S.of layout.summary layout.width) (P.store pages.old).map number
+        → HasNoSound (form_in S.Summary layout) (P.store pages.old).map number
         (option_copied first.entry) (option_copied bound.entry) levels (taken reached.old) }
 {
     let loaded = enter(pages, layout, number, reached)?;
@@ -54,7 +62,11 @@ pub fn check_part<P: Pages, S: Summary>(
                 return Err(Refusal::DamagedFile);
             }
             let whole = leaf_summary::<S>(&loaded.page, count, layout);
-            Ok((0, count as u64, whole))
+            Ok(Checked {
+                height: 0,
+                total: count as u64,
+                whole,
+            })
         }
         Node::Inner(count) => {
             if levels == 0 || !begins_with(&loaded.page, count, layout, first) {
@@ -70,7 +82,11 @@ pub fn check_part<P: Pages, S: Summary>(
                 reached,
             )?;
             let whole = inner_summary::<S>(&loaded.page, count, layout);
-            Ok((height + 1, total, whole))
+            Ok(Checked {
+                height: height + 1,
+                total,
+                whole,
+            })
         }
     }
 }
@@ -90,15 +106,15 @@ fn check_entries<P: Pages, S: Summary>(
     requires summary { layout.summary ≡ S.WIDTH }
     requires fit { count * entry_bytes layout ≤ 4080 }
     requires levels { 0 < levels }
-    ensures rests { RestsAfter P.is_tied P.store P.keeps result pages.old pages.new }
+    ensures rests { OnlyReads P.Pages result pages.old pages.new }
     ensures size { length reached.new ≡ length reached.old }
     ensures height { IfOk result (λ parts. parts.0 < levels) }
     ensures reaches { IfOk result (λ parts. P.is_tied pages.old → ReachesEntries
-        (form_of S.says S.unit S.join S.of layout.summary layout.width) (P.store pages.old).map page.now.bytes count count
+        (form_in S.Summary layout) (P.store pages.old).map page.now.bytes count count
         (option_copied bound.entry) (taken reached.old) (taken reached.new) parts.0 parts.1) }
     ensures refused { IfErr result (λ why. (why ≡ Refusal.Disk) ⊎ (why ≡ Refusal.DamagedFile)) }
     ensures damaged { result ≡ Err Refusal.DamagedFile → P.is_tied pages.old
-        → HasNoSoundEntries (form_of S.says S.unit S.join S.of layout.summary layout.width) (P.store pages.old).map
+        → HasNoSoundEntries (form_in S.Summary layout) (P.store pages.old).map
         page.now.bytes count (option_copied bound.entry) levels (taken reached.old) }
 {
     let bytes = content(page);
@@ -130,30 +146,22 @@ fn check_entry<P: Pages, S: Summary>(
     requires summary { layout.summary ≡ S.WIDTH }
     requires entry { length entry.now ≡ entry_bytes layout }
     requires levels { 0 < levels }
-    ensures rests { RestsAfter P.is_tied P.store P.keeps result pages.old pages.new }
+    ensures rests { OnlyReads P.Pages result pages.old pages.new }
     ensures size { length reached.new ≡ length reached.old }
     ensures height { IfOk result (λ part. part.0 < levels) }
     ensures reaches { IfOk result (λ part. P.is_tied pages.old → ReachesEntry
-        (form_of S.says S.unit S.join S.of layout.summary layout.width) (P.store pages.old).map entry.now
+        (form_in S.Summary layout) (P.store pages.old).map entry.now
         (option_copied bound.entry) (taken reached.old) (taken reached.new) part.0 part.1) }
     ensures refused { IfErr result (λ why. (why ≡ Refusal.Disk) ⊎ (why ≡ Refusal.DamagedFile)) }
     ensures damaged { result ≡ Err Refusal.DamagedFile → P.is_tied pages.old
-        → HasNoSoundEntry (form_of S.says S.unit S.join S.of layout.summary layout.width) (P.store pages.old).map entry.now
+        → HasNoSoundEntry (form_in S.Summary layout) (P.store pages.old).map entry.now
         (option_copied bound.entry) levels (taken reached.old) }
 {
     let number = child(entry, layout);
     let first = Some(least(entry, layout));
-    let (height, total, whole) = check_part::<P, S>(
-        pages,
-        layout,
-        number,
-        levels - 1,
-        first,
-        bound,
-        reached,
-    )?;
-    if !says(summary(entry, layout), whole) {
+    let part = check_part::<P, S>(pages, layout, number, levels - 1, first, bound, reached)?;
+    if !says(summary(entry, layout), part.whole) {
         return Err(Refusal::DamagedFile);
     }
-    Ok((height, total))
+    Ok((part.height, part.total))
 }

@@ -2,14 +2,12 @@
 //!
 //! It goes down so many levels at the most and reads so many pages, so that it ends on pages that are no tree.
 
-ghost use Rattle.std.specs.Prelude.{◌≡◌, ◌≢◌, ◌<◌, ◌≤◌, ◌*◌, ℕ, true, List, Err, OnOk, length};
-ghost use Rattle.rs_page_owners.specs.Changes.{WorksAfter};
-ghost use Rattle.rs_page_owners.specs.Counts.{no_pages};
-ghost use Rattle.rs_page_owners.specs.Owners.{Moves};
-ghost use Rattle.rs_tree.specs.Calls.{IsNotShared};
-ghost use Rattle.rs_tree.specs.Form.{form_of};
-ghost use Rattle.rs_tree.specs.Tree.{IsTree};
+ghost use Rattle.std.specs.Prelude.{◌≡◌, ◌≢◌, ◌<◌, ◌≤◌, ◌*◌, true, Err, OnOk};
+ghost use Rattle.rs_page_owners.specs.Calls.{WorksOn};
+ghost use Rattle.rs_tree.specs.Calls.{LeavesTree};
+ghost use Rattle.rs_tree.specs.Forms.{form_in};
 ghost use Rattle.rs_tree.specs.Layouts.{entry_bytes};
+ghost use Rattle.rs_tree_whole.specs.Calls.{Clears};
 ghost use Rattle.rs_tree_whole.specs.Clearing.{ClearsPart, ClearsEntries, HasNoOwnPart, HasNoOwnParts};
 
 use rs_page::{Page, PageNumber};
@@ -28,14 +26,9 @@ pub fn clear<P: Pages, S: Summary>(
     root: PageNumber,
 ) -> Result<(), Refusal>
     requires begun { (P.store pages.old).is_begun ≡ true }
-    ensures keeps { P.keeps pages.old pages.new }
-    ensures works { WorksAfter
-        (P.is_tied pages.old → IsNotShared (form_of S.says S.unit S.join S.of layout.summary layout.width) (P.store pages.old).map root)
-        result (P.store pages.old) (P.store pages.new) }
+    ensures leaves { LeavesTree P.Pages (form_in S.Summary layout) root result pages.old pages.new }
+    ensures clears { Clears P.Pages (form_in S.Summary layout) root result pages.old pages.new }
     ensures room { result ≢ Err Refusal.FileFull }
-    ensures cleared { P.is_tied pages.old → OnOk result ((cells : List (List ℕ)) (used : ℕ → ℕ)
-        → IsTree (form_of S.says S.unit S.join S.of layout.summary layout.width) (P.store pages.old).map root cells used
-        → Moves (P.store pages.old).map (P.store pages.new).map used no_pages) }
 {
     if root.number() == 0 {
         return Ok(());
@@ -55,13 +48,11 @@ fn clear_part<P: Pages, S: Summary>(
 ) -> Result<(), Refusal>
     requires begun { (P.store pages.old).is_begun ≡ true }
     ensures keeps { P.keeps pages.old pages.new }
-    ensures works { WorksAfter
-        (P.is_tied pages.old → HasNoOwnPart (form_of S.says S.unit S.join S.of layout.summary layout.width)
-        (P.store pages.old).map number levels left.old)
-        result (P.store pages.old) (P.store pages.new) }
+    ensures works { WorksOn P.Pages (HasNoOwnPart (form_in S.Summary layout)
+        (P.store pages.old).map number levels left.old) result pages.old pages.new }
     ensures room { result ≢ Err Refusal.FileFull }
     ensures clears { OnOk result (P.is_tied pages.old → ClearsPart
-        (form_of S.says S.unit S.join S.of layout.summary layout.width) (P.store pages.old).map (P.store pages.new).map number
+        (form_in S.Summary layout) (P.store pages.old).map (P.store pages.new).map number
         left.old left.new) }
 {
     let loaded = load(pages, number, layout, left)?;
@@ -91,13 +82,11 @@ fn clear_entries<P: Pages, S: Summary>(
     requires fit { count * entry_bytes layout ≤ 4080 }
     requires levels { 0 < levels }
     ensures keeps { P.keeps pages.old pages.new }
-    ensures works { WorksAfter
-        (P.is_tied pages.old → HasNoOwnParts (form_of S.says S.unit S.join S.of layout.summary layout.width)
-        (P.store pages.old).map page.now.bytes count levels left.old)
-        result (P.store pages.old) (P.store pages.new) }
+    ensures works { WorksOn P.Pages (HasNoOwnParts (form_in S.Summary layout)
+        (P.store pages.old).map page.now.bytes count levels left.old) result pages.old pages.new }
     ensures room { result ≢ Err Refusal.FileFull }
     ensures clears { OnOk result (P.is_tied pages.old → ClearsEntries
-        (form_of S.says S.unit S.join S.of layout.summary layout.width) (P.store pages.old).map (P.store pages.new).map
+        (form_in S.Summary layout) (P.store pages.old).map (P.store pages.new).map
         page.now.bytes count left.old left.new) }
 {
     let bytes = content(page);

@@ -2,9 +2,9 @@
 
 ghost use Rattle.std.specs.Prelude.{◌≡◌, ◌<◌, ◌⊎◌, ◌^◌, ℕ, IfOk, IfErr, OnOk, Err, length};
 ghost use Rattle.rs_page_owners.specs.Counts.{◌&◌, one_at};
-ghost use Rattle.rs_pages.specs.Lending.{RestsAfter};
 ghost use Rattle.rs_page_marks.specs.Marks.{taken};
 ghost use Rattle.rs_tree_whole.specs.Entering.{Enters, HasNoFreshNode};
+ghost use Rattle.rs_pages.specs.Calls.{OnlyReads};
 
 use rs_page::PageNumber;
 use rs_page_marks::Reached;
@@ -20,7 +20,7 @@ pub fn enter<P: Pages>(
     number: PageNumber,
     reached: &mut Reached,
 ) -> Result<Loaded, Refusal>
-    ensures rests { RestsAfter P.is_tied P.store P.keeps result pages.old pages.new }
+    ensures rests { OnlyReads P.Pages result pages.old pages.new }
     ensures size { length reached.new ≡ length reached.old }
     ensures few { (P.store pages.old).map.fields.pages < 2 ^ 32 }
     ensures enters { IfOk result (Enters (P.is_tied pages.old) (P.store pages.old).map number layout) }

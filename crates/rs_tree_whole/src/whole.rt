@@ -1,11 +1,10 @@
 //! The check of a whole tree, from its root.
 
-ghost use Rattle.std.specs.Prelude.{◌≡◌, ◌⊎◌, ℕ, List, IfErr, IfOk, OnOk, Err, length};
-ghost use Rattle.rs_pages.specs.Lending.{RestsAfter};
+ghost use Rattle.std.specs.Prelude.{◌≡◌, length};
+ghost use Rattle.rs_pages.specs.Calls.{OnlyReads};
 ghost use Rattle.rs_page_marks.specs.Marks.{taken};
-ghost use Rattle.rs_tree.specs.Form.{form_of};
-ghost use Rattle.rs_tree.specs.Tree.{IsTree};
-ghost use Rattle.rs_tree_whole.specs.Validating.{Validates, HasNoFreshTree};
+ghost use Rattle.rs_tree.specs.Forms.{form_in};
+ghost use Rattle.rs_tree_whole.specs.Calls.{Checks, RefusesToCheck};
 
 use crate::check::check_part;
 use rs_page::PageNumber;
@@ -16,7 +15,7 @@ use rs_tree::{LEVELS, Layout, Summary};
 
 /// Marks the pages of the tree with this root, and answers how many cells it has, exactly where a well formed tree stands
 /// there none of whose pages was reached before; 94 where none does; 91 where a page couldn't be read. No page changes. What
-/// is marked after a refusal is open. No page is read twice.
+/// is marked after a refusal is unspecified. No page is read twice.
 pub fn validate<P: Pages, S: Summary>(
     pages: &mut P,
     layout: Layout,
@@ -24,21 +23,14 @@ pub fn validate<P: Pages, S: Summary>(
     reached: &mut Reached,
 ) -> Result<u64, Refusal>
     requires summary { layout.summary ≡ S.WIDTH }
-    ensures rests { RestsAfter P.is_tied P.store P.keeps result pages.old pages.new }
+    ensures rests { OnlyReads P.Pages result pages.old pages.new }
     ensures size { length reached.new ≡ length reached.old }
-    ensures validates { P.is_tied pages.old → OnOk result (Validates
-        (form_of S.says S.unit S.join S.of layout.summary layout.width) (P.store pages.old).map root
-        (taken reached.old) (taken reached.new)) }
-    ensures counted { P.is_tied pages.old → IfOk result (λ count. (cells : List (List ℕ)) (used : ℕ → ℕ)
-        → IsTree (form_of S.says S.unit S.join S.of layout.summary layout.width) (P.store pages.old).map root cells used
-        → count ≡ length cells) }
-    ensures refused { IfErr result (λ why. (why ≡ Refusal.Disk) ⊎ (why ≡ Refusal.DamagedFile)) }
-    ensures damaged { P.is_tied pages.old → result ≡ Err Refusal.DamagedFile → HasNoFreshTree
-        (form_of S.says S.unit S.join S.of layout.summary layout.width) (P.store pages.old).map root (taken reached.old) }
+    ensures checks { Checks P.Pages (form_in S.Summary layout) root (taken reached.old) (taken reached.new) result pages.old }
+    ensures refused { RefusesToCheck result }
 {
     if root.number() == 0 {
         return Ok(0);
     }
-    let (_, total, _) = check_part::<P, S>(pages, layout, root, LEVELS, None, None, reached)?;
-    Ok(total)
+    let part = check_part::<P, S>(pages, layout, root, LEVELS, None, None, reached)?;
+    Ok(part.total)
 }

@@ -1,5 +1,5 @@
 -- What changes of cells make of the records that they say.
-use Rattle.std.proofs.Common.{◌≡◌, ◌↔◌, ◌<◌, ◌≤◌, ◌-◌, ◌^◌, ℕ, Bool, true, not, ◌&&◌, leb, min, List, [], ◌++◌, ◌∷◌, IsTrue, length, drop, filter, refl, sym, ap, ◌∙◌, subst, inl, inr, arith}
+use Rattle.std.proofs.Common.{◌≡◌, ◌↔◌, ◌<◌, ◌≤◌, ◌-◌, ◌^◌, ℕ, Bool, true, false, not, ◌&&◌, leb, min, List, [], ◌++◌, ◌∷◌, IsTrue, length, drop, filter, refl, sym, ap, ◌∙◌, subst, inl, inr, arith}
 use Rattle.std.proofs.lemmas.Bool.{and_parts, and_right, cases_lt, eq-eqb, leb-true, lt-leb, ne_eqb}
 use Rattle.std.proofs.lemmas.List.{append_assoc, take-append-drop}
 use Rattle.std.proofs.lemmas.List.Elements.{All-take, filter_passes, recursion_from_All}
@@ -8,16 +8,19 @@ use Rattle.std.specs.List.{AllByRecursion, AllZip, Contains, count_by}
 use Rattle.std.specs.List.Sorted.{IsPermutation}
 use Rattle.rs_page_owners.specs.Counts.{◌&◌}
 use Rattle.rs_page_owners.specs.Owners.{Shares}
-use Rattle.rs_pages.specs.PageMap.{PageMap}
+use Rattle.rs_pages.specs.PageMap.{PageMap, SamePages}
+use Rattle.rs_records.specs.Listed.{listed}
+use Rattle.rs_records.specs.declared.cells.Cells.{Cells}
 use Rattle.rs_records.specs.Order.{Ascends}
 use Rattle.rs_tree.specs.Cells.{with_cell, without_cell}
-use Rattle.rs_tree.specs.Form.{Form}
 use Rattle.rs_cell_versions.specs.Changes.{Ends, cleared, with_end, without_cells}
 use Rattle.rs_cell_versions.specs.Version.{IsDated, born_of, died_of, ended, is_clearable, is_dead, is_living}
-use Rattle.rs_cell_versions.specs.Versioned.{ChangesCells, HoldsCells, Standing}
+use Rattle.rs_cell_versions.specs.Versioned.{ChangesCells, Standing}
 use Rattle.rs_cell_versions.proofs.Among.{among, with_present}
 use Rattle.rs_cell_versions.proofs.Dated.{all_cleared, all_with, dated_ended}
 use Rattle.rs_cell_versions.proofs.Seen.{cleared_count, ended_early, ended_late, without-ascends}
+use Rattle.rs_cell_versions.specs.Calls as cells
+use Rattle.rs_versioned.specs.Calls.{IsAdded, IsCleared, IsEnded, IsVacuumed}
 use Rattle.rs_versioned.specs.Records.{ChangesRecords, HasEnded, WasEnded, HasNone, HasOneMore, HasCleared, HoldsRecords, Kept}
 use Rattle.rs_versioned.proofs.KeptRecords.{IsKept}
 use Rattle.rs_versioned.proofs.Lifting.{cell_there, joins, leave_all, leaves, record_there, zip_all, zip_count}
@@ -60,16 +63,6 @@ clearable_is oldest died cell before is = elim (cases_lt oldest died) [
       let dead : is_dead cell ≡ true = ap not (ne_eqb (died_of cell) (2 ^ 64 - 1) (λ same. omega (arith, before, is, early, same))) in
       ap (λ (b : Bool). b && leb (died_of cell) oldest) dead ∙ ap (λ (n : ℕ). leb n oldest) is
 ]
-
--- it is told whether a cell is there
-abbrev pub TellsCell : Form → PageMap → Standing → List ℕ → Bool → Type 0
-TellsCell form pages standing cell found =
-    (cells : List (List ℕ)) (used others : ℕ → ℕ) → HoldsCells form pages standing cells used → Shares pages (used & others) → (IsTrue found ↔ Contains cells cell)
-
--- it is told whether a cell is new
-abbrev pub TellsNewCell : Form → PageMap → Standing → List ℕ → Bool → Type 0
-TellsNewCell form pages standing cell new =
-    (cells : List (List ℕ)) (used others : ℕ → ℕ) → HoldsCells form pages standing cells used → Shares pages (used & others) → (IsTrue new ↔ (Contains cells cell → ⊥))
 
 -- records that cells say after a change
 record Changed {R : Type 0} (says : List ℕ → R → Type 0) (cells : List (List ℕ)) (change : List R → Type 0) : Type 0 where
@@ -126,13 +119,13 @@ module _ {R : Type 0} (kept : Kept R) (laws : IsKept kept) where
       ∙ ap (min most) (zip_count kept.says (is_clearable oldest) (λ one. leb (kept.died one) oldest) (λ cell one says. clearable_is oldest (kept.died one) cell before (laws.died cell one says)) holds.cells records holds.say)
 
   -- it is told whether a record is one of these, where that is told of its cell
-  pub found_record : (pages : PageMap) (standing : Standing) (cell : List ℕ) (one : R) (found : Bool) → kept.says cell one → TellsCell kept.form pages standing cell found
+  pub found_record : (pages : PageMap) (standing : Standing) (cell : List ℕ) (one : R) (found : Bool) → kept.says cell one → cells.TellsOf kept.form pages standing cell found
       → (records : List R) (used others : ℕ → ℕ) (accepted : ℕ) → HoldsRecords kept pages standing accepted records used → Shares pages (used & others) → (IsTrue found ↔ Contains records one)
   found_record pages standing cell one found says tells records used others accepted holds shares =
       let told = tells holds.cells used others holds.holds shares in
       (λ is. record_there kept laws holds.cells records cell one says holds.say (told.0 is), λ there. told.1 (cell_there kept laws holds.cells records cell one says holds.say there))
 
-  pub missed_record : (pages : PageMap) (standing : Standing) (cell : List ℕ) (one : R) (new : Bool) → kept.says cell one → TellsNewCell kept.form pages standing cell new
+  pub missed_record : (pages : PageMap) (standing : Standing) (cell : List ℕ) (one : R) (new : Bool) → kept.says cell one → cells.TellsNew kept.form pages standing cell new
       → (records : List R) (used others : ℕ → ℕ) (accepted : ℕ) → HoldsRecords kept pages standing accepted records used → Shares pages (used & others) → (IsTrue new ↔ (Contains records one → ⊥))
   missed_record pages standing cell one new says tells records used others accepted holds shares =
       let told = tells holds.cells used others holds.holds shares in (
@@ -246,3 +239,32 @@ module _ {R : Type 0} (kept : Kept R) (laws : IsKept kept) (old new : PageMap) (
           changed = refl;
         };
   }
+
+  -- what is said of the records that were added, ended or cleared
+  pub is_added : {T : Type 0} (table now : T) (cell : List ℕ) (one : R) (is_new : Bool) → kept.says cell one → kept.died one ≡ 2 ^ 64 - 1 → ChangesCells kept.form old new was is (with_cell cell)
+      → cells.TellsNew kept.form old was cell is_new → (is_new ≡ false → SamePages new old × (now ≡ table)) → IsAdded kept old new was is table now one is_new
+  is_added table now cell one is_new says lives changes tells rests = record {
+    changes = λ accepted later. adds_record accepted (kept.born one) cell one later says refl lives changes;
+    cells = λ other said. subst (λ (x : List ℕ). ChangesCells kept.form old new was is (with_cell x)) (laws.has_one cell other one says said) changes;
+    tells = missed_record kept laws old was cell one is_new says tells;
+    rests = rests;
+  }
+
+  pub is_ended : (version : ℕ) (cell : List ℕ) (found : Bool) → version < 2 ^ 64 - 1 → Ends kept.form old new was is version cell → cells.TellsOf kept.form old was cell found
+      → IsEnded kept old new was is version cell found
+  is_ended version cell found below ends tells = record {
+    changes = λ accepted one later says. ends_record accepted version cell one later below says ends;
+    ends = ends;
+    tells = λ one says. found_record kept laws old was cell one found says tells;
+  }
+
+  pub is_vacuumed : (oldest most : ℕ) (taken : Cells) → listed taken ≡ cleared oldest most was.dead → ChangesCells kept.form old new was is (without_cells (cleared oldest most was.dead))
+      → IsVacuumed kept old new was is oldest most taken
+  is_vacuumed oldest most taken same changes = record {
+    changes = λ accepted. subst (λ (cells : List (List ℕ)). ChangesRecords kept old new was is accepted accepted (HasCleared kept oldest cells)) (sym same) (clears_records accepted oldest most changes);
+    cells = changes;
+    as_many = λ records used accepted holds before. ap length same ∙ records_cleared kept laws old was accepted oldest most records used holds before;
+  }
+
+  pub is_cleared : ChangesCells kept.form old new was is (λ _. []) → IsCleared kept old new was is
+  is_cleared changes = record { changes = λ accepted. clears_all accepted changes; cells = changes }

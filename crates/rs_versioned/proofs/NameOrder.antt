@@ -4,7 +4,6 @@ use Rattle.std.proofs.lemmas.Bool.{and_parts}
 use Rattle.std.proofs.lemmas.Bool.Decides.{nat_tests}
 use Rattle.std.proofs.lemmas.Cmp.{nat_list_cmp_total, tied_itself}
 use Rattle.std.proofs.lemmas.List.{length-append, length-replicate}
-use Rattle.std.specs.Cmp.{nat_cmp_is}
 use Rattle.std.specs.Cmp.Lexicographic.{slice_cmp}
 use Rattle.std.specs.Int.{w32, w64, to_be_bytes}
 use Rattle.std.specs.List.{AllByRecursion, AllZip}
@@ -18,13 +17,8 @@ use Rattle.rs_records.specs.Order.{Ascends, is_below}
 use Rattle.rs_cell_versions.specs.Versioned.{Standing}
 use Rattle.rs_versioned.specs.Records.{HoldsRecords, is_seen}
 use Rattle.rs_versioned.specs.Referents.{AreInNameOrder, ReferentRecord, SaysReferent, is_referent_of, kept_referents, referents_at}
-use Rattle.rs_versioned.proofs.PrintingOrder.{equal, fronts_cmp, not_more, word_cmp}
-
-less : (x y : ℕ) → x < y → nat_cmp x y ≡ Less
-less x y h = sym (nat_cmp_is x y Less h)
-
-greater : (x y : ℕ) → y < x → nat_cmp x y ≡ Greater
-greater x y h = sym (nat_cmp_is x y Greater h)
+use Rattle.rs_interval.proofs.WordOrder.{equal, greater, less, word_cmp}
+use Rattle.rs_versioned.proofs.PrintingOrder.{fronts_cmp, not_more}
 
 -- names that are filled up with zeros to one length compare as the names do
 filled_cmp : (n m : List ℕ) (i j : ℕ) → AllByRecursion (λ byte. 0 < byte) n → AllByRecursion (λ byte. 0 < byte) m → length n + i ≡ length m + j

@@ -9,10 +9,10 @@ use Rattle.rs_tree.specs.Tree.{IsTree}
 use Rattle.rs_tree.proofs.Lists.{take_next}
 use Rattle.rs_tree_whole.specs.Validating.{HasNoFreshTree, Validates}
 use Rattle.rs_tree_whole.proofs.Joins.{all_push}
-use Rattle.rs_versioned.specs.declared.told.ToldRecords.{ToldRecords}
+use Rattle.rs_cell_versions.specs.declared.told.ToldRecords.{ToldRecords}
 use Rattle.rs_versioned.specs.Opening.{OpensNone, OpensRecords, StandsAs}
 use Rattle.rs_versioned.specs.Records.{Kept}
-use Rattle.rs_cell_versions.specs.Opening.{StandsOtherwise, StandsTold, Told}
+use Rattle.rs_cell_versions.specs.Opening.{StandsOtherwise, StandsTold, Told, told_of}
 use Rattle.rs_cell_versions.specs.Versioned.{Standing}
 use Rattle.rs_cell_versions.proofs.Dated.{all_both, all_kept}
 use Rattle.rs_cell_versions.proofs.Looks.{FindsWithin, below_parted, cells_from, none_below_nothing}
@@ -86,10 +86,6 @@ pub stands_back : (form : Form) (old new : PageMap) → SamePages new old → (t
 stands_back form old new same told dead stands cells used tree =
     let here = stands cells used (tree_same form old new same told.root cells used tree) in
     record { holds = record { tree = tree; living = here.holds.living; dead = here.holds.dead }; garbage = here.garbage; dated = here.dated }
-
--- what is said of a tree of cells of this width
-abbrev pub told_of : ℕ → ToldRecords → Told
-told_of width told = record { width = width; root = told.root; living = told.living; garbage = told.garbage; accepted = told.accepted }
 
 module _ {R : Type 0} (kept : Kept R) (pages : PageMap) (told : ToldRecords) where
   -- where no tree stands in pages of its own, no records do

@@ -1,5 +1,8 @@
+pub mod Calls
+pub mod EventCalls
 pub mod Events
 pub mod Opening
+pub mod ReferentCalls
 pub mod Referents
 pub mod Records
 pub mod Runs

@@ -2,7 +2,7 @@
 use Rattle.std.specs.Prelude.{◌≡◌, ◌≤◌, ℕ, List, length}
 use Rattle.rs_page_owners.specs.Counts.{◌&◌}
 use Rattle.rs_pages.specs.PageMap.{PageMap}
-use Rattle.rs_versioned.specs.declared.told.ToldRecords.{ToldRecords}
+use Rattle.rs_cell_versions.specs.declared.told.ToldRecords.{ToldRecords}
 use Rattle.rs_versioned.specs.Records.{HoldsRecords, Kept}
 use Rattle.rs_cell_versions.specs.Versioned.{Standing}
 

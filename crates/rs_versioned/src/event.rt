@@ -10,8 +10,8 @@ ghost use Rattle.rs_value.specs.declared.column.ColumnType.{ColumnType};
 ghost use Rattle.rs_value.specs.Encoding.{SaysRow, row_width};
 ghost use Rattle.rs_value.specs.Values.{IsRowOf};
 ghost use Rattle.rs_value.specs.View.{row_of};
+ghost use Rattle.rs_versioned.specs.EventCalls.{event_of};
 ghost use Rattle.rs_versioned.specs.Events.{Event, SaysEvent, event_width, span_of};
-ghost use Rattle.rs_cell_versions.specs.declared.cell.TheConstants.{LIVING};
 
 use byteorder::{BigEndian, ByteOrder};
 use rs_cell_versions::LIVING;
@@ -35,8 +35,7 @@ pub fn cell_of(
     born: u64,
 ) -> Result<Vec<u8>, AllocError>
     requires row { IsRowOf schema.now.items (row_of span.now.tuple.value) }
-    ensures says { IfOk result (λ cell. SaysEvent schema.now.items cell.items
-        (record { route = route; lo = span.now.lo; hi = span.now.hi; row = row_of span.now.tuple.value; born = born; died = LIVING })) }
+    ensures says { IfOk result (λ cell. SaysEvent schema.now.items cell.items (event_of route span.now born)) }
 {
     let mut cell = Vec::new(alloc);
     cell.extend_from_slice(&route.to_be_bytes())?;

@@ -1,27 +1,22 @@
-//! The event records of a table, by version.
+//! This module keeps the event records of a table by version.
 //!
 //! Changes are made together or not at all: `commit` keeps them, `abandon` takes them back, and neither takes memory. The
 //! pages are to be committed or abandoned with them.
 
-ghost use Rattle.std.specs.Prelude.{◌≡◌, ◌≢◌, ◌<◌, ◌≤◌, ◌↔◌, ◌*◌, ◌+◌, ℕ, List, [], Contains, IsTrue, IfOk, IfErr, OnOk, OnErr, count_by, false, filter, length, min, nat_le, true, Err};
-ghost use Rattle.std.specs.List.{AllByRecursion, AllZip};
-ghost use Rattle.rs_page_owners.specs.Changes.{WorksAfter};
-ghost use Rattle.rs_page_owners.specs.Counts.{◌&◌, no_pages};
-ghost use Rattle.rs_page_owners.specs.Owners.{Shares};
-ghost use Rattle.rs_pages.specs.Lending.{RestsAfter};
-ghost use Rattle.rs_pages.specs.PageMap.{PageMap, SamePages};
-ghost use Rattle.rs_records.specs.Listed.{listed, record_width};
-ghost use Rattle.rs_tree.specs.Calls.{RefusesToRead};
-ghost use Rattle.rs_tree.specs.Cells.{with_cell};
+ghost use Rattle.std.specs.Prelude.{◌≡◌, ◌≢◌, ◌<◌, ◌≤◌, ◌*◌, ◌+◌, ℕ, [], IsTrue, IfOk, OnOk, length, true, Err};
+ghost use Rattle.rs_page_owners.specs.Counts.{no_pages};
+ghost use Rattle.rs_pages.specs.Calls.{OnlyReads};
+ghost use Rattle.rs_pages.specs.PageMap.{PageMap};
+ghost use Rattle.rs_records.specs.Listed.{record_width};
 ghost use Rattle.rs_value.specs.Values.{IsRowOf};
 ghost use Rattle.rs_value.specs.View.{row_of};
-ghost use Rattle.rs_interval.specs.Finding.{event_form};
-ghost use Rattle.rs_versioned.specs.Events.{Event, SaysEvent, event_width, is_visible, kept_events};
-ghost use Rattle.rs_versioned.specs.Records.{ChangesRecords, HasEnded, HasNone, HasOneMore, HasCleared, HoldsRecords};
-ghost use Rattle.rs_cell_versions.specs.Changes.{Ends, cleared, without_cells};
-ghost use Rattle.rs_cell_versions.specs.Version.{died_of, is_living};
+ghost use Rattle.rs_cell_versions.specs.Version.{HaveDiedBy, is_living};
+ghost use Rattle.rs_cell_versions.specs.Versioned.{nothing_stands};
 ghost use Rattle.rs_cell_versions.specs.declared.cell.TheConstants.{LIVING};
-ghost use Rattle.rs_cell_versions.specs.Versioned.{ChangesCells, HoldsNone, nothing_stands};
+ghost use Rattle.rs_versioned.specs.Calls.{TakesFirst};
+ghost use Rattle.rs_versioned.specs.EventCalls.{Adds, AddsCell, Clears, KeepsTable, Kills, Leaves, RefusesReading, Sees, Vacuums, event_of};
+ghost use Rattle.rs_versioned.specs.Events.{event_width, kept_events};
+ghost use Rattle.rs_versioned.specs.Records.{HoldsRecords};
 
 use crate::event::{EVENT_BYTES, cell_of};
 use crate::seeing::seen_by;
@@ -137,33 +132,29 @@ impl EventTable {
     ) -> Result<bool, Refusal>
         requires begun { (P.store pages.old).is_begun ≡ true }
         requires row { IsRowOf self.old.types (row_of span.now.tuple.value) }
-        ensures keeps { P.keeps pages.old pages.new }
-        ensures works { WorksAfter (P.is_tied pages.old → HoldsNone
-            (event_form (event_width self.old.types)) (P.store pages.old).map self.old.working)
-            result (P.store pages.old) (P.store pages.new) }
-        ensures added { P.is_tied pages.old → OnOk result ((accepted : ℕ) → accepted ≤ version → ChangesRecords
-            (kept_events self.old.types) (P.store pages.old).map (P.store pages.new).map
-            self.old.working self.new.working accepted version (HasOneMore
-            (record { route = route; lo = span.now.lo; hi = span.now.hi; row = row_of span.now.tuple.value; born = version; died = LIVING }))) }
-        ensures inserted { P.is_tied pages.old → OnOk result ((cell : List ℕ)
-            → SaysEvent self.old.types cell (record { route = route; lo = span.now.lo; hi = span.now.hi; row = row_of span.now.tuple.value; born = version; died = LIVING })
-            → ChangesCells (event_form (event_width self.old.types)) (P.store pages.old).map (P.store pages.new).map
-            self.old.working self.new.working (with_cell cell)) }
-        ensures found { P.is_tied pages.old → IfOk result (λ new. (events : List Event) (used others : ℕ → ℕ) (accepted : ℕ)
-            → HoldsRecords (kept_events self.old.types) (P.store pages.old).map self.old.working accepted events used
-            → Shares (P.store pages.old).map (used & others) → (IsTrue new ↔ (Contains events
-            (record { route = route; lo = span.now.lo; hi = span.now.hi; row = row_of span.now.tuple.value; born = version; died = LIVING }) → ⊥))) }
-        ensures rests { P.is_tied pages.old → IfOk result (λ new. new ≡ false
-            → SamePages (P.store pages.new).map (P.store pages.old).map × (self.new ≡ self.old)) }
-        ensures types { self.new.types ≡ self.old.types }
-        ensures committed { self.new.committed ≡ self.old.committed }
+        ensures leaves { Leaves P.Pages self.old result pages.old pages.new }
+        ensures adds { Adds P.Pages self.old self.new (event_of route span.now version) result pages.old pages.new }
+        ensures table { KeepsTable result self.old self.new }
         ensures dead { self.new.working.dead ≡ self.old.working.dead }
-        ensures stays { OnErr result (self.new ≡ self.old) }
     {
         let cell = cell_of(alloc, &self.schema, route, span, version).map_err(
             |_| Refusal::OutOfMemory,
         )?;
-        self.versions.add(pages, &cell)
+        self.add_cell(pages, &cell)
+    }
+
+    /// Puts the event of a cell among the others, as `add` does, and answers as it does. It is refused as `add` is; after a
+    /// refusal the table is as it was, and the working pages are to be abandoned.
+    pub fn add_cell<P: Pages>(&mut self, pages: &mut P, cell: &[u8]) -> Result<bool, Refusal>
+        requires begun { (P.store pages.old).is_begun ≡ true }
+        requires width { length cell.now ≡ event_width self.old.types }
+        requires living { IsTrue (is_living cell.now) }
+        ensures leaves { Leaves P.Pages self.old result pages.old pages.new }
+        ensures adds { AddsCell P.Pages self.old self.new cell.now result pages.old pages.new }
+        ensures table { KeepsTable result self.old self.new }
+        ensures dead { self.new.working.dead ≡ self.old.working.dead }
+    {
+        self.versions.add(pages, cell)
     }
 
     /// Ends a living event at a version, and answers whether it was there: versions before this one see it as they did, and
@@ -180,26 +171,11 @@ impl EventTable {
         requires width { length cell.now ≡ event_width self.old.types }
         requires living { IsTrue (is_living cell.now) }
         requires version { version < LIVING }
-        requires order { AllByRecursion (λ dead. died_of dead ≤ version) self.old.working.dead }
-        ensures keeps { P.keeps pages.old pages.new }
-        ensures works { WorksAfter (P.is_tied pages.old → HoldsNone
-            (event_form (event_width self.old.types)) (P.store pages.old).map self.old.working)
-            result (P.store pages.old) (P.store pages.new) }
-        ensures killed { P.is_tied pages.old → OnOk result ((accepted : ℕ) (event : Event) → accepted ≤ version
-            → SaysEvent self.old.types cell.now event → ChangesRecords
-            (kept_events self.old.types) (P.store pages.old).map (P.store pages.new).map
-            self.old.working self.new.working accepted version (HasEnded (kept_events self.old.types) version event)) }
-        ensures ended { P.is_tied pages.old → OnOk result (Ends
-            (event_form (event_width self.old.types)) (P.store pages.old).map (P.store pages.new).map
-            self.old.working self.new.working version cell.now) }
-        ensures found { P.is_tied pages.old → IfOk result (λ found. (events : List Event) (used others : ℕ → ℕ) (accepted : ℕ)
-            → HoldsRecords (kept_events self.old.types) (P.store pages.old).map self.old.working accepted events used
-            → Shares (P.store pages.old).map (used & others)
-            → (event : Event) → SaysEvent self.old.types cell.now event → (IsTrue found ↔ Contains events event)) }
-        ensures order { AllByRecursion (λ dead. died_of dead ≤ version) self.new.working.dead }
-        ensures types { self.new.types ≡ self.old.types }
-        ensures committed { self.new.committed ≡ self.old.committed }
-        ensures stays { OnErr result (self.new ≡ self.old) }
+        requires order { HaveDiedBy version self.old.working.dead }
+        ensures leaves { Leaves P.Pages self.old result pages.old pages.new }
+        ensures kills { Kills P.Pages self.old self.new version cell.now result pages.old pages.new }
+        ensures table { KeepsTable result self.old self.new }
+        ensures order { HaveDiedBy version self.new.working.dead }
     {
         self.versions.kill(pages, version, cell)
     }
@@ -216,13 +192,10 @@ impl EventTable {
         a: u32,
         b: u32,
     ) -> Result<Cells, Refusal>
-        ensures rests { RestsAfter P.is_tied P.store P.keeps result pages.old pages.new }
+        ensures rests { OnlyReads P.Pages result pages.old pages.new }
         ensures width { IfOk result (λ found. record_width found ≡ event_width self.now.types) }
-        ensures found { P.is_tied pages.old → IfOk result (λ found. (events : List Event) (used : ℕ → ℕ) (accepted : ℕ)
-            → HoldsRecords (kept_events self.now.types) (P.store pages.old).map self.now.working accepted events used
-            → AllZip (SaysEvent self.now.types) (listed found) (filter (is_visible version route a b) events)) }
-        ensures refused { IfErr result (λ why. RefusesToRead (P.is_tied pages.old) (event_form (event_width self.now.types))
-            self.now.working.root why (P.store pages.old) (P.store pages.new)) }
+        ensures found { Sees P.Pages self.now version route a b result pages.old }
+        ensures refused { RefusesReading P.Pages self.now result pages.old pages.new }
     {
         let layout = Layout::new(self.versions.width(), 4);
         let (found, _reads) = overlapping(alloc, pages, layout, self.root(), route, a, b)?;
@@ -243,27 +216,12 @@ impl EventTable {
         most: usize,
     ) -> Result<Cells, Refusal>
         requires begun { (P.store pages.old).is_begun ≡ true }
-        ensures keeps { P.keeps pages.old pages.new }
-        ensures works { WorksAfter (P.is_tied pages.old → HoldsNone
-            (event_form (event_width self.old.types)) (P.store pages.old).map self.old.working)
-            result (P.store pages.old) (P.store pages.new) }
+        ensures leaves { Leaves P.Pages self.old result pages.old pages.new }
+        ensures vacuums { Vacuums P.Pages self.old self.new oldest most result pages.old pages.new }
+        ensures takes { IfOk result (TakesFirst (event_width self.old.types) oldest most self.old.working) }
+        ensures table { KeepsTable result self.old self.new }
+        ensures order { (version : ℕ) → HaveDiedBy version self.old.working.dead → HaveDiedBy version self.new.working.dead }
         ensures room { result ≢ Err Refusal.FileFull }
-        ensures taken { IfOk result (λ taken. listed taken ≡ cleared oldest most self.old.working.dead) }
-        ensures taken_width { IfOk result (λ taken. record_width taken ≡ event_width self.old.types) }
-        ensures vacuumed { P.is_tied pages.old → IfOk result (λ taken. (accepted : ℕ) → ChangesRecords
-            (kept_events self.old.types) (P.store pages.old).map (P.store pages.new).map
-            self.old.working self.new.working accepted accepted (HasCleared (kept_events self.old.types) oldest (listed taken))) }
-        ensures cleared_cells { P.is_tied pages.old → OnOk result (ChangesCells
-            (event_form (event_width self.old.types)) (P.store pages.old).map (P.store pages.new).map
-            self.old.working self.new.working (without_cells (cleared oldest most self.old.working.dead))) }
-        ensures as_many { P.is_tied pages.old → IfOk result (λ taken. (events : List Event) (used : ℕ → ℕ) (accepted : ℕ)
-            → HoldsRecords (kept_events self.old.types) (P.store pages.old).map self.old.working accepted events used
-            → oldest < LIVING → length (listed taken) ≡ min most (count_by (λ event. nat_le event.died oldest) events)) }
-        ensures order { (version : ℕ) → AllByRecursion (λ dead. died_of dead ≤ version) self.old.working.dead
-            → AllByRecursion (λ dead. died_of dead ≤ version) self.new.working.dead }
-        ensures types { self.new.types ≡ self.old.types }
-        ensures committed { self.new.committed ≡ self.old.committed }
-        ensures stays { OnErr result (self.new ≡ self.old) }
     {
         self.versions.vacuum(alloc, pages, oldest, most)
     }
@@ -272,21 +230,11 @@ impl EventTable {
     /// there with pages of their own; after a refusal the table is as it was, and the working pages are to be abandoned.
     pub fn clear<P: Pages>(&mut self, pages: &mut P) -> Result<(), Refusal>
         requires begun { (P.store pages.old).is_begun ≡ true }
-        ensures keeps { P.keeps pages.old pages.new }
-        ensures works { WorksAfter (P.is_tied pages.old → HoldsNone
-            (event_form (event_width self.old.types)) (P.store pages.old).map self.old.working)
-            result (P.store pages.old) (P.store pages.new) }
-        ensures room { result ≢ Err Refusal.FileFull }
-        ensures cleared { P.is_tied pages.old → OnOk result ((accepted : ℕ) → ChangesRecords
-            (kept_events self.old.types) (P.store pages.old).map (P.store pages.new).map
-            self.old.working self.new.working accepted accepted HasNone) }
-        ensures emptied { P.is_tied pages.old → OnOk result (ChangesCells
-            (event_form (event_width self.old.types)) (P.store pages.old).map (P.store pages.new).map
-            self.old.working self.new.working (λ _. [])) }
+        ensures leaves { Leaves P.Pages self.old result pages.old pages.new }
+        ensures clears { Clears P.Pages self.old self.new result pages.old pages.new }
         ensures working { OnOk result (self.new.working ≡ nothing_stands) }
-        ensures types { self.new.types ≡ self.old.types }
-        ensures committed { self.new.committed ≡ self.old.committed }
-        ensures stays { OnErr result (self.new ≡ self.old) }
+        ensures table { KeepsTable result self.old self.new }
+        ensures room { result ≢ Err Refusal.FileFull }
     {
         self.versions.clear(pages)
     }

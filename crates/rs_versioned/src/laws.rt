@@ -1,5 +1,4 @@
-//! What follows of events and referents by version: which facts each version has, and that a change leaves those of the versions
-//! before it.
+//! These laws say which facts each version has, and that a change leaves those of the versions before it.
 
 ghost use Rattle.std.specs.Prelude.{◌≡◌, ◌⊎◌, ◌<◌, ◌≤◌, ◌==◌, ◌∷◌, ◌^◌, ℕ, List, [], Contains, IsPermutation, count_by, filter, length, map, nat_le, not};
 ghost use Rattle.std.specs.List.{AllByRecursion};

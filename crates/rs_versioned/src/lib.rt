@@ -1,4 +1,4 @@
-//! The events and referents of a file by version: who sees which record.
+//! This crate keeps the events and referents of a file by version, and says which version sees which record.
 //!
 //! A record is seen by the versions from its birth on, up to its end. Each table's records lie in a tree of pages of its own.
 #![tactic(auto)]
@@ -11,8 +11,7 @@ pub mod referent;
 pub mod referent_table;
 pub mod run_laws;
 mod seeing;
-pub mod told;
 
 pub use event_table::EventTable;
 pub use referent_table::ReferentTable;
-pub use told::ToldRecords;
+pub use rs_cell_versions::ToldRecords;

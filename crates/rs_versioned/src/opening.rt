@@ -1,21 +1,20 @@
-//! Referents that lie in a file already, checked against what the file says of them.
+//! This module checks referents that lie in a file already against what the file says of them.
 //!
 //! The cells are read part by part, so that no more than one part is in memory at a time: a part ends where the next of the
 //! given routes begins. Whatever routes are given, each cell is in one part.
 
 ghost use Rattle.std.specs.Prelude.{◌≡◌, ◌⊎◌, ◌≤◌, Err, IfOk, IfErr, IsOkUnless, OnErr, OnOk, length};
 ghost use Rattle.std.specs.List.{AllByRecursion};
-ghost use Rattle.rs_pages.specs.Lending.{RestsAfter};
 ghost use Rattle.rs_page_marks.specs.Marks.{taken};
 ghost use Rattle.rs_records.specs.Listed.{listed, record_width};
 ghost use Rattle.rs_versioned.specs.Opening.{OpensNone, OpensRecords};
 ghost use Rattle.rs_versioned.specs.Referents.{ReferentRecord, SaysReferent, kept_referents, referent_width};
-ghost use Rattle.rs_cell_versions.specs.Version.{died_of};
+ghost use Rattle.rs_cell_versions.specs.Version.{HaveDiedBy};
+ghost use Rattle.rs_pages.specs.Calls.{OnlyReads};
 
 use crate::referent::{REFERENT_BYTES, says_referent};
 use crate::referent_table::ReferentTable;
-use crate::told::ToldRecords;
-use rs_cell_versions::Opening;
+use rs_cell_versions::{Opening, ToldRecords};
 use rs_page_marks::Reached;
 use rs_pages::Pages;
 use rs_records::Cells;
@@ -34,13 +33,14 @@ impl ReferentTable {
         routes: &[u32],
         reached: &mut Reached,
     ) -> Result<ReferentTable, Refusal>
-        ensures rests { RestsAfter P.is_tied P.store P.keeps result pages.old pages.new }
+        ensures rests { OnlyReads P.Pages result pages.old pages.new }
         ensures size { length reached.new ≡ length reached.old }
         ensures committed { IfOk result (λ table. table.committed ≡ table.working) }
-        ensures order { IfOk result (λ table. AllByRecursion (λ dead. died_of dead ≤ told.accepted) table.working.dead) }
+        ensures order { IfOk result (λ table. HaveDiedBy told.accepted table.working.dead) }
         ensures opens { P.is_tied pages.old → IfOk result (λ table. OpensRecords kept_referents (P.store pages.old).map told
             table.working (taken reached.old) (taken reached.new)) }
-        ensures refused { IfErr result (λ why. (why ≡ Refusal.OutOfMemory) ⊎ (why ≡ Refusal.Disk) ⊎ (why ≡ Refusal.DamagedFile)) }
+        ensures refused { IfErr result (λ why. (why ≡ Refusal.OutOfMemory) ⊎ (why ≡ Refusal.Disk) ⊎
+            (why ≡ Refusal.DamagedFile)) }
         ensures damaged { P.is_tied pages.old → result ≡ Err Refusal.DamagedFile → OpensNone kept_referents
             (P.store pages.old).map told (taken reached.old) }
     {
@@ -48,10 +48,7 @@ impl ReferentTable {
             alloc,
             pages,
             REFERENT_BYTES,
-            told.root,
-            told.living,
-            told.garbage,
-            told.accepted,
+            &told,
             reached,
         )?;
         for route in routes {
@@ -70,8 +67,10 @@ impl ReferentTable {
 /// Ok where each of the cells says a referent; 94 where one says none.
 fn check_referents(cells: &Cells) -> Result<(), Refusal>
     requires width { record_width cells.now ≡ referent_width }
-    ensures say { OnOk result (AllByRecursion (λ cell. (referent : ReferentRecord) × SaysReferent cell referent) (listed cells.now)) }
-    ensures none { OnErr result (AllByRecursion (λ cell. (referent : ReferentRecord) × SaysReferent cell referent) (listed cells.now) → ⊥) }
+    ensures say { OnOk result (AllByRecursion (λ cell. (referent : ReferentRecord) × SaysReferent cell referent)
+        (listed cells.now)) }
+    ensures none { OnErr result (AllByRecursion (λ cell. (referent : ReferentRecord) × SaysReferent cell referent)
+        (listed cells.now) → ⊥) }
     ensures refused { IsOkUnless result Refusal.DamagedFile }
 {
     for place in 0..cells.len() {

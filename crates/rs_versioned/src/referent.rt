@@ -6,8 +6,8 @@
 ghost use Rattle.std.specs.Prelude.{◌≡◌, ◌<◌, ◌==◌, ◌↔◌, IfOk, IsTrue, length, replicate};
 ghost use Rattle.std.specs.Int.{w32, to_be_bytes};
 ghost use Rattle.std.specs.List.{AllByRecursion, position_or_len};
+ghost use Rattle.rs_versioned.specs.ReferentCalls.{record_of};
 ghost use Rattle.rs_versioned.specs.Referents.{ReferentRecord, SaysReferent, referent_width};
-ghost use Rattle.rs_cell_versions.specs.declared.cell.TheConstants.{LIVING};
 
 use byteorder::{BigEndian, ByteOrder};
 use rs_cell_versions::LIVING;
@@ -29,8 +29,7 @@ const MEASURE_AT: usize = 44;
 /// The cell of a living referent.
 pub fn cell_of(alloc: Global, referent: &Referent, born: u64) -> Result<Vec<u8>, AllocError>
     requires name { AllByRecursion (λ byte. 0 < byte) referent.now.name.bytes }
-    ensures says { IfOk result (λ cell. SaysReferent cell.items
-        (record { route = referent.now.route; name = referent.now.name.bytes; measure = referent.now.measure; born = born; died = LIVING })) }
+    ensures says { IfOk result (λ cell. SaysReferent cell.items (record_of referent.now born)) }
 {
     let mut cell = Vec::new(alloc);
     cell.extend_from_slice(&referent.route.to_be_bytes())?;

@@ -1,24 +1,21 @@
-//! The referent records of a file, by version.
+//! This module keeps the referent records of a file by version.
 //!
 //! Changes are made together or not at all: `commit` keeps them, `abandon` takes them back, and neither takes memory. The
 //! pages are to be committed or abandoned with them.
 
-ghost use Rattle.std.specs.Prelude.{◌≡◌, ◌≢◌, ◌<◌, ◌≤◌, ◌↔◌, ◌+◌, ◌^◌, ℕ, List, [], Contains, IsTrue, IfOk, IfErr, OnOk, OnErr, count_by, false, filter, length, min, nat_le, true, Err};
-ghost use Rattle.std.specs.List.{AllByRecursion, AllZip};
-ghost use Rattle.rs_page_owners.specs.Changes.{WorksAfter};
-ghost use Rattle.rs_page_owners.specs.Counts.{◌&◌, no_pages};
-ghost use Rattle.rs_page_owners.specs.Owners.{Shares};
-ghost use Rattle.rs_pages.specs.Lending.{RestsAfter};
-ghost use Rattle.rs_pages.specs.PageMap.{PageMap, SamePages};
-ghost use Rattle.rs_records.specs.Listed.{listed, record_width};
-ghost use Rattle.rs_tree.specs.Calls.{RefusesToRead};
-ghost use Rattle.rs_tree.specs.Cells.{with_cell};
-ghost use Rattle.rs_versioned.specs.Referents.{ReferentRecord, SaysReferent, is_referent_of, kept_referents, referent_form, referent_width};
-ghost use Rattle.rs_versioned.specs.Records.{ChangesRecords, HasEnded, HasNone, HasOneMore, HasCleared, HoldsRecords};
-ghost use Rattle.rs_cell_versions.specs.Changes.{Ends, cleared, without_cells};
-ghost use Rattle.rs_cell_versions.specs.Version.{died_of, is_living};
+ghost use Rattle.std.specs.Prelude.{◌≡◌, ◌≢◌, ◌<◌, ◌+◌, ◌^◌, ℕ, [], IsTrue, IfOk, OnOk, length, true, Err};
+ghost use Rattle.std.specs.List.{AllByRecursion};
+ghost use Rattle.rs_page_owners.specs.Counts.{no_pages};
+ghost use Rattle.rs_pages.specs.Calls.{OnlyReads};
+ghost use Rattle.rs_pages.specs.PageMap.{PageMap};
+ghost use Rattle.rs_records.specs.Listed.{record_width};
+ghost use Rattle.rs_cell_versions.specs.Version.{HaveDiedBy, is_living};
+ghost use Rattle.rs_cell_versions.specs.Versioned.{nothing_stands};
 ghost use Rattle.rs_cell_versions.specs.declared.cell.TheConstants.{LIVING};
-ghost use Rattle.rs_cell_versions.specs.Versioned.{ChangesCells, HoldsNone, nothing_stands};
+ghost use Rattle.rs_versioned.specs.Calls.{TakesFirst};
+ghost use Rattle.rs_versioned.specs.ReferentCalls.{Adds, Clears, KeepsTable, Kills, Leaves, RefusesReading, Sees, Vacuums, record_of};
+ghost use Rattle.rs_versioned.specs.Referents.{kept_referents, referent_width};
+ghost use Rattle.rs_versioned.specs.Records.{HoldsRecords};
 
 use crate::referent::{REFERENT_BYTES, beginning, cell_of};
 use crate::seeing::seen_by;
@@ -108,26 +105,10 @@ impl ReferentTable {
     ) -> Result<bool, Refusal>
         requires begun { (P.store pages.old).is_begun ≡ true }
         requires name { AllByRecursion (λ byte. 0 < byte) referent.now.name.bytes }
-        ensures keeps { P.keeps pages.old pages.new }
-        ensures works { WorksAfter (P.is_tied pages.old → HoldsNone
-            referent_form (P.store pages.old).map self.old.working)
-            result (P.store pages.old) (P.store pages.new) }
-        ensures added { P.is_tied pages.old → OnOk result ((accepted : ℕ) → accepted ≤ version → ChangesRecords
-            kept_referents (P.store pages.old).map (P.store pages.new).map
-            self.old.working self.new.working accepted version (HasOneMore
-            (record { route = referent.now.route; name = referent.now.name.bytes; measure = referent.now.measure; born = version; died = LIVING }))) }
-        ensures inserted { P.is_tied pages.old → OnOk result ((cell : List ℕ) → SaysReferent cell (record { route = referent.now.route; name = referent.now.name.bytes; measure = referent.now.measure; born = version; died = LIVING })
-            → ChangesCells referent_form (P.store pages.old).map (P.store pages.new).map
-            self.old.working self.new.working (with_cell cell)) }
-        ensures found { P.is_tied pages.old → IfOk result (λ new. (referents : List ReferentRecord) (used others : ℕ → ℕ) (accepted : ℕ)
-            → HoldsRecords kept_referents (P.store pages.old).map self.old.working accepted referents used
-            → Shares (P.store pages.old).map (used & others) → (IsTrue new ↔ (Contains referents
-            (record { route = referent.now.route; name = referent.now.name.bytes; measure = referent.now.measure; born = version; died = LIVING }) → ⊥))) }
-        ensures rests { P.is_tied pages.old → IfOk result (λ new. new ≡ false
-            → SamePages (P.store pages.new).map (P.store pages.old).map × (self.new ≡ self.old)) }
-        ensures committed { self.new.committed ≡ self.old.committed }
+        ensures leaves { Leaves P.Pages self.old result pages.old pages.new }
+        ensures adds { Adds P.Pages self.old self.new (record_of referent.now version) result pages.old pages.new }
+        ensures table { KeepsTable result self.old self.new }
         ensures dead { self.new.working.dead ≡ self.old.working.dead }
-        ensures stays { OnErr result (self.new ≡ self.old) }
     {
         let cell = cell_of(alloc, referent, version).map_err(|_| Refusal::OutOfMemory)?;
         self.versions.add(pages, &cell)
@@ -147,25 +128,11 @@ impl ReferentTable {
         requires width { length cell.now ≡ referent_width }
         requires living { IsTrue (is_living cell.now) }
         requires version { version < LIVING }
-        requires order { AllByRecursion (λ dead. died_of dead ≤ version) self.old.working.dead }
-        ensures keeps { P.keeps pages.old pages.new }
-        ensures works { WorksAfter (P.is_tied pages.old → HoldsNone
-            referent_form (P.store pages.old).map self.old.working)
-            result (P.store pages.old) (P.store pages.new) }
-        ensures killed { P.is_tied pages.old → OnOk result ((accepted : ℕ) (referent : ReferentRecord) → accepted ≤ version
-            → SaysReferent cell.now referent → ChangesRecords
-            kept_referents (P.store pages.old).map (P.store pages.new).map
-            self.old.working self.new.working accepted version (HasEnded kept_referents version referent)) }
-        ensures ended { P.is_tied pages.old → OnOk result (Ends
-            referent_form (P.store pages.old).map (P.store pages.new).map
-            self.old.working self.new.working version cell.now) }
-        ensures found { P.is_tied pages.old → IfOk result (λ found. (referents : List ReferentRecord) (used others : ℕ → ℕ) (accepted : ℕ)
-            → HoldsRecords kept_referents (P.store pages.old).map self.old.working accepted referents used
-            → Shares (P.store pages.old).map (used & others)
-            → (referent : ReferentRecord) → SaysReferent cell.now referent → (IsTrue found ↔ Contains referents referent)) }
-        ensures order { AllByRecursion (λ dead. died_of dead ≤ version) self.new.working.dead }
-        ensures committed { self.new.committed ≡ self.old.committed }
-        ensures stays { OnErr result (self.new ≡ self.old) }
+        requires order { HaveDiedBy version self.old.working.dead }
+        ensures leaves { Leaves P.Pages self.old result pages.old pages.new }
+        ensures kills { Kills P.Pages self.old self.new version cell.now result pages.old pages.new }
+        ensures table { KeepsTable result self.old self.new }
+        ensures order { HaveDiedBy version self.new.working.dead }
     {
         self.versions.kill(pages, version, cell)
     }
@@ -181,13 +148,10 @@ impl ReferentTable {
         route: u32,
     ) -> Result<Cells, Refusal>
         requires route { route + 1 < 2 ^ 32 }
-        ensures rests { RestsAfter P.is_tied P.store P.keeps result pages.old pages.new }
+        ensures rests { OnlyReads P.Pages result pages.old pages.new }
         ensures width { IfOk result (λ found. record_width found ≡ referent_width) }
-        ensures found { P.is_tied pages.old → IfOk result (λ found. (referents : List ReferentRecord) (used : ℕ → ℕ) (accepted : ℕ)
-            → HoldsRecords kept_referents (P.store pages.old).map self.now.working accepted referents used
-            → AllZip SaysReferent (listed found) (filter (is_referent_of version route) referents)) }
-        ensures refused { IfErr result (λ why. RefusesToRead (P.is_tied pages.old) referent_form
-            self.now.working.root why (P.store pages.old) (P.store pages.new)) }
+        ensures found { Sees P.Pages self.now version route result pages.old }
+        ensures refused { RefusesReading P.Pages self.now result pages.old pages.new }
     {
         let layout = Layout::new(self.versions.width(), 0);
         let low = beginning(route);
@@ -210,26 +174,12 @@ impl ReferentTable {
         most: usize,
     ) -> Result<Cells, Refusal>
         requires begun { (P.store pages.old).is_begun ≡ true }
-        ensures keeps { P.keeps pages.old pages.new }
-        ensures works { WorksAfter (P.is_tied pages.old → HoldsNone
-            referent_form (P.store pages.old).map self.old.working)
-            result (P.store pages.old) (P.store pages.new) }
+        ensures leaves { Leaves P.Pages self.old result pages.old pages.new }
+        ensures vacuums { Vacuums P.Pages self.old self.new oldest most result pages.old pages.new }
+        ensures takes { IfOk result (TakesFirst referent_width oldest most self.old.working) }
+        ensures table { KeepsTable result self.old self.new }
+        ensures order { (version : ℕ) → HaveDiedBy version self.old.working.dead → HaveDiedBy version self.new.working.dead }
         ensures room { result ≢ Err Refusal.FileFull }
-        ensures taken { IfOk result (λ taken. listed taken ≡ cleared oldest most self.old.working.dead) }
-        ensures taken_width { IfOk result (λ taken. record_width taken ≡ referent_width) }
-        ensures vacuumed { P.is_tied pages.old → IfOk result (λ taken. (accepted : ℕ) → ChangesRecords
-            kept_referents (P.store pages.old).map (P.store pages.new).map
-            self.old.working self.new.working accepted accepted (HasCleared kept_referents oldest (listed taken))) }
-        ensures cleared_cells { P.is_tied pages.old → OnOk result (ChangesCells
-            referent_form (P.store pages.old).map (P.store pages.new).map
-            self.old.working self.new.working (without_cells (cleared oldest most self.old.working.dead))) }
-        ensures as_many { P.is_tied pages.old → IfOk result (λ taken. (referents : List ReferentRecord) (used : ℕ → ℕ) (accepted : ℕ)
-            → HoldsRecords kept_referents (P.store pages.old).map self.old.working accepted referents used
-            → oldest < LIVING → length (listed taken) ≡ min most (count_by (λ referent. nat_le referent.died oldest) referents)) }
-        ensures order { (version : ℕ) → AllByRecursion (λ dead. died_of dead ≤ version) self.old.working.dead
-            → AllByRecursion (λ dead. died_of dead ≤ version) self.new.working.dead }
-        ensures committed { self.new.committed ≡ self.old.committed }
-        ensures stays { OnErr result (self.new ≡ self.old) }
     {
         self.versions.vacuum(alloc, pages, oldest, most)
     }
@@ -238,20 +188,11 @@ impl ReferentTable {
     /// there with pages of their own; after a refusal the table is as it was, and the working pages are to be abandoned.
     pub fn clear<P: Pages>(&mut self, pages: &mut P) -> Result<(), Refusal>
         requires begun { (P.store pages.old).is_begun ≡ true }
-        ensures keeps { P.keeps pages.old pages.new }
-        ensures works { WorksAfter (P.is_tied pages.old → HoldsNone
-            referent_form (P.store pages.old).map self.old.working)
-            result (P.store pages.old) (P.store pages.new) }
-        ensures room { result ≢ Err Refusal.FileFull }
-        ensures cleared { P.is_tied pages.old → OnOk result ((accepted : ℕ) → ChangesRecords
-            kept_referents (P.store pages.old).map (P.store pages.new).map
-            self.old.working self.new.working accepted accepted HasNone) }
-        ensures emptied { P.is_tied pages.old → OnOk result (ChangesCells
-            referent_form (P.store pages.old).map (P.store pages.new).map
-            self.old.working self.new.working (λ _. [])) }
+        ensures leaves { Leaves P.Pages self.old result pages.old pages.new }
+        ensures clears { Clears P.Pages self.old self.new result pages.old pages.new }
         ensures working { OnOk result (self.new.working ≡ nothing_stands) }
-        ensures committed { self.new.committed ≡ self.old.committed }
-        ensures stays { OnErr result (self.new ≡ self.old) }
+        ensures table { KeepsTable result self.old self.new }
+        ensures room { result ≢ Err Refusal.FileFull }
     {
         self.versions.clear(pages)
     }

@@ -1,4 +1,4 @@
-//! What follows of the runs of a table's versions: which changes leave each version just the maximal runs of its facts.
+//! These laws say which changes leave each version of a table just the maximal runs of its facts.
 //!
 //! They carry `AreRunsFrom` through a whole command, which changes one route at the version after the one that was accepted last.
 

@@ -8,7 +8,7 @@ use Rattle.rs_attr.specs.Tables.{IndexState}
 use Rattle.rs_attr.proofs.PartsChecked.{entered_next, no_part_at}
 use Rattle.rs_refusal.specs.declared.refusal.Refusal.TheVariants as refusal
 use Rattle.rs_records.specs.Listed.{listed}
-use Rattle.rs_tree.proofs.Resting.{rests_none, rests_then}
+use Rattle.rs_pages.proofs.Resting.{rests_none, rests_then}
 use Rattle.rs_attr.proofs.opening.check_part.Goals as goal
 
 pub loop-index-init : goal.loop-index-init

@@ -1,21 +1,27 @@
 -- The trees, then the cells route by route, and at last those that are left.
-use Rattle.std.proofs.Common.{◌≡◌, ◌≤◌, ◌∙◌, ◌+◌, ℕ, Ok, Err, List, not, sym, ap, subst}
+use Rattle.std.proofs.Common.{◌≡◌, ◌≤◌, ◌∙◌, ◌+◌, ℕ, Result, Ok, Err, List, not, sym, ap, subst}
 use Rattle.std.proofs.lemmas.Result.{err_from_is_err_and}
 use Rattle.std.specs.List.{AllByRecursion}
-use Rattle.rs_attr.specs.Opening.{OpensTable}
+use Rattle.rs_attr.specs.Calls.{IsFound}
+use Rattle.rs_attr.specs.Opening.{OpensNoTable, OpensTable}
+use Rattle.rs_attr.specs.Tables.{IndexState}
 use Rattle.rs_attr.proofs.Opened.{below_all, below_next, below_none, found_back, no_fresh_table, no_indexes_table, no_part_table, no_told_table, opens_table, otherwise_as, passed_as, passed_then, stands_back, told_so}
 use Rattle.rs_attr.proofs.PartsChecked.{no_part_back, part_back}
 use Rattle.rs_interval.specs.Finding.{event_form}
+use Rattle.rs_refusal.specs.declared.refusal.Refusal.{Refusal}
 use Rattle.rs_refusal.specs.declared.refusal.Refusal.TheVariants as refusal
+use Rattle.rs_pages.specs.PageMap.{PageMap}
+use Rattle.rs_value.specs.declared.column.ColumnType.{ColumnType}
 use Rattle.rs_page_marks.specs.Marks.{taken}
 use Rattle.rs_records.specs.Listed.{listed}
 use Rattle.rs_records.specs.Order.{is_below}
 use Rattle.rs_tree.specs.Cells.{cells_within, is_within}
 use Rattle.rs_tree_whole.specs.Validating.{HasNoFreshTree, Validates}
-use Rattle.rs_tree.proofs.Resting.{rests_then}
+use Rattle.rs_pages.proofs.Resting.{rests_then}
+use Rattle.rs_cell_versions.specs.declared.told.ToldRecords.{ToldRecords}
+use Rattle.rs_versioned.specs.Tables.{EventTableState}
 use Rattle.rs_versioned.specs.Events.{event_width}
-use Rattle.rs_versioned.proofs.Opened.{told_of}
-use Rattle.rs_cell_versions.specs.Opening.{Told}
+use Rattle.rs_cell_versions.specs.Opening.{Told, told_of}
 use Rattle.rs_cell_versions.specs.Version.{died_of}
 use Rattle.rs_cell_versions.specs.Versioned.{Standing}
 use Rattle.rs_cell_versions.proofs.Looks.{cells_from, passed_same}
@@ -23,27 +29,35 @@ use Rattle.rs_cell_versions.proofs.Refusing.{rests_err, rests_ok}
 use Rattle.rs_attr.proofs.opening.open.Goals.{then-not-is_past+in_ok-cells+in_ok-check_part, else-not-is_past}
 use Rattle.rs_attr.proofs.opening.open.Goals as goal
 
-pub returns-in_err-opening-clause-damaged : goal.returns-in_err-opening-clause-damaged
-returns-in_err-opening-clause-damaged g c = λ tied is.
+-- a refusal opens no table
+refused_open : {types : List ColumnType} {pages : PageMap} {told : ToldRecords} {indexes : List IndexState} {before after : ℕ → ℕ} (result : Result EventTableState Refusal) (why : Refusal)
+    → result ≡ Err why → (result ≡ Err refusal.DamagedFile → OpensNoTable types pages told indexes before) → IsFound types pages told indexes before after result
+refused_open (Ok table) why same damaged = let clash : Ok table ≡ Err why = same in absurd (cc)
+refused_open (Err other) why same damaged = record { opens = tt; damaged = damaged }
+
+pub returns-in_err-opening-clause-opens : goal.returns-in_err-opening-clause-opens
+returns-in_err-opening-clause-opens g c = λ tied.
     let old = (g.P.Pages.store c.args.pages.now).map in
     let width : c.row_width-width.result + 28 ≡ event_width c.args.schema.items = ap (λ (n : ℕ). n + 28) c.row_width-width.ensures in
     let p = err_from_is_err_and c.from_residual.result c.from_residual.ensures.1 in
+    refused_open c.from_residual.result p.0 p.1 (λ is.
     let why : c.in_err-opening.field-0.0 ≡ refusal.DamagedFile = cc (p.1, p.2, is) in
     no_fresh_table c.args.schema.items old c.args.indexes.now c.args.told (taken c.args.reached.now)
-    (subst (λ (w : ℕ). HasNoFreshTree (event_form w) old c.args.told.root (taken c.args.reached.now)) width (c.in_err-opening.ensures.damaged tied (ap Err why)))
+    (subst (λ (w : ℕ). HasNoFreshTree (event_form w) old c.args.told.root (taken c.args.reached.now)) width (c.in_err-opening.ensures.damaged tied (ap Err why))))
 
-pub returns-in_err-reach_indexes-clause-damaged : goal.returns-in_err-reach_indexes-clause-damaged
-returns-in_err-reach_indexes-clause-damaged g c = λ tied is.
+pub returns-in_err-reach_indexes-clause-opens : goal.returns-in_err-reach_indexes-clause-opens
+returns-in_err-reach_indexes-clause-opens g c = λ tied.
     let old = (g.P.Pages.store c.args.pages.now).map in
     let mid = (g.P.Pages.store c.begin.new.pages).map in
     let width : c.row_width-width.result + 28 ≡ event_width c.args.schema.items = ap (λ (n : ℕ). n + 28) c.row_width-width.ensures in
     let later = g.met.P.Pages.keeps_tied c.args.pages.now c.begin.new.pages c.in_ok-opening.ensures.rests.below tied in
     let same = c.in_ok-opening.ensures.rests.rests.keeps.pages tied in
     let p = err_from_is_err_and c.from_residual-in_err-reach_indexes.result c.from_residual-in_err-reach_indexes.ensures.1 in
+    refused_open c.from_residual-in_err-reach_indexes.result p.0 p.1 (λ is.
     let why : c.in_err-reach_indexes.field-0.0 ≡ refusal.DamagedFile = cc (p.1, p.2, is) in
     no_indexes_table c.args.schema.items old c.args.indexes.now c.args.told (taken c.args.reached.now) mid same (taken c.begin.new.reached)
     (subst (λ (w : ℕ). Validates (event_form w) old c.args.told.root (taken c.args.reached.now) (taken c.begin.new.reached)) width (c.in_ok-opening.ensures.validates tied))
-    (c.in_err-reach_indexes.ensures.damaged later (ap Err why))
+    (c.in_err-reach_indexes.ensures.damaged later (ap Err why)))
 
 pub loop-route-init : goal.loop-route-init
 loop-route-init g c =
@@ -63,18 +77,19 @@ returns-in_err-cells-clause-rests g c =
     (rests_then g.P.Pages.is_tied g.P.Pages.store g.P.Pages.keeps tt (Err c.in_err-cells.field-0.0) c.args.pages.now c.loop-route.pages c.part.new.pages g.met.P.Pages.keeps_trans g.met.P.Pages.keeps_tied
     c.loop-route.invariant.rests c.in_err-cells.ensures.rests))
 
-pub returns-in_err-cells-clause-damaged : goal.returns-in_err-cells-clause-damaged
-returns-in_err-cells-clause-damaged g c = λ tied is.
+pub returns-in_err-cells-clause-opens : goal.returns-in_err-cells-clause-opens
+returns-in_err-cells-clause-opens g c = λ tied.
     let old = (g.P.Pages.store c.args.pages.now).map in
     let mid = (g.P.Pages.store c.loop-route.pages).map in
     let opening = c.loop-route.opening in
     let later = g.met.P.Pages.keeps_tied c.args.pages.now c.loop-route.pages c.loop-route.invariant.rests.below tied in
     let same = c.loop-route.invariant.rests.rests.keeps.pages tied in
     let p = err_from_is_err_and c.from_residual-in_err-cells.result c.from_residual-in_err-cells.ensures.1 in
+    refused_open c.from_residual-in_err-cells.result p.0 p.1 (λ is.
     let why : c.in_err-cells.field-0.0 ≡ refusal.DamagedFile = cc (p.1, p.2, is) in
     no_told_table c.args.schema.items old c.args.indexes.now c.args.told (taken c.args.reached.now)
     (otherwise_as old mid same opening.told (told_of (event_width c.args.schema.items) c.args.told) c.loop-route.invariant.told
-    (c.in_err-cells.ensures.damaged later (ap Err why) (passed_same (event_form opening.told.width) old mid same opening (c.loop-route.invariant.passed tied))))
+    (c.in_err-cells.ensures.damaged later (ap Err why) (passed_same (event_form opening.told.width) old mid same opening (c.loop-route.invariant.passed tied)))))
 
 pub check_part-requires-clause-width : goal.check_part-requires-clause-width
 check_part-requires-clause-width g c = c.in_ok-cells.ensures.width ∙ ap (λ (t : Told). t.width) c.loop-route.invariant.told
@@ -88,8 +103,8 @@ returns-in_err-check_part-clause-rests g c =
     (rests_then g.P.Pages.is_tied g.P.Pages.store g.P.Pages.keeps c.in_ok-cells.cells (Err c.in_err-check_part.field-0.0) c.loop-route.pages c.part.new.pages c.check_part.new.pages g.met.P.Pages.keeps_trans
     g.met.P.Pages.keeps_tied c.in_ok-cells.ensures.rests c.in_err-check_part.ensures.rests)))
 
-pub returns-in_err-check_part-clause-damaged : goal.returns-in_err-check_part-clause-damaged
-returns-in_err-check_part-clause-damaged g c = λ tied is.
+pub returns-in_err-check_part-clause-opens : goal.returns-in_err-check_part-clause-opens
+returns-in_err-check_part-clause-opens g c = λ tied.
     let old = (g.P.Pages.store c.args.pages.now).map in
     let mid = (g.P.Pages.store c.loop-route.pages).map in
     let last = (g.P.Pages.store c.part.new.pages).map in
@@ -99,12 +114,13 @@ returns-in_err-check_part-clause-damaged g c = λ tied is.
     let upto = rests_then g.P.Pages.is_tied g.P.Pages.store g.P.Pages.keeps tt (Ok c.in_ok-cells.cells) c.args.pages.now c.loop-route.pages c.part.new.pages g.met.P.Pages.keeps_trans g.met.P.Pages.keeps_tied
     c.loop-route.invariant.rests c.in_ok-cells.ensures.rests in
     let p = err_from_is_err_and c.from_residual-in_err-check_part.result c.from_residual-in_err-check_part.ensures.1 in
-    let why : c.in_err-check_part.field-0.0 ≡ refusal.DamagedFile = cc (p.1, p.2, is) in
     let high : List ℕ = c.to_be_bytes-high.result in
+    refused_open c.from_residual-in_err-check_part.result p.0 p.1 (λ is.
+    let why : c.in_err-check_part.field-0.0 ≡ refusal.DamagedFile = cc (p.1, p.2, is) in
     no_part_table c.args.schema.items old c.args.indexes.now c.args.told (taken c.args.reached.now) (is_within opening.low high) (listed c.in_ok-cells.cells)
     (found_back old mid same opening.told (told_of (event_width c.args.schema.items) c.args.told) c.loop-route.invariant.told (cells_within opening.low high) (listed c.in_ok-cells.cells) (c.in_ok-cells.ensures.found later))
     (no_part_back old last (upto.rests.keeps.pages tied) c.args.schema.items c.args.indexes.now (listed c.in_ok-cells.cells)
-    (c.in_err-check_part.ensures.damaged (g.met.P.Pages.keeps_tied c.args.pages.now c.part.new.pages upto.below tied) (ap Err why)))
+    (c.in_err-check_part.ensures.damaged (g.met.P.Pages.keeps_tied c.args.pages.now c.part.new.pages upto.below tied) (ap Err why))))
 
 pub loop-route-preserved : goal.loop-route-preserved
 loop-route-preserved g c =
@@ -145,18 +161,19 @@ returns-in_err-versions-clause-rests g c =
     (rests_then g.P.Pages.is_tied g.P.Pages.store g.P.Pages.keeps tt (Err c.in_err-versions.field-0.0) c.args.pages.now c.loop-route.pages c.finish.new.pages g.met.P.Pages.keeps_trans g.met.P.Pages.keeps_tied
     c.loop-route.invariant.rests c.in_err-versions.ensures.rests))
 
-pub returns-in_err-versions-clause-damaged : goal.returns-in_err-versions-clause-damaged
-returns-in_err-versions-clause-damaged g c = λ tied is.
+pub returns-in_err-versions-clause-opens : goal.returns-in_err-versions-clause-opens
+returns-in_err-versions-clause-opens g c = λ tied.
     let old = (g.P.Pages.store c.args.pages.now).map in
     let mid = (g.P.Pages.store c.loop-route.pages).map in
     let opening = c.loop-route.opening in
     let later = g.met.P.Pages.keeps_tied c.args.pages.now c.loop-route.pages c.loop-route.invariant.rests.below tied in
     let same = c.loop-route.invariant.rests.rests.keeps.pages tied in
     let p = err_from_is_err_and c.from_residual-in_err-versions.result c.from_residual-in_err-versions.ensures.1 in
+    refused_open c.from_residual-in_err-versions.result p.0 p.1 (λ is.
     let why : c.in_err-versions.field-0.0 ≡ refusal.DamagedFile = cc (p.1, p.2, is) in
     no_told_table c.args.schema.items old c.args.indexes.now c.args.told (taken c.args.reached.now)
     (otherwise_as old mid same opening.told (told_of (event_width c.args.schema.items) c.args.told) c.loop-route.invariant.told
-    (c.in_err-versions.ensures.damaged later (ap Err why) (passed_same (event_form opening.told.width) old mid same opening (c.loop-route.invariant.passed tied))))
+    (c.in_err-versions.ensures.damaged later (ap Err why) (passed_same (event_form opening.told.width) old mid same opening (c.loop-route.invariant.passed tied)))))
 
 pub check_part-requires-2-clause-width : goal.check_part-requires-2-clause-width
 check_part-requires-2-clause-width g c = c.in_ok-versions.ensures.left_width ∙ ap (λ (t : Told). t.width) c.loop-route.invariant.told
@@ -170,8 +187,8 @@ returns-in_err-check_part-2-clause-rests g c =
     (rests_then g.P.Pages.is_tied g.P.Pages.store g.P.Pages.keeps (c.in_ok-versions.versions, c.in_ok-versions.left) (Err c.in_err-check_part-2.field-0.0) c.loop-route.pages c.finish.new.pages c.check_part-2.new.pages
     g.met.P.Pages.keeps_trans g.met.P.Pages.keeps_tied c.in_ok-versions.ensures.rests c.in_err-check_part-2.ensures.rests)))
 
-pub returns-in_err-check_part-2-clause-damaged : goal.returns-in_err-check_part-2-clause-damaged
-returns-in_err-check_part-2-clause-damaged g c = λ tied is.
+pub returns-in_err-check_part-2-clause-opens : goal.returns-in_err-check_part-2-clause-opens
+returns-in_err-check_part-2-clause-opens g c = λ tied.
     let old = (g.P.Pages.store c.args.pages.now).map in
     let mid = (g.P.Pages.store c.loop-route.pages).map in
     let last = (g.P.Pages.store c.finish.new.pages).map in
@@ -181,11 +198,12 @@ returns-in_err-check_part-2-clause-damaged g c = λ tied is.
     let upto = rests_then g.P.Pages.is_tied g.P.Pages.store g.P.Pages.keeps tt (Ok (c.in_ok-versions.versions, c.in_ok-versions.left)) c.args.pages.now c.loop-route.pages c.finish.new.pages g.met.P.Pages.keeps_trans
     g.met.P.Pages.keeps_tied c.loop-route.invariant.rests c.in_ok-versions.ensures.rests in
     let p = err_from_is_err_and c.from_residual-in_err-check_part-2.result c.from_residual-in_err-check_part-2.ensures.1 in
+    refused_open c.from_residual-in_err-check_part-2.result p.0 p.1 (λ is.
     let why : c.in_err-check_part-2.field-0.0 ≡ refusal.DamagedFile = cc (p.1, p.2, is) in
     no_part_table c.args.schema.items old c.args.indexes.now c.args.told (taken c.args.reached.now) (λ (cell : List ℕ). not (is_below cell opening.low)) (listed c.in_ok-versions.left)
     (found_back old mid same opening.told (told_of (event_width c.args.schema.items) c.args.told) c.loop-route.invariant.told (cells_from opening.low) (listed c.in_ok-versions.left) (c.in_ok-versions.ensures.left later))
     (no_part_back old last (upto.rests.keeps.pages tied) c.args.schema.items c.args.indexes.now (listed c.in_ok-versions.left)
-    (c.in_err-check_part-2.ensures.damaged (g.met.P.Pages.keeps_tied c.args.pages.now c.finish.new.pages upto.below tied) (ap Err why)))
+    (c.in_err-check_part-2.ensures.damaged (g.met.P.Pages.keeps_tied c.args.pages.now c.finish.new.pages upto.below tied) (ap Err why))))
 
 pub with-requires : goal.with-requires
 with-requires g c = record { width = c.in_ok-versions.ensures.width ∙ ap (λ (t : Told). t.width) c.loop-route.invariant.told }
@@ -198,10 +216,13 @@ returns-clause-rests g c =
     (rests_then g.P.Pages.is_tied g.P.Pages.store g.P.Pages.keeps (c.in_ok-versions.versions, c.in_ok-versions.left) (Ok tt) c.loop-route.pages c.finish.new.pages c.check_part-2.new.pages
     g.met.P.Pages.keeps_trans g.met.P.Pages.keeps_tied c.in_ok-versions.ensures.rests c.in_ok-check_part-2.ensures.rests))
 
-pub returns-clause-order : goal.returns-clause-order
-returns-clause-order g c =
-    subst (λ (s : Standing). AllByRecursion (λ dead. died_of dead ≤ c.args.told.accepted) s.dead) (sym c.with.ensures.working)
-    (subst (λ (t : Told). AllByRecursion (λ dead. died_of dead ≤ t.accepted) c.in_ok-versions.versions.working.dead) c.loop-route.invariant.told c.in_ok-versions.ensures.order)
+pub returns-clause-table : goal.returns-clause-table
+returns-clause-table g c = record {
+  types = c.with.ensures.types;
+  committed = c.with.ensures.committed ∙ c.in_ok-versions.ensures.committed ∙ sym c.with.ensures.working;
+  order = subst (λ (s : Standing). AllByRecursion (λ dead. died_of dead ≤ c.args.told.accepted) s.dead) (sym c.with.ensures.working)
+      (subst (λ (t : Told). AllByRecursion (λ dead. died_of dead ≤ t.accepted) c.in_ok-versions.versions.working.dead) c.loop-route.invariant.told c.in_ok-versions.ensures.order);
+}
 
 pub returns-clause-opens : goal.returns-clause-opens
 returns-clause-opens g c = λ tied.
@@ -220,19 +241,22 @@ returns-clause-opens g c = λ tied.
     let upto = rests_then g.P.Pages.is_tied g.P.Pages.store g.P.Pages.keeps tt (Ok (c.in_ok-versions.versions, c.in_ok-versions.left)) c.args.pages.now c.loop-route.pages c.finish.new.pages g.met.P.Pages.keeps_trans
     g.met.P.Pages.keeps_tied c.loop-route.invariant.rests c.in_ok-versions.ensures.rests in
     let versions = c.in_ok-versions.versions in
-    subst (λ (s : Standing). OpensTable types old told s c.args.indexes.now (taken c.args.reached.now) (taken c.reach_indexes.new.reached)) (sym c.with.ensures.working)
-    (opens_table types old c.args.indexes.now told (taken c.args.reached.now) first (c.in_ok-opening.ensures.rests.rests.keeps.pages tied) (taken c.begin.new.reached)
-    (subst (λ (w : ℕ). Validates (event_form w) old told.root (taken c.args.reached.now) (taken c.begin.new.reached)) width (c.in_ok-opening.ensures.validates tied))
-    versions.working (taken c.reach_indexes.new.reached) c.requires.indexes
-    (record {
-      root = c.in_ok-versions.ensures.root ∙ ap (λ (t : Told). t.root) said;
-      living = c.in_ok-versions.ensures.living ∙ ap (λ (t : Told). t.living) said;
-      garbage = c.in_ok-versions.ensures.garbage ∙ ap (λ (t : Told). t.garbage) said;
-    })
-    (c.in_ok-reach_indexes.ensures.reaches begun)
-    (stands_back old mid same opening.told (told_of (event_width types) told) said versions.working.dead
-    (c.in_ok-versions.ensures.stands later (passed_same (event_form opening.told.width) old mid same opening (c.loop-route.invariant.passed tied))))
-    (below_all types old c.args.indexes.now told opening.low (listed c.in_ok-versions.left) (c.loop-route.invariant.below tied)
-    (found_back old mid same opening.told (told_of (event_width types) told) said (cells_from opening.low) (listed c.in_ok-versions.left) (c.in_ok-versions.ensures.left later))
-    (part_back old last (upto.rests.keeps.pages tied) types c.args.indexes.now (listed c.in_ok-versions.left)
-    (c.in_ok-check_part-2.ensures.part (g.met.P.Pages.keeps_tied c.args.pages.now c.finish.new.pages upto.below tied)))))
+    record {
+      opens = subst (λ (s : Standing). OpensTable types old told s c.args.indexes.now (taken c.args.reached.now) (taken c.reach_indexes.new.reached)) (sym c.with.ensures.working)
+          (opens_table types old c.args.indexes.now told (taken c.args.reached.now) first (c.in_ok-opening.ensures.rests.rests.keeps.pages tied) (taken c.begin.new.reached)
+          (subst (λ (w : ℕ). Validates (event_form w) old told.root (taken c.args.reached.now) (taken c.begin.new.reached)) width (c.in_ok-opening.ensures.validates tied))
+          versions.working (taken c.reach_indexes.new.reached) c.requires.indexes
+          (record {
+            root = c.in_ok-versions.ensures.root ∙ ap (λ (t : Told). t.root) said;
+            living = c.in_ok-versions.ensures.living ∙ ap (λ (t : Told). t.living) said;
+            garbage = c.in_ok-versions.ensures.garbage ∙ ap (λ (t : Told). t.garbage) said;
+          })
+          (c.in_ok-reach_indexes.ensures.reaches begun)
+          (stands_back old mid same opening.told (told_of (event_width types) told) said versions.working.dead
+          (c.in_ok-versions.ensures.stands later (passed_same (event_form opening.told.width) old mid same opening (c.loop-route.invariant.passed tied))))
+          (below_all types old c.args.indexes.now told opening.low (listed c.in_ok-versions.left) (c.loop-route.invariant.below tied)
+          (found_back old mid same opening.told (told_of (event_width types) told) said (cells_from opening.low) (listed c.in_ok-versions.left) (c.in_ok-versions.ensures.left later))
+          (part_back old last (upto.rests.keeps.pages tied) types c.args.indexes.now (listed c.in_ok-versions.left)
+          (c.in_ok-check_part-2.ensures.part (g.met.P.Pages.keeps_tied c.args.pages.now c.finish.new.pages upto.below tied)))));
+      damaged = λ is. absurd (cc);
+    }

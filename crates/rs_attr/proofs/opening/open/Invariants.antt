@@ -4,8 +4,7 @@ use Rattle.rs_attr.proofs.Opened.{IsPartBelow}
 use Rattle.rs_interval.specs.Finding.{event_form}
 use Rattle.rs_pages.specs.Lending.{RestsAfter}
 use Rattle.rs_versioned.specs.Events.{event_width}
-use Rattle.rs_versioned.proofs.Opened.{told_of}
-use Rattle.rs_cell_versions.specs.Opening.{HasPassed}
+use Rattle.rs_cell_versions.specs.Opening.{HasPassed, told_of}
 use Rattle.rs_attr.proofs.opening.open.Given as goal
 
 abbrev pub invariant-loop-route : goal.invariant-loop-route

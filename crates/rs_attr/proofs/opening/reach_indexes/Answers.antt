@@ -11,7 +11,7 @@ use Rattle.rs_attr.specs.Tables.{IndexState}
 use Rattle.rs_attr.proofs.Counted.{reaches_missing, reaches_next, reaches_none, reaches_other, sum_is, sum_isnt}
 use Rattle.rs_refusal.specs.declared.refusal.Refusal.TheVariants as refusal
 use Rattle.rs_page_marks.specs.Marks.{taken}
-use Rattle.rs_tree.proofs.Resting.{rests_none, rests_then}
+use Rattle.rs_pages.proofs.Resting.{rests_none, rests_then}
 use Rattle.rs_cell_versions.proofs.Refusing.{rests_err, rests_ok, rests_refused}
 use Rattle.rs_attr.proofs.opening.reach_indexes.Goals as goal
 
@@ -40,7 +40,7 @@ returns-in_err-entries-clause-damaged g c = λ tied is.
     let why : c.in_err-entries.field-0.0 ≡ refusal.DamagedFile = cc (p.1, p.2, is) in
     reaches_missing (g.P.Pages.store c.args.pages.now).map (g.P.Pages.store c.loop-index.pages).map same c.args.indexes.now (c.args.told.living + c.args.told.garbage) c.loop-index.index-index c.index-item.result
     (slice_get_read c.args.indexes.now (length c.args.indexes.now) c.loop-index.index-index c.index-item.result refl c.loop-index-test.true c.index-item.is)
-    (taken c.args.reached.now) (taken c.loop-index.reached) (c.loop-index.invariant.reaches tied) (c.in_err-entries.ensures.damaged later (ap Err why))
+    (taken c.args.reached.now) (taken c.loop-index.reached) (c.loop-index.invariant.reaches tied) ((c.in_err-entries.ensures.checks later).damaged (ap Err why))
 
 pub returns-then-ne-clause-rests : goal.returns-then-ne-clause-rests
 returns-then-ne-clause-rests g c =
@@ -59,7 +59,7 @@ returns-then-ne-clause-damaged g c = λ tied is.
     sum_isnt c.checked_add.result (c.args.told.living + c.args.told.garbage) c.in_ok-entries.entries c.checked_add.ensures (omega arith) (not-true (option_eq eqb c.checked_add.result (Some c.in_ok-entries.entries)) (sym c.ne.ensures ∙ c.if-ne.true)) in
     reaches_other (g.P.Pages.store c.args.pages.now).map (g.P.Pages.store c.loop-index.pages).map same c.args.indexes.now (c.args.told.living + c.args.told.garbage) c.loop-index.index-index c.index-item.result
     (slice_get_read c.args.indexes.now (length c.args.indexes.now) c.loop-index.index-index c.index-item.result refl c.loop-index-test.true c.index-item.is)
-    (taken c.args.reached.now) c.in_ok-entries.entries (c.in_ok-entries.ensures.counted later) other
+    (taken c.args.reached.now) c.in_ok-entries.entries (record { each = (c.in_ok-entries.ensures.checks later).counted }) other
 
 pub loop-index-preserved : goal.loop-index-preserved
 loop-index-preserved g c = record {
@@ -77,7 +77,7 @@ loop-index-preserved g c = record {
       subst (λ (n : ℕ). ReachesIndexes (g.P.Pages.store c.args.pages.now).map (take n c.args.indexes.now) (c.args.told.living + c.args.told.garbage) (taken c.args.reached.now) (taken c.validate.new.reached)) next
       (reaches_next (g.P.Pages.store c.args.pages.now).map (g.P.Pages.store c.loop-index.pages).map same c.args.indexes.now (c.args.told.living + c.args.told.garbage) c.loop-index.index-index c.index-item.result
       (slice_get_read c.args.indexes.now (length c.args.indexes.now) c.loop-index.index-index c.index-item.result refl c.loop-index-test.true c.index-item.is)
-      (taken c.args.reached.now) (taken c.loop-index.reached) (taken c.validate.new.reached) c.in_ok-entries.entries (c.loop-index.invariant.reaches tied) (c.in_ok-entries.ensures.validates later) (c.in_ok-entries.ensures.counted later) so);
+      (taken c.args.reached.now) (taken c.loop-index.reached) (taken c.validate.new.reached) c.in_ok-entries.entries (c.loop-index.invariant.reaches tied) (c.in_ok-entries.ensures.checks later).validates (record { each = (c.in_ok-entries.ensures.checks later).counted }) so);
 }
 
 pub returns-clause-rests : goal.returns-clause-rests

@@ -7,7 +7,8 @@ use Rattle.rs_attr.proofs.Tabled.{alone_among, become_as, changes_then, ends_bec
 use Rattle.rs_attr.proofs.Together.{AreOf, still_of}
 use Rattle.rs_interval.specs.Finding.{event_form}
 use Rattle.rs_tree.specs.Cells.{with_cell, without_cell}
-use Rattle.rs_tree_whole.proofs.Working.{CountsNothing-refl, CountsNothing-trans, Works-refl, Works-trans, works_err}
+use Rattle.rs_page_owners.proofs.Working.{CountsNothing-refl, CountsNothing-trans, Works-refl, Works-trans}
+use Rattle.rs_page_owners.proofs.Following.{works_err}
 use Rattle.rs_versioned.specs.Events.{event_width, kept_events}
 use Rattle.rs_versioned.specs.Records.{HasEnded}
 use Rattle.rs_cell_versions.specs.Changes.{with_end}
@@ -18,117 +19,132 @@ use Rattle.rs_cell_versions.proofs.Seen.{ended_early, ended_late}
 use Rattle.rs_attr.proofs.table.kill.Goals as goal
 use Rattle.rs_attr.proofs.table.kill.Goals.{else-found-via-then-found+else-not-is_empty, else-found-via-else-found}
 
-pub returns-in_err-found-clause-works : goal.returns-in_err-found-clause-works
-returns-in_err-found-clause-works g c =
+pub returns-in_err-found-clause-leaves : goal.returns-in_err-found-clause-leaves
+returns-in_err-found-clause-leaves g c =
     let types = c.args.table.now.types in
     let old = (g.P.Pages.store c.args.pages.now).map in
     let p = err_from_is_err_and c.from_residual.result c.from_residual.ensures.1 in
-    rw (p.1, p.2) (works_err (g.P.Pages.is_tied c.args.pages.now → HoldsNoTable types old c.args.table.now.working c.args.indexes.now)
-    (g.P.Pages.is_tied c.args.pages.now → HoldsNone (event_form (event_width types)) old c.args.table.now.working) c.in_err-found.field-0.0
-    (g.P.Pages.store c.args.pages.now) (g.P.Pages.store c.args.pages.now) (g.P.Pages.store c.kill.new.pages) (Works-refl (g.P.Pages.store c.args.pages.now)) (CountsNothing-refl (g.P.Pages.store c.args.pages.now))
-    (λ none tied. no_table types old c.args.table.now.working c.args.indexes.now (none tied)) c.in_err-found.ensures.works)
+    record {
+      keeps = c.in_err-found.ensures.leaves.keeps;
+      works = rw (p.1, p.2) (works_err (g.P.Pages.is_tied c.args.pages.now → HoldsNoTable types old c.args.table.now.working c.args.indexes.now)
+          (g.P.Pages.is_tied c.args.pages.now → HoldsNone (event_form (event_width types)) old c.args.table.now.working) c.in_err-found.field-0.0
+          (g.P.Pages.store c.args.pages.now) (g.P.Pages.store c.args.pages.now) (g.P.Pages.store c.kill.new.pages) (Works-refl (g.P.Pages.store c.args.pages.now)) (CountsNothing-refl (g.P.Pages.store c.args.pages.now))
+          (λ none tied. no_table types old c.args.table.now.working c.args.indexes.now (none tied)) c.in_err-found.ensures.leaves.works);
+    }
 
-pub take_out_of_each-requires-clause-width : goal.take_out_of_each-requires-clause-width
-take_out_of_each-requires-clause-width g c = subst (λ (n : ℕ). AreOf n c.args.indexes.now) (sym c.requires.width) c.requires.indexes
+pub change_each-requires-clause-width : goal.change_each-requires-clause-width
+change_each-requires-clause-width g c = subst (λ (n : ℕ). AreOf n c.args.indexes.now) (sym c.requires.width) c.requires.indexes
 
-pub returns-in_err-take_out_of_each-clause-works : goal.returns-in_err-take_out_of_each-clause-works
-returns-in_err-take_out_of_each-clause-works g c =
+pub returns-in_err-change_each-clause-leaves : goal.returns-in_err-change_each-clause-leaves
+returns-in_err-change_each-clause-leaves g c =
     let types = c.args.table.now.types in
     let was = c.args.table.now.working in
     let old = (g.P.Pages.store c.args.pages.now).map in
     let mid = (g.P.Pages.store c.kill.new.pages).map in
     let cell = c.args.cell.now in
-    let p = err_from_is_err_and c.from_residual-in_err-take_out_of_each.result c.from_residual-in_err-take_out_of_each.ensures.1 in
-    rw (p.1, p.2) (works_err (g.P.Pages.is_tied c.args.pages.now → HoldsNoTable types old was c.args.indexes.now)
-    (g.P.Pages.is_tied c.kill.new.pages → HoldNoIndexes mid c.args.indexes.now (length cell)) c.in_err-take_out_of_each.field-0.0
-    (g.P.Pages.store c.args.pages.now) (g.P.Pages.store c.kill.new.pages) (g.P.Pages.store c.take_out_of_each.new.pages) c.in_ok-found.ensures.works.works c.in_ok-found.ensures.works.ends
-    (λ none tied. no_table_before types old was c.args.indexes.now mid (ends_move types old mid was c.kill.new.self.working c.args.version cell (c.in_ok-found.ensures.ended tied))
-    (subst (HoldNoIndexes mid c.args.indexes.now) c.requires.width (none (g.met.P.Pages.keeps_tied c.args.pages.now c.kill.new.pages c.in_ok-found.ensures.keeps tied))))
-    c.in_err-take_out_of_each.ensures.works)
+    let p = err_from_is_err_and c.from_residual-in_err-change_each.result c.from_residual-in_err-change_each.ensures.1 in
+    record {
+      keeps = g.met.P.Pages.keeps_trans c.args.pages.now c.kill.new.pages c.change_each.new.pages c.in_ok-found.ensures.leaves.keeps c.in_err-change_each.ensures.leaves.keeps;
+      works = rw (p.1, p.2) (works_err (g.P.Pages.is_tied c.args.pages.now → HoldsNoTable types old was c.args.indexes.now)
+          (g.P.Pages.is_tied c.kill.new.pages → HoldNoIndexes mid c.args.indexes.now (length cell)) c.in_err-change_each.field-0.0
+          (g.P.Pages.store c.args.pages.now) (g.P.Pages.store c.kill.new.pages) (g.P.Pages.store c.change_each.new.pages) c.in_ok-found.ensures.leaves.works.works c.in_ok-found.ensures.leaves.works.ends
+          (λ none tied. no_table_before types old was c.args.indexes.now mid (ends_move types old mid was c.kill.new.self.working c.args.version cell (c.in_ok-found.ensures.kills tied).ends)
+          (subst (HoldNoIndexes mid c.args.indexes.now) c.requires.width (none (g.met.P.Pages.keeps_tied c.args.pages.now c.kill.new.pages c.in_ok-found.ensures.leaves.keeps tied))))
+          c.in_err-change_each.ensures.leaves.works);
+    }
 
-pub put_into_each-requires-clause-width : goal.put_into_each-requires-clause-width
-put_into_each-requires-clause-width g c =
+pub change_each-requires-then-born_of-version-clause-width : goal.change_each-requires-then-born_of-version-clause-width
+change_each-requires-then-born_of-version-clause-width g c =
     let cell = c.args.cell.now in
     let wide : length c.deref.result.now ≡ event_width c.args.table.now.types =
     ap length (c.deref.ensures.value ∙ c.in_ok-ended.ensures.ended) ∙ length-ended c.args.version cell (omega (arith, c.requires.width)) ∙ c.requires.width in
-    subst (λ (n : ℕ). AreOf n c.take_out_of_each.new.indexes) (sym wide) (still_of (event_width c.args.table.now.types) c.args.indexes.now c.take_out_of_each.new.indexes c.in_ok-take_out_of_each.ensures.kept c.requires.indexes)
+    subst (λ (n : ℕ). AreOf n c.change_each.new.indexes) (sym wide) (still_of (event_width c.args.table.now.types) c.args.indexes.now c.change_each.new.indexes c.in_ok-change_each.ensures.kept c.requires.indexes)
 
-pub returns-in_err-put_into_each-clause-works : goal.returns-in_err-put_into_each-clause-works
-returns-in_err-put_into_each-clause-works g c =
+pub returns-in_err-change_each-2-clause-leaves : goal.returns-in_err-change_each-2-clause-leaves
+returns-in_err-change_each-2-clause-leaves g c =
     let types = c.args.table.now.types in
     let was = c.args.table.now.working in
     let old = (g.P.Pages.store c.args.pages.now).map in
     let mid = (g.P.Pages.store c.kill.new.pages).map in
-    let next = (g.P.Pages.store c.take_out_of_each.new.pages).map in
+    let next = (g.P.Pages.store c.change_each.new.pages).map in
     let cell = c.args.cell.now in
     let last = c.deref.result.now in
     let wide : length last ≡ event_width types =
     ap length (c.deref.ensures.value ∙ c.in_ok-ended.ensures.ended) ∙ length-ended c.args.version cell (omega (arith, c.requires.width)) ∙ c.requires.width in
-    let p = err_from_is_err_and c.from_residual-in_err-put_into_each.result c.from_residual-in_err-put_into_each.ensures.1 in
-    rw (p.1, p.2) (works_err (g.P.Pages.is_tied c.args.pages.now → HoldsNoTable types old was c.args.indexes.now)
-    (g.P.Pages.is_tied c.take_out_of_each.new.pages → HoldNoIndexes next c.take_out_of_each.new.indexes (length last)) c.in_err-put_into_each.field-0.0
-    (g.P.Pages.store c.args.pages.now) (g.P.Pages.store c.take_out_of_each.new.pages) (g.P.Pages.store c.put_into_each.new.pages)
-    (Works-trans (g.P.Pages.store c.args.pages.now) (g.P.Pages.store c.kill.new.pages) (g.P.Pages.store c.take_out_of_each.new.pages) c.in_ok-found.ensures.works.works c.in_ok-take_out_of_each.ensures.works.works)
-    (CountsNothing-trans (g.P.Pages.store c.args.pages.now) (g.P.Pages.store c.kill.new.pages) (g.P.Pages.store c.take_out_of_each.new.pages) c.in_ok-found.ensures.works.ends c.in_ok-take_out_of_each.ensures.works.ends)
-    (λ none tied.
-    let tied_mid = g.met.P.Pages.keeps_tied c.args.pages.now c.kill.new.pages c.in_ok-found.ensures.keeps tied in
-    let tied_next = g.met.P.Pages.keeps_tied c.kill.new.pages c.take_out_of_each.new.pages c.in_ok-take_out_of_each.ensures.keeps tied_mid in
-    no_table_before types old was c.args.indexes.now mid (ends_move types old mid was c.kill.new.self.working c.args.version cell (c.in_ok-found.ensures.ended tied))
-    (none_before (event_width types) mid next c.args.indexes.now c.take_out_of_each.new.indexes (without_cell cell) (without_are (event_width types) cell)
-    (subst (λ (n : ℕ). ChangeIndexes mid next c.args.indexes.now c.take_out_of_each.new.indexes n (without_cell cell)) c.requires.width (c.in_ok-take_out_of_each.ensures.taken tied_mid))
-    (subst (HoldNoIndexes next c.take_out_of_each.new.indexes) wide (none tied_next))))
-    c.in_err-put_into_each.ensures.works)
+    let p = err_from_is_err_and c.from_residual-in_err-change_each-2.result c.from_residual-in_err-change_each-2.ensures.1 in
+    record {
+      keeps = g.met.P.Pages.keeps_trans c.args.pages.now c.kill.new.pages c.change_each-then-born_of-version.new.pages c.in_ok-found.ensures.leaves.keeps
+          (g.met.P.Pages.keeps_trans c.kill.new.pages c.change_each.new.pages c.change_each-then-born_of-version.new.pages c.in_ok-change_each.ensures.leaves.keeps c.in_err-change_each-2.ensures.leaves.keeps);
+      works = rw (p.1, p.2) (works_err (g.P.Pages.is_tied c.args.pages.now → HoldsNoTable types old was c.args.indexes.now)
+          (g.P.Pages.is_tied c.change_each.new.pages → HoldNoIndexes next c.change_each.new.indexes (length last)) c.in_err-change_each-2.field-0.0
+          (g.P.Pages.store c.args.pages.now) (g.P.Pages.store c.change_each.new.pages) (g.P.Pages.store c.change_each-then-born_of-version.new.pages)
+          (Works-trans (g.P.Pages.store c.args.pages.now) (g.P.Pages.store c.kill.new.pages) (g.P.Pages.store c.change_each.new.pages) c.in_ok-found.ensures.leaves.works.works c.in_ok-change_each.ensures.leaves.works.works)
+          (CountsNothing-trans (g.P.Pages.store c.args.pages.now) (g.P.Pages.store c.kill.new.pages) (g.P.Pages.store c.change_each.new.pages) c.in_ok-found.ensures.leaves.works.ends c.in_ok-change_each.ensures.leaves.works.ends)
+          (λ none tied.
+          let tied_mid = g.met.P.Pages.keeps_tied c.args.pages.now c.kill.new.pages c.in_ok-found.ensures.leaves.keeps tied in
+          let tied_next = g.met.P.Pages.keeps_tied c.kill.new.pages c.change_each.new.pages c.in_ok-change_each.ensures.leaves.keeps tied_mid in
+          no_table_before types old was c.args.indexes.now mid (ends_move types old mid was c.kill.new.self.working c.args.version cell (c.in_ok-found.ensures.kills tied).ends)
+          (none_before (event_width types) mid next c.args.indexes.now c.change_each.new.indexes (without_cell cell) (without_are (event_width types) cell)
+          (subst (λ (n : ℕ). ChangeIndexes mid next c.args.indexes.now c.change_each.new.indexes n (without_cell cell)) c.requires.width (c.in_ok-change_each.ensures.changed tied_mid))
+          (subst (HoldNoIndexes next c.change_each.new.indexes) wide (none tied_next))))
+          c.in_err-change_each-2.ensures.leaves.works);
+    }
 
-pub returns-in_ok-put_into_each-clause-killed : goal.returns-in_ok-put_into_each-clause-killed
-returns-in_ok-put_into_each-clause-killed g c = λ tied accepted event later says.
+pub returns-in_ok-change_each-2-clause-kills : goal.returns-in_ok-change_each-2-clause-kills
+returns-in_ok-change_each-2-clause-kills g c = λ tied.
     let types = c.args.table.now.types in
     let was = c.args.table.now.working in
     let is = c.kill.new.self.working in
     let old = (g.P.Pages.store c.args.pages.now).map in
     let mid = (g.P.Pages.store c.kill.new.pages).map in
-    let next = (g.P.Pages.store c.take_out_of_each.new.pages).map in
-    let new = (g.P.Pages.store c.put_into_each.new.pages).map in
+    let next = (g.P.Pages.store c.change_each.new.pages).map in
+    let new = (g.P.Pages.store c.change_each-then-born_of-version.new.pages).map in
     let version = c.args.version in
     let cell = c.args.cell.now in
     let last = c.deref.result.now in
     let made : last ≡ ended version cell = c.deref.ensures.value ∙ c.in_ok-ended.ensures.ended in
     let wide : length last ≡ event_width types = ap length made ∙ length-ended version cell (omega (arith, c.requires.width)) ∙ c.requires.width in
     let born : born_of cell < version = omega (arith, c.if-born_of-version.true, c.born_of.ensures) in
-    let tied_mid = g.met.P.Pages.keeps_tied c.args.pages.now c.kill.new.pages c.in_ok-found.ensures.keeps tied in
-    let tied_next = g.met.P.Pages.keeps_tied c.kill.new.pages c.take_out_of_each.new.pages c.in_ok-take_out_of_each.ensures.keeps tied_mid in
-    together types old was c.args.indexes.now mid new is c.put_into_each.new.indexes accepted version (HasEnded (kept_events types) version event) (λ cells. with_cell last (without_cell cell cells))
-    (c.in_ok-found.ensures.killed tied accepted event later says)
-    (become_as types old mid was is accepted (with_end version cell) (λ cells. with_cell last (without_cell cell cells))
-    (λ cells. ended_late version cell cells born ∙ ap (λ (x : List ℕ). with_cell x (without_cell cell cells)) (sym made))
-    (ends_become types old mid was is version cell (c.in_ok-found.ensures.ended tied) accepted event c.in_ok-found.found says (c.in_ok-found.ensures.found tied) c.if-found.true))
-    (changes_then (event_width types) mid next c.args.indexes.now c.take_out_of_each.new.indexes (without_cell cell) (without_are (event_width types) cell)
-    (subst (λ (n : ℕ). ChangeIndexes mid next c.args.indexes.now c.take_out_of_each.new.indexes n (without_cell cell)) c.requires.width (c.in_ok-take_out_of_each.ensures.taken tied_mid))
-    new c.put_into_each.new.indexes (with_cell last)
-    (subst (λ (n : ℕ). ChangeIndexes next new c.take_out_of_each.new.indexes c.put_into_each.new.indexes n (with_cell last)) wide (c.in_ok-put_into_each.ensures.put tied_next)))
+    let tied_mid = g.met.P.Pages.keeps_tied c.args.pages.now c.kill.new.pages c.in_ok-found.ensures.leaves.keeps tied in
+    let tied_next = g.met.P.Pages.keeps_tied c.kill.new.pages c.change_each.new.pages c.in_ok-change_each.ensures.leaves.keeps tied_mid in
+    record {
+      changes = λ accepted event later says.
+          together types old was c.args.indexes.now mid new is c.change_each-then-born_of-version.new.indexes accepted version (HasEnded (kept_events types) version event) (λ cells. with_cell last (without_cell cell cells))
+          ((c.in_ok-found.ensures.kills tied).changes accepted event later says)
+          (become_as types old mid was is accepted (with_end version cell) (λ cells. with_cell last (without_cell cell cells))
+          (λ cells. ended_late version cell cells born ∙ ap (λ (x : List ℕ). with_cell x (without_cell cell cells)) (sym made))
+          (ends_become types old mid was is version cell (c.in_ok-found.ensures.kills tied).ends accepted event c.in_ok-found.found says (c.in_ok-found.ensures.kills tied).tells c.if-found.true))
+          (changes_then (event_width types) mid next c.args.indexes.now c.change_each.new.indexes (without_cell cell) (without_are (event_width types) cell)
+          (subst (λ (n : ℕ). ChangeIndexes mid next c.args.indexes.now c.change_each.new.indexes n (without_cell cell)) c.requires.width (c.in_ok-change_each.ensures.changed tied_mid))
+          new c.change_each-then-born_of-version.new.indexes (with_cell last)
+          (subst (λ (n : ℕ). ChangeIndexes next new c.change_each.new.indexes c.change_each-then-born_of-version.new.indexes n (with_cell last)) wide (c.in_ok-change_each-2.ensures.changed tied_next)));
+      tells = (c.in_ok-found.ensures.kills tied).tells;
+    }
 
-pub returns-in_ok-put_into_each-clause-found : goal.returns-in_ok-put_into_each-clause-found
-returns-in_ok-put_into_each-clause-found g c = λ tied. c.in_ok-found.ensures.found tied
-
-pub returns-else-born_of-version-clause-killed : goal.returns-else-born_of-version-clause-killed
-returns-else-born_of-version-clause-killed g c = λ tied accepted event later says.
+pub returns-else-born_of-version-clause-kills : goal.returns-else-born_of-version-clause-kills
+returns-else-born_of-version-clause-kills g c = λ tied.
     let types = c.args.table.now.types in
     let was = c.args.table.now.working in
     let is = c.kill.new.self.working in
     let old = (g.P.Pages.store c.args.pages.now).map in
     let mid = (g.P.Pages.store c.kill.new.pages).map in
-    let new = (g.P.Pages.store c.take_out_of_each.new.pages).map in
+    let new = (g.P.Pages.store c.change_each.new.pages).map in
     let version = c.args.version in
     let cell = c.args.cell.now in
-    let tied_mid = g.met.P.Pages.keeps_tied c.args.pages.now c.kill.new.pages c.in_ok-found.ensures.keeps tied in
-    together types old was c.args.indexes.now mid new is c.take_out_of_each.new.indexes accepted version (HasEnded (kept_events types) version event) (without_cell cell)
-    (c.in_ok-found.ensures.killed tied accepted event later says)
-    (become_as types old mid was is accepted (with_end version cell) (without_cell cell)
-    (λ cells. ended_early version cell cells (omega (arith, c.if-born_of-version.false, c.born_of.ensures)))
-    (ends_become types old mid was is version cell (c.in_ok-found.ensures.ended tied) accepted event c.in_ok-found.found says (c.in_ok-found.ensures.found tied) c.if-found.true))
-    (subst (λ (n : ℕ). ChangeIndexes mid new c.args.indexes.now c.take_out_of_each.new.indexes n (without_cell cell)) c.requires.width (c.in_ok-take_out_of_each.ensures.taken tied_mid))
+    let tied_mid = g.met.P.Pages.keeps_tied c.args.pages.now c.kill.new.pages c.in_ok-found.ensures.leaves.keeps tied in
+    record {
+      changes = λ accepted event later says.
+          together types old was c.args.indexes.now mid new is c.change_each.new.indexes accepted version (HasEnded (kept_events types) version event) (without_cell cell)
+          ((c.in_ok-found.ensures.kills tied).changes accepted event later says)
+          (become_as types old mid was is accepted (with_end version cell) (without_cell cell)
+          (λ cells. ended_early version cell cells (omega (arith, c.if-born_of-version.false, c.born_of.ensures)))
+          (ends_become types old mid was is version cell (c.in_ok-found.ensures.kills tied).ends accepted event c.in_ok-found.found says (c.in_ok-found.ensures.kills tied).tells c.if-found.true))
+          (subst (λ (n : ℕ). ChangeIndexes mid new c.args.indexes.now c.change_each.new.indexes n (without_cell cell)) c.requires.width (c.in_ok-change_each.ensures.changed tied_mid));
+      tells = (c.in_ok-found.ensures.kills tied).tells;
+    }
 
-pub returns-else-found-clause-killed : goal.returns-else-found-clause-killed
-returns-else-found-clause-killed g c = λ tied accepted event later says.
+pub returns-else-found-clause-kills : goal.returns-else-found-clause-kills
+returns-else-found-clause-kills g c = λ tied.
     let types = c.args.table.now.types in
     let was = c.args.table.now.working in
     let is = c.kill.new.self.working in
@@ -136,11 +152,15 @@ returns-else-found-clause-killed g c = λ tied accepted event later says.
     let new = (g.P.Pages.store c.kill.new.pages).map in
     let version = c.args.version in
     let cell = c.args.cell.now in
-    let ended = HasEnded (kept_events types) version event in
-    elim c.else-found.branch [
-      | else-found-via-then-found+else-not-is_empty w ↦ alone_among types old new was is c.args.indexes.now accepted version ended (search rules) (c.in_ok-found.ensures.killed tied accepted event later says)
-      | else-found-via-else-found w ↦
-          together types old was c.args.indexes.now new new is c.args.indexes.now accepted version ended (λ cells. cells) (c.in_ok-found.ensures.killed tied accepted event later says)
-          (ends_stay types old new was is version cell (c.in_ok-found.ensures.ended tied) accepted event c.in_ok-found.found says (c.in_ok-found.ensures.found tied) w.if-found.false)
-          (indexes_stay (event_width types) new c.args.indexes.now)
-    ]
+    record {
+      changes = λ accepted event later says.
+          let ended = HasEnded (kept_events types) version event in
+          elim c.else-found.branch [
+            | else-found-via-then-found+else-not-is_empty w ↦ alone_among types old new was is c.args.indexes.now accepted version ended (search rules) ((c.in_ok-found.ensures.kills tied).changes accepted event later says)
+            | else-found-via-else-found w ↦
+                together types old was c.args.indexes.now new new is c.args.indexes.now accepted version ended (λ cells. cells) ((c.in_ok-found.ensures.kills tied).changes accepted event later says)
+                (ends_stay types old new was is version cell (c.in_ok-found.ensures.kills tied).ends accepted event c.in_ok-found.found says (c.in_ok-found.ensures.kills tied).tells w.if-found.false)
+                (indexes_stay (event_width types) new c.args.indexes.now)
+          ];
+      tells = (c.in_ok-found.ensures.kills tied).tells;
+    }

@@ -9,7 +9,7 @@ use Rattle.rs_catalog_pages.specs.Inner.{HoldsUpTo}
 use Rattle.rs_catalog_pages.proofs.Chains.{up_to_none, up_to_next, none_next, none_short, reads_all}
 use Rattle.rs_catalog_pages.proofs.Counting.{times-none, times-push, fewer_left}
 use Rattle.rs_catalog_pages.proofs.Parts.{no_part_before, reads_before}
-use Rattle.rs_catalog_pages.proofs.Resting.{rests_none, rests_then, rests_ok}
+use Rattle.rs_pages.proofs.Resting.{rests_none, rests_then, rests_ok}
 use Rattle.rs_catalog_pages.proofs.chain.read_bytes.Goals as goal
 
 pub loop-next-init : goal.loop-next-init

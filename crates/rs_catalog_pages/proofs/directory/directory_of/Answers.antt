@@ -1,5 +1,5 @@
 -- A directory begins with its header, and has zeros after so many bytes.
-use Rattle.std.proofs.Common.{◌≡◌, ◌+◌, ◌-◌, ◌++◌, length, take, drop, refl, sym, ap, subst, ◌∙◌}
+use Rattle.std.proofs.Common.{◌≡◌, ◌+◌, ◌-◌, ◌++◌, length, take, drop, replicate, refl, sym, ap, subst, ◌∙◌}
 use Rattle.std.proofs.lemmas.Bool.{false≢true}
 use Rattle.std.proofs.lemmas.Result.{IfOk-weaker, IfErr-at_err}
 use Rattle.rs_page.specs.declared.page.TheConstants.{PAGE_SIZE}
@@ -43,3 +43,9 @@ returns-clause-damaged c = λ is directory there.
     let said : c.split_at.result.0.now ≡ there.said = c.split_at.ensures.front ∙ ap (take 2844) c.content.ensures.bytes ∙ parts.0 in
     IfErr-at_err (λ why. why ≡ refusal.DamagedFile → (value : DirectoryItems) → SaysDirectory c.split_at.result.0.now value → ⊥) is c.read_whole.ensures.damaged refl directory
     (subst (λ b. SaysDirectory b directory) (sym said) there.says)
+
+pub returns-clause-memory : goal.returns-clause-memory
+returns-clause-memory c = λ is. record {
+  header = c.begins_directory.ensures.0 c.if-not-begins_directory.false;
+  zeros = subst (λ xs. xs ≡ replicate (length xs) 0) (c.split_at.ensures.back ∙ ap (drop 2844) c.content.ensures.bytes) (each_zeros c.split_at.result.1.now (c.are_zeros.ensures.0 c.if-not-are_zeros.false));
+}

@@ -6,7 +6,7 @@ use Rattle.rs_catalog_pages.specs.Storing.{AreNotOwn}
 use Rattle.rs_catalog_pages.proofs.Fronts.{kept_pushed}
 use Rattle.rs_catalog_pages.proofs.Moving.{MovesPages-trans, not_own_before, allocated, no_list-not_own}
 use Rattle.rs_catalog_pages.proofs.Room.{allocated_one, pushed_one}
-use Rattle.rs_catalog_pages.proofs.Working.{NoFreeList, allocate-works, works_then, works_err, works_ok}
+use Rattle.rs_page_owners.proofs.Working.{NoFreeList, allocate-works, works_then, works_err, works_ok}
 use Rattle.rs_catalog_pages.proofs.placing.grow.Goals as goal
 
 pub returns-in_err-number-clause-works : goal.returns-in_err-number-clause-works

@@ -4,7 +4,7 @@ use Rattle.rs_catalog_pages.specs.Storing.{AreNotOwn}
 use Rattle.rs_catalog_pages.proofs.Fronts.{kept_popped}
 use Rattle.rs_catalog_pages.proofs.Moving.{released, not_released-not_own}
 use Rattle.rs_catalog_pages.proofs.Room.{released_none, released_room}
-use Rattle.rs_catalog_pages.proofs.Working.{release-works}
+use Rattle.rs_page_owners.proofs.Working.{release-works}
 use Rattle.rs_catalog_pages.proofs.placing.release_last.Goals as goal
 
 pub returns-in-Some-clause-works : goal.returns-in-Some-clause-works

@@ -4,7 +4,7 @@ use Rattle.std.proofs.lemmas.Result.{err_from_is_err_and}
 use Rattle.rs_catalog_pages.specs.Storing.{AreNotOwn}
 use Rattle.rs_catalog_pages.proofs.Fronts.{kept_fewer}
 use Rattle.rs_catalog_pages.proofs.Moving.{MovesPages-trans, not_own_before}
-use Rattle.rs_catalog_pages.proofs.Working.{works_then, works_ok}
+use Rattle.rs_page_owners.proofs.Working.{works_then, works_ok}
 use Rattle.rs_catalog_pages.proofs.placing.shrink.Goals as goal
 
 pub returns-in_err-release_last-clause-works : goal.returns-in_err-release_last-clause-works

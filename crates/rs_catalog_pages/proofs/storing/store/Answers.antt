@@ -9,18 +9,22 @@ use Rattle.rs_catalog_pages.specs.Places.{number_from}
 use Rattle.rs_catalog_pages.specs.Storing.{AreNotOwn, MovesPages, HasNoOwnBytes, WritesParts}
 use Rattle.rs_catalog_pages.proofs.Fronts.{kept_both}
 use Rattle.rs_catalog_pages.proofs.Moving.{MovesPages-trans, not_own_before}
-use Rattle.rs_catalog_pages.proofs.Working.{works_then, works_ok, works-stores}
+use Rattle.rs_page_owners.proofs.Working.{works_then, works_ok}
+use Rattle.rs_catalog_pages.proofs.Refused.{works-stores}
 use Rattle.rs_catalog_pages.proofs.Writing.{not_own-no_bytes, stores}
 use Rattle.rs_catalog_pages.proofs.storing.store.Goals as goal
 
-pub returns-in_err-grow-clause-works : goal.returns-in_err-grow-clause-works
-returns-in_err-grow-clause-works g c =
+pub returns-in_err-grow-clause-leaves : goal.returns-in_err-grow-clause-leaves
+returns-in_err-grow-clause-leaves g c =
     let p = err_from_is_err_and c.from_residual-in_err-grow.result c.from_residual-in_err-grow.ensures.1 in
     let copied = c.in_ok-extend_from_slice.ensures.items ∙ ap (λ (l : List ℕ). l ++ c.args.numbers.now) c.new-after.ensures.items in
-    rw (p.1, p.2) (works-stores (g.P.Pages.is_tied c.args.pages.now → AreNotOwn (g.P.Pages.store c.args.pages.now).map c.extend_from_slice.new.self.items) (g.P.Pages.is_tied c.args.pages.now → HasNoOwnBytes (g.P.Pages.store c.args.pages.now).map c.args.numbers.now)
-    c.in_err-grow.field-0.0 (g.P.Pages.store c.args.pages.now) (g.P.Pages.store c.grow.new.pages)
-    (λ none tied. not_own-no_bytes (g.P.Pages.store c.args.pages.now).map c.args.numbers.now (subst (λ ns. AreNotOwn (g.P.Pages.store c.args.pages.now).map ns) copied (none tied)))
-    c.in_err-grow.ensures.works)
+    record {
+      keeps = c.in_err-grow.ensures.keeps;
+      works = rw (p.1, p.2) (works-stores (g.P.Pages.is_tied c.args.pages.now → AreNotOwn (g.P.Pages.store c.args.pages.now).map c.extend_from_slice.new.self.items) (g.P.Pages.is_tied c.args.pages.now → HasNoOwnBytes (g.P.Pages.store c.args.pages.now).map c.args.numbers.now)
+          c.in_err-grow.field-0.0 (g.P.Pages.store c.args.pages.now) (g.P.Pages.store c.grow.new.pages)
+          (λ none tied. not_own-no_bytes (g.P.Pages.store c.args.pages.now).map c.args.numbers.now (subst (λ ns. AreNotOwn (g.P.Pages.store c.args.pages.now).map ns) copied (none tied)))
+          c.in_err-grow.ensures.works);
+    }
 
 pub returns-in_err-grow-clause-room : goal.returns-in_err-grow-clause-room
 returns-in_err-grow-clause-room g c = λ is.
@@ -35,44 +39,50 @@ returns-in_err-grow-clause-room g c = λ is.
       more = omega (arith, c.in_err-grow.ensures.room (ap Err why), ap (length {A = ℕ}) copied, c.parts_of-count.ensures.few, c.len.ensures, c.write.new.bytes.ok.0);
     }
 
-pub returns-in_err-shrink-clause-works : goal.returns-in_err-shrink-clause-works
-returns-in_err-shrink-clause-works g c =
+pub returns-in_err-shrink-clause-leaves : goal.returns-in_err-shrink-clause-leaves
+returns-in_err-shrink-clause-leaves g c =
     let p = err_from_is_err_and c.from_residual-in_err-shrink.result c.from_residual-in_err-shrink.ensures.1 in
     let copied = c.in_ok-extend_from_slice.ensures.items ∙ ap (λ (l : List ℕ). l ++ c.args.numbers.now) c.new-after.ensures.items in
-    rw (p.1, p.2) (works-stores (g.P.Pages.is_tied c.args.pages.now → HasNoOwnBytes (g.P.Pages.store c.args.pages.now).map c.args.numbers.now) (g.P.Pages.is_tied c.args.pages.now → HasNoOwnBytes (g.P.Pages.store c.args.pages.now).map c.args.numbers.now)
-    c.in_err-shrink.field-0.0 (g.P.Pages.store c.args.pages.now) (g.P.Pages.store c.shrink.new.pages) (λ none. none)
-    (works_then (g.P.Pages.is_tied c.args.pages.now → AreNotOwn (g.P.Pages.store c.args.pages.now).map c.extend_from_slice.new.self.items) (g.P.Pages.is_tied c.args.pages.now → HasNoOwnBytes (g.P.Pages.store c.args.pages.now).map c.args.numbers.now)
-    (g.P.Pages.is_tied c.grow.new.pages → AreNotOwn (g.P.Pages.store c.grow.new.pages).map c.grow.new.numbers.items) (tt {0}) (Err c.in_err-shrink.field-0.0)
-    (g.P.Pages.store c.args.pages.now) (g.P.Pages.store c.grow.new.pages) (g.P.Pages.store c.shrink.new.pages)
-    (λ none tied.
-    let later = g.met.P.Pages.keeps_tied c.args.pages.now c.grow.new.pages c.in_ok-grow.ensures.keeps tied in
-    not_own-no_bytes (g.P.Pages.store c.args.pages.now).map c.args.numbers.now
-    (subst (λ ns. AreNotOwn (g.P.Pages.store c.args.pages.now).map ns) copied
-    (not_own_before (g.P.Pages.store c.args.pages.now).map (g.P.Pages.store c.grow.new.pages).map c.extend_from_slice.new.self.items c.grow.new.numbers.items (c.in_ok-grow.ensures.moves tied) (none later))))
-    c.in_ok-grow.ensures.works c.in_err-shrink.ensures.works))
+    record {
+      keeps = g.met.P.Pages.keeps_trans c.args.pages.now c.grow.new.pages c.shrink.new.pages c.in_ok-grow.ensures.keeps c.in_err-shrink.ensures.keeps;
+      works = rw (p.1, p.2) (works-stores (g.P.Pages.is_tied c.args.pages.now → HasNoOwnBytes (g.P.Pages.store c.args.pages.now).map c.args.numbers.now) (g.P.Pages.is_tied c.args.pages.now → HasNoOwnBytes (g.P.Pages.store c.args.pages.now).map c.args.numbers.now)
+          c.in_err-shrink.field-0.0 (g.P.Pages.store c.args.pages.now) (g.P.Pages.store c.shrink.new.pages) (λ none. none)
+          (works_then (g.P.Pages.is_tied c.args.pages.now → AreNotOwn (g.P.Pages.store c.args.pages.now).map c.extend_from_slice.new.self.items) (g.P.Pages.is_tied c.args.pages.now → HasNoOwnBytes (g.P.Pages.store c.args.pages.now).map c.args.numbers.now)
+          (g.P.Pages.is_tied c.grow.new.pages → AreNotOwn (g.P.Pages.store c.grow.new.pages).map c.grow.new.numbers.items) (tt {0}) (Err c.in_err-shrink.field-0.0)
+          (g.P.Pages.store c.args.pages.now) (g.P.Pages.store c.grow.new.pages) (g.P.Pages.store c.shrink.new.pages)
+          (λ none tied.
+          let later = g.met.P.Pages.keeps_tied c.args.pages.now c.grow.new.pages c.in_ok-grow.ensures.keeps tied in
+          not_own-no_bytes (g.P.Pages.store c.args.pages.now).map c.args.numbers.now
+          (subst (λ ns. AreNotOwn (g.P.Pages.store c.args.pages.now).map ns) copied
+          (not_own_before (g.P.Pages.store c.args.pages.now).map (g.P.Pages.store c.grow.new.pages).map c.extend_from_slice.new.self.items c.grow.new.numbers.items (c.in_ok-grow.ensures.moves tied) (none later))))
+          c.in_ok-grow.ensures.works c.in_err-shrink.ensures.works));
+    }
 
-pub returns-in_err-write_parts-clause-works : goal.returns-in_err-write_parts-clause-works
-returns-in_err-write_parts-clause-works g c =
+pub returns-in_err-write_parts-clause-leaves : goal.returns-in_err-write_parts-clause-leaves
+returns-in_err-write_parts-clause-leaves g c =
     let p = err_from_is_err_and c.from_residual-in_err-write_parts.result c.from_residual-in_err-write_parts.ensures.1 in
     let copied = c.in_ok-extend_from_slice.ensures.items ∙ ap (λ (l : List ℕ). l ++ c.args.numbers.now) c.new-after.ensures.items in
-    rw (p.1, p.2) (works-stores (g.P.Pages.is_tied c.args.pages.now → HasNoOwnBytes (g.P.Pages.store c.args.pages.now).map c.args.numbers.now) (g.P.Pages.is_tied c.args.pages.now → HasNoOwnBytes (g.P.Pages.store c.args.pages.now).map c.args.numbers.now)
-    c.in_err-write_parts.field-0.0 (g.P.Pages.store c.args.pages.now) (g.P.Pages.store c.write_parts.new.pages) (λ none. none)
-    (works_then ⊥ (g.P.Pages.is_tied c.args.pages.now → HasNoOwnBytes (g.P.Pages.store c.args.pages.now).map c.args.numbers.now)
-    (g.P.Pages.is_tied c.shrink.new.pages → AreNotOwn (g.P.Pages.store c.shrink.new.pages).map c.as_slice.result.now) (tt {0}) (Err c.in_err-write_parts.field-0.0)
-    (g.P.Pages.store c.args.pages.now) (g.P.Pages.store c.shrink.new.pages) (g.P.Pages.store c.write_parts.new.pages)
-    (λ none tied.
-    let later = g.met.P.Pages.keeps_tied c.args.pages.now c.grow.new.pages c.in_ok-grow.ensures.keeps tied in
-    let last = g.met.P.Pages.keeps_tied c.grow.new.pages c.shrink.new.pages c.in_ok-shrink.ensures.keeps later in
-    let moves = MovesPages-trans (g.P.Pages.store c.args.pages.now).map (g.P.Pages.store c.grow.new.pages).map (g.P.Pages.store c.shrink.new.pages).map c.extend_from_slice.new.self.items c.grow.new.numbers.items c.shrink.new.numbers.items
-    (c.in_ok-grow.ensures.moves tied) (c.in_ok-shrink.ensures.moves later) in
-    not_own-no_bytes (g.P.Pages.store c.args.pages.now).map c.args.numbers.now
-    (subst (λ ns. AreNotOwn (g.P.Pages.store c.args.pages.now).map ns) copied
-    (not_own_before (g.P.Pages.store c.args.pages.now).map (g.P.Pages.store c.shrink.new.pages).map c.extend_from_slice.new.self.items c.shrink.new.numbers.items moves
-    (subst (λ ns. AreNotOwn (g.P.Pages.store c.shrink.new.pages).map ns) c.as_slice.ensures.value (none last)))))
-    (works_then (g.P.Pages.is_tied c.args.pages.now → AreNotOwn (g.P.Pages.store c.args.pages.now).map c.extend_from_slice.new.self.items) ⊥ ⊥ (tt {0}) (Ok (tt {0}))
-    (g.P.Pages.store c.args.pages.now) (g.P.Pages.store c.grow.new.pages) (g.P.Pages.store c.shrink.new.pages) (λ none. none) c.in_ok-grow.ensures.works
-    (works_ok (g.P.Pages.is_tied c.grow.new.pages → AreNotOwn (g.P.Pages.store c.grow.new.pages).map c.grow.new.numbers.items) ⊥ (tt {0}) (tt {0}) (g.P.Pages.store c.grow.new.pages) (g.P.Pages.store c.shrink.new.pages) c.in_ok-shrink.ensures.works))
-    c.in_err-write_parts.ensures.works))
+    record {
+      keeps = g.met.P.Pages.keeps_trans c.args.pages.now c.grow.new.pages c.write_parts.new.pages c.in_ok-grow.ensures.keeps (g.met.P.Pages.keeps_trans c.grow.new.pages c.shrink.new.pages c.write_parts.new.pages c.in_ok-shrink.ensures.keeps c.in_err-write_parts.ensures.keeps);
+      works = rw (p.1, p.2) (works-stores (g.P.Pages.is_tied c.args.pages.now → HasNoOwnBytes (g.P.Pages.store c.args.pages.now).map c.args.numbers.now) (g.P.Pages.is_tied c.args.pages.now → HasNoOwnBytes (g.P.Pages.store c.args.pages.now).map c.args.numbers.now)
+          c.in_err-write_parts.field-0.0 (g.P.Pages.store c.args.pages.now) (g.P.Pages.store c.write_parts.new.pages) (λ none. none)
+          (works_then ⊥ (g.P.Pages.is_tied c.args.pages.now → HasNoOwnBytes (g.P.Pages.store c.args.pages.now).map c.args.numbers.now)
+          (g.P.Pages.is_tied c.shrink.new.pages → AreNotOwn (g.P.Pages.store c.shrink.new.pages).map c.as_slice.result.now) (tt {0}) (Err c.in_err-write_parts.field-0.0)
+          (g.P.Pages.store c.args.pages.now) (g.P.Pages.store c.shrink.new.pages) (g.P.Pages.store c.write_parts.new.pages)
+          (λ none tied.
+          let later = g.met.P.Pages.keeps_tied c.args.pages.now c.grow.new.pages c.in_ok-grow.ensures.keeps tied in
+          let last = g.met.P.Pages.keeps_tied c.grow.new.pages c.shrink.new.pages c.in_ok-shrink.ensures.keeps later in
+          let moves = MovesPages-trans (g.P.Pages.store c.args.pages.now).map (g.P.Pages.store c.grow.new.pages).map (g.P.Pages.store c.shrink.new.pages).map c.extend_from_slice.new.self.items c.grow.new.numbers.items c.shrink.new.numbers.items
+          (c.in_ok-grow.ensures.moves tied) (c.in_ok-shrink.ensures.moves later) in
+          not_own-no_bytes (g.P.Pages.store c.args.pages.now).map c.args.numbers.now
+          (subst (λ ns. AreNotOwn (g.P.Pages.store c.args.pages.now).map ns) copied
+          (not_own_before (g.P.Pages.store c.args.pages.now).map (g.P.Pages.store c.shrink.new.pages).map c.extend_from_slice.new.self.items c.shrink.new.numbers.items moves
+          (subst (λ ns. AreNotOwn (g.P.Pages.store c.shrink.new.pages).map ns) c.as_slice.ensures.value (none last)))))
+          (works_then (g.P.Pages.is_tied c.args.pages.now → AreNotOwn (g.P.Pages.store c.args.pages.now).map c.extend_from_slice.new.self.items) ⊥ ⊥ (tt {0}) (Ok (tt {0}))
+          (g.P.Pages.store c.args.pages.now) (g.P.Pages.store c.grow.new.pages) (g.P.Pages.store c.shrink.new.pages) (λ none. none) c.in_ok-grow.ensures.works
+          (works_ok (g.P.Pages.is_tied c.grow.new.pages → AreNotOwn (g.P.Pages.store c.grow.new.pages).map c.grow.new.numbers.items) ⊥ (tt {0}) (tt {0}) (g.P.Pages.store c.grow.new.pages) (g.P.Pages.store c.shrink.new.pages) c.in_ok-shrink.ensures.works))
+          c.in_err-write_parts.ensures.works));
+    }
 
 pub overflow_cast-len : goal.overflow_cast-len
 overflow_cast-len g c =

@@ -12,7 +12,7 @@ use Rattle.rs_catalog_pages.specs.Places.{number_from, part_at}
 use Rattle.rs_catalog_pages.specs.Storing.{AreNotOwn}
 use Rattle.rs_catalog_pages.proofs.Counting.{times-there}
 use Rattle.rs_catalog_pages.proofs.Moving.{MovesPages-refl, MovesPages-trans, not_own_before, no_fit-not_own}
-use Rattle.rs_catalog_pages.proofs.Working.{works_none, works_then, works_ok}
+use Rattle.rs_page_owners.proofs.Working.{works_none, works_then, works_ok}
 use Rattle.rs_catalog_pages.proofs.Writing.{part_few, written_same, writes_none, writes_moves, writes_next, writes_all, next_follows}
 use Rattle.rs_catalog_pages.proofs.storing.write_parts.Goals as goal
 

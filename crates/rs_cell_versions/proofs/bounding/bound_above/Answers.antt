@@ -12,7 +12,7 @@ use Rattle.rs_tree.specs.Layouts.{entry_bytes}
 use Rattle.rs_tree.specs.Node.{IsNode}
 use Rattle.rs_tree.specs.declared.node.Node.TheVariants.{Leaf, Inner}
 use Rattle.rs_tree.proofs.Entering.{records_fit}
-use Rattle.rs_tree.proofs.Resting.{rests_none, rests_then}
+use Rattle.rs_pages.proofs.Resting.{rests_none, rests_then}
 use Rattle.rs_cell_versions.specs.Looking.{IsAbove}
 use Rattle.rs_cell_versions.proofs.LastCells.{LeadsTo, above_none, leads_first, leads_inner, leads_leaf, leads_nowhere, no_node_before}
 use Rattle.rs_cell_versions.proofs.Refusing.{rests_err, rests_made, rests_ok}

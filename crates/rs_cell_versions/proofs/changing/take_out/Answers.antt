@@ -5,7 +5,8 @@ use Rattle.std.proofs.lemmas.Result.{err_from_is_err_and}
 use Rattle.rs_records.specs.Listed.{listed}
 use Rattle.rs_tree.specs.Form.{Form, form_of}
 use Rattle.rs_tree.proofs.Lists.{take_next}
-use Rattle.rs_tree_whole.proofs.Working.{CountsNothing-trans, Works-trans, works_err}
+use Rattle.rs_page_owners.proofs.Working.{CountsNothing-trans, Works-trans}
+use Rattle.rs_page_owners.proofs.Following.{works_err}
 use Rattle.rs_cell_versions.specs.Inner.{HoldsNoneFirst, TakesOut}
 use Rattle.rs_cell_versions.proofs.Steps.{none_next, takes_next}
 use Rattle.rs_cell_versions.proofs.changing.take_out.Goals as goal

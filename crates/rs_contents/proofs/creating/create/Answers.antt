@@ -11,7 +11,8 @@ use Rattle.rs_contents.proofs.creating.create.Goals as goal
 
 pub returns-clause-creates : goal.returns-clause-creates
 returns-clause-creates g c = λ tied empty.
-    let old = (g.P.Pages.store c.args.pages.now).map in
+    let was = g.P.Pages.store c.args.pages.now in
+    let old = was.map in
     let new = (g.P.Pages.store c.store.new.pages).map in
     let said : CatalogueItems = record {
       routes = map said_route c.new.result.items;
@@ -27,34 +28,12 @@ returns-clause-creates g c = λ tied empty.
       views = map said_view (c.new-4.ensures.items i);
       alignments = map said_alignment (c.new-5.ensures.items i);
     } in
-    IfOk-weaker c.store.result (λ after. StoresCatalogue old new [] after.items said) (λ numbers. HoldsAll new (no_contents numbers.items)) (λ numbers stores. created old new numbers.items said empty none stores) (c.store.ensures.stores tied)
-
-pub returns-clause-one : goal.returns-clause-one
-returns-clause-one g c = λ tied empty.
-    let old = (g.P.Pages.store c.args.pages.now).map in
-    let new = (g.P.Pages.store c.store.new.pages).map in
-    let said : CatalogueItems = record {
-      routes = map said_route c.new.result.items;
-      tables = map said_table c.new-2.result.items;
-      indexes = map said_index c.new-3.result.items;
-      views = map said_view c.new-4.result.items;
-      alignments = map said_alignment c.new-5.result.items;
-    } in
-    let none : said ≡ no_definitions = λ i. record {
-      routes = map said_route (c.new.ensures.items i);
-      tables = map said_table (c.new-2.ensures.items i);
-      indexes = map said_index (c.new-3.ensures.items i);
-      views = map said_view (c.new-4.ensures.items i);
-      alignments = map said_alignment (c.new-5.ensures.items i);
-    } in
-    IfOk-weaker c.store.result (λ after. StoresCatalogue old new [] after.items said) (λ numbers. length numbers.items ≡ 1) (λ numbers stores. one_page old new numbers.items said empty none stores) (c.store.ensures.stores tied)
-
-pub returns-clause-few : goal.returns-clause-few
-returns-clause-few g c = λ tied empty.
-    few_pages (λ (after : _). length after.items) c.store.result ((g.P.Pages.store c.args.pages.now).map) ((g.P.Pages.store c.store.new.pages).map.fields.pages)
-    empty (returns-clause-one g c tied empty) c.store.ensures.count
-
-pub returns-clause-sound : goal.returns-clause-sound
-returns-clause-sound g c = λ tied empty.
-    let old = g.P.Pages.store c.args.pages.now in
-    not_refused c.store.result (g.P.Pages.is_tied c.args.pages.now → HasNoOwnBytes old.map []) old (g.P.Pages.store c.store.new.pages) c.store.ensures.works (λ damaged. not_damaged old.map empty (damaged tied))
+    let one = IfOk-weaker c.store.result (λ after. StoresCatalogue old new [] after.items said) (λ numbers. length numbers.items ≡ 1)
+    (λ numbers stores. one_page old new numbers.items said empty none stores) (c.store.ensures.stores tied) in
+    record {
+      holds = IfOk-weaker c.store.result (λ after. StoresCatalogue old new [] after.items said) (λ numbers. HoldsAll new (no_contents numbers.items))
+          (λ numbers stores. created old new numbers.items said empty none stores) (c.store.ensures.stores tied);
+      one = one;
+      few = few_pages (λ (after : _). length after.items) c.store.result old new.fields.pages empty one c.store.ensures.count;
+      sound = not_refused c.store.result (g.P.Pages.is_tied c.args.pages.now → HasNoOwnBytes old []) was (g.P.Pages.store c.store.new.pages) c.store.ensures.leaves.works (λ damaged. not_damaged old empty (damaged tied));
+    }

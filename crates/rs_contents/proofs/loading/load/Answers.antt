@@ -8,17 +8,20 @@ use Rattle.rs_contents.proofs.Loaded.{are_there, no_parts, nothing_said, same_ma
 use Rattle.rs_refusal.specs.declared.refusal.Refusal.TheVariants as refusal
 use Rattle.rs_page_owners.specs.Counts.{◌&◌, one_at}
 use Rattle.rs_page_marks.specs.Marks.{taken}
-use Rattle.rs_tree.proofs.Resting.{rests_then}
+use Rattle.rs_pages.proofs.Resting.{rests_then}
 use Rattle.rs_cell_versions.proofs.Refusing.{rests_err, rests_ok}
 use Rattle.rs_contents.proofs.loading.load.Goals as goal
 
-pub returns-in_err-numbers-clause-damaged : goal.returns-in_err-numbers-clause-damaged
-returns-in_err-numbers-clause-damaged g c = λ tied is.
-    let old = (g.P.Pages.store c.args.pages.now).map in
-    let p = err_from_is_err_and c.from_residual-in_err-numbers.result c.from_residual-in_err-numbers.ensures.1 in
-    let why : c.in_err-numbers.field-0.0 ≡ refusal.DamagedFile = cc (p.1, p.2, is) in
-    nothing_said old (taken c.in_ok-reached.reached) (λ n. c.in_ok-reached.ensures.reached n ∙ ap (λ k. (unreached k & (one_at 0 & one_at 1)) n) c.count.ensures.count)
-    (c.in_err-numbers.ensures.damaged tied (ap Err why))
+pub returns-in_err-numbers-clause-loads : goal.returns-in_err-numbers-clause-loads
+returns-in_err-numbers-clause-loads g c = λ tied. record {
+  loads = let q = err_from_is_err_and c.from_residual-in_err-numbers.result c.from_residual-in_err-numbers.ensures.1 in rw (q.1) tt;
+  damaged = λ is.
+      let old = (g.P.Pages.store c.args.pages.now).map in
+      let p = err_from_is_err_and c.from_residual-in_err-numbers.result c.from_residual-in_err-numbers.ensures.1 in
+      let why : c.in_err-numbers.field-0.0 ≡ refusal.DamagedFile = cc (p.1, p.2, is) in
+      nothing_said old (taken c.in_ok-reached.reached) (λ n. c.in_ok-reached.ensures.reached n ∙ ap (λ k. (unreached k & (one_at 0 & one_at 1)) n) c.count.ensures.count)
+      (c.in_err-numbers.ensures.damaged tied (ap Err why));
+}
 
 pub returns-in_err-tables-clause-rests : goal.returns-in_err-tables-clause-rests
 returns-in_err-tables-clause-rests g c =
@@ -27,20 +30,23 @@ returns-in_err-tables-clause-rests g c =
     (rests_then g.P.Pages.is_tied g.P.Pages.store g.P.Pages.keeps (c.in_ok-numbers.numbers, c.in_ok-numbers.definitions, c.in_ok-numbers.directory) (Err c.in_err-tables.field-0.0) c.args.pages.now
     c.load_said.new.pages c.open_parts.new.pages g.met.P.Pages.keeps_trans g.met.P.Pages.keeps_tied c.in_ok-numbers.ensures.rests c.in_err-tables.ensures.rests))
 
-pub returns-in_err-tables-clause-damaged : goal.returns-in_err-tables-clause-damaged
-returns-in_err-tables-clause-damaged g c = λ tied is.
-    let old = (g.P.Pages.store c.args.pages.now).map in
-    let mid = (g.P.Pages.store c.load_said.new.pages).map in
-    let later = g.met.P.Pages.keeps_tied c.args.pages.now c.load_said.new.pages c.in_ok-numbers.ensures.rests.below tied in
-    let same = same_map mid old (c.in_ok-numbers.ensures.rests.rests.keeps.pages tied) in
-    let definitions = said_catalogue c.in_ok-numbers.definitions in
-    let directory = said_directory c.in_ok-numbers.directory in
-    let p = err_from_is_err_and c.from_residual-in_err-tables.result c.from_residual-in_err-tables.ensures.1 in
-    let why : c.in_err-tables.field-0.0 ≡ refusal.DamagedFile = cc (p.1, p.2, is) in
-    no_parts old c.in_ok-numbers.numbers.items definitions directory (taken c.in_ok-reached.reached) (taken c.load_said.new.reached)
-    (λ n. c.in_ok-reached.ensures.reached n ∙ ap (λ k. (unreached k & (one_at 0 & one_at 1)) n) c.count.ensures.count)
-    (c.in_ok-numbers.ensures.loads tied)
-    (subst (λ m. OpensNoParts m directory definitions (taken c.load_said.new.reached)) same (c.in_err-tables.ensures.damaged later (ap Err why)))
+pub returns-in_err-tables-clause-loads : goal.returns-in_err-tables-clause-loads
+returns-in_err-tables-clause-loads g c = λ tied. record {
+  loads = let q = err_from_is_err_and c.from_residual-in_err-tables.result c.from_residual-in_err-tables.ensures.1 in rw (q.1) tt;
+  damaged = λ is.
+      let old = (g.P.Pages.store c.args.pages.now).map in
+      let mid = (g.P.Pages.store c.load_said.new.pages).map in
+      let later = g.met.P.Pages.keeps_tied c.args.pages.now c.load_said.new.pages c.in_ok-numbers.ensures.rests.below tied in
+      let same = same_map mid old (c.in_ok-numbers.ensures.rests.rests.keeps.pages tied) in
+      let definitions = said_catalogue c.in_ok-numbers.definitions in
+      let directory = said_directory c.in_ok-numbers.directory in
+      let p = err_from_is_err_and c.from_residual-in_err-tables.result c.from_residual-in_err-tables.ensures.1 in
+      let why : c.in_err-tables.field-0.0 ≡ refusal.DamagedFile = cc (p.1, p.2, is) in
+      no_parts old c.in_ok-numbers.numbers.items definitions directory (taken c.in_ok-reached.reached) (taken c.load_said.new.reached)
+      (λ n. c.in_ok-reached.ensures.reached n ∙ ap (λ k. (unreached k & (one_at 0 & one_at 1)) n) c.count.ensures.count)
+      (c.in_ok-numbers.ensures.loads tied)
+      (subst (λ m. OpensNoParts m directory definitions (taken c.load_said.new.reached)) same (c.in_err-tables.ensures.damaged later (ap Err why)));
+}
 
 pub returns-clause-rests : goal.returns-clause-rests
 returns-clause-rests g c =
@@ -62,11 +68,14 @@ returns-clause-loads g c = λ tied.
     (subst (λ m. OpensParts m directory definitions c.in_ok-tables.tables.items c.in_ok-tables.referents (taken c.load_said.new.reached) (taken c.open_parts.new.reached)) same (c.in_ok-tables.ensures.opens later))
     c.in_ok-tables.ensures.whole in
     record {
-      contents = there.contents;
-      holds = there.holds;
-      definitions = there.definitions;
-      pages = there.pages;
-      tables = there.tables;
-      referents = there.referents;
-      accepted = ap (λ (d : DirectoryItems). d.accepted) there.directory;
+      loads = record {
+        contents = there.contents;
+        holds = there.holds;
+        definitions = there.definitions;
+        pages = there.pages;
+        tables = there.tables;
+        referents = there.referents;
+        accepted = ap (λ (d : DirectoryItems). d.accepted) there.directory;
+      };
+      damaged = λ is. absurd (cc);
     }

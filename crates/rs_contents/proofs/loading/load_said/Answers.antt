@@ -9,7 +9,7 @@ use Rattle.rs_catalog_pages.specs.declared.items.StoredRoute.{StoredRoute}
 use Rattle.rs_contents.proofs.Loaded.{all_from_said, all_said, no_catalogue_said, no_directory_said, no_numbers_said, no_versions_said, same_map}
 use Rattle.rs_refusal.specs.declared.refusal.Refusal.TheVariants as refusal
 use Rattle.rs_page_marks.specs.Marks.{taken}
-use Rattle.rs_tree.proofs.Resting.{rests_then}
+use Rattle.rs_pages.proofs.Resting.{rests_then}
 use Rattle.rs_cell_versions.proofs.Refusing.{rests_ok, rests_refused}
 use Rattle.rs_contents.proofs.loading.load_said.Goals as goal
 
@@ -17,7 +17,7 @@ pub returns-in_err-directory-clause-damaged : goal.returns-in_err-directory-clau
 returns-in_err-directory-clause-damaged g c = λ tied is.
     let p = err_from_is_err_and c.from_residual.result c.from_residual.ensures.1 in
     let why : c.in_err-directory.field-0.0 ≡ refusal.DamagedFile = cc (p.1, p.2, is) in
-    no_directory_said (g.P.Pages.store c.args.pages.now).map (taken c.args.reached.now) (c.in_err-directory.ensures.damaged tied (ap Err why))
+    no_directory_said (g.P.Pages.store c.args.pages.now).map (taken c.args.reached.now) (c.in_err-directory.ensures.refused.damaged tied why)
 
 pub returns-in_err-numbers-clause-damaged : goal.returns-in_err-numbers-clause-damaged
 returns-in_err-numbers-clause-damaged g c = λ tied is.
@@ -27,7 +27,7 @@ returns-in_err-numbers-clause-damaged g c = λ tied is.
     let same = same_map mid old (c.in_ok-directory.ensures.rests.rests.keeps.pages tied) in
     let p = err_from_is_err_and c.from_residual-in_err-numbers.result c.from_residual-in_err-numbers.ensures.1 in
     let why : c.in_err-numbers.field-0.0 ≡ refusal.DamagedFile = cc (p.1, p.2, is) in
-    no_catalogue_said old (taken c.args.reached.now) (subst (λ m. HasNoFreshCatalogue m (taken c.args.reached.now)) same (c.in_err-numbers.ensures.damaged later (ap Err why)))
+    no_catalogue_said old (taken c.args.reached.now) (subst (λ m. HasNoFreshCatalogue m (taken c.args.reached.now)) same (c.in_err-numbers.ensures.refused.damaged later why))
 
 pub returns-in_err-check_numbers-clause-rests : goal.returns-in_err-check_numbers-clause-rests
 returns-in_err-check_numbers-clause-rests g c =

@@ -8,8 +8,8 @@ use Rattle.rs_contents.specs.FreePages.{HasNoFreshFreeList, ReachesFree}
 use Rattle.rs_contents.proofs.Loaded.{no_free, no_referents, no_tables, same_map, some_left}
 use Rattle.rs_refusal.specs.declared.refusal.Refusal.TheVariants as refusal
 use Rattle.rs_page_marks.specs.Marks.{taken}
-use Rattle.rs_tree.proofs.Resting.{rests_then}
-use Rattle.rs_versioned.specs.declared.told.ToldRecords.{ToldRecords}
+use Rattle.rs_pages.proofs.Resting.{rests_then}
+use Rattle.rs_cell_versions.specs.declared.told.ToldRecords.{ToldRecords}
 use Rattle.rs_versioned.specs.Opening.{OpensNone, OpensRecords}
 use Rattle.rs_versioned.specs.Referents.{kept_referents}
 use Rattle.rs_cell_versions.specs.Version.{died_of}
@@ -59,7 +59,7 @@ returns-in_err-reach_free-clause-damaged g c = λ tied is.
     (taken c.open.new.reached) (c.in_ok-tables.ensures.opens tied)
     (subst (λ (t : ToldRecords). OpensRecords kept_referents old t c.in_ok-referents.referents.working (taken c.open_tables.new.reached) (taken c.open.new.reached)) c.told_of-told.ensures
     (subst (λ m. OpensRecords kept_referents m c.told_of-told.result c.in_ok-referents.referents.working (taken c.open_tables.new.reached) (taken c.open.new.reached)) same (c.in_ok-referents.ensures.opens later)))
-    (subst (λ m. HasNoFreshFreeList m (taken c.open.new.reached)) (same_last ∙ same) (c.in_err-reach_free.ensures.damaged last_tied (ap Err why)))
+    (subst (λ m. HasNoFreshFreeList m (taken c.open.new.reached)) (same_last ∙ same) ((c.in_err-reach_free.ensures.reaches last_tied).damaged (ap Err why)))
 
 pub returns-then-not-is_whole-clause-rests : goal.returns-then-not-is_whole-clause-rests
 returns-then-not-is_whole-clause-rests g c =
@@ -86,7 +86,7 @@ returns-then-not-is_whole-clause-damaged g c = λ tied is.
       tables = c.in_ok-tables.ensures.opens tied;
       referents = subst (λ (t : ToldRecords). OpensRecords kept_referents old t c.in_ok-referents.referents.working (taken c.open_tables.new.reached) (taken c.open.new.reached)) c.told_of-told.ensures
           (subst (λ m. OpensRecords kept_referents m c.told_of-told.result c.in_ok-referents.referents.working (taken c.open_tables.new.reached) (taken c.open.new.reached)) same (c.in_ok-referents.ensures.opens later));
-      free = subst (λ m. ReachesFree m (taken c.open.new.reached) (taken c.reach_free.new.reached)) (same_last ∙ same) (c.in_ok-reach_free.ensures.reaches last_tied);
+      free = subst (λ m. ReachesFree m (taken c.open.new.reached) (taken c.reach_free.new.reached)) (same_last ∙ same) (c.in_ok-reach_free.ensures.reaches last_tied).reaches;
     })
     (λ none. false≢true (sym c.if-not-is_whole.true ∙ c.is_whole.ensures.1 none))
 
@@ -105,7 +105,7 @@ returns-clause-opens g c = λ tied.
       tables = c.in_ok-tables.ensures.opens tied;
       referents = subst (λ (t : ToldRecords). OpensRecords kept_referents old t c.in_ok-referents.referents.working (taken c.open_tables.new.reached) (taken c.open.new.reached)) c.told_of-told.ensures
           (subst (λ m. OpensRecords kept_referents m c.told_of-told.result c.in_ok-referents.referents.working (taken c.open_tables.new.reached) (taken c.open.new.reached)) same (c.in_ok-referents.ensures.opens later));
-      free = subst (λ m. ReachesFree m (taken c.open.new.reached) (taken c.reach_free.new.reached)) (same_last ∙ same) (c.in_ok-reach_free.ensures.reaches last_tied);
+      free = subst (λ m. ReachesFree m (taken c.open.new.reached) (taken c.reach_free.new.reached)) (same_last ∙ same) (c.in_ok-reach_free.ensures.reaches last_tied).reaches;
     }
 
 pub returns-clause-order : goal.returns-clause-order

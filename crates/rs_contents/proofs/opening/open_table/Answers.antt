@@ -15,7 +15,7 @@ use Rattle.rs_refusal.specs.declared.refusal.Refusal.TheVariants as refusal
 use Rattle.rs_page_marks.specs.Marks.{taken}
 use Rattle.rs_value.specs.declared.column.ColumnType.{ColumnType}
 use Rattle.rs_versioned.specs.Events.{event_width}
-use Rattle.rs_versioned.specs.declared.told.ToldRecords.{ToldRecords}
+use Rattle.rs_cell_versions.specs.declared.told.ToldRecords.{ToldRecords}
 use Rattle.rs_cell_versions.specs.Version.{died_of}
 use Rattle.rs_contents.proofs.opening.open_table.Goals as goal
 
@@ -47,7 +47,7 @@ returns-in_err-records-clause-damaged g c = λ tied is.
     let tree = c.in-Some-get.tree.now in
     let slot = subst (λ (xs : List StoredTree). slice_get (map said_tree xs) c.args.item.now.number ≡ Some (said_tree tree)) c.as_slice.ensures.value
     (said_at said_tree c.as_slice.result.now c.args.item.now.number tree c.in-Some-get.ensures.lookup.3.0 c.in-Some-get.ensures.lookup.1) in
-    let missing = c.in_err-records.ensures.damaged tied (ap Err why) in
+    let missing = (c.in_err-records.ensures.opens tied).damaged (ap Err why) in
     none_of_pages file directory (said_catalogue c.args.definitions.now) (said_table c.args.item.now) before types c.in-Some.ensures.columns (said_tree tree) c.in_ok-indexes.indexes.items slot
     (subst (λ xs. AllZip (IsIndex types directory) (filter (λ (index : IndexItem). index.table == c.args.item.now.number) (map said_index xs)) c.in_ok-indexes.indexes.items)
     c.as_slice-items.ensures.value c.in_ok-indexes.ensures.indexes)
@@ -56,7 +56,7 @@ returns-in_err-records-clause-damaged g c = λ tied is.
 
 pub returns-clause-table : goal.returns-clause-table
 returns-clause-table g c =
-    let same : c.in_ok-records.records.types ≡ c.in-Some.schema.items = c.in_ok-records.ensures.types in
+    let same : c.in_ok-records.records.types ≡ c.in-Some.schema.items = c.in_ok-records.ensures.table.types in
     let directory = said_directory c.args.directory.now in
     record {
       few = c.in-Some.ensures.fits.0;
@@ -66,9 +66,9 @@ returns-clause-table g c =
           (filter (λ (index : IndexItem). index.table == c.args.item.now.number) (map said_index c.args.definitions.now.indexes.items)) c.in_ok-indexes.indexes.items) (sym same)
           (subst (λ xs. AllZip (IsIndex c.in-Some.schema.items directory) (filter (λ (index : IndexItem). index.table == c.args.item.now.number) (map said_index xs)) c.in_ok-indexes.indexes.items)
           c.as_slice-items.ensures.value c.in_ok-indexes.ensures.indexes);
-      committed = c.in_ok-records.ensures.committed;
+      committed = c.in_ok-records.ensures.table.committed;
       indexes_committed = c.in_ok-indexes.ensures.committed;
-      order = subst (λ (told : ToldRecords). AllByRecursion (λ dead. died_of dead ≤ told.accepted) c.in_ok-records.records.working.dead) c.told_of-told.ensures c.in_ok-records.ensures.order;
+      order = subst (λ (told : ToldRecords). AllByRecursion (λ dead. died_of dead ≤ told.accepted) c.in_ok-records.records.working.dead) c.told_of-told.ensures c.in_ok-records.ensures.table.order;
     }
 
 pub returns-clause-opens : goal.returns-clause-opens
@@ -78,7 +78,7 @@ returns-clause-opens g c = λ tied.
     let after = taken c.open.new.reached in
     let records = c.in_ok-records.records in
     let indexes = c.in_ok-indexes.indexes.items in
-    let same : records.types ≡ c.in-Some.schema.items = c.in_ok-records.ensures.types in
+    let same : records.types ≡ c.in-Some.schema.items = c.in_ok-records.ensures.table.types in
     let tree = c.in-Some-get.tree.now in
     let slot = subst (λ (xs : List StoredTree). slice_get (map said_tree xs) c.args.item.now.number ≡ Some (said_tree tree)) c.as_slice.ensures.value
     (said_at said_tree c.as_slice.result.now c.args.item.now.number tree c.in-Some-get.ensures.lookup.3.0 c.in-Some-get.ensures.lookup.1) in
@@ -87,4 +87,4 @@ returns-clause-opens g c = λ tied.
     (record { records = records; indexes = c.in_ok-indexes.indexes }) after (returns-clause-table g c)
     (subst (λ (types : List ColumnType). OpensTable types file told records.working indexes before after) (sym same)
     (subst (λ (t : ToldRecords). OpensTable c.in-Some.schema.items file t records.working indexes before after) c.told_of-told.ensures
-    (subst (λ (is : List IndexState). OpensTable c.in-Some.schema.items file c.told_of-told.result records.working is before after) c.as_slice-2.ensures.value (c.in_ok-records.ensures.opens tied))))
+    (subst (λ (is : List IndexState). OpensTable c.in-Some.schema.items file c.told_of-told.result records.working is before after) c.as_slice-2.ensures.value (c.in_ok-records.ensures.opens tied).opens)))

@@ -4,7 +4,7 @@ use Rattle.std.proofs.lemmas.Result.{err_from_is_err_and}
 use Rattle.std.specs.List.{AllZip}
 use Rattle.rs_catalog_pages.specs.Said.{said_catalogue, said_directory, said_table}
 use Rattle.rs_catalog_pages.specs.declared.items.StoredTable.{StoredTable}
-use Rattle.rs_catalog_pages.proofs.Resting.{rests_err, rests_ok, rests_refused, rests_then}
+use Rattle.rs_pages.proofs.Resting.{rests_err, rests_ok, rests_refused, rests_then}
 use Rattle.rs_contents.specs.Opening.{IsTableOf, OpensNotOne, OpensOne, OpensTables}
 use Rattle.rs_contents.specs.declared.opened.OpenedTable.{OpenedTable}
 use Rattle.rs_contents.proofs.Loaded.{same_map}

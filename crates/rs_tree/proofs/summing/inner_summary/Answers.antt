@@ -5,11 +5,12 @@ use Rattle.std.specs.List.{AllZip, flat_map}
 use Rattle.rs_records.specs.Records.{records}
 use Rattle.rs_records.proofs.RecordLists.{length-records, times_upto}
 use Rattle.rs_tree.specs.Content.{SaysChild}
-use Rattle.rs_tree.specs.Form.{joined, form_of}
+use Rattle.rs_tree.specs.Form.{joined}
 use Rattle.rs_tree.proofs.Lists.{zip_lengths}
 use Rattle.rs_tree.specs.Layouts.{entry_bytes}
 use Rattle.rs_tree.proofs.Joining.{joined_child}
 use Rattle.rs_tree.proofs.summing.inner_summary.Goals as goal
+use Rattle.rs_tree.specs.Forms.{form_in}
 
 pub record_at-requires : goal.record_at-requires
 record_at-requires g c =
@@ -28,7 +29,7 @@ loop-index-preserved g c = λ children says.
 
 pub returns : goal.returns
 returns g c = λ children says.
-    let form = form_of g.S.Summary.says g.S.Summary.unit g.S.Summary.join g.S.Summary.of c.args.layout.summary c.args.layout.width in
+    let form = form_in g.S.Summary c.args.layout in
     let here = subst (λ bytes. AllZip (SaysChild form) (records c.args.count (entry_bytes c.args.layout) bytes) children) (sym c.content-bytes.ensures.bytes) says in
     let count = zip_lengths (SaysChild form) (records c.args.count (entry_bytes c.args.layout) c.content-bytes.result.now) children here in
     let all : length children ≤ c.loop-index.index = omega (arith, count, length-records c.args.count (entry_bytes c.args.layout) c.content-bytes.result.now) in

@@ -6,17 +6,18 @@ use Rattle.rs_refusal.specs.declared.refusal.Refusal.TheVariants as refusal
 use Rattle.rs_page.specs.declared.header.PageKind.TheVariants as kind
 use Rattle.rs_records.specs.Listed.{listed}
 use Rattle.rs_records.proofs.RecordLists.{times_upto, length-keys}
-use Rattle.rs_tree.specs.Form.{Form, form_of, joined, least_from, child_bytes}
+use Rattle.rs_tree.specs.Form.{Form, joined, least_from, child_bytes}
 use Rattle.rs_tree.specs.Content.{content}
 use Rattle.rs_tree.specs.Layouts.{entry_bytes}
 use Rattle.rs_tree.specs.Node.{IsNode}
 use Rattle.rs_tree.specs.declared.node.Node.TheVariants.{Leaf, Inner}
 use Rattle.rs_tree.specs.Walking.{HasNoPart, Walks}
 use Rattle.rs_tree.proofs.Loading.{on_ok}
-use Rattle.rs_tree.proofs.Resting.{rests_then}
+use Rattle.rs_pages.proofs.Resting.{rests_then}
 use Rattle.rs_tree.proofs.Entries.{walks_next, walks_all, reads_next, reads_all, no_entry-no_parts}
 use Rattle.rs_tree.proofs.Entering.{walks_leaf, walks_inner, once_inner, no_parts-no_part, no_level-no_part, no_node-no_part, walks_accepted, walks_rejected, answer_told, records_fit, entry_there}
 use Rattle.rs_tree.proofs.walk.+walking.Goals as goal
+use Rattle.rs_tree.specs.Forms.{form, form_in}
 
 pub walk-returns-in_err-node-clause-damaged : goal.walk-returns-in_err-node-clause-damaged
 walk-returns-in_err-node-clause-damaged g t c = λ is tied.
@@ -33,7 +34,7 @@ walk-collect-requires-clause-fit g t c =
 
 pub walk-returns-then-levels-eq0-clause-damaged : goal.walk-returns-then-levels-eq0-clause-damaged
 walk-returns-then-levels-eq0-clause-damaged g t c = λ is tied.
-    let form : Form = form_of g.S.Summary.says g.S.Summary.unit g.S.Summary.join g.S.Summary.of c.args.layout.summary c.args.layout.width in
+    let form : Form = form_in g.S.Summary c.args.layout in
     let node : IsNode c.load_into.new.copy.bytes c.args.number c.args.layout (Inner c.in-Inner.count) =
     subst (IsNode c.load_into.new.copy.bytes c.args.number c.args.layout) c.in-Inner.is c.in_ok-node.ensures.loaded.node in
     let none = no_level-no_part (λ bytes cells. g.S.Summary.says bytes (joined g.S.Summary.unit g.S.Summary.join g.S.Summary.of cells)) c.args.layout
@@ -101,7 +102,7 @@ walk_entries-record_at-entry-requires g t c =
 
 pub walk_entries-returns-in_err-walk_entry-clause-damaged : goal.walk_entries-returns-in_err-walk_entry-clause-damaged
 walk_entries-returns-in_err-walk_entry-clause-damaged g t c = λ is tied.
-    let form : Form = form_of g.S.Summary.says g.S.Summary.unit g.S.Summary.join g.S.Summary.of c.args.layout.summary c.args.layout.width in
+    let form : Form = form_in g.S.Summary c.args.layout in
     let p = err_from_is_err_and c.from_residual.result c.from_residual.ensures.1 in
     let why : c.in_err-walk_entry.field-0.0 ≡ refusal.DamagedFile = cc (p.1, p.2, is) in
     let inside : c.entries_within-from.result.1 ≤ c.args.count =
@@ -115,7 +116,7 @@ walk_entries-returns-in_err-walk_entry-clause-damaged g t c = λ is tied.
 
 pub walk_entries-loop-index-preserved : goal.walk_entries-loop-index-preserved
 walk_entries-loop-index-preserved g t c =
-    let form : Form = form_of g.S.Summary.says g.S.Summary.unit g.S.Summary.join g.S.Summary.of c.args.layout.summary c.args.layout.width in
+    let form : Form = form_in g.S.Summary c.args.layout in
     let inside : c.entries_within-from.result.1 ≤ c.args.count =
     omega (arith, c.entries_within-from.ensures.last.within, length-keys (least_from c.args.layout.summary) c.args.count (entry_bytes c.args.layout) c.content-bytes.result.now) in
     let there = entry_there c.args.count c.entry_width.result (entry_bytes c.args.layout) c.content-bytes.result.now (content c.args.page.now.bytes) c.loop-index.index c.record_at-entry.result.now
@@ -142,7 +143,7 @@ walk_entries-loop-index-preserved g t c =
 
 pub walk_entries-returns-clause-walks : goal.walk_entries-returns-clause-walks
 walk_entries-returns-clause-walks g t c = λ tied test computes accepts.
-    let form : Form = form_of g.S.Summary.says g.S.Summary.unit g.S.Summary.join g.S.Summary.of c.args.layout.summary c.args.layout.width in
+    let form : Form = form_in g.S.Summary c.args.layout in
     walks_all form (g.P.Pages.store c.args.pages.now).map c.args.page.now.bytes c.args.count c.args.low.now c.args.high.now (λ cell. test (g.S.Summary.of cell))
     c.entries_within-from.result.0 c.entries_within-from.result.1 c.loop-index.index (listed c.args.cells.now) (listed c.loop-index.cells) c.args.left.now c.loop-index.left
     c.content-bytes.result.now c.content-bytes.ensures.bytes c.entries_within-from.ensures c.loop-index.invariant.ends c.loop-index.auto.index (omega arith)
@@ -150,13 +151,13 @@ walk_entries-returns-clause-walks g t c = λ tied test computes accepts.
 
 pub walk_entries-returns-clause-once : goal.walk_entries-returns-clause-once
 walk_entries-returns-clause-once g t c = λ tied.
-    let form : Form = form_of g.S.Summary.says g.S.Summary.unit g.S.Summary.join g.S.Summary.of c.args.layout.summary c.args.layout.width in
+    let form : Form = form_in g.S.Summary c.args.layout in
     reads_all form (g.P.Pages.store c.args.pages.now).map c.args.page.now.bytes c.args.count c.entries_within-from.result.0 (c.loop-index.index - c.entries_within-from.result.0)
     c.args.left.now c.loop-index.left (c.loop-index.invariant.once tied)
 
 pub walk_entry-returns-then-not-accepts-clause-walks : goal.walk_entry-returns-then-not-accepts-clause-walks
 walk_entry-returns-then-not-accepts-clause-walks g t c = λ tied test computes accepts.
-    let form : Form = form_of g.S.Summary.says g.S.Summary.unit g.S.Summary.join g.S.Summary.of c.args.layout.summary c.args.layout.width in
+    let form : Form = form_in g.S.Summary c.args.layout in
     let reads = λ (s : g.row.S.Denot) (says : g.S.Summary.says (take c.args.layout.summary (drop child_bytes c.args.entry.now)) s).
     c.read.ensures s (subst (λ bytes. g.S.Summary.says bytes s) (sym c.summary.ensures.bytes) says) in
     let answered : c.accepts.result ≡ false = search rules in
@@ -167,7 +168,7 @@ walk_entry-returns-then-not-accepts-clause-walks g t c = λ tied test computes a
 
 pub walk_entry-returns-clause-walks : goal.walk_entry-returns-clause-walks
 walk_entry-returns-clause-walks g t c =
-    let form : Form = form_of g.S.Summary.says g.S.Summary.unit g.S.Summary.join g.S.Summary.of c.args.layout.summary c.args.layout.width in
+    let form : Form = form_in g.S.Summary c.args.layout in
     let reads = λ (s : g.row.S.Denot) (says : g.S.Summary.says (take c.args.layout.summary (drop child_bytes c.args.entry.now)) s).
     c.read.ensures s (subst (λ bytes. g.S.Summary.says bytes s) (sym c.summary.ensures.bytes) says) in
     let answered : c.accepts.result ≡ true = search rules in

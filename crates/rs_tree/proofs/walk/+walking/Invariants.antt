@@ -4,10 +4,10 @@ use Rattle.std.specs.Fn.{FnReturnsAt}
 use Rattle.rs_pages.specs.Lending.{RestsAfter}
 use Rattle.rs_records.specs.Listed.{listed, record_width}
 use Rattle.rs_tree.specs.Calls.{AcceptsParts}
-use Rattle.rs_tree.specs.Form.{form_of}
 use Rattle.rs_tree.specs.Asking.{Computes}
 use Rattle.rs_tree.proofs.Entries.{WalksSome, ReadsSome}
 use Rattle.rs_tree.proofs.walk.+walking.Given as goal
+use Rattle.rs_tree.specs.Forms.{form_in}
 
 abbrev pub decreases-walk : goal.decreases-walk
 decreases-walk g l = 3 * l.levels + 2
@@ -25,9 +25,9 @@ invariant-walk_entries-loop-index g l = record {
   ends : l.index - l.from ≤ l.to - l.from;
   fewer : l.left ≤ l.fn.left;
   walks : g.P.Pages.is_tied l.fn.pages → (test : g.row.S.Denot → Bool) → Computes (FnReturnsAt g.F.Fn l.keep) test → AcceptsParts g.S.Summary.join test
-      → WalksSome (form_of g.S.Summary.says g.S.Summary.unit g.S.Summary.join g.S.Summary.of l.layout.summary l.layout.width) (g.P.Pages.store l.fn.pages).map l.page.bytes l.count
+      → WalksSome (form_in g.S.Summary l.layout) (g.P.Pages.store l.fn.pages).map l.page.bytes l.count
       l.low l.high (λ cell. test (g.S.Summary.of cell)) l.from (l.index - l.from) (listed l.fn.cells) (listed l.cells) l.fn.left l.left;
   once : g.P.Pages.is_tied l.fn.pages
-      → ReadsSome (form_of g.S.Summary.says g.S.Summary.unit g.S.Summary.join g.S.Summary.of l.layout.summary l.layout.width) (g.P.Pages.store l.fn.pages).map l.page.bytes l.count
+      → ReadsSome (form_in g.S.Summary l.layout) (g.P.Pages.store l.fn.pages).map l.page.bytes l.count
       l.from (l.index - l.from) l.fn.left l.left;
 }

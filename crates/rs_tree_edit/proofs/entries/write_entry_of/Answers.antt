@@ -2,17 +2,17 @@
 use Rattle.std.proofs.Common.{◌≡◌, Result, Err, inl, inr, rules}
 use Rattle.rs_refusal.specs.declared.refusal.Refusal.{Refusal}
 use Rattle.rs_pages.specs.Lending.{RestsAfter}
-use Rattle.rs_tree.specs.Form.{form_of}
 use Rattle.rs_tree.specs.Reading.{HasNoNode}
 use Rattle.rs_tree.proofs.Loading.{no_fit-no_node, on_ok}
+use Rattle.rs_tree.specs.Forms.{form_in}
 use Rattle.rs_tree_edit.proofs.Saying.{part_said}
-use Rattle.rs_tree_edit.proofs.Working.{ReadRefusal, rests-work}
+use Rattle.rs_page_owners.proofs.Working.{ReadRefusal, rests-work}
 use Rattle.rs_tree_edit.proofs.entries.write_entry_of.Goals as goal
 
 pub returns-in-Ok-clause-says : goal.returns-in-Ok-clause-says
 returns-in-Ok-clause-says g c = λ tied.
     on_ok c.write_node_entry.result c.write_node_entry.ensures.says (part_said
-    (form_of g.S.Summary.says g.S.Summary.unit g.S.Summary.join g.S.Summary.of c.args.layout.summary c.args.layout.width) (g.P.Pages.store c.args.pages.now).map c.args.number
+    (form_in g.S.Summary c.args.layout) (g.P.Pages.store c.args.pages.now).map c.args.number
     c.in-Ok.page.now.bytes c.write_node_entry.new.entry (c.in-Ok.ensures.lends.bytes tied))
 
 pub returns-in-Err-clause-works : goal.returns-in-Err-clause-works

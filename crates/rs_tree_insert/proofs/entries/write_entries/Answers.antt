@@ -4,10 +4,11 @@ use Rattle.std.proofs.lemmas.Result.{err_from_is_err_and}
 use Rattle.std.proofs.lemmas.List.{length-take-le, length-take, length-drop, length-append}
 use borrow.Rule.Slice.PartMut.{post_of}
 use Rattle.rs_records.specs.Records.{records}
-use Rattle.rs_tree.specs.Form.{Form, form_of, joined}
+use Rattle.rs_tree.specs.Form.{Form, joined}
 use Rattle.rs_tree.specs.Layouts.{entry_bytes}
 use Rattle.rs_tree.specs.Reading.{HasNoNode}
-use Rattle.rs_tree_edit.proofs.Working.{works_then, works_err, works_ok}
+use Rattle.rs_tree.specs.Forms.{form_in}
+use Rattle.rs_page_owners.proofs.Working.{works_then, works_err, works_ok}
 use Rattle.rs_tree_insert.specs.Inserting.{HasNoTops, tops}
 use Rattle.rs_tree_insert.specs.declared.answer.Put.{Put}
 use Rattle.rs_tree_insert.proofs.Here.{part_later}
@@ -16,7 +17,7 @@ use Rattle.rs_tree_insert.proofs.entries.write_entries.Goals as goal
 
 pub returns-in_err-write_entry_of-clause-works : goal.returns-in_err-write_entry_of-clause-works
 returns-in_err-write_entry_of-clause-works g c =
-    let form : Form = form_of g.S.Summary.says g.S.Summary.unit g.S.Summary.join g.S.Summary.of c.args.layout.summary c.args.layout.width in
+    let form : Form = form_in g.S.Summary c.args.layout in
     let map = (g.P.Pages.store c.args.pages.now).map in
     let p = err_from_is_err_and c.from_residual.result c.from_residual.ensures.1 in
     works_err (g.P.Pages.is_tied c.args.pages.now → HasNoNode map c.args.first c.args.layout) (g.P.Pages.is_tied c.args.pages.now → HasNoTops form map (tops c.args.first c.args.put))
@@ -26,7 +27,7 @@ returns-in_err-write_entry_of-clause-works g c =
 
 pub returns-in_err-write_entry_of-in-Split-clause-works : goal.returns-in_err-write_entry_of-in-Split-clause-works
 returns-in_err-write_entry_of-in-Split-clause-works g c =
-    let form : Form = form_of g.S.Summary.says g.S.Summary.unit g.S.Summary.join g.S.Summary.of c.args.layout.summary c.args.layout.width in
+    let form : Form = form_in g.S.Summary c.args.layout in
     let map = (g.P.Pages.store c.args.pages.now).map in
     let p = err_from_is_err_and c.from_residual-in_err-write_entry_of-in-Split.result c.from_residual-in_err-write_entry_of-in-Split.ensures.1 in
     let second : slice_get (tops c.args.first c.args.put) 1 ≡ Some c.in-Split.other = ap (λ (a : Put). slice_get (tops c.args.first a) 1) c.in-Split.is in
@@ -45,7 +46,7 @@ returns-in_err-write_entry_of-in-Split-clause-works g c =
 
 pub returns-in_ok-write_entry_of-in-Split-clause-says : goal.returns-in_ok-write_entry_of-in-Split-clause-says
 returns-in_ok-write_entry_of-in-Split-clause-says g c = λ tied.
-    let form : Form = form_of g.S.Summary.says g.S.Summary.unit g.S.Summary.join g.S.Summary.of c.args.layout.summary c.args.layout.width in
+    let form : Form = form_in g.S.Summary c.args.layout in
     let map = (g.P.Pages.store c.args.pages.now).map in
     let mid = (g.P.Pages.store c.write_entry_of.new.pages).map in
     let w : ℕ = c.entry_width-width.result in
@@ -71,7 +72,7 @@ returns-in_ok-write_entry_of-in-Split-clause-says g c = λ tied.
 
 pub returns-in_default : goal.returns-in_default
 returns-in_default g c =
-    let form : Form = form_of g.S.Summary.says g.S.Summary.unit g.S.Summary.join g.S.Summary.of c.args.layout.summary c.args.layout.width in
+    let form : Form = form_in g.S.Summary c.args.layout in
     let map = (g.P.Pages.store c.args.pages.now).map in
     let w : ℕ = c.entry_width-width.result in
     let one : List ℕ = c.write_entry_of.new.entry in

@@ -4,7 +4,7 @@ use Rattle.rs_refusal.specs.declared.refusal.Refusal.{Refusal}
 use Rattle.rs_pages.specs.Lending.{RestsAfter}
 use Rattle.rs_tree.specs.Reading.{HasNoNode}
 use Rattle.rs_tree.proofs.Loading.{no_fit-no_node}
-use Rattle.rs_tree_edit.proofs.Working.{ReadRefusal, rests-work}
+use Rattle.rs_page_owners.proofs.Working.{ReadRefusal, rests-work}
 use Rattle.rs_tree_insert.specs.declared.finding.Spot.{Spot}
 use Rattle.rs_tree_insert.proofs.finding.find_spot.Goals as goal
 

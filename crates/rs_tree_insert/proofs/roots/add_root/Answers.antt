@@ -1,10 +1,11 @@
 -- The entries first, then the page above.
 use Rattle.std.proofs.Common.{◌⊎◌, inr}
 use Rattle.rs_records.specs.Records.{records}
-use Rattle.rs_tree.specs.Form.{Form, form_of}
+use Rattle.rs_tree.specs.Form.{Form}
 use Rattle.rs_tree.specs.Layouts.{entry_bytes}
+use Rattle.rs_tree.specs.Forms.{form_in}
 use Rattle.rs_tree_edit.specs.Editing.{HasNoFreeList}
-use Rattle.rs_tree_edit.proofs.Working.{works_then}
+use Rattle.rs_page_owners.proofs.Working.{works_then}
 use Rattle.rs_tree_insert.specs.Inserting.{HasNoTops, tops}
 use Rattle.rs_tree_insert.specs.declared.answer.Put.TheVariants.{Split}
 use Rattle.rs_tree_insert.proofs.Halves.{if_ok}
@@ -13,7 +14,7 @@ use Rattle.rs_tree_insert.proofs.roots.add_root.Goals as goal
 
 pub returns-clause-works : goal.returns-clause-works
 returns-clause-works g c =
-    let form : Form = form_of g.S.Summary.says g.S.Summary.unit g.S.Summary.join g.S.Summary.of c.args.layout.summary c.args.layout.width in
+    let form : Form = form_in g.S.Summary c.args.layout in
     let old = (g.P.Pages.store c.args.pages.now).map in
     let mid = (g.P.Pages.store c.write_entries.new.pages).map in
     works_then (g.P.Pages.is_tied c.args.pages.now → HasNoTops form old (tops c.args.first (Split c.args.second)))

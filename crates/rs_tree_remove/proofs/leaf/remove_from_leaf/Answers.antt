@@ -4,12 +4,13 @@ use Rattle.std.proofs.lemmas.Result.{err_from_is_err_and}
 use Rattle.rs_pages.specs.PageMap.{HasNoFit}
 use Rattle.rs_records.specs.Records.{records, keys, IsPlace}
 use Rattle.rs_records.proofs.RecordLists.{length-keys}
-use Rattle.rs_tree.specs.Form.{Form, form_of, joined}
+use Rattle.rs_tree.specs.Form.{Form, joined}
 use Rattle.rs_tree.proofs.Lists.{has_inside}
-use Rattle.rs_tree_edit.proofs.Working.{works_err}
+use Rattle.rs_tree.specs.Forms.{form, form_in}
+use Rattle.rs_page_owners.proofs.Working.{NotReleased, released-works, works_err}
 use Rattle.rs_tree_remove.specs.Leaving.{HasNoOwnPart}
 use Rattle.rs_tree_remove.proofs.Leaves.{leaf_missing, leaf_gone, leaf_kept}
-use Rattle.rs_tree_remove.proofs.Refusing.{NotReleased, part_lent, lent-released, lent-fits, release-works}
+use Rattle.rs_tree_remove.proofs.Refusing.{part_lent, lent-released, lent-fits}
 use Rattle.rs_tree_remove.proofs.leaf.remove_from_leaf.Goals as goal
 
 pub returns-then-not-has_key-clause-removed : goal.returns-then-not-has_key-clause-removed
@@ -21,7 +22,7 @@ returns-then-not-has_key-clause-removed g c = λ tied lent.
 
 pub returns-in_err-release-clause-works : goal.returns-in_err-release-clause-works
 returns-in_err-release-clause-works g c =
-    let form : Form = form_of g.S.Summary.says g.S.Summary.unit g.S.Summary.join g.S.Summary.of c.args.layout.summary c.args.layout.width in
+    let form : Form = form_in g.S.Summary c.args.layout in
     let p = err_from_is_err_and c.from_residual.result c.from_residual.ensures.1 in
     works_err {T = Unit {0}} (NotReleased (g.P.Pages.is_tied c.args.pages.now) c.args.number (g.P.Pages.store c.args.pages.now))
     (g.P.Pages.is_tied c.args.pages.now → (g.P.Pages.store c.args.pages.now).map.page c.args.number ≡ Some c.args.page.now.bytes → (levels : ℕ) → HasNoOwnPart form (g.P.Pages.store c.args.pages.now).map c.args.number levels)
@@ -31,7 +32,7 @@ returns-in_err-release-clause-works g c =
           lent-released (g.P.Pages.is_tied c.args.pages.now) (g.P.Pages.store c.args.pages.now) c.args.number _ tied (part_lent form (g.P.Pages.store c.args.pages.now).map c.args.number height shape part) shares refused;
     })
     (p.1 ∙ ap Err p.2)
-    (release-works (g.P.Pages.is_tied c.args.pages.now) c.args.number (Err c.in_err-release.field-0.0) (g.P.Pages.store c.args.pages.now) (g.P.Pages.store c.release.new.self)
+    (released-works (g.P.Pages.is_tied c.args.pages.now) c.args.number (Err c.in_err-release.field-0.0) (g.P.Pages.store c.args.pages.now) (g.P.Pages.store c.release.new.self)
     c.in_err-release.ensures.releases c.in_err-release.ensures.rests c.in_err-release.ensures.refused)
 
 pub returns-then-count-eq1-clause-removed : goal.returns-then-count-eq1-clause-removed
@@ -48,7 +49,7 @@ edit_page-requires-clause-part g c =
 
 pub returns-in_err-edit_page-clause-works : goal.returns-in_err-edit_page-clause-works
 returns-in_err-edit_page-clause-works g c =
-    let form : Form = form_of g.S.Summary.says g.S.Summary.unit g.S.Summary.join g.S.Summary.of c.args.layout.summary c.args.layout.width in
+    let form : Form = form_in g.S.Summary c.args.layout in
     let p = err_from_is_err_and c.from_residual-in_err-edit_page.result c.from_residual-in_err-edit_page.ensures.1 in
     works_err {T = Unit {0}} (g.P.Pages.is_tied c.args.pages.now → HasNoFit (g.P.Pages.store c.args.pages.now).map c.args.number)
     (g.P.Pages.is_tied c.args.pages.now → (g.P.Pages.store c.args.pages.now).map.page c.args.number ≡ Some c.args.page.now.bytes → (levels : ℕ) → HasNoOwnPart form (g.P.Pages.store c.args.pages.now).map c.args.number levels)

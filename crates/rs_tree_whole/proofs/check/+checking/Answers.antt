@@ -7,12 +7,13 @@ use Rattle.rs_page.specs.declared.header.PageKind.TheVariants as kind
 use Rattle.rs_page_marks.specs.Marks.{taken}
 use Rattle.rs_page_marks.proofs.Marking.{taken-le}
 use Rattle.rs_tree.specs.Content.{content}
-use Rattle.rs_tree.specs.Form.{form_of, joined, least_from}
+use Rattle.rs_tree.specs.Form.{joined, least_from}
 use Rattle.rs_tree.specs.Layouts.{entry_bytes}
 use Rattle.rs_tree.specs.Node.{IsNode}
 use Rattle.rs_tree.specs.declared.node.Node.TheVariants.{Leaf, Inner}
 use Rattle.rs_tree.proofs.Entering.{records_fit, entry_there}
-use Rattle.rs_tree.proofs.Resting.{rests_none, rests_then}
+use Rattle.rs_tree.specs.Forms.{form_in}
+use Rattle.rs_pages.proofs.Resting.{rests_none, rests_then}
 use Rattle.rs_tree_whole.specs.Checking.{Reaches, HasNoSound}
 use Rattle.rs_tree_whole.proofs.Entries.{entries_none, entries_next, none_next, none_level}
 use Rattle.rs_tree_whole.proofs.Fresh.{fails}
@@ -78,7 +79,7 @@ check_part-returns-then-levels-eq0-clause-damaged g t c = λ is tied.
     subst (IsNode c.in_ok-loaded.loaded.page.bytes c.args.number c.args.layout) c.in-Inner.is c.in_ok-loaded.ensures.enters.loaded.node in
     elim c.then-levels-eq0.branch [
       | check_part-then-levels-eq0-via-then-levels-eq0 w ↦
-          subst (λ levels. HasNoSound (form_of g.S.Summary.says g.S.Summary.unit g.S.Summary.join g.S.Summary.of c.args.layout.summary c.args.layout.width) (g.P.Pages.store c.args.pages.now).map c.args.number (option_copied c.args.first) (option_copied c.args.bound) levels (taken c.args.reached.now)) (sym w.if-levels-eq0.true)
+          subst (λ levels. HasNoSound (form_in g.S.Summary c.args.layout) (g.P.Pages.store c.args.pages.now).map c.args.number (option_copied c.args.first) (option_copied c.args.bound) levels (taken c.args.reached.now)) (sym w.if-levels-eq0.true)
           (none_below (joined g.S.Summary.unit g.S.Summary.join g.S.Summary.of) (λ bytes cells. g.S.Summary.says bytes (joined g.S.Summary.unit g.S.Summary.join g.S.Summary.of cells)) c.args.layout
           (g.P.Pages.store c.args.pages.now).map c.args.number (option_copied c.args.first) (option_copied c.args.bound) c.in_ok-loaded.loaded.page.bytes c.in-Inner.count (c.in_ok-loaded.ensures.enters.loaded.bytes tied) (taken c.args.reached.now) node)
       | check_part-then-levels-eq0-via-else-levels-eq0+then-not-begins_with w ↦
@@ -111,7 +112,7 @@ check_part-returns-in_ok-height-in-Inner-clause-reaches g t c = λ tied.
     subst (IsNode c.in_ok-loaded.loaded.page.bytes c.args.number c.args.layout) c.in-Inner.is c.in_ok-loaded.ensures.enters.loaded.node in
     let later = g.met.P.Pages.keeps_tied c.args.pages.now c.enter.new.pages c.in_ok-loaded.ensures.rests.below tied in
     let next : suc c.in_ok-height-in-Inner.height ≡ c.in_ok-height-in-Inner.height + 1 = omega arith in
-    subst (λ height. Reaches (joined g.S.Summary.unit g.S.Summary.join g.S.Summary.of) (form_of g.S.Summary.says g.S.Summary.unit g.S.Summary.join g.S.Summary.of c.args.layout.summary c.args.layout.width) (g.P.Pages.store c.args.pages.now).map c.args.number (option_copied c.args.first) (option_copied c.args.bound)
+    subst (λ height. Reaches (joined g.S.Summary.unit g.S.Summary.join g.S.Summary.of) (form_in g.S.Summary c.args.layout) (g.P.Pages.store c.args.pages.now).map c.args.number (option_copied c.args.first) (option_copied c.args.bound)
     (taken c.args.reached.now) (taken c.check_entries.new.reached) height c.in_ok-height-in-Inner.total c.inner_summary-whole.result) next
     (reaches_inner (joined g.S.Summary.unit g.S.Summary.join g.S.Summary.of) (λ bytes cells. g.S.Summary.says bytes (joined g.S.Summary.unit g.S.Summary.join g.S.Summary.of cells)) c.args.layout
     (g.P.Pages.store c.args.pages.now).map c.args.number (option_copied c.args.first) (option_copied c.args.bound) c.in_ok-loaded.loaded.page.bytes c.in-Inner.count (c.in_ok-loaded.ensures.enters.loaded.bytes tied) (taken c.args.reached.now) (taken c.enter.new.reached) (taken c.check_entries.new.reached) (g.P.Pages.store c.enter.new.pages).map
@@ -123,7 +124,7 @@ check_entries-loop-index-init g t c = record {
   rests = rests_none g.P.Pages.is_tied g.P.Pages.store g.P.Pages.keeps tt c.args.pages.now (g.met.P.Pages.keeps_refl c.args.pages.now);
   size = refl;
   height = c.requires.levels;
-  reaches = λ tied. entries_none (form_of g.S.Summary.says g.S.Summary.unit g.S.Summary.join g.S.Summary.of c.args.layout.summary c.args.layout.width) (g.P.Pages.store c.args.pages.now).map c.args.page.now.bytes c.args.count
+  reaches = λ tied. entries_none (form_in g.S.Summary c.args.layout) (g.P.Pages.store c.args.pages.now).map c.args.page.now.bytes c.args.count
       (option_copied c.args.bound) 0 0 (taken c.args.reached.now) refl;
 }
 
@@ -136,7 +137,7 @@ check_entries-returns-in_err-found-clause-damaged g t c = λ is tied.
     let next = key_same (least_from c.args.layout.summary) c.args.count (entry_bytes c.args.layout) (c.loop-index.index + 1) c.content-bytes.result.now (content c.args.page.now.bytes)
     (option_copied c.bound_at-next.result) (option_copied c.args.bound) c.bound_at-next.ensures c.content-bytes.ensures.bytes in
     let later = g.met.P.Pages.keeps_tied c.args.pages.now c.loop-index.pages c.loop-index.invariant.rests.below tied in
-    none_next (form_of g.S.Summary.says g.S.Summary.unit g.S.Summary.join g.S.Summary.of c.args.layout.summary c.args.layout.width) (g.P.Pages.store c.args.pages.now).map c.args.page.now.bytes c.args.count (option_copied c.args.bound)
+    none_next (form_in g.S.Summary c.args.layout) (g.P.Pages.store c.args.pages.now).map c.args.page.now.bytes c.args.count (option_copied c.args.bound)
     c.loop-index.index c.loop-index.height c.loop-index.total c.args.levels c.record_at-entry.result.now (option_copied c.bound_at-next.result) (g.P.Pages.store c.loop-index.pages).map
     (taken c.args.reached.now) (taken c.loop-index.reached) (taken-le c.loop-index.reached) there next (c.loop-index.invariant.rests.rests.keeps.pages tied)
     (c.loop-index.invariant.reaches tied) (c.in_err-found.ensures.damaged (ap Err why) later)
@@ -148,7 +149,7 @@ check_entries-returns-then-found-height-clause-damaged g t c = λ is tied.
     let next = key_same (least_from c.args.layout.summary) c.args.count (entry_bytes c.args.layout) (c.loop-index.index + 1) c.content-bytes.result.now (content c.args.page.now.bytes)
     (option_copied c.bound_at-next.result) (option_copied c.args.bound) c.bound_at-next.ensures c.content-bytes.ensures.bytes in
     let later = g.met.P.Pages.keeps_tied c.args.pages.now c.loop-index.pages c.loop-index.invariant.rests.below tied in
-    none_level (form_of g.S.Summary.says g.S.Summary.unit g.S.Summary.join g.S.Summary.of c.args.layout.summary c.args.layout.width) (g.P.Pages.store c.args.pages.now).map c.args.page.now.bytes c.args.count (option_copied c.args.bound)
+    none_level (form_in g.S.Summary c.args.layout) (g.P.Pages.store c.args.pages.now).map c.args.page.now.bytes c.args.count (option_copied c.args.bound)
     c.loop-index.index c.loop-index.height c.in_ok-found.found c.loop-index.total c.in_ok-found.more c.args.levels c.record_at-entry.result.now (option_copied c.bound_at-next.result) (g.P.Pages.store c.loop-index.pages).map
     (taken c.args.reached.now) (taken c.loop-index.reached) (taken c.check_entry.new.reached) c.if-index-gt0.true c.if-found-height.true there (c.loop-index.invariant.rests.rests.keeps.pages tied)
     (c.loop-index.invariant.reaches tied) (c.in_ok-found.ensures.reaches later)
@@ -171,7 +172,7 @@ check_entries-loop-index-preserved g t c =
             | check_entries-else-index-gt0-via-then-index-gt0+else-found-height w ↦ inr w.if-found-height.false
             | check_entries-else-index-gt0-via-else-index-gt0 w ↦ inl (omega arith)
           ] in
-          entries_next (form_of g.S.Summary.says g.S.Summary.unit g.S.Summary.join g.S.Summary.of c.args.layout.summary c.args.layout.width) (g.P.Pages.store c.args.pages.now).map c.args.page.now.bytes c.args.count (option_copied c.args.bound)
+          entries_next (form_in g.S.Summary c.args.layout) (g.P.Pages.store c.args.pages.now).map c.args.page.now.bytes c.args.count (option_copied c.args.bound)
           c.loop-index.index c.loop-index.height c.in_ok-found.found c.loop-index.total c.in_ok-found.more c.saturating_add-total.result c.record_at-entry.result.now (option_copied c.bound_at-next.result) (g.P.Pages.store c.loop-index.pages).map
           (taken c.args.reached.now) (taken c.loop-index.reached) (taken c.check_entry.new.reached) there next (c.loop-index.invariant.rests.rests.keeps.pages tied) level c.saturating_add-total.ensures
           (c.loop-index.invariant.reaches tied) (c.in_ok-found.ensures.reaches later);
@@ -179,9 +180,9 @@ check_entries-loop-index-preserved g t c =
 
 pub check_entry-returns-then-not-says-clause-damaged : goal.check_entry-returns-then-not-says-clause-damaged
 check_entry-returns-then-not-says-clause-damaged g t c = λ is tied.
-    let found = subst (λ least. Reaches (joined g.S.Summary.unit g.S.Summary.join g.S.Summary.of) (form_of g.S.Summary.says g.S.Summary.unit g.S.Summary.join g.S.Summary.of c.args.layout.summary c.args.layout.width) (g.P.Pages.store c.args.pages.now).map c.child-number.result (Some least) (option_copied c.args.bound)
-    (taken c.args.reached.now) (taken c.check_part.new.reached) c.in_ok-height.height c.in_ok-height.total c.in_ok-height.whole) c.least.ensures (c.in_ok-height.ensures.reaches tied) in
-    none_said (form_of g.S.Summary.says g.S.Summary.unit g.S.Summary.join g.S.Summary.of c.args.layout.summary c.args.layout.width) (g.P.Pages.store c.args.pages.now).map c.args.entry.now (option_copied c.args.bound) (joined g.S.Summary.unit g.S.Summary.join g.S.Summary.of)
-    c.args.levels (taken c.args.reached.now) (taken c.check_part.new.reached) c.in_ok-height.height c.in_ok-height.total c.in_ok-height.whole c.child-number.result c.child-number.ensures (taken-le c.check_part.new.reached)
+    let found = subst (λ least. Reaches (joined g.S.Summary.unit g.S.Summary.join g.S.Summary.of) (form_in g.S.Summary c.args.layout) (g.P.Pages.store c.args.pages.now).map c.child-number.result (Some least) (option_copied c.args.bound)
+    (taken c.args.reached.now) (taken c.check_part.new.reached) c.in_ok-part.part.height c.in_ok-part.part.total c.in_ok-part.part.whole) c.least.ensures (c.in_ok-part.ensures.reaches tied) in
+    none_said (form_in g.S.Summary c.args.layout) (g.P.Pages.store c.args.pages.now).map c.args.entry.now (option_copied c.args.bound) (joined g.S.Summary.unit g.S.Summary.join g.S.Summary.of)
+    c.args.levels (taken c.args.reached.now) (taken c.check_part.new.reached) c.in_ok-part.part.height c.in_ok-part.part.total c.in_ok-part.part.whole c.child-number.result c.child-number.ensures (taken-le c.check_part.new.reached)
     (λ cells same said. fails c.says.result c.if-not-says.true c.says.ensures.1
     (subst (λ one. g.S.Summary.says c.summary.result.now one) (sym same) (subst (λ bytes. g.S.Summary.says bytes (joined g.S.Summary.unit g.S.Summary.join g.S.Summary.of cells)) (sym c.summary.ensures.bytes) said))) found

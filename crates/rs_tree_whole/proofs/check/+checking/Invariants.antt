@@ -3,9 +3,9 @@ use Rattle.std.proofs.Common.{◌≡◌, ◌<◌, ◌*◌, ◌+◌, Ok, length}
 use Rattle.std.specs.Option.{option_copied}
 use Rattle.rs_pages.specs.Lending.{RestsAfter}
 use Rattle.rs_page_marks.specs.Marks.{taken}
-use Rattle.rs_tree.specs.Form.{form_of}
 use Rattle.rs_tree_whole.specs.Checking.{ReachesEntries}
 use Rattle.rs_tree_whole.proofs.check.+checking.Given as goal
+use Rattle.rs_tree.specs.Forms.{form_in}
 
 abbrev pub decreases-check_part : goal.decreases-check_part
 decreases-check_part g l = 3 * l.levels + 2
@@ -22,6 +22,6 @@ invariant-check_entries-loop-index g l = record {
   size : length l.reached ≡ length l.fn.reached;
   height : l.height < l.levels;
   reaches : g.P.Pages.is_tied l.fn.pages
-      → ReachesEntries (form_of g.S.Summary.says g.S.Summary.unit g.S.Summary.join g.S.Summary.of l.layout.summary l.layout.width) (g.P.Pages.store l.fn.pages).map l.page.bytes l.count l.index
+      → ReachesEntries (form_in g.S.Summary l.layout) (g.P.Pages.store l.fn.pages).map l.page.bytes l.count l.index
       (option_copied l.bound) (taken l.fn.reached) (taken l.reached) l.height l.total;
 }

@@ -2,21 +2,23 @@
 use Rattle.std.proofs.Common.{◌≡◌, ◌≤◌, ◌*◌, ◌+◌, ◌-◌, suc, subst, arith, rules}
 use Rattle.std.proofs.lemmas.Result.{err_from_is_err_and}
 use Rattle.rs_page.specs.declared.header.PageKind.TheVariants as kind
-use Rattle.rs_tree.specs.Form.{Form, form_of, joined}
+use Rattle.rs_tree.specs.Form.{Form, joined}
 use Rattle.rs_tree.specs.Content.{content}
 use Rattle.rs_tree.specs.Layouts.{entry_bytes}
 use Rattle.rs_tree.specs.Node.{IsNode}
 use Rattle.rs_tree.specs.declared.node.Node.TheVariants.{Leaf, Inner}
 use Rattle.rs_tree.proofs.Loading.{on_ok}
 use Rattle.rs_tree.proofs.Entering.{records_fit, entry_there}
+use Rattle.rs_tree.specs.Forms.{form, form_in}
 use Rattle.rs_tree_whole.specs.Clearing.{ClearsPart, HasNoOwnPart, HasNoOwnParts}
 use Rattle.rs_tree_whole.proofs.Freeing.{ClearsSome, ClearsBelow, clears_next, clears_all, no_part-no_parts, clears_leaf, clears_inner, no_parts-no_part, clears_top, not_released-no_part, no_node-no_part, no_level-no_part}
-use Rattle.rs_tree_whole.proofs.Working.{Works-trans, Rests-works, CountsNothing-trans, works_then, works_err, reads_err, damaged_err, release_works, NotReleased}
+use Rattle.rs_page_owners.proofs.Working.{Works-trans, Rests-works, CountsNothing-trans, NotReleased, released-works}
+use Rattle.rs_page_owners.proofs.Following.{works_then, works_err, reads_err, damaged_err}
 use Rattle.rs_tree_whole.proofs.clearing.+clearing.Goals as goal
 
 pub clear_entries-returns-in_err-clear_part-clause-works : goal.clear_entries-returns-in_err-clear_part-clause-works
 clear_entries-returns-in_err-clear_part-clause-works g t c =
-    let form : Form = form_of g.S.Summary.says g.S.Summary.unit g.S.Summary.join g.S.Summary.of c.args.layout.summary c.args.layout.width in
+    let form : Form = form_in g.S.Summary c.args.layout in
     let p = err_from_is_err_and c.from_residual.result c.from_residual.ensures.1 in
     let there = entry_there c.args.count c.entry_width.result (entry_bytes c.args.layout) c.content-bytes.result.now (content c.args.page.now.bytes) c.loop-index.index c.record_at-entry.result.now
     c.entry_width.ensures.width c.content-bytes.ensures.bytes (c.record_at-entry.ensures.one c.args.count (omega arith)) in
@@ -33,7 +35,7 @@ clear_entries-returns-in_err-clear_part-clause-works g t c =
 
 pub clear_entries-loop-index-preserved : goal.clear_entries-loop-index-preserved
 clear_entries-loop-index-preserved g t c =
-    let form : Form = form_of g.S.Summary.says g.S.Summary.unit g.S.Summary.join g.S.Summary.of c.args.layout.summary c.args.layout.width in
+    let form : Form = form_in g.S.Summary c.args.layout in
     let there = entry_there c.args.count c.entry_width.result (entry_bytes c.args.layout) c.content-bytes.result.now (content c.args.page.now.bytes) c.loop-index.index c.record_at-entry.result.now
     c.entry_width.ensures.width c.content-bytes.ensures.bytes (c.record_at-entry.ensures.one c.args.count (omega arith)) in
     let more : suc c.loop-index.index ≡ c.loop-index.index + 1 = omega arith in
@@ -52,7 +54,7 @@ clear_entries-loop-index-preserved g t c =
 
 pub clear_entries-returns-clause-clears : goal.clear_entries-returns-clause-clears
 clear_entries-returns-clause-clears g t c = λ tied.
-    let form : Form = form_of g.S.Summary.says g.S.Summary.unit g.S.Summary.join g.S.Summary.of c.args.layout.summary c.args.layout.width in
+    let form : Form = form_in g.S.Summary c.args.layout in
     let all : c.loop-index.index ≡ c.args.count = omega arith in
     clears_all form (g.P.Pages.store c.args.pages.now).map c.args.page.now.bytes c.args.count (g.P.Pages.store c.loop-index.pages).map c.args.left.now c.loop-index.left
     (subst (λ i. ClearsSome form (g.P.Pages.store c.args.pages.now).map c.args.page.now.bytes c.args.count (g.P.Pages.store c.loop-index.pages).map i c.args.left.now c.loop-index.left) all
@@ -85,7 +87,7 @@ clear_part-clear_entries-requires g t c κs within =
 
 pub clear_part-returns-in_err-clear_entries-in-Inner-clause-works : goal.clear_part-returns-in_err-clear_entries-in-Inner-clause-works
 clear_part-returns-in_err-clear_entries-in-Inner-clause-works g t c =
-    let form : Form = form_of g.S.Summary.says g.S.Summary.unit g.S.Summary.join g.S.Summary.of c.args.layout.summary c.args.layout.width in
+    let form : Form = form_in g.S.Summary c.args.layout in
     let node : IsNode c.in_ok-loaded.loaded.page.bytes c.args.number c.args.layout (Inner c.in-Inner.count) =
     subst (IsNode c.in_ok-loaded.loaded.page.bytes c.args.number c.args.layout) c.in-Inner.is c.in_ok-loaded.ensures.loaded.node in
     let p = err_from_is_err_and c.from_residual-in_err-clear_entries-in-Inner.result c.from_residual-in_err-clear_entries-in-Inner.ensures.1 in
@@ -99,7 +101,7 @@ clear_part-returns-in_err-clear_entries-in-Inner-clause-works g t c =
 
 pub clear_part-returns-in-Leaf-clause-works : goal.clear_part-returns-in-Leaf-clause-works
 clear_part-returns-in-Leaf-clause-works g t c =
-    let form : Form = form_of g.S.Summary.says g.S.Summary.unit g.S.Summary.join g.S.Summary.of c.args.layout.summary c.args.layout.width in
+    let form : Form = form_in g.S.Summary c.args.layout in
     let node : IsNode c.in_ok-loaded.loaded.page.bytes c.args.number c.args.layout (Leaf c.in-Leaf.field-0) =
     subst (IsNode c.in_ok-loaded.loaded.page.bytes c.args.number c.args.layout) c.in-Leaf.is c.in_ok-loaded.ensures.loaded.node in
     let below : g.P.Pages.is_tied c.args.pages.now → ClearsBelow (λ bytes cells. g.S.Summary.says bytes (joined g.S.Summary.unit g.S.Summary.join g.S.Summary.of cells)) c.args.layout (g.P.Pages.store c.args.pages.now).map c.args.number c.in_ok-loaded.loaded.page.bytes (g.P.Pages.store c.load.new.pages).map c.args.left.now c.load.new.left =
@@ -109,8 +111,8 @@ clear_part-returns-in-Leaf-clause-works g t c =
     (NotReleased (g.P.Pages.is_tied c.load.new.pages) c.args.number (g.P.Pages.store c.load.new.pages)) c.release.result (g.P.Pages.store c.args.pages.now) (g.P.Pages.store c.load.new.pages) (g.P.Pages.store c.release.new.self) (Rests-works (g.P.Pages.is_tied c.args.pages.now) (g.P.Pages.store c.args.pages.now) (g.P.Pages.store c.load.new.pages) c.in_ok-loaded.ensures.rests.rests) (record { failures = c.in_ok-loaded.ensures.rests.count; full = c.in_ok-loaded.ensures.rests.rests.full })
     (λ refused tied. let later = g.met.P.Pages.keeps_tied c.args.pages.now c.load.new.pages c.in_ok-loaded.ensures.rests.below tied in
     not_released-no_part (λ bytes cells. g.S.Summary.says bytes (joined g.S.Summary.unit g.S.Summary.join g.S.Summary.of cells)) c.args.layout (g.P.Pages.store c.args.pages.now).map c.args.number c.in_ok-loaded.loaded.page.bytes (g.P.Pages.is_tied c.load.new.pages) (g.P.Pages.store c.load.new.pages) c.args.levels c.args.left.now c.load.new.left later (below tied) refused)
-    (release_works (g.P.Pages.is_tied c.load.new.pages) (NotReleased (g.P.Pages.is_tied c.load.new.pages) c.args.number (g.P.Pages.store c.load.new.pages)) c.args.number c.release.result (g.P.Pages.store c.load.new.pages) (g.P.Pages.store c.release.new.self)
-    c.release.ensures.releases c.release.ensures.rests c.release.ensures.refused (λ refused. refused))
+    (released-works (g.P.Pages.is_tied c.load.new.pages) c.args.number c.release.result (g.P.Pages.store c.load.new.pages) (g.P.Pages.store c.release.new.self)
+    c.release.ensures.releases c.release.ensures.rests c.release.ensures.refused)
 
 pub clear_part-returns-in-Leaf-clause-clears : goal.clear_part-returns-in-Leaf-clause-clears
 clear_part-returns-in-Leaf-clause-clears g t c =
@@ -124,7 +126,7 @@ clear_part-returns-in-Leaf-clause-clears g t c =
 
 pub clear_part-returns-in_ok-clear_entries-in-Inner-clause-works : goal.clear_part-returns-in_ok-clear_entries-in-Inner-clause-works
 clear_part-returns-in_ok-clear_entries-in-Inner-clause-works g t c =
-    let form : Form = form_of g.S.Summary.says g.S.Summary.unit g.S.Summary.join g.S.Summary.of c.args.layout.summary c.args.layout.width in
+    let form : Form = form_in g.S.Summary c.args.layout in
     let node : IsNode c.in_ok-loaded.loaded.page.bytes c.args.number c.args.layout (Inner c.in-Inner.count) =
     subst (IsNode c.in_ok-loaded.loaded.page.bytes c.args.number c.args.layout) c.in-Inner.is c.in_ok-loaded.ensures.loaded.node in
     let below : g.P.Pages.is_tied c.args.pages.now → ClearsBelow (λ bytes cells. g.S.Summary.says bytes (joined g.S.Summary.unit g.S.Summary.join g.S.Summary.of cells)) c.args.layout (g.P.Pages.store c.args.pages.now).map c.args.number c.in_ok-loaded.loaded.page.bytes (g.P.Pages.store c.clear_entries.new.pages).map c.args.left.now c.clear_entries.new.left =
@@ -139,8 +141,8 @@ clear_part-returns-in_ok-clear_entries-in-Inner-clause-works g t c =
     (λ refused tied. let later = g.met.P.Pages.keeps_tied c.args.pages.now c.load.new.pages c.in_ok-loaded.ensures.rests.below tied in
     let last = g.met.P.Pages.keeps_tied c.load.new.pages c.clear_entries.new.pages c.in_ok-clear_entries-in-Inner.ensures.keeps later in
     not_released-no_part (λ bytes cells. g.S.Summary.says bytes (joined g.S.Summary.unit g.S.Summary.join g.S.Summary.of cells)) c.args.layout (g.P.Pages.store c.args.pages.now).map c.args.number c.in_ok-loaded.loaded.page.bytes (g.P.Pages.is_tied c.clear_entries.new.pages) (g.P.Pages.store c.clear_entries.new.pages) c.args.levels c.args.left.now c.clear_entries.new.left last (below tied) refused)
-    (release_works (g.P.Pages.is_tied c.clear_entries.new.pages) (NotReleased (g.P.Pages.is_tied c.clear_entries.new.pages) c.args.number (g.P.Pages.store c.clear_entries.new.pages)) c.args.number c.release-in-Inner.result (g.P.Pages.store c.clear_entries.new.pages) (g.P.Pages.store c.release-in-Inner.new.self)
-    c.release-in-Inner.ensures.releases c.release-in-Inner.ensures.rests c.release-in-Inner.ensures.refused (λ refused. refused))
+    (released-works (g.P.Pages.is_tied c.clear_entries.new.pages) c.args.number c.release-in-Inner.result (g.P.Pages.store c.clear_entries.new.pages) (g.P.Pages.store c.release-in-Inner.new.self)
+    c.release-in-Inner.ensures.releases c.release-in-Inner.ensures.rests c.release-in-Inner.ensures.refused)
 
 pub clear_part-returns-in_ok-clear_entries-in-Inner-clause-clears : goal.clear_part-returns-in_ok-clear_entries-in-Inner-clause-clears
 clear_part-returns-in_ok-clear_entries-in-Inner-clause-clears g t c =

@@ -5,7 +5,7 @@ use Rattle.rs_attr.specs.Opening.{HasEntries}
 use Rattle.rs_attr.proofs.Checked.{Tells, entries_lack, entries_next, no_tree_lacks}
 use Rattle.rs_refusal.specs.declared.refusal.Refusal.TheVariants as refusal
 use Rattle.rs_records.specs.Listed.{listed}
-use Rattle.rs_tree.proofs.Resting.{rests_then}
+use Rattle.rs_pages.proofs.Resting.{rests_then}
 use Rattle.rs_versioned.proofs.CellsWide.{cell_wide}
 use Rattle.rs_cell_versions.proofs.Refusing.{rests_ok}
 use Rattle.rs_attr.proofs.attr_index.AttrIndex.check_entries.Goals as goal

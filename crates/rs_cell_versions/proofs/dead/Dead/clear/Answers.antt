@@ -13,6 +13,7 @@ invariant_of-self c =
       fits = c.self.invariant.fits;
       begins = omega arith;
       kept_begins = c.self.invariant.kept_begins;
+      given_back = c.self.invariant.given_back;
       within = c.self.invariant.within;
       in_order = subst AreInOrder (sym (part-none d.end d.width d.bytes.items)) tt;
       kept_in_order = c.self.invariant.kept_in_order;

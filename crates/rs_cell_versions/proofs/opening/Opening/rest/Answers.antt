@@ -8,7 +8,7 @@ use Rattle.rs_tree.specs.Cells.{cells_within}
 use Rattle.rs_tree.specs.Form.{form_of}
 use Rattle.rs_tree.specs.Tree.{IsTree}
 use Rattle.rs_tree.proofs.Below.{below_one_way}
-use Rattle.rs_tree.proofs.Resting.{rests_then}
+use Rattle.rs_pages.proofs.Resting.{rests_then}
 use Rattle.rs_cell_versions.specs.Opening.{Looked}
 use Rattle.rs_cell_versions.proofs.Looks.{FindsWithin, above_at, all_left, cells_from, no_tree_at, no_tree_otherwise, none_left, on_both, otherwise_back, passed_all, passed_same, rest_passed, told_below}
 use Rattle.rs_cell_versions.proofs.Staying.{tree_same}

@@ -9,11 +9,11 @@ use Rattle.rs_records.specs.Order.{is_below}
 use Rattle.rs_tree.specs.Cells.{is_within}
 use Rattle.rs_tree.specs.Tree.{IsTree}
 use Rattle.rs_tree_whole.proofs.Entries.{same_back}
-use Rattle.rs_tree.proofs.Resting.{rests_then}
+use Rattle.rs_pages.proofs.Resting.{rests_then}
 use Rattle.rs_versioned.specs.Referents.{SaysReferent, kept_referents, referent_form, referent_width}
 use Rattle.rs_versioned.proofs.InTables.{plain_form}
-use Rattle.rs_versioned.proofs.Opened.{FindsWhere, SaysBelow, finds_back, none_fresh, none_otherwise, none_unsaid, opens_records, says_more, says_none, stands_back, told_of}
-use Rattle.rs_cell_versions.specs.Opening.{HasPassed, StandsOtherwise, StandsTold, Told}
+use Rattle.rs_versioned.proofs.Opened.{FindsWhere, SaysBelow, finds_back, none_fresh, none_otherwise, none_unsaid, opens_records, says_more, says_none, stands_back}
+use Rattle.rs_cell_versions.specs.Opening.{HasPassed, StandsOtherwise, StandsTold, Told, told_of}
 use Rattle.rs_cell_versions.specs.Version.{died_of}
 use Rattle.rs_cell_versions.specs.Versioned.{Standing}
 use Rattle.rs_cell_versions.proofs.Looks.{otherwise_back, passed_same}

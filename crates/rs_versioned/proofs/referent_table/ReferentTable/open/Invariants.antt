@@ -1,9 +1,9 @@
 -- The cells so far are dated and were counted, and each says a referent.
 use Rattle.std.proofs.Common.{◌≡◌, Ok}
 use Rattle.rs_pages.specs.Lending.{RestsAfter}
-use Rattle.rs_cell_versions.specs.Opening.{HasPassed}
+use Rattle.rs_cell_versions.specs.Opening.{HasPassed, told_of}
 use Rattle.rs_versioned.specs.Referents.{SaysReferent, referent_form, referent_width}
-use Rattle.rs_versioned.proofs.Opened.{SaysBelow, told_of}
+use Rattle.rs_versioned.proofs.Opened.{SaysBelow}
 use Rattle.rs_versioned.proofs.referent_table.ReferentTable.open.Given as goal
 
 abbrev pub invariant-loop-route : goal.invariant-loop-route
