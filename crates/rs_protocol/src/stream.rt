@@ -3,9 +3,9 @@
 //! Its own buffers are on the stack: only the reading of a command and the engine ask for memory. It flushes no
 //! writer, and tries no failed call again.
 
-ghost use Rattle.std.specs.Prelude.{◌≡◌, ◌==◌, ◌+◌, ◌<◌, ◌⊎◌, ℕ, List, if◌then◌else◌, IfOk, IfErr, IsTrue, false, is_err};
+ghost use Rattle.std.specs.Prelude.{◌≡◌, ◌==◌, ◌+◌, ◌<◌, ◌≤◌, ◌⊎◌, ℕ, List, if◌then◌else◌, IfOk, IfErr, IsTrue, false, is_err};
 ghost use Rattle.std.specs.Io.KnownBytes.{Consumes, ReadConsumes};
-ghost use Rattle.std.specs.Io.Reads.{ReadsAtMost};
+ghost use Rattle.std.specs.Io.{ReadsAtMost};
 ghost use Rattle.arrayvec.specs.ArrayVec.{array_vec_len};
 ghost use Rattle.rs_machine.specs.Served.{Machine};
 ghost use Rattle.rs_protocol.specs.declared.stream.End.TheVariants.{Whole, CutLine};
@@ -24,6 +24,7 @@ const PIECE_BYTES: usize = 4_096;
 const READS: u32 = u32::MAX;
 
 /// The reads of one service, each counted.
+#[derive(Drop)]
 struct Reads {
     /// How many were made.
     made: u32,
@@ -108,11 +109,12 @@ fn serve_pieces<E: Serve, R: Read, W: Write>(
     writer: &mut W,
     reads: &mut Reads,
 ) -> Result<End, Fault>
+    requires { reads.old.made ≡ 0 }
     ensures served { (old : Machine) → E.is engine.old old → (new : Machine) × E.is engine.new new
         × ((told : List ℕ) × Consumes (R.remaining reader.old) (R.remaining reader.new) told
         × Ends result told (R.remaining reader.new) old new (W.contents writer.old) (W.contents writer.new)) }
     ensures stopped { (old : Machine) → E.is engine.old old → IfErr result (λ fault. fault ≡ Fault.Read
-        → IsTrue reads.new.failed ⊎ (reads.new.made ≡ READS)) }
+        → IsTrue reads.new.failed ⊎ (READS ≤ reads.new.made)) }
 {
     let mut kept = Kept::new();
     let mut piece = [0u8; PIECE_BYTES];
