@@ -1,12 +1,13 @@
 -- The three passes together.
-use Rattle.std.proofs.Common.{◌≡◌, ℕ, List, true, false, Result, Ok, Err, sym, ap, ◌∙◌}
+use Rattle.std.proofs.Common.{◌≡◌, ℕ, ◌||◌, List, [], ◌∷◌, true, false, Result, Ok, Err, sym, ap, ◌∙◌}
 use Rattle.std.specs.FinMap as names
 use Rattle.rs_refusal.specs.declared.refusal.Refusal.{Refusal}
-use Rattle.rs_refusal.specs.declared.refusal.Refusal.TheVariants.{Limit}
-use Rattle.rs_facts.specs.Fact.{Names}
+use Rattle.rs_refusal.specs.declared.refusal.Refusal.TheVariants.{Limit, NoSuchName, OutOfMemory}
+use Rattle.rs_facts.specs.Fact.{Name, Names}
 use Rattle.rs_facts.specs.Query.{Query}
 use Rattle.rs_facts.specs.Runs.{Stretch}
 use Rattle.rs_syntax.specs.Tree.{QueryTree}
+use Rattle.rs_machine.specs.State.{has}
 use Rattle.rs_machine.specs.Checks.{◌>>=◌, unless}
 use Rattle.rs_machine.specs.Checking as machine
 use Rattle.rs_machine.specs.Checking.{fits_limits, nodes_checked}
@@ -18,6 +19,32 @@ use Rattle.rs_checker.specs.Checks.{IsChecked}
 use Rattle.rs_checker.specs.Nodes.{names_there, alignments_there, AreNodes, AreRefused}
 use Rattle.rs_checker.proofs.AlignmentLaws.{aligned_there}
 use Rattle.rs_checker.proofs.NodeLaws.{known_there}
+
+-- ---- the passes before the nodes are never refused for want of memory
+
+names_only : (definitions : Definitions) (names : List Name) (refusal : Refusal) → names_there definitions names ≡ Err refusal → refusal ≡ NoSuchName
+names_only definitions [] refusal e = cc
+names_only definitions (name ∷ more) refusal e =
+    elim (has definitions.tables name || has definitions.views name) as (λ b. (unless b NoSuchName >>= (λ _. names_there definitions more)) ≡ Err refusal → refusal ≡ NoSuchName) [
+      | true ↦ names_only definitions more refusal
+      | false ↦ λ e. cc
+    ] e
+
+alignments_only : (definitions : Definitions) (names : List Name) (refusal : Refusal) → alignments_there definitions names ≡ Err refusal → refusal ≡ NoSuchName
+alignments_only definitions [] refusal e = cc
+alignments_only definitions (name ∷ more) refusal e =
+    elim (has definitions.alignments name) as (λ b. (unless b NoSuchName >>= (λ _. alignments_there definitions more)) ≡ Err refusal → refusal ≡ NoSuchName) [
+      | true ↦ alignments_only definitions more refusal
+      | false ↦ λ e. cc
+    ] e
+
+pub names_need_none : (definitions : Definitions) (names : List Name) (refusal : Refusal) → Err refusal ≡ names_there definitions names → refusal ≡ OutOfMemory → ⊥
+names_need_none definitions names refusal e wants = let wrong : OutOfMemory ≡ NoSuchName = sym wants ∙ names_only definitions names refusal (sym e) in cc
+
+pub alignments_need_none : (definitions : Definitions) (names : List Name) (refusal : Refusal) → Err refusal ≡ alignments_there definitions names → refusal ≡ OutOfMemory → ⊥
+alignments_need_none definitions names refusal e wants = let wrong : OutOfMemory ≡ NoSuchName = sym wants ∙ alignments_only definitions names refusal (sym e) in cc
+
+-- ---- what the passes say together
 
 module _ (definitions : Definitions) (on : ℕ → Names ℕ) (tree : QueryTree) where
   -- what is checked once the names of tables and views are known

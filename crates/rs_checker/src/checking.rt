@@ -12,7 +12,7 @@ ghost use Rattle.rs_machine.specs.Checking as machine;
 ghost use Rattle.rs_machine.specs.Opening.{names_in, alignments_in, opened_times};
 ghost use Rattle.rs_catalog.specs.Definitions.{state_from, views_of};
 ghost use Rattle.rs_catalog.specs.Referents.{referents_on};
-ghost use Rattle.rs_checker.specs.Checks.{IsChecked};
+ghost use Rattle.rs_checker.specs.Checks.{IsChecked, PassesFirst};
 ghost use Rattle.rs_checker.specs.CheckedView.{query_of};
 ghost use Rattle.rs_checker.specs.Steps.{IsStep, Stands, checked_of, seen_columns, binary_step};
 ghost use Rattle.rs_checker.specs.Nodes.{names_there, alignments_there, unary_step, StandsAmong, AreNodes, AreRefused};
@@ -34,7 +34,7 @@ use std::alloc::Global;
 /// The checked query, in three passes: 21 for each name that is no table's and no view's, and then for each name after
 /// TRANSFORM that is no alignment's, both from the left; 27 where the query with its views opened is too large; then what
 /// each node asks for, operands first and from the left, a view as its query in its place. Positions of windows are
-/// located by the referents given. Only memory may be wanting beside.
+/// located by the referents given. Only memory may be wanting beside, in the third pass alone: the first two take none.
 pub fn check(
     alloc: Global,
     catalog: &Catalog,
@@ -45,6 +45,7 @@ pub fn check(
         → IsChecked (state_from catalog.now (referents_on referents.now) spans_on changes) (query_tree query.now) checked) }
     ensures refused { IfErr result (λ refusal. (refusal ≡ Refusal.OutOfMemory) ⊎ ((spans_on : ℕ → ℕ → List Stretch) (changes : ℕ)
         → machine.checked (state_from catalog.now (referents_on referents.now) spans_on changes) (query_tree query.now) ≡ Err refusal)) }
+    ensures wanting { IfErr result (λ refusal. refusal ≡ Refusal.OutOfMemory → PassesFirst catalog.now (query_tree query.now)) }
 {
     names_known(catalog, query)?;
     alignments_known(catalog, query)?;

@@ -16,8 +16,6 @@ use Rattle.rs_facts.specs.Spans.{seen, places_of, ArePlaced}
 use Rattle.rs_sweep.specs.Lists.{AreSorted, AreWide}
 use Rattle.rs_catalog.proofs.NameOrder.{name_cmp-total}
 use Rattle.rs_catalog.proofs.MapLaws.{same_name-true}
-use Rattle.rs_checker.specs.declared.checked.CheckedQuery.{CheckedQuery}
-use Rattle.rs_checker.specs.CheckedView.{query_of}
 use Rattle.rs_exec.specs.declared.changes.Change.{Change}
 use Rattle.rs_exec.specs.declared.pairs.Pairing.{Pairing}
 use Rattle.rs_exec.specs.declared.rows.Rows.{Rows}
@@ -36,14 +34,6 @@ pub same_name-itself : (name : Name) → same_name name name ≡ true
 same_name-itself name = (eq_by_cmp_equiv name_cmp-total).refl name
 
 module _ (world : World) where
-  -- ---- said of the variant that a query is, and of the box that holds an operand
-
-  pub held-as : (query value : CheckedQuery) (is : Query) (names : List Name) (rows : List Rows) → query ≡ value → query_of value ≡ is → AreHeld world is names rows → AreHeld world (query_of query) names rows
-  held-as query value is names rows same made held = subst (λ q. AreHeld world q names rows) (sym (ap query_of same ∙ made)) held
-
-  pub held-in : (held value : CheckedQuery) (names : List Name) (rows : List Rows) → held ≡ value → AreHeld world (query_of held) names rows → AreHeld world (query_of value) names rows
-  held-in held value names rows same all = subst (λ q. AreHeld world (query_of q) names rows) same all
-
   -- ---- rows by their spans
 
   pub as-spans : (query : Query) (route : Name) (rows : Rows) (spans : List Stretch) → spans_of rows ≡ spans → IsInOrder rows → AreRowsOf world query route spans → HoldsRows world query route rows

@@ -11,7 +11,7 @@ use Rattle.rs_facts.specs.Spans.{places_of, ArePlaced}
 use Rattle.rs_syntax.specs.declared.commands.Piece as code
 use Rattle.rs_sweep.specs.Lists.{AreWide}
 use Rattle.rs_catalog.specs.Definitions.{routes_of, pieces_of}
-use Rattle.rs_checker.specs.CheckedView.{query_of}
+use Rattle.rs_exec.specs.Operand.{asked}
 use Rattle.rs_exec.specs.declared.carrying.Sources.{Sources}
 use Rattle.rs_exec.specs.declared.rows.Rows.{Rows}
 use Rattle.rs_exec.specs.Rows.{HoldsRows, AreHeld}
@@ -54,11 +54,11 @@ AreApart (name ∷ names) = AllByRecursion (λ other. same_name name other ≡ f
 -- the pieces lie on routes that are there, and the rows are the operand's on the sources
 pub record AreHeldSources (sources : Sources) : Type 0 where
   pub lie : ArePiecesOn (routes_of sources.base.catalog.now) (pieces_of sources.pieces.now)
-  pub held : AreHeld (base_world sources.base) (query_of sources.operand.now) (names_of sources.routes) (list_of sources.rows.now)
+  pub held : AreHeld (base_world sources.base) (asked sources.operand) (names_of sources.routes) (list_of sources.rows.now)
 
 abbrev pub AreLed : Sources → Name → Type 0
 AreLed sources name = AllByRecursion (IsLed (names_of sources.routes) name) sources.pieces.now
 
 -- the rows are what the pieces carry onto the route, by whatever name the alignment goes
 pub record IsCarried (sources : Sources) (name : Name) (rows : Rows) : Type 0 where
-  pub holds : (alignment : Name) → HoldsRows (base_world sources.base) (transform_rows (query_of sources.operand.now) alignment (pieces_of sources.pieces.now)) name rows
+  pub holds : (alignment : Name) → HoldsRows (base_world sources.base) (transform_rows (asked sources.operand) alignment (pieces_of sources.pieces.now)) name rows

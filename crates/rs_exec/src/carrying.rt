@@ -14,16 +14,15 @@ ghost use Rattle.rs_syntax.specs.View.{piece_tree};
 ghost use Rattle.rs_machine.specs.Checks.{piece_of};
 ghost use Rattle.rs_sweep.specs.Lists.{AreWide};
 ghost use Rattle.rs_catalog.specs.Definitions.{routes_of, pieces_of};
-ghost use Rattle.rs_checker.specs.CheckedView.{query_of};
+ghost use Rattle.rs_exec.specs.Operand.{asked};
 ghost use Rattle.rs_exec.specs.Rows.{HoldsRows, AreHeld};
 ghost use Rattle.rs_exec.specs.Routes.{base_world, names_in, names_of, list_of};
 ghost use Rattle.rs_exec.specs.Carried.{meets, AreGathered, IsLed, AreLed, AreSourcesOf, AreApart, AreHeldSources, IsCarried};
 
 use crate::evaluation::Base;
-use crate::kinds::kind_of;
+use crate::operand::Asked;
 use crate::routes::{Routes, RowsOn, is_among, is_in, is_same};
 use crate::rows::{Rows, spans_in};
-use rs_checker::CheckedQuery;
 use rs_coalesce::runs;
 use rs_facts::Span;
 use rs_methods::Name;
@@ -37,7 +36,7 @@ pub(crate) struct Sources<'a> {
     /// What the operand is evaluated over.
     pub(crate) base: Base<'a>,
     /// The operand.
-    pub(crate) operand: &'a CheckedQuery,
+    pub(crate) operand: Asked<'a>,
     /// The pieces.
     pub(crate) pieces: &'a [Piece],
     /// The routes from which the pieces carry.
@@ -87,7 +86,7 @@ pub(crate) fn carried_on<'a>(
     requires held { AreHeldSources sources.now }
     requires led { AllByRecursion (AreLed sources.now) (names_of routes) }
     ensures { IfOk result (λ rows. (alignment : List ℕ) → AreHeld (base_world sources.now.base)
-        (transform_rows (query_of sources.now.operand.now) alignment (pieces_of sources.now.pieces.now)) (names_of routes.entry) (list_of rows)) }
+        (transform_rows (asked sources.now.operand) alignment (pieces_of sources.now.pieces.now)) (names_of routes.entry) (list_of rows)) }
 {
     let first = carried_to(alloc, sources, routes.first)?;
     let others = carried_each(alloc, sources, routes.others)?;
@@ -122,7 +121,7 @@ fn carried_to<'a>(alloc: Global, sources: &Sources<'_>, name: &Name) -> Result<R
     for piece in pieces {
         carry_piece(alloc, sources, piece, name, &mut gathered)?;
     }
-    let kind = kind_of(sources.base.catalog, sources.operand);
+    let kind = sources.operand.kind(sources.base.catalog);
     Ok(Rows::Made(runs(kind, gathered)))
 }
 
@@ -137,8 +136,8 @@ fn carry_piece(
     requires held { AreHeldSources sources.now }
     requires lies { IsPieceOn (routes_of sources.now.base.catalog.now) (piece_of (piece_tree piece.now)) }
     requires led { IsLed (names_of sources.now.routes) name.now.bytes piece.now }
-    ensures { OnOk result (AreGathered (base_world sources.now.base) (query_of sources.now.operand.now)
-        (carried_by (piece_of (piece_tree piece.now)) (rows_at (base_world sources.now.base) (query_of sources.now.operand.now)) name.now.bytes)
+    ensures { OnOk result (AreGathered (base_world sources.now.base) (asked sources.now.operand)
+        (carried_by (piece_of (piece_tree piece.now)) (rows_at (base_world sources.now.base) (asked sources.now.operand)) name.now.bytes)
         (map seen gathered.old.items) (map seen gathered.new.items)) }
 {
     if !is_same(&piece.onto_route, name) {
@@ -153,7 +152,7 @@ fn carry_piece(
 fn spans_from<'b>(sources: &'b Sources<'_>, name: &Name) -> &'b [Span]
     requires held { AreHeldSources sources.now }
     requires among { list_any (same_name name.now.bytes) (names_of sources.now.routes) ≡ true }
-    ensures { HoldsRows (base_world sources.now.base) (query_of sources.now.operand.now) name.now.bytes (Rows.Kept result) }
+    ensures { HoldsRows (base_world sources.now.base) (asked sources.now.operand) name.now.bytes (Rows.Kept result) }
 {
     if is_same(name, sources.routes.first) {
         return spans_in(&sources.rows.first);

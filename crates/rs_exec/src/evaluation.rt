@@ -14,12 +14,14 @@ ghost use Rattle.rs_catalog.specs.Definitions.{routes_of, pieces_of, world_from}
 ghost use Rattle.rs_catalog.specs.Events.{AreEventsOf};
 ghost use Rattle.rs_checker.specs.CheckedView.{window_of, query_of};
 ghost use Rattle.rs_exec.specs.Evaluated.{AreRowsOf};
+ghost use Rattle.rs_exec.specs.Operand.{asked_of};
 ghost use Rattle.rs_exec.specs.Rows.{AreHeld};
 ghost use Rattle.rs_exec.specs.Routes.{base_world, names_of, list_of};
 
 use crate::carrying::{Sources, carried_on, sources_of};
-use crate::changes::{Change, changed_on};
-use crate::pairs::{Pairing, paired_on};
+use crate::changes::changed_on;
+use crate::operand::{Node, Operand};
+use crate::pairs::paired_on;
 use crate::routes::{Routes, RowsOn, is_among, none_on};
 use crate::rows::own_rows;
 use crate::tables::kept_on;
@@ -80,60 +82,39 @@ pub fn eval<'a>(
         first: site.name,
         others: &[],
     };
-    let rows = rows_on(alloc, &base, alone, query)?;
+    let rows = rows_on(alloc, &base, alone, Operand::of(query))?;
     let spans = own_rows(alloc, rows.first)?;
     Ok(spans)
 }
 
-/// The rows of a query on each of the routes. Those of a table are lent, also to operators that make rows anew. The only
-/// refusal is for want of memory.
+/// The rows of a query on each of the routes. Those of a table are lent, also to operators that make rows anew. The query
+/// is given away, and so is each of its operands: a second evaluation of one is a use of what was moved, which no check
+/// lets pass. The only refusal is for want of memory.
 #[cycle(rows)]
 fn rows_on<'a>(
     alloc: Global,
     base: &Base<'a>,
     routes: Routes<'_>,
-    query: &'a CheckedQuery,
+    operand: Operand<'a>,
 ) -> Result<RowsOn<'a>, AllocError>
     requires stored { AreEventsOf base.now.catalog.now (spans_on base.now.events.now) }
-    requires well_formed { IsWellFormed (base_world base.now) (query_of query.now) }
-    ensures { IfOk result (λ rows. AreHeld (base_world base.now) (query_of query.now) (names_of routes.entry) (list_of rows)) }
+    requires well_formed { IsWellFormed (base_world base.now) (asked_of operand) }
+    ensures { IfOk result (λ rows. AreHeld (base_world base.now) (asked_of operand.entry) (names_of routes.entry) (list_of rows)) }
 {
-    match query {
-        CheckedQuery::Table(name) => kept_on(alloc, base, routes, name),
-        CheckedQuery::Where(operand, condition) => {
+    match operand.node() {
+        Node::Table(name) => kept_on(alloc, base, routes, name),
+        Node::Changed(change, operand) => {
             let rows = rows_on(alloc, base, routes, operand)?;
-            changed_on(alloc, Change::Where(condition), rows)
+            changed_on(alloc, change, rows)
         }
-        CheckedQuery::Dissolve(operand, columns) => {
-            let rows = rows_on(alloc, base, routes, operand)?;
-            changed_on(alloc, Change::Dissolve(columns), rows)
-        }
-        CheckedQuery::Rename(operand, _, _) => rows_on(alloc, base, routes, operand),
-        CheckedQuery::Overlay(left, right) => {
+        Node::Renamed(operand, _, _) => rows_on(alloc, base, routes, operand),
+        Node::Paired(pairing, left, right) => {
             let left_rows = rows_on(alloc, base, routes, left)?;
             let right_rows = rows_on(alloc, base, routes, right)?;
-            paired_on(alloc, Pairing::Overlay, left_rows, right_rows)
-        }
-        CheckedQuery::Cover(left_width, right_width, left, right) => {
-            let left_rows = rows_on(alloc, base, routes, left)?;
-            let right_rows = rows_on(alloc, base, routes, right)?;
-            let pairing = Pairing::Cover(*left_width, *right_width);
             paired_on(alloc, pairing, left_rows, right_rows)
         }
-        CheckedQuery::Merge(left, right) => {
-            let left_rows = rows_on(alloc, base, routes, left)?;
-            let right_rows = rows_on(alloc, base, routes, right)?;
-            paired_on(alloc, Pairing::Merge, left_rows, right_rows)
-        }
-        CheckedQuery::Minus(left, right) => {
-            let left_rows = rows_on(alloc, base, routes, left)?;
-            let right_rows = rows_on(alloc, base, routes, right)?;
-            paired_on(alloc, Pairing::Minus, left_rows, right_rows)
-        }
-        CheckedQuery::Window(operand, window) => seen_rows(alloc, base, routes, operand, window),
-        CheckedQuery::Transform(operand, _, pieces) => {
-            carried_rows(alloc, base, routes, operand, pieces)
-        }
+        Node::Seen(operand, window) => seen_rows(alloc, base, routes, operand, window),
+        Node::Carried(operand, _, pieces) => carried_rows(alloc, base, routes, operand, pieces),
     }
 }
 
@@ -144,12 +125,12 @@ fn seen_rows<'a>(
     alloc: Global,
     base: &Base<'a>,
     routes: Routes<'_>,
-    operand: &'a CheckedQuery,
+    operand: Operand<'a>,
     window: &'a LocatedWindow,
 ) -> Result<RowsOn<'a>, AllocError>
     requires stored { AreEventsOf base.now.catalog.now (spans_on base.now.events.now) }
-    requires well_formed { IsWellFormed (base_world base.now) (query_of operand.now) }
-    ensures { IfOk result (λ rows. AreHeld (base_world base.now) (window_rows (query_of operand.now) (window_of window.now))
+    requires well_formed { IsWellFormed (base_world base.now) (asked_of operand) }
+    ensures { IfOk result (λ rows. AreHeld (base_world base.now) (window_rows (asked_of operand.entry) (window_of window.now))
         (names_of routes.entry) (list_of rows)) }
 {
     let inside = route_of(window);
@@ -172,14 +153,14 @@ fn carried_rows<'a>(
     alloc: Global,
     base: &Base<'a>,
     routes: Routes<'_>,
-    operand: &'a CheckedQuery,
+    operand: Operand<'a>,
     pieces: &'a [Piece],
 ) -> Result<RowsOn<'a>, AllocError>
     requires stored { AreEventsOf base.now.catalog.now (spans_on base.now.events.now) }
-    requires well_formed { IsWellFormed (base_world base.now) (query_of operand.now) }
+    requires well_formed { IsWellFormed (base_world base.now) (asked_of operand) }
     requires lie { ArePiecesOn (routes_of base.now.catalog.now) (pieces_of pieces.now) }
     ensures { IfOk result (λ rows. (alignment : List ℕ) → AreHeld (base_world base.now)
-        (transform_rows (query_of operand.now) alignment (pieces_of pieces.now)) (names_of routes.entry) (list_of rows)) }
+        (transform_rows (asked_of operand.entry) alignment (pieces_of pieces.now)) (names_of routes.entry) (list_of rows)) }
 {
     let names = sources_of(alloc, pieces, routes)?;
     let Some((first, others)) = names.split_first() else {
@@ -189,10 +170,11 @@ fn carried_rows<'a>(
         first: *first,
         others,
     };
+    let asked = operand.asked();
     let rows = rows_on(alloc, base, from, operand)?;
     let sources = Sources {
         base: *base,
-        operand,
+        operand: asked,
         pieces,
         routes: from,
         rows: &rows,

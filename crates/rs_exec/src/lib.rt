@@ -8,6 +8,7 @@ mod carrying;
 mod changes;
 pub mod evaluation;
 mod kinds;
+mod operand;
 mod pairs;
 mod routes;
 mod rows;

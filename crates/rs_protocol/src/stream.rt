@@ -3,8 +3,9 @@
 //! Its own buffers are on the stack: only the reading of a command and the engine ask for memory. It flushes no
 //! writer, and tries no failed call again.
 
-ghost use Rattle.std.specs.Prelude.{◌≡◌, ◌==◌, ℕ, List, if◌then◌else◌, IfOk, IfErr};
-ghost use Rattle.std.specs.Io.KnownBytes.{Consumes};
+ghost use Rattle.std.specs.Prelude.{◌≡◌, ◌==◌, ◌+◌, ◌<◌, ◌≤◌, ◌⊎◌, ℕ, List, if◌then◌else◌, IfOk, IfErr, IsTrue, false, is_err};
+ghost use Rattle.std.specs.Io.KnownBytes.{Consumes, ReadConsumes};
+ghost use Rattle.std.specs.Io.{ReadsAtMost};
 ghost use Rattle.arrayvec.specs.ArrayVec.{array_vec_len};
 ghost use Rattle.rs_machine.specs.Served.{Machine};
 ghost use Rattle.rs_protocol.specs.declared.stream.End.TheVariants.{Whole, CutLine};
@@ -13,11 +14,23 @@ ghost use Rattle.rs_protocol.specs.Ends.{Ends, AnswersInput, StopsInInput};
 use crate::lines::{Kept, take_piece};
 use rs_serve::Serve;
 use std::alloc::Global;
-use std::io::{Read, Write};
+use std::io::{self, Read, Write};
 use thiserror::Error;
 
 /// How many bytes are read at once, at the most.
 const PIECE_BYTES: usize = 4_096;
+
+/// How many reads one service makes at the most.
+const READS: u32 = u32::MAX;
+
+/// The reads of one service, each counted.
+#[derive(Drop)]
+struct Reads {
+    /// How many were made.
+    made: u32,
+    /// Whether the last one failed.
+    failed: bool,
+}
 
 /// How the input ended.
 #[derive(Clone, Copy, PartialEq, Eq, Debug)]
@@ -56,10 +69,57 @@ pub fn run<E: Serve, R: Read, W: Write>(
         × ((told : List ℕ) × Consumes (R.remaining reader.old) (R.remaining reader.new) told
         × Ends result told (R.remaining reader.new) old new (W.contents writer.old) (W.contents writer.new)) }
 {
+    let mut reads = Reads::none();
+    serve_pieces(alloc, engine, reader, writer, &mut reads)
+}
+
+impl Reads {
+    /// None was made yet.
+    fn none() -> Self
+        ensures made { result.made ≡ 0 }
+        ensures failed { result.failed ≡ false }
+    {
+        Reads {
+            made: 0,
+            failed: false,
+        }
+    }
+
+    /// Reads a piece, and counts it.
+    fn read<R: Read>(&mut self, reader: &mut R, piece: &mut [u8]) -> io::Result<usize>
+        requires { self.old.made < READS }
+        ensures bound { ReadsAtMost result piece.new }
+        ensures bytes { ReadConsumes (R.remaining reader.old) (R.remaining reader.new) result piece.new }
+        ensures counted { self.new.made ≡ self.old.made + 1 }
+        ensures failed { self.new.failed ≡ is_err result }
+    {
+        self.made += 1;
+        let result = reader.read(piece);
+        self.failed = result.is_err();
+        result
+    }
+}
+
+/// Serves what the reader tells, piece by piece, until its end or a fault. `Read` is answered where a read failed, and
+/// where all reads were made and the end was not told; for no other reason.
+fn serve_pieces<E: Serve, R: Read, W: Write>(
+    alloc: Global,
+    engine: &mut E,
+    reader: &mut R,
+    writer: &mut W,
+    reads: &mut Reads,
+) -> Result<End, Fault>
+    requires { reads.old.made ≡ 0 }
+    ensures served { (old : Machine) → E.is engine.old old → (new : Machine) × E.is engine.new new
+        × ((told : List ℕ) × Consumes (R.remaining reader.old) (R.remaining reader.new) told
+        × Ends result told (R.remaining reader.new) old new (W.contents writer.old) (W.contents writer.new)) }
+    ensures stopped { (old : Machine) → E.is engine.old old → IfErr result (λ fault. fault ≡ Fault.Read
+        → IsTrue reads.new.failed ⊎ (READS ≤ reads.new.made)) }
+{
     let mut kept = Kept::new();
     let mut piece = [0u8; PIECE_BYTES];
-    for _ in 0..u32::MAX {
-        match reader.read(&mut piece) {
+    while reads.made < READS {
+        match reads.read(reader, &mut piece) {
             Ok(0) => return Ok(end_of(&kept)),
             Ok(count) => take_piece(alloc, engine, &mut kept, &piece[..count], writer)?,
             Err(_) => return Err(Fault::Read),

@@ -98,6 +98,35 @@ laid-few side one (other ∷ others) test met low some =
           omega (arith, long)
     ] refl
 
+one_most : (t : Bool) → ◌≤◌ (cond t 1 0) 1
+one_most true = omega arith
+one_most false = omega arith
+
+none_counted : (limit : ℕ) (test : Stretch → Bool) → ((other : Stretch) → limit ≤ other.lo → test other ≡ false) → (others : List Stretch) → AllByRecursion (λ other. limit ≤ other.lo) others → count_by test others ≡ 0
+none_counted limit test apart [] h = refl
+none_counted limit test apart (other ∷ others) h =
+    let more = sum_by-cons (λ x. cond (test x) 1 0) other others in
+    let rest = none_counted limit test apart others h.1 in
+    let none : ◌≡◌ {A = ℕ} (cond (test other) 1 0) 0 = ap (λ t. let n : ℕ = cond t 1 0 in n) (apart other h.0) in
+    omega (arith, more, rest, none)
+
+-- it finds all that pass a test which none passes that begins where this one has ended
+pub laid-many : (side : Side) (one : Stretch) (others : List Stretch) (test : Stretch → Bool) → ((other : Stretch) → one.hi ≤ other.lo → test other ≡ false) → AreSorted others → count_by test others ≤ length (laid side one others)
+laid-many side one [] test apart sorted = omega arith
+laid-many side one (other ∷ others) test apart sorted =
+    let more = sum_by-cons (λ x. cond (test x) 1 0) other others in
+    let rest = laid-many side one others test apart sorted.1 in
+    let first = one_most (test other) in
+    elim (nat_lt other.lo one.hi) as (λ t. nat_lt other.lo one.hi ≡ t → count_by test (other ∷ others) ≤ length (laid side one (other ∷ others))) [
+      | true ↦ λ e.
+          let long : length (laid side one (other ∷ others)) ≡ suc (length (laid side one others)) = ap length (laid-met side one other others e) in
+          omega (arith, more, rest, long, first)
+      | false ↦ λ e.
+          let far : one.hi ≤ other.lo = ltb-false other.lo one.hi e in
+          let none = none_counted one.hi test apart (other ∷ others) (far, every_above one.hi other.lo others far sorted.0) in
+          omega (arith, none)
+    ] refl
+
 -- ---- of which kind, how wide
 
 pub laid-all : (P Q : Stretch → Type 0) (side : Side) (one : Stretch) → ((other : Stretch) → one.lo ≤ other.lo → other.lo < one.hi → P other → Q (piece_of side one other)) → (others : List Stretch) → AllByRecursion (λ other. one.lo ≤ other.lo) others → AllByRecursion P others → AllByRecursion Q (laid side one others)

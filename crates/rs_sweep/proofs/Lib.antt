@@ -4,6 +4,7 @@ mod Edits
 mod Choosing
 mod LaidSpans
 mod SweptPairs
+mod LeastCount
 mod TakenLaws
 mod PartLaws
 mod CutLaws

@@ -81,11 +81,11 @@ met_shares a b l m n = lt-ltb (max a.lo b.lo) (min a.hi b.hi) (omega (arith, l, 
 met_shares_back : (a b : Stretch) → b.lo ≤ a.lo → a.lo < b.hi → a.lo < a.hi → shares a b ≡ true
 met_shares_back a b l m n = lt-ltb (max a.lo b.lo) (min a.hi b.hi) (omega (arith, l, m, n))
 
-pairs-left : (a : Stretch) (left right : List Stretch) → pairs (a ∷ left) right ≡ count_by (λ b. shares a b) right + pairs left right
+pub pairs-left : (a : Stretch) (left right : List Stretch) → pairs (a ∷ left) right ≡ count_by (λ b. shares a b) right + pairs left right
 unfolding pairs
 pairs-left a left right = sum_by-cons (λ a. count_by (λ b. shares a b) right) a left
 
-pairs-right : (b : Stretch) (left right : List Stretch) → pairs left (b ∷ right) ≡ count_by (λ a. shares a b) left + pairs left right
+pub pairs-right : (b : Stretch) (left right : List Stretch) → pairs left (b ∷ right) ≡ count_by (λ a. shares a b) left + pairs left right
 unfolding pairs
 pairs-right b [] right = refl
 pairs-right b (a ∷ left) right =

@@ -1,6 +1,6 @@
 //! One span laid over spans of the other list.
 
-ghost use Rattle.std.specs.Prelude.{◌≡◌, ◌≤◌, ◌+◌, ◌*◌, ◌++◌, map, length, IfOk, OnOk};
+ghost use Rattle.std.specs.Prelude.{◌≡◌, ◌≤◌, ◌+◌, ◌*◌, ◌++◌, min, map, length, IfOk, OnOk};
 ghost use Rattle.std.specs.List.{AllByRecursion};
 ghost use Rattle.rs_value.specs.declared.column.TheConstants.{COLUMNS};
 ghost use Rattle.rs_facts.specs.Spans.{seen};
@@ -34,6 +34,8 @@ pub(crate) fn lay(
         ≡ map seen found.old.items ++ laid side (seen one.now) (map seen_lent others.now)) }
     ensures counted { OnOk result (comparisons.new.made
         ≤ comparisons.old.made + 1 + 2 * length (laid side (seen one.now) (map seen_lent others.now))) }
+    ensures least { OnOk result (min (comparisons.old.made + 2 * length (laid side (seen one.now) (map seen_lent others.now))) u64.MAX
+        ≤ comparisons.new.made) }
 {
     for other in others {
         if !comparisons.is_below(other.lo, one.hi) {
@@ -53,7 +55,7 @@ fn piece(
 ) -> Result<Span, AllocError>
     requires { length (seen one.now).row + length (seen other.now).row ≤ COLUMNS }
     ensures piece { IfOk result (λ span. seen span ≡ piece_of side (seen one.now) (seen other.now)) }
-    ensures counted { comparisons.new.made ≤ comparisons.old.made + 1 }
+    ensures counted { comparisons.new.made ≡ min (comparisons.old.made + 1) u64.MAX }
 {
     let hi = comparisons.lesser(one.hi, other.hi);
     let tuple = match side {

@@ -1,6 +1,6 @@
 //! The pieces that spans of two lists have in common.
 
-ghost use Rattle.std.specs.Prelude.{◌≡◌, ◌≤◌, ◌+◌, ◌*◌, ℕ, map, length, IfOk};
+ghost use Rattle.std.specs.Prelude.{◌≡◌, ◌≤◌, ◌+◌, ◌*◌, ℕ, min, map, length, IfOk};
 ghost use Rattle.rs_value.specs.declared.column.Kind.{Kind};
 ghost use Rattle.rs_value.specs.declared.column.Kind.TheVariants as kinds;
 ghost use Rattle.rs_facts.specs.Operators.{overlaid};
@@ -17,7 +17,8 @@ use rs_facts::Span;
 use std::alloc::{AllocError, Global};
 
 /// Each row of the left before each row of the right, and the number of comparisons of a bound of the one with a bound
-/// of the other. The only refusal is for want of memory.
+/// of the other: two for each pair of spans that share a thousandth, one at least for each span of the shorter list, and
+/// two at most for each span of either. The number stops at 2^64 - 1. The only refusal is for want of memory.
 pub fn overlay(
     alloc: Global,
     left: &[&Span],
@@ -37,6 +38,8 @@ pub fn overlay(
         → AreWide n (map seen_lent right.now) → AreWide (m + n) (map seen answer.0.items)) }
     ensures comparisons { IfOk result (λ answer. answer.1
         ≤ 2 * (length left.now + length right.now) + 2 * pairs (map seen_lent left.now) (map seen_lent right.now)) }
+    ensures at_least { IfOk result (λ answer. min (min (length left.now) (length right.now)
+        + 2 * pairs (map seen_lent left.now) (map seen_lent right.now)) u64.MAX ≤ answer.1) }
 {
     let mut comparisons = Comparisons::new();
     let mut found = pieces(alloc, left, right, &mut comparisons)?;
@@ -60,6 +63,8 @@ pub(crate) fn pieces(
         (map seen found.items)) }
     ensures counted { IfOk result (λ found. comparisons.new.made ≤ comparisons.old.made
         + 2 * (length left.now + length right.now) + 2 * pairs (map seen_lent left.now) (map seen_lent right.now)) }
+    ensures least { IfOk result (λ found. min (comparisons.old.made + min (length left.now) (length right.now)
+        + 2 * pairs (map seen_lent left.now) (map seen_lent right.now)) u64.MAX ≤ comparisons.new.made) }
 {
     let mut found = Vec::new(alloc);
     let mut i = 0;

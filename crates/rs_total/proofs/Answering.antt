@@ -1,5 +1,5 @@
 -- What is kept of the groups is the answer of the definition.
-use Rattle.std.proofs.Common.{◌≡◌, ℕ, ◌+◌, Bool, true, false, ◌&&◌, ◌||◌, cond, T, List, [], ◌∷◌, map, flat_map, Option, Some, None, Ok, Err, is_some, unwrap_or, is_eq, Less, Equal, Greater, refl, sym, ap, ◌∙◌, subst}
+use Rattle.std.proofs.Common.{rules, ◌≡◌, ℕ, ◌+◌, Bool, true, false, ◌&&◌, ◌||◌, cond, T, List, [], ◌∷◌, map, flat_map, Option, Some, None, Ok, Err, IsOk, is_some, unwrap_or, is_eq, Less, Equal, Greater, refl, sym, ap, ◌∙◌, subst}
 use Rattle.std.proofs.lemmas.Bool.{lt-ltb, le-ltb}
 use Rattle.std.specs.Prelude.{nat_lt}
 use Rattle.std.specs.Cmp.{eq_by_cmp_equiv}
@@ -121,7 +121,7 @@ sum-kept : (by : List ℕ) (column : ℕ) (group : Row) (routes : List Along) (n
     → sum_kept (Some column) numbers ≡ (total_of by (Some column) routes group).sum
 sum-kept by column group routes numbers are free = with_sizes numbers.sizes are.sizes free
   where
-    with_sizes : (sizes : Option Sizes) → AreSizes (over_facts by group (is_above (Some column)) routes) (over_facts by group (is_below (Some column)) routes) sizes → elim sizes [ Some s ↦ false | None ↦ true ] ≡ false → Some (sum_of_sizes numbers.weight sizes) ≡ (total_of by (Some column) routes group).sum
+    with_sizes : (sizes : Option Sizes) → AreSizes (over_facts by group (is_above (Some column)) routes) (over_facts by group (is_below (Some column)) routes) sizes → elim sizes [ Some s ↦ false | None ↦ true ] ≡ false → sum_of_sizes numbers.weight sizes ≡ (total_of by (Some column) routes group).sum
     with_sizes None h e = absurd (let wrong : true ≡ false = e in cc)
     with_sizes (Some s) h e = λ i. Some (record { weight = are.weight i; above_zero = h.0 i; below_zero = h.1 i })
 
@@ -181,6 +181,10 @@ module _ (tally : Tally) (by : List ℕ) (column : Option ℕ) (routes : List Al
   finished answer sorted h are =
       let of_column : AreOfGroups column tally.groups answer = subst (λ c. AreOfGroups c tally.groups answer) are.sums_that h in
       answer-totals by column routes tally are (true_holds _ sorted) of_column.none_passed ∙ ap (λ totals. Ok totals) (sym of_column.all)
+
+  pub none_refused : is_sorted row_cmp tally.groups ≡ true → some_passed tally.summed tally.groups ≡ false → AreTotalsOf by column routes tally → IsOk (totalled by column routes)
+  none_refused sorted free are =
+      subst IsOk (sym (answer-totals by column routes tally are (true_holds _ sorted) (subst (λ c. some_passed c tally.groups ≡ false) are.sums_that free))) (search rules)
 
   pub refused : is_sorted row_cmp tally.groups ≡ true → some_passed tally.summed tally.groups ≡ true → AreTotalsOf by column routes tally → totalled by column routes ≡ Err TotalTooLarge
   refused sorted past are = answer-refusal by column routes tally are (true_holds _ sorted) (subst (λ c. some_passed c tally.groups ≡ true) are.sums_that past)

@@ -22,13 +22,14 @@ abbrev pub has_passed : Option ℕ → Numbers → Bool
 has_passed None numbers = false
 has_passed (Some column) numbers = elim numbers.sizes [ Some sizes ↦ false | None ↦ true ]
 
-abbrev pub sum_of_sizes : ℕ → Option Sizes → totals.Sum
-sum_of_sizes weight (Some sizes) = record { weight = weight; above_zero = sizes.above; below_zero = sizes.below }
-sum_of_sizes weight None = record { weight = weight; above_zero = 0; below_zero = 0 }
+-- the sum, where the sizes passed no limit
+abbrev pub sum_of_sizes : ℕ → Option Sizes → Option totals.Sum
+sum_of_sizes weight (Some sizes) = Some (record { weight = weight; above_zero = sizes.above; below_zero = sizes.below })
+sum_of_sizes weight None = None
 
 abbrev pub sum_kept : Option ℕ → Numbers → Option totals.Sum
 sum_kept None numbers = None
-sum_kept (Some column) numbers = Some (sum_of_sizes numbers.weight numbers.sizes)
+sum_kept (Some column) numbers = sum_of_sizes numbers.weight numbers.sizes
 
 abbrev pub total_kept : Option ℕ → Row → Numbers → totals.Total
 total_kept column group numbers = record { group = group; places = numbers.places; sum = sum_kept column numbers }

@@ -2,7 +2,7 @@
 //!
 //! They keep the numbers of each group; the answer is that of the definition for the routes that were added.
 
-ghost use Rattle.std.specs.Prelude.{◌≡◌, ◌<◌, ◌≤◌, ◌^◌, ℕ, ◌⊎◌, Option, List, [], ◌∷◌, ◌++◌, length, map, Ok, Err, IfOk, IfErr, OnOk, IfSome, true, is_some, not};
+ghost use Rattle.std.specs.Prelude.{◌≡◌, ◌<◌, ◌≤◌, ◌^◌, ℕ, ◌⊎◌, Option, List, [], ◌∷◌, ◌++◌, length, map, Ok, Err, IfOk, IfErr, OnOk, IsOk, true, false};
 ghost use Rattle.std.specs.FinMap.Entries.{is_sorted};
 ghost use Rattle.rs_refusal.specs.declared.refusal.Refusal.TheVariants.{OutOfMemory, TotalTooLarge};
 ghost use Rattle.rs_value.specs.declared.column.Kind.{Kind};
@@ -11,7 +11,7 @@ ghost use Rattle.rs_value.specs.Row.{row_cmp};
 ghost use Rattle.rs_value.specs.View.{row_of};
 ghost use Rattle.rs_facts.specs.Spans.{seen};
 ghost use Rattle.rs_facts.specs.Totals.{Along, totalled};
-ghost use Rattle.rs_total.specs.Answer.{answered, total_kept, has_passed, some_passed, AreOfGroups};
+ghost use Rattle.rs_total.specs.Answer.{answered, total_kept, some_passed, AreOfGroups};
 ghost use Rattle.rs_total.specs.Totalling.{AreRunsAlong, AreTotalsOf};
 ghost use Rattle.rs_total.specs.Tally.{by_row};
 
@@ -83,56 +83,78 @@ impl Totals {
     }
 
     /// The total of each group that has a fact, in the order of the groups. Where the sizes of some group's values
-    /// passed the limit, `Refusal::TotalTooLarge` (50). The one other refusal is for want of memory.
+    /// passed the limit, `Refusal::TotalTooLarge` (50), whatever memory is left. The one other refusal is for want of
+    /// memory, where no group passed it. (`add_route` comes first and takes memory for each new group.)
     pub fn finish(self, alloc: Global) -> Result<Vec<Total>, Refusal>
         ensures ok { IfOk result (λ totals. (by : List ℕ) (column : Option ℕ) (routes : List Along) → AreTotalsOf by column routes self
             → totalled by column routes ≡ Ok (map answered totals.items)) }
         ensures refused { IfErr result (λ refusal. (refusal ≡ OutOfMemory) ⊎ ((refusal ≡ TotalTooLarge)
             × ((by : List ℕ) (column : Option ℕ) (routes : List Along) → AreTotalsOf by column routes self
             → totalled by column routes ≡ Err TotalTooLarge))) }
+        ensures wanting { IfErr result (λ refusal. refusal ≡ OutOfMemory → (by : List ℕ) (column : Option ℕ) (routes : List Along)
+            → AreTotalsOf by column routes self → IsOk (totalled by column routes)) }
     {
         totals_of(alloc, self.summed, self.groups)
     }
 }
 
-/// The totals of the groups, in their order; 50 where one of them passed the limit.
+/// The totals of the groups, in their order; 50 where one of them passed the limit, before any memory is taken.
 fn totals_of(
     alloc: Global,
     summed: Option<u8>,
     groups: BTreeMap<Tuple, Numbers>,
 ) -> Result<Vec<Total>, Refusal>
     ensures ok { IfOk result (λ totals. AreOfGroups summed (by_row groups.entries) (map answered totals.items)) }
-    ensures refused { IfErr result (λ refusal. (refusal ≡ OutOfMemory)
+    ensures refused { IfErr result (λ refusal. ((refusal ≡ OutOfMemory) × (some_passed summed (by_row groups.entries) ≡ false))
         ⊎ ((refusal ≡ TotalTooLarge) × (some_passed summed (by_row groups.entries) ≡ true))) }
     ensures sorted { is_sorted row_cmp (by_row groups.entries) ≡ true }
 {
+    if passes_limit(summed, &groups) {
+        return Err(Refusal::TotalTooLarge);
+    }
+    Ok(each_total(alloc, summed, groups)?)
+}
+
+/// Whether the sizes of some group's values passed the limit. It takes no memory.
+fn passes_limit(summed: Option<u8>, groups: &BTreeMap<Tuple, Numbers>) -> bool
+    ensures passes { result ≡ some_passed summed (by_row groups.now.entries) }
+    ensures sorted { is_sorted row_cmp (by_row groups.now.entries) ≡ true }
+{
+    groups
+        .values()
+        .any(|numbers| summed.is_some() && numbers.sizes.is_none())
+}
+
+/// The total of each group, in their order.
+fn each_total(
+    alloc: Global,
+    summed: Option<u8>,
+    groups: BTreeMap<Tuple, Numbers>,
+) -> Result<Vec<Total>, AllocError>
+    ensures all { IfOk result (λ totals. map answered totals.items ≡ map (λ e. total_kept summed e.0 e.1) (by_row groups.entries)) }
+{
     let mut totals = Vec::with_capacity(alloc, groups.len())?;
     for (group, numbers) in groups {
-        match total_of(summed, group, numbers) {
-            Some(total) => totals.push(total)?,
-            None => return Err(Refusal::TotalTooLarge),
-        }
+        totals.push(total_of(summed, group, numbers))?;
     }
     Ok(totals)
 }
 
-/// The total of a group; none where it passed the limit.
-fn total_of(summed: Option<u8>, group: Tuple, numbers: Numbers) -> Option<Total>
-    ensures value { IfSome result (λ total. answered total ≡ total_kept summed (row_of group) numbers) }
-    ensures passed { is_some result ≡ not (has_passed summed numbers) }
+/// The total of a group, without a sum where the sizes of its values passed the limit.
+fn total_of(summed: Option<u8>, group: Tuple, numbers: Numbers) -> Total
+    ensures { answered result ≡ total_kept summed (row_of group) numbers }
 {
     let sum = match (summed, numbers.sizes) {
-        (None, _) => None,
         (Some(_), Some(sizes)) => Some(Sum {
             weight: numbers.weight,
             above_zero: sizes.above,
             below_zero: sizes.below,
         }),
-        (Some(_), None) => return None,
+        _ => None,
     };
-    Some(Total {
+    Total {
         group,
         places: numbers.places,
         sum,
-    })
+    }
 }

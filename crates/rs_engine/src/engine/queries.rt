@@ -5,7 +5,7 @@
 ghost use Rattle.std.specs.Prelude.{◌≡◌, ◌≤◌, ◌⊎◌, ◌++◌, [], ◌∷◌, length, Some, Ok, Err, IfOk, IfErr, OnOk};
 ghost use Rattle.std.specs.FinMap as names;
 ghost use Rattle.rs_methods.specs.Position.{expression_of};
-ghost use Rattle.rs_facts.specs.Query.{kind_of, table_rows};
+ghost use Rattle.rs_facts.specs.Query.{kind_of};
 ghost use Rattle.rs_facts.specs.WellFormed.{IsWellFormed};
 ghost use Rattle.rs_syntax.specs.QueryView.{query_tree};
 ghost use Rattle.rs_machine.specs.State.{world_of};
@@ -108,44 +108,10 @@ impl Engine {
         requires there { names.get self.now.definitions.routes printer.now.name.now.bytes ≡ Some printer.now.route }
         ensures { OnOk result (rows_of rows.new.items ≡ rows_of rows.old.items ++ lines_on (state_of self.now) (query_of query.now) printer.now.method printer.now.name.now.bytes printer.now.route.ends) }
     {
-        if let CheckedQuery::Table(name) = query {
-            return self.push_kept(name, kind, printer, rows);
+        if let CheckedQuery::Table(table) = query {
+            let runs = self.kept_runs_on(table, printer.name, printer.route)?;
+            return push_lent_lines(self.alloc, kind, printer, runs.as_slice(), rows);
         }
-        self.push_evaluated(query, kind, printer, rows)
-    }
-
-    /// The same of a table's spans, which are lent.
-    fn push_kept(
-        &self,
-        name: &Name,
-        kind: Kind,
-        printer: &PositionPrinter<'_>,
-        rows: &mut Vec<String>,
-    ) -> Result<(), AllocError>
-        requires well_formed { IsWellFormed (world_of (state_of self.now)) (table_rows name.now.bytes) }
-        requires kind { kind ≡ kind_of (world_of (state_of self.now)) (table_rows name.now.bytes) }
-        requires referents { printer.now.referents.now ≡ self.now.referents }
-        requires there { names.get self.now.definitions.routes printer.now.name.now.bytes ≡ Some printer.now.route }
-        ensures { OnOk result (rows_of rows.new.items ≡ rows_of rows.old.items ++ lines_on (state_of self.now) (table_rows name.now.bytes) printer.now.method printer.now.name.now.bytes printer.now.route.ends) }
-    {
-        let runs = self.kept_runs_on(name, printer.name, printer.route)?;
-        push_lent_lines(self.alloc, kind, printer, runs.as_slice(), rows)
-    }
-
-    /// The same of a query that is evaluated.
-    fn push_evaluated(
-        &self,
-        query: &CheckedQuery,
-        kind: Kind,
-        printer: &PositionPrinter<'_>,
-        rows: &mut Vec<String>,
-    ) -> Result<(), AllocError>
-        requires well_formed { IsWellFormed (world_of (state_of self.now)) (query_of query.now) }
-        requires kind { kind ≡ kind_of (world_of (state_of self.now)) (query_of query.now) }
-        requires referents { printer.now.referents.now ≡ self.now.referents }
-        requires there { names.get self.now.definitions.routes printer.now.name.now.bytes ≡ Some printer.now.route }
-        ensures { OnOk result (rows_of rows.new.items ≡ rows_of rows.old.items ++ lines_on (state_of self.now) (query_of query.now) printer.now.method printer.now.name.now.bytes printer.now.route.ends) }
-    {
         let runs = self.evaluated_runs(query, kind, printer.name, printer.route)?;
         push_lines(self.alloc, kind, printer, runs.as_slice(), rows)
     }

@@ -6,7 +6,7 @@ use Rattle.rs_syntax.specs.View.{piece_tree}
 use Rattle.rs_machine.specs.Checks.{piece_of}
 use Rattle.rs_event_lists.specs.Held.{spans_on}
 use Rattle.rs_catalog.specs.Definitions.{routes_of, pieces_of}
-use Rattle.rs_checker.specs.CheckedView.{query_of}
+use Rattle.rs_exec.specs.Operand.{asked}
 use Rattle.rs_exec.specs.Routes.{base_world, names_of}
 use Rattle.rs_exec.specs.Carried.{Gathers, IsLed}
 use Rattle.rs_exec.proofs.Operands.{made-rows}
@@ -16,7 +16,7 @@ use Rattle.rs_exec.proofs.carrying.carried_to.Goals as goal
 pub loop-piece-init : goal.loop-piece-init
 loop-piece-init c = record {
   led = c.requires.led;
-  gathers = gathers-none (base_world c.args.sources.now.base) (query_of c.args.sources.now.operand.now) c.args.name.now.bytes (pieces_of c.args.sources.now.pieces.now) c.new-gathered.result.items c.requires.held.lie c.new-gathered.ensures.items;
+  gathers = gathers-none (base_world c.args.sources.now.base) (asked c.args.sources.now.operand) c.args.name.now.bytes (pieces_of c.args.sources.now.pieces.now) c.new-gathered.result.items c.requires.held.lie c.new-gathered.ensures.items;
 }
 
 pub carry_piece-requires-clause-lies : goal.carry_piece-requires-clause-lies
@@ -30,7 +30,7 @@ carry_piece-requires-clause-led c =
 pub loop-piece-preserved : goal.loop-piece-preserved
 loop-piece-preserved c =
     let world = base_world c.args.sources.now.base in
-    let operand = query_of c.args.sources.now.operand.now in
+    let operand = asked c.args.sources.now.operand in
     let pieces = pieces_of c.args.sources.now.pieces.now in record {
       led = (subst (AllByRecursion (IsLed (names_of c.args.sources.now.routes) c.args.name.now.bytes)) (piece-first c.args.sources.now.pieces.now c.loop-piece.piece-index c.piece-item.result c.loop-piece-test.true c.piece-item.is) c.loop-piece.invariant.led).1;
       gathers = gathers-more world operand c.args.name.now.bytes pieces (pieces_of (drop (c.loop-piece.piece-index + 1) c.args.sources.now.pieces.now)) (piece_of (piece_tree c.piece-item.result)) (map seen c.loop-piece.gathered.items) (map seen c.carry_piece.new.gathered.items)
@@ -40,13 +40,13 @@ loop-piece-preserved c =
 
 pub runs-requires : goal.runs-requires
 runs-requires c = record {
-  placed = subst (λ kind. ArePlaced kind (map seen c.loop-piece.gathered.items)) (sym (c.kind_of-kind.ensures (spans_on c.args.sources.now.base.events.now))) c.loop-piece.invariant.gathers.placed;
+  placed = subst (λ kind. ArePlaced kind (map seen c.loop-piece.gathered.items)) (sym (c.kind-kind.ensures (spans_on c.args.sources.now.base.events.now))) c.loop-piece.invariant.gathers.placed;
 }
 
 pub returns : goal.returns
 returns c = record {
   holds = λ alignment.
       made-rows _ _ _ c.runs.result
-      (gathers-all (base_world c.args.sources.now.base) (query_of c.args.sources.now.operand.now) c.args.name.now.bytes alignment c.kind_of-kind.result (pieces_of c.args.sources.now.pieces.now) (pieces_of (drop c.loop-piece.piece-index c.args.sources.now.pieces.now)) (map seen c.loop-piece.gathered.items) (map seen c.runs.result.items)
-      (c.kind_of-kind.ensures (spans_on c.args.sources.now.base.events.now)) (pieces-end c.args.sources.now.pieces.now c.loop-piece.piece-index c.loop-piece-test.false) c.loop-piece.invariant.gathers c.runs.ensures.runs c.runs.ensures.placed c.runs.ensures.same);
+      (gathers-all (base_world c.args.sources.now.base) (asked c.args.sources.now.operand) c.args.name.now.bytes alignment c.kind-kind.result (pieces_of c.args.sources.now.pieces.now) (pieces_of (drop c.loop-piece.piece-index c.args.sources.now.pieces.now)) (map seen c.loop-piece.gathered.items) (map seen c.runs.result.items)
+      (c.kind-kind.ensures (spans_on c.args.sources.now.base.events.now)) (pieces-end c.args.sources.now.pieces.now c.loop-piece.piece-index c.loop-piece-test.false) c.loop-piece.invariant.gathers c.runs.ensures.runs c.runs.ensures.placed c.runs.ensures.same);
 }

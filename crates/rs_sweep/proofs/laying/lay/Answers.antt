@@ -13,6 +13,7 @@ pub loop-other-init : goal.loop-other-init
 loop-other-init c = record {
   so_far = refl;
   counted = omega arith;
+  least = omega arith;
   fit = c.requires;
 }
 
@@ -28,6 +29,7 @@ loop-other-preserved c =
       so_far = ap (λ zs. map seen zs ++ laid c.args.side (seen c.args.one.now) (map seen_lent (drop (c.loop-other.other-index + 1) c.args.others.now))) c.in_ok-push.ensures.items
           ∙ found-more c.args.side (seen c.args.one.now) c.loop-other.found.items c.in_ok-piece.field-0 (seen_lent c.other-item.result) _ _ _ rest met c.in_ok-piece.ensures.piece c.loop-other.invariant.so_far;
       counted = omega (arith, long, c.is_below.ensures.counted, c.in_ok-piece.ensures.counted, c.loop-other.invariant.counted);
+      least = omega (arith, long, c.is_below.ensures.counted, c.in_ok-piece.ensures.counted, c.loop-other.invariant.least);
       fit = (subst (AllByRecursion (λ other. length (seen c.args.one.now).row + length other.row ≤ COLUMNS)) rest c.loop-other.invariant.fit).1;
     }
 
@@ -37,6 +39,7 @@ returns-after-loop-other c =
     record {
       found = found-all (map seen c.loop-other.found.items) _ _ none c.loop-other.invariant.so_far;
       counted = omega (arith, c.loop-other.invariant.counted);
+      least = (let done : length (laid c.args.side (seen c.args.one.now) (map seen_lent (drop c.loop-other.other-index c.args.others.now))) ≡ 0 = ap length none in omega (arith, done, c.loop-other.invariant.least));
     }
 
 pub returns-then-not-is_below : goal.returns-then-not-is_below
@@ -47,4 +50,5 @@ returns-then-not-is_below c =
     record {
       found = found-all (map seen c.loop-other.found.items) _ _ none c.loop-other.invariant.so_far;
       counted = omega (arith, c.is_below.ensures.counted, c.loop-other.invariant.counted);
+      least = (let done : length (laid c.args.side (seen c.args.one.now) (map seen_lent (drop c.loop-other.other-index c.args.others.now))) ≡ 0 = ap length none in omega (arith, done, c.is_below.ensures.counted, c.loop-other.invariant.least));
     }

@@ -1,4 +1,4 @@
-use Rattle.std.proofs.Common.{◌≡◌, ◌≤◌, ◌+◌, ◌*◌, ◌++◌, length, map, drop}
+use Rattle.std.proofs.Common.{◌≡◌, ◌≤◌, ◌+◌, ◌-◌, ◌*◌, ◌^◌, min, ◌++◌, length, map, drop}
 use Rattle.std.specs.List.{AllByRecursion}
 use Rattle.rs_value.specs.declared.column.TheConstants.{COLUMNS}
 use Rattle.rs_facts.specs.Spans.{seen}
@@ -11,5 +11,6 @@ abbrev pub invariant-loop-other : goal.invariant-loop-other
 invariant-loop-other l = record {
   so_far : map seen l.found.items ++ laid l.side (seen l.one) (map seen_lent (drop l.other-index l.others)) ≡ map seen l.initial.found.items ++ laid l.side (seen l.one) (map seen_lent l.others);
   counted : l.comparisons.made + 2 * length (laid l.side (seen l.one) (map seen_lent (drop l.other-index l.others))) ≤ l.initial.comparisons.made + 2 * length (laid l.side (seen l.one) (map seen_lent l.others));
+  least : min (l.initial.comparisons.made + 2 * length (laid l.side (seen l.one) (map seen_lent l.others))) (2 ^ 64 - 1) ≤ l.comparisons.made + 2 * length (laid l.side (seen l.one) (map seen_lent (drop l.other-index l.others)));
   fit : AllByRecursion (λ other. length (seen l.one).row + length other.row ≤ COLUMNS) (map seen_lent (drop l.other-index l.others));
 }

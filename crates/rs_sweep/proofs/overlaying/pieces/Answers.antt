@@ -1,4 +1,4 @@
-use Rattle.std.proofs.Common.{ℕ, Bor, ◌≤◌, ◌+◌, ◌*◌, inl, inr, List, [], ◌++◌, length, map, sym, ap, ◌∙◌, subst, arith}
+use Rattle.std.proofs.Common.{ℕ, Bor, ◌≤◌, ◌+◌, ◌-◌, ◌*◌, ◌^◌, min, inl, inr, List, [], ◌++◌, length, map, sym, ap, ◌∙◌, subst, arith}
 use Rattle.std.proofs.lemmas.Bool.{ltb-true, ltb-false}
 use Rattle.std.proofs.lemmas.List.{drop_all, take_rest, length-map}
 use Rattle.std.specs.List.{AllByRecursion}
@@ -12,6 +12,7 @@ use Rattle.rs_sweep.specs.Lists.{AreSorted, Fit, pairs}
 use Rattle.rs_sweep.specs.declared.laying.Side.TheVariants.{Left, Right}
 use Rattle.rs_sweep.proofs.LaidSpans.{rest-at}
 use Rattle.rs_sweep.proofs.SweptPairs.{Swept, swept-start, swept-end, step-left, step-right, fits-left, fits-right}
+use Rattle.rs_sweep.proofs.LeastCount.{counts-start, counts-left, counts-right, counts-end}
 use Rattle.rs_sweep.proofs.overlaying.pieces.Goals as goal
 use Rattle.rs_sweep.proofs.overlaying.pieces.Goals.{then-loop-i-test+else-j-right, else-loop-i-test}
 
@@ -28,6 +29,7 @@ loop-i-init c = record {
   right_end = omega arith;
   swept = subst (λ zs. Swept (map seen_lent c.args.left.now) (map seen_lent c.args.right.now) (map seen_lent c.args.left.now) (map seen_lent c.args.right.now) (map seen zs) c.args.comparisons.now.made (c.args.comparisons.now.made + 2 * (length c.args.left.now + length c.args.right.now) + 2 * pairs (map seen_lent c.args.left.now) (map seen_lent c.args.right.now))) (sym c.new-found.ensures.items)
       (start c.args.left.now c.args.right.now c.args.comparisons.now.made c.requires.left_sorted c.requires.right_sorted c.requires.left_placed c.requires.right_placed c.requires.fits);
+  least = counts-start (map seen_lent c.args.left.now) (map seen_lent c.args.right.now) c.args.comparisons.now.made _ _ (length-map c.args.left.now seen_lent) (length-map c.args.right.now seen_lent);
 }
 
 pub lay-requires : goal.lay-requires
@@ -39,6 +41,7 @@ loop-i-preserved-then-is_below c =
     let below = ltb-true c.index-left-i.result.now.lo c.index-right-j.result.now.lo (sym c.is_below.ensures.answer ∙ c.if-is_below.true) in
     let whole = take_rest c.args.right.now c.loop-i.j in
     let asked = subst (λ zs. c.lay.new.comparisons.made ≤ c.is_below.new.self.made + 1 + 2 * length (laid Left (seen_lent c.index-left-i.result) (map seen_lent zs))) whole c.in_ok-lay.ensures.counted in
+    let least = subst (λ zs. min (c.is_below.new.self.made + 2 * length (laid Left (seen_lent c.index-left-i.result) (map seen_lent zs))) (2 ^ 64 - 1) ≤ c.lay.new.comparisons.made) whole c.in_ok-lay.ensures.least in
     record {
       left_end = omega (arith, c.loop-i-test.true);
       right_end = c.loop-i.invariant.right_end;
@@ -48,6 +51,9 @@ loop-i-preserved-then-is_below c =
           c.loop-i.invariant.swept (omega (arith, below))
           (c.in_ok-lay.ensures.found ∙ ap (λ zs. map seen c.loop-i.found.items ++ laid Left (seen_lent c.index-left-i.result) (map seen_lent zs)) whole)
           (omega (arith, asked, c.is_below.ensures.counted));
+      least = counts-left _ _ _ (seen_lent c.index-left-i.result) _ _ _
+          (rest-at c.args.left.now c.loop-i.i c.index-left-i.result c.loop-i-test.true c.index-left-i.is)
+          c.loop-i.invariant.swept.sorted_right c.loop-i.invariant.least (omega (arith, least, c.is_below.ensures.counted));
     }
 
 pub lay-requires-else-is_below : goal.lay-requires-else-is_below
@@ -59,6 +65,7 @@ loop-i-preserved c =
     let above = ltb-false c.index-left-i.result.now.lo c.index-right-j.result.now.lo (sym c.is_below.ensures.answer ∙ c.if-is_below.false) in
     let whole = take_rest c.args.left.now c.loop-i.i in
     let asked = subst (λ zs. c.lay-else-is_below.new.comparisons.made ≤ c.is_below.new.self.made + 1 + 2 * length (laid Right (seen_lent c.index-right-j.result) (map seen_lent zs))) whole c.in_ok-lay-2.ensures.counted in
+    let least = subst (λ zs. min (c.is_below.new.self.made + 2 * length (laid Right (seen_lent c.index-right-j.result) (map seen_lent zs))) (2 ^ 64 - 1) ≤ c.lay-else-is_below.new.comparisons.made) whole c.in_ok-lay-2.ensures.least in
     record {
       left_end = c.loop-i.invariant.left_end;
       right_end = omega (arith, c.if-j-right.true);
@@ -68,6 +75,9 @@ loop-i-preserved c =
           c.loop-i.invariant.swept above
           (c.in_ok-lay-2.ensures.found ∙ ap (λ zs. map seen c.loop-i.found.items ++ laid Right (seen_lent c.index-right-j.result) (map seen_lent zs)) whole)
           (omega (arith, asked, c.is_below.ensures.counted));
+      least = counts-right _ _ _ (seen_lent c.index-right-j.result) _ _ _
+          (rest-at c.args.right.now c.loop-i.j c.index-right-j.result c.if-j-right.true c.index-right-j.is)
+          c.loop-i.invariant.swept.sorted_left c.loop-i.invariant.least (omega (arith, least, c.is_below.ensures.counted));
     }
 
 pub returns-clause-pieces : goal.returns-clause-pieces
@@ -75,3 +85,9 @@ returns-clause-pieces c = swept-end (map seen_lent c.args.left.now) (map seen_le
   | then-loop-i-test+else-j-right w ↦ inr (ap (map seen_lent) (drop_all c.loop-i.j c.args.right.now w.if-j-right.false))
   | else-loop-i-test w ↦ inl (ap (map seen_lent) (drop_all c.loop-i.i c.args.left.now w.loop-i-test.false))
 ])
+
+pub returns-clause-least : goal.returns-clause-least
+returns-clause-least c = counts-end _ _ _ _ (elim c.loop-i-test.branch [
+  | then-loop-i-test+else-j-right w ↦ inr (ap (map seen_lent) (drop_all c.loop-i.j c.args.right.now w.if-j-right.false))
+  | else-loop-i-test w ↦ inl (ap (map seen_lent) (drop_all c.loop-i.i c.args.left.now w.loop-i-test.false))
+]) c.loop-i.invariant.least
