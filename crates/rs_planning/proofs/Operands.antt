@@ -16,7 +16,7 @@ use Rattle.rs_facts.proofs.Sets.{same_rows}
 use Rattle.rs_facts.proofs.RowSets.{either-way}
 use Rattle.rs_planning.specs.Basis.{Basis}
 use Rattle.rs_planning.specs.Plan.{Plan, no_columns, plan_rows_at, overlaid_rows_at, plan_kind, overlaid_kinds, plan_width}
-use Rattle.rs_planning.specs.Rule.{Placed, weight, in_written_order, inserted_by_weight, lightest_first, columns_together, operands_of, overlay_of, together}
+use Rattle.rs_planning.specs.Rule.{PlacedOperand, weight, in_written_order, inserted_by_weight, lightest_first, columns_together, operands_of, overlay_of, together}
 use Rattle.rs_planning.proofs.Shown.{pairs}
 use Rattle.rs_planning.proofs.PuttingBack.{lightest-permutes, only_empty, has_empty, HasItsWidth, back-rows}
 
@@ -111,7 +111,7 @@ width-append world (plan ∷ a) b = let rest = width-append world a b in omega (
 
 -- ---- by weight
 
-kinds-inserted : (world : World) (record_count : Name → ℕ) (one : Placed) (others : List Placed)
+kinds-inserted : (world : World) (record_count : Name → ℕ) (one : PlacedOperand) (others : List PlacedOperand)
     → overlaid_kinds world (operands_of (inserted_by_weight record_count one others)) ≡ overlaid_kind (plan_kind world one.plan) (overlaid_kinds world (operands_of others))
 kinds-inserted world record_count one [] = refl
 kinds-inserted world record_count one (other ∷ others) = by (nat_le (weight record_count one.plan) (weight record_count other.plan)) (kinds-inserted world record_count one others)
@@ -130,7 +130,7 @@ kinds-inserted world record_count one (other ∷ others) = by (nat_le (weight re
     by true h = refl
     by false h = ap (overlaid_kind second) h ∙ sym (kind_assoc second first rest) ∙ ap (λ x. overlaid_kind x rest) (kind_comm second first) ∙ kind_assoc first second rest
 
-kinds-lightest : (world : World) (record_count : Name → ℕ) (placed : List Placed) → overlaid_kinds world (operands_of (lightest_first record_count placed)) ≡ overlaid_kinds world (operands_of placed)
+kinds-lightest : (world : World) (record_count : Name → ℕ) (placed : List PlacedOperand) → overlaid_kinds world (operands_of (lightest_first record_count placed)) ≡ overlaid_kinds world (operands_of placed)
 kinds-lightest world record_count [] = refl
 kinds-lightest world record_count (one ∷ others) = kinds-inserted world record_count one (lightest_first record_count others) ∙ ap (overlaid_kind (plan_kind world one.plan)) (kinds-lightest world record_count others)
 
@@ -163,16 +163,16 @@ overlay-one basis plans wide = record {
   width =
       length-map (range_with_len 0 (length (columns_together sorted))) _
       ∙ length-range_with_len 0 (length (columns_together sorted))
-      ∙ length-flat_map (λ (one : Placed). one.columns) sorted
-      ∙ sum_by-IsPermutation (λ (one : Placed). length one.columns) order sorted (lightest-permutes basis.record_count order)
-      ∙ sym (length-flat_map (λ (one : Placed). one.columns) order)
+      ∙ length-flat_map (λ (one : PlacedOperand). one.columns) sorted
+      ∙ sum_by-IsPermutation (λ (one : PlacedOperand). length one.columns) order sorted (lightest-permutes basis.record_count order)
+      ∙ sym (length-flat_map (λ (one : PlacedOperand). one.columns) order)
       ∙ width-in_order basis.world 0 plans;
 }
   where
-    order : List Placed
+    order : List PlacedOperand
     order = in_written_order basis.world 0 plans
 
-    sorted : List Placed
+    sorted : List PlacedOperand
     sorted = lightest_first basis.record_count order
 
 pub together-one : (basis : Basis) (plans : List Plan) → AllByRecursion (HasItsWidth basis.world) plans → AreOne basis (together basis plans) plans

@@ -18,13 +18,13 @@ use Rattle.rs_facts.proofs.Rows.{same_row, same_row-true, same_row-refl}
 use Rattle.rs_facts.proofs.Sets.{contains-add, same_rows}
 use Rattle.rs_facts.proofs.RowSets.{either-way}
 use Rattle.rs_planning.specs.Plan.{Plan, plan_rows_at, overlaid_rows_at, plan_width, no_columns}
-use Rattle.rs_planning.specs.Rule.{Placed, weight, in_written_order, inserted_by_weight, lightest_first, columns_together, put_back, operands_of}
+use Rattle.rs_planning.specs.Rule.{PlacedOperand, weight, in_written_order, inserted_by_weight, lightest_first, columns_together, put_back, operands_of}
 use Rattle.rs_planning.proofs.Meeting.{every-weaker}
 use Rattle.rs_planning.proofs.Shown.{in_none, changed, pairs}
 
 -- ---- operands by weight are the same operands
 
-insertion-permutes : (record_count : Name → ℕ) (one : Placed) (others : List Placed) → IsPermutation (one ∷ others) (inserted_by_weight record_count one others)
+insertion-permutes : (record_count : Name → ℕ) (one : PlacedOperand) (others : List PlacedOperand) → IsPermutation (one ∷ others) (inserted_by_weight record_count one others)
 insertion-permutes record_count one [] = IsPermutation-refl (one ∷ [])
 insertion-permutes record_count one (other ∷ others) = by (nat_le (weight record_count one.plan) (weight record_count other.plan)) (insertion-permutes record_count one others)
   where
@@ -32,16 +32,16 @@ insertion-permutes record_count one (other ∷ others) = by (nat_le (weight reco
     by true h = IsPermutation-refl (one ∷ other ∷ others)
     by false h = IsPermutation-trans _ _ _ (IsPermutation-middle (one ∷ []) other others) (IsPermutation-cons other _ _ h)
 
-pub lightest-permutes : (record_count : Name → ℕ) (placed : List Placed) → IsPermutation placed (lightest_first record_count placed)
+pub lightest-permutes : (record_count : Name → ℕ) (placed : List PlacedOperand) → IsPermutation placed (lightest_first record_count placed)
 lightest-permutes record_count [] = IsPermutation-refl []
 lightest-permutes record_count (one ∷ others) = IsPermutation-trans _ _ _ (IsPermutation-cons one _ _ (lightest-permutes record_count others)) (insertion-permutes record_count one (lightest_first record_count others))
 
 -- ---- of each operand one row
 
 abbrev Choice : Type 0
-Choice = Placed × Row
+Choice = PlacedOperand × Row
 
-abbrev operands_in : List Choice → List Placed
+abbrev operands_in : List Choice → List PlacedOperand
 operands_in choices = map (λ (choice : Choice). choice.0) choices
 
 abbrev joined : List Choice → Row
@@ -50,7 +50,7 @@ joined choices = flat_map (λ (choice : Choice). choice.1) choices
 abbrev AreAmong : World → Name → ℕ → List Choice → Type 0
 AreAmong world route k choices = AllByRecursion (λ choice. contains (plan_rows_at world choice.0.plan route k) choice.1 ≡ true) choices
 
-record IsJoined (world : World) (route : Name) (k : ℕ) (placed : List Placed) (row : Row) : Type 0 where
+record IsJoined (world : World) (route : Name) (k : ℕ) (placed : List PlacedOperand) (row : Row) : Type 0 where
   choices : List Choice
   of : operands_in choices ≡ placed
   among : AreAmong world route k choices
@@ -65,12 +65,12 @@ only_empty row e = elim (or_cases (same_row [] row) (contains none row) (sym (co
 pub has_empty : contains no_columns [] ≡ true
 has_empty = contains-add none [] [] ∙ or_left (same_row [] []) (contains none []) (same_row-refl [])
 
-choices-of : (world : World) (route : Name) (k : ℕ) (placed : List Placed) (row : Row) → contains (overlaid_rows_at world (operands_of placed) route k) row ≡ true → IsJoined world route k placed row
+choices-of : (world : World) (route : Name) (k : ℕ) (placed : List PlacedOperand) (row : Row) → contains (overlaid_rows_at world (operands_of placed) route k) row ≡ true → IsJoined world route k placed row
 choices-of world route k [] row e = record { choices = []; of = refl; among = tt; is = only_empty row e }
 choices-of world route k (one ∷ others) row e =
     let pair = (pairs (plan_rows_at world one.plan route k) (overlaid_rows_at world (operands_of others) route k) row).0 e in
     let rest = choices-of world route k others pair.right pair.in_second in
-    record { choices = (one, pair.left) ∷ rest.choices; of = ap (λ (l : List Placed). one ∷ l) rest.of; among = (pair.in_first, rest.among); is = pair.together ∙ ap (λ (r : Row). pair.left ++ r) rest.is }
+    record { choices = (one, pair.left) ∷ rest.choices; of = ap (λ (l : List PlacedOperand). one ∷ l) rest.of; among = (pair.in_first, rest.among); is = pair.together ∙ ap (λ (r : Row). pair.left ++ r) rest.is }
 
 of-choices : (world : World) (route : Name) (k : ℕ) (choices : List Choice) → AreAmong world route k choices → contains (overlaid_rows_at world (operands_of (operands_in choices)) route k) (joined choices) ≡ true
 of-choices world route k [] among = has_empty
@@ -83,26 +83,26 @@ map-swap : (choices : List Choice) (i j : ℕ) → operands_in (swap choices i j
 map-swap [] i j = refl
 map-swap (first ∷ choices) i j =
     map-set fst (set_at (first ∷ choices) i (get_or (first ∷ choices) j first)) j (get_or (first ∷ choices) i first)
-    ∙ ap (λ (l : List Placed). set_at l j (fst (get_or (first ∷ choices) i first))) (map-set fst (first ∷ choices) i (get_or (first ∷ choices) j first))
+    ∙ ap (λ (l : List PlacedOperand). set_at l j (fst (get_or (first ∷ choices) i first))) (map-set fst (first ∷ choices) i (get_or (first ∷ choices) j first))
     ∙ (λ t. set_at (set_at (operands_in (first ∷ choices)) i (sym (get_or-map_at fst (first ∷ choices) j first) t)) j (sym (get_or-map_at fst (first ∷ choices) i first) t))
   where
-    fst : Choice → Placed
+    fst : Choice → PlacedOperand
     fst choice = choice.0
 
-record Moved (choices : List Choice) (placed : List Placed) : Type 0 where
+record Moved (choices : List Choice) (placed : List PlacedOperand) : Type 0 where
   now : List Choice
   of : operands_in now ≡ placed
   moved : IsPermutation choices now
 
-move : (choices : List Choice) (placed : List Placed) → IsPermutation (operands_in choices) placed → Moved choices placed
+move : (choices : List Choice) (placed : List PlacedOperand) → IsPermutation (operands_in choices) placed → Moved choices placed
 move choices placed permutation = IsPermutation-keeps (operands_in choices) (Moved choices) (record { now = choices; of = refl; moved = IsPermutation-refl choices }) step placed permutation
   where
-    step : (l : List Placed) (i j : ℕ) → i < length l → j < length l → Moved choices l → Moved choices (swap l i j)
+    step : (l : List PlacedOperand) (i j : ℕ) → i < length l → j < length l → Moved choices l → Moved choices (swap l i j)
     step l i j a b h =
         let same : length h.now ≡ length l = sym (length-map h.now (λ (choice : Choice). choice.0)) ∙ ap length h.of in
         record {
           now = swap h.now i j;
-          of = map-swap h.now i j ∙ ap (λ (l : List Placed). swap l i j) h.of;
+          of = map-swap h.now i j ∙ ap (λ (l : List PlacedOperand). swap l i j) h.of;
           moved = IsPermutation-trans choices h.now (swap h.now i j) h.moved (IsPermutation-swap h.now (swap h.now i j) i j (omega (arith, same)) (omega (arith, same)) refl);
         }
 
@@ -302,19 +302,19 @@ are-from world route k from (plan ∷ plans) [] wide of among = absurd (let e = 
 are-from world route k from (plan ∷ plans) (choice ∷ choices) wide of among =
     let same : choice.0 ≡ record { plan = plan; columns = range_with_len from (plan_width world plan) } = let e = of in cc in
     let others : operands_in choices ≡ in_written_order world (from + plan_width world plan) plans = let e = of in cc in
-    let length_is : length choice.1 ≡ plan_width world plan = wide.0 route k choice.1 (subst (λ (p : Placed). contains (plan_rows_at world p.plan route k) choice.1 ≡ true) same among.0) in
-    let columns_are : choice.0.columns ≡ range_with_len from (plan_width world plan) = ap (λ (p : Placed). p.columns) same in
+    let length_is : length choice.1 ≡ plan_width world plan = wide.0 route k choice.1 (subst (λ (p : PlacedOperand). contains (plan_rows_at world p.plan route k) choice.1 ≡ true) same among.0) in
+    let columns_are : choice.0.columns ≡ range_with_len from (plan_width world plan) = ap (λ (p : PlacedOperand). p.columns) same in
     let rest = are-from world route k (from + plan_width world plan) plans choices wide.1 others among.1 in (
       (columns_are ∙ ap (range_with_len from) (sym length_is), subst (λ n. AreFrom (from + n) choices) (sym length_is) rest.0),
       (length_is ∙ sym (length-range_with_len from (plan_width world plan)) ∙ ap length (sym columns_are), rest.1),
     )
 
 -- the operands in another order, put back, have the rows that they have in the written order
-pub back-rows : (world : World) (plans : List Plan) (placed : List Placed) → AllByRecursion (HasItsWidth world) plans → IsPermutation (in_written_order world 0 plans) placed → (route : Name) (k : ℕ)
+pub back-rows : (world : World) (plans : List Plan) (placed : List PlacedOperand) → AllByRecursion (HasItsWidth world) plans → IsPermutation (in_written_order world 0 plans) placed → (route : Name) (k : ℕ)
     → mapped (chosen (put_back placed)) (overlaid_rows_at world (operands_of placed) route k) ≡ overlaid_rows_at world (operands_of (in_written_order world 0 plans)) route k
 back-rows world plans placed wide permutation route k = same_rows _ _ (λ row. either-way _ _ (there row) (and_back row))
   where
-    order : List Placed
+    order : List PlacedOperand
     order = in_written_order world 0 plans
 
     same_among : (choices : List Choice) (moved : List Choice) → IsPermutation choices moved → AreAmong world route k choices → AreAmong world route k moved

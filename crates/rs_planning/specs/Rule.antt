@@ -51,39 +51,39 @@ abbrev mutual
   weight_together record_count (operand plan operands) = weight record_count plan + weight_together record_count operands
 
 -- an operand, and the places of its columns in the written order
-pub record Placed : Type 0 where
+pub record PlacedOperand : Type 0 where
   pub plan : Plan
   pub columns : List ℕ
 
 -- operands in the written order, the columns of the first from this place on
-abbrev pub in_written_order : World → ℕ → List Plan → List Placed
+abbrev pub in_written_order : World → ℕ → List Plan → List PlacedOperand
 in_written_order world from [] = []
 in_written_order world from (plan ∷ plans) = record { plan = plan; columns = range_with_len from (plan_width world plan) } ∷ in_written_order world (from + plan_width world plan) plans
 
 -- before the first that is no lighter
-abbrev pub inserted_by_weight : (Name → ℕ) → Placed → List Placed → List Placed
+abbrev pub inserted_by_weight : (Name → ℕ) → PlacedOperand → List PlacedOperand → List PlacedOperand
 inserted_by_weight record_count one [] = one ∷ []
 inserted_by_weight record_count one (other ∷ others) =
     if nat_le (weight record_count one.plan) (weight record_count other.plan) then one ∷ other ∷ others else other ∷ inserted_by_weight record_count one others
 
 -- by weight, the least first; of one weight, as they were
-abbrev pub lightest_first : (Name → ℕ) → List Placed → List Placed
+abbrev pub lightest_first : (Name → ℕ) → List PlacedOperand → List PlacedOperand
 lightest_first record_count [] = []
 lightest_first record_count (one ∷ others) = inserted_by_weight record_count one (lightest_first record_count others)
 
 -- the places of all their columns, from the left
-abbrev pub columns_together : List Placed → List ℕ
+abbrev pub columns_together : List PlacedOperand → List ℕ
 columns_together placed = flat_map (λ one. one.columns) placed
 
 -- of each column of the written order, where it is now
-abbrev pub put_back : List Placed → List ℕ
+abbrev pub put_back : List PlacedOperand → List ℕ
 put_back placed = map (λ column. position_or_len (λ place. place == column) (columns_together placed)) (range_with_len 0 (length (columns_together placed)))
 
-abbrev pub operands_of : List Placed → Operands
+abbrev pub operands_of : List PlacedOperand → Operands
 operands_of [] = no_operand
 operands_of (one ∷ others) = operand one.plan (operands_of others)
 
-abbrev pub overlay_of : List Placed → Plan
+abbrev pub overlay_of : List PlacedOperand → Plan
 overlay_of placed = overlay_node (put_back placed) (operands_of placed)
 
 -- a plan alone is no OVERLAY; several are one
