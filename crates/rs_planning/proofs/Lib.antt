@@ -4,4 +4,6 @@ mod PuttingBack
 mod Widths
 mod Operands
 mod Meaning
+mod LeastIndex
+mod ByWeight
 mod Examples

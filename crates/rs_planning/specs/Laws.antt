@@ -1,12 +1,17 @@
 -- What holds of plans, whatever they are chosen by.
-use Rattle.std.specs.Prelude.{◌≡◌, ℕ}
-use Rattle.rs_facts.specs.Fact.{Name}
+use Rattle.std.specs.Prelude.{◌≡◌, ◌≢◌, ◌↔◌, ℕ, false, IsTrue, List, Some, None, IsPermutation, IsSortedByKey}
+use Rattle.std.specs.declared.cmp.Ordering.TheVariants.{Less}
+use Rattle.std.specs.FinMap as names
+use Rattle.std.specs.List.Sorted.{IsStableByKey}
+use Rattle.std.specs.Ordering.{nat_cmp}
+use Rattle.rs_facts.specs.Fact.{Name, name_cmp}
+use Rattle.rs_facts.specs.Condition.{Condition}
 use Rattle.rs_facts.specs.Query.{World, Query, rows_at, kind_of}
 use Rattle.rs_facts.specs.WellFormed.{IsWellFormed, width_of}
-use Rattle.rs_planning.specs.Basis.{Basis}
+use Rattle.rs_planning.specs.Basis.{IndexedColumn, Basis}
 use Rattle.rs_planning.specs.Checked.{NamesItsColumns, RowsHaveTheirWidth}
 use Rattle.rs_planning.specs.Plan.{Plan, plan_rows_at, plan_kind, plan_width}
-use Rattle.rs_planning.specs.Rule.{plan_of}
+use Rattle.rs_planning.specs.Rule.{serves, index_for, PlacedOperand, weight, lightest_first, plan_of}
 
 -- the plan has the query's rows at each thousandth of each route, its columns in the written order
 pub record Means (world : World) (plan : Plan) (query : Query) : Type 0 where
@@ -17,3 +22,39 @@ pub record Means (world : World) (plan : Plan) (query : Query) : Type 0 where
 -- the plan of a checked query means it, whatever the record counts and the indexes
 abbrev pub PlansMeanTheirQueries : Type 0
 PlansMeanTheirQueries = (basis : Basis) (query : Query) → RowsHaveTheirWidth basis.world → IsWellFormed basis.world query → NamesItsColumns basis.world query → Means basis.world (plan_of basis query) query
+
+-- ---- the index of a leaf
+
+-- the index serves, and none of a lesser name does
+pub record IsLeastIndex (basis : Basis) (table : Name) (conditions : List Condition) (name : Name) : Type 0 where
+  pub of : IndexedColumn
+  pub there : names.get basis.indexes name ≡ Some of
+  pub serves_it : IsTrue (serves table conditions of)
+  pub least : (other : Name) (its : IndexedColumn) → names.get basis.indexes other ≡ Some its → IsTrue (serves table conditions its) → name_cmp other name ≢ Less
+
+-- the index of a leaf is the one of the least name among those that serve
+abbrev pub TheLeastIndexIsTaken : Type 0
+TheLeastIndexIsTaken = (basis : Basis) (table : Name) (conditions : List Condition) (name : Name) → (index_for basis table conditions ≡ Some name) ↔ IsLeastIndex basis table conditions name
+
+-- it has none where none serves, and only there
+abbrev pub NoIndexWhereNoneServes : Type 0
+NoIndexWhereNoneServes = (basis : Basis) (table : Name) (conditions : List Condition) → (index_for basis table conditions ≡ None)
+    ↔ ((name : Name) (of : IndexedColumn) → names.get basis.indexes name ≡ Some of → serves table conditions of ≡ false)
+
+-- ---- the order of operands
+
+abbrev pub weight_of : (Name → ℕ) → PlacedOperand → ℕ
+weight_of record_count one = weight record_count one.plan
+
+-- the same operands, none after a heavier one, and those of one weight as they were
+pub record AreByWeight (record_count : Name → ℕ) (placed sorted : List PlacedOperand) : Type 0 where
+  pub same : IsPermutation placed sorted
+  pub rising : IsSortedByKey (weight_of record_count) nat_cmp sorted
+  pub stable : IsStableByKey (weight_of record_count) nat_cmp placed sorted
+
+abbrev pub OperandsGoByWeight : Type 0
+OperandsGoByWeight = (record_count : Name → ℕ) (placed : List PlacedOperand) → AreByWeight record_count placed (lightest_first record_count placed)
+
+-- what any stable sort by weight gives is this one list
+abbrev pub StableSortsAgree : Type 0
+StableSortsAgree = (record_count : Name → ℕ) (placed sorted : List PlacedOperand) → AreByWeight record_count placed sorted → sorted ≡ lightest_first record_count placed

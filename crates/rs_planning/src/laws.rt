@@ -1,9 +1,32 @@
 //! Laws of plans, each the contract of a function that does nothing.
+//!
+//! A plan means its query. What the rule says of indexes and of the order of operands is said again by what they are: the
+//! least name of those that serve, and the order that a stable sort gives.
 
-ghost use Rattle.rs_planning.specs.Laws.{PlansMeanTheirQueries};
+ghost use Rattle.rs_planning.specs.Laws.{
+  PlansMeanTheirQueries,
+  TheLeastIndexIsTaken,
+  NoIndexWhereNoneServes,
+  OperandsGoByWeight,
+  StableSortsAgree,
+};
 
 /// The plan of a checked query has the query's rows at each thousandth of each route, in the written order of columns,
 /// and its kind and width, whatever the record counts and the indexes.
 pub fn plans_mean_their_queries()
     ensures { PlansMeanTheirQueries }
+{}
+
+/// A leaf's index has the least name of those of its table whose column is in a conjunct `column = literal`; where none
+/// is, it has none.
+pub fn the_least_index_is_taken()
+    ensures least { TheLeastIndexIsTaken }
+    ensures none { NoIndexWhereNoneServes }
+{}
+
+/// The operands of an OVERLAY are those of the query, none after a heavier one, and those of one weight as they were
+/// written; any stable sort by weight gives this one list.
+pub fn operands_go_by_weight()
+    ensures sorted { OperandsGoByWeight }
+    ensures only { StableSortsAgree }
 {}
