@@ -3,6 +3,7 @@ mod Shown
 mod PuttingBack
 mod Widths
 mod Operands
+mod Forming
 mod Meaning
 mod LeastIndex
 mod ByWeight

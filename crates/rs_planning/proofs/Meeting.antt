@@ -9,7 +9,7 @@ use Rattle.rs_value.specs.Row.{null, Row}
 use Rattle.rs_facts.specs.Condition.{Term, column, written, is_null, compares, datum_in, Condition, compare, tests_null, negated, both, either, bracketed, meets}
 use Rattle.rs_facts.specs.Operators.{datum_at, chosen}
 use Rattle.rs_planning.specs.Conjuncts.{conjuncts, meets_each, column_of_term, columns_read, is_of_left, is_of_right, is_of_both, term_at, condition_at, under_dissolve, under_right}
-use Rattle.rs_planning.specs.Checked.{AreBelow}
+use Rattle.rs_planning.specs.Checked.{AreBelow, ReadBelow}
 
 -- ---- lists
 
@@ -61,11 +61,7 @@ conjuncts-meet (negated a) row = and_true (meets (negated a) row)
 conjuncts-meet (either a b) row = and_true (meets (either a b) row)
 conjuncts-meet (bracketed a) row = and_true (meets (bracketed a) row)
 
--- the columns of each are below a width
-abbrev pub AreAllBelow : ℕ → List Condition → Type 0
-AreAllBelow width conditions = AllByRecursion (λ condition. AreBelow width (columns_read condition)) conditions
-
-pub conjuncts-below : (width : ℕ) (condition : Condition) → AreBelow width (columns_read condition) → AreAllBelow width (conjuncts condition)
+pub conjuncts-below : (width : ℕ) (condition : Condition) → AreBelow width (columns_read condition) → ReadBelow width (conjuncts condition)
 conjuncts-below width (both a b) h = every-append _ (conjuncts a) (conjuncts b)
     (conjuncts-below width a (every-left (λ place. place < width) (columns_read a) (columns_read b) h))
     (conjuncts-below width b (every-right (λ place. place < width) (columns_read a) (columns_read b) h))
@@ -129,7 +125,7 @@ dissolved_at : (columns : List ℕ) (row : Row) (place : ℕ) → place < length
 unfolding chosen
 dissolved_at columns row place below = sym (get_or-map (λ at. datum_at row at) columns place 0 null below)
 
-pub meets-under_dissolve : (columns : List ℕ) (row : Row) (conditions : List Condition) → AreAllBelow (length columns) conditions
+pub meets-under_dissolve : (columns : List ℕ) (row : Row) (conditions : List Condition) → ReadBelow (length columns) conditions
     → meets_each (map (under_dissolve columns) conditions) row ≡ meets_each conditions (chosen columns row)
 meets-under_dissolve columns row [] h = refl
 meets-under_dissolve columns row (condition ∷ conditions) h = λ i.
@@ -142,7 +138,7 @@ below-at [] width place h below = absurd (omega arith)
 below-at (first ∷ columns) width zero h below = h.0
 below-at (first ∷ columns) width (suc place) h below = below-at columns width place h.1 (omega arith)
 
-pub below-under_dissolve : (columns : List ℕ) (width : ℕ) (conditions : List Condition) → AreBelow width columns → AreAllBelow (length columns) conditions → AreAllBelow width (map (under_dissolve columns) conditions)
+pub below-under_dissolve : (columns : List ℕ) (width : ℕ) (conditions : List Condition) → AreBelow width columns → ReadBelow (length columns) conditions → ReadBelow width (map (under_dissolve columns) conditions)
 below-under_dissolve columns width conditions within h = every-map _ (under_dissolve columns) conditions
     (every-weaker _ _ (λ condition below. subst (AreBelow width) (sym (columns-at (λ place. get_or columns place 0) condition))
     (every-map (λ place. place < width) (λ place. get_or columns place 0) (columns_read condition)
@@ -194,11 +190,11 @@ module _ (width : ℕ) (left right : Row) (wide : length left ≡ width) where
   split (condition ∷ conditions) = split_one condition (filter (is_of_left width) conditions) (filter (is_of_right width) conditions) (filter (is_of_both width) conditions) (meets_each conditions (left ++ right))
       (is_of_left width condition) (list_all (nat_le width) (columns_read condition)) (meets_left condition) (meets_right condition) (split conditions)
 
-pub below-left : (width more : ℕ) (conditions : List Condition) → AreAllBelow more conditions → AreAllBelow width (filter (is_of_left width) conditions)
+pub below-left : (width more : ℕ) (conditions : List Condition) → ReadBelow more conditions → ReadBelow width (filter (is_of_left width) conditions)
 below-left width more conditions h = every-filter _ _ (is_of_left width)
     (λ condition e below. every-weaker _ _ (λ place b. ltb-true place width b) (columns_read condition) (every-passes _ (columns_read condition) e)) conditions h
 
-pub below-right : (width more : ℕ) (conditions : List Condition) → AreAllBelow (width + more) conditions → AreAllBelow more (map (under_right width) (filter (is_of_right width) conditions))
+pub below-right : (width more : ℕ) (conditions : List Condition) → ReadBelow (width + more) conditions → ReadBelow more (map (under_right width) (filter (is_of_right width) conditions))
 below-right width more conditions h = every-map _ (under_right width) (filter (is_of_right width) conditions) (every-filter _ _ (is_of_right width)
     (λ condition e below. subst (AreBelow more) (sym (columns-at (λ place. place - width) condition))
     (every-map (λ place. place < more) (λ place. place - width) (columns_read condition)

@@ -16,7 +16,7 @@ use Rattle.rs_facts.proofs.Sets.{same_rows}
 use Rattle.rs_facts.proofs.RowSets.{either-way}
 use Rattle.rs_planning.specs.Basis.{Basis}
 use Rattle.rs_planning.specs.Plan.{Plan, no_columns, plan_rows_at, overlaid_rows_at, plan_kind, overlaid_kinds, plan_width}
-use Rattle.rs_planning.specs.Rule.{PlacedOperand, weight, in_written_order, inserted_by_weight, lightest_first, columns_together, operands_of, overlay_of, together}
+use Rattle.rs_planning.specs.Rule.{PlacedOperand, weight, in_written_order, inserted_by_weight, lightest_first, columns_together, put_back, operands_of, overlay_of, together}
 use Rattle.rs_planning.proofs.Shown.{pairs}
 use Rattle.rs_planning.proofs.PuttingBack.{lightest-permutes, only_empty, has_empty, HasItsWidth, back-rows}
 
@@ -150,36 +150,45 @@ width-in_order world from (plan ∷ plans) =
 
 -- ---- one plan
 
--- what operands are together, their one plan is
-pub record AreOne (basis : Basis) (plan : Plan) (plans : List Plan) : Type 0 where
-  pub rows : (route : Name) (k : ℕ) → plan_rows_at basis.world plan route k ≡ rows_together basis.world plans route k
-  pub kind : plan_kind basis.world plan ≡ kind_together basis.world plans
-  pub width : plan_width basis.world plan ≡ width_together basis.world plans
+abbrev pub by_weight : Basis → List Plan → List PlacedOperand
+by_weight basis plans = lightest_first basis.record_count (in_written_order basis.world 0 plans)
 
-overlay-one : (basis : Basis) (plans : List Plan) → AllByRecursion (HasItsWidth basis.world) plans → AreOne basis (overlay_of (lightest_first basis.record_count (in_written_order basis.world 0 plans))) plans
-overlay-one basis plans wide = record {
-  rows = λ route k. back-rows basis.world plans sorted wide (lightest-permutes basis.record_count order) route k ∙ rows-in_order basis.world 0 plans route k;
-  kind = kinds-lightest basis.world basis.record_count order ∙ kinds-in_order basis.world 0 plans;
-  width =
-      length-map (range_with_len 0 (length (columns_together sorted))) _
-      ∙ length-range_with_len 0 (length (columns_together sorted))
-      ∙ length-flat_map (λ (one : PlacedOperand). one.columns) sorted
-      ∙ sum_by-IsPermutation (λ (one : PlacedOperand). length one.columns) order sorted (lightest-permutes basis.record_count order)
-      ∙ sym (length-flat_map (λ (one : PlacedOperand). one.columns) order)
-      ∙ width-in_order basis.world 0 plans;
-}
+pub back-length : (placed : List PlacedOperand) → length (put_back placed) ≡ length (columns_together placed)
+back-length placed = length-map (range_with_len 0 (length (columns_together placed))) _ ∙ length-range_with_len 0 (length (columns_together placed))
+
+overlay-kind : (basis : Basis) (plans : List Plan) → plan_kind basis.world (overlay_of (by_weight basis plans)) ≡ kind_together basis.world plans
+overlay-kind basis plans = kinds-lightest basis.world basis.record_count (in_written_order basis.world 0 plans) ∙ kinds-in_order basis.world 0 plans
+
+pub overlay-width : (basis : Basis) (plans : List Plan) → plan_width basis.world (overlay_of (by_weight basis plans)) ≡ width_together basis.world plans
+overlay-width basis plans =
+    back-length (by_weight basis plans)
+    ∙ length-flat_map (λ (one : PlacedOperand). one.columns) (by_weight basis plans)
+    ∙ sum_by-IsPermutation (λ (one : PlacedOperand). length one.columns) order (by_weight basis plans) (lightest-permutes basis.record_count order)
+    ∙ sym (length-flat_map (λ (one : PlacedOperand). one.columns) order)
+    ∙ width-in_order basis.world 0 plans
   where
     order : List PlacedOperand
     order = in_written_order basis.world 0 plans
 
-    sorted : List PlacedOperand
-    sorted = lightest_first basis.record_count order
+pub together-kind : (basis : Basis) (plans : List Plan) → plan_kind basis.world (together basis plans) ≡ kind_together basis.world plans
+together-kind basis [] = overlay-kind basis []
+together-kind basis (plan ∷ []) = sym (line_last (plan_kind basis.world plan))
+together-kind basis (plan ∷ other ∷ plans) = overlay-kind basis (plan ∷ other ∷ plans)
 
-pub together-one : (basis : Basis) (plans : List Plan) → AllByRecursion (HasItsWidth basis.world) plans → AreOne basis (together basis plans) plans
-together-one basis [] wide = overlay-one basis [] wide
-together-one basis (plan ∷ []) wide = record {
-  rows = λ route k. sym (unit_right (plan_rows_at basis.world plan route k));
-  kind = sym (line_last (plan_kind basis.world plan));
-  width = omega arith;
-}
-together-one basis (plan ∷ other ∷ plans) wide = overlay-one basis (plan ∷ other ∷ plans) wide
+pub together-width : (basis : Basis) (plans : List Plan) → plan_width basis.world (together basis plans) ≡ width_together basis.world plans
+together-width basis [] = overlay-width basis []
+together-width basis (plan ∷ []) = omega arith
+together-width basis (plan ∷ other ∷ plans) = overlay-width basis (plan ∷ other ∷ plans)
+
+overlay-rows : (basis : Basis) (plans : List Plan) → AllByRecursion (HasItsWidth basis.world) plans → (route : Name) (k : ℕ)
+    → plan_rows_at basis.world (overlay_of (by_weight basis plans)) route k ≡ rows_together basis.world plans route k
+overlay-rows basis plans wide route k =
+    back-rows basis.world plans (by_weight basis plans) wide (lightest-permutes basis.record_count (in_written_order basis.world 0 plans)) route k
+    ∙ rows-in_order basis.world 0 plans route k
+
+-- the one plan that they make has the rows that they have together
+pub together-rows : (basis : Basis) (plans : List Plan) → AllByRecursion (HasItsWidth basis.world) plans → (route : Name) (k : ℕ)
+    → plan_rows_at basis.world (together basis plans) route k ≡ rows_together basis.world plans route k
+together-rows basis [] wide route k = overlay-rows basis [] wide route k
+together-rows basis (plan ∷ []) wide route k = sym (unit_right (plan_rows_at basis.world plan route k))
+together-rows basis (plan ∷ other ∷ plans) wide route k = overlay-rows basis (plan ∷ other ∷ plans) wide route k

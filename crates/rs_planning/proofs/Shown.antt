@@ -14,9 +14,10 @@ use Rattle.rs_facts.proofs.Rows.{same_row, same_row-true, same_row-equal}
 use Rattle.rs_facts.proofs.Sets.{contains-none, same_rows}
 use Rattle.rs_facts.proofs.RowSets.{any-items, among-items, either-way, contains-mapped, contains-overlaid, contains-merged, contains-keep, contains-without, contains-covered, any_row, in_cond}
 use Rattle.rs_facts.proofs.Carrying.{contains-carried}
+use Rattle.rs_planning.specs.Checked.{ReadBelow}
 use Rattle.rs_planning.specs.Conjuncts.{conjuncts, meets_each, is_of_left, is_of_right, is_of_both, under_dissolve, under_right}
 use Rattle.rs_planning.specs.Plan.{seen_through_each, met_by_each}
-use Rattle.rs_planning.proofs.Meeting.{AreAllBelow, conjuncts-meet, meets-under_dissolve, split}
+use Rattle.rs_planning.proofs.Meeting.{conjuncts-meet, meets-under_dissolve, split}
 
 -- ---- single rows of what is made
 
@@ -175,7 +176,7 @@ shown_window windows window conditions route k rows =
 
 -- ---- operators over them
 
-pub shown_dissolve : (windows : List Window) (conditions : List Condition) (columns : List ℕ) (route : Name) (k : ℕ) (rows : RowSet) → AreAllBelow (length columns) conditions
+pub shown_dissolve : (windows : List Window) (conditions : List Condition) (columns : List ℕ) (route : Name) (k : ℕ) (rows : RowSet) → ReadBelow (length columns) conditions
     → dissolved columns (shown windows (map (under_dissolve columns) conditions) route k rows) ≡ shown windows conditions route k (dissolved columns rows)
 unfolding dissolved
 shown_dissolve windows conditions columns route k rows below = out (inside_each windows route k)

@@ -4,12 +4,18 @@ use Rattle.std.specs.List.{AllByRecursion}
 use Rattle.std.specs.FinMap as names
 use Rattle.rs_value.specs.Row.{Row}
 use Rattle.rs_facts.specs.Fact.{Name, contains}
+use Rattle.rs_facts.specs.Condition.{Condition}
 use Rattle.rs_facts.specs.Query.{Table, World, Query, table_rows, where_rows, dissolve_rows, rename_column, overlay_rows, cover_rows, merge_rows, minus_rows, window_rows, transform_rows}
 use Rattle.rs_facts.specs.WellFormed.{width_of}
 use Rattle.rs_planning.specs.Conjuncts.{columns_read}
 
+-- the places are those of columns of rows of this width
 abbrev pub AreBelow : ℕ → List ℕ → Type 0
 AreBelow width places = AllByRecursion (λ place. place < width) places
+
+-- each condition reads such columns alone
+abbrev pub ReadBelow : ℕ → List Condition → Type 0
+ReadBelow width conditions = AllByRecursion (λ condition. AreBelow width (columns_read condition)) conditions
 
 -- The columns of each condition and of each DISSOLVE are columns of the operand. A checked query keeps to it: the checks
 -- look each name up among the operand's columns, and refuse the one that is none.

@@ -11,6 +11,7 @@ use Rattle.rs_facts.specs.WellFormed.{IsWellFormed, width_of}
 use Rattle.rs_planning.specs.Basis.{IndexedColumn, Basis}
 use Rattle.rs_planning.specs.Checked.{NamesItsColumns, RowsHaveTheirWidth}
 use Rattle.rs_planning.specs.Plan.{Plan, plan_rows_at, plan_kind, plan_width}
+use Rattle.rs_planning.specs.WellFormedPlan.{IsWellFormedPlan}
 use Rattle.rs_planning.specs.Rule.{serves, index_for, PlacedOperand, weight, lightest_first, plan_of}
 
 -- the plan has the query's rows at each thousandth of each route, its columns in the written order
@@ -22,6 +23,10 @@ pub record Means (world : World) (plan : Plan) (query : Query) : Type 0 where
 -- the plan of a checked query means it, whatever the record counts and the indexes
 abbrev pub PlansMeanTheirQueries : Type 0
 PlansMeanTheirQueries = (basis : Basis) (query : Query) → RowsHaveTheirWidth basis.world → IsWellFormed basis.world query → NamesItsColumns basis.world query → Means basis.world (plan_of basis query) query
+
+-- and it is well formed
+abbrev pub PlansAreWellFormed : Type 0
+PlansAreWellFormed = (basis : Basis) (query : Query) → IsWellFormed basis.world query → NamesItsColumns basis.world query → IsWellFormedPlan basis.world (plan_of basis query)
 
 -- ---- the index of a leaf
 

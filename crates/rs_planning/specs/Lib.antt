@@ -4,4 +4,5 @@ pub mod Plan
 pub mod Rule
 pub mod Explain
 pub mod Checked
+pub mod WellFormedPlan
 pub mod Laws

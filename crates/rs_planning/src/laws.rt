@@ -5,6 +5,7 @@
 
 ghost use Rattle.rs_planning.specs.Laws.{
   PlansMeanTheirQueries,
+  PlansAreWellFormed,
   TheLeastIndexIsTaken,
   NoIndexWhereNoneServes,
   OperandsGoByWeight,
@@ -15,6 +16,12 @@ ghost use Rattle.rs_planning.specs.Laws.{
 /// and its kind and width, whatever the record counts and the indexes.
 pub fn plans_mean_their_queries()
     ensures { PlansMeanTheirQueries }
+{}
+
+/// The plan of a checked query is well formed: its tables are there, its rows nowhere wider than a row may be, its
+/// operands of one kind and width where that is asked, each OVERLAY of two operands at least, none an OVERLAY itself.
+pub fn plans_are_well_formed()
+    ensures { PlansAreWellFormed }
 {}
 
 /// A leaf's index has the least name of those of its table whose column is in a conjunct `column = literal`; where none
