@@ -7,4 +7,5 @@ mod Forming
 mod Meaning
 mod LeastIndex
 mod ByWeight
+mod RecordCounts
 mod Examples

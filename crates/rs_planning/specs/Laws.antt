@@ -1,14 +1,17 @@
 -- What holds of plans, whatever they are chosen by.
-use Rattle.std.specs.Prelude.{◌≡◌, ◌≢◌, ◌↔◌, ℕ, false, IsTrue, List, Some, None, IsPermutation, IsSortedByKey}
+use Rattle.std.specs.Prelude.{◌≡◌, ◌≢◌, ◌↔◌, ℕ, ◌+◌, length, sum_by, false, IsTrue, List, Some, None, IsPermutation, IsSortedByKey}
 use Rattle.std.specs.declared.cmp.Ordering.TheVariants.{Less}
 use Rattle.std.specs.FinMap as names
+use Rattle.std.specs.List.{AllByRecursion}
 use Rattle.std.specs.List.Sorted.{IsStableByKey}
 use Rattle.std.specs.Ordering.{nat_cmp}
 use Rattle.rs_facts.specs.Fact.{Name, name_cmp}
 use Rattle.rs_facts.specs.Condition.{Condition}
-use Rattle.rs_facts.specs.Query.{World, Query, rows_at, kind_of}
+use Rattle.rs_facts.specs.Query.{RouteEnds, Table, World, Query, rows_at, kind_of}
+use Rattle.rs_facts.specs.Runs.{Stretch, LieWithin}
+use Rattle.rs_facts.specs.Spans.{AreAllRunsOf}
 use Rattle.rs_facts.specs.WellFormed.{IsWellFormed, width_of}
-use Rattle.rs_planning.specs.Basis.{IndexedColumn, Basis}
+use Rattle.rs_planning.specs.Basis.{IndexedColumn, Basis, runs_counted}
 use Rattle.rs_planning.specs.Checked.{NamesItsColumns, RowsHaveTheirWidth}
 use Rattle.rs_planning.specs.Plan.{Plan, plan_rows_at, plan_kind, plan_width}
 use Rattle.rs_planning.specs.WellFormedPlan.{IsWellFormedPlan}
@@ -24,9 +27,20 @@ pub record Means (world : World) (plan : Plan) (query : Query) : Type 0 where
 abbrev pub PlansMeanTheirQueries : Type 0
 PlansMeanTheirQueries = (basis : Basis) (query : Query) → RowsHaveTheirWidth basis.world → IsWellFormed basis.world query → NamesItsColumns basis.world query → Means basis.world (plan_of basis query) query
 
--- and it is well formed
+-- and is well formed
 abbrev pub PlansAreWellFormed : Type 0
 PlansAreWellFormed = (basis : Basis) (query : Query) → IsWellFormed basis.world query → NamesItsColumns basis.world query → IsWellFormedPlan basis.world (plan_of basis query)
+
+-- ---- how many records a table has
+
+-- on each route the spans are all the maximal runs of the table, whose rows lie on the route
+abbrev pub AreItsRuns : Table → List (Name × RouteEnds) → (Name → List Stretch) → Type 0
+AreItsRuns table routes spans_on = AllByRecursion (λ route. AreAllRunsOf table.kind (table.facts route.0) (spans_on route.0) × LieWithin route.1.start (route.1.finish + 1) (table.facts route.0)) routes
+
+-- the record count of a table is the number of its maximal runs on all routes
+abbrev pub RecordsAreRuns : Type 0
+RecordsAreRuns = (world : World) (name : Name) (table : Table) (spans_on : Name → List Stretch) → names.get world.tables name ≡ Some table → AreItsRuns table (names.entries world.routes) spans_on
+    → runs_counted world name ≡ sum_by (λ route. length (spans_on route.0)) (names.entries world.routes)
 
 -- ---- the index of a leaf
 

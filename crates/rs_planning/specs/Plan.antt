@@ -49,7 +49,7 @@ met_by_each conditions rows = keep (meets_each conditions) rows
 abbrev pub no_columns : RowSet
 no_columns = add none []
 
--- which rows the plan has on a route at a thousandth; how a leaf's records are found changes none
+-- which rows the plan has on a route at a thousandth, however the records of its leaves are found
 abbrev mutual
   pub plan_rows_at : World → Plan → Name → ℕ → RowSet
   plan_rows_at world (leaf_node access table windows conditions) route k = met_by_each conditions (seen_through_each windows route k (facts_of (names.get world.tables table) route k))

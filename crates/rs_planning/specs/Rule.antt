@@ -75,9 +75,9 @@ lightest_first record_count (one ∷ others) = inserted_by_weight record_count o
 abbrev pub columns_together : List PlacedOperand → List ℕ
 columns_together placed = flat_map (λ one. one.columns) placed
 
--- of each column of the written order, where it is now
+-- where each column of the written order is among them
 abbrev pub put_back : List PlacedOperand → List ℕ
-put_back placed = map (λ column. position_or_len (λ place. place == column) (columns_together placed)) (range_with_len 0 (length (columns_together placed)))
+put_back placed = map (λ column. position_or_len (λ other. other == column) (columns_together placed)) (range_with_len 0 (length (columns_together placed)))
 
 abbrev pub operands_of : List PlacedOperand → Operands
 operands_of [] = no_operand

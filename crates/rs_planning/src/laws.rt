@@ -1,11 +1,12 @@
 //! Laws of plans, each the contract of a function that does nothing.
 //!
-//! A plan means its query. What the rule says of indexes and of the order of operands is said again by what they are: the
-//! least name of those that serve, and the order that a stable sort gives.
+//! A plan means its query. What the rule counts, chooses and sorts is said again by what it is: the maximal runs of a
+//! table, the least name among the indexes that serve, the order that a stable sort gives.
 
 ghost use Rattle.rs_planning.specs.Laws.{
   PlansMeanTheirQueries,
   PlansAreWellFormed,
+  RecordsAreRuns,
   TheLeastIndexIsTaken,
   NoIndexWhereNoneServes,
   OperandsGoByWeight,
@@ -22,6 +23,11 @@ pub fn plans_mean_their_queries()
 /// operands of one kind and width where that is asked, each OVERLAY of two operands at least, none an OVERLAY itself.
 pub fn plans_are_well_formed()
     ensures { PlansAreWellFormed }
+{}
+
+/// The record count of a table is the number of its maximal runs on all routes.
+pub fn records_are_runs()
+    ensures { RecordsAreRuns }
 {}
 
 /// A leaf's index has the least name of those of its table whose column is in a conjunct `column = literal`; where none
