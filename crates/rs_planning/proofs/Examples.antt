@@ -43,10 +43,6 @@ speed_there : names.get world.tables speed ≡ Some (table (codes "kph", types.I
 unfolding name_cmp
 speed_there = names.get-from_sorted name_cmp _ speed tt
 
-lanes_there : names.get world.tables lanes ≡ Some (table (lanes, types.Int))
-unfolding name_cmp
-lanes_there = names.get-from_sorted name_cmp _ lanes tt
-
 -- so many records of `pave`, one of each other table
 abbrev basis : ℕ → List (Name × IndexedColumn) → Basis
 basis many indexes = record { world = world; record_count = λ name. cond (same_name name pave) many 1; indexes = names.from_sorted indexes }
@@ -123,19 +119,19 @@ brackets_find_none = simp (speed_there, each_there) refl
 -- OVERLAY(OVERLAY(pave, speed), lanes): one node, of one weight as they were written
 three_in_a_row : explained_by (basis 1 []) (overlay_rows pave_and_speed (table_rows lanes)) ≡ codes "0 OVERLAY 3" ∷ codes "1 SCAN pave 0 0" ∷ codes "1 SCAN speed 0 0" ∷ codes "1 SCAN lanes 0 0" ∷ []
 unfolding name_cmp digits
-three_in_a_row = simp (pave_there, speed_there, none_there) refl
+three_in_a_row = simp none_there refl
 
 -- OVERLAY(lanes, RENAME(WHERE(OVERLAY(pave, speed), surf = 'AC'), kph TO limit)): neither RENAME nor a WHERE that goes down parts two OVERLAYs
 nothing_between : explained_by (basis 3 []) (overlay_rows (table_rows lanes) (rename_column (where_rows pave_and_speed (is_ac 0)) 1 (codes "limit")))
     ≡ codes "0 OVERLAY 3" ∷ codes "1 SCAN lanes 0 0" ∷ codes "1 SCAN speed 0 0" ∷ codes "1 SCAN pave 0 1" ∷ []
 unfolding name_cmp digits
-nothing_between = simp (pave_there, lanes_there, none_there) refl
+nothing_between = simp (pave_there, none_there) refl
 
 -- OVERLAY(WHERE(OVERLAY(pave, speed), surf = 'AC' OR kph = 80), lanes): a WHERE that stays does, and its operand weighs what its leaves do
 where_between : explained_by (basis 1 []) (overlay_rows (where_rows pave_and_speed (either (is_ac 0) (is_eighty 1))) (table_rows lanes))
     ≡ codes "0 OVERLAY 2" ∷ codes "1 SCAN lanes 0 0" ∷ codes "1 WHERE 1" ∷ codes "2 OVERLAY 2" ∷ codes "3 SCAN pave 0 0" ∷ codes "3 SCAN speed 0 0" ∷ []
 unfolding name_cmp digits
-where_between = simp (pave_there, speed_there, none_there) refl
+where_between = simp (pave_there, none_there) refl
 
 -- ---- other nodes
 

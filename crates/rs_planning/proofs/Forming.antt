@@ -16,7 +16,7 @@ use Rattle.rs_planning.specs.Basis.{Basis}
 use Rattle.rs_planning.specs.Checked.{AreBelow, ReadBelow, NamesItsColumns}
 use Rattle.rs_planning.specs.Conjuncts.{conjuncts, is_of_left, is_of_right, is_of_both, under_dissolve, under_right}
 use Rattle.rs_planning.specs.Explain.{operands_counted}
-use Rattle.rs_planning.specs.Plan.{Plan, where_node, window_node, plan_kind, plan_width}
+use Rattle.rs_planning.specs.Plan.{Plan, where_node, dissolve_node, cover_node, merge_node, minus_node, window_node, transform_node, plan_kind, plan_width}
 use Rattle.rs_planning.specs.Rule.{PlacedOperand, leaf, in_written_order, columns_together, operands_of, overlay_of, together, under_where, under_window, overlay_under_where, place}
 use Rattle.rs_planning.specs.WellFormedPlan.{IsNoOverlay, operands_width, IsWellFormedPlan, AreWellFormedOperands}
 use Rattle.rs_planning.proofs.Meeting.{every-append, every-filter, conjuncts-below, below-under_dissolve, below-left, below-right}
@@ -165,6 +165,10 @@ module _ (basis : Basis) where
   }
 
   -- the one plan of a placed query
+  abbrev pub part : Query → List Window → List Condition → Plan
+  part query windows conditions = together basis (place basis query windows conditions)
+
+  -- what it keeps to
   pub record IsOne (plans : List Plan) (query : Query) : Type 0 where
     pub formed : IsWellFormedPlan basis.world (together basis plans)
     pub kind : plan_kind basis.world (together basis plans) ≡ kind_of basis.world query
@@ -187,9 +191,9 @@ module _ (basis : Basis) where
       record { some = rest.some; kind = rest.kind; width = rest.width ∙ sym (rename-width basis.world query conditions column name); each = rest.each }
   formed (dissolve_rows query columns) windows conditions wf named below =
       let inner = one (place basis query windows (map (under_dissolve columns) conditions)) query wf.0 (formed query windows (map (under_dissolve columns) conditions) wf.0 named.0 (below-dissolve basis.world query conditions columns named below)) in
-      alone _ (dissolve_rows query columns) inner.kind (sym (dissolve-width basis.world query conditions columns)) (inner.formed, wf.1, subst (λ width. AreBelow width columns) (sym inner.width) named.1) tt
+      alone (dissolve_node columns (part query windows (map (under_dissolve columns) conditions))) (dissolve_rows query columns) inner.kind (sym (dissolve-width basis.world query conditions columns)) (inner.formed, wf.1, subst (λ width. AreBelow width columns) (sym inner.width) named.1) tt
   formed (overlay_rows a b) windows conditions wf named below =
-      under (both_of basis.world a conditions) _ (overlay_rows a b) wf (below-overlay_both basis.world a b conditions below)
+      under (both_of basis.world a conditions) (place basis a windows (left_of basis.world a conditions) ++ place basis b windows (right_of basis.world a conditions)) (overlay_rows a b) wf (below-overlay_both basis.world a b conditions below)
       (joined a b (place basis a windows (left_of basis.world a conditions)) (place basis b windows (right_of basis.world a conditions))
       (formed a windows (left_of basis.world a conditions) wf.0 named.0 (below-overlay_left basis.world a b conditions below))
       (formed b windows (right_of basis.world a conditions) wf.1 named.1 (below-overlay_right basis.world a b conditions below)))
@@ -197,19 +201,19 @@ module _ (basis : Basis) where
       let left = one (place basis a windows []) a wf.0 (formed a windows [] wf.0 named.0 tt) in
       let right = one (place basis b windows []) b wf.1 (formed b windows [] wf.1 named.1 tt) in
       let width = (λ i. wf.3 i + wf.4 i) ∙ sym (length-append (columns_of basis.world a) (columns_of basis.world b)) in
-      where-alone conditions _ (cover_rows m n a b) left.kind width (subst (λ n. ReadBelow n conditions) (sym width) below)
+      where-alone conditions (cover_node m n (part a windows []) (part b windows [])) (cover_rows m n a b) left.kind width (subst (λ n. ReadBelow n conditions) (sym width) below)
       (left.formed, right.formed, wf.2, wf.3 ∙ sym left.width, wf.4 ∙ sym right.width, left.kind ∙ wf.5 ∙ sym right.kind) tt
   formed (merge_rows a b) windows conditions wf named below =
       let left = one (place basis a windows conditions) a wf.0 (formed a windows conditions wf.0 named.0 below) in
       let right = one (place basis b windows conditions) b wf.1 (formed b windows conditions wf.1 named.1 (subst (λ width. ReadBelow width conditions) wf.3 below)) in
-      alone _ (merge_rows a b) left.kind left.width (left.formed, right.formed, left.kind ∙ wf.2 ∙ sym right.kind, left.width ∙ wf.3 ∙ sym right.width) tt
+      alone (merge_node (part a windows conditions) (part b windows conditions)) (merge_rows a b) left.kind left.width (left.formed, right.formed, left.kind ∙ wf.2 ∙ sym right.kind, left.width ∙ wf.3 ∙ sym right.width) tt
   formed (minus_rows a b) windows conditions wf named below =
       let left = one (place basis a windows conditions) a wf.0 (formed a windows conditions wf.0 named.0 below) in
       let right = one (place basis b windows conditions) b wf.1 (formed b windows conditions wf.1 named.1 (subst (λ width. ReadBelow width conditions) wf.3 below)) in
-      alone _ (minus_rows a b) left.kind left.width (left.formed, right.formed, left.kind ∙ wf.2 ∙ sym right.kind, left.width ∙ wf.3 ∙ sym right.width) tt
+      alone (minus_node (part a windows conditions) (part b windows conditions)) (minus_rows a b) left.kind left.width (left.formed, right.formed, left.kind ∙ wf.2 ∙ sym right.kind, left.width ∙ wf.3 ∙ sym right.width) tt
   formed (transform_rows query name pieces) windows conditions wf named below =
       let inner = one (place basis query [] conditions) query wf.0 (formed query [] conditions wf.0 named below) in
-      window-alone windows _ (transform_rows query name pieces) inner.kind inner.width (inner.formed, wf.1) tt
+      window-alone windows (transform_node name pieces (part query [] conditions)) (transform_rows query name pieces) inner.kind inner.width (inner.formed, wf.1) tt
 
 pub plan-formed : (basis : Basis) (query : Query) → IsWellFormed basis.world query → NamesItsColumns basis.world query → IsOne basis (place basis query [] []) query
 plan-formed basis query wf named = one basis (place basis query [] []) query wf (formed basis query [] [] wf named tt)

@@ -11,14 +11,14 @@ use Rattle.rs_planning.specs.Basis.{Basis}
 use Rattle.rs_planning.specs.Checked.{ReadBelow, NamesItsColumns, RowsHaveTheirWidth}
 use Rattle.rs_planning.specs.Conjuncts.{conjuncts, under_dissolve}
 use Rattle.rs_planning.specs.Laws.{PlansMeanTheirQueries, PlansAreWellFormed}
-use Rattle.rs_planning.specs.Plan.{Plan, where_node, met_by_each, seen_through_each, plan_rows_at}
-use Rattle.rs_planning.specs.Rule.{together, under_where, under_window, overlay_under_where, place}
+use Rattle.rs_planning.specs.Plan.{Plan, where_node, dissolve_node, cover_node, merge_node, minus_node, transform_node, met_by_each, seen_through_each, plan_rows_at}
+use Rattle.rs_planning.specs.Rule.{leaf, together, under_where, under_window, overlay_under_where, place}
 use Rattle.rs_planning.proofs.Meeting.{every-append}
 use Rattle.rs_planning.proofs.Shown.{shown, contains-shown, met_by_none, shown_whole, shown_leaf, shown_where, shown_window, shown_dissolve, shown_merge, shown_minus, shown_cover, shown_transform, shown_overlay}
 use Rattle.rs_planning.proofs.PuttingBack.{HasItsWidth}
 use Rattle.rs_planning.proofs.Widths.{rows-wide}
 use Rattle.rs_planning.proofs.Operands.{rows_together, width_together, unit_right, rows-append, together-rows}
-use Rattle.rs_planning.proofs.Forming.{below-where, below-rename, below-chosen, below-dissolve, left_of, right_of, both_of, below-overlay_left, below-overlay_right, formed, plan-formed}
+use Rattle.rs_planning.proofs.Forming.{below-where, below-rename, below-chosen, below-dissolve, left_of, right_of, both_of, below-overlay_left, below-overlay_right, part, formed, plan-formed}
 
 where-rows : (world : World) (conditions : List Condition) (plan : Plan) (route : Name) (k : ℕ) → plan_rows_at world (under_where conditions plan) route k ≡ met_by_each conditions (plan_rows_at world plan route k)
 where-rows world [] plan route k = sym (met_by_none (plan_rows_at world plan route k))
@@ -80,7 +80,7 @@ module _ (basis : Basis) (have : RowsHaveTheirWidth basis.world) where
   placed : (query : Query) (windows : List Window) (conditions : List Condition) → IsWellFormed basis.world query → NamesItsColumns basis.world query → ReadBelow (width_of basis.world query) conditions
       → IsPlaced (place basis query windows conditions) query windows conditions
   placed (table_rows name) windows conditions wf named below =
-      alone _ (table_rows name) windows conditions wf (formed basis (table_rows name) windows conditions wf named below).width
+      alone (leaf basis name windows conditions) (table_rows name) windows conditions wf (formed basis (table_rows name) windows conditions wf named below).width
       (λ route k. shown_leaf windows conditions route k (facts_of (names.get basis.world.tables name) route k))
   placed (where_rows query condition) windows conditions wf named below =
       let rest = placed query windows (conditions ++ conjuncts condition) wf named.0 (below-where basis.world query conditions condition named below) in
@@ -92,8 +92,8 @@ module _ (basis : Basis) (have : RowsHaveTheirWidth basis.world) where
       let rest = placed query windows conditions wf named (below-rename basis.world query conditions column name below) in
       record { rows = rest.rows; wide = rest.wide }
   placed (dissolve_rows query columns) windows conditions wf named below =
-      let inner = one _ query windows (map (under_dissolve columns) conditions) (placed query windows (map (under_dissolve columns) conditions) wf.0 named.0 (below-dissolve basis.world query conditions columns named below)) in
-      alone _ (dissolve_rows query columns) windows conditions wf (formed basis (dissolve_rows query columns) windows conditions wf named below).width
+      let inner = one (place basis query windows (map (under_dissolve columns) conditions)) query windows (map (under_dissolve columns) conditions) (placed query windows (map (under_dissolve columns) conditions) wf.0 named.0 (below-dissolve basis.world query conditions columns named below)) in
+      alone (dissolve_node columns (part basis query windows (map (under_dissolve columns) conditions))) (dissolve_rows query columns) windows conditions wf (formed basis (dissolve_rows query columns) windows conditions wf named below).width
       (λ route k. ap (dissolved columns) (inner route k) ∙ shown_dissolve windows conditions columns route k (rows_at basis.world query route k) (below-chosen basis.world query conditions columns below))
   placed (overlay_rows a b) windows conditions wf named below =
       both a b windows conditions wf (place basis a windows (left_of basis.world a conditions)) (place basis b windows (right_of basis.world a conditions))
@@ -101,26 +101,26 @@ module _ (basis : Basis) (have : RowsHaveTheirWidth basis.world) where
       (placed a windows (left_of basis.world a conditions) wf.0 named.0 (below-overlay_left basis.world a b conditions below))
       (placed b windows (right_of basis.world a conditions) wf.1 named.1 (below-overlay_right basis.world a b conditions below))
   placed (cover_rows m n a b) windows conditions wf named below =
-      let left = one _ a windows [] (placed a windows [] wf.0 named.0 tt) in
-      let right = one _ b windows [] (placed b windows [] wf.1 named.1 tt) in
-      alone _ (cover_rows m n a b) windows conditions wf (formed basis (cover_rows m n a b) windows conditions wf named below).width
-      (λ route k. where-rows basis.world conditions _ route k
+      let left = one (place basis a windows []) a windows [] (placed a windows [] wf.0 named.0 tt) in
+      let right = one (place basis b windows []) b windows [] (placed b windows [] wf.1 named.1 tt) in
+      alone (under_where conditions (cover_node m n (part basis a windows []) (part basis b windows []))) (cover_rows m n a b) windows conditions wf (formed basis (cover_rows m n a b) windows conditions wf named below).width
+      (λ route k. where-rows basis.world conditions (cover_node m n (part basis a windows []) (part basis b windows [])) route k
       ∙ ap (met_by_each conditions) (λ i. covered m n (left route k i) (right route k i))
       ∙ shown_cover windows conditions m n route k (rows_at basis.world a route k) (rows_at basis.world b route k))
   placed (merge_rows a b) windows conditions wf named below =
-      let left = one _ a windows conditions (placed a windows conditions wf.0 named.0 below) in
-      let right = one _ b windows conditions (placed b windows conditions wf.1 named.1 (subst (λ width. ReadBelow width conditions) wf.3 below)) in
-      alone _ (merge_rows a b) windows conditions wf (formed basis (merge_rows a b) windows conditions wf named below).width
+      let left = one (place basis a windows conditions) a windows conditions (placed a windows conditions wf.0 named.0 below) in
+      let right = one (place basis b windows conditions) b windows conditions (placed b windows conditions wf.1 named.1 (subst (λ width. ReadBelow width conditions) wf.3 below)) in
+      alone (merge_node (part basis a windows conditions) (part basis b windows conditions)) (merge_rows a b) windows conditions wf (formed basis (merge_rows a b) windows conditions wf named below).width
       (λ route k. (λ i. merged (left route k i) (right route k i)) ∙ shown_merge windows conditions route k (rows_at basis.world a route k) (rows_at basis.world b route k))
   placed (minus_rows a b) windows conditions wf named below =
-      let left = one _ a windows conditions (placed a windows conditions wf.0 named.0 below) in
-      let right = one _ b windows conditions (placed b windows conditions wf.1 named.1 (subst (λ width. ReadBelow width conditions) wf.3 below)) in
-      alone _ (minus_rows a b) windows conditions wf (formed basis (minus_rows a b) windows conditions wf named below).width
+      let left = one (place basis a windows conditions) a windows conditions (placed a windows conditions wf.0 named.0 below) in
+      let right = one (place basis b windows conditions) b windows conditions (placed b windows conditions wf.1 named.1 (subst (λ width. ReadBelow width conditions) wf.3 below)) in
+      alone (minus_node (part basis a windows conditions) (part basis b windows conditions)) (minus_rows a b) windows conditions wf (formed basis (minus_rows a b) windows conditions wf named below).width
       (λ route k. (λ i. without (left route k i) (right route k i)) ∙ shown_minus windows conditions route k (rows_at basis.world a route k) (rows_at basis.world b route k))
   placed (transform_rows query name pieces) windows conditions wf named below =
-      let inner = one _ query [] conditions (placed query [] conditions wf.0 named below) in
-      alone _ (transform_rows query name pieces) windows conditions wf (formed basis (transform_rows query name pieces) windows conditions wf named below).width
-      (λ route k. window-rows basis.world windows _ route k
+      let inner = one (place basis query [] conditions) query [] conditions (placed query [] conditions wf.0 named below) in
+      alone (under_window windows (transform_node name pieces (part basis query [] conditions))) (transform_rows query name pieces) windows conditions wf (formed basis (transform_rows query name pieces) windows conditions wf named below).width
+      (λ route k. window-rows basis.world windows (transform_node name pieces (part basis query [] conditions)) route k
       ∙ ap (seen_through_each windows route k) (λ i. transformed pieces (λ r j. inner r j i) route k)
       ∙ shown_transform windows conditions pieces (rows_at basis.world query) route k)
 
