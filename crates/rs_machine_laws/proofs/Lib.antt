@@ -12,6 +12,7 @@ mod Commands
 mod Lines
 mod Columns
 mod WellFormedQueries
+mod NamedColumns
 mod Runs
 mod Tokens
 mod PositionTokens

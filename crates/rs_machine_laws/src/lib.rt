@@ -5,5 +5,6 @@
 #![tactic(auto)]
 
 pub mod lawful;
+pub mod plans;
 pub mod positions;
 pub mod printed;

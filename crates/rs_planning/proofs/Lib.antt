@@ -1,0 +1,11 @@
+mod Meeting
+mod Shown
+mod PuttingBack
+mod Widths
+mod Operands
+mod Forming
+mod Meaning
+mod LeastIndex
+mod ByWeight
+mod RecordCounts
+mod Examples
