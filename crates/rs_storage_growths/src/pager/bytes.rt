@@ -3,7 +3,7 @@
 //! The bytes that are wanted are stated here. No flush writes the byte of the open flag.
 
 use crate::driver::{Driver, TestDisk};
-use crate::expect::expect;
+use crate::expect::{expect, expect_at};
 use crate::pager::image::{Field, disk_of, image, made};
 use rs_disk::Disk;
 use rs_page::{ContentKind, FileHeader, PAGE_SIZE, PageNumber};
@@ -155,14 +155,19 @@ fn take(driver: &mut Driver, step: Step) -> Result<bool, Refusal> {
     Ok(true)
 }
 
-/// Makes the calls in the file on a disk, one after the other, and gives the disk back.
+/// Makes the calls, one after the other.
+fn take_each(driver: &mut Driver, steps: &[Step]) -> Result<(), Fail> {
+    for (k, step) in steps.iter().enumerate() {
+        let is_right = take(driver, *step) == Ok(true);
+        expect_at(is_right, "as wanted at step, from 0,", k)?;
+    }
+    Ok(())
+}
+
+/// Makes the calls in the file on a disk, and gives the disk back.
 fn taken(alloc: Global, disk: TestDisk, steps: &[Step]) -> Result<TestDisk, Fail> {
     let mut driver = made(Driver::open(alloc, disk, LIMIT))?;
-    for (k, step) in steps.iter().enumerate() {
-        if take(&mut driver, *step) != Ok(true) {
-            return Err(Fail::new(format_args!("not as wanted: step {k}, from 0")));
-        }
-    }
+    take_each(&mut driver, steps)?;
     Ok(driver.into_disk())
 }
 

@@ -113,11 +113,16 @@ fn may_be(at: usize, is_tree: bool) -> bool {
 
 /// Changes a byte, and answers whether it is found to matter.
 fn matters(alloc: Global, tree: &mut OneTree, damage: Damage) -> Result<bool, Fail> {
-    let answer = answer_with(alloc, tree, damage, Call::Validate);
-    let is_tree = answer.is_ok();
-    let is_right = is_tree || answer == Err(Refusal::DamagedFile);
-    let is_right = is_right && may_be(damage.at, is_tree);
-    expect_at(is_right, "what is found at byte", damage.at)?;
+    let is_tree = match answer_with(alloc, tree, damage, Call::Validate) {
+        Ok(()) => true,
+        Err(Refusal::DamagedFile) => false,
+        Err(refusal) => return Err(refusal.into()),
+    };
+    expect_at(
+        may_be(damage.at, is_tree),
+        "what is found at byte",
+        damage.at,
+    )?;
     let are_held = are_held(alloc, tree, damage, is_tree);
     expect_at(are_held, "calls at byte", damage.at)?;
     Ok(!is_tree)

@@ -63,14 +63,19 @@ fn expect_cells(alloc: Global, tree: &mut OneTree, divisor: u32) -> Result<(), F
     expect_at(tree.lost_pages(alloc)? == 0, "lost pages", 0)
 }
 
+/// Fills the tree, thins it out and empties it.
+fn fill_and_empty(alloc: Global, tree: &mut OneTree) -> Result<(), Fail> {
+    expect_at(fill(tree)? == CELLS, "new cells", 100_000)?;
+    expect_cells(alloc, tree, 1)?;
+    let removed = remove_some(tree, false)?;
+    expect_at(removed == 90_000, "removed cells", 90_000)?;
+    expect_cells(alloc, tree, 10)?;
+    let removed = remove_some(tree, true)?;
+    expect_at(removed == 10_000, "removed cells", 10_000)?;
+    expect_cells(alloc, tree, 0)
+}
+
 pub fn many_cells_come_and_go(alloc: Global) -> Result<(), Fail> {
     let mut tree = OneTree::new(alloc, 28)?;
-    expect_at(fill(&mut tree)? == CELLS, "new cells", 100_000)?;
-    expect_cells(alloc, &mut tree, 1)?;
-    let removed = remove_some(&mut tree, false)?;
-    expect_at(removed == 90_000, "removed cells", 90_000)?;
-    expect_cells(alloc, &mut tree, 10)?;
-    let removed = remove_some(&mut tree, true)?;
-    expect_at(removed == 10_000, "removed cells", 10_000)?;
-    expect_cells(alloc, &mut tree, 0)
+    fill_and_empty(alloc, &mut tree)
 }
