@@ -26,7 +26,8 @@ import tempfile
 from copies import make_repository, output_of
 
 PROGRAM = "pager_bench"
-STANDS_ON = ["rs_pager_judge", "rs_page", "rs_disk", "rs_refusal"]
+STANDS_ON = ["rs_disk", "rs_page", "rs_pager", "rs_pages", "rs_refusal"]
+DRIVER = "rs_storage_growths/src/driver.rt"
 LINE = re.compile(r"pages=(\d+) scattered=(\d+) in_runs=(\d+)")
 
 
@@ -59,7 +60,7 @@ def main():
     sizes = [int(size) for size in words.sizes.split(",")]
     folder = words.folder or tempfile.mkdtemp(prefix="pager-bench-")
     try:
-        program = make_repository(folder, PROGRAM, STANDS_ON, "pager", ["main.rt"])
+        program = make_repository(folder, PROGRAM, STANDS_ON, "pager", ["main.rt"], [DRIVER])
         command = command_of(program, not words.unproved)
         best = {}
         for _round in range(words.rounds):

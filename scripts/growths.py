@@ -1,10 +1,10 @@
 #!/usr/bin/env python3
-"""Refuses each growth of two programs that judge their own answers, one growth in each run.
+"""Refuses each growth of three programs that judge their own answers, one growth in each run.
 
     growths.py [--count]
 
-`rs_growths` holds the conversations that `tests/refused_growths.txt` names, and `rs_storage_growths` makes the calls of the
-parts that it names, each in runs of its own. Such a program prints the same whichever of its growths was refused, and then
+`rs_growths` holds the conversations that `tests/refused_growths.txt` names, `rs_storage_growths` and `rs_file_growths` make the
+calls of the parts that it names, each in runs of its own. Such a program prints the same whichever of its growths was refused, and then
 whether the next growth was given; any other output, or status, is a failure. The list says how many each of them asks for.
 A run that comes to its refused growth is given the next one, and the run in which the growth after the last is refused
 is not: so a number that is too small or too large is found out. Then the growths are counted anew, and all is run once
@@ -27,15 +27,17 @@ CONVERSATIONS = os.path.join(ROOT, "tests", "conversations")
 LIST = os.path.join(ROOT, "tests", "refused_growths.txt")
 EXPAND = os.path.join(ROOT, "tests", "conversations.py")
 
-# The program that holds conversations, and the one that makes calls of what lies below the engine.
+# The program that holds conversations, and those that make calls of what lies below the engine: of a pager and trees, and of a
+# whole file.
 CONVERSED = "rs_growths"
 STORAGE = "rs_storage_growths"
+FILE = "rs_file_growths"
 
-# The parts of the second, and what it is given for each.
-PARTS = {"pager-calls": b"p", "tree-calls": b"t", "file-steps": b"f"}
+# The parts of the last two: which program makes its calls, and what it is given.
+PARTS = {"pager-calls": (STORAGE, b"p"), "tree-calls": (STORAGE, b"t"), "file-steps": (FILE, b"f")}
 
 # How many runs of each there are in which a growth is refused, at the most.
-MOST_RUNS = {CONVERSED: 700, STORAGE: 1_100}
+MOST_RUNS = {CONVERSED: 700, STORAGE: 400, FILE: 700}
 
 # More growths than any program asks for.
 NONE_REFUSED = 1_000_000
@@ -64,7 +66,7 @@ class Case:
 
 
 def program_of(name):
-    return STORAGE if name in PARTS else CONVERSED
+    return PARTS[name][0] if name in PARTS else CONVERSED
 
 
 def listed():
@@ -106,7 +108,7 @@ def is_look(sent, wanted):
 def fields_of(name):
     """What a program reads after the dots: of a conversation each line with its answer and the one without memory."""
     if name in PARTS:
-        return PARTS[name]
+        return PARTS[name][1]
     fields = []
     for sent, wanted in exchanges(name):
         session = wanted.partition(b" ")[0]

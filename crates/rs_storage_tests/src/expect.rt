@@ -1,12 +1,21 @@
-//! What a test wants, said where it isn't so.
+//! What is wanted, said where it isn't so.
 
 use std::test::Fail;
 
-/// Fails the test with these words unless all is right.
+/// Fails with these words, unless all is right.
 pub fn expect(is_right: bool, wanted: &str) -> Result<(), Fail> {
     if is_right {
         Ok(())
     } else {
         Err(Fail::new(format_args!("not so: {wanted}")))
+    }
+}
+
+/// Fails with these words and a number, unless all is right.
+pub fn expect_at(is_right: bool, wanted: &str, number: usize) -> Result<(), Fail> {
+    if is_right {
+        Ok(())
+    } else {
+        Err(Fail::new(format_args!("not so: {wanted} {number}")))
     }
 }

@@ -1,0 +1,28 @@
+-- What died up to the version whose turn it is still did after some were cleared, what was kept stays, and the indexes are on the same
+-- cells still.
+use Rattle.std.proofs.Common.{◌≤◌, [], ◌∷◌, length, subst, sym}
+use Rattle.std.specs.List.{AllByRecursion}
+use Rattle.rs_cell_versions.specs.Version.{died_of}
+use Rattle.rs_cell_versions.specs.Versioned.{Standing}
+use Rattle.rs_file_growths.proofs.Indexed.{kept_written}
+use Rattle.rs_value.specs.declared.column.ColumnType.TheVariants.{Int, Text}
+use Rattle.rs_versioned.specs.Events.{event_width}
+use Rattle.rs_file_growths.proofs.versioned_file.VersionedFile.vacuum.Goals as goal
+
+pub invariant_of-self-clause-events_died : goal.invariant_of-self-clause-events_died
+invariant_of-self-clause-events_died c = c.vacuum.ensures.order c.args.self.now.version c.args.self.now.events_died
+
+pub invariant_of-self-clause-events_kept : goal.invariant_of-self-clause-events_kept
+invariant_of-self-clause-events_kept c =
+    subst (λ (state : Standing). AllByRecursion (λ dead. died_of dead ≤ c.args.self.now.kept) state.dead) (sym c.vacuum.ensures.committed) c.args.self.now.events_kept
+
+pub invariant_of-self-else-eq-clause-referents_died : goal.invariant_of-self-else-eq-clause-referents_died
+invariant_of-self-else-eq-clause-referents_died c = c.vacuum-else-eq.ensures.order c.args.self.now.version c.args.self.now.referents_died
+
+pub invariant_of-self-else-eq-clause-referents_kept : goal.invariant_of-self-else-eq-clause-referents_kept
+invariant_of-self-else-eq-clause-referents_kept c =
+    subst (λ (state : Standing). AllByRecursion (λ dead. died_of dead ≤ c.args.self.now.kept) state.dead) (sym c.vacuum-else-eq.ensures.committed) c.args.self.now.referents_kept
+
+pub invariant_of-self-clause-indexed : goal.invariant_of-self-clause-indexed
+invariant_of-self-clause-indexed c =
+    kept_written (event_width (Int ∷ Text 8 ∷ [])) c.args.self.now.indexes.items c.deref_mut.result.now c.vacuum.new.indexes c.args.self.now.indexes.len (length c.vacuum.new.indexes) c.deref_mut.ensures.value c.vacuum.ensures.kept c.args.self.now.indexed
