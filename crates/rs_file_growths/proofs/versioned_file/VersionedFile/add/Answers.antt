@@ -10,7 +10,7 @@ use Rattle.rs_file_growths.proofs.versioned_file.VersionedFile.add.Goals as goal
 
 pub invariant_of-self-2-clause-indexed : goal.invariant_of-self-2-clause-indexed
 invariant_of-self-2-clause-indexed c =
-    kept_written (event_width (Int ∷ Text 8 ∷ [])) c.args.self.now.indexes.items c.deref_mut.result.now c.add-2.new.indexes c.args.self.now.indexes.len (length c.add-2.new.indexes) c.deref_mut.ensures.value c.add-2.ensures.kept c.args.self.now.indexed
+    kept_written (event_width (Int ∷ Text 8 ∷ [])) c.args.self.now.indexes.items c.deref_mut.result.now c.add-2.new.indexes c.args.self.now.indexes.len (length c.add-2.new.indexes) c.deref_mut.ensures.value c.add-2.ensures.table.kept c.args.self.now.indexed
 
 pub invariant_of-self-2-clause-events_died : goal.invariant_of-self-2-clause-events_died
 invariant_of-self-2-clause-events_died c =
@@ -18,4 +18,4 @@ invariant_of-self-2-clause-events_died c =
 
 pub invariant_of-self-2-clause-events_kept : goal.invariant_of-self-2-clause-events_kept
 invariant_of-self-2-clause-events_kept c =
-    subst (λ (state : Standing). AllByRecursion (λ dead. died_of dead ≤ c.args.self.now.kept) state.dead) (sym c.add-2.ensures.committed) c.args.self.now.events_kept
+    subst (λ (state : Standing). AllByRecursion (λ dead. died_of dead ≤ c.args.self.now.kept) state.dead) (sym c.add-2.ensures.table.committed) c.args.self.now.events_kept

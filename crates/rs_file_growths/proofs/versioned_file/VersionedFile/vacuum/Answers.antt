@@ -14,15 +14,15 @@ invariant_of-self-clause-events_died c = c.vacuum.ensures.order c.args.self.now.
 
 pub invariant_of-self-clause-events_kept : goal.invariant_of-self-clause-events_kept
 invariant_of-self-clause-events_kept c =
-    subst (λ (state : Standing). AllByRecursion (λ dead. died_of dead ≤ c.args.self.now.kept) state.dead) (sym c.vacuum.ensures.committed) c.args.self.now.events_kept
+    subst (λ (state : Standing). AllByRecursion (λ dead. died_of dead ≤ c.args.self.now.kept) state.dead) (sym c.vacuum.ensures.table.committed) c.args.self.now.events_kept
 
 pub invariant_of-self-else-eq-clause-referents_died : goal.invariant_of-self-else-eq-clause-referents_died
 invariant_of-self-else-eq-clause-referents_died c = c.vacuum-else-eq.ensures.order c.args.self.now.version c.args.self.now.referents_died
 
 pub invariant_of-self-else-eq-clause-referents_kept : goal.invariant_of-self-else-eq-clause-referents_kept
 invariant_of-self-else-eq-clause-referents_kept c =
-    subst (λ (state : Standing). AllByRecursion (λ dead. died_of dead ≤ c.args.self.now.kept) state.dead) (sym c.vacuum-else-eq.ensures.committed) c.args.self.now.referents_kept
+    subst (λ (state : Standing). AllByRecursion (λ dead. died_of dead ≤ c.args.self.now.kept) state.dead) (sym c.vacuum-else-eq.ensures.table.committed) c.args.self.now.referents_kept
 
 pub invariant_of-self-clause-indexed : goal.invariant_of-self-clause-indexed
 invariant_of-self-clause-indexed c =
-    kept_written (event_width (Int ∷ Text 8 ∷ [])) c.args.self.now.indexes.items c.deref_mut.result.now c.vacuum.new.indexes c.args.self.now.indexes.len (length c.vacuum.new.indexes) c.deref_mut.ensures.value c.vacuum.ensures.kept c.args.self.now.indexed
+    kept_written (event_width (Int ∷ Text 8 ∷ [])) c.args.self.now.indexes.items c.deref_mut.result.now c.vacuum.new.indexes c.args.self.now.indexes.len (length c.vacuum.new.indexes) c.deref_mut.ensures.value c.vacuum.ensures.table.kept c.args.self.now.indexed
