@@ -39,6 +39,9 @@ PARTS = {"pager-calls": (STORAGE, b"p"), "tree-calls": (STORAGE, b"t"), "file-st
 # How many runs of each there are in which a growth is refused, at the most.
 MOST_RUNS = {CONVERSED: 700, STORAGE: 400, FILE: 700}
 
+# The commands that change nothing, where they are accepted.
+QUERIES = (b"SELECT ", b"TOTAL ", b"TRANSLATE ", b"EXPLAIN ")
+
 # More growths than any program asks for.
 NONE_REFUSED = 1_000_000
 
@@ -102,7 +105,7 @@ def exchanges(name):
 def is_look(sent, wanted):
     """Whether a line changes nothing: a query, or one that is refused."""
     command = sent.lstrip(b"0123456789 ")
-    return command.startswith((b"SELECT ", b"TOTAL ", b"TRANSLATE ")) or wanted.partition(b" ")[2].startswith(b"ERR ")
+    return command.startswith(QUERIES) or wanted.partition(b" ")[2].startswith(b"ERR ")
 
 
 def fields_of(name):

@@ -224,7 +224,7 @@ def options():
     parser = argparse.ArgumentParser(description="Compares the program with the slow machine.")
     parser.add_argument("--program", default=PROGRAM, help="what is compared (default: the program that the gate built)")
     parser.add_argument("--slow", default=SLOW, help="what it is compared with (default: the slow machine)")
-    parser.add_argument("--lines", type=int, default=20_000, help="pseudo-random lines in all")
+    parser.add_argument("--lines", type=int, default=26_000, help="pseudo-random lines in all")
     parser.add_argument("--rounds", type=int, default=40, help="fresh runs that share the lines")
     parser.add_argument("--seed", type=int, default=0)
     parser.add_argument("--only", type=int, help="the number of one round, which is run alone")

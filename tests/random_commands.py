@@ -1,9 +1,11 @@
 """Pseudo-random commands: each gives its tokens, and what is known once it is accepted."""
 
+from collections import Counter
 from typing import NamedTuple
 
 from random_parts import (
     COLUMNS,
+    CURSORS,
     GREATEST_MEASURE,
     LONG_ROUTES,
     LONGEST_SPAN,
@@ -20,6 +22,10 @@ from random_queries import Queries
 KEPT = (b"pave", b"crash")
 
 MOST_PIECES = 64
+MOST_CURSORS = 4
+
+# After so many changes a cursor is fetched from late.
+MANY_CHANGES = 5
 
 
 class KnownPiece(NamedTuple):
@@ -75,6 +81,17 @@ class Commands(Queries):
             names[-1] = names[0]
         columns = [(column, self.pick([None, None, 1, 2, 5, 8, 39, 40])) for column in names]
         return self.table_tokens(name, is_line, columns), lambda: self.know_table(name, is_line, columns)
+
+    def define_index(self):
+        """An index of a column of a table, at times under a name that a table or view has."""
+        name = self.new_name(self.indexes)
+        if self.chance(0.2):
+            name = self.pick([one for one in [*self.tables, *self.views] if one not in self.indexes] or [name])
+        table, table_name = self.some_table()
+        column, _ = self.pick(self.tables[table].columns)
+        column_name = self.pick([b"none", b"Surf", b"N"]) if self.flaw(2) else column
+        tokens = [b"DEFINE", b"INDEX", name, b"ON", table_name, b"(", column_name, b")"]
+        return tokens, lambda: self.know_index(name, table, column)
 
     def define_view(self):
         name = self.new_name(list(self.views) + list(self.tables))
@@ -176,6 +193,7 @@ class Commands(Queries):
         if name in in_alignments - with_events - in_windows:
             self.marks.add("in an alignment")
         self.is_flawed = self.is_flawed or name in in_use or name in self.first_routes()
+        self.mind_cursors()
         return [b"DROP", b"ROUTE", self.pick(UNKNOWN) if self.flaw(2) else name], lambda: self.routes.pop(name)
 
     def first_routes(self):
@@ -186,12 +204,28 @@ class Commands(Queries):
         names = [name for name in self.tables if name not in KEPT or self.is_named(name)] or UNKNOWN
         name = self.pick(names[-4:]) if self.chance(0.7) else self.pick(names)
         self.is_flawed = self.is_flawed or self.is_named(name) or name not in self.tables
+        self.mind_cursors()
         written = self.pick(UNKNOWN + tuple(self.views)[:6]) if self.flaw(2) else name
         return [b"DROP", b"TABLE", written], lambda: self.forget_table(name)
 
     def forget_table(self, name):
         del self.tables[name]
         self.spans = {key: spans for key, spans in self.spans.items() if key[0] != name}
+        self.indexes = {index: of for index, of in self.indexes.items() if of[0] != name}
+
+    def mind_cursors(self):
+        """A drop of a route, a table or an index is refused beside any cursor."""
+        if self.cursors:
+            self.is_flawed = True
+            self.marks.add("beside a cursor")
+
+    def drop_index(self):
+        """An index, mostly one of those that are used."""
+        name = self.pick(list(self.indexes) or UNKNOWN)
+        self.is_flawed = self.is_flawed or name not in self.indexes
+        self.mind_cursors()
+        written = self.pick(UNKNOWN + tuple(self.tables)) if self.flaw(2) else name
+        return [b"DROP", b"INDEX", written], lambda: self.indexes.pop(name)
 
     def drop_view(self):
         """A view, mostly one that no view names."""
@@ -342,6 +376,7 @@ class Commands(Queries):
         """A query with an operator at least, mostly."""
         query = self.some_query({1: 30, 2: 28, 3: 20, 4: 12, 5: 10})
         self.marks.add("query")
+        self.explained_next(query)
         tokens = [b"SELECT"] + query.tokens
         if self.chance(0.4):
             tokens += [b"AS", self.pick(METHODS)]
@@ -366,3 +401,69 @@ class Commands(Queries):
         if self.flaw(4):
             chosen.insert(self.random.randint(0, len(chosen)), self.pick([b"none", *chosen]))
         return [[name] for name in chosen]
+
+    # Plans and cursors.
+
+    def explained_next(self, query):
+        """The next line is for the plan of this query."""
+        marks = self.marks & {"view"}
+
+        def explain():
+            self.marks |= marks
+            return [b"EXPLAIN"] + query.tokens, lambda: None
+
+        self.waiting.append(explain)
+
+    def open_cursor(self):
+        """A cursor of the line's session, at times a fifth one or one of a name that is taken."""
+        if self.cursors and self.chance(0.4):
+            self.session_number = self.busiest_session()
+        session = self.session_number
+        own = [name for other, name in self.cursors if other == session]
+        name = self.pick([one for one in CURSORS if one not in own])
+        if self.flaw(3):
+            name = self.pick(own or [b"x" * 33, b"none"])
+        self.is_flawed = self.is_flawed or len(own) == MOST_CURSORS
+        query = self.some_query({0: 25, 1: 35, 2: 25, 3: 15})
+        if self.chance(0.3):
+            self.explained_next(query)
+        tokens = [b"OPEN", name, b"FOR"] + query.tokens
+        if self.chance(0.6):
+            tokens += [b"AS", self.pick(METHODS)]
+        return tokens, lambda: self.know_cursor(session, name)
+
+    def busiest_session(self):
+        """A session that has most cursors."""
+        return Counter(session for session, _ in self.cursors).most_common(1)[0][0]
+
+    def some_cursor(self):
+        """The name of a cursor of what is the line's session from then on, at times of none; often the oldest."""
+        if not self.cursors or self.flaw(3):
+            self.is_flawed = True
+            return self.pick(CURSORS + (b"none",))
+        cursors = list(self.cursors)
+        self.session_number, name = cursors[0] if self.chance(0.4) else self.pick(cursors)
+        if self.changes - self.cursors[self.session_number, name] > MANY_CHANGES:
+            self.marks.add("late")
+        return name
+
+    def fetch(self):
+        name = self.some_cursor()
+        count = b"%d" % self.pick([1, 1, 1, 1, 2, 3, 5, 20, 1000, 1000])
+        if self.chance(0.1):
+            count = count.rjust(self.random.randint(1, 25), b"0")
+        if self.flaw():
+            count = self.pick([b"0", b"000", b"1001", b"00001001", b"99999999999999999999", b"1.0"])
+        return [b"FETCH", name, count], lambda: None
+
+    def close_cursor(self):
+        name = self.some_cursor()
+        session = self.session_number
+        return [b"CLOSE", name], lambda: self.cursors.pop((session, name))
+
+    def save(self):
+        return [b"SAVE"], lambda: None
+
+    def reopen(self):
+        """All cursors of all sessions go."""
+        return [b"REOPEN"], lambda: self.cursors.clear()

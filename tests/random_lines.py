@@ -1,14 +1,18 @@
 """Pseudo-random lines of many sessions by a seed, refused ones of every sort among them.
 
 RandomLines remembers what its flawless lines have made (routes, referents, tables, views,
-alignments, spans), so that most of its lines speak of things that are there. Each part of a line
+alignments, indexes, cursors, spans), so that most of its lines speak of things that are there. Each part of a line
 is now and then written with a flaw; in one line of six nearly half of the parts are,
 so that of two refusals the right one has to come. A few lines are no commands at all.
 There are three kinds of rounds:
 
 - `short`: routes of a few thousandths at several scales, full of events, with many queries;
 - `long`: routes of up to 999,999,999 thousandths, with short spans and all positions;
-- `crowded`: routes, tables, views, alignments and referents up to their limits.
+- `crowded`: routes, tables, indexes, views, alignments and referents up to their limits.
+
+After each query that is selected its plan is asked for. Cursors of many sessions are kept open
+across changes of all kinds. Before a drop that they would hinder all are mostly closed in half of
+the rounds, and rarely in the others.
 """
 
 from typing import NamedTuple
@@ -20,7 +24,8 @@ STRAYS = (
     b"@", b"%", b"+", b"-", b"(", b")", b",", b"<>", b"<=", b"=", b"AS", b"AT", b"TO", b"FROM", b"LINE", b"POINT",
     b"ROUTE", b"REFERENT", b"VALUES", b"RELATIVE", b"NULL", b"1", b"0.5", b"K0", b"START", b"'x'", b"''",
     b"WHERE", b"OVERLAY", b"NOT", b"AND", b"OR", b"IS", b"VIEW", b"GAPS", b"TRANSFORM", b"<", b">=", b"()",
-    b"BY", b"SUM", b"INTO", b"ALIGNMENT", b"x23456789012345678901234567890123", b";", b"'", b"1.", b".5", b"_x", b"x_",
+    b"BY", b"SUM", b"INTO", b"ALIGNMENT", b"INDEX", b"ON", b"FOR", b"OPEN", b"FETCH", b"EXPLAIN",
+    b"x23456789012345678901234567890123", b";", b"'", b"1.", b".5", b"_x", b"x_",
 )  # fmt: skip
 
 # Commands that are none, some of them none today.
@@ -36,6 +41,10 @@ BROKEN = (
     b"DEFINE ALIGNMENT re (A FROM 0 TO 0.01 INTO A AT 0,)", b"DEFINE ALIGNMENT re AS pave", b"SELECT TRANSFORM(pave)",
     b"SELECT TRANSFORM(pave, re, re)", b"SELECT TRANSFORM(pave, TRANSFORM(pave, re))", b"DROP ALIGNMENT",
     b"TOTAL pave", b"TOTAL pave BY surf", b"TOTAL pave SUM surf BY ()", b"TOTAL pave BY () SUM", b"TOTAL BY ()",
+    b"DEFINE INDEX i ON pave", b"DEFINE INDEX i ON pave (surf, surf)", b"DEFINE INDEX ON pave (surf)",
+    b"DROP INDEX", b"EXPLAIN", b"EXPLAIN SELECT pave", b"EXPLAIN pave AS RELATIVE", b"EXPLAIN (pave)",
+    b"OPEN c pave", b"OPEN FOR pave", b"OPEN c FOR SELECT pave", b"FETCH c", b"FETCH 1", b"FETCH c -1",
+    b"FETCH c 1.5", b"FETCH c 1 1", b"CLOSE", b"CLOSE c c", b"SAVE pave", b"REOPEN c",
     b"TOTAL speed BY () SUM (kph)", b"TOTAL speed BY () SUM kph, kph", b"TOTAL speed BY (kph) AS RELATIVE",
 )  # fmt: skip
 
@@ -70,7 +79,20 @@ WEIGHTS = {
     "select": {"short": 8, "long": 12, "crowded": 8},
     "select_query": {"short": 62, "long": 40, "crowded": 8},
     "total": {"short": 10, "long": 6, "crowded": 4},
+    "define_index": {"short": 8, "long": 5, "crowded": 12},
+    "drop_index": {"short": 2, "long": 2, "crowded": 4},
+    "open_cursor": {"short": 10, "long": 8, "crowded": 4},
+    "fetch": {"short": 22, "long": 16, "crowded": 8},
+    "close_cursor": {"short": 3, "long": 2, "crowded": 2},
+    "save": {"short": 1, "long": 1, "crowded": 1},
+    "reopen": {"short": 1, "long": 1, "crowded": 1},
 }
+
+# What no cursor may be open beside.
+HINDERED = ("drop_route", "drop_table", "drop_index")
+
+# What is counted as a change of what a cursor was opened on.
+CHANGES = ("insert", "remove", "move_referent", "define_referent", "drop_view", "drop_alignment")
 
 
 class Line(NamedTuple):
@@ -82,6 +104,11 @@ class Line(NamedTuple):
 
 class RandomLines(Commands):
     """Writes the lines of one round; a seed and a kind give the same lines each time."""
+
+    def __init__(self, seed, kind):
+        super().__init__(seed, kind)
+        self.waiting = []  # what the next lines have to be
+        self.closing = self.pick([0.05, 0.6])  # how often cursors are closed before a drop
 
     # Whole rounds and lines.
 
@@ -105,6 +132,7 @@ class RandomLines(Commands):
             self.know_table(name, is_line, columns)
         yield from self.first_events()
         yield from self.first_alignments()
+        yield from self.first_indexes()
         if self.kind == "crowded":
             yield from self.crowd()
 
@@ -130,8 +158,20 @@ class RandomLines(Commands):
             yield self.flawless(tokens)
             effect()
 
+    def first_indexes(self):
+        """Some indexes, so that the first plans have them."""
+        for _ in range(8):
+            tokens, effect = self.define_index()
+            yield self.flawless(tokens)
+            effect()
+
     def ending(self):
         """What shows the state that is left: all that is known is asked for."""
+        for session, name in self.cursors:
+            yield b"%d FETCH %s 1000" % (session, name)
+        for table, column in self.indexes.values():
+            is_text = dict(self.tables[table].columns).get(column) is not None
+            yield b"0 EXPLAIN WHERE(%s, %s = %s)" % (table, column, b"'x'" if is_text else b"1")
         for name in list(self.alignments)[:30]:
             for table in KEPT:
                 yield b"0 SELECT TRANSFORM(%s, %s)" % (table, name)
@@ -161,6 +201,10 @@ class RandomLines(Commands):
             tokens += [b"INTO", b"A", b"AT", self.measure(number % 45)]
             yield self.flawless([b"DEFINE", b"ALIGNMENT", b"l%d" % number, b"("] + tokens + [b")"])
             self.know_alignment(b"l%d" % number, [name, b"A"])
+        for number in range(len(self.indexes), 62):
+            name, table = b"i%d" % number, b"t%d" % (number + 20)
+            yield self.flawless([b"DEFINE", b"INDEX", name, b"ON", table, b"(", b"n", b")"])
+            self.know_index(name, table, b"n")
         for number in range(998):
             place = number % 51
             yield b"0 DEFINE REFERENT A c%d AT 0.%03d" % (number, place)
@@ -174,15 +218,29 @@ class RandomLines(Commands):
         self.rate = 0.45 if self.chance(1 / 6) else 0.046
         self.is_flawed = False
         self.marks = set()
-        names = list(WEIGHTS)
-        name = self.random.choices(names, [WEIGHTS[name][self.kind] for name in names])[0]
-        tokens, effect = getattr(self, name)()
+        self.session_number = self.random.randrange(64) if self.chance(0.2) else self.random.randrange(4)
+        name, write = self.next_command()
+        tokens, effect = write()
         may_stray = self.kind != "long" or name != "insert"
         text = self.spaced(self.strayed(tokens) if may_stray else tokens)
         sent = self.framed(text, may_stray)
         if not self.is_flawed:
             effect()
+            self.changes += name in CHANGES
         return Line(sent, frozenset(self.marks))
+
+    def next_command(self):
+        """The name of the next command, and what writes it: what waits, or any, if there is what it needs."""
+        if self.waiting:
+            return "waiting", self.waiting.pop()
+        names = list(WEIGHTS)
+        name = self.random.choices(names, [WEIGHTS[name][self.kind] for name in names])[0]
+        if name in HINDERED and self.cursors and self.chance(self.closing):
+            self.waiting.append(getattr(self, name))
+            name = "reopen"
+        if name in ("fetch", "close_cursor") and not self.cursors and self.chance(0.9):
+            name = "open_cursor"
+        return name, getattr(self, name)
 
     # From tokens to lines.
 
@@ -248,8 +306,7 @@ class RandomLines(Commands):
             self.is_flawed = True
             self.marks.add("bad session")
             return self.pick(BAD_SESSIONS)
-        number = self.random.randrange(64) if self.chance(0.2) else self.random.randrange(4)
-        return self.often_plain(0.1, "session in two digits", b"%02d ", b"%d ") % number
+        return self.often_plain(0.1, "session in two digits", b"%02d ", b"%d ") % self.session_number
 
     def often_plain(self, probability, mark, form, plain):
         """At times a form, which is marked then, and else the plain one."""

@@ -42,6 +42,7 @@ NEW_NAMES = (b"A1", b"A_", b"AB", b"b", b"Q7", b"START", b"STARTS", b"TOO", b"fr
 REFERENTS = (b"K0", b"K1", b"K2", b"k", b"STAR", b"STARTS", b"SUD", b"Z", b"_".join([b"long"] * 6) + b"END")
 COLUMNS = (b"a", b"A", b"n", b"s", b"kph", b"surf", b"lanes", b"c7", b"c8", b"c9", b"START", b"c12", b"c13", b"c14")
 RESERVED = (b"FROM", b"LINE", b"GAPS", b"NULL", b"AS", b"WINDOW", b"POINT", b"TEXT", b"TO")
+CURSORS = (b"c", b"d", b"C", b"c_1", b"pave", b"START")
 UNKNOWN = (b"none", b"a", b"PAVE", b"pav", b"K9", b"Start", b"odd_")
 
 # What a text in quotes is put together from.
@@ -73,6 +74,10 @@ class Parts:
         self.tables = {}
         self.views = {}
         self.alignments = {}
+        self.indexes = {}
+        self.cursors = {}
+        self.changes = 0
+        self.session_number = 0
         self.spans = {}
         self.rate = 0.0
         self.is_flawed = False
@@ -107,6 +112,15 @@ class Parts:
         """An alignment, and the routes that its pieces name."""
         if len(self.alignments) < 64:
             self.alignments[name] = frozenset(routes)
+
+    def know_index(self, name, table, column):
+        """An index, of which table and of which column."""
+        if len(self.indexes) < 64:
+            self.indexes.setdefault(name, (table, column))
+
+    def know_cursor(self, session, name):
+        """An open cursor, and how many changes there were before it."""
+        self.cursors[session, name] = self.changes
 
     def know_referent(self, route, name, place):
         if len(self.routes[route].referents) < 1001:

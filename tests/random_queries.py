@@ -253,7 +253,18 @@ class Queries(Parts):
 
     def conjunction(self, columns, depth):
         parts = self.random.choices([1, 2, 3], [7, 3, 1])[0]
-        return joined(b"AND", [self.atom(columns, depth) for _ in range(parts)])
+        atoms = [self.atom(columns, depth) for _ in range(parts)]
+        if self.chance(0.3):
+            atoms[self.random.randrange(parts)] = self.equality(columns)
+        return joined(b"AND", atoms)
+
+    def equality(self, columns):
+        """A column that has one of its values: what an index may serve."""
+        known = [(one.name, value) for one in columns for value in one.values if value is not None]
+        if not known:
+            return self.atom(columns, 0)
+        name, value = self.pick(known)
+        return [name, b"="] + self.written(value)
 
     def atom(self, columns, depth):
         if depth > 0 and self.chance(0.25):

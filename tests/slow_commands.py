@@ -60,6 +60,10 @@ class Not(NamedTuple):
     condition: tuple
 
 
+class Bracketed(NamedTuple):
+    condition: tuple
+
+
 class All(NamedTuple):
     """Conditions with AND between."""
 
@@ -172,6 +176,12 @@ class DefineTable(NamedTuple):
     columns: list
 
 
+class DefineIndex(NamedTuple):
+    name: bytes
+    table: bytes
+    column: bytes
+
+
 class DefineView(NamedTuple):
     name: bytes
     query: tuple
@@ -197,6 +207,10 @@ class DropRoute(NamedTuple):
 
 
 class DropTable(NamedTuple):
+    name: bytes
+
+
+class DropIndex(NamedTuple):
     name: bytes
 
 
@@ -248,3 +262,30 @@ class Total(NamedTuple):
     query: tuple
     names: list  # of the columns whose values make a group
     summed: bytes | None  # the column that is added up
+
+
+class Explain(NamedTuple):
+    query: tuple
+
+
+class Open(NamedTuple):
+    cursor: bytes
+    query: tuple
+    method: bytes
+
+
+class Fetch(NamedTuple):
+    cursor: bytes
+    count: int
+
+
+class Close(NamedTuple):
+    cursor: bytes
+
+
+class Save(NamedTuple):
+    pass
+
+
+class Reopen(NamedTuple):
+    pass

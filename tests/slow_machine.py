@@ -4,38 +4,47 @@
     python3 tests/slow_machine.py < lines
 
 It keeps a set of rows for every single thousandth of each table on each route, and
-knows no span, page, index or plan. It shares nothing with the crates that it judges:
-the reading of lines is its own (slow_reader.py), and so are queries (slow_queries.py).
-Rows are tuples of None, numbers and bytes; names are bytes; places are thousandths. A
-refused line changes nothing, since each command looks at all that could refuse it before
-its effect.
+knows no span and no page. It shares nothing with the crates that it judges: the reading
+of lines is its own (slow_reader.py), and so are queries (slow_queries.py), routes and
+tables (slow_tables.py), and the plans that EXPLAIN prints (slow_plans.py), by which
+nothing is answered. An index is its table and its column, a cursor the lines that it has
+still to give. Rows are tuples of None, numbers and bytes; names are bytes; places are
+thousandths. A refused line changes nothing, since each command looks at all that could
+refuse it before its effect.
 
 A further command is a class in slow_commands.py, a function that reads it, and here a
 case of `serve` and a function. A further operator is a class there, a line of the
-reader's `operators`, and a case of `node` with a class of its own in slow_queries.py.
+reader's `operators`, a case of `node` with a class of its own in slow_queries.py, and a
+case of `place` in slow_plans.py.
 """
 
 import sys
 
 from slow_commands import (
-    Absolute,
+    Close,
     DefineAlignment,
+    DefineIndex,
     DefineReferent,
     DefineRoute,
     DefineTable,
     DefineView,
     DropAlignment,
+    DropIndex,
     DropReferent,
     DropRoute,
     DropTable,
     DropView,
+    Explain,
+    Fetch,
     Insert,
-    Interpolative,
     MoveReferent,
     Named,
+    Open,
     Refused,
     Relative,
     Remove,
+    Reopen,
+    Save,
     Select,
     Total,
     Transform,
@@ -44,15 +53,19 @@ from slow_commands import (
     parts_of,
     refuse_if,
 )
-from slow_queries import MOST_COLUMNS, QueryColumn, View, meets, opened, place_of, places_of, size_of
-from slow_reader import WHOLE_PART, command_of, session_of, text_of_line
+from slow_plans import Planner
+from slow_queries import MOST_COLUMNS, View, meets, opened, place_of, places_of, size_of
+from slow_reader import command_of, session_of, text_of_line
+from slow_tables import Route, Table, measure_text
 
 MOST_ROUTES = 4096
 MOST_TABLES = 128
+MOST_INDEXES = 64
 MOST_VIEWS = 128
 MOST_ALIGNMENTS = 64
 MOST_PIECES = 64
 MOST_REFERENTS = 1000
+MOST_CURSORS = 4
 MOST_CHANGES = 2**63 - 1
 GREATEST_TOTAL = 10**21
 
@@ -82,99 +95,10 @@ WORDS = {
     41: "column twice",
     42: "kinds differ",
     50: "total too large",
+    60: "no such cursor",
+    61: "cursor name taken",
+    62: "too many cursors",
 }
-
-
-class Route:
-    """A route and its referents, START among them."""
-
-    def __init__(self, start, finish):
-        self.start = start
-        self.finish = finish
-        self.referents = {b"START": start}
-
-    def locate(self, position):
-        """Where a position lies: refused 25, then 30."""
-        match position:
-            case Absolute(measure):
-                place = measure
-            case Relative(name, offset):
-                refuse_if(name not in self.referents, 25)
-                place = self.referents[name] + offset
-            case Interpolative(part):
-                place = self.start + part * (self.finish - self.start) // WHOLE_PART
-        self.check_place(place)
-        return place
-
-    def check_place(self, place):
-        refuse_if(not self.start <= place <= self.finish, 30)
-
-    def places_of(self, ends):
-        """Where positions lie: the first is looked at first, then the second, then 31 where they are no span."""
-        places = [self.locate(position) for position in ends]
-        refuse_if(len(places) == 2 and places[0] >= places[1], 31)
-        return places
-
-    def within(self, ends):
-        """The thousandths of a span; where none is given, of the whole route, its end among them."""
-        return range(*self.places_of(ends)) if ends else range(self.start, self.finish + 1)
-
-    def express(self, place, method):
-        """The text of a place by a method."""
-        if method == b"RELATIVE":
-            return self.relative_text(place)
-        if method == b"INTERPOLATIVE":
-            return percentage_text(self.part_of(place))
-        return measure_text(place)
-
-    def relative_text(self, place):
-        """By the referent with the greatest measure not above the place, ties to the least name."""
-        nearest = max(measure for measure in self.referents.values() if measure <= place)
-        name = min(name for name, measure in self.referents.items() if measure == nearest)
-        return "@" + name.decode() + "+" + measure_text(place - nearest)
-
-    def part_of(self, place):
-        """The least billionths of the route's length that lie at the place: a quotient rounded up."""
-        length = self.finish - self.start
-        return ((place - self.start) * WHOLE_PART + length - 1) // length
-
-
-class Table:
-    """A kind, columns, and for each route and thousandth the set of rows that hold there."""
-
-    def __init__(self, is_line, types):
-        self.is_line = is_line
-        self.types = types
-        self.columns = [QueryColumn(column.name, column.longest is not None) for column in types]
-        self.rows = {}
-
-    def places(self, route):
-        return self.rows.get(route, {}).keys()
-
-    def rows_at(self, route, place):
-        return self.rows.get(route, {}).get(place, set())
-
-    def put(self, route, place, row):
-        """The row holds at the thousandth from now on; says whether it is new there."""
-        rows = self.rows.setdefault(route, {}).setdefault(place, set())
-        is_new = row not in rows
-        rows.add(row)
-        return is_new
-
-    def take_away(self, route, place, row):
-        """The row does not hold at the thousandth from now on."""
-        self.rows[route][place].remove(row)
-        if not self.rows[route][place]:
-            del self.rows[route][place]
-
-    def check_row(self, row):
-        """Refused 33 for the number of values, then for their types from the left; then 34."""
-        refuse_if(len(row) != len(self.types), 33)
-        for column, value in zip(self.types, row):
-            refuse_if(isinstance(value, bytes) and column.longest is None, 33)
-            refuse_if(isinstance(value, int) and column.longest is not None, 33)
-        for column, value in zip(self.types, row):
-            refuse_if(isinstance(value, bytes) and len(value) > column.longest, 34)
 
 
 class Machine:
@@ -183,8 +107,10 @@ class Machine:
     def __init__(self):
         self.routes = {}
         self.tables = {}
+        self.indexes = {}
         self.views = {}
         self.alignments = {}
+        self.cursors = {}
         self.changes = 0
 
     # Lines and replies.
@@ -195,18 +121,20 @@ class Machine:
         try:
             text = text_of_line(line)
             session, place = session_of(text)
-            rows, count = self.serve(command_of(text, place))
+            rows, count = self.serve(session, command_of(text, place))
         except Refused as refused:
             return reply(session, [], error_text(refused))
         return reply(session, rows, "OK %d" % count)
 
-    def serve(self, command):
+    def serve(self, session, command):
         """The texts of the ROW lines and the number of the OK line."""
         match command:
             case DefineRoute():
                 return self.define_route(command)
             case DefineTable():
                 return self.define_table(command)
+            case DefineIndex():
+                return self.define_index(command)
             case DefineView():
                 return self.define_view(command)
             case DefineAlignment():
@@ -217,6 +145,8 @@ class Machine:
                 return self.drop_route(name)
             case DropTable(name):
                 return self.drop_table(name)
+            case DropIndex(name):
+                return self.drop_index(name)
             case DropView(name):
                 return self.drop_view(name)
             case DropAlignment(name):
@@ -235,6 +165,18 @@ class Machine:
                 return self.select(command)
             case Total():
                 return self.total(command)
+            case Explain(query):
+                return self.explain(query)
+            case Open():
+                return self.open(session, command)
+            case Fetch(name, count):
+                return self.fetch(session, name, count)
+            case Close(name):
+                return self.close(session, name)
+            case Save():
+                return [], 0
+            case Reopen():
+                return self.reopen()
 
     # Checks that several commands make.
 
@@ -267,6 +209,16 @@ class Machine:
         """Whether a piece of an alignment is of the route or goes to it."""
         return any(route in (piece.route, piece.new_route) for pieces in self.alignments.values() for piece in pieces)
 
+    def refuse_beside_cursors(self):
+        """Refused 23 while any session has a cursor open."""
+        refuse_if(any(self.cursors.values()), 23)
+
+    def own_cursors(self, session, name):
+        """The cursors of a session, of which this is one: refused 60."""
+        cursors = self.cursors.get(session, {})
+        refuse_if(name not in cursors, 60)
+        return cursors
+
     def own_referents(self, route, name):
         """The referents of a route, of which this one may be changed: refused 20, 25, 23."""
         referents = self.route(route).referents
@@ -297,6 +249,15 @@ class Machine:
         refuse_if(len(self.tables) == MOST_TABLES, 27)
         self.count_change()
         self.tables[command.name] = Table(command.is_line, command.columns)
+        return [], 0
+
+    def define_index(self, command):
+        table = self.table(command.table)
+        place_of(table.columns, command.column)
+        refuse_if(command.name in self.indexes, 24)
+        refuse_if(len(self.indexes) == MOST_INDEXES, 27)
+        self.count_change()
+        self.indexes[command.name] = command
         return [], 0
 
     def define_view(self, command):
@@ -348,6 +309,7 @@ class Machine:
         refuse_if(any(table.places(name) for table in self.tables.values()), 23)
         refuse_if(self.is_in_an_alignment(name), 23)
         refuse_if(self.windows_of_views(name), 23)
+        self.refuse_beside_cursors()
         self.count_change()
         del self.routes[name]
         return [], 0
@@ -355,8 +317,17 @@ class Machine:
     def drop_table(self, name):
         self.table(name)
         refuse_if(self.is_in_a_view(name), 23)
+        self.refuse_beside_cursors()
         self.count_change()
         del self.tables[name]
+        self.indexes = {index: of for index, of in self.indexes.items() if of.table != name}
+        return [], 0
+
+    def drop_index(self, name):
+        refuse_if(name not in self.indexes, 21)
+        self.refuse_beside_cursors()
+        self.count_change()
+        del self.indexes[name]
         return [], 0
 
     def drop_view(self, name):
@@ -416,9 +387,38 @@ class Machine:
         return [route.express(route.locate(command.position), command.method)], 1
 
     def select(self, command):
-        query = opened(self, command.query)
-        rows = [self.run_text(run, command.method) for run in self.runs(query)]
+        rows = self.selected(opened(self, command.query), command.method)
         return rows, len(rows)
+
+    def selected(self, query, method):
+        """The lines of an opened query."""
+        return [self.run_text(run, method) for run in self.runs(query)]
+
+    def explain(self, query):
+        opened(self, query)
+        rows = Planner(self).lines(query)
+        return rows, len(rows)
+
+    def open(self, session, command):
+        query = opened(self, command.query)
+        cursors = self.cursors.setdefault(session, {})
+        refuse_if(command.cursor in cursors, 61)
+        refuse_if(len(cursors) == MOST_CURSORS, 62)
+        cursors[command.cursor] = self.selected(query, command.method)
+        return [], 0
+
+    def fetch(self, session, name, count):
+        cursors = self.own_cursors(session, name)
+        rows, cursors[name] = cursors[name][:count], cursors[name][count:]
+        return rows, len(rows)
+
+    def close(self, session, name):
+        del self.own_cursors(session, name)[name]
+        return [], 0
+
+    def reopen(self):
+        self.cursors = {}
+        return [], 0
 
     def total(self, command):
         query = opened(self, command.query)
@@ -499,14 +499,6 @@ def amount_text(amount, is_line):
     if not is_line:
         return str(amount)
     return ("-" if amount < 0 else "") + measure_text(abs(amount))
-
-
-def measure_text(place):
-    return "%d.%03d" % divmod(place, 1000)
-
-
-def percentage_text(part):
-    return "%d.%07d%%" % divmod(part, 10**7)
 
 
 def value_text(value):

@@ -12,6 +12,7 @@ from typing import NamedTuple
 from slow_commands import (
     All,
     Any,
+    Bracketed,
     ColumnName,
     Comparison,
     Cover,
@@ -139,6 +140,8 @@ def meets(columns, condition):
         case Not(inner):
             test = meets(columns, inner)
             return lambda row: not test(row)
+        case Bracketed(inner):
+            return meets(columns, inner)
         case IsNull(name, is_wanted):
             place = place_of(columns, name)
             return lambda row: (row[place] is None) == is_wanted

@@ -14,21 +14,27 @@ from slow_commands import (
     Absolute,
     All,
     Any,
+    Bracketed,
+    Close,
     Column,
     ColumnName,
     Comparison,
     Cover,
     DefineAlignment,
+    DefineIndex,
     DefineReferent,
     DefineRoute,
     DefineTable,
     DefineView,
     Dissolve,
     DropAlignment,
+    DropIndex,
     DropReferent,
     DropRoute,
     DropTable,
     DropView,
+    Explain,
+    Fetch,
     Insert,
     Interpolative,
     IsNull,
@@ -37,12 +43,15 @@ from slow_commands import (
     MoveReferent,
     Named,
     Not,
+    Open,
     Overlay,
     Piece,
     Refused,
     Relative,
     Remove,
     Rename,
+    Reopen,
+    Save,
     Select,
     Total,
     Transform,
@@ -56,6 +65,7 @@ LAST_SESSION = 63
 LONGEST_NAME = 32
 OPEN_BRACKETS = 32
 LONGEST_TEXT = 40
+MOST_FETCHED = 1000
 GREATEST_NUMBER = 10**12
 WHOLE_PART = 10**9
 
@@ -68,7 +78,13 @@ RESERVED = frozenset(
 
 METHODS = (b"ABSOLUTE", b"RELATIVE", b"INTERPOLATIVE")
 SIGNS = (b"=", b"<>", b"<", b"<=", b">", b">=")
-DROPPED = {b"ROUTE": DropRoute, b"TABLE": DropTable, b"VIEW": DropView, b"ALIGNMENT": DropAlignment}
+DROPPED = {
+    b"ROUTE": DropRoute,
+    b"TABLE": DropTable,
+    b"INDEX": DropIndex,
+    b"VIEW": DropView,
+    b"ALIGNMENT": DropAlignment,
+}
 PAIRED = {b"OVERLAY": Overlay, b"COVER": Cover, b"MERGE": Merge, b"MINUS": Minus}
 
 
@@ -349,7 +365,7 @@ class Reader:
         if self.takes(b"NOT"):
             return Not(self.bracketed_condition())
         if self.sees(b"("):
-            return self.bracketed_condition()
+            return Bracketed(self.bracketed_condition())
         column = self.name()
         if self.takes(b"IS"):
             is_wanted = not self.takes(b"NOT")
@@ -393,12 +409,20 @@ class Reader:
         yield b"TRANSLATE", self.translate
         yield b"SELECT", self.select
         yield b"TOTAL", self.total
+        yield b"EXPLAIN", lambda: Explain(self.query())
+        yield b"OPEN", self.open
+        yield b"FETCH", self.fetch
+        yield b"CLOSE", lambda: Close(self.name())
+        yield b"SAVE", Save
+        yield b"REOPEN", Reopen
 
     def define(self):
         if self.takes(b"ROUTE"):
             return self.define_route()
         if self.takes(b"REFERENT"):
             return self.define_referent()
+        if self.takes(b"INDEX"):
+            return self.define_index()
         if self.takes(b"VIEW"):
             return self.define_view()
         if self.takes(b"ALIGNMENT"):
@@ -433,6 +457,15 @@ class Reader:
         self.take(b"TABLE")
         name = self.name()
         return DefineTable(name, is_line, self.bracketed_list_of(self.column))
+
+    def define_index(self):
+        name = self.name()
+        self.take(b"ON")
+        table = self.name()
+        self.take(b"(")
+        column = self.name()
+        self.take(b")")
+        return DefineIndex(name, table, column)
 
     def define_view(self):
         name = self.name()
@@ -490,12 +523,24 @@ class Reader:
         return Translate(route, position, self.method())
 
     def select(self):
-        query = self.query()
-        method = self.method() if self.takes(b"AS") else b"ABSOLUTE"
-        return Select(query, method)
+        return Select(self.query(), self.method_after_as())
+
+    def method_after_as(self):
+        return self.method() if self.takes(b"AS") else b"ABSOLUTE"
 
     def total(self):
         query = self.query()
         self.take(b"BY")
         names = self.column_names()
         return Total(query, names, self.name() if self.takes(b"SUM") else None)
+
+    def open(self):
+        cursor = self.name()
+        self.take(b"FOR")
+        return Open(cursor, self.query(), self.method_after_as())
+
+    def fetch(self):
+        cursor = self.name()
+        count = int(self.take_kind("whole"))
+        self.check_range(1 <= count <= MOST_FETCHED)
+        return Fetch(cursor, count)

@@ -37,6 +37,10 @@ count_none : (n : ℕ) → count_by is_taken (none_taken n) ≡ 0
 unfolding none_taken
 count_none n = sum_by-replicate (λ b. cond (is_taken b) 1 0) n false ∙ mul-zero n
 
+pub length-none : (n : ℕ) → length (none_taken n) ≡ n
+unfolding none_taken
+length-none n = length-replicate n false
+
 pub taken_start : (limit : ℕ) (all : List ℕ) → AllByRecursion (λ n. n < limit) all → AreTaken limit all all (none_taken limit)
 unfolding none_taken
 taken_start limit all below = record {

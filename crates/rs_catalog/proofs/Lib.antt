@@ -3,7 +3,7 @@ pub mod Names
 pub mod MapLaws
 mod FreeNumbers
 pub mod DefinitionLaws
-mod Numbered
+pub mod Numbered
 pub mod ReferentLaws
 mod UseLaws
 pub mod StateLaws

@@ -5,16 +5,16 @@ use Rattle.std.specs.Option.{option_map}
 use Rattle.std.specs.declared.cmp.Ordering.{Ordering}
 use Rattle.std.specs.declared.cmp.Ordering.TheVariants.{Less, Equal, Greater}
 use Rattle.std.specs.Ordering.{nat_cmp, is_eq, is_lt, eq_by_cmp}
-use Rattle.std.specs.Cmp.{eq_by_cmp_equiv}
+use Rattle.std.specs.Cmp.{Equal-is, eq_by_cmp_equiv}
 use Rattle.std.specs.Cmp.Lexicographic.{slice_cmp}
-use Rattle.std.specs.List.{AllByRecursion}
+use Rattle.std.specs.List.{AllByRecursion, filter}
 use Rattle.std.specs.List.Sorted.{IsStrictlySortedBy}
 use Rattle.std.specs.Map.{lookup, keys_of}
 use Rattle.std.specs.BTreeMap.{is_at}
 use Rattle.std.specs.FinMap as names
 use Rattle.std.specs.FinMap.Entries.{below_all}
 use Rattle.std.proofs.lemmas.List.{length-map}
-use Rattle.std.specs.FinMap.{find, is_sorted, get-entries, get-from_entries, get-from_sorted, get-insert, get-remove, get-empty, len-entries, entries-from_sorted, entries_sorted, same_map}
+use Rattle.std.specs.FinMap.{find, is_sorted, get-entries, get-from_entries, get-from_sorted, get-insert, get-remove, get-retain_keys, get_tied, get-empty, len-entries, entries-from_sorted, entries_sorted, same_map}
 use Rattle.arrayvec.specs.ArrayString.{ArrayString}
 use Rattle.rs_facts.specs.Fact.{Name, Names, name_cmp}
 pub use Rattle.rs_catalog.proofs.NameOrder.{name_cmp-total, name_cmp-antisymmetric}
@@ -99,6 +99,65 @@ module _ {V X : Type 0} (seen : V → X) where
 
   pub len-names_of : (entries : List (ArrayString × V)) → IsStrictlySortedBy by_bytes (keys_of entries) → names.len (names_of seen entries) ≡ length entries
   len-names_of entries h = len-entries (names_of seen entries) ∙ ap length (entries-names_of entries h) ∙ length-map entries (λ e. (e.0.bytes, seen e.1))
+
+-- ---- what is kept of a map by its values
+
+module _ {X : Type 0} (keeps : X → Bool) where
+  abbrev pub kept : Option X → Bool
+  kept None = false
+  kept (Some x) = keeps x
+
+  none_below : (q k : Name) (es : List (Name × X)) → eq_by_cmp name_cmp q k ≡ true → T (below_all name_cmp k es) → find name_cmp q es ≡ None
+  none_below q k [] same below = refl
+  none_below q k (e ∷ es) same below =
+      let parts = T_parts (is_lt (name_cmp k e.0)) (below_all name_cmp k es) below in
+      let apart : eq_by_cmp name_cmp q e.0 ≡ false = ap (λ n. eq_by_cmp name_cmp n e.0) (name_cmp-antisymmetric q k ((Equal-is (name_cmp q k)).0 same)) ∙ less_apart (name_cmp k e.0) parts.0 in
+      ap (λ b. cond b (Some e.1) (find name_cmp q es)) apart ∙ none_below q k es same parts.1
+    where
+      T_parts : (a b : Bool) → T (a && b) → T a × T b
+      T_parts true b t = (tt, t)
+      T_parts false b t = absurd t
+
+      less_apart : (order : Ordering) → T (is_lt order) → is_eq order ≡ false
+      less_apart Less t = refl
+      less_apart Equal t = absurd t
+      less_apart Greater t = refl
+
+  find-kept : (q : Name) (es : List (Name × X)) → T (is_sorted name_cmp es) → find name_cmp q (filter (λ e. keeps e.1) es) ≡ cond (kept (find name_cmp q es)) (find name_cmp q es) None
+  find-kept q [] sorted = refl
+  find-kept q (e ∷ es) sorted =
+      let parts = T_parts (below_all name_cmp e.0 es) (is_sorted name_cmp es) sorted in
+      at (eq_by_cmp name_cmp q e.0) (keeps e.1) refl refl parts.0 (find-kept q es parts.1)
+    where
+      T_parts : (a b : Bool) → T (a && b) → T a × T b
+      T_parts true b t = (tt, t)
+      T_parts false b t = absurd t
+
+      at : (same keep : Bool) → eq_by_cmp name_cmp q e.0 ≡ same → keeps e.1 ≡ keep → T (below_all name_cmp e.0 es)
+          → find name_cmp q (filter (λ e. keeps e.1) es) ≡ cond (kept (find name_cmp q es)) (find name_cmp q es) None
+          → find name_cmp q (cond (keeps e.1) (e ∷ filter (λ e. keeps e.1) es) (filter (λ e. keeps e.1) es)) ≡ cond (kept (cond (eq_by_cmp name_cmp q e.0) (Some e.1) (find name_cmp q es))) (cond (eq_by_cmp name_cmp q e.0) (Some e.1) (find name_cmp q es)) None
+      at true true same keep below rest = rw keep (rw same (rw keep refl))
+      at true false same keep below rest = let none = none_below q e.0 es same below in rw keep (rw same (rw keep (rest ∙ rw none refl)))
+      at false true same keep below rest = rw keep (rw same rest)
+      at false false same keep below rest = rw keep (rw same rest)
+
+  entries-kept : (entries : List (ArrayString × X)) → entries_by_bytes (λ x. x) (filter (λ e. keeps e.1) entries) ≡ filter (λ e. keeps e.1) (entries_by_bytes (λ x. x) entries)
+  entries-kept [] = refl
+  entries-kept (e ∷ es) = elim (keeps e.1) as (λ b. entries_by_bytes (λ x. x) (cond b (e ∷ filter (λ e. keeps e.1) es) (filter (λ e. keeps e.1) es)) ≡ cond b ((e.0.bytes, e.1) ∷ filter (λ e. keeps e.1) (entries_by_bytes (λ x. x) es)) (filter (λ e. keeps e.1) (entries_by_bytes (λ x. x) es))) [
+    | true ↦ ap (λ rest. (e.0.bytes, e.1) ∷ rest) (entries-kept es)
+    | false ↦ entries-kept es
+  ]
+
+  -- the entries whose values pass the test are those of the names whose values pass it
+  pub names_of-kept : (old new : List (ArrayString × X)) → IsStrictlySortedBy by_bytes (keys_of old) → new ≡ filter (λ e. keeps e.1) old
+      → names_of (λ x. x) new ≡ names.retain_keys (names_of (λ x. x) old) (λ name. kept (names.get (names_of (λ x. x) old) name))
+  unfolding names_of
+  names_of-kept old new ordered is = same_map name_cmp-total name_cmp-antisymmetric _ _ (λ q.
+      get-from_entries name_cmp-total (entries_by_bytes (λ x. x) new) q
+      ∙ ap (find name_cmp q) (ap (entries_by_bytes (λ x. x)) is ∙ entries-kept old)
+      ∙ find-kept q (entries_by_bytes (λ x. x) old) (sorted (λ x. x) old ordered)
+      ∙ ap (λ o. cond (kept o) o None) (sym (get-from_entries name_cmp-total (entries_by_bytes (λ x. x) old) q))
+      ∙ sym (get-retain_keys (names_of (λ x. x) old) (λ name. kept (names.get (names_of (λ x. x) old) name)) q (λ x tied. ap kept (get_tied name_cmp-total (names_of (λ x. x) old) q x tied))))
 
 same_option : {X : Type 0} (o : Option X) → option_map (λ x. x) o ≡ o
 same_option None = refl

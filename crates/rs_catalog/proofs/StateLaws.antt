@@ -1,11 +1,11 @@
 -- What the state of the machine is once definitions, referents or their routes are added or taken out.
-use Rattle.std.proofs.Common.{◌≡◌, ℕ, true, false, cond, List, [], nat_eq, Option, Some, None, refl, sym, ap, ◌∙◌}
+use Rattle.std.proofs.Common.{◌≡◌, ℕ, true, false, cond, not, List, [], nat_eq, Option, Some, None, refl, sym, ap, ◌∙◌}
 use Rattle.std.proofs.Math.Path.{fun_ext}
 use Rattle.std.proofs.lemmas.Bool.Decides.{Decides-eqb}
 use Rattle.std.specs.Option.{option_map}
 use Rattle.std.specs.Cmp.{eq_by_cmp_equiv}
 use Rattle.std.specs.FinMap as names
-use Rattle.std.specs.FinMap.{get-empty, get-insert, get-remove}
+use Rattle.std.specs.FinMap.{get-empty, get-insert, get-remove, get-retain_keys, get_tied, same_map}
 use Rattle.rs_facts.specs.Fact.{Name, Names, Facts, name_cmp, no_facts}
 use Rattle.rs_facts.specs.Insert.{same_name}
 use Rattle.rs_facts.specs.Query.{Table}
@@ -14,11 +14,14 @@ use Rattle.rs_facts.specs.Spans.{places_of}
 use Rattle.rs_syntax.specs.QueryView.{query_tree}
 use Rattle.rs_machine.specs.State.{no_referents}
 use Rattle.rs_machine.specs.Step.{referents_at, empty_table}
-use Rattle.rs_catalog.specs.Definitions.{RouteItem, TableItem, ViewItem, Definitions, no_definitions, AreNumbered, routes_of, views_of, on_numbered, no_places, facts_from, table_from, tables_from, referents_from}
-use Rattle.rs_catalog.specs.Changes.{with_route, with_table, with_view, without_route, without_table, without_view}
+use Rattle.rs_catalog.specs.Definitions.{RouteItem, TableItem, IndexItem, ViewItem, Definitions, no_definitions, indexed_column, indexes_of, AreNumbered, routes_of, views_of, on_numbered, no_places, facts_from, table_from, tables_from, referents_from}
+use Rattle.rs_planning.specs.Basis.{IndexedColumn}
+use Rattle.rs_machine.specs.Step as machine
+use Rattle.rs_catalog.specs.Changes.{with_route, with_table, with_index, with_view, without_route, is_of_another, indexes_of_others, without_table, without_index, without_view}
 use Rattle.rs_catalog.specs.Referents.{at_number}
 use Rattle.rs_catalog.specs.Names.{map_values}
-use Rattle.rs_catalog.proofs.NameOrder.{name_cmp-total}
+use Rattle.rs_catalog.proofs.NameOrder.{name_cmp-total, name_cmp-antisymmetric}
+use Rattle.rs_catalog.proofs.DefinitionLaws.{get-others}
 use Rattle.rs_catalog.proofs.Names.{get-map_values, len-map_values, map_values-empty, map_values-insert, map_values-remove}
 use Rattle.rs_catalog.proofs.MapLaws.{same_name-true}
 
@@ -126,7 +129,36 @@ pub referents_from-with_route : (definitions : Definitions) (referents_on : ℕ 
 unfolding referents_from
 referents_from-with_route definitions referents_on name item new none = fun_ext (λ route. on_new_route names.empty referents_on definitions.routes name item new none route)
 
+pub indexes_of-none : indexes_of no_definitions ≡ names.empty
+indexes_of-none = map_values-empty indexed_column
+
+pub get-indexes_of : (definitions : Definitions) (name : Name) → names.get (indexes_of definitions) name ≡ option_map indexed_column (names.get definitions.indexes name)
+get-indexes_of definitions name = get-map_values indexed_column definitions.indexes name
+
+pub len-indexes_of : (definitions : Definitions) → names.len (indexes_of definitions) ≡ names.len definitions.indexes
+len-indexes_of definitions = len-map_values indexed_column definitions.indexes
+
+pub indexes_of-with_index : (definitions : Definitions) (name : Name) (item : IndexItem) → indexes_of (with_index definitions name item) ≡ names.insert (indexes_of definitions) name (indexed_column item)
+indexes_of-with_index definitions name item = map_values-insert indexed_column definitions.indexes name item
+
 -- ---- one is taken out
+
+pub indexes_of-without_index : (definitions : Definitions) (name : Name) → indexes_of (without_index definitions name) ≡ names.remove (indexes_of definitions) name
+indexes_of-without_index definitions name = map_values-remove indexed_column definitions.indexes name
+
+same_others : (table : Name) (o : Option IndexItem) → option_map indexed_column (cond (is_of_another table o) o None) ≡ cond (machine.is_of_another table (option_map indexed_column o)) (option_map indexed_column o) None
+same_others table None = refl
+same_others table (Some item) = elim (same_name table item.table) as (λ b. option_map indexed_column (cond (not b) (Some item) None) ≡ cond (not b) (Some (indexed_column item)) None) [ true ↦ refl | false ↦ refl ]
+
+pub indexes_of-without_table : (definitions : Definitions) (name : Name) → indexes_of (without_table definitions name) ≡ machine.indexes_of_others name (indexes_of definitions)
+unfolding machine.indexes_of_others
+indexes_of-without_table definitions name = same_map name_cmp-total name_cmp-antisymmetric _ _ (λ q.
+    get-map_values indexed_column (indexes_of_others name definitions.indexes) q
+    ∙ ap (option_map indexed_column) (get-others name definitions.indexes q)
+    ∙ same_others name (names.get definitions.indexes q)
+    ∙ ap (λ o. cond (machine.is_of_another name o) o None) (sym (get-indexes_of definitions q))
+    ∙ sym (get-retain_keys (indexes_of definitions) (λ n. machine.is_of_another name (names.get (indexes_of definitions) n)) q
+    (λ x tied. ap (machine.is_of_another name) (get_tied name_cmp-total (indexes_of definitions) q x tied))))
 
 pub routes_of-without_route : (definitions : Definitions) (name : Name) → routes_of (without_route definitions name) ≡ names.remove (routes_of definitions) name
 routes_of-without_route definitions name = map_values-remove (λ (item : RouteItem). item.ends) definitions.routes name

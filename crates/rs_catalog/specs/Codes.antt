@@ -10,7 +10,7 @@ use Rattle.rs_facts.specs.Fact.{Name, Names}
 use Rattle.rs_facts.specs.Query.{RouteEnds, Column, Piece}
 use Rattle.rs_syntax.specs.contracts.queries.Query as query
 use Rattle.rs_syntax.specs.declared.queries.Query.{Query}
-use Rattle.rs_catalog.specs.Definitions.{Numbered, RouteItem, TableItem, ViewItem, Definitions}
+use Rattle.rs_catalog.specs.Definitions.{Numbered, RouteItem, TableItem, IndexItem, ViewItem, Definitions}
 
 abbrev pub name_code : Coded Name
 name_code = coded_list coded_ℕ
@@ -61,6 +61,10 @@ abbrev pub table_code : Coded TableItem
 table_code = code_by (ℕ × (Kind × List Column)) (coded× coded_ℕ (coded× kind_code (coded_list column_code))) (λ t. (t.number, (t.kind, t.columns)))
     (λ p. record { number = p.0; kind = p.1.0; columns = p.1.1 }) (λ _. refl)
 
+abbrev pub index_code : Coded IndexItem
+index_code = code_by (ℕ × (Name × (ℕ × ℕ))) (coded× coded_ℕ (coded× name_code (coded× coded_ℕ coded_ℕ))) (λ i. (i.number, (i.table, (i.table_number, i.column))))
+    (λ p. record { number = p.0; table = p.1.0; table_number = p.1.1.0; column = p.1.1.1 }) (λ _. refl)
+
 abbrev pub view_code : Coded ViewItem
 view_code = code_by (Query × List ℕ) (coded× query.the_row.coded (coded_list coded_ℕ)) (λ v. (v.query, v.text)) (λ p. record { query = p.0; text = p.1 }) (λ _. refl)
 
@@ -72,6 +76,7 @@ abbrev pub pieces_code : Coded (List Piece)
 pieces_code = coded_list piece_code
 
 abbrev pub definitions_code : Coded Definitions
-definitions_code = code_by (Names RouteItem × (Names TableItem × (Names ViewItem × Names (List Piece))))
-    (coded× (names_code route_code) (coded× (names_code table_code) (coded× (names_code view_code) (names_code pieces_code))))
-    (λ d. (d.routes, (d.tables, (d.views, d.alignments)))) (λ p. record { routes = p.0; tables = p.1.0; views = p.1.1.0; alignments = p.1.1.1 }) (λ _. refl)
+definitions_code = code_by (Names RouteItem × (Names TableItem × (Names IndexItem × (Names ViewItem × Names (List Piece)))))
+    (coded× (names_code route_code) (coded× (names_code table_code) (coded× (names_code index_code) (coded× (names_code view_code) (names_code pieces_code)))))
+    (λ d. (d.routes, (d.tables, (d.indexes, (d.views, d.alignments)))))
+    (λ p. record { routes = p.0; tables = p.1.0; indexes = p.1.1.0; views = p.1.1.1.0; alignments = p.1.1.1.1 }) (λ _. refl)

@@ -1,4 +1,4 @@
--- What the catalogue keeps: routes, tables, views and alignments by name, routes and tables with their numbers.
+-- What the catalogue keeps: routes, tables, indexes, views and alignments by name, the first three with their numbers.
 use Rattle.std.specs.Prelude.{◌≡◌, ℕ, ◌<◌, ◌≤◌, List, length, map, Option, Some, None}
 use Rattle.std.specs.Ordering.{nat_cmp}
 use Rattle.std.specs.FinMap as names
@@ -10,14 +10,15 @@ use Rattle.rs_facts.specs.Query.{RouteEnds, Column, Table, World, Piece}
 use Rattle.rs_facts.specs.WellFormed.{ArePiecesOn}
 use Rattle.rs_facts.specs.Runs.{Stretch}
 use Rattle.rs_facts.specs.Spans.{places_of}
+use Rattle.rs_planning.specs.Basis.{IndexedColumn}
 use Rattle.rs_syntax.specs.declared.queries.Query.{Query}
 use Rattle.rs_syntax.specs.QueryView.{query_tree}
 use Rattle.rs_syntax.specs.View.{piece_tree}
 use Rattle.rs_syntax.specs.declared.commands.Piece as code
 use Rattle.rs_syntax.specs.Tree.{QueryTree}
-use Rattle.rs_machine.specs.declared.limits.TheConstants.{ROUTES, TABLES}
+use Rattle.rs_machine.specs.declared.limits.TheConstants.{ROUTES, TABLES, INDEXES}
 use Rattle.rs_machine.specs.Checks.{piece_of}
-use Rattle.rs_machine.specs.State.{State}
+use Rattle.rs_machine.specs.State.{Cursors, State}
 use Rattle.rs_catalog.specs.Names.{map_values}
 
 -- what stands under numbers
@@ -33,6 +34,13 @@ pub record TableItem : Type 0 where
   pub kind : Kind
   pub columns : List Column
 
+-- an index: its number, the table by its name and its number, and the place of the column
+pub record IndexItem : Type 0 where
+  pub number : ℕ
+  pub table : Name
+  pub table_number : ℕ
+  pub column : ℕ
+
 -- a view: its query, and the query's text as it was written
 pub record ViewItem : Type 0 where
   pub query : Query
@@ -41,11 +49,12 @@ pub record ViewItem : Type 0 where
 pub record Definitions : Type 0 where
   pub routes : Names RouteItem
   pub tables : Names TableItem
+  pub indexes : Names IndexItem
   pub views : Names ViewItem
   pub alignments : Names (List Piece)
 
 abbrev pub no_definitions : Definitions
-no_definitions = record { routes = names.empty; tables = names.empty; views = names.empty; alignments = names.empty }
+no_definitions = record { routes = names.empty; tables = names.empty; indexes = names.empty; views = names.empty; alignments = names.empty }
 
 abbrev pub routes_of : Definitions → Names RouteEnds
 routes_of definitions = map_values (λ item. item.ends) definitions.routes
@@ -69,22 +78,38 @@ pub record IsLeastFree {X : Type 0} (number_of : X → ℕ) (items : Names X) (n
 abbrev pub AreNumbered : {X : Type 0} → (X → ℕ) → Names X → Type 0
 AreNumbered {X} number_of items = (a b : Name) (x y : X) → names.get items a ≡ Some x → names.get items b ≡ Some y → number_of x ≡ number_of y → a ≡ b
 
+-- a table of this name has this number and a column at this place
+pub record IsColumnOf (tables : Names TableItem) (name : Name) (number column : ℕ) : Type 0 where
+  pub table : TableItem
+  pub there : names.get tables name ≡ Some table
+  pub numbered : table.number ≡ number
+  pub below : column < length table.columns
+
 -- What is so of every catalogue: numbers are distinct and below their limits, each route's ends are measures, the first
--- below the second, a table has no more columns than a row has room for, and the pieces of alignments lie on routes that
--- are there.
+-- below the second, a table has no more columns than a row has room for, an index is of a column that is there, and the
+-- pieces of alignments lie on routes that are there.
 pub record AreDefinitions (definitions : Definitions) : Type 0 where
   pub route_numbers : AreNumbered (λ item. item.number) definitions.routes
   pub table_numbers : AreNumbered (λ item. item.number) definitions.tables
+  pub index_numbers : AreNumbered (λ item. item.number) definitions.indexes
   pub routes : (name : Name) (item : RouteItem) → names.get definitions.routes name ≡ Some item
       → (item.number < ROUTES) × (item.ends.start < item.ends.finish) × (item.ends.finish ≤ GREATEST_MEASURE)
   pub tables : (name : Name) (item : TableItem) → names.get definitions.tables name ≡ Some item
       → (item.number < TABLES) × (length item.columns ≤ COLUMNS)
+  pub indexes : (name : Name) (item : IndexItem) → names.get definitions.indexes name ≡ Some item
+      → (item.number < INDEXES) × IsColumnOf definitions.tables item.table item.table_number item.column
   pub alignments : (name : Name) (pieces : List Piece) → names.get definitions.alignments name ≡ Some pieces → ArePiecesOn (routes_of definitions) pieces
 
 -- ---- the state
 
 abbrev pub views_of : Definitions → Names QueryTree
 views_of definitions = map_values (λ item. query_tree item.query) definitions.views
+
+abbrev pub indexed_column : IndexItem → IndexedColumn
+indexed_column item = record { table = item.table; column = item.column }
+
+abbrev pub indexes_of : Definitions → Names IndexedColumn
+indexes_of definitions = map_values indexed_column definitions.indexes
 
 -- what a route has, by its number; nothing where there is no such route
 abbrev pub on_numbered : {X : Type 0} → X → (ℕ → X) → Option RouteItem → X
@@ -107,17 +132,23 @@ tables_from definitions spans_on = map_values (table_from definitions.routes spa
 unfoldable pub referents_from : Definitions → (ℕ → Names ℕ) → Name → Names ℕ
 referents_from definitions referents_on route = on_numbered names.empty referents_on (names.get definitions.routes route)
 
+-- what the state has beside: how many changes were accepted, and the cursors of each session
+pub record Rest : Type 0 where
+  pub changes : ℕ
+  pub cursors : ℕ → Cursors
+
 -- The state of the machine: the definitions, for each route's number its referents, for each table's number and
--- route's number the spans, and how many changes were accepted.
-abbrev pub state_from : Definitions → (ℕ → Names ℕ) → (ℕ → ℕ → List Stretch) → ℕ → State
-state_from definitions referents_on spans_on changes = record {
+-- route's number the spans, and the rest.
+abbrev pub state_from : Definitions → (ℕ → Names ℕ) → (ℕ → ℕ → List Stretch) → Rest → State
+state_from definitions referents_on spans_on rest = record {
   routes = routes_of definitions;
   referents = referents_from definitions referents_on;
   tables = tables_from definitions spans_on;
   views = views_of definitions;
   alignments = definitions.alignments;
-  changes = changes;
-  cursors = λ session. names.empty;
+  indexes = indexes_of definitions;
+  changes = rest.changes;
+  cursors = rest.cursors;
 }
 
 -- what a query of it is asked of

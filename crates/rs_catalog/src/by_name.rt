@@ -2,12 +2,17 @@
 //!
 //! It promises the finite map from the bytes of the names to what the values are seen as.
 
-ghost use Rattle.std.specs.Prelude.{◌≡◌, OnOk, OnErr};
+ghost use Rattle.std.specs.Prelude.{◌≡◌, ℕ, ◌<◌, ◌^◌, List, length, Some, OnOk, OnErr};
 ghost use Rattle.std.specs.Borrow.{sem};
 ghost use Rattle.std.specs.Option.{option_copied, option_copied_mut};
 ghost use Rattle.std.specs.FinMap as names;
+ghost use Rattle.rs_catalog.specs.Changes.{indexes_of_others};
+ghost use Rattle.rs_catalog.specs.Definitions.{IsLeastFree};
 ghost use Rattle.rs_catalog.specs.Names.{entries_by_bytes};
+ghost use Rattle.rs_catalog.specs.Taken.{none_taken};
 
+use crate::entries::IndexEntry;
+use crate::numbers::{Numbered, least_free, take};
 use rs_methods::Name;
 use std::alloc::{AllocError, Global};
 use std::collections::{BTreeMap, btree_map};
@@ -86,5 +91,32 @@ impl<T: Drop> ByName<T> {
         ensures { entries_by_bytes (λ value. value) result ≡ names.entries self.now }
     {
         self.entries.iter()
+    }
+}
+
+impl<T: Drop + Numbered> ByName<T> {
+    /// The least number that no value has, by a place for each number that one may have, of which none is taken yet. There
+    /// are more places than values.
+    pub(crate) fn free_number(&self, taken: &mut [bool]) -> u32
+        requires none { taken.old ≡ none_taken (length taken.old) }
+        requires few { length taken.old < 2 ^ 32 }
+        requires room { names.len self.now < length taken.old }
+        requires each { (name : List ℕ) (value : T) → names.get self.now name ≡ Some value → T.Numbered.number_of value < length taken.old }
+        ensures least { IsLeastFree T.Numbered.number_of self.now result }
+        ensures below { result < length taken.old }
+    {
+        for (_, value) in self.iter() {
+            take(taken, value.own_number());
+        }
+        least_free(taken)
+    }
+}
+
+impl ByName<IndexEntry> {
+    /// Takes the indexes of a table out. It takes no memory.
+    pub(crate) fn remove_of_table(&mut self, table: &Name)
+        ensures { self.new ≡ indexes_of_others table.now.bytes self.old }
+    {
+        self.entries.retain(|_, index| !index.is_of(table));
     }
 }

@@ -1,6 +1,7 @@
-//! The catalogue: routes, tables, views and alignments by name, each route and each table with a number of its own.
+//! The catalogue: routes, tables, indexes, views and alignments by name, the first three with numbers of their own.
 //!
-//! It promises the finite maps that its definitions say, and for each new route and table the least free number.
+//! It promises the finite maps that its definitions say, for each new route, table and index the least free number, and
+//! that a table's indexes go with it.
 
 ghost use Rattle.std.specs.Prelude.{◌≡◌, ◌<◌, ◌≤◌, ◌||◌, false, map, length, string_bytes, vec_len, IfOk, OnOk, OnErr};
 ghost use Rattle.std.specs.Option.{option_copied};
@@ -11,14 +12,14 @@ ghost use Rattle.rs_machine.specs.Checks.{found};
 ghost use Rattle.rs_machine.specs.State.{has};
 ghost use Rattle.rs_catalog.specs.Names.{entries_by_bytes};
 ghost use Rattle.rs_facts.specs.WellFormed.{ArePiecesOn};
-ghost use Rattle.rs_catalog.specs.Definitions.{AreDefinitions, IsLeastFree, no_definitions, routes_of, pieces_of};
+ghost use Rattle.rs_catalog.specs.Definitions.{AreDefinitions, IsColumnOf, IsLeastFree, no_definitions, routes_of, pieces_of};
 ghost use Rattle.rs_catalog.specs.Uses.{some_piece_on};
-ghost use Rattle.rs_catalog.specs.Changes.{with_route, with_table, with_view, with_alignment, without_route, without_table, without_view, without_alignment};
+ghost use Rattle.rs_catalog.specs.Changes.{with_route, with_table, with_index, with_view, with_alignment, without_route, without_table, without_index, without_view, without_alignment};
 
 use crate::by_name::ByName;
-use crate::entries::{AlignmentEntry, Ends, RouteEntry, TableEntry, ViewEntry};
-use crate::numbers::Numbers;
-use rs_machine::limits::{ROUTES, TABLES};
+use crate::entries::{AlignmentEntry, Ends, IndexEntry, RouteEntry, TableEntry, ViewEntry};
+use crate::numbers::none;
+use rs_machine::limits::{INDEXES, ROUTES, TABLES};
 use rs_measure::Measure;
 use rs_methods::Name;
 use rs_refusal::Refusal;
@@ -28,11 +29,12 @@ use std::alloc::{AllocError, Global};
 use std::collections::btree_map;
 use std::marker::Model;
 
-/// Routes, tables, views and alignments by name.
+/// Routes, tables, indexes, views and alignments by name.
 #[derive(Drop)]
 pub struct Catalog {
     routes: ByName<RouteEntry>,
     tables: ByName<TableEntry>,
+    indexes: ByName<IndexEntry>,
     views: ByName<ViewEntry>,
     alignments: ByName<AlignmentEntry>,
 }
@@ -45,19 +47,20 @@ impl Model for Catalog {
 
     ghost coded = { definitions_code };
 
-    ghost view = { λ c. record { routes = c.routes; tables = c.tables; views = c.views; alignments = c.alignments } };
+    ghost view = { λ c. record { routes = c.routes; tables = c.tables; indexes = c.indexes; views = c.views; alignments = c.alignments } };
 
-    ghost invariant = { λ c. AreDefinitions (record { routes = c.routes; tables = c.tables; views = c.views; alignments = c.alignments }) };
+    ghost invariant = { λ c. AreDefinitions (record { routes = c.routes; tables = c.tables; indexes = c.indexes; views = c.views; alignments = c.alignments }) };
 }
 
 impl Catalog {
-    /// No route, no table, no view and no alignment. It takes no memory.
+    /// No route, no table, no index, no view and no alignment. It takes no memory.
     pub fn new(alloc: Global) -> Self
         ensures { result ≡ no_definitions }
     {
         Catalog {
             routes: ByName::new(alloc),
             tables: ByName::new(alloc),
+            indexes: ByName::new(alloc),
             views: ByName::new(alloc),
             alignments: ByName::new(alloc),
         }
@@ -95,6 +98,13 @@ impl Catalog {
             Some(table) => Ok(table),
             None => Err(Refusal::NoSuchName),
         }
+    }
+
+    /// The index of this name.
+    pub fn index(&self, name: &Name) -> Option<&IndexEntry>
+        ensures { option_copied result ≡ names.get self.now.indexes name.now.bytes }
+    {
+        self.indexes.get(name)
     }
 
     /// The view of this name.
@@ -142,6 +152,13 @@ impl Catalog {
         self.tables.len()
     }
 
+    /// How many indexes there are.
+    pub fn indexes_len(&self) -> usize
+        ensures { result ≡ names.len self.now.indexes }
+    {
+        self.indexes.len()
+    }
+
     /// How many views there are.
     pub fn views_len(&self) -> usize
         ensures { result ≡ names.len self.now.views }
@@ -168,6 +185,13 @@ impl Catalog {
         ensures { entries_by_bytes (λ table. table) result ≡ names.entries self.now.tables }
     {
         self.tables.iter()
+    }
+
+    /// The indexes, in the order of their names.
+    pub fn indexes(&self) -> btree_map::Iter<'_, Name, IndexEntry>
+        ensures { entries_by_bytes (λ index. index) result ≡ names.entries self.now.indexes }
+    {
+        self.indexes.iter()
     }
 
     /// The views, in the order of their names.
@@ -213,6 +237,7 @@ impl Catalog {
         kind: Kind,
         columns: Vec<ColumnDefinition>,
     ) -> Result<u32, AllocError>
+        requires new { has self.old.tables name.bytes ≡ false }
         requires columns { vec_len columns ≤ COLUMNS }
         requires room { names.len self.old.tables < TABLES }
         ensures least { IfOk result (λ number. IsLeastFree (λ item. item.number) self.old.tables number) }
@@ -222,6 +247,27 @@ impl Catalog {
         let number = self.free_table_number();
         let entry = TableEntry::new(number, kind, columns);
         self.tables.define(name, entry)?;
+        Ok(number)
+    }
+
+    /// Defines an index of a column of a table, by its name and its number, under the least number that no index has,
+    /// which is the answer. For want of memory it changes nothing.
+    pub fn define_index(
+        &mut self,
+        name: Name,
+        table: Name,
+        table_number: u32,
+        column: u8,
+    ) -> Result<u32, AllocError>
+        requires of { IsColumnOf self.old.tables table.bytes table_number column }
+        requires room { names.len self.old.indexes < INDEXES }
+        ensures least { IfOk result (λ number. IsLeastFree (λ item. item.number) self.old.indexes number) }
+        ensures ok { IfOk result (λ number. self.new ≡ with_index self.old name.bytes (record { number = number; table = table.bytes; table_number = table_number; column = column })) }
+        ensures err { OnErr result (self.new ≡ self.old) }
+    {
+        let number = self.free_index_number();
+        let entry = IndexEntry::new(number, table, table_number, column);
+        self.indexes.define(name, entry)?;
         Ok(number)
     }
 
@@ -250,11 +296,19 @@ impl Catalog {
         self.routes.remove(name);
     }
 
-    /// Takes a table out, if it is there. It takes no memory.
+    /// Takes a table out with its indexes, if it is there. It takes no memory.
     pub fn drop_table(&mut self, name: &Name)
         ensures { self.new ≡ without_table self.old name.now.bytes }
     {
         self.tables.remove(name);
+        self.indexes.remove_of_table(name);
+    }
+
+    /// Takes an index out, if it is there. It takes no memory.
+    pub fn drop_index(&mut self, name: &Name)
+        ensures { self.new ≡ without_index self.old name.now.bytes }
+    {
+        self.indexes.remove(name);
     }
 
     /// Takes a view out, if it is there. It takes no memory.
@@ -277,11 +331,7 @@ impl Catalog {
         ensures least { IsLeastFree (λ item. item.number) self.now.routes result }
         ensures below { result < ROUTES }
     {
-        let mut taken = Numbers::<ROUTES>::none();
-        for (_, route) in self.routes.iter() {
-            taken.take(route.number());
-        }
-        taken.least_free()
+        self.routes.free_number(&mut none::<ROUTES>())
     }
 
     /// The least number that no table has.
@@ -290,11 +340,16 @@ impl Catalog {
         ensures least { IsLeastFree (λ item. item.number) self.now.tables result }
         ensures below { result < TABLES }
     {
-        let mut taken = Numbers::<TABLES>::none();
-        for (_, table) in self.tables.iter() {
-            taken.take(table.number());
-        }
-        taken.least_free()
+        self.tables.free_number(&mut none::<TABLES>())
+    }
+
+    /// The least number that no index has.
+    fn free_index_number(&self) -> u32
+        requires { names.len self.now.indexes < INDEXES }
+        ensures least { IsLeastFree (λ item. item.number) self.now.indexes result }
+        ensures below { result < INDEXES }
+    {
+        self.indexes.free_number(&mut none::<INDEXES>())
     }
 
     /// They are numbered, and within their limits.

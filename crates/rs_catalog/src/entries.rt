@@ -1,15 +1,18 @@
-//! What the catalogue keeps under a name: a route's number and ends, a table's number, kind and columns, a view's query
-//! and text, and an alignment's pieces.
+//! What the catalogue keeps under a name: a route's number and ends, a table's number, kind and columns, an index's number
+//! and its table's column, a view's query and text, and an alignment's pieces.
 //!
 //! It promises that a route starts below its finish.
 
 ghost use Rattle.std.specs.Prelude.{◌≡◌, ◌<◌, ◌≤◌, map, string_bytes};
 ghost use Rattle.rs_measure.specs.declared.measure.TheConstants.{GREATEST_MEASURE};
+ghost use Rattle.rs_facts.specs.Insert.{same_name};
 ghost use Rattle.rs_syntax.specs.View.{column_tree};
 ghost use Rattle.rs_catalog.specs.Definitions.{pieces_of};
 
+use crate::numbers::Numbered;
+use crate::uses::is_same;
 use rs_measure::Measure;
-use rs_methods::Route;
+use rs_methods::{Name, Route};
 use rs_syntax::{ColumnDefinition, Piece, Query};
 use rs_value::Kind;
 use std::marker::Model;
@@ -93,6 +96,14 @@ impl Model for RouteEntry {
     ghost inverse = { λ item. record { number = item.number; ends = item.ends } };
 }
 
+impl Numbered for RouteEntry {
+    ghost number_of = { λ item. item.number };
+
+    fn own_number(&self) -> u32 {
+        self.number
+    }
+}
+
 impl RouteEntry {
     /// A route of this number from one end to the other.
     pub fn new(number: u32, ends: Ends) -> Self
@@ -137,6 +148,14 @@ impl Model for TableEntry {
     ghost view = { λ t. record { number = t.number; kind = t.kind; columns = map column_tree t.columns.items } };
 }
 
+impl Numbered for TableEntry {
+    ghost number_of = { λ item. item.number };
+
+    fn own_number(&self) -> u32 {
+        self.number
+    }
+}
+
 impl TableEntry {
     /// A table of this number and kind with these columns.
     pub fn new(number: u32, kind: Kind, columns: Vec<ColumnDefinition>) -> Self
@@ -168,6 +187,83 @@ impl TableEntry {
         ensures { map column_tree result.now ≡ self.now.columns }
     {
         &self.columns
+    }
+}
+
+/// An index: its number, its table by name and by number, and the place of the column, the leftmost 0.
+#[derive(Drop)]
+pub struct IndexEntry {
+    number: u32,
+    table: Name,
+    table_number: u32,
+    column: u8,
+}
+
+impl Model for IndexEntry {
+    ghost use Rattle.rs_catalog.specs.Codes.{index_code};
+    ghost use Rattle.rs_catalog.specs.Definitions.{IndexItem};
+
+    ghost Value = { IndexItem };
+
+    ghost coded = { index_code };
+
+    ghost view = { λ i. record { number = i.number; table = i.table.bytes; table_number = i.table_number; column = i.column } };
+}
+
+impl Numbered for IndexEntry {
+    ghost number_of = { λ item. item.number };
+
+    fn own_number(&self) -> u32 {
+        self.number
+    }
+}
+
+impl IndexEntry {
+    /// An index of this number, of a column of the table of this name and number.
+    pub fn new(number: u32, table: Name, table_number: u32, column: u8) -> Self
+        ensures { result ≡ record { number = number; table = table.bytes; table_number = table_number; column = column } }
+    {
+        IndexEntry {
+            number,
+            table,
+            table_number,
+            column,
+        }
+    }
+
+    /// The index's number.
+    pub fn number(&self) -> u32
+        ensures { result ≡ self.now.number }
+    {
+        self.number
+    }
+
+    /// The name of its table.
+    pub fn table(&self) -> &Name
+        ensures { result.now.bytes ≡ self.now.table }
+    {
+        &self.table
+    }
+
+    /// Whether it is of the table of this name.
+    pub fn is_of(&self, table: &Name) -> bool
+        ensures { result ≡ same_name table.now.bytes self.now.table }
+    {
+        is_same(table, &self.table)
+    }
+
+    /// The number of its table.
+    pub fn table_number(&self) -> u32
+        ensures { result ≡ self.now.table_number }
+    {
+        self.table_number
+    }
+
+    /// The place of its column, the leftmost 0.
+    pub fn column(&self) -> u8
+        ensures { result ≡ self.now.column }
+    {
+        self.column
     }
 }
 

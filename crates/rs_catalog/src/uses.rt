@@ -208,7 +208,7 @@ fn is_by(position: &Position, name: &Name) -> bool
 }
 
 /// Whether the names have the same bytes.
-fn is_same(name: &Name, other: &Name) -> bool
+pub(crate) fn is_same(name: &Name, other: &Name) -> bool
     ensures { result ≡ same_name name.now.bytes other.now.bytes }
 {
     other.as_str() == name.as_str()

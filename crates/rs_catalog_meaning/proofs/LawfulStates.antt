@@ -1,70 +1,29 @@
 -- Where the state that definitions make is lawful, they are meant.
-use Rattle.std.proofs.Common.{◌≡◌, ◌<◌, ◌≤◌, ℕ, true, false, cond, Some, is_some, List, [], ◌∷◌, length, map, get_or, suc, refl, sym, ap, subst, ◌∙◌, arith}
+use Rattle.std.proofs.Common.{◌≡◌, ◌<◌, ◌≤◌, ℕ, true, false, Some, is_some, List, [], ◌∷◌, map, get_or, suc, refl, sym, ap, subst, ◌∙◌, arith}
 use Rattle.std.specs.Prelude.{Contains, ◌≢◌, ◌==◌, if◌then◌else◌}
 use Rattle.std.specs.List.{AllByRecursion}
-use Rattle.std.specs.Ordering.{eq_by_cmp, is_lt}
-use Rattle.std.specs.Cmp.{eq_by_cmp_equiv}
 use Rattle.std.specs.FinMap as names
-use Rattle.std.specs.FinMap.{find, get-from_sorted, is_sorted}
-use Rattle.std.specs.FinMap.Entries.{below_all}
-use Rattle.std.proofs.lemmas.Bool.{and_parts, eqb-true, false≢true}
+use Rattle.std.specs.FinMap.{get-from_sorted, is_sorted}
+use Rattle.std.proofs.lemmas.Bool.{eqb-true}
 use Rattle.std.proofs.lemmas.List.{length-map}
 use Rattle.std.proofs.lemmas.List.Elements.{All-from_recursion, Contains-get_or, recursion_from_All}
 use Rattle.rs_facts.specs.Fact.{Name, Names, name_cmp}
 use Rattle.rs_facts.specs.Query.{Piece, RouteEnds, Table}
 use Rattle.rs_facts.specs.WellFormed.{IsPieceOn}
-use Rattle.rs_machine.specs.declared.limits.TheConstants.{ALIGNMENTS, ROUTES, TABLES}
+use Rattle.rs_machine.specs.declared.limits.TheConstants.{ALIGNMENTS, INDEXES, ROUTES, TABLES}
 use Rattle.rs_machine.specs.Lawful as lawful
 use Rattle.rs_machine.specs.State.{has}
-use Rattle.rs_machine.proofs.NameOrder.{name_cmp-total}
-use Rattle.rs_methods.specs.PositionText.{IsWord}
+use Rattle.rs_planning.specs.Basis.{IndexedColumn}
 use Rattle.rs_syntax.specs.Sound.{IsName}
-use Rattle.rs_catalog_pages.specs.Items.{AlignmentItem, CatalogueItems, PieceItem, RouteItem, TableItem, ViewItem}
-use Rattle.rs_catalog_meaning.specs.Meaning.{AreMeant, AreRoutes, IsAlignment, IsPiece, IsTable, IsView, ends_of, named_piece, routes_of}
-use Rattle.rs_catalog_meaning.specs.Stating.{AreListed, name_with, named_alignment, named_table, piece_of, state_of}
+use Rattle.rs_catalog_pages.specs.Items.{AlignmentItem, CatalogueItems, IndexItem, PieceItem, RouteItem, TableItem, ViewItem}
+use Rattle.rs_catalog_meaning.specs.Meaning.{AreMeant, AreRoutes, IsAlignment, IsIndex, IsPiece, IsTable, IsView, ends_of, named_piece, routes_of}
+use Rattle.rs_catalog_meaning.specs.Stating.{AreListed, column_indexed, name_with, named_alignment, named_index, named_table, piece_of, state_of, tables_of}
 use Rattle.rs_catalog_meaning.proofs.Each.{each_of, each_said, said_each}
+use Rattle.rs_catalog_meaning.proofs.IndexLaws.{index_meant}
 use Rattle.rs_catalog_meaning.proofs.NameOrder.{sorted_values, to_T}
-use Rattle.rs_catalog_meaning.proofs.RouteLaws.{after}
-use Rattle.rs_catalog_meaning.proofs.StateLaws.{found_so, free_for_view, len_sorted}
-
--- ---- a list whose names rise
-
-below_each : {X : Type 0} (a : Name) (es : List (Name × X)) → below_all name_cmp a es ≡ true → AllByRecursion (λ e. is_lt (name_cmp a e.0) ≡ true) es
-below_each a [] below = tt
-below_each a (e ∷ es) below = let parts = and_parts (is_lt (name_cmp a e.0)) (below_all name_cmp a es) below in (parts.0, below_each a es parts.1)
-
-found_after : {X : Type 0} (a name : Name) (es : List (Name × X)) (x : X) → below_all name_cmp a es ≡ true → find name_cmp name es ≡ Some x → eq_by_cmp name_cmp name a ≡ false
-found_after {X} a name es x below found = after a name (found_so (λ (n : Name) (y : X). is_lt (name_cmp a n) ≡ true) es (below_each a es below) name x found)
-
-each_found : {X : Type 0} (P : Name → X → Type 0) (es : List (Name × X)) → is_sorted name_cmp es ≡ true → ((name : Name) (x : X) → find name_cmp name es ≡ Some x → P name x)
-    → AllByRecursion (λ e. P e.0 e.1) es
-each_found P [] sorted so = tt
-each_found P (e ∷ es) sorted so =
-    let parts = and_parts (below_all name_cmp e.0 es) (is_sorted name_cmp es) sorted in (
-      so e.0 e.1 (ap (λ b. cond b (Some e.1) (find name_cmp e.0 es)) ((eq_by_cmp_equiv name_cmp-total).refl e.0)),
-      each_found P es parts.1 (λ name x found. so name x (ap (λ b. cond b (Some e.1) (find name_cmp name es)) (found_after e.0 name es x parts.0 found) ∙ found)),
-    )
-
--- what is so under each name is so of each item
-each_back : {X : Type 0} (P : Name → X → Type 0) (es : List (Name × X)) → is_sorted name_cmp es ≡ true → lawful.Each (names.from_sorted {R = name_cmp} es) P
-    → AllByRecursion (λ e. P e.0 e.1) es
-each_back P es sorted each = each_found P es sorted (λ name x found. each name x (get-from_sorted name_cmp es name (to_T (is_sorted name_cmp es) sorted) ∙ found))
-
-few_back : {X Z : Type 0} (entry : Z → Name × X) (zs : List Z) (most : ℕ) → is_sorted name_cmp (map entry zs) ≡ true
-    → names.len (names.from_sorted {R = name_cmp} (map entry zs)) ≤ most → length zs ≤ most
-few_back entry zs most sorted few = omega (arith, few, len_sorted (map entry zs) sorted, length-map zs entry)
-
--- no item has a name that is not found
-none_named : {X : Type 0} (es : List (Name × X)) (name : Name) → is_some (find name_cmp name es) ≡ false → AllByRecursion (λ e. e.0 ≢ name) es
-none_named [] name none = tt
-none_named (e ∷ es) name none =
-    elim (eq_by_cmp name_cmp name e.0) as (λ b. eq_by_cmp name_cmp name e.0 ≡ b → is_some (cond b (Some e.1) (find name_cmp name es)) ≡ false → AllByRecursion (λ e. e.0 ≢ name) (e ∷ es)) [
-      | true ↦ λ same is. absurd (false≢true (sym is))
-      | false ↦ λ other is. (
-        λ same. false≢true (sym other ∙ ap (eq_by_cmp name_cmp name) same ∙ (eq_by_cmp_equiv name_cmp-total).refl name),
-        none_named es name is,
-      )
-    ] refl none
+use Rattle.rs_catalog_meaning.proofs.NameText.{not_empty}
+use Rattle.rs_catalog_meaning.proofs.StateLaws.{free_for_view}
+use Rattle.rs_catalog_meaning.proofs.UnderNames.{each_back, few_back, none_named}
 
 each_both : {X : Type 0} (P Q R : X → Type 0) → ((x : X) → P x → Q x → R x) → (xs : List X) → AllByRecursion P xs → AllByRecursion Q xs → AllByRecursion R xs
 each_both P Q R gives [] one other = tt
@@ -87,9 +46,6 @@ with_name (first ∷ routes) number some =
     later : HasNumber routes number
         → (route : RouteItem) × Contains (first ∷ routes) route × (route.number ≡ number) × (name_with routes number ≡ route.name)
     later more = (more.0, (suc more.1.0, omega (arith, more.1.1), more.1.2), more.2, more.3)
-
-not_empty : (name : Name) → IsName name → name ≡ [] → ⊥
-not_empty name is e = subst IsWord e is.word
 
 module _ (routes : List RouteItem) (each : lawful.Each (routes_of routes) lawful.IsRoute) where
   -- a route that is found by its number's name has the number
@@ -139,6 +95,9 @@ module _ (catalogue : CatalogueItems) (listed : AreListed catalogue) (is : lawfu
   alignments_rise =
       sorted_values (λ (alignment : AlignmentItem). alignment.name) (λ alignment. (named_alignment catalogue.routes alignment).1) catalogue.alignments ∙ listed.alignments
 
+  indexes_rise : is_sorted name_cmp (map (named_index catalogue.tables) catalogue.indexes) ≡ true
+  indexes_rise = sorted_values (λ (index : IndexItem). index.name) (column_indexed catalogue.tables) catalogue.indexes ∙ listed.indexes
+
   routes_meant : AreRoutes catalogue.routes
   routes_meant = record {
     in_order = listed.routes;
@@ -164,6 +123,14 @@ module _ (catalogue : CatalogueItems) (listed : AreListed catalogue) (is : lawfu
       (said_each (named_alignment catalogue.routes) (λ (e : Name × List Piece). lawful.IsAlignment routes e.0 e.1) catalogue.alignments
       (each_back (lawful.IsAlignment routes) (map (named_alignment catalogue.routes) catalogue.alignments) alignments_rise is.alignments))
 
+  each_index : AllByRecursion (IsIndex catalogue.tables) catalogue.indexes
+  each_index =
+      let tables = tables_of catalogue.tables in
+      each_of (λ (index : IndexItem). lawful.IsIndex tables index.name (column_indexed catalogue.tables index)) (IsIndex catalogue.tables)
+      (λ index. index_meant catalogue.tables index (routes_of catalogue.routes) is.tables) catalogue.indexes
+      (said_each (named_index catalogue.tables) (λ (e : Name × IndexedColumn). lawful.IsIndex tables e.0 e.1) catalogue.indexes
+      (each_back (lawful.IsIndex tables) (map (named_index catalogue.tables) catalogue.indexes) indexes_rise is.indexes))
+
   view_meant : (view : ViewItem) → IsName view.name × (has (state_of catalogue).tables view.name ≡ false) → IsView catalogue.tables view
   view_meant view told = record {
     named = told.0;
@@ -180,7 +147,11 @@ module _ (catalogue : CatalogueItems) (listed : AreListed catalogue) (is : lawfu
       each = each_table;
       few = few_back named_table catalogue.tables TABLES tables_rise is.limits.tables;
     };
-    indexes = record { in_order = listed.indexes; each = listed.each_index; few = listed.few_indexes };
+    indexes = record {
+      in_order = listed.indexes;
+      each = each_index;
+      few = few_back (named_index catalogue.tables) catalogue.indexes INDEXES indexes_rise is.limits.indexes;
+    };
     views = record {
       in_order = listed.views;
       each = each_of (λ (view : ViewItem). IsName view.name × (has (state_of catalogue).tables view.name ≡ false)) (IsView catalogue.tables) view_meant catalogue.views listed.view_names;
@@ -204,8 +175,6 @@ listed_of catalogue are = record {
   tables = are.tables.in_order;
   kinds = each_of IsTable (λ (table : TableItem). table.kind ≤ 1) (λ table is. is.kind) catalogue.tables are.tables.each;
   indexes = are.indexes.in_order;
-  each_index = are.indexes.each;
-  few_indexes = are.indexes.few;
   views = are.views.in_order;
   view_names = recursion_from_All (λ (view : ViewItem). IsName view.name × (has (state_of catalogue).tables view.name ≡ false)) catalogue.views
       (λ k d inside. (

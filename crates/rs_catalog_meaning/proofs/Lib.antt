@@ -1,5 +1,6 @@
 mod Each
 mod Fitting
+mod IndexLaws
 mod LawfulStates
 mod NameOrder
 mod NameText
@@ -7,3 +8,4 @@ mod PlaceLaws
 mod RouteLaws
 mod StateLaws
 mod TableLaws
+mod UnderNames

@@ -1,5 +1,5 @@
 -- A text whose longest token is a name, and is all of it.
-use Rattle.std.proofs.Common.{◌≡◌, ◌≤◌, ℕ, Bool, true, List, [], ◌∷◌, length, take, take_all, Some, None, refl, sym, ap, ◌∙◌, inl, inr, arith}
+use Rattle.std.proofs.Common.{◌≡◌, ◌≤◌, ℕ, Bool, true, List, [], ◌∷◌, length, take, take_all, Some, None, refl, sym, ap, subst, ◌∙◌, inl, inr, arith}
 use Rattle.std.specs.Char.{is_ascii_alphabetic}
 use Rattle.std.specs.List.{list_all}
 use Rattle.std.proofs.lemmas.Bool.{false≢true, and_parts, cases_lt, le-leb}
@@ -22,6 +22,9 @@ word_of (byte ∷ bytes) is = and_parts (is_ascii_alphabetic byte) (list_all is_
 
 name_of_kind : (text : List ℕ) → token_kind text ≡ Some kinds.Name → IsName text
 name_of_kind text is = let told = tells text kinds.Name is in record { word = word_of text told.word; short = told.short; not_reserved = told.free }
+
+pub not_empty : (text : List ℕ) → IsName text → text ≡ [] → ⊥
+not_empty text is e = subst IsWord e is.word
 
 free_word : (text : List ℕ) → kind_in reserved text ≡ None → length text ≤ NAME_BYTES → word_kind text ≡ kinds.Name
 unfolding word_kind

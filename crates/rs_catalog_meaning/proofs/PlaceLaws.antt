@@ -1,9 +1,9 @@
 -- The places of numbers in a list.
-use Rattle.std.proofs.Common.{◌≡◌, ◌<◌, ◌≤◌, ◌+◌, ◌-◌, ℕ, zero, suc, true, Option, Some, None, is_some, List, [], ◌∷◌, length, replicate, set, get_or, refl, sym, ap, subst, ◌∙◌, inl, inr, arith}
-use Rattle.std.specs.Prelude.{◌≢◌, IfNone, IfSome}
+use Rattle.std.proofs.Common.{◌≡◌, ◌<◌, ◌≤◌, ◌+◌, ◌-◌, ℕ, zero, suc, true, Option, Some, None, is_some, List, [], ◌∷◌, length, map, replicate, set, get_or, refl, sym, ap, subst, ◌∙◌, inl, inr, arith}
+use Rattle.std.specs.Prelude.{◌≢◌, Contains, IfNone, IfSome}
 use Rattle.std.specs.List.{AllByRecursion}
-use Rattle.std.proofs.lemmas.Bool.{cases_eq, cases_lt, false≢true}
-use Rattle.std.proofs.lemmas.List.{get_or-set_same, get_or-set_other, length-replicate, length-set, get_or_default}
+use Rattle.std.proofs.lemmas.Bool.{cases_eq, cases_lt, cases_order, false≢true}
+use Rattle.std.proofs.lemmas.List.{get_or-map, get_or-set_same, get_or-set_other, length-map, length-replicate, length-set, get_or_default}
 use Rattle.std.proofs.lemmas.List.Elements.{All-from_recursion, recursion_from_All}
 use Rattle.rs_machine.specs.declared.limits.TheConstants.{ROUTES}
 use Rattle.rs_page_owners.specs.Counts.{one_at, times}
@@ -27,6 +27,26 @@ times-twice (x ∷ xs) zero (suc j) n below inside one other =
     omega (arith, times-cons x xs n, ap (λ m. one_at m n) one, one_at-same n, times-there xs j n (omega arith) other)
 times-twice (x ∷ xs) (suc i) (suc j) n below inside one other =
     omega (arith, times-cons x xs n, times-twice xs i j n (omega arith) (omega arith) one other)
+
+-- one item has a number
+module _ {X : Type 0} (number_of : X → ℕ) (items : List X) where
+  number_at : (item : X) (there : Contains items item) → get_or (map number_of items) there.0 0 ≡ number_of item
+  number_at item there = get_or-map number_of items there.0 item 0 there.1 ∙ ap number_of there.2
+
+  twice : (one other : X) (a : Contains items one) (b : Contains items other) → number_of one ≡ number_of other → a.0 < b.0
+      → ((n : ℕ) → times (map number_of items) n ≤ 1) → ⊥
+  twice one other a b same below once =
+      let inside : b.0 < length (map number_of items) = omega (arith, b.1, length-map items number_of) in
+      let more = times-twice (map number_of items) a.0 b.0 (number_of other) below inside (number_at one a ∙ same) (number_at other b) in
+      absurd (omega (arith, more, once (number_of other)))
+
+  pub same_by_number : (one other : X) → Contains items one → Contains items other → number_of one ≡ number_of other
+      → ((n : ℕ) → times (map number_of items) n ≤ 1) → one ≡ other
+  same_by_number one other a b same once = elim (cases_order a.0 b.0) [
+    | inl at ↦ sym a.2 ∙ ap (λ k. get_or items k one) at ∙ get_or_default items b.0 one other b.1 ∙ b.2
+    | inr (inl less) ↦ absurd (twice one other a b same less once)
+    | inr (inr more) ↦ absurd (twice other one b a (sym same) more once)
+  ]
 
 -- at none
 pub times-absent : (xs : List ℕ) (n : ℕ) → ((i : ℕ) → i < length xs → get_or xs i 0 ≡ n → ⊥) → times xs n ≡ 0

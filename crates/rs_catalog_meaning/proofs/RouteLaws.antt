@@ -1,34 +1,26 @@
 -- Routes that are found by their names and by their numbers, and pieces that lie on them.
-use Rattle.std.proofs.Common.{◌≡◌, ◌<◌, ◌≤◌, ℕ, zero, suc, true, false, cond, List, [], ◌∷◌, length, map, get_or, Some, refl, sym, ap, subst, ◌∙◌, inl, inr, arith}
+use Rattle.std.proofs.Common.{◌≡◌, ◌<◌, ◌≤◌, ℕ, List, length, map, get_or, Some, sym, ap, subst, ◌∙◌, arith}
 use Rattle.std.specs.Prelude.{Contains, ◌≢◌}
 use Rattle.std.specs.List.{AllByRecursion}
-use Rattle.std.specs.Ordering.{eq_by_cmp, is_lt, is_eq}
-use Rattle.std.specs.declared.cmp.Ordering.{Ordering}
-use Rattle.std.specs.declared.cmp.Ordering.TheVariants.{Less, Equal, Greater}
-use Rattle.std.specs.Cmp.{eq_by_cmp_equiv}
 use Rattle.std.specs.FinMap as names
-use Rattle.std.specs.FinMap.{find, get-from_sorted, is_sorted}
-use Rattle.std.specs.FinMap.Entries.{below_all}
-use Rattle.std.proofs.lemmas.Bool.{and_parts, cases_order, false≢true}
 use Rattle.std.proofs.lemmas.List.{get_or-map, length-map}
 use Rattle.std.proofs.lemmas.List.Elements.{All-from_recursion, All-contains}
 use Rattle.std.proofs.lemmas.Option.{same_Some}
 use Rattle.std.proofs.lemmas.Simd.{map-map}
-use Rattle.rs_facts.specs.Fact.{Name, name_cmp}
 use Rattle.rs_facts.specs.Query.{RouteEnds}
 use Rattle.rs_facts.specs.WellFormed.{IsPieceOn}
 use Rattle.rs_machine.specs.declared.limits.TheConstants.{ROUTES}
-use Rattle.rs_machine.proofs.NameOrder.{name_cmp-total}
 use Rattle.rs_page_owners.specs.Counts.{times}
 use Rattle.rs_catalog_pages.specs.Items.{PieceItem, RouteItem}
 use Rattle.rs_catalog_pages.specs.Said.{said_piece, said_route}
 use Rattle.rs_catalog_pages.specs.declared.items.StoredPiece.{StoredPiece}
 use Rattle.rs_catalog_pages.specs.declared.items.StoredRoute.{StoredRoute}
-use Rattle.rs_catalog_meaning.specs.Meaning.{AreRoutes, IsPiece, ends_by_name, ends_of, named_piece, route_numbers, routes_of}
+use Rattle.rs_catalog_meaning.specs.Meaning.{AreRoutes, IsPiece, ends_of, named_piece, route_numbers, routes_of}
 use Rattle.rs_catalog_meaning.specs.Places.{AreGivenOnce, LiesOn}
 use Rattle.rs_catalog_meaning.proofs.Each.{each_said, said_each}
-use Rattle.rs_catalog_meaning.proofs.NameOrder.{sorted_values, to_T}
-use Rattle.rs_catalog_meaning.proofs.PlaceLaws.{times-twice}
+use Rattle.rs_catalog_meaning.proofs.NameOrder.{sorted_values}
+use Rattle.rs_catalog_meaning.proofs.PlaceLaws.{same_by_number}
+use Rattle.rs_catalog_meaning.proofs.UnderNames.{under_name}
 
 -- ---- by their numbers
 
@@ -59,30 +51,10 @@ given_once routes are = record {
   once = λ n. subst (λ numbers. times numbers n ≤ 1) (said_numbers routes) (are.numbers_once n);
 }
 
-number_at : (routes : List RouteItem) (route : RouteItem) (there : Contains routes route) → get_or (route_numbers routes) there.0 0 ≡ route.number
-number_at routes route there =
-    get_or-map (λ (r : RouteItem). r.number) routes there.0 route 0 there.1 ∙ ap (λ (r : RouteItem). r.number) there.2
-
-twice : (routes : List RouteItem) (one other : RouteItem) (a : Contains routes one) (b : Contains routes other) → one.number ≡ other.number → a.0 < b.0
-    → ((n : ℕ) → times (route_numbers routes) n ≤ 1) → ⊥
-twice routes one other a b same below once =
-    let inside : b.0 < length (route_numbers routes) = omega (arith, b.1, length-map routes (λ (r : RouteItem). r.number)) in
-    let more = times-twice (route_numbers routes) a.0 b.0 other.number below inside (number_at routes one a ∙ same) (number_at routes other b) in
-    absurd (omega (arith, more, once other.number))
-
 -- one route has a number
 pub same_route : (routes : List RouteItem) (one other : RouteItem) → Contains routes one → Contains routes other → one.number ≡ other.number
     → ((n : ℕ) → times (route_numbers routes) n ≤ 1) → one ≡ other
-same_route routes one other a b same once = elim (cases_order a.0 b.0) [
-  | inl at ↦ sym a.2 ∙ ap (λ k. get_or routes k one) at ∙ default routes b.0 one other b.1 ∙ b.2
-  | inr (inl less) ↦ absurd (twice routes one other a b same less once)
-  | inr (inr more) ↦ absurd (twice routes other one b a (sym same) more once)
-]
-  where
-    default : (xs : List RouteItem) (i : ℕ) (d e : RouteItem) → i < length xs → get_or xs i d ≡ get_or xs i e
-    default [] i d e inside = absurd (omega arith)
-    default (x ∷ xs) zero d e inside = refl
-    default (x ∷ xs) (suc i) d e inside = default xs i d e (omega arith)
+same_route = same_by_number (λ (route : RouteItem). route.number)
 
 contains_said : (routes : List StoredRoute) (route : StoredRoute) → Contains routes route → Contains (map said_route routes) (said_route route)
 contains_said routes route there = (
@@ -93,38 +65,9 @@ contains_said routes route there = (
 
 -- ---- by their names
 
-pub after : (a b : Name) → is_lt (name_cmp a b) ≡ true → eq_by_cmp name_cmp b a ≡ false
-after a b less = (eq_by_cmp_equiv name_cmp-total).symm b a ∙ not_equal (name_cmp a b) less
-  where
-    not_equal : (order : Ordering) → is_lt order ≡ true → is_eq order ≡ false
-    not_equal Less e = refl
-    not_equal Equal e = absurd (false≢true e)
-    not_equal Greater e = refl
-
-below_at : (name : Name) (routes : List RouteItem) (k : ℕ) (route : RouteItem) → below_all name_cmp name (ends_by_name routes) ≡ true → k < length routes
-    → get_or routes k route ≡ route → is_lt (name_cmp name route.name) ≡ true
-below_at name [] k route below inside is = absurd (omega arith)
-below_at name (first ∷ routes) zero route below inside is =
-    ap (λ (r : RouteItem). is_lt (name_cmp name r.name)) (sym is) ∙ (and_parts (is_lt (name_cmp name first.name)) (below_all name_cmp name (ends_by_name routes)) below).0
-below_at name (first ∷ routes) (suc k) route below inside is =
-    below_at name routes k route (and_parts (is_lt (name_cmp name first.name)) (below_all name_cmp name (ends_by_name routes)) below).1 (omega arith) is
-
-find_at : (routes : List RouteItem) (k : ℕ) (route : RouteItem) → is_sorted name_cmp (ends_by_name routes) ≡ true → k < length routes → get_or routes k route ≡ route
-    → find name_cmp route.name (ends_by_name routes) ≡ Some (ends_of route)
-find_at [] k route sorted inside is = absurd (omega arith)
-find_at (first ∷ routes) zero route sorted inside is =
-    subst (λ (r : RouteItem). find name_cmp r.name (ends_by_name (first ∷ routes)) ≡ Some (ends_of r)) is
-    (ap (λ b. cond b (Some (ends_of first)) (find name_cmp first.name (ends_by_name routes))) ((eq_by_cmp_equiv name_cmp-total).refl first.name))
-find_at (first ∷ routes) (suc k) route sorted inside is =
-    let parts = and_parts (below_all name_cmp first.name (ends_by_name routes)) (is_sorted name_cmp (ends_by_name routes)) sorted in
-    ap (λ b. cond b (Some (ends_of first)) (find name_cmp route.name (ends_by_name routes)))
-    (after first.name route.name (below_at first.name routes k route parts.0 (omega arith) is))
-    ∙ find_at routes k route parts.1 (omega arith) is
-
 named : (routes : List RouteItem) (route : RouteItem) → AreRoutes routes → Contains routes route → names.get (routes_of routes) route.name ≡ Some (ends_of route)
 named routes route are there =
-    let sorted : is_sorted name_cmp (ends_by_name routes) ≡ true = sorted_values (λ (r : RouteItem). r.name) ends_of routes ∙ are.in_order in
-    get-from_sorted name_cmp (ends_by_name routes) route.name (to_T (is_sorted name_cmp (ends_by_name routes)) sorted) ∙ find_at routes there.0 route sorted there.1 there.2
+    under_name (λ (r : RouteItem). (r.name, ends_of r)) routes route (sorted_values (λ (r : RouteItem). r.name) ends_of routes ∙ are.in_order) there
 
 -- ---- pieces
 

@@ -1,68 +1,30 @@
 -- The state that definitions make is lawful.
-use Rattle.std.proofs.Common.{◌≡◌, ◌<◌, ◌≤◌, ℕ, zero, suc, true, false, cond, Some, None, is_some, List, [], ◌∷◌, length, map, get_or, refl, sym, ap, subst, ◌∙◌, arith}
+use Rattle.std.proofs.Common.{◌≡◌, ◌<◌, ◌≤◌, ℕ, zero, suc, true, false, Some, is_some, List, [], ◌∷◌, length, map, get_or, refl, sym, ap, subst, ◌∙◌, arith}
 use Rattle.std.specs.Prelude.{Contains, ◌≢◌, ◌==◌, if◌then◌else◌}
-use Rattle.std.specs.List.{AllByRecursion}
-use Rattle.std.specs.Ordering.{eq_by_cmp}
-use Rattle.std.specs.Cmp.{Equal-is}
 use Rattle.std.specs.FinMap as names
-use Rattle.std.specs.FinMap.{entries-from_sorted, find, get-empty, get-from_sorted, is_sorted, len-empty, len-entries}
+use Rattle.std.specs.FinMap.{get-empty, get-from_sorted, is_sorted, len-empty}
 use Rattle.std.proofs.lemmas.Bool.{eqb-false, eqb-true, false≢true}
 use Rattle.std.proofs.lemmas.List.{length-map}
 use Rattle.std.proofs.lemmas.List.Elements.{All-contains, All-from_recursion}
-use Rattle.std.proofs.lemmas.Option.{none-some, same_Some}
 use Rattle.rs_facts.specs.Fact.{Name, Names, contains, name_cmp}
 use Rattle.rs_facts.specs.Query.{Piece, RouteEnds, Table}
 use Rattle.rs_facts.specs.WellFormed.{IsPieceOn}
-use Rattle.rs_machine.specs.declared.limits.TheConstants.{ALIGNMENTS, ROUTES, TABLES}
+use Rattle.rs_machine.specs.declared.limits.TheConstants.{ALIGNMENTS, INDEXES, ROUTES, TABLES}
 use Rattle.rs_machine.specs.Lawful as lawful
-use Rattle.rs_machine.specs.State.{has}
-use Rattle.rs_machine.proofs.NameOrder.{name_cmp-antisymmetric}
+use Rattle.rs_machine.specs.State.{RowText, has}
 use Rattle.rs_page_owners.specs.Counts.{times}
+use Rattle.rs_planning.specs.Basis.{IndexedColumn}
 use Rattle.rs_syntax.specs.Sound.{IsName}
 use Rattle.rs_syntax.specs.Tree.{QueryTree}
 use Rattle.rs_value.specs.Row.{Row, row_cmp}
-use Rattle.rs_catalog_pages.specs.Items.{AlignmentItem, CatalogueItems, PieceItem, RouteItem, TableItem, ViewItem}
-use Rattle.rs_catalog_meaning.specs.Meaning.{AreMeant, IsAlignment, IsPiece, IsTable, IsView, ends_of, named_piece, route_numbers, routes_of}
-use Rattle.rs_catalog_meaning.specs.Stating.{alignments_of, name_with, named_alignment, named_table, piece_of, state_of, tables_of}
+use Rattle.rs_catalog_pages.specs.Items.{AlignmentItem, CatalogueItems, IndexItem, PieceItem, RouteItem, TableItem, ViewItem}
+use Rattle.rs_catalog_meaning.specs.Meaning.{AreMeant, IsAlignment, IsIndex, IsPiece, IsTable, IsView, ends_of, named_piece, route_numbers, routes_of}
+use Rattle.rs_catalog_meaning.specs.Stating.{alignments_of, column_indexed, indexes_of, name_with, named_alignment, named_index, named_table, piece_of, state_of, tables_of}
 use Rattle.rs_catalog_meaning.proofs.Each.{each_of, each_said}
+use Rattle.rs_catalog_meaning.proofs.IndexLaws.{index_lawful, of_table}
 use Rattle.rs_catalog_meaning.proofs.NameOrder.{sorted_values, to_T}
 use Rattle.rs_catalog_meaning.proofs.RouteLaws.{same_route}
-
--- ---- what stands under the names of a list
-
-same_name : (a b : Name) → eq_by_cmp name_cmp a b ≡ true → a ≡ b
-same_name a b e = name_cmp-antisymmetric a b ((Equal-is (name_cmp a b)).0 e)
-
-module _ {X : Type 0} (P : Name → X → Type 0) where
-  pub found_so : (es : List (Name × X)) → AllByRecursion (λ e. P e.0 e.1) es → (name : Name) (x : X) → find name_cmp name es ≡ Some x → P name x
-  found_so [] all name x found = absurd (none-some x found)
-  found_so (e ∷ es) all name x found =
-      elim (eq_by_cmp name_cmp name e.0) as (λ b. eq_by_cmp name_cmp name e.0 ≡ b → cond b (Some e.1) (find name_cmp name es) ≡ Some x → P name x) [
-        | true ↦ λ same is. subst (λ n. P n x) (sym (same_name name e.0 same)) (subst (P e.0) (same_Some e.1 x is) all.0)
-        | false ↦ λ other is. found_so es all.1 name x is
-      ] refl found
-
-  pub each_so : (es : List (Name × X)) → is_sorted name_cmp es ≡ true → AllByRecursion (λ e. P e.0 e.1) es → lawful.Each (names.from_sorted {R = name_cmp} es) P
-  each_so es sorted all name x there = found_so es all name x (sym (get-from_sorted name_cmp es name (to_T (is_sorted name_cmp es) sorted)) ∙ there)
-
-no_such : {X : Type 0} (es : List (Name × X)) (name : Name) → AllByRecursion (λ e. e.0 ≢ name) es → find name_cmp name es ≡ None
-no_such [] name all = refl
-no_such (e ∷ es) name all =
-    elim (eq_by_cmp name_cmp name e.0) as (λ b. eq_by_cmp name_cmp name e.0 ≡ b → cond b (Some e.1) (find name_cmp name es) ≡ None) [
-      | true ↦ λ same. absurd (all.0 (sym (same_name name e.0 same)))
-      | false ↦ λ other. no_such es name all.1
-    ] refl
-
-pub len_sorted : {X : Type 0} (es : List (Name × X)) → is_sorted name_cmp es ≡ true → names.len (names.from_sorted {R = name_cmp} es) ≡ length es
-len_sorted es sorted = len-entries (names.from_sorted es) ∙ ap length (entries-from_sorted name_cmp es (to_T (is_sorted name_cmp es) sorted))
-
-few_sorted : {X Z : Type 0} (entry : Z → Name × X) (zs : List Z) (most : ℕ) → is_sorted name_cmp (map entry zs) ≡ true → length zs ≤ most
-    → names.len (names.from_sorted {R = name_cmp} (map entry zs)) ≤ most
-few_sorted entry zs most sorted few = omega (arith, len_sorted (map entry zs) sorted, length-map zs entry)
-
--- nothing stands in an empty map
-none_so : {X : Type 0} (P : Name → X → Type 0) → lawful.Each (names.empty {X = X} {R = name_cmp}) P
-none_so P name x there = absurd (none-some x (sym (get-empty name_cmp name) ∙ there))
+use Rattle.rs_catalog_meaning.proofs.UnderNames.{each_so, few_sorted, no_such, none_so, under_name}
 
 -- ---- routes by their numbers
 
@@ -132,6 +94,9 @@ module _ (catalogue : CatalogueItems) (are : AreMeant catalogue) where
   alignments_sorted =
       sorted_values (λ (alignment : AlignmentItem). alignment.name) (λ alignment. (named_alignment catalogue.routes alignment).1) catalogue.alignments ∙ are.alignments.in_order
 
+  indexes_sorted : is_sorted name_cmp (map (named_index catalogue.tables) catalogue.indexes) ≡ true
+  indexes_sorted = sorted_values (λ (index : IndexItem). index.name) (column_indexed catalogue.tables) catalogue.indexes ∙ are.indexes.in_order
+
   each_route : lawful.Each (routes_of catalogue.routes) lawful.IsRoute
   each_route =
       each_so lawful.IsRoute (map (λ (route : RouteItem). (route.name, ends_of route)) catalogue.routes) routes_sorted
@@ -151,6 +116,13 @@ module _ (catalogue : CatalogueItems) (are : AreMeant catalogue) where
       (each_of (IsAlignment catalogue.routes) (λ (alignment : AlignmentItem). lawful.IsAlignment (routes_of catalogue.routes) alignment.name (map (piece_of catalogue.routes) alignment.pieces))
       (λ alignment. alignment_lawful catalogue.routes alignment are.routes.numbers_once) catalogue.alignments are.alignments.each))
 
+  each_index : lawful.Each (indexes_of catalogue.tables catalogue.indexes) (lawful.IsIndex (tables_of catalogue.tables))
+  each_index =
+      each_so (lawful.IsIndex (tables_of catalogue.tables)) (map (named_index catalogue.tables) catalogue.indexes) indexes_sorted
+      (each_said (named_index catalogue.tables) (λ (e : Name × IndexedColumn). lawful.IsIndex (tables_of catalogue.tables) e.0 e.1) catalogue.indexes
+      (each_of (IsIndex catalogue.tables) (λ (index : IndexItem). lawful.IsIndex (tables_of catalogue.tables) index.name (column_indexed catalogue.tables index))
+      (λ index. index_lawful catalogue.tables index tables_sorted) catalogue.indexes are.indexes.each))
+
   pub lawful_state : lawful.IsLawful (state_of catalogue)
   lawful_state = record {
     routes = each_route;
@@ -165,10 +137,17 @@ module _ (catalogue : CatalogueItems) (are : AreMeant catalogue) where
       before = λ name other query there inside y known. absurd (none_so (λ n q. ⊥) name query there);
     };
     alignments = each_alignment;
+    indexes = each_index;
+    cursors = λ session. record {
+      named = none_so (λ name lines. IsName name);
+      few = omega (arith, len-empty name_cmp (List RowText));
+      none_beyond = λ beyond. len-empty name_cmp (List RowText);
+    };
     limits = record {
       routes = few_sorted (λ (route : RouteItem). (route.name, ends_of route)) catalogue.routes ROUTES routes_sorted are.routes.few;
       referents = λ route. omega (arith, len-empty name_cmp ℕ);
       tables = few_sorted named_table catalogue.tables TABLES tables_sorted are.tables.few;
+      indexes = few_sorted (named_index catalogue.tables) catalogue.indexes INDEXES indexes_sorted are.indexes.few;
       views = omega (arith, len-empty name_cmp QueryTree);
       alignments = few_sorted (named_alignment catalogue.routes) catalogue.alignments ALIGNMENTS alignments_sorted are.alignments.few;
       changes = omega arith;
@@ -180,3 +159,10 @@ module _ (catalogue : CatalogueItems) (are : AreMeant catalogue) where
       let is = All-contains (IsView catalogue.tables) catalogue.views view (All-from_recursion (IsView catalogue.tables) catalogue.views are.views.each) there in
       ap is_some (get-from_sorted name_cmp (map named_table catalogue.tables) view.name (to_T (is_sorted name_cmp (map named_table catalogue.tables)) tables_sorted)
       ∙ no_such (map named_table catalogue.tables) view.name (each_said named_table (λ (e : Name × Table). e.0 ≢ view.name) catalogue.tables is.no_table))
+
+  pub index_there : (index : IndexItem) (table : TableItem) → ((n : ℕ) → times (map (λ (t : TableItem). t.number) catalogue.tables) n ≤ 1) → Contains catalogue.indexes index
+      → Contains catalogue.tables table → table.number ≡ index.table
+      → names.get (state_of catalogue).indexes index.name ≡ Some (record { table = table.name; column = index.column })
+  index_there index table once there of number =
+      let is = All-contains (IsIndex catalogue.tables) catalogue.indexes index (All-from_recursion (IsIndex catalogue.tables) catalogue.indexes are.indexes.each) there in
+      under_name (named_index catalogue.tables) catalogue.indexes index indexes_sorted there ∙ ap Some (of_table catalogue.tables index table is once of number)

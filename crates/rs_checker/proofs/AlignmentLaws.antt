@@ -19,7 +19,7 @@ use Rattle.rs_machine.specs.State.{has}
 use Rattle.rs_machine.specs.Checks.{◌>>=◌, unless, found, piece_lies, piece_of, piece_checked, pieces_checked}
 use Rattle.rs_machine.specs.Checking as machine
 use Rattle.rs_machine.proofs.PieceLaws.{lies_on}
-use Rattle.rs_catalog.specs.Definitions.{RouteItem, Definitions, routes_of, pieces_of, state_from}
+use Rattle.rs_catalog.specs.Definitions.{RouteItem, Definitions, routes_of, pieces_of, state_from, Rest}
 use Rattle.rs_catalog.proofs.StateLaws.{get-routes_of}
 use Rattle.rs_checker.specs.Nodes.{alignments_there}
 
@@ -33,10 +33,10 @@ aligned_append definitions (x ∷ xs) ys =
       | false ↦ refl
     ]
 
-pub aligned_there : (definitions : Definitions) (on : ℕ → Names ℕ) (spans_on : ℕ → ℕ → List Stretch) (changes : ℕ) (xs : List Name)
-    → machine.alignments_known (state_from definitions on spans_on changes) xs ≡ alignments_there definitions xs
-aligned_there definitions on spans_on changes [] = refl
-aligned_there definitions on spans_on changes (x ∷ xs) = ap (λ r. unless (has definitions.alignments x) NoSuchName >>= (λ _. r)) (aligned_there definitions on spans_on changes xs)
+pub aligned_there : (definitions : Definitions) (on : ℕ → Names ℕ) (spans_on : ℕ → ℕ → List Stretch) (rest : Rest) (xs : List Name)
+    → machine.alignments_known (state_from definitions on spans_on rest) xs ≡ alignments_there definitions xs
+aligned_there definitions on spans_on rest [] = refl
+aligned_there definitions on spans_on rest (x ∷ xs) = ap (λ r. unless (has definitions.alignments x) NoSuchName >>= (λ _. r)) (aligned_there definitions on spans_on rest xs)
 
 -- ---- routes
 

@@ -9,3 +9,4 @@ pub mod NodeLaws
 pub mod TableLaws
 pub mod PassLaws
 mod AlignmentLaws
+pub mod NumberLaws

@@ -15,7 +15,7 @@ use Rattle.rs_machine.specs.State.{State, has, world_of}
 use Rattle.rs_machine.specs.Checks.{◌>>=◌, unless, found, alignment_named, span_on}
 use Rattle.rs_machine.specs.Checking as machine
 use Rattle.rs_machine.specs.Checking.{nodes_checked}
-use Rattle.rs_catalog.specs.Definitions.{Definitions, state_from, referents_from, on_numbered}
+use Rattle.rs_catalog.specs.Definitions.{Definitions, state_from, referents_from, on_numbered, Rest}
 use Rattle.rs_catalog.proofs.StateLaws.{get-routes_of, get-views_of, get-tables_from}
 use Rattle.rs_checker.specs.declared.checked.Checked.{Checked}
 use Rattle.rs_checker.specs.declared.node.UnaryOperator.{UnaryOperator}
@@ -41,12 +41,12 @@ same_some : {X Y : Type 0} (f : X → Y) (o : Option X) → is_some (option_map 
 same_some f None = refl
 same_some f (Some x) = refl
 
-pub known_there : (definitions : Definitions) (on : ℕ → Names ℕ) (spans_on : ℕ → ℕ → List Stretch) (changes : ℕ) (xs : List Name)
-    → machine.names_known (state_from definitions on spans_on changes) xs ≡ names_there definitions xs
-known_there definitions on spans_on changes [] = refl
-known_there definitions on spans_on changes (x ∷ xs) = λ i.
+pub known_there : (definitions : Definitions) (on : ℕ → Names ℕ) (spans_on : ℕ → ℕ → List Stretch) (rest : Rest) (xs : List Name)
+    → machine.names_known (state_from definitions on spans_on rest) xs ≡ names_there definitions xs
+known_there definitions on spans_on rest [] = refl
+known_there definitions on spans_on rest (x ∷ xs) = λ i.
     unless ((ap is_some (get-tables_from definitions spans_on x) ∙ same_some _ (names.get definitions.tables x)) i || (ap is_some (get-views_of definitions x) ∙ same_some _ (names.get definitions.views x)) i) NoSuchName
-    >>= (λ _. known_there definitions on spans_on changes xs i)
+    >>= (λ _. known_there definitions on spans_on rest xs i)
 
 -- ---- windows
 
@@ -60,12 +60,12 @@ spans route (Err refusal) b = refl
 spans route (Ok x) (Err refusal) = refl
 spans route (Ok x) (Ok y) = elim (nat_lt x y) as (λ test. ((unless test EmptySpan >>= (λ _. Ok (x, y))) >>= (λ (span : ℕ × ℕ). Ok (between route span.0 span.1))) ≡ (unless test EmptySpan >>= (λ _. Ok (between route x y)))) [ true ↦ refl | false ↦ refl ]
 
-pub window_same : (definitions : Definitions) (on : ℕ → Names ℕ) (spans_on : ℕ → ℕ → List Stretch) (changes : ℕ) (window : WindowTree)
-    → machine.window_checked (state_from definitions on spans_on changes) window ≡ located_window definitions on window
+pub window_same : (definitions : Definitions) (on : ℕ → Names ℕ) (spans_on : ℕ → ℕ → List Stretch) (rest : Rest) (window : WindowTree)
+    → machine.window_checked (state_from definitions on spans_on rest) window ≡ located_window definitions on window
 unfolding referents_from
-window_same definitions on spans_on changes (whole_route route) = ap (λ o. found o NoSuchRoute >>= (λ _. Ok (on_route route))) (get-routes_of definitions route) ∙ same_found _ (names.get definitions.routes route) (on_route route)
-window_same definitions on spans_on changes (part_of_route route from to) =
-    ap (λ o. found o NoSuchRoute >>= (λ ends. span_on (state_from definitions on spans_on changes) route ends from to >>= (λ (span : ℕ × ℕ). Ok (between route span.0 span.1)))) (get-routes_of definitions route)
+window_same definitions on spans_on rest (whole_route route) = ap (λ o. found o NoSuchRoute >>= (λ _. Ok (on_route route))) (get-routes_of definitions route) ∙ same_found _ (names.get definitions.routes route) (on_route route)
+window_same definitions on spans_on rest (part_of_route route from to) =
+    ap (λ o. found o NoSuchRoute >>= (λ ends. span_on (state_from definitions on spans_on rest) route ends from to >>= (λ (span : ℕ × ℕ). Ok (between route span.0 span.1)))) (get-routes_of definitions route)
     ∙ elim (names.get definitions.routes route) as (λ o. (found (option_map (λ item. item.ends) o) NoSuchRoute >>= (λ ends.
     (located ends.start ends.finish (names.entries (on_numbered names.empty on o)) from >>= (λ a. located ends.start ends.finish (names.entries (on_numbered names.empty on o)) to >>= (λ b. unless (nat_lt a b) EmptySpan >>= (λ _. Ok (a, b)))))
     >>= (λ (span : ℕ × ℕ). Ok (between route span.0 span.1))))
@@ -92,8 +92,8 @@ module _ (definitions : Definitions) (on : ℕ → Names ℕ) where
   one_checked state (unary.Window window) a = refl
   one_checked state (unary.Transform name) a = refl
 
-  one_asked : (spans_on : ℕ → ℕ → List Stretch) (changes : ℕ) (operator : UnaryOperator) (operand : Checked) → Stands (world_of (state_from definitions on spans_on changes)) operand
-      → asks_one (state_from definitions on spans_on changes) operator (query_of operand.query) ≡ unary_step definitions on operator (seen_columns operand) (query_of operand.query)
+  one_asked : (spans_on : ℕ → ℕ → List Stretch) (rest : Rest) (operator : UnaryOperator) (operand : Checked) → Stands (world_of (state_from definitions on spans_on rest)) operand
+      → asks_one (state_from definitions on spans_on rest) operator (query_of operand.query) ≡ unary_step definitions on operator (seen_columns operand) (query_of operand.query)
   one_asked s c (unary.Where condition) operand h = ap (λ columns. filter_step columns (query_of operand.query) (condition_tree condition.now)) (sym h.columns)
   one_asked s c (unary.Dissolve names) operand h = ap (λ columns. dissolve_step columns (query_of operand.query) (map (λ name. name.bytes) names.now)) (sym h.columns)
   one_asked s c (unary.Rename from to) operand h = ap (λ columns. rename_step columns (query_of operand.query) from.now.bytes to.now.bytes) (sym h.columns)
@@ -112,7 +112,7 @@ module _ (definitions : Definitions) (on : ℕ → Names ℕ) where
       abbrev expected : Result Query Refusal
       expected = unary_step definitions on operator (seen_columns operand) (query_of operand.query)
 
-      asked : (spans_on : ℕ → ℕ → List Stretch) (changes : ℕ) → nodes_checked (state_from definitions on spans_on changes) node ≡ expected
+      asked : (spans_on : ℕ → ℕ → List Stretch) (rest : Rest) → nodes_checked (state_from definitions on spans_on rest) node ≡ expected
       asked s c =
           let state = state_from definitions on s c in
           ap (nodes_checked state) is ∙ one_checked state operator a ∙ ap (λ r. r >>= asks_one state operator) ((at.each s c).is) ∙ one_asked s c operator operand ((at.each s c).stands)
@@ -144,17 +144,17 @@ module _ (definitions : Definitions) (on : ℕ → Names ℕ) where
   cover_asks (Ok x) kinds query = refl
   cover_asks (Err refusal) kinds query = refl
 
-  two_asked : (spans_on : ℕ → ℕ → List Stretch) (changes : ℕ) (operator : BinaryOperator) (one other : Checked)
-      → Stands (world_of (state_from definitions on spans_on changes)) one → Stands (world_of (state_from definitions on spans_on changes)) other
-      → asks_two (state_from definitions on spans_on changes) operator (query_of one.query) (query_of other.query) ≡ binary_step operator one.kind other.kind (seen_columns one) (seen_columns other) (query_of one.query) (query_of other.query)
+  two_asked : (spans_on : ℕ → ℕ → List Stretch) (rest : Rest) (operator : BinaryOperator) (one other : Checked)
+      → Stands (world_of (state_from definitions on spans_on rest)) one → Stands (world_of (state_from definitions on spans_on rest)) other
+      → asks_two (state_from definitions on spans_on rest) operator (query_of one.query) (query_of other.query) ≡ binary_step operator one.kind other.kind (seen_columns one) (seen_columns other) (query_of one.query) (query_of other.query)
   two_asked s c binary.Overlay one other h k = λ i. overlay_step (sym h.columns i) (sym k.columns i) (query_of one.query) (query_of other.query)
   two_asked s c binary.Cover one other h k = cover_asks _ _ _ ∙ (λ i. cover_step (sym h.kind i) (sym k.kind i) (sym h.columns i) (sym k.columns i) (query_of one.query) (query_of other.query))
   two_asked s c binary.Merge one other h k = λ i. merge_step (sym h.kind i) (sym k.kind i) (sym h.columns i) (sym k.columns i) (query_of one.query) (query_of other.query)
   two_asked s c binary.Minus one other h k = λ i. minus_step (sym h.kind i) (sym k.kind i) (sym h.columns i) (sym k.columns i) (query_of one.query) (query_of other.query)
 
   module _ (node a b : QueryTree) (operator : BinaryOperator) (is : node ≡ binary_tree operator a b) where
-    opens : (spans_on : ℕ → ℕ → List Stretch) (changes : ℕ) → nodes_checked (state_from definitions on spans_on changes) node
-        ≡ (nodes_checked (state_from definitions on spans_on changes) a >>= (λ x. nodes_checked (state_from definitions on spans_on changes) b >>= (λ y. asks_two (state_from definitions on spans_on changes) operator x y)))
+    opens : (spans_on : ℕ → ℕ → List Stretch) (rest : Rest) → nodes_checked (state_from definitions on spans_on rest) node
+        ≡ (nodes_checked (state_from definitions on spans_on rest) a >>= (λ x. nodes_checked (state_from definitions on spans_on rest) b >>= (λ y. asks_two (state_from definitions on spans_on rest) operator x y)))
     opens s c = ap (nodes_checked (state_from definitions on s c)) is ∙ two_checked (state_from definitions on s c) operator a b
 
     pub first_inside : (refusal : Refusal) → AreRefused definitions on a refusal → AreRefused definitions on node refusal
@@ -165,8 +165,8 @@ module _ (definitions : Definitions) (on : ℕ → Names ℕ) where
     }
 
     module _ (one : Checked) (at : AreNodes definitions on a one) where
-      after_first : (spans_on : ℕ → ℕ → List Stretch) (changes : ℕ) → nodes_checked (state_from definitions on spans_on changes) node
-          ≡ (nodes_checked (state_from definitions on spans_on changes) b >>= (λ y. asks_two (state_from definitions on spans_on changes) operator (query_of one.query) y))
+      after_first : (spans_on : ℕ → ℕ → List Stretch) (rest : Rest) → nodes_checked (state_from definitions on spans_on rest) node
+          ≡ (nodes_checked (state_from definitions on spans_on rest) b >>= (λ y. asks_two (state_from definitions on spans_on rest) operator (query_of one.query) y))
       after_first s c =
           let state = state_from definitions on s c in
           opens s c ∙ ap (λ r. r >>= (λ x. nodes_checked state b >>= (λ y. asks_two state operator x y))) ((at.each s c).is)
@@ -180,7 +180,7 @@ module _ (definitions : Definitions) (on : ℕ → Names ℕ) where
         abbrev both_expected : Result Query Refusal
         both_expected = binary_step operator one.kind other.kind (seen_columns one) (seen_columns other) (query_of one.query) (query_of other.query)
 
-        both_asked : (spans_on : ℕ → ℕ → List Stretch) (changes : ℕ) → nodes_checked (state_from definitions on spans_on changes) node ≡ both_expected
+        both_asked : (spans_on : ℕ → ℕ → List Stretch) (rest : Rest) → nodes_checked (state_from definitions on spans_on rest) node ≡ both_expected
         both_asked s c =
             let state = state_from definitions on s c in
             after_first s c ∙ ap (λ r. r >>= (λ y. asks_two state operator (query_of one.query) y)) ((at_other.each s c).is) ∙ two_asked s c operator one other ((at.each s c).stands) ((at_other.each s c).stands)

@@ -2,7 +2,6 @@
 use Rattle.std.proofs.Common.{◌≡◌, ℕ, ◌≤◌, List, length, Some, None, Ok, sym, ap, subst, ◌∙◌}
 use Rattle.std.specs.Option.{option_map}
 use Rattle.std.specs.FinMap as names
-use Rattle.arrayvec.specs.ArrayString.{ArrayString}
 use Rattle.rs_refusal.specs.declared.refusal.Refusal.TheVariants.{NoSuchName}
 use Rattle.rs_value.specs.declared.column.TheConstants.{COLUMNS}
 use Rattle.rs_facts.specs.Fact.{Name, Names}
@@ -15,6 +14,7 @@ use Rattle.rs_machine.specs.Checks.{◌>>=◌, found}
 use Rattle.rs_catalog.specs.Definitions.{TableItem, Definitions, state_from, tables_from, table_from}
 use Rattle.rs_catalog.proofs.StateLaws.{get-tables_from}
 use Rattle.rs_checker.specs.declared.checked.Checked.{Checked}
+use Rattle.rs_checker.specs.declared.checked.CheckedTable.{CheckedTable}
 use Rattle.rs_checker.specs.CheckedView.{query_of, query_step}
 use Rattle.rs_checker.specs.declared.checked.CheckedQuery as code
 use Rattle.rs_checker.specs.declared.checked.CheckedQuery.{fold-roll-CheckedQuery}
@@ -23,13 +23,13 @@ use Rattle.rs_checker.specs.declared.checked.CheckedQuery.TheOpen.{CheckedQuery-
 use Rattle.rs_checker.specs.Steps.{seen_columns}
 use Rattle.rs_checker.specs.Nodes.{AreNodes, AreRefused}
 
-pub table_is : (name : ArrayString) → query_of (code.Table name) ≡ table_rows name.bytes
-table_is name = ap query_of (sym (rolls-Table name)) ∙ fold-roll-CheckedQuery Query query_step (CheckedQuery-F.Table name)
+pub table_is : (table : CheckedTable) → query_of (code.Table table) ≡ table_rows table.name.bytes
+table_is table = ap query_of (sym (rolls-Table table)) ∙ fold-roll-CheckedQuery Query query_step (CheckedQuery-F.Table table)
 
 module _ (definitions : Definitions) (on : ℕ → Names ℕ) (name : Name) where
   pub no_table : names.get definitions.tables name ≡ None → AreRefused definitions on (named name) NoSuchName
   no_table none = record {
-    each = λ spans_on changes.
+    each = λ spans_on rest.
         ap (λ o. found o NoSuchName >>= (λ _. Ok (table_rows name))) (get-tables_from definitions spans_on name ∙ ap (option_map (table_from definitions.routes spans_on)) none);
   }
 
@@ -40,8 +40,8 @@ module _ (definitions : Definitions) (on : ℕ → Names ℕ) (name : Name) wher
 
     pub table_made : AreNodes definitions on (named name) made
     table_made = record {
-      each = λ spans_on changes.
-          let world = world_of (state_from definitions on spans_on changes) in
+      each = λ spans_on rest.
+          let world = world_of (state_from definitions on spans_on rest) in
           record {
             is = ap (λ o. found o NoSuchName >>= (λ _. Ok (table_rows name))) (found_there spans_on) ∙ ap Ok (sym query);
             stands = record {

@@ -1,4 +1,5 @@
 pub mod CheckedView
+pub mod Numbers
 pub mod Checks
 pub mod Inner
 pub mod NodeView

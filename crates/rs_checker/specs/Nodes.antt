@@ -12,7 +12,7 @@ use Rattle.rs_syntax.specs.Tree.{WindowTree, whole_route, part_of_route, QueryTr
 use Rattle.rs_machine.specs.State.{has}
 use Rattle.rs_machine.specs.Checks.{◌>>=◌, unless, found}
 use Rattle.rs_machine.specs.Checking.{nodes_checked}
-use Rattle.rs_catalog.specs.Definitions.{Definitions, routes_of, state_from}
+use Rattle.rs_catalog.specs.Definitions.{Definitions, routes_of, state_from, Rest}
 use Rattle.rs_checker.specs.declared.checked.Checked.{Checked}
 use Rattle.rs_checker.specs.declared.node.UnaryOperator.{UnaryOperator}
 use Rattle.rs_checker.specs.declared.node.UnaryOperator.TheVariants as unary
@@ -69,8 +69,8 @@ unary_step definitions on (unary.Transform name) columns query = transform_step 
 
 -- in every such state it is what the machine makes of the query, its views opened
 pub record AreNodes (definitions : Definitions) (on : ℕ → Names ℕ) (query : QueryTree) (made : Checked) : Type 0 where
-  pub each : (spans_on : ℕ → ℕ → List Stretch) (changes : ℕ) → IsNode (state_from definitions on spans_on changes) query made
+  pub each : (spans_on : ℕ → ℕ → List Stretch) (rest : Rest) → IsNode (state_from definitions on spans_on rest) query made
 
 -- in every such state the machine refuses the query so
 pub record AreRefused (definitions : Definitions) (on : ℕ → Names ℕ) (query : QueryTree) (refusal : Refusal) : Type 0 where
-  pub each : (spans_on : ℕ → ℕ → List Stretch) (changes : ℕ) → nodes_checked (state_from definitions on spans_on changes) query ≡ Err refusal
+  pub each : (spans_on : ℕ → ℕ → List Stretch) (rest : Rest) → nodes_checked (state_from definitions on spans_on rest) query ≡ Err refusal

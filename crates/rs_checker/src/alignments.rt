@@ -1,15 +1,18 @@
 //! Alignments: the pieces for which a name stands in TRANSFORM, and the checks of the pieces of one that is defined.
 
-ghost use Rattle.std.specs.Prelude.{◌≡◌, ◌⊎◌, map, IfOk, IfErr, OnOk, Ok, Err};
+ghost use Rattle.std.specs.Prelude.{◌≡◌, ◌⊎◌, true, map, flat_map, IfOk, IfErr, OnOk, Ok, Err};
 ghost use Rattle.rs_facts.specs.WellFormed.{IsPieceOn, ArePiecesOn};
 ghost use Rattle.rs_syntax.specs.View.{piece_tree};
+ghost use Rattle.rs_planning.specs.Numbered.{numbered_route};
+ghost use Rattle.rs_machine.specs.State.{has};
 ghost use Rattle.rs_machine.specs.Checks.{is_on_route, piece_lies, piece_checked, pieces_checked, piece_of};
 ghost use Rattle.rs_catalog.specs.Definitions.{routes_of, pieces_of};
-ghost use Rattle.rs_checker.specs.CheckedView.{query_of};
+ghost use Rattle.rs_checker.specs.CheckedView.{query_of, named_in, located_pieces, named_by_piece};
+ghost use Rattle.rs_checker.specs.Numbers.{IsNumberedIn, AreNumberedIn};
 ghost use Rattle.rs_checker.specs.Steps.{IsStep, checked_of};
 ghost use Rattle.rs_checker.specs.Nodes.{transform_step, StandsAmong};
 
-use crate::checked::{Checked, CheckedQuery};
+use crate::checked::{Checked, CheckedQuery, LocatedPiece};
 use crate::operand::CheckedOperand;
 use rs_catalog::{Catalog, RouteEntry};
 use rs_refusal::Refusal;
@@ -26,12 +29,13 @@ pub fn transform(
 ) -> Result<Checked, Refusal>
     ensures ok { IfOk result (λ made. IsStep (transform_step catalog.now (query_of operand.query.value) name.now.bytes)
         (λ world. StandsAmong catalog.now world (checked_of operand)) made) }
+    ensures numbers { IfOk result (λ made. AreNumberedIn catalog.now (named_in operand.query.value) → AreNumberedIn catalog.now (named_in made.query)) }
     ensures refused { IfErr result (λ refusal. (refusal ≡ Refusal.OutOfMemory)
         ⊎ (transform_step catalog.now (query_of operand.query.value) name.now.bytes ≡ Err refusal)) }
 {
     let alignment = catalog.named_alignment(name)?;
     catalog.stand();
-    let pieces = copied(alloc, alignment.pieces())?;
+    let pieces = located(alloc, catalog, alignment.pieces())?;
     Ok(Checked {
         query: CheckedQuery::Transform(operand.query, *name, pieces),
         kind: operand.kind,
@@ -89,11 +93,43 @@ fn is_on(route: RouteEntry, thousandth: u32) -> bool
     ends.start().thousandths() <= thousandth && thousandth <= ends.finish().thousandths()
 }
 
-// The same pieces in a list of their own.
-fn copied(alloc: Global, pieces: &[Piece]) -> Result<Vec<Piece>, AllocError>
-    ensures { IfOk result (λ copies. copies.items ≡ pieces.now) }
+// The pieces with the numbers of their routes, which are there.
+fn located(
+    alloc: Global,
+    catalog: &Catalog,
+    pieces: &[Piece],
+) -> Result<Vec<LocatedPiece>, AllocError>
+    requires { ArePiecesOn (routes_of catalog.now) (pieces_of pieces.now) }
+    ensures same { IfOk result (λ located. located_pieces located.items ≡ pieces_of pieces.now) }
+    ensures numbered { IfOk result (λ located. AreNumberedIn catalog.now (flat_map named_by_piece located.items)) }
 {
-    let mut copies = Vec::with_capacity(alloc, pieces.len())?;
-    copies.extend_from_slice(pieces)?;
-    Ok(copies)
+    let mut located = Vec::with_capacity(alloc, pieces.len())?;
+    for piece in pieces {
+        located.push(located_piece(catalog, piece))?;
+    }
+    Ok(located)
+}
+
+// A piece with the numbers of its routes, which are there.
+fn located_piece(catalog: &Catalog, piece: &Piece) -> LocatedPiece
+    requires { IsPieceOn (routes_of catalog.now) (piece_of (piece_tree piece.now)) }
+    ensures same { result.piece ≡ piece.now }
+    ensures numbered { AreNumberedIn catalog.now (named_by_piece result) }
+{
+    LocatedPiece {
+        piece: *piece,
+        from_number: number_of(catalog, &piece.from_route),
+        onto_number: number_of(catalog, &piece.onto_route),
+    }
+}
+
+// The number of a route that is there.
+fn number_of(catalog: &Catalog, name: &Name) -> u32
+    requires { has (routes_of catalog.now) name.now.bytes ≡ true }
+    ensures { IsNumberedIn catalog.now (numbered_route name.now.bytes result) }
+{
+    match catalog.route(name) {
+        Some(route) => route.number(),
+        None => unreachable!(),
+    }
 }

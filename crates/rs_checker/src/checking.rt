@@ -3,22 +3,23 @@
 //!
 //! It promises what the machine makes of the query in every state of these definitions and referents.
 
-ghost use Rattle.std.specs.Prelude.{◌≡◌, ◌⊎◌, ℕ, List, [], ◌∷◌, IfOk, IfErr, Ok, Err};
+ghost use Rattle.std.specs.Prelude.{◌≡◌, ◌⊎◌, ℕ, List, [], ◌∷◌, ◌++◌, IfOk, IfErr, Ok, Err};
 ghost use Rattle.rs_facts.specs.Fact.{Names};
 ghost use Rattle.rs_facts.specs.Runs.{Stretch};
 ghost use Rattle.rs_syntax.specs.QueryView.{query_tree};
 ghost use Rattle.rs_syntax.specs.Tree.{named};
 ghost use Rattle.rs_machine.specs.Checking as machine;
 ghost use Rattle.rs_machine.specs.Opening.{names_in, alignments_in, opened_times};
-ghost use Rattle.rs_catalog.specs.Definitions.{state_from, views_of};
+ghost use Rattle.rs_catalog.specs.Definitions.{state_from, views_of, Rest};
 ghost use Rattle.rs_catalog.specs.Referents.{referents_on};
 ghost use Rattle.rs_checker.specs.Checks.{IsChecked, PassesFirst};
-ghost use Rattle.rs_checker.specs.CheckedView.{query_of};
+ghost use Rattle.rs_checker.specs.CheckedView.{query_of, named_in};
+ghost use Rattle.rs_checker.specs.Numbers.{AreNumberedIn};
 ghost use Rattle.rs_checker.specs.Steps.{IsStep, Stands, checked_of, seen_columns, binary_step};
 ghost use Rattle.rs_checker.specs.Nodes.{names_there, alignments_there, unary_step, StandsAmong, AreNodes, AreRefused};
 
 use crate::alignments::transform;
-use crate::checked::{Checked, CheckedQuery, Columns};
+use crate::checked::{Checked, CheckedQuery, CheckedTable, Columns};
 use crate::columns::joined;
 use crate::node::{BinaryOperator, Node, UnaryOperator, top_node};
 use crate::operand::{CheckedOperand, boxed};
@@ -34,17 +35,18 @@ use std::alloc::Global;
 /// The checked query, in three passes: 21 for each name that is no table's and no view's, and then for each name after
 /// TRANSFORM that is no alignment's, both from the left; 27 where the query with its views opened is too large; then what
 /// each node asks for, operands first and from the left, a view as its query in its place. Positions of windows are
-/// located by the referents given. Only memory may be wanting beside, in the third pass alone: the first two take none.
+/// located by the referents given. Tables and routes are there by the numbers that the catalogue has for them. Only memory may be wanting beside, in the third pass alone: the first two take none.
 pub fn check(
     alloc: Global,
     catalog: &Catalog,
     referents: &RouteReferents,
     query: &Query,
 ) -> Result<Checked, Refusal>
-    ensures ok { IfOk result (λ checked. (spans_on : ℕ → ℕ → List Stretch) (changes : ℕ)
-        → IsChecked (state_from catalog.now (referents_on referents.now) spans_on changes) (query_tree query.now) checked) }
-    ensures refused { IfErr result (λ refusal. (refusal ≡ Refusal.OutOfMemory) ⊎ ((spans_on : ℕ → ℕ → List Stretch) (changes : ℕ)
-        → machine.checked (state_from catalog.now (referents_on referents.now) spans_on changes) (query_tree query.now) ≡ Err refusal)) }
+    ensures ok { IfOk result (λ checked. (spans_on : ℕ → ℕ → List Stretch) (rest : Rest)
+        → IsChecked (state_from catalog.now (referents_on referents.now) spans_on rest) (query_tree query.now) checked) }
+    ensures numbers { IfOk result (λ made. AreNumberedIn catalog.now (named_in made.query)) }
+    ensures refused { IfErr result (λ refusal. (refusal ≡ Refusal.OutOfMemory) ⊎ ((spans_on : ℕ → ℕ → List Stretch) (rest : Rest)
+        → machine.checked (state_from catalog.now (referents_on referents.now) spans_on rest) (query_tree query.now) ≡ Err refusal)) }
     ensures wanting { IfErr result (λ refusal. refusal ≡ Refusal.OutOfMemory → PassesFirst catalog.now (query_tree query.now)) }
 {
     names_known(catalog, query)?;
@@ -119,6 +121,7 @@ fn nodes(
     openings: usize,
 ) -> Result<Checked, Refusal>
     ensures ok { IfOk result (λ made. AreNodes catalog.now (referents_on referents.now) (opened_times openings (views_of catalog.now) (query_tree query.now)) made) }
+    ensures numbers { IfOk result (λ made. AreNumberedIn catalog.now (named_in made.query)) }
     ensures refused { IfErr result (λ refusal. (refusal ≡ Refusal.OutOfMemory)
         ⊎ AreRefused catalog.now (referents_on referents.now) (opened_times openings (views_of catalog.now) (query_tree query.now)) refusal) }
 {
@@ -146,6 +149,7 @@ fn boxed_nodes(
     openings: usize,
 ) -> Result<CheckedOperand, Refusal>
     ensures ok { IfOk result (λ made. AreNodes catalog.now (referents_on referents.now) (opened_times openings (views_of catalog.now) (query_tree query.now)) (checked_of made)) }
+    ensures numbers { IfOk result (λ made. AreNumberedIn catalog.now (named_in made.query.value)) }
     ensures refused { IfErr result (λ refusal. (refusal ≡ Refusal.OutOfMemory)
         ⊎ AreRefused catalog.now (referents_on referents.now) (opened_times openings (views_of catalog.now) (query_tree query.now)) refusal) }
 {
@@ -162,6 +166,7 @@ fn apply_unary(
 ) -> Result<Checked, Refusal>
     ensures ok { IfOk result (λ made. IsStep (unary_step catalog.now (referents_on referents.now) operator.entry (seen_columns (checked_of operand)) (query_of operand.query.value))
         (λ world. StandsAmong catalog.now world (checked_of operand)) made) }
+    ensures numbers { IfOk result (λ made. AreNumberedIn catalog.now (named_in operand.query.value) → AreNumberedIn catalog.now (named_in made.query)) }
     ensures refused { IfErr result (λ refusal. (refusal ≡ Refusal.OutOfMemory)
         ⊎ (unary_step catalog.now (referents_on referents.now) operator.entry (seen_columns (checked_of operand)) (query_of operand.query.value) ≡ Err refusal)) }
 {
@@ -182,6 +187,7 @@ fn apply_binary(
 ) -> Result<Checked, Refusal>
     ensures ok { IfOk result (λ made. IsStep (binary_step operator left.kind right.kind (seen_columns (checked_of left)) (seen_columns (checked_of right)) (query_of left.query.value) (query_of right.query.value))
         (λ world. Stands world (checked_of left) × Stands world (checked_of right)) made) }
+    ensures names { IfOk result (λ made. named_in made.query ≡ named_in left.query.value ++ named_in right.query.value) }
     ensures refused { IfErr result (λ refusal. binary_step operator left.kind right.kind (seen_columns (checked_of left)) (seen_columns (checked_of right)) (query_of left.query.value) (query_of right.query.value) ≡ Err refusal) }
 {
     match operator {
@@ -202,6 +208,7 @@ fn name_nodes(
     openings: usize,
 ) -> Result<Checked, Refusal>
     ensures ok { IfOk result (λ made. AreNodes catalog.now (referents_on referents.now) (opened_times openings (views_of catalog.now) (named name.now.bytes)) made) }
+    ensures numbers { IfOk result (λ made. AreNumberedIn catalog.now (named_in made.query)) }
     ensures refused { IfErr result (λ refusal. (refusal ≡ Refusal.OutOfMemory)
         ⊎ AreRefused catalog.now (referents_on referents.now) (opened_times openings (views_of catalog.now) (named name.now.bytes)) refusal) }
 {
@@ -214,15 +221,23 @@ fn name_nodes(
 // The rows of a table.
 fn table(catalog: &Catalog, name: &Name) -> Result<Checked, Refusal>
     ensures ok { IfOk result (λ made. (on : ℕ → Names ℕ) → AreNodes catalog.now on (named name.now.bytes) made) }
+    ensures numbers { IfOk result (λ made. AreNumberedIn catalog.now (named_in made.query)) }
     ensures refused { IfErr result (λ refusal. (on : ℕ → Names ℕ) → AreRefused catalog.now on (named name.now.bytes) refusal) }
 {
     match catalog.table(name) {
         Some(table) => {
             catalog.stand();
-            Ok(Checked {
-                query: CheckedQuery::Table(*name),
+            let columns = joined(Columns::new(), table.columns());
+            let asked = CheckedTable {
+                name: *name,
+                number: table.number(),
                 kind: table.kind(),
-                columns: joined(Columns::new(), table.columns()),
+                width: columns.len() as u8,
+            };
+            Ok(Checked {
+                query: CheckedQuery::Table(asked),
+                kind: table.kind(),
+                columns,
             })
         }
         None => Err(Refusal::NoSuchName),

@@ -10,6 +10,7 @@ ghost use Rattle.rs_checker.specs.Inner.{is_same_column, AllBelow};
 ghost use Rattle.rs_machine.specs.Checking.{column_place, column_places, same_class, same_columns, share_a_name};
 
 use crate::checked::Columns;
+use rs_catalog::TableEntry;
 use rs_refusal::Refusal;
 use rs_syntax::{ColumnDefinition, Name};
 use rs_value::{COLUMNS, ColumnType};
@@ -27,6 +28,15 @@ pub fn place_of(columns: &Columns, name: &Name) -> Result<u8, Refusal>
         }
     }
     Err(Refusal::NoSuchColumn)
+}
+
+/// The place of the first column of this name in a table. Without one, it is refused with `Refusal::NoSuchColumn` (22).
+pub fn column_of(table: &TableEntry, name: &Name) -> Result<u8, Refusal>
+    requires { length table.now.columns ≤ COLUMNS }
+    ensures place { result ≡ column_place table.now.columns name.now.bytes }
+    ensures there { IfOk result (λ place. place < length table.now.columns) }
+{
+    place_of(&joined(Columns::new(), table.columns()), name)
 }
 
 /// Whether a column has this name.

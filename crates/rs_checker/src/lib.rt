@@ -15,7 +15,8 @@ mod views;
 mod windows;
 
 pub use alignments::check_pieces;
-pub use checked::{Checked, CheckedQuery, Columns, LocatedWindow};
+pub use checked::{Checked, CheckedQuery, CheckedTable, Columns, LocatedPiece, LocatedWindow};
 pub use checking::check;
+pub use columns::column_of;
 pub use conditions::check_condition;
 pub use totals::{check_group, check_summed};

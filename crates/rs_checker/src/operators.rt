@@ -1,12 +1,12 @@
 //! The operators of queries over checked operands: what each asks of them, and the checked query that it makes.
 
-ghost use Rattle.std.specs.Prelude.{◌≡◌, ◌⊎◌, ◌<◌, ◌≤◌, true, false, map, length, IfOk, IfErr, OnOk, Ok, Err};
+ghost use Rattle.std.specs.Prelude.{◌≡◌, ◌⊎◌, ◌<◌, ◌≤◌, ◌++◌, true, false, map, length, IfOk, IfErr, OnOk, Ok, Err};
 ghost use Rattle.rs_facts.specs.Query.{Query, overlaid_kind};
 ghost use Rattle.rs_syntax.specs.View.{column_tree};
 ghost use Rattle.rs_syntax.specs.QueryView.{condition_tree};
 ghost use Rattle.rs_machine.specs.Checks.{some_name_twice};
 ghost use Rattle.rs_machine.specs.Checking.{may_stand_together, column_place, column_places};
-ghost use Rattle.rs_checker.specs.CheckedView.{query_of};
+ghost use Rattle.rs_checker.specs.CheckedView.{query_of, named_in};
 ghost use Rattle.rs_checker.specs.Inner.{AllBelow};
 ghost use Rattle.rs_checker.specs.Steps as steps;
 ghost use Rattle.rs_checker.specs.Steps.{IsStep, Stands, checked_of, seen_columns, may_rename, filter_step, dissolve_step, rename_step, overlay_step, cover_step, merge_step, minus_step};
@@ -29,6 +29,7 @@ pub fn filter(
 ) -> Result<Checked, Refusal>
     ensures ok { IfOk result (λ made. IsStep (filter_step (seen_columns (checked_of operand)) (query_of operand.query.value) (condition_tree condition.now))
         (λ world. Stands world (checked_of operand)) made) }
+    ensures names { IfOk result (λ made. named_in made.query ≡ named_in operand.query.value) }
     ensures refused { IfErr result (λ refusal. (refusal ≡ Refusal.OutOfMemory)
         ⊎ (filter_step (seen_columns (checked_of operand)) (query_of operand.query.value) (condition_tree condition.now) ≡ Err refusal)) }
 {
@@ -45,6 +46,7 @@ pub fn filter(
 pub fn dissolve(alloc: Global, operand: CheckedOperand, names: &[Name]) -> Result<Checked, Refusal>
     ensures ok { IfOk result (λ made. IsStep (dissolve_step (seen_columns (checked_of operand)) (query_of operand.query.value) (map (λ name. name.bytes) names.now))
         (λ world. Stands world (checked_of operand)) made) }
+    ensures names { IfOk result (λ made. named_in made.query ≡ named_in operand.query.value) }
     ensures refused { IfErr result (λ refusal. (refusal ≡ Refusal.OutOfMemory)
         ⊎ (dissolve_step (seen_columns (checked_of operand)) (query_of operand.query.value) (map (λ name. name.bytes) names.now) ≡ Err refusal)) }
 {
@@ -61,6 +63,7 @@ pub fn dissolve(alloc: Global, operand: CheckedOperand, names: &[Name]) -> Resul
 pub fn rename(operand: CheckedOperand, from: &Name, to: &Name) -> Result<Checked, Refusal>
     ensures ok { IfOk result (λ made. IsStep (rename_step (seen_columns (checked_of operand)) (query_of operand.query.value) from.now.bytes to.now.bytes)
         (λ world. Stands world (checked_of operand)) made) }
+    ensures names { IfOk result (λ made. named_in made.query ≡ named_in operand.query.value) }
     ensures refused { IfErr result (λ refusal. rename_step (seen_columns (checked_of operand)) (query_of operand.query.value) from.now.bytes to.now.bytes ≡ Err refusal) }
 {
     let place = renamed_place(&operand.columns, from, to)?;
@@ -76,6 +79,7 @@ pub fn rename(operand: CheckedOperand, from: &Name, to: &Name) -> Result<Checked
 pub fn overlay(left: CheckedOperand, right: CheckedOperand) -> Result<Checked, Refusal>
     ensures ok { IfOk result (λ made. IsStep (overlay_step (seen_columns (checked_of left)) (seen_columns (checked_of right)) (query_of left.query.value) (query_of right.query.value))
         (λ world. Stands world (checked_of left) × Stands world (checked_of right)) made) }
+    ensures names { IfOk result (λ made. named_in made.query ≡ named_in left.query.value ++ named_in right.query.value) }
     ensures refused { IfErr result (λ refusal. overlay_step (seen_columns (checked_of left)) (seen_columns (checked_of right)) (query_of left.query.value) (query_of right.query.value) ≡ Err refusal) }
 {
     may_stand_together(&left.columns, &right.columns)?;
@@ -91,6 +95,7 @@ pub fn overlay(left: CheckedOperand, right: CheckedOperand) -> Result<Checked, R
 pub fn cover(left: CheckedOperand, right: CheckedOperand) -> Result<Checked, Refusal>
     ensures ok { IfOk result (λ made. IsStep (cover_step left.kind right.kind (seen_columns (checked_of left)) (seen_columns (checked_of right)) (query_of left.query.value) (query_of right.query.value))
         (λ world. Stands world (checked_of left) × Stands world (checked_of right)) made) }
+    ensures names { IfOk result (λ made. named_in made.query ≡ named_in left.query.value ++ named_in right.query.value) }
     ensures refused { IfErr result (λ refusal. cover_step left.kind right.kind (seen_columns (checked_of left)) (seen_columns (checked_of right)) (query_of left.query.value) (query_of right.query.value) ≡ Err refusal) }
 {
     may_cover(&left, &right)?;
@@ -110,6 +115,7 @@ pub fn cover(left: CheckedOperand, right: CheckedOperand) -> Result<Checked, Ref
 pub fn merge(left: CheckedOperand, right: CheckedOperand) -> Result<Checked, Refusal>
     ensures ok { IfOk result (λ made. IsStep (merge_step left.kind right.kind (seen_columns (checked_of left)) (seen_columns (checked_of right)) (query_of left.query.value) (query_of right.query.value))
         (λ world. Stands world (checked_of left) × Stands world (checked_of right)) made) }
+    ensures names { IfOk result (λ made. named_in made.query ≡ named_in left.query.value ++ named_in right.query.value) }
     ensures refused { IfErr result (λ refusal. merge_step left.kind right.kind (seen_columns (checked_of left)) (seen_columns (checked_of right)) (query_of left.query.value) (query_of right.query.value) ≡ Err refusal) }
 {
     alike(&left, &right)?;
@@ -124,6 +130,7 @@ pub fn merge(left: CheckedOperand, right: CheckedOperand) -> Result<Checked, Ref
 pub fn minus(left: CheckedOperand, right: CheckedOperand) -> Result<Checked, Refusal>
     ensures ok { IfOk result (λ made. IsStep (minus_step left.kind right.kind (seen_columns (checked_of left)) (seen_columns (checked_of right)) (query_of left.query.value) (query_of right.query.value))
         (λ world. Stands world (checked_of left) × Stands world (checked_of right)) made) }
+    ensures names { IfOk result (λ made. named_in made.query ≡ named_in left.query.value ++ named_in right.query.value) }
     ensures refused { IfErr result (λ refusal. minus_step left.kind right.kind (seen_columns (checked_of left)) (seen_columns (checked_of right)) (query_of left.query.value) (query_of right.query.value) ≡ Err refusal) }
 {
     alike(&left, &right)?;

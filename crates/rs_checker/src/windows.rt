@@ -3,7 +3,8 @@
 ghost use Rattle.std.specs.Prelude.{◌≡◌, IfOk, IfErr, Ok, Err};
 ghost use Rattle.rs_syntax.specs.QueryView.{window_tree};
 ghost use Rattle.rs_catalog.specs.Referents.{referents_on};
-ghost use Rattle.rs_checker.specs.CheckedView.{query_of, window_of};
+ghost use Rattle.rs_checker.specs.CheckedView.{query_of, window_of, named_in, named_by_window};
+ghost use Rattle.rs_checker.specs.Numbers.{IsNumberedIn, AreNumberedIn};
 ghost use Rattle.rs_checker.specs.Steps.{IsStep, Stands, checked_of};
 ghost use Rattle.rs_checker.specs.Nodes.{located_window, window_step};
 
@@ -23,6 +24,7 @@ pub fn window(
 ) -> Result<Checked, Refusal>
     ensures ok { IfOk result (λ made. IsStep (window_step catalog.now (referents_on referents.now) (query_of operand.query.value) (window_tree window.now))
         (λ world. Stands world (checked_of operand)) made) }
+    ensures numbers { IfOk result (λ made. AreNumberedIn catalog.now (named_in operand.query.value) → AreNumberedIn catalog.now (named_in made.query)) }
     ensures refused { IfErr result (λ refusal. window_step catalog.now (referents_on referents.now) (query_of operand.query.value) (window_tree window.now) ≡ Err refusal) }
 {
     let located = located(catalog, referents, window)?;
@@ -40,12 +42,16 @@ fn located(
     window: &Window,
 ) -> Result<LocatedWindow, Refusal>
     ensures ok { IfOk result (λ located. located_window catalog.now (referents_on referents.now) (window_tree window.now) ≡ Ok (window_of located)) }
+    ensures numbered { IfOk result (λ located. IsNumberedIn catalog.now (named_by_window located)) }
     ensures refused { IfErr result (λ refusal. located_window catalog.now (referents_on referents.now) (window_tree window.now) ≡ Err refusal) }
 {
     match window {
         Window::Whole { route } => {
-            let _entry = catalog.named_route(route)?;
-            Ok(LocatedWindow::Whole { route: *route })
+            let entry = catalog.named_route(route)?;
+            Ok(LocatedWindow::Whole {
+                route: *route,
+                number: entry.number(),
+            })
         }
         Window::Part { route, from, to } => {
             let entry = catalog.named_route(route)?;
@@ -56,6 +62,7 @@ fn located(
             }
             Ok(LocatedWindow::Part {
                 route: *route,
+                number: entry.number(),
                 from,
                 to,
             })

@@ -2,3 +2,4 @@ pub mod Steps
 mod ConditionSteps
 mod QuerySteps
 mod FrontLaws
+mod DropSteps

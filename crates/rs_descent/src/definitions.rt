@@ -12,6 +12,7 @@ ghost use Rattle.rs_descent.specs.Reading.{RunsTo};
 use crate::alignments::define_alignment;
 use crate::columns::columns;
 use crate::front::{Stop, mark, need_mark, need_text};
+use crate::indexes::define_index;
 use crate::positions::{measure, position};
 use crate::queries::query;
 use rs_grammar::kind::TokenKind;
@@ -100,7 +101,7 @@ fn define_table(
     }
 }
 
-/// After DEFINE: a route, a referent, a view, an alignment or a table.
+/// After DEFINE: a route, a referent, a view, an alignment, an index or a table.
 pub fn define(alloc: Global, tokens: &[Token]) -> Result<(WrittenCommand, &[Token]), Stop<'_>>
     ensures runs { RunsTo define_form tokens.now result }
     ensures spelled { IfOk result (λ found. mark kinds.Define ∷ lexemes_of tokens.now
@@ -118,6 +119,9 @@ pub fn define(alloc: Global, tokens: &[Token]) -> Result<(WrittenCommand, &[Toke
     }
     if let Some(rest) = mark(tokens, TokenKind::Alignment) {
         return define_alignment(alloc, rest);
+    }
+    if let Some(rest) = mark(tokens, TokenKind::Index) {
+        return define_index(rest);
     }
     if let Some(rest) = mark(tokens, TokenKind::Line) {
         return define_table(alloc, Kind::Line, rest);

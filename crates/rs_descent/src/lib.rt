@@ -6,10 +6,12 @@
 mod alignments;
 mod columns;
 pub mod conditions;
+pub mod cursors;
 pub mod definitions;
 pub mod drops;
 pub mod events;
 pub mod front;
+mod indexes;
 pub mod moves;
 pub mod names;
 pub mod positions;

@@ -122,7 +122,7 @@ module _ (old : Held) (name route : Name) (table : TableItem) (on : RouteItem) (
       ∙ sym (get-insert name_cmp-total (tables_from old.definitions (spans_on old.events)) name (with_facts table (on_route route after before)) q))
 
   pub state_changed : state_of with_other_events ≡ machine.with_table (state_of old) name (with_facts table (on_route route after before))
-  state_changed = same_state _ _ refl refl tables_changed refl refl refl refl
+  state_changed = same_state _ _ refl refl tables_changed refl refl refl refl refl
 
   -- what is so of the table's new spans on the route
   pub record IsChanged : Type 0 where
@@ -156,6 +156,7 @@ module _ (old : Held) (name route : Name) (table : TableItem) (on : RouteItem) (
       no_route = λ r free t. only.elsewhere t r (off_right (nat_eq t table.number) (nat_eq r on.number) (other_number r on.number (λ same. free route on route_there (sym same)))) ∙ is.events.no_route r free t;
     };
     kinds = λ q item there. only.kinds item.number ∙ is.kinds q item there;
+    few_routes = is.few_routes;
     referents = is.referents;
   }
     where

@@ -4,6 +4,7 @@ mod TableSteps
 mod EventSteps
 mod SpansOnRoutes
 mod Outcomes
+mod CursorSteps
 mod ReferentSteps
 mod ColumnNames
 mod Beginning
@@ -15,3 +16,4 @@ mod LineTexts
 mod Printing
 mod QueryAnswers
 mod TotalRows
+mod Plans

@@ -12,16 +12,17 @@ use Rattle.rs_facts.specs.Fact.{Name}
 use Rattle.rs_facts.specs.Query.{Column, Piece, Query}
 use Rattle.rs_syntax.specs.QueryView.{query_tree}
 use Rattle.rs_syntax.specs.Tree.{QueryTree, PieceTree}
-use Rattle.rs_machine.specs.Checking.{checked}
-use Rattle.rs_machine.specs.declared.limits.TheConstants.{ROUTES, TABLES, VIEWS, ALIGNMENTS, PIECES}
+use Rattle.rs_machine.specs.Checking.{column_place, checked}
+use Rattle.rs_machine.specs.declared.limits.TheConstants.{ROUTES, TABLES, INDEXES, VIEWS, ALIGNMENTS, PIECES}
 use Rattle.rs_machine.specs.Checks.{◌>>=◌, unless, found, some_name_twice, column_names, pieces_checked}
 use Rattle.rs_machine.specs.Opening.{names_query, names_route, names_alignment}
-use Rattle.rs_machine.specs.State.{has}
-use Rattle.rs_machine.specs.Step.{Effect, counted, may_change, route_defined, table_defined, route_dropped, table_dropped, view_dropped, some_table, has_fact_on, with_route, with_table, empty_table, with_view, view_defined, without_route, without_table, without_view, alignment_defined, alignment_dropped, with_alignment, without_alignment}
-use Rattle.rs_catalog.specs.Definitions.{RouteItem, TableItem, ViewItem, routes_of, table_from}
+use Rattle.rs_machine.specs.State.{has, some_cursor}
+use Rattle.rs_machine.specs.Step.{Effect, counted, may_change, index_defined, index_dropped, with_index, without_index, route_defined, table_defined, route_dropped, table_dropped, view_dropped, some_table, has_fact_on, with_route, with_table, empty_table, with_view, view_defined, without_route, without_table, without_view, alignment_defined, alignment_dropped, with_alignment, without_alignment}
+use Rattle.rs_catalog.specs.Definitions.{RouteItem, TableItem, IndexItem, ViewItem, routes_of, indexed_column, table_from}
 use Rattle.rs_catalog.specs.Uses.{some_view_query, some_piece_on}
-use Rattle.rs_catalog.proofs.StateLaws.{get-routes_of, get-views_of, get-tables_from, len-routes_of, len-views_of, len-tables_from}
+use Rattle.rs_catalog.proofs.StateLaws.{get-routes_of, get-views_of, get-tables_from, get-indexes_of, len-routes_of, len-views_of, len-tables_from, len-indexes_of}
 use Rattle.rs_event_lists.specs.Held.{spans_on}
+use Rattle.rs_cursor.specs.Held.{cursors_of}
 use Rattle.rs_engine.specs.Held.{Held, state_of}
 
 pub below-true : (a b : ℕ) → a < b → nat_lt a b ≡ true
@@ -76,6 +77,15 @@ module _ (held : Held) (name : Name) where
 
   pub no_view : names.get held.definitions.views name ≡ None → names.get (state_of held).views name ≡ None
   no_view none = get-views_of held.definitions name ∙ ap (option_map _) none
+
+  pub has_index : (b : Bool) → is_some (names.get held.definitions.indexes name) ≡ b → has (state_of held).indexes name ≡ b
+  has_index b e = ap is_some (get-indexes_of held.definitions name) ∙ is_some-map _ (names.get held.definitions.indexes name) ∙ e
+
+  pub index_at : (item : IndexItem) → names.get held.definitions.indexes name ≡ Some item → names.get (state_of held).indexes name ≡ Some (indexed_column item)
+  index_at item there = get-indexes_of held.definitions name ∙ ap (option_map _) there
+
+  pub no_index : names.get held.definitions.indexes name ≡ None → names.get (state_of held).indexes name ≡ None
+  no_index none = get-indexes_of held.definitions name ∙ ap (option_map _) none
 
 -- what `found` answers says what is there
 pub found_some : {X : Type 0} (o : Option X) (refusal : Refusal) (x : X) → Ok x ≡ found o refusal → o ≡ Some x
@@ -138,6 +148,30 @@ module _ (held : Held) (kind : Kind) (name : Name) (columns : List Column) where
       → Tabled (may_change (state_of held) >>= λ _. Ok (counted 0 (with_table (state_of held) name (empty_table kind columns))))
   table_checked e f g h = rw (has_either held name false e, f, upto-true (length columns) COLUMNS g, len-tables_from held.definitions (spans_on held.events), below-true (names.len held.definitions.tables) TABLES h)
 
+-- ---- an index's definition
+
+module _ (held : Held) (name of column : Name) where
+  abbrev Indexed : Result Effect Refusal → Type 0
+  Indexed answer = index_defined (state_of held) name of column ≡ answer
+
+  pub index_of_no_table : names.get held.definitions.tables of ≡ None → Indexed (Err NoSuchName)
+  index_of_no_table none = rw (no_table held of none)
+
+  module _ (item : TableItem) (there : names.get held.definitions.tables of ≡ Some item) where
+    pub index_of_no_column : (refusal : Refusal) → column_place item.columns column ≡ Err refusal → Indexed (Err refusal)
+    index_of_no_column refusal off = rw (table_at held of item there, off)
+
+    module _ (place : ℕ) (is : column_place item.columns column ≡ Ok place) where
+      pub index_taken : is_some (names.get held.definitions.indexes name) ≡ true → Indexed (Err NameTaken)
+      index_taken e = rw (table_at held of item there, is, has_index held name true e)
+
+      pub index_too_many : is_some (names.get held.definitions.indexes name) ≡ false → INDEXES ≤ names.len held.definitions.indexes → Indexed (Err Limit)
+      index_too_many e f = rw (table_at held of item there, is, has_index held name false e, len-indexes_of held.definitions, below-false (names.len held.definitions.indexes) INDEXES f)
+
+      pub index_checked : is_some (names.get held.definitions.indexes name) ≡ false → names.len held.definitions.indexes < INDEXES
+          → Indexed (may_change (state_of held) >>= λ _. Ok (counted 0 (with_index (state_of held) name (record { table = of; column = place }))))
+      index_checked e f = rw (table_at held of item there, is, has_index held name false e, len-indexes_of held.definitions, below-true (names.len held.definitions.indexes) INDEXES f)
+
 -- ---- what is dropped
 
 module _ (held : Held) (name : Name) where
@@ -154,9 +188,13 @@ module _ (held : Held) (name : Name) where
     pub drops_seen_route : some_table (state_of held) (has_fact_on name item.ends) ≡ false → some_piece_on held.definitions name ≡ false → some_view_query held.definitions (names_route name) ≡ true → route_dropped (state_of held) name ≡ Err InUse
     drops_seen_route e g f = rw (route_at held name item there, e, g, f)
 
-    pub drops_route : some_table (state_of held) (has_fact_on name item.ends) ≡ false → some_piece_on held.definitions name ≡ false → some_view_query held.definitions (names_route name) ≡ false
+    pub drops_waited_route : some_table (state_of held) (has_fact_on name item.ends) ≡ false → some_piece_on held.definitions name ≡ false → some_view_query held.definitions (names_route name) ≡ false
+        → some_cursor (cursors_of held.cursors) ≡ true → route_dropped (state_of held) name ≡ Err InUse
+    drops_waited_route e g f w = rw (route_at held name item there, e, g, f, w)
+
+    pub drops_route : some_table (state_of held) (has_fact_on name item.ends) ≡ false → some_piece_on held.definitions name ≡ false → some_view_query held.definitions (names_route name) ≡ false → some_cursor (cursors_of held.cursors) ≡ false
         → route_dropped (state_of held) name ≡ (may_change (state_of held) >>= λ _. Ok (counted 0 (without_route (state_of held) name)))
-    drops_route e g f = rw (route_at held name item there, e, g, f)
+    drops_route e g f w = rw (route_at held name item there, e, g, f, w)
 
   pub drops_no_table : names.get held.definitions.tables name ≡ None → table_dropped (state_of held) name ≡ Err NoSuchName
   drops_no_table none = rw (no_table held name none)
@@ -165,8 +203,21 @@ module _ (held : Held) (name : Name) where
     pub drops_seen_table : some_view_query held.definitions (names_query name) ≡ true → table_dropped (state_of held) name ≡ Err InUse
     drops_seen_table e = rw (table_at held name item there, e)
 
-    pub drops_table : some_view_query held.definitions (names_query name) ≡ false → table_dropped (state_of held) name ≡ (may_change (state_of held) >>= λ _. Ok (counted 0 (without_table (state_of held) name)))
-    drops_table e = rw (table_at held name item there, e)
+    pub drops_waited_table : some_view_query held.definitions (names_query name) ≡ false → some_cursor (cursors_of held.cursors) ≡ true → table_dropped (state_of held) name ≡ Err InUse
+    drops_waited_table e w = rw (table_at held name item there, e, w)
+
+    pub drops_table : some_view_query held.definitions (names_query name) ≡ false → some_cursor (cursors_of held.cursors) ≡ false → table_dropped (state_of held) name ≡ (may_change (state_of held) >>= λ _. Ok (counted 0 (without_table (state_of held) name)))
+    drops_table e w = rw (table_at held name item there, e, w)
+
+  pub drops_no_index : names.get held.definitions.indexes name ≡ None → index_dropped (state_of held) name ≡ Err NoSuchName
+  drops_no_index none = rw (no_index held name none)
+
+  module _ (item : IndexItem) (there : names.get held.definitions.indexes name ≡ Some item) where
+    pub drops_waited_index : some_cursor (cursors_of held.cursors) ≡ true → index_dropped (state_of held) name ≡ Err InUse
+    drops_waited_index w = rw (index_at held name item there, w)
+
+    pub drops_index : some_cursor (cursors_of held.cursors) ≡ false → index_dropped (state_of held) name ≡ (may_change (state_of held) >>= λ _. Ok (counted 0 (without_index (state_of held) name)))
+    drops_index w = rw (index_at held name item there, w)
 
   pub drops_no_view : names.get held.definitions.views name ≡ None → view_dropped (state_of held) name ≡ Err NoSuchName
   drops_no_view none = rw (no_view held name none)
@@ -231,6 +282,9 @@ module _ (held : Held) (name : Name) (query : QueryTree) where
 -- what a look-up that lends tells of what is there
 pub lent_there : {X : Type 0} (lent : Option (Bor X)) (there : Option X) (none b : Bool) → option_copied lent ≡ there → is_some lent ≡ not none → none ≡ b → is_some there ≡ not b
 lent_there lent there none b same is e = ap is_some (sym same) ∙ is_some-map (λ x. x.now) lent ∙ is ∙ ap not e
+
+pub lent_is : {X : Type 0} (lent : Option (Bor X)) (there : Option X) (b : Bool) → option_copied lent ≡ there → is_some lent ≡ b → is_some there ≡ b
+lent_is lent there b same is = ap is_some (sym same) ∙ is_some-map (λ x. x.now) lent ∙ is
 
 pub some_of : {X : Type 0} (o : Option X) → is_some o ≡ true → (x : X) × (o ≡ Some x)
 some_of None e = cc

@@ -15,15 +15,18 @@ use Rattle.rs_facts.specs.WellFormed.{IsWellFormed}
 use Rattle.rs_facts.specs.Runs.{Stretch, AreRunsOf}
 use Rattle.rs_facts.specs.Spans.{places_of, AreKept}
 use Rattle.rs_facts.specs.LineText.{line_of}
-use Rattle.rs_machine.specs.State.{RowText, world_of}
+use Rattle.rs_syntax.specs.Tree.{QueryTree}
+use Rattle.rs_machine.specs.State.{State, RowText, world_of}
 use Rattle.rs_machine.specs.Checks.{◌>>=◌, found, position_on}
-use Rattle.rs_machine.specs.Step.{Effect, effect, position_text, position_translated, lines_on}
+use Rattle.rs_machine.specs.Checking.{checked}
+use Rattle.rs_machine.specs.Step.{Effect, effect, position_text, position_translated, selected, lines_on, lines_of}
 use Rattle.rs_catalog.specs.Definitions.{Numbered, RouteItem, TableItem, Definitions, routes_of}
 use Rattle.rs_catalog.specs.Referents.{HeldReferents, referents_on}
 use Rattle.rs_catalog.proofs.Names.{entries-map_values}
 use Rattle.rs_catalog.proofs.MapLaws.{none_some}
 use Rattle.rs_event_lists.specs.Held.{spans_on}
 use Rattle.rs_checker.specs.CheckedView.{query_step, query_of}
+use Rattle.rs_checker.specs.declared.checked.CheckedTable.{CheckedTable}
 use Rattle.rs_checker.specs.declared.checked.CheckedQuery.{fold-roll-CheckedQuery}
 use Rattle.rs_checker.specs.declared.checked.CheckedQuery.TheOpen.{CheckedQuery-F}
 use Rattle.rs_checker.specs.declared.checked.CheckedQuery.TheVariants as queries
@@ -94,8 +97,8 @@ module _ (held : Held) (is : IsHeld held) (route : Name) (on : RouteItem) (there
 pub table_absent : (held : Held) (name : Name) → names.get held.definitions.tables name ≡ None → IsWellFormed (world_of (state_of held)) (table_rows name) → ⊥
 table_absent held name none formed = none_some formed.0 (sym (no_table held name none) ∙ formed.1)
 
-pub table_is : (name : ArrayString) → query_of (queries.Table name) ≡ table_rows name.bytes
-table_is name = ap query_of (sym (queries.rolls-Table name)) ∙ fold-roll-CheckedQuery Query query_step (CheckedQuery-F.Table name)
+pub table_is : (table : CheckedTable) → query_of (queries.Table table) ≡ table_rows table.name.bytes
+table_is table = ap query_of (sym (queries.rolls-Table table)) ∙ fold-roll-CheckedQuery Query query_step (CheckedQuery-F.Table table)
 
 pub table_runs : (held : Held) (is : IsHeld held) (route : Name) (on : RouteItem) → names.get held.definitions.routes route ≡ Some on → (name : Name) (table : TableItem) → names.get held.definitions.tables name ≡ Some table
     → (kind : Kind) (spans runs : List Stretch) → kind ≡ kind_of (world_of (state_of held)) (table_rows name) → spans ≡ spans_on held.events table.number on.number
@@ -122,3 +125,15 @@ flat_map-map change each (x ∷ xs) = ap (λ rows. each (change x) ++ rows) (fla
 pub each_route : (definitions : Definitions) (each : Name × RouteEnds → List RowText)
     → flat_map (λ (e : Name × RouteItem). each (e.0, e.1.ends)) (names.entries definitions.routes) ≡ flat_map each (names.entries (routes_of definitions))
 each_route definitions each = sym (flat_map-map (λ (e : Name × RouteItem). (e.0, e.1.ends)) each (names.entries definitions.routes)) ∙ ap (flat_map each) (sym (entries-map_values (λ (item : RouteItem). item.ends) definitions.routes))
+
+-- ---- what SELECT answers
+
+module _ (state : State) (tree : QueryTree) (method : Method) where
+  abbrev selected_after : Query → Result Effect Refusal
+  selected_after query = Ok (effect (lines_of state query method) (length (lines_of state query method)) state)
+
+  pub select_unchecked : (refusal : Refusal) → checked state tree ≡ Err refusal → selected state tree method ≡ Err refusal
+  select_unchecked refusal off = ap (λ (r : Result Query Refusal). r >>= selected_after) off
+
+  pub select_lines : (query : Query) (lines : List RowText) → checked state tree ≡ Ok query → lines ≡ lines_of state query method → selected state tree method ≡ Ok (effect lines (length lines) state)
+  select_lines query lines is are = ap (λ (r : Result Query Refusal). r >>= selected_after) is ∙ ap (λ (l : List RowText). Ok (effect l (length l) state)) (sym are)

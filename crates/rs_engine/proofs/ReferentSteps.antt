@@ -43,7 +43,7 @@ module _ (held : Held) (route : Name) (item : RouteItem) (there : names.get held
     with_other_referents = record held { referents = referents; changes = held.changes + 1 }
 
     pub state_other_referents : state_of with_other_referents ≡ with_referents (state_of held) route after
-    state_other_referents = same_state _ _ refl (ap (referents_from held.definitions) changed ∙ referents_from-at held.definitions (referents_on held.referents) route item after is.definitions.route_numbers there) refl refl refl refl refl
+    state_other_referents = same_state _ _ refl (ap (referents_from held.definitions) changed ∙ referents_from-at held.definitions (referents_on held.referents) route item after is.definitions.route_numbers there) refl refl refl refl refl refl
 
     pub held_other_referents : IsHeld with_other_referents
     unfolding at_number
@@ -51,6 +51,7 @@ module _ (held : Held) (route : Name) (item : RouteItem) (there : names.get held
       definitions = is.definitions;
       events = is.events;
       kinds = is.kinds;
+      few_routes = is.few_routes;
       referents = λ number free.
           ap (λ (by_number : ℕ → Names ℕ). by_number number) changed
           ∙ ap (λ b. cond b after (referents_on held.referents number)) (other_number number item.number (λ same. free route item there (sym same)))

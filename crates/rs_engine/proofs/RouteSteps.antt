@@ -1,19 +1,20 @@
 -- What the definition and the removal of a route do to the state, and that what is so of all that is kept stays so.
-use Rattle.std.proofs.Common.{◌≡◌, ℕ, ◌+◌, true, false, cond, nat_eq, ⊎_elim, List, [], Option, Some, None, refl, sym, ap, subst, ◌∙◌}
+use Rattle.std.proofs.Common.{◌≡◌, ℕ, ◌+◌, ◌-◌, ◌<◌, true, false, cond, nat_eq, is_some, ⊎_elim, List, [], Option, Some, None, refl, sym, ap, subst, ◌∙◌, arith}
 use Rattle.std.proofs.Math.Path.{fun_ext}
 use Rattle.std.specs.Ordering.{eq_by_cmp}
 use Rattle.std.specs.FinMap as names
-use Rattle.std.specs.FinMap.{get-insert, get-remove}
+use Rattle.std.specs.FinMap.{get-insert, get-remove, len-insert, len-remove}
 use Rattle.rs_value.specs.declared.column.Kind.{Kind}
 use Rattle.rs_facts.specs.Fact.{Name, Names, name_cmp, Places, contains}
 use Rattle.rs_facts.specs.Query.{RouteEnds}
 use Rattle.rs_facts.specs.Runs.{Stretch}
 use Rattle.rs_facts.specs.Spans.{places_of}
 use Rattle.rs_facts.proofs.Sets.{contains-none}
+use Rattle.rs_machine.specs.declared.limits.TheConstants.{ROUTES}
 use Rattle.rs_machine.specs.Step as machine
 use Rattle.rs_machine.specs.Step.{referents_at}
 use Rattle.rs_catalog.specs.Changes.{with_route, without_route}
-use Rattle.rs_catalog.specs.Definitions.{RouteItem, Definitions, Numbered, IsFree, AreDefinitions, on_numbered, no_places, facts_from, referents_from, state_from}
+use Rattle.rs_catalog.specs.Definitions.{RouteItem, Definitions, Numbered, IsFree, AreDefinitions, on_numbered, no_places, facts_from, referents_from, Rest, state_from}
 use Rattle.rs_catalog.specs.Events.{LieOn, AreEventsOf}
 use Rattle.rs_catalog.specs.Referents.{HeldReferents, referents_on, at_number}
 use Rattle.rs_catalog.proofs.NameOrder.{name_cmp-total}
@@ -21,7 +22,7 @@ use Rattle.rs_catalog.proofs.Names.{map_values-insert, map_values-remove}
 use Rattle.rs_catalog.proofs.MapLaws.{same_name-true, cases_insert, before_remove}
 use Rattle.rs_event_lists.specs.Held.{HeldLists, spans_on}
 use Rattle.rs_event_lists.specs.Changed.{DropsRoute, HasNoSpansOn}
-use Rattle.rs_engine.specs.Held.{Held, state_of, IsHeld}
+use Rattle.rs_engine.specs.Held.{Held, rest_of, one_more, state_of, IsHeld}
 use Rattle.rs_engine.proofs.StateLaws.{same_state, cases_number, same_tables, free_before_insert, number_itself, other_number, name_itself, free_before_remove}
 
 pub false_true : {P : Type 0} → false ≡ true → P
@@ -56,13 +57,13 @@ module _ (definitions : Definitions) (name : Name) (item : RouteItem) (new : nam
       ] refl)
 
   -- the state has the route then, and no more
-  pub state_with_route : (referents : ℕ → Names ℕ) (spans : ℕ → ℕ → List Stretch) (changes : ℕ) → referents item.number ≡ names.empty → ((table : ℕ) → spans table item.number ≡ [])
-      → state_from (with_route definitions name item) referents spans (changes + 1) ≡ machine.with_route (state_from definitions referents spans changes) name item.ends.start item.ends.finish
-  state_with_route referents spans changes no_referents no_spans = same_state _ _
+  pub state_with_route : (referents : ℕ → Names ℕ) (spans : ℕ → ℕ → List Stretch) (rest : Rest) → referents item.number ≡ names.empty → ((table : ℕ) → spans table item.number ≡ [])
+      → state_from (with_route definitions name item) referents spans (one_more rest) ≡ machine.with_route (state_from definitions referents spans rest) name item.ends.start item.ends.finish
+  state_with_route referents spans rest no_referents no_spans = same_state _ _
       (map_values-insert (λ item. item.ends) definitions.routes name item)
       (referents_with_route referents no_referents)
       (same_tables definitions (with_route definitions name item) spans spans refl (λ q table there. facts_with_route (spans table.number) (no_spans table.number)))
-      refl refl refl refl
+      refl refl refl refl refl
 
   events_with_route : (spans : ℕ → ℕ → List Stretch) → AreEventsOf definitions spans → AreEventsOf (with_route definitions name item) spans
   events_with_route spans are = record {
@@ -81,13 +82,14 @@ module _ (old : Held) (name : Name) (item : RouteItem) (is : IsHeld old) (new : 
   with_defined_route = record old { definitions = with_route old.definitions name item; changes = old.changes + 1 }
 
   pub state_defined_route : state_of with_defined_route ≡ machine.with_route (state_of old) name item.ends.start item.ends.finish
-  state_defined_route = state_with_route old.definitions name item new free (referents_on old.referents) (spans_on old.events) old.changes (is.referents item.number free) (λ table. is.events.no_route item.number free table)
+  state_defined_route = state_with_route old.definitions name item new free (referents_on old.referents) (spans_on old.events) (rest_of old) (is.referents item.number free) (λ table. is.events.no_route item.number free table)
 
-  pub held_defined_route : AreDefinitions (with_route old.definitions name item) → IsHeld with_defined_route
-  held_defined_route are = record {
+  pub held_defined_route : names.len old.definitions.routes < ROUTES → AreDefinitions (with_route old.definitions name item) → IsHeld with_defined_route
+  held_defined_route room are = record {
     definitions = are;
     events = events_with_route old.definitions name item new free (spans_on old.events) is.events;
     kinds = is.kinds;
+    few_routes = let more = len-insert name_cmp-total old.definitions.routes name item ∙ ap (λ o. cond (is_some o) (names.len old.definitions.routes) (names.len old.definitions.routes + 1)) new in omega arith;
     referents = λ route still. is.referents route (free_before_insert (λ (r : RouteItem). r.number) old.definitions.routes name item route new still);
   }
 
@@ -148,13 +150,13 @@ module _ (definitions : Definitions) (name : Name) (item : RouteItem) (there : n
       ] refl)
 
   -- the state has neither the route nor its referents then, and all else as before
-  state_without_route : (are : AreDefinitions definitions) (referents : ℕ → Names ℕ) (spans : ℕ → ℕ → List Stretch) (changes : ℕ) → ((table : ℕ) → spans table item.number ≡ [])
-      → state_from (without_route definitions name) (at_number item.number names.empty referents) spans (changes + 1) ≡ machine.without_route (state_from definitions referents spans changes) name
-  state_without_route are referents spans changes no_spans = same_state _ _
+  state_without_route : (are : AreDefinitions definitions) (referents : ℕ → Names ℕ) (spans : ℕ → ℕ → List Stretch) (rest : Rest) → ((table : ℕ) → spans table item.number ≡ [])
+      → state_from (without_route definitions name) (at_number item.number names.empty referents) spans (one_more rest) ≡ machine.without_route (state_from definitions referents spans rest) name
+  state_without_route are referents spans rest no_spans = same_state _ _
       (map_values-remove (λ item. item.ends) definitions.routes name)
       (referents_without_route are referents)
       (same_tables definitions (without_route definitions name) spans spans refl (λ q table at. facts_without_route (spans table.number) (no_spans table.number)))
-      refl refl refl refl
+      refl refl refl refl refl
 
   events_without_route : (spans : ℕ → ℕ → List Stretch) → ((table : ℕ) → spans table item.number ≡ []) → AreEventsOf definitions spans → AreEventsOf (without_route definitions name) spans
   events_without_route spans none are = record {
@@ -178,17 +180,18 @@ module _ (definitions : Definitions) (name : Name) (item : RouteItem) (there : n
 module _ (old : Held) (name : Name) (item : RouteItem) (referents : Numbered HeldReferents) (events : HeldLists) (is : IsHeld old) (there : names.get old.definitions.routes name ≡ Some item)
     (none : HasNoSpansOn old.events item.number) (gone : referents_on referents ≡ at_number item.number names.empty (referents_on old.referents)) (drops : DropsRoute old.events item.number events) where
   abbrev pub with_dropped_route : Held
-  with_dropped_route = record { definitions = without_route old.definitions name; referents = referents; events = events; changes = old.changes + 1 }
+  with_dropped_route = record { definitions = without_route old.definitions name; referents = referents; events = events; cursors = old.cursors; changes = old.changes + 1 }
 
   pub state_dropped_route : state_of with_dropped_route ≡ machine.without_route (state_of old) name
   state_dropped_route =
-      (λ i. state_from (without_route old.definitions name) (gone i) (drops_nothing old.events events item.number none drops i) (old.changes + 1))
-      ∙ state_without_route old.definitions name item there is.definitions (referents_on old.referents) (spans_on old.events) old.changes none
+      (λ i. state_from (without_route old.definitions name) (gone i) (drops_nothing old.events events item.number none drops i) (one_more (rest_of old)))
+      ∙ state_without_route old.definitions name item there is.definitions (referents_on old.referents) (spans_on old.events) (rest_of old) none
 
   pub held_dropped_route : AreDefinitions (without_route old.definitions name) → IsHeld with_dropped_route
   held_dropped_route are = record {
     definitions = are;
     events = subst (AreEventsOf (without_route old.definitions name)) (sym (drops_nothing old.events events item.number none drops)) (events_without_route old.definitions name item there (spans_on old.events) none is.events);
     kinds = λ q table at. drops.kinds table.number ∙ is.kinds q table at;
+    few_routes = let less = len-remove name_cmp-total old.definitions.routes name ∙ ap (λ o. cond (is_some o) (names.len old.definitions.routes - 1) (names.len old.definitions.routes)) there in let few = is.few_routes in omega arith;
     referents = λ route free. ap (λ (by_number : ℕ → Names ℕ). by_number route) gone ∙ referents_of_none old.definitions name item there (referents_on old.referents) is.referents route free;
   }

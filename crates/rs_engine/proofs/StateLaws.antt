@@ -17,9 +17,9 @@ use Rattle.rs_catalog.proofs.NameOrder.{name_cmp-total, name_cmp-antisymmetric}
 use Rattle.rs_catalog.proofs.Names.{get-map_values}
 use Rattle.rs_catalog.proofs.MapLaws.{same_name-true, none_some, some_same, get-insert_here}
 
-pub same_state : (a b : State) → a.routes ≡ b.routes → a.referents ≡ b.referents → a.tables ≡ b.tables → a.views ≡ b.views → a.alignments ≡ b.alignments → a.changes ≡ b.changes → a.cursors ≡ b.cursors → a ≡ b
-same_state a b routes referents tables views alignments changes cursors i =
-    record { routes = routes i; referents = referents i; tables = tables i; views = views i; alignments = alignments i; changes = changes i; cursors = cursors i }
+pub same_state : (a b : State) → a.routes ≡ b.routes → a.referents ≡ b.referents → a.tables ≡ b.tables → a.views ≡ b.views → a.alignments ≡ b.alignments → a.indexes ≡ b.indexes → a.changes ≡ b.changes → a.cursors ≡ b.cursors → a ≡ b
+same_state a b routes referents tables views alignments indexes changes cursors i =
+    record { routes = routes i; referents = referents i; tables = tables i; views = views i; alignments = alignments i; indexes = indexes i; changes = changes i; cursors = cursors i }
 
 -- ---- numbers
 

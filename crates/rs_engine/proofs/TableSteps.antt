@@ -1,23 +1,25 @@
 -- What the definition and the removal of a table or a view do to the state, and that what is so of all that is kept stays so.
-use Rattle.std.proofs.Common.{◌≡◌, ℕ, ◌+◌, true, false, cond, nat_eq, ⊎_elim, List, [], Option, Some, None, refl, sym, ap, subst, ◌∙◌}
+use Rattle.std.proofs.Common.{◌≡◌, ℕ, ◌+◌, true, false, cond, not, nat_eq, ⊎_elim, List, [], Option, Some, None, refl, sym, ap, subst, ◌∙◌}
 use Rattle.std.specs.Option.{option_map}
 use Rattle.std.specs.Ordering.{eq_by_cmp}
 use Rattle.std.specs.FinMap as names
 use Rattle.std.specs.FinMap.{get-insert, get-remove, same_map}
 use Rattle.rs_facts.specs.Fact.{Name, Names, name_cmp}
+use Rattle.rs_facts.specs.Insert.{same_name}
 use Rattle.rs_facts.specs.Query.{Table, Piece}
 use Rattle.rs_facts.specs.Runs.{Stretch}
 use Rattle.rs_syntax.specs.QueryView.{query_tree}
 use Rattle.rs_machine.specs.Step as machine
 use Rattle.rs_machine.specs.Step.{empty_table}
-use Rattle.rs_catalog.specs.Changes.{with_table, without_table, with_view, without_view}
-use Rattle.rs_catalog.specs.Definitions.{TableItem, ViewItem, Definitions, IsFree, AreDefinitions, table_from, tables_from, referents_from}
+use Rattle.rs_catalog.specs.Changes.{is_of_another, indexes_of_others, with_index, without_index, with_table, without_table, with_view, without_view}
+use Rattle.rs_catalog.specs.Definitions.{TableItem, IndexItem, ViewItem, indexed_column, Definitions, IsFree, AreDefinitions, table_from, tables_from, referents_from}
 use Rattle.rs_facts.specs.Spans.{places_of}
 use Rattle.rs_catalog.specs.Events.{LieOn, AreSpansOf, AreEventsOf}
 use Rattle.rs_catalog.proofs.NameOrder.{name_cmp-total, name_cmp-antisymmetric}
 use Rattle.rs_catalog.proofs.Names.{map_values-insert, map_values-remove}
-use Rattle.rs_catalog.proofs.MapLaws.{same_name-true, cases_insert, before_remove}
-use Rattle.rs_catalog.proofs.DefinitionLaws.{are_definitions-views}
+use Rattle.rs_catalog.proofs.MapLaws.{none_some, same_name-true, cases_insert, before_remove}
+use Rattle.rs_catalog.proofs.StateLaws.{indexes_of-with_index, indexes_of-without_index, indexes_of-without_table}
+use Rattle.rs_catalog.proofs.DefinitionLaws.{are_definitions-views, get-others}
 use Rattle.rs_event_lists.specs.Held.{HeldLists, spans_on, kind_at}
 use Rattle.rs_event_lists.specs.Changed.{DefinesTable, DropsTable}
 use Rattle.rs_engine.specs.Held.{Held, state_of, IsHeld}
@@ -54,7 +56,7 @@ module _ (old : Held) (name : Name) (item : TableItem) (events : HeldLists) (is 
 
   pub state_defined_table : state_of with_defined_table ≡ machine.with_table (state_of old) name (empty_table item.kind item.columns)
   unfolding referents_from
-  state_defined_table = same_state _ _ refl refl tables_defined refl refl refl refl
+  state_defined_table = same_state _ _ refl refl tables_defined refl refl refl refl refl
 
   events_defined : AreEventsOf (with_table old.definitions name item) (spans_on events)
   events_defined = record {
@@ -83,6 +85,7 @@ module _ (old : Held) (name : Name) (item : TableItem) (events : HeldLists) (is 
         (λ (own : (q ≡ name) × (item ≡ table)). ap (λ (t : TableItem). kind_at events t.number) (sym own.1) ∙ defines.there ∙ ap (λ (t : TableItem). Some t.kind) own.1)
         (λ was. defines.kinds table.number (apart_from_free (λ (t : TableItem). t.number) old.definitions.tables item.number q table free was) ∙ is.kinds q table was)
         (cases_insert old.definitions.tables name item q table there);
+    few_routes = is.few_routes;
     referents = is.referents;
   }
 
@@ -111,7 +114,7 @@ module _ (old : Held) (name : Name) (item : TableItem) (events : HeldLists) (is 
 
   pub state_dropped_table : state_of with_dropped_table ≡ machine.without_table (state_of old) name
   unfolding referents_from
-  state_dropped_table = same_state _ _ refl refl tables_dropped refl refl refl refl
+  state_dropped_table = same_state _ _ refl refl tables_dropped refl refl (indexes_of-without_table old.definitions name) refl refl
 
   -- a table that is still there is another
   still_other : (q : Name) (table : TableItem) → names.get (names.remove old.definitions.tables name) q ≡ Some table → nat_eq table.number item.number ≡ false
@@ -142,6 +145,7 @@ module _ (old : Held) (name : Name) (item : TableItem) (events : HeldLists) (is 
     definitions = are;
     events = events_dropped;
     kinds = λ q table at. drops.kinds table.number (still_other q table at) ∙ is.kinds q table (before_remove old.definitions.tables name q table at);
+    few_routes = is.few_routes;
     referents = is.referents;
   }
 
@@ -156,17 +160,18 @@ module _ (old : Held) (is : IsHeld old) (views : Names ViewItem) where
     definitions = are_definitions-views old.definitions views is.definitions;
     events = record { spans = is.events.spans; on_routes = is.events.on_routes; no_table = is.events.no_table; no_route = is.events.no_route };
     kinds = is.kinds;
+    few_routes = is.few_routes;
     referents = is.referents;
   }
 
 module _ (old : Held) (name : Name) where
   pub state_defined_view : (item : ViewItem) → state_of (record old { definitions = with_view old.definitions name item; changes = old.changes + 1 }) ≡ machine.with_view (state_of old) name (query_tree item.query)
   unfolding referents_from
-  state_defined_view item = same_state _ _ refl refl (same_tables old.definitions _ (spans_on old.events) (spans_on old.events) refl (λ q table at. refl)) (map_values-insert (λ v. query_tree v.query) old.definitions.views name item) refl refl refl
+  state_defined_view item = same_state _ _ refl refl (same_tables old.definitions _ (spans_on old.events) (spans_on old.events) refl (λ q table at. refl)) (map_values-insert (λ v. query_tree v.query) old.definitions.views name item) refl refl refl refl
 
   pub state_dropped_view : state_of (record old { definitions = without_view old.definitions name; changes = old.changes + 1 }) ≡ machine.without_view (state_of old) name
   unfolding referents_from
-  state_dropped_view = same_state _ _ refl refl (same_tables old.definitions _ (spans_on old.events) (spans_on old.events) refl (λ q table at. refl)) (map_values-remove (λ v. query_tree v.query) old.definitions.views name) refl refl refl
+  state_dropped_view = same_state _ _ refl refl (same_tables old.definitions _ (spans_on old.events) (spans_on old.events) refl (λ q table at. refl)) (map_values-remove (λ v. query_tree v.query) old.definitions.views name) refl refl refl refl
 
 -- ---- alignments
 
@@ -180,16 +185,55 @@ module _ (old : Held) (is : IsHeld old) (alignments : Names (List Piece)) where
     definitions = are;
     events = record { spans = is.events.spans; on_routes = is.events.on_routes; no_table = is.events.no_table; no_route = is.events.no_route };
     kinds = is.kinds;
+    few_routes = is.few_routes;
     referents = is.referents;
   }
 
   pub state_other_alignments : state_of with_other_alignments ≡ record (state_of old) { alignments = alignments; changes = old.changes + 1 }
   unfolding referents_from
-  state_other_alignments = same_state _ _ refl refl (same_tables old.definitions _ (spans_on old.events) (spans_on old.events) refl (λ q table at. refl)) refl refl refl refl
+  state_other_alignments = same_state _ _ refl refl (same_tables old.definitions _ (spans_on old.events) (spans_on old.events) refl (λ q table at. refl)) refl refl refl refl refl
+
+-- ---- indexes
+
+-- where indexes alone are others, and are of columns that are there, no list changes
+module _ (old : Held) (is : IsHeld old) (indexes : Names IndexItem) where
+  abbrev with_other_indexes : Held
+  with_other_indexes = record old { definitions = record old.definitions { indexes = indexes }; changes = old.changes + 1 }
+
+  pub held_other_indexes : AreDefinitions (record old.definitions { indexes = indexes }) → IsHeld with_other_indexes
+  held_other_indexes are = record {
+    definitions = are;
+    events = record { spans = is.events.spans; on_routes = is.events.on_routes; no_table = is.events.no_table; no_route = is.events.no_route };
+    kinds = is.kinds;
+    few_routes = is.few_routes;
+    referents = is.referents;
+  }
+
+module _ (old : Held) (name : Name) where
+  pub state_defined_index : (item : IndexItem) → state_of (record old { definitions = with_index old.definitions name item; changes = old.changes + 1 }) ≡ machine.with_index (state_of old) name (indexed_column item)
+  unfolding referents_from
+  state_defined_index item = same_state _ _ refl refl (same_tables old.definitions _ (spans_on old.events) (spans_on old.events) refl (λ q table at. refl)) refl refl (indexes_of-with_index old.definitions name item) refl refl
+
+  pub state_dropped_index : state_of (record old { definitions = without_index old.definitions name; changes = old.changes + 1 }) ≡ machine.without_index (state_of old) name
+  unfolding referents_from
+  state_dropped_index = same_state _ _ refl refl (same_tables old.definitions _ (spans_on old.events) (spans_on old.events) refl (λ q table at. refl)) refl refl (indexes_of-without_index old.definitions name) refl refl
+
+-- no index is of a table that is not there
+pub none_of : (definitions : Definitions) (name : Name) → AreDefinitions definitions → names.get definitions.tables name ≡ None → indexes_of_others name definitions.indexes ≡ definitions.indexes
+none_of definitions name are new = same_map name_cmp-total name_cmp-antisymmetric _ _ (λ q.
+    get-others name definitions.indexes q
+    ∙ elim (names.get definitions.indexes q) as (λ o. names.get definitions.indexes q ≡ o → cond (is_of_another name o) o None ≡ o) [
+      | None ↦ λ at. refl
+      | Some item ↦ λ at. elim (same_name name item.table) as (λ b. same_name name item.table ≡ b → cond (not b) (Some item) None ≡ Some item) [
+        | true ↦ λ same. none_some ((are.indexes q item at).1).table (sym new ∙ ap (names.get definitions.tables) (same_name-true name item.table same) ∙ ((are.indexes q item at).1).there)
+        | false ↦ λ apart. refl
+      ] refl
+    ] refl)
 
 -- a table that was added and taken out again
-pub taken_back : (old added : Definitions) (name : Name) (item : TableItem) → names.get old.tables name ≡ None → added ≡ with_table old name item → without_table added name ≡ old
-taken_back old added name item new is = ap (λ (d : Definitions). without_table d name) is ∙ ap (λ (tables : Names TableItem). record { routes = old.routes; tables = tables; views = old.views; alignments = old.alignments }) back
+pub taken_back : (old added : Definitions) (name : Name) (item : TableItem) → AreDefinitions old → names.get old.tables name ≡ None → added ≡ with_table old name item → without_table added name ≡ old
+taken_back old added name item are new is = ap (λ (d : Definitions). without_table d name) is
+    ∙ (λ i. record { routes = old.routes; tables = back i; indexes = none_of old name are new i; views = old.views; alignments = old.alignments })
   where
     back : names.remove (names.insert old.tables name item) name ≡ old.tables
     back = same_map name_cmp-total name_cmp-antisymmetric _ _ (λ q.

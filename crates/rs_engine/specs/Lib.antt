@@ -9,3 +9,4 @@ pub mod Printed
 pub mod View
 pub mod Replied
 pub mod Totalled
+pub mod Planned

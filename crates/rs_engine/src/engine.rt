@@ -1,4 +1,5 @@
-//! The engine: the definitions, the referents of routes, the spans of tables, and the count of accepted changes.
+//! The engine: the definitions, the referents of routes, the spans of tables, the cursors of sessions, and the count of
+//! accepted changes.
 //!
 //! It promises that a step makes the checks of its command in their order, that an accepted command changes what the
 //! reference machine changes, and that a refused one changes nothing.
@@ -9,9 +10,12 @@ ghost use Rattle.rs_serve.specs.ReplyView.{reply_of, StandsAlone};
 ghost use Rattle.rs_engine.specs.Replied.{count_reply_of, rows_reply_of};
 
 mod alignment_commands;
+mod cursor_commands;
 mod definitions;
 mod drops;
 mod events;
+mod indexes;
+mod plans;
 mod queries;
 mod referent_commands;
 mod runs;
@@ -19,6 +23,7 @@ mod totals;
 mod view_commands;
 
 use rs_catalog::{Catalog, RouteReferents};
+use rs_cursor::Cursors;
 use rs_event_lists::EventLists;
 use rs_machine::limits::CHANGES;
 use rs_refusal::Refusal;
@@ -27,13 +32,15 @@ use rs_syntax::Command;
 use std::alloc::Global;
 use std::marker::Model;
 
-/// Routes, tables, views and alignments, the referents of routes, the spans of tables, and how many changes were accepted.
+/// Routes, tables, indexes, views and alignments, the referents of routes, the spans of tables, the cursors of sessions, and
+/// how many changes were accepted.
 #[derive(Drop)]
 pub struct Engine {
     pub(crate) alloc: Global,
     pub(crate) catalog: Catalog,
     pub(crate) referents: RouteReferents,
     pub(crate) events: EventLists,
+    pub(crate) cursors: Cursors,
     pub(crate) changes: u64,
 }
 
@@ -45,9 +52,9 @@ impl Model for Engine {
 
     ghost coded = { held_code };
 
-    ghost view = { λ e. record { definitions = e.catalog; referents = e.referents; events = e.events; changes = e.changes } };
+    ghost view = { λ e. record { definitions = e.catalog; referents = e.referents; events = e.events; cursors = e.cursors; changes = e.changes } };
 
-    ghost invariant = { λ e. IsHeld (record { definitions = e.catalog; referents = e.referents; events = e.events; changes = e.changes }) };
+    ghost invariant = { λ e. IsHeld (record { definitions = e.catalog; referents = e.referents; events = e.events; cursors = e.cursors; changes = e.changes }) };
 }
 
 impl Engine {
@@ -57,7 +64,7 @@ impl Engine {
     ghost use Rattle.rs_engine.specs.Held.{state_of};
     ghost use Rattle.rs_engine.specs.View.{machine_of};
 
-    /// An engine with no routes, no tables, no views and no alignments. It takes no memory.
+    /// An engine with no routes, tables, indexes, views, alignments and cursors. It takes no memory.
     pub fn fresh(alloc: Global) -> Self
         ensures { ⟦<Engine as Serve>⟧.is result fresh_machine }
     {
@@ -66,6 +73,7 @@ impl Engine {
             catalog: Catalog::new(alloc),
             referents: RouteReferents::new(alloc),
             events: EventLists::new(alloc),
+            cursors: Cursors::new(alloc),
             changes: 0,
         }
     }
@@ -93,6 +101,11 @@ impl Engine {
                 name,
                 position,
             } => count_reply(alloc, self.define_referent(&route, name, &position)),
+            Command::DefineIndex {
+                name,
+                table,
+                column,
+            } => count_reply(alloc, self.define_index(name, table, &column)),
             Command::DefineView { name, query, text } => count_reply(
                 alloc,
                 self.define_view(name, query, text),
@@ -108,6 +121,7 @@ impl Engine {
             } => count_reply(alloc, self.move_referent(&route, name, &position)),
             Command::DropRoute { name } => count_reply(alloc, self.drop_route(&name)),
             Command::DropTable { name } => count_reply(alloc, self.drop_table(&name)),
+            Command::DropIndex { name } => count_reply(alloc, self.drop_index(&name)),
             Command::DropView { name } => count_reply(alloc, self.drop_view(&name)),
             Command::DropAlignment { name } => count_reply(alloc, self.drop_alignment(&name)),
             Command::DropReferent { route, name } => count_reply(
@@ -135,6 +149,22 @@ impl Engine {
                 alloc,
                 self.total(&query, by.as_slice(), &summed),
             ),
+            Command::Explain { query } => rows_reply(alloc, self.explain(&query)),
+            Command::Open {
+                cursor,
+                query,
+                method,
+            } => count_reply(alloc, self.open(session, cursor, &query, method)),
+            Command::Fetch { cursor, rows } => rows_reply(
+                alloc,
+                self.fetch(session, &cursor, rows),
+            ),
+            Command::Close { cursor } => count_reply(alloc, self.close(session, &cursor)),
+            Command::Save => count_reply(alloc, Ok(0)),
+            Command::Reopen => {
+                self.close_all();
+                count_reply(alloc, Ok(0))
+            }
         }
     }
 

@@ -11,11 +11,9 @@ use Rattle.rs_facts.specs.Query.{World, Piece, Query, transform_rows, carried_by
 use Rattle.rs_facts.specs.WellFormed.{width_of, ArePiecesOn}
 use Rattle.rs_facts.specs.Runs.{Stretch, AreRunsOf}
 use Rattle.rs_facts.specs.Spans.{seen, places_of, ArePlaced}
-use Rattle.rs_syntax.specs.declared.commands.Piece as code
-use Rattle.rs_syntax.specs.View.{piece_tree}
-use Rattle.rs_machine.specs.Checks.{piece_of}
+use Rattle.rs_checker.specs.declared.checked.LocatedPiece.{LocatedPiece}
 use Rattle.rs_sweep.specs.Lists.{AreWide}
-use Rattle.rs_catalog.specs.Definitions.{pieces_of}
+use Rattle.rs_checker.specs.CheckedView.{located_pieces, located_piece}
 use Rattle.rs_exec.specs.Evaluated.{AreRowsOf}
 use Rattle.rs_exec.specs.Rows.{HoldsRows, spans_of}
 use Rattle.rs_exec.specs.declared.rows.Rows.{Rows}
@@ -23,14 +21,14 @@ use Rattle.rs_exec.specs.Carried.{AreGathered, Gathers}
 use Rattle.rs_exec.proofs.CarriedSpans.{merged-none, none-merged, merged-assoc, runs-sorted, runs-wide}
 
 -- a piece at a place of a list, and those after it
-pub piece-first : (xs : List code.Piece) (i : ℕ) (x : code.Piece) → i < length xs → x ≡ get_or xs i x → drop i xs ≡ x ∷ drop (i + 1) xs
+pub piece-first : (xs : List LocatedPiece) (i : ℕ) (x : LocatedPiece) → i < length xs → x ≡ get_or xs i x → drop i xs ≡ x ∷ drop (i + 1) xs
 piece-first xs i x below is = drop_more xs i x below ∙ ap (λ p. p ∷ drop (i + 1) xs) (sym is)
 
-pub pieces-more : (xs : List code.Piece) (i : ℕ) (x : code.Piece) → i < length xs → x ≡ get_or xs i x → pieces_of (drop i xs) ≡ piece_of (piece_tree x) ∷ pieces_of (drop (i + 1) xs)
-pieces-more xs i x below is = ap pieces_of (piece-first xs i x below is)
+pub pieces-more : (xs : List LocatedPiece) (i : ℕ) (x : LocatedPiece) → i < length xs → x ≡ get_or xs i x → located_pieces (drop i xs) ≡ located_piece x ∷ located_pieces (drop (i + 1) xs)
+pieces-more xs i x below is = ap located_pieces (piece-first xs i x below is)
 
-pub pieces-end : (xs : List code.Piece) (i : ℕ) → length xs ≤ i → pieces_of (drop i xs) ≡ []
-pieces-end xs i done = ap pieces_of (drop_all i xs done)
+pub pieces-end : (xs : List LocatedPiece) (i : ℕ) → length xs ≤ i → located_pieces (drop i xs) ≡ []
+pieces-end xs i done = ap located_pieces (drop_all i xs done)
 
 module _ (world : World) (operand : Query) (route : Name) where
   abbrev facts : Facts

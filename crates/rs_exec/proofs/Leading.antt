@@ -9,11 +9,9 @@ use Rattle.rs_facts.specs.Fact.{Name, Facts, none}
 use Rattle.rs_facts.specs.Insert.{same_name}
 use Rattle.rs_facts.specs.Operators.{merged, carried}
 use Rattle.rs_facts.specs.Query.{World, Query, transform_rows, carried_by, transformed, rows_at}
-use Rattle.rs_syntax.specs.declared.commands.Piece as code
-use Rattle.rs_syntax.specs.View.{piece_tree}
-use Rattle.rs_machine.specs.Checks.{piece_of}
-use Rattle.rs_catalog.specs.Definitions.{pieces_of}
+use Rattle.rs_checker.specs.declared.checked.LocatedPiece.{LocatedPiece}
 use Rattle.rs_catalog.proofs.NameOrder.{name_cmp-total}
+use Rattle.rs_checker.specs.CheckedView.{located_pieces, located_piece}
 use Rattle.rs_exec.specs.declared.rows.Rows.{Rows}
 use Rattle.rs_exec.specs.Evaluated.{AreRowsOf}
 use Rattle.rs_exec.specs.Rows.{HasNone, HoldsRows, AreHeld}
@@ -24,14 +22,14 @@ use Rattle.rs_exec.proofs.Lists.{every-weaker, every-last, zip-where, or_first, 
 use Rattle.rs_exec.proofs.OnRoutes.{same_name-itself, as-spans}
 
 -- what is so for all of the routes is so for each
-pub each-led : (names sources : List Name) (pieces : List code.Piece) → AreSourcesOf names sources pieces → AllByRecursion (λ name. AllByRecursion (IsLed sources name) pieces) names
+pub each-led : (names sources : List Name) (pieces : List LocatedPiece) → AreSourcesOf names sources pieces → AllByRecursion (λ name. AllByRecursion (IsLed sources name) pieces) names
 each-led [] sources pieces all = tt
 each-led (name ∷ names) sources pieces all = (
-  every-weaker (λ piece. (same_name piece.onto_route.bytes name || list_any (same_name piece.onto_route.bytes) names) ≡ true → list_any (same_name piece.from_route.bytes) sources ≡ true) (IsLed sources name) pieces
-      (λ piece led on. led (or_first (same_name piece.onto_route.bytes name) (list_any (same_name piece.onto_route.bytes) names) on)) all,
+  every-weaker (λ piece. (same_name piece.piece.onto_route.bytes name || list_any (same_name piece.piece.onto_route.bytes) names) ≡ true → list_any (same_name piece.piece.from_route.bytes) sources ≡ true) (IsLed sources name) pieces
+      (λ piece led on. led (or_first (same_name piece.piece.onto_route.bytes name) (list_any (same_name piece.piece.onto_route.bytes) names) on)) all,
   each-led names sources pieces
-      (every-weaker (λ piece. (same_name piece.onto_route.bytes name || list_any (same_name piece.onto_route.bytes) names) ≡ true → list_any (same_name piece.from_route.bytes) sources ≡ true) (λ piece. list_any (same_name piece.onto_route.bytes) names ≡ true → list_any (same_name piece.from_route.bytes) sources ≡ true) pieces
-      (λ piece led on. led (or_second (same_name piece.onto_route.bytes name) (list_any (same_name piece.onto_route.bytes) names) on)) all),
+      (every-weaker (λ piece. (same_name piece.piece.onto_route.bytes name || list_any (same_name piece.piece.onto_route.bytes) names) ≡ true → list_any (same_name piece.piece.from_route.bytes) sources ≡ true) (λ piece. list_any (same_name piece.piece.onto_route.bytes) names ≡ true → list_any (same_name piece.piece.from_route.bytes) sources ≡ true) pieces
+      (λ piece led on. led (or_second (same_name piece.piece.onto_route.bytes name) (list_any (same_name piece.piece.onto_route.bytes) names) on)) all),
 )
 
 -- ---- sources, one more at the end
@@ -64,34 +62,34 @@ named-apart old new x pushed off apart =
 -- ---- pieces, one more
 
 -- more sources than there were, and the last piece is of one of them if it leads onto a route
-pub sources-more : (names old new : List Name) (pieces : List code.Piece) (i : ℕ) (piece : code.Piece) → i < length pieces → piece ≡ get_or pieces i piece
+pub sources-more : (names old new : List Name) (pieces : List LocatedPiece) (i : ℕ) (piece : LocatedPiece) → i < length pieces → piece ≡ get_or pieces i piece
     → ((other : Name) → list_any (same_name other) old ≡ true → list_any (same_name other) new ≡ true)
-    → (list_any (same_name piece.onto_route.bytes) names ≡ true → list_any (same_name piece.from_route.bytes) new ≡ true)
+    → (list_any (same_name piece.piece.onto_route.bytes) names ≡ true → list_any (same_name piece.piece.from_route.bytes) new ≡ true)
     → AreSourcesOf names old (take i pieces) → AreSourcesOf names new (take (i + 1) pieces)
 sources-more names old new pieces i piece below is stay last all =
     subst (AreSourcesOf names new) (sym (take_more pieces i piece below ∙ ap (λ p. take i pieces ++ p ∷ []) (sym is)))
-    (every-last (λ p. list_any (same_name p.onto_route.bytes) names ≡ true → list_any (same_name p.from_route.bytes) new ≡ true) (take i pieces) piece
-    (every-weaker (λ p. list_any (same_name p.onto_route.bytes) names ≡ true → list_any (same_name p.from_route.bytes) old ≡ true) (λ p. list_any (same_name p.onto_route.bytes) names ≡ true → list_any (same_name p.from_route.bytes) new ≡ true) (take i pieces)
-    (λ p led on. stay p.from_route.bytes (led on)) all) last)
+    (every-last (λ p. list_any (same_name p.piece.onto_route.bytes) names ≡ true → list_any (same_name p.piece.from_route.bytes) new ≡ true) (take i pieces) piece
+    (every-weaker (λ p. list_any (same_name p.piece.onto_route.bytes) names ≡ true → list_any (same_name p.piece.from_route.bytes) old ≡ true) (λ p. list_any (same_name p.piece.onto_route.bytes) names ≡ true → list_any (same_name p.piece.from_route.bytes) new ≡ true) (take i pieces)
+    (λ p led on. stay p.piece.from_route.bytes (led on)) all) last)
 
 -- ---- no piece leads there
 
 module _ (facts : Facts) (name : Name) where
-  apart : (piece : code.Piece) (k : ℕ) → IsLed [] name piece → carried_by (piece_of (piece_tree piece)) facts name k ≡ none
-  apart piece k led = elim (same_name piece.onto_route.bytes name) as (λ b. same_name piece.onto_route.bytes name ≡ b → (if b then carried piece.from piece.to piece.onto (facts piece.from_route.bytes) k else none) ≡ none) [
+  apart : (piece : LocatedPiece) (k : ℕ) → IsLed [] name piece → carried_by (located_piece piece) facts name k ≡ none
+  apart piece k led = elim (same_name piece.piece.onto_route.bytes name) as (λ b. same_name piece.piece.onto_route.bytes name ≡ b → (if b then carried piece.piece.from piece.piece.to piece.piece.onto (facts piece.piece.from_route.bytes) k else none) ≡ none) [
     | true ↦ λ on. absurd (let wrong : false ≡ true = led on in cc)
     | false ↦ λ on. refl
   ] refl
 
-  nowhere : (pieces : List code.Piece) (k : ℕ) → AllByRecursion (IsLed [] name) pieces → transformed (pieces_of pieces) facts name k ≡ none
+  nowhere : (pieces : List LocatedPiece) (k : ℕ) → AllByRecursion (IsLed [] name) pieces → transformed (located_pieces pieces) facts name k ≡ none
   nowhere [] k led = refl
   nowhere (piece ∷ pieces) k led =
-      ap (λ rows. merged rows (transformed (pieces_of pieces) facts name k)) (apart piece k led.0)
-      ∙ none-merged (transformed (pieces_of pieces) facts name k)
+      ap (λ rows. merged rows (transformed (located_pieces pieces) facts name k)) (apart piece k led.0)
+      ∙ none-merged (transformed (located_pieces pieces) facts name k)
       ∙ nowhere pieces k led.1
 
-module _ (world : World) (operand : Query) (alignment : Name) (pieces : List code.Piece) where
-  transform-none : (name : Name) → AllByRecursion (IsLed [] name) pieces → AreRowsOf world (transform_rows operand alignment (pieces_of pieces)) name []
+module _ (world : World) (operand : Query) (alignment : Name) (pieces : List LocatedPiece) where
+  transform-none : (name : Name) → AllByRecursion (IsLed [] name) pieces → AreRowsOf world (transform_rows operand alignment (located_pieces pieces)) name []
   transform-none name led = record {
     means = λ k. sym (nowhere (rows_at world operand) name pieces k led);
     sorted = tt;
@@ -99,8 +97,8 @@ module _ (world : World) (operand : Query) (alignment : Name) (pieces : List cod
     wide = tt;
   }
 
-  pub transform-held : (names : List Name) (rows : List Rows) → AreSourcesOf names [] pieces → AreNone names rows → AreHeld world (transform_rows operand alignment (pieces_of pieces)) names rows
+  pub transform-held : (names : List Name) (rows : List Rows) → AreSourcesOf names [] pieces → AreNone names rows → AreHeld world (transform_rows operand alignment (located_pieces pieces)) names rows
   transform-held names rows sources all =
-      zip-where (λ name. AllByRecursion (IsLed [] name) pieces) (λ name each. HasNone each) (HoldsRows world (transform_rows operand alignment (pieces_of pieces))) names rows
-      (λ name each led bare. as-spans world (transform_rows operand alignment (pieces_of pieces)) name each [] bare.none bare.ordered (transform-none name led))
+      zip-where (λ name. AllByRecursion (IsLed [] name) pieces) (λ name each. HasNone each) (HoldsRows world (transform_rows operand alignment (located_pieces pieces))) names rows
+      (λ name each led bare. as-spans world (transform_rows operand alignment (located_pieces pieces)) name each [] bare.none bare.ordered (transform-none name led))
       (each-led names [] pieces sources) all

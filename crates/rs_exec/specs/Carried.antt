@@ -8,9 +8,10 @@ use Rattle.rs_facts.specs.Query.{World, Piece, Query, transform_rows, transforme
 use Rattle.rs_facts.specs.WellFormed.{width_of, ArePiecesOn}
 use Rattle.rs_facts.specs.Runs.{Stretch}
 use Rattle.rs_facts.specs.Spans.{places_of, ArePlaced}
-use Rattle.rs_syntax.specs.declared.commands.Piece as code
+use Rattle.rs_checker.specs.declared.checked.LocatedPiece.{LocatedPiece}
 use Rattle.rs_sweep.specs.Lists.{AreWide}
-use Rattle.rs_catalog.specs.Definitions.{routes_of, pieces_of}
+use Rattle.rs_catalog.specs.Definitions.{routes_of}
+use Rattle.rs_checker.specs.CheckedView.{located_pieces}
 use Rattle.rs_exec.specs.Operand.{asked}
 use Rattle.rs_exec.specs.declared.carrying.Sources.{Sources}
 use Rattle.rs_exec.specs.declared.rows.Rows.{Rows}
@@ -39,12 +40,12 @@ pub record Gathers (world : World) (operand : Query) (route : Name) (pieces rest
 -- ---- the routes from which pieces carry
 
 -- a piece that leads onto the route is of one of the sources
-abbrev pub IsLed : List Name → Name → code.Piece → Type 0
-IsLed sources name piece = same_name piece.onto_route.bytes name ≡ true → list_any (same_name piece.from_route.bytes) sources ≡ true
+abbrev pub IsLed : List Name → Name → LocatedPiece → Type 0
+IsLed sources name piece = same_name piece.piece.onto_route.bytes name ≡ true → list_any (same_name piece.piece.from_route.bytes) sources ≡ true
 
 -- each piece that leads onto one of the routes is of one of the sources
-abbrev pub AreSourcesOf : List Name → List Name → List code.Piece → Type 0
-AreSourcesOf names sources pieces = AllByRecursion (λ piece. list_any (same_name piece.onto_route.bytes) names ≡ true → list_any (same_name piece.from_route.bytes) sources ≡ true) pieces
+abbrev pub AreSourcesOf : List Name → List Name → List LocatedPiece → Type 0
+AreSourcesOf names sources pieces = AllByRecursion (λ piece. list_any (same_name piece.piece.onto_route.bytes) names ≡ true → list_any (same_name piece.piece.from_route.bytes) sources ≡ true) pieces
 
 -- no two of the names are the same
 abbrev pub AreApart : List Name → Type 0
@@ -53,7 +54,7 @@ AreApart (name ∷ names) = AllByRecursion (λ other. same_name name other ≡ f
 
 -- the pieces lie on routes that are there, and the rows are the operand's on the sources
 pub record AreHeldSources (sources : Sources) : Type 0 where
-  pub lie : ArePiecesOn (routes_of sources.base.catalog.now) (pieces_of sources.pieces.now)
+  pub lie : ArePiecesOn (routes_of sources.base.catalog.now) (located_pieces sources.pieces.now)
   pub held : AreHeld (base_world sources.base) (asked sources.operand) (names_of sources.routes) (list_of sources.rows.now)
 
 abbrev pub AreLed : Sources → Name → Type 0
@@ -61,4 +62,4 @@ AreLed sources name = AllByRecursion (IsLed (names_of sources.routes) name) sour
 
 -- the rows are what the pieces carry onto the route, by whatever name the alignment goes
 pub record IsCarried (sources : Sources) (name : Name) (rows : Rows) : Type 0 where
-  pub holds : (alignment : Name) → HoldsRows (base_world sources.base) (transform_rows (asked sources.operand) alignment (pieces_of sources.pieces.now)) name rows
+  pub holds : (alignment : Name) → HoldsRows (base_world sources.base) (transform_rows (asked sources.operand) alignment (located_pieces sources.pieces.now)) name rows

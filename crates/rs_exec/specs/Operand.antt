@@ -1,8 +1,7 @@
 -- A query that is still to be evaluated, by its topmost node.
 use Rattle.std.specs.Prelude.{ℕ, suc, ◌+◌}
 use Rattle.rs_facts.specs.Query.{Query, table_rows, where_rows, dissolve_rows, rename_column, overlay_rows, cover_rows, merge_rows, minus_rows, window_rows, transform_rows}
-use Rattle.rs_catalog.specs.Definitions.{pieces_of}
-use Rattle.rs_checker.specs.CheckedView.{window_of, query_of}
+use Rattle.rs_checker.specs.CheckedView.{window_of, query_of, located_pieces}
 use Rattle.rs_exec.specs.declared.operand.Asked.{Asked}
 use Rattle.rs_exec.specs.declared.operand.Operand.{Operand}
 use Rattle.rs_exec.specs.declared.operand.Node.{Node}
@@ -22,7 +21,7 @@ node_query (nodes.Changed change operand) = changed_query change (asked_of opera
 node_query (nodes.Renamed operand column name) = rename_column (asked_of operand) column name.now.bytes
 node_query (nodes.Paired pairing left right) = paired_query pairing (asked_of left) (asked_of right)
 node_query (nodes.Seen operand window) = window_rows (asked_of operand) (window_of window.now)
-node_query (nodes.Carried operand name pieces) = transform_rows (asked_of operand) name.now.bytes (pieces_of pieces.now)
+node_query (nodes.Carried operand name pieces) = transform_rows (asked_of operand) name.now.bytes (located_pieces pieces.now)
 
 -- how many nodes a query has
 abbrev pub size : Query → ℕ

@@ -10,10 +10,9 @@ ghost use Rattle.rs_facts.specs.Operators.{carried, merged};
 ghost use Rattle.rs_facts.specs.Query.{transform_rows, carried_by, rows_at};
 ghost use Rattle.rs_facts.specs.WellFormed.{IsPieceOn};
 ghost use Rattle.rs_facts.specs.Spans.{seen, places_of, ArePlaced};
-ghost use Rattle.rs_syntax.specs.View.{piece_tree};
-ghost use Rattle.rs_machine.specs.Checks.{piece_of};
 ghost use Rattle.rs_sweep.specs.Lists.{AreWide};
-ghost use Rattle.rs_catalog.specs.Definitions.{routes_of, pieces_of};
+ghost use Rattle.rs_catalog.specs.Definitions.{routes_of};
+ghost use Rattle.rs_checker.specs.CheckedView.{located_piece, located_pieces};
 ghost use Rattle.rs_exec.specs.Operand.{asked};
 ghost use Rattle.rs_exec.specs.Rows.{HoldsRows, AreHeld};
 ghost use Rattle.rs_exec.specs.Routes.{base_world, names_in, names_of, list_of};
@@ -23,6 +22,7 @@ use crate::evaluation::Base;
 use crate::operand::Asked;
 use crate::routes::{Routes, RowsOn, is_among, is_in, is_same};
 use crate::rows::{Rows, spans_in};
+use rs_checker::LocatedPiece;
 use rs_coalesce::runs;
 use rs_facts::Span;
 use rs_methods::Name;
@@ -38,7 +38,7 @@ pub(crate) struct Sources<'a> {
     /// The operand.
     pub(crate) operand: Asked<'a>,
     /// The pieces.
-    pub(crate) pieces: &'a [Piece],
+    pub(crate) pieces: &'a [LocatedPiece],
     /// The routes from which the pieces carry.
     pub(crate) routes: Routes<'a>,
     /// The rows of the operand on each of them.
@@ -48,7 +48,7 @@ pub(crate) struct Sources<'a> {
 /// The routes from which a piece leads onto one of the routes, each once. The only refusal is for want of memory.
 pub(crate) fn sources_of<'a>(
     alloc: Global,
-    pieces: &'a [Piece],
+    pieces: &'a [LocatedPiece],
     routes: Routes<'_>,
 ) -> Result<Vec<&'a Name>, AllocError>
     ensures led { IfOk result (λ sources. AreSourcesOf (names_of routes.entry) (names_in sources.items) pieces.now) }
@@ -56,8 +56,8 @@ pub(crate) fn sources_of<'a>(
 {
     let mut sources = Vec::new(alloc);
     for piece in pieces {
-        if is_among(&piece.onto_route, routes) {
-            add_source(&mut sources, &piece.from_route)?;
+        if is_among(&piece.piece.onto_route, routes) {
+            add_source(&mut sources, &piece.piece.from_route)?;
         }
     }
     Ok(sources)
@@ -86,7 +86,7 @@ pub(crate) fn carried_on<'a>(
     requires held { AreHeldSources sources.now }
     requires led { AllByRecursion (AreLed sources.now) (names_of routes) }
     ensures { IfOk result (λ rows. (alignment : List ℕ) → AreHeld (base_world sources.now.base)
-        (transform_rows (asked sources.now.operand) alignment (pieces_of sources.now.pieces.now)) (names_of routes.entry) (list_of rows)) }
+        (transform_rows (asked sources.now.operand) alignment (located_pieces sources.now.pieces.now)) (names_of routes.entry) (list_of rows)) }
 {
     let first = carried_to(alloc, sources, routes.first)?;
     let others = carried_each(alloc, sources, routes.others)?;
@@ -129,22 +129,22 @@ fn carried_to<'a>(alloc: Global, sources: &Sources<'_>, name: &Name) -> Result<R
 fn carry_piece(
     alloc: Global,
     sources: &Sources<'_>,
-    piece: &Piece,
+    piece: &LocatedPiece,
     name: &Name,
     gathered: &mut Vec<Span>,
 ) -> Result<(), AllocError>
     requires held { AreHeldSources sources.now }
-    requires lies { IsPieceOn (routes_of sources.now.base.catalog.now) (piece_of (piece_tree piece.now)) }
+    requires lies { IsPieceOn (routes_of sources.now.base.catalog.now) (located_piece piece.now) }
     requires led { IsLed (names_of sources.now.routes) name.now.bytes piece.now }
     ensures { OnOk result (AreGathered (base_world sources.now.base) (asked sources.now.operand)
-        (carried_by (piece_of (piece_tree piece.now)) (rows_at (base_world sources.now.base) (asked sources.now.operand)) name.now.bytes)
+        (carried_by (located_piece piece.now) (rows_at (base_world sources.now.base) (asked sources.now.operand)) name.now.bytes)
         (map seen gathered.old.items) (map seen gathered.new.items)) }
 {
-    if !is_same(&piece.onto_route, name) {
+    if !is_same(&piece.piece.onto_route, name) {
         return Ok(());
     }
-    let spans = spans_from(sources, &piece.from_route);
-    carry(alloc, spans, piece, gathered)?;
+    let spans = spans_from(sources, &piece.piece.from_route);
+    carry(alloc, spans, &piece.piece, gathered)?;
     Ok(())
 }
 

@@ -10,9 +10,9 @@ ghost use Rattle.rs_facts.specs.Query.{window_rows, transform_rows};
 ghost use Rattle.rs_facts.specs.WellFormed.{ArePiecesOn, IsWellFormed};
 ghost use Rattle.rs_facts.specs.Spans.{seen};
 ghost use Rattle.rs_event_lists.specs.Held.{spans_on};
-ghost use Rattle.rs_catalog.specs.Definitions.{routes_of, pieces_of, world_from};
+ghost use Rattle.rs_catalog.specs.Definitions.{routes_of, world_from};
 ghost use Rattle.rs_catalog.specs.Events.{AreEventsOf};
-ghost use Rattle.rs_checker.specs.CheckedView.{window_of, query_of};
+ghost use Rattle.rs_checker.specs.CheckedView.{window_of, located_pieces, query_of};
 ghost use Rattle.rs_exec.specs.Evaluated.{AreRowsOf};
 ghost use Rattle.rs_exec.specs.Operand.{asked_of};
 ghost use Rattle.rs_exec.specs.Rows.{AreHeld};
@@ -27,11 +27,10 @@ use crate::rows::own_rows;
 use crate::tables::kept_on;
 use crate::windows::{is_on, route_of, seen_through, spread_on};
 use rs_catalog::{Catalog, RouteEntry};
-use rs_checker::{CheckedQuery, LocatedWindow};
+use rs_checker::{CheckedQuery, LocatedPiece, LocatedWindow};
 use rs_event_lists::EventLists;
 use rs_facts::Span;
 use rs_methods::Name;
-use rs_syntax::Piece;
 use std::alloc::{AllocError, Global};
 
 /// What a query is evaluated over, and on which route.
@@ -154,13 +153,13 @@ fn carried_rows<'a>(
     base: &Base<'a>,
     routes: Routes<'_>,
     operand: Operand<'a>,
-    pieces: &'a [Piece],
+    pieces: &'a [LocatedPiece],
 ) -> Result<RowsOn<'a>, AllocError>
     requires stored { AreEventsOf base.now.catalog.now (spans_on base.now.events.now) }
     requires well_formed { IsWellFormed (base_world base.now) (asked_of operand) }
-    requires lie { ArePiecesOn (routes_of base.now.catalog.now) (pieces_of pieces.now) }
+    requires lie { ArePiecesOn (routes_of base.now.catalog.now) (located_pieces pieces.now) }
     ensures { IfOk result (λ rows. (alignment : List ℕ) → AreHeld (base_world base.now)
-        (transform_rows (asked_of operand.entry) alignment (pieces_of pieces.now)) (names_of routes.entry) (list_of rows)) }
+        (transform_rows (asked_of operand.entry) alignment (located_pieces pieces.now)) (names_of routes.entry) (list_of rows)) }
 {
     let names = sources_of(alloc, pieces, routes)?;
     let Some((first, others)) = names.split_first() else {

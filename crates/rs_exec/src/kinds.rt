@@ -15,7 +15,7 @@ pub(crate) fn kind_of(catalog: &Catalog, query: &CheckedQuery) -> Kind
     ensures { (spans_on : ℕ → ℕ → List Stretch) → result ≡ kind_of (world_from catalog.now spans_on) (query_of query.now) }
 {
     match query {
-        CheckedQuery::Table(name) => match catalog.table(name) {
+        CheckedQuery::Table(table) => match catalog.table(&table.name) {
             Some(table) => table.kind(),
             None => Kind::Line,
         },

@@ -12,9 +12,8 @@ use crate::changes::Change;
 use crate::kinds::kind_of;
 use crate::pairs::Pairing;
 use rs_catalog::Catalog;
-use rs_checker::{CheckedQuery, LocatedWindow};
+use rs_checker::{CheckedQuery, LocatedPiece, LocatedWindow};
 use rs_methods::Name;
-use rs_syntax::Piece;
 use rs_value::Kind;
 
 /// What a query asks for. It can't be evaluated.
@@ -43,7 +42,7 @@ pub(crate) enum Node<'a> {
     /// The rows inside a window.
     Seen(Operand<'a>, &'a LocatedWindow),
     /// The rows carried by the pieces of the alignment of this name.
-    Carried(Operand<'a>, &'a Name, &'a [Piece]),
+    Carried(Operand<'a>, &'a Name, &'a [LocatedPiece]),
 }
 
 impl<'a> Asked<'a> {
@@ -77,7 +76,7 @@ impl<'a> Operand<'a> {
         ensures { asked_of self.entry ≡ node_query result }
     {
         match self.asked.query {
-            CheckedQuery::Table(name) => Node::Table(name),
+            CheckedQuery::Table(table) => Node::Table(&table.name),
             CheckedQuery::Where(operand, condition) => {
                 Node::Changed(Change::Where(condition), Operand::of(operand))
             }

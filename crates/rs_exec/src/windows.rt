@@ -26,7 +26,7 @@ pub(crate) fn route_of(window: &LocatedWindow) -> &Name
     ensures { result.now.bytes ≡ route_of (window_of window.now) }
 {
     match window {
-        LocatedWindow::Whole { route } => route,
+        LocatedWindow::Whole { route, .. } => route,
         LocatedWindow::Part { route, .. } => route,
     }
 }
@@ -36,7 +36,7 @@ pub(crate) fn is_on(window: LocatedWindow, name: &Name) -> bool
     ensures { result ≡ same_name (route_of (window_of window)) name.now.bytes }
 {
     match window {
-        LocatedWindow::Whole { route } => is_same(&route, name),
+        LocatedWindow::Whole { route, .. } => is_same(&route, name),
         LocatedWindow::Part { route, .. } => is_same(&route, name),
     }
 }

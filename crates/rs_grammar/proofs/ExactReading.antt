@@ -127,7 +127,7 @@ all_in-lacks xs ys kind all e =
 
 -- The first tokens of a part, and the tokens that reading it would take where something else follows.
 abbrev pub first_kinds : Part → List TokenKind
-first_kinds g.command = kinds.Define ∷ kinds.Drop ∷ kinds.Move ∷ kinds.Insert ∷ kinds.Remove ∷ kinds.Translate ∷ kinds.Select ∷ kinds.Total ∷ []
+first_kinds g.command = kinds.Define ∷ kinds.Drop ∷ kinds.Move ∷ kinds.Insert ∷ kinds.Remove ∷ kinds.Translate ∷ kinds.Select ∷ kinds.Total ∷ kinds.Explain ∷ kinds.Open ∷ kinds.Fetch ∷ kinds.Close ∷ kinds.Save ∷ kinds.Reopen ∷ []
 first_kinds g.place = kinds.From ∷ kinds.At ∷ []
 first_kinds g.columns = kinds.Name ∷ []
 first_kinds g.column = kinds.Name ∷ []

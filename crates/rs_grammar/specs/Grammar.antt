@@ -46,6 +46,9 @@ define_route_form = need kinds.Name (need kinds.From (sub measure (need kinds.To
 abbrev pub define_referent_form : Form
 define_referent_form = need kinds.Name (need kinds.Name (need kinds.At (sub position done)))
 
+abbrev pub define_index_form : Form
+define_index_form = need kinds.Name (need kinds.On (need kinds.Name (need kinds.LeftParen (need kinds.Name (need kinds.RightParen done)))))
+
 abbrev pub define_view_form : Form
 define_view_form = need kinds.Name (need kinds.As (sub query done))
 
@@ -58,7 +61,7 @@ define_alignment_form = need kinds.Name (need kinds.LeftParen (sub pieces (need 
 abbrev pub define_form : Form
 define_form =
     pick kinds.Route define_route_form (pick kinds.Referent define_referent_form (pick kinds.View define_view_form
-    (pick kinds.Alignment define_alignment_form (pick kinds.Line define_table_form (need kinds.Point define_table_form)))))
+    (pick kinds.Alignment define_alignment_form (pick kinds.Index define_index_form (pick kinds.Line define_table_form (need kinds.Point define_table_form))))))
 
 -- the name of what is dropped
 abbrev pub drop_name_form : Form
@@ -70,7 +73,7 @@ drop_referent_form = need kinds.Name (need kinds.Name done)
 abbrev pub drop_form : Form
 drop_form =
     pick kinds.Route drop_name_form (pick kinds.Table drop_name_form (pick kinds.View drop_name_form
-    (pick kinds.Alignment drop_name_form (need kinds.Referent drop_referent_form))))
+    (pick kinds.Alignment drop_name_form (pick kinds.Index drop_name_form (need kinds.Referent drop_referent_form)))))
 
 abbrev pub move_form : Form
 move_form = need kinds.Referent (need kinds.Name (need kinds.Name (need kinds.To (sub position done))))
@@ -111,11 +114,25 @@ summed_form = pick kinds.Sum (need kinds.Name done) done
 abbrev pub total_form : Form
 total_form = sub query (need kinds.By (sub bracketed_names summed_form))
 
+abbrev pub explain_form : Form
+explain_form = sub query done
+
+abbrev pub open_form : Form
+open_form = need kinds.Name (need kinds.For (sub query wanted_form))
+
+abbrev pub fetch_form : Form
+fetch_form = need kinds.Name (need kinds.Whole done)
+
+abbrev pub close_form : Form
+close_form = need kinds.Name done
+
 abbrev pub command_form : Form
 command_form =
     pick kinds.Define define_form (pick kinds.Drop drop_form (pick kinds.Move move_form
     (pick kinds.Insert insert_form (pick kinds.Remove remove_form (pick kinds.Translate translate_form
-    (pick kinds.Select select_form (need kinds.Total total_form)))))))
+    (pick kinds.Select select_form (pick kinds.Total total_form (pick kinds.Explain explain_form
+    (pick kinds.Open open_form (pick kinds.Fetch fetch_form (pick kinds.Close close_form
+    (pick kinds.Save done (need kinds.Reopen done)))))))))))))
 
 abbrev pub columns_form : Form
 columns_form = sub column (pick kinds.Comma (sub columns done) done)

@@ -1,4 +1,4 @@
-//! The kinds of token, the reserved words, and the bounds of names and brackets.
+//! The kinds of token, the reserved words, and the bounds of names, brackets and rows that are fetched.
 //!
 //! Each reserved word and each symbol of the language is a kind of its own, so the grammar speaks of kinds alone.
 
@@ -7,6 +7,9 @@ pub const NAME_BYTES: usize = 32;
 
 /// How many brackets may be open at once.
 pub const BRACKETS: usize = 32;
+
+/// How many rows may be fetched by one line at the most.
+pub const FETCHED_ROWS: u32 = 1_000;
 
 /// What a token is.
 #[derive(Clone, Copy, PartialEq, Eq)]

@@ -12,7 +12,7 @@ ghost use Rattle.rs_grammar.specs.Reading.{Runs, StopsAt};
 pub mod kind;
 pub mod limits;
 
-pub use kind::{BRACKETS, NAME_BYTES, TokenKind};
+pub use kind::{BRACKETS, FETCHED_ROWS, NAME_BYTES, TokenKind};
 
 /// Reading by the table finds the commands, and the first token that fits no rule.
 pub fn reading_finds_the_first_fault()

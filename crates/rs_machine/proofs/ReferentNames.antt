@@ -8,23 +8,24 @@ use Rattle.std.specs.Cmp.{tied_itself}
 use Rattle.std.specs.FinMap as names
 use Rattle.std.specs.FinMap.{find, get-insert, get-remove, get-empty, get-entries}
 use Rattle.rs_refusal.specs.declared.refusal.Refusal.{Refusal}
-use Rattle.rs_refusal.specs.declared.refusal.Refusal.TheVariants.{InUse, NameTaken, NoSuchReferent, Limit, EmptySpan, PointOrLineWanted, ColumnTwice}
+use Rattle.rs_refusal.specs.declared.refusal.Refusal.TheVariants.{InUse, NameTaken, NoSuchReferent, Limit, EmptySpan, PointOrLineWanted, ColumnTwice, CursorNameTaken, TooManyCursors}
 use Rattle.rs_value.specs.declared.column.TheConstants.{COLUMNS}
 use Rattle.rs_value.specs.Row.{Row}
 use Rattle.rs_facts.specs.Fact.{Name, Names, name_cmp}
 use Rattle.rs_facts.specs.Insert.{same_name}
 use Rattle.rs_facts.specs.Totals.{totalled}
 use Rattle.rs_methods.specs.Position.{PositionExpression, start_name}
+use Rattle.rs_methods.specs.declared.position.Method.{Method}
 use Rattle.rs_methods.specs.PositionText.{AreWords}
-use Rattle.rs_syntax.specs.Tree.{EventLocationTree, WindowTree, PieceTree, ConditionTree, QueryTree, CommandTree, define_route, define_table, define_referent, define_view, define_alignment, move_referent, drop_route, drop_table, drop_view, drop_alignment, drop_referent, insert, remove, translate, select, total}
+use Rattle.rs_syntax.specs.Tree.{EventLocationTree, WindowTree, PieceTree, ConditionTree, QueryTree, CommandTree, define_route, define_table, define_referent, define_index, define_view, define_alignment, move_referent, drop_route, drop_table, drop_index, drop_view, drop_alignment, drop_referent, insert, remove, translate, select, total, explain, open_cursor, fetch, close_cursor, save, reopen}
 use Rattle.rs_syntax.specs.Verdict.{Reads}
 use Rattle.rs_syntax.specs.Sound.{IsName, IsSound}
 use Rattle.rs_machine.specs.State.{State, fresh, has}
-use Rattle.rs_machine.specs.Checks.{◌>>=◌, unless, route_named, table_named, view_named, alignment_named, pieces_checked, has_table_or_view, has_referent, position_on, event_span, location_kind, window_span, window_route, same_kind, some_name_twice, column_names, row_fits}
+use Rattle.rs_machine.specs.Checks.{◌>>=◌, unless, route_named, table_named, view_named, alignment_named, index_named, cursor_named, pieces_checked, has_table_or_view, has_referent, position_on, event_span, location_kind, window_span, window_route, same_kind, some_name_twice, column_names, row_fits}
 use Rattle.rs_machine.specs.Opening.{some_view, names_query, names_alignment, names_route, names_referent, some_piece_on}
-use Rattle.rs_machine.specs.Checking.{checked, removal_checked, columns_in, group_checked, summed_checked}
-use Rattle.rs_machine.specs.declared.limits.TheConstants.{ROUTES, REFERENTS, TABLES, VIEWS, ALIGNMENTS, PIECES}
-use Rattle.rs_machine.specs.Step.{Effect, may_change, has_fact_on, some_table, referents_at, with_referents, referent_defined, referent_moved, referent_dropped, view_defined, alignment_defined, route_dropped, row_inserted, rows_removed, rows_along, outcome}
+use Rattle.rs_machine.specs.Checking.{column_place, checked, removal_checked, columns_in, group_checked, summed_checked}
+use Rattle.rs_machine.specs.declared.limits.TheConstants.{ROUTES, REFERENTS, TABLES, INDEXES, VIEWS, ALIGNMENTS, PIECES, CURSORS}
+use Rattle.rs_machine.specs.Step.{Effect, may_change, no_cursor_waits, index_defined, cursor_opened, has_fact_on, some_table, referents_at, with_referents, referent_defined, referent_moved, referent_dropped, view_defined, alignment_defined, route_dropped, row_inserted, rows_removed, rows_along, outcome}
 use Rattle.rs_machine.specs.Served.{Machine, Reply, Answers, Served}
 use Rattle.rs_machine.specs.Request.{Request, unreadable, no_command, command, Asks, is_text}
 use Rattle.rs_machine.specs.Answered.{Answer, Replies, AnswersLine, Answered}
@@ -115,7 +116,8 @@ unfolding referents_at
 route_dropped_named state name named =
     through (route_named state name) _ (λ ends.
     through (unless (not (some_table state (has_fact_on name ends) || some_piece_on state name || some_view state (names_route name))) InUse) _ (λ unused.
-    through (may_change state) _ (λ change. record { named = record { each = λ route. at route (same_name route name) } })))
+    through (no_cursor_waits state) _ (λ none.
+    through (may_change state) _ (λ change. record { named = record { each = λ route. at route (same_name route name) } }))))
   where
     at : (route : Name) (same : Bool) → Named (if same then names.empty else state.referents route)
     at route true = λ other measure got. absurd (none_there measure (sym (get-empty name_cmp other) ∙ got))
@@ -153,6 +155,20 @@ alignment_defined_named state name pieces named =
     through (pieces_checked state.routes pieces) _ (λ lie.
     through (may_change state) _ (λ change. record { named = record { each = named.each } }))))
 
+index_defined_named : (state : State) (name of column : Name) → AreNamed state → Keeps (index_defined state name of column)
+index_defined_named state name of column named =
+    through (table_named state of) _ (λ table.
+    through (column_place table.columns column) _ (λ place.
+    through (unless (not (has state.indexes name)) NameTaken) _ (λ new.
+    through (unless (nat_lt (names.len state.indexes) INDEXES) Limit) _ (λ room.
+    through (may_change state) _ (λ change. record { named = record { each = named.each } })))))
+
+cursor_opened_named : (state : State) (session : ℕ) (name : Name) (query : QueryTree) (method : Method) → AreNamed state → Keeps (cursor_opened state session name query method)
+cursor_opened_named state session name query method named =
+    through (checked state query) _ (λ made.
+    through (unless (not (has (state.cursors session) name)) CursorNameTaken) _ (λ new.
+    through (unless (nat_lt (names.len (state.cursors session)) CURSORS) TooManyCursors) _ (λ room. record { named = record { each = named.each } })))
+
 outcome_named : (state : State) (session : ℕ) (tree : CommandTree) → IsSound tree → AreNamed state → Keeps (outcome state session tree)
 outcome_named state session (define_route name start finish) sound named =
     through (unless (not (has state.routes name)) NameTaken) _ (λ new.
@@ -166,6 +182,7 @@ outcome_named state session (define_table kind name columns) sound named =
     through (unless (nat_lt (names.len state.tables) TABLES) Limit) _ (λ room.
     through (may_change state) _ (λ change. record { named = record { each = named.each } })))))
 outcome_named state session (define_referent route name position) sound named = defined_named state route name position sound.1 named
+outcome_named state session (define_index name table column) sound named = index_defined_named state name table column named
 outcome_named state session (define_view name query text) sound named = view_defined_named state name query named
 outcome_named state session (define_alignment name pieces) sound named = alignment_defined_named state name pieces named
 outcome_named state session (move_referent route name position) sound named = moved_named state route name position sound.1 named
@@ -173,6 +190,11 @@ outcome_named state session (drop_route name) sound named = route_dropped_named 
 outcome_named state session (drop_table name) sound named =
     through (table_named state name) _ (λ table.
     through (unless (not (some_view state (names_query name))) InUse) _ (λ unused.
+    through (no_cursor_waits state) _ (λ none.
+    through (may_change state) _ (λ change. record { named = record { each = named.each } }))))
+outcome_named state session (drop_index name) sound named =
+    through (index_named state name) _ (λ index.
+    through (no_cursor_waits state) _ (λ none.
     through (may_change state) _ (λ change. record { named = record { each = named.each } })))
 outcome_named state session (drop_view name) sound named =
     through (view_named state name) _ (λ view.
@@ -193,6 +215,12 @@ outcome_named state session (total tree by summed) sound named =
     through (group_checked (columns_in state query) by) _ (λ group.
     through (summed_checked (columns_in state query) summed) _ (λ column.
     through (totalled group column (rows_along state query)) _ (λ totals. record { named = named }))))
+outcome_named state session (explain tree) sound named = through (checked state tree) _ (λ query. record { named = named })
+outcome_named state session (open_cursor name query method) sound named = cursor_opened_named state session name query method named
+outcome_named state session (fetch name rows) sound named = through (cursor_named state session name) _ (λ lines. record { named = record { each = named.each } })
+outcome_named state session (close_cursor name) sound named = through (cursor_named state session name) _ (λ lines. record { named = record { each = named.each } })
+outcome_named state session save sound named = record { named = named }
+outcome_named state session reopen sound named = record { named = record { each = named.each } }
 
 answers_named : (old : Machine) (result : Result Effect Refusal) (reply : Reply) (new : Machine) → Keeps result → AreNamed old.state → Answers old result reply new → AreNamed new.state
 answers_named old (Ok effect) reply new kept named answers = subst AreNamed (sym answers.1) kept.named

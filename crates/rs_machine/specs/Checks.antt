@@ -3,7 +3,7 @@ use Rattle.std.specs.Prelude.{ℕ, ◌+◌, ◌-◌, Bool, true, false, ◌&&◌
 use Rattle.std.specs.List.{list_any}
 use Rattle.std.specs.FinMap as names
 use Rattle.rs_refusal.specs.declared.refusal.Refusal.{Refusal}
-use Rattle.rs_refusal.specs.declared.refusal.Refusal.TheVariants.{NoSuchRoute, NoSuchName, OutsideTheRoute, EmptySpan}
+use Rattle.rs_refusal.specs.declared.refusal.Refusal.TheVariants.{NoSuchRoute, NoSuchName, OutsideTheRoute, EmptySpan, NoSuchCursor}
 use Rattle.rs_methods.specs.Position.{PositionExpression, start_name, located}
 use Rattle.rs_value.specs.declared.column.Kind.{Kind}
 use Rattle.rs_value.specs.declared.column.Kind.TheVariants.{Point, Line}
@@ -13,8 +13,9 @@ use Rattle.rs_value.specs.Fitting.{misfit}
 use Rattle.rs_facts.specs.Fact.{Name, Names}
 use Rattle.rs_facts.specs.Insert.{same_name}
 use Rattle.rs_facts.specs.Query.{RouteEnds, Column, Table, Piece}
+use Rattle.rs_planning.specs.Basis.{IndexedColumn}
 use Rattle.rs_syntax.specs.Tree.{EventLocationTree, along, at_point, WindowTree, whole_route, part_of_route, PieceTree, QueryTree}
-use Rattle.rs_machine.specs.State.{State, has}
+use Rattle.rs_machine.specs.State.{RowText, State, has}
 
 -- one check after another, up to the first that fails
 infixl 10 ◌>>=◌
@@ -46,6 +47,13 @@ view_named state name = found (names.get state.views name) NoSuchName
 
 abbrev pub alignment_named : State → Name → Result (List Piece) Refusal
 alignment_named state name = found (names.get state.alignments name) NoSuchName
+
+abbrev pub index_named : State → Name → Result IndexedColumn Refusal
+index_named state name = found (names.get state.indexes name) NoSuchName
+
+-- a cursor of the session, as the lines that it has still to give
+abbrev pub cursor_named : State → ℕ → Name → Result (List RowText) Refusal
+cursor_named state session name = found (names.get (state.cursors session) name) NoSuchCursor
 
 -- tables and views share their names
 abbrev pub has_table_or_view : State → Name → Bool

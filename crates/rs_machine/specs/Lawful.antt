@@ -13,11 +13,12 @@ use Rattle.rs_value.specs.Row.{Row}
 use Rattle.rs_value.specs.Values.{IsRowOf}
 use Rattle.rs_facts.specs.Fact.{Name, Names, contains}
 use Rattle.rs_facts.specs.Query.{RouteEnds, Column, Table, Piece}
+use Rattle.rs_planning.specs.Basis.{IndexedColumn}
 use Rattle.rs_facts.specs.WellFormed.{ArePiecesOn}
 use Rattle.rs_syntax.specs.Sound.{IsName, AreColumns, IsQuery}
 use Rattle.rs_syntax.specs.Tree.{WindowTree, whole_route, part_of_route, QueryTree}
-use Rattle.rs_machine.specs.declared.limits.TheConstants.{ROUTES, REFERENTS, TABLES, VIEWS, ALIGNMENTS, PIECES, NODES, DEPTH, CHANGES}
-use Rattle.rs_machine.specs.State.{State, has}
+use Rattle.rs_machine.specs.declared.limits.TheConstants.{ROUTES, REFERENTS, TABLES, INDEXES, VIEWS, ALIGNMENTS, PIECES, NODES, DEPTH, CHANGES, SESSIONS, CURSORS}
+use Rattle.rs_machine.specs.State.{Cursors, State, has}
 use Rattle.rs_machine.specs.Checks.{has_table_or_view, has_referent, column_names, column_types}
 use Rattle.rs_machine.specs.Opening.{names_in, alignments_in, windows_in, opened, nodes, depth, AreInOrder}
 use Rattle.rs_machine.specs.ReferentNames.{AreNamed}
@@ -123,6 +124,23 @@ pub record IsAlignment (routes : Names RouteEnds) (name : Name) (pieces : List P
   pub few : length pieces ≤ PIECES
   pub lie : ArePiecesOn routes pieces
 
+-- ---- indexes
+
+-- an index is of a column of a table that is there
+pub record IsIndex (tables : Names Table) (name : Name) (index : IndexedColumn) : Type 0 where
+  pub named : IsName name
+  pub table : Table
+  pub there : names.get tables index.table ≡ Some table
+  pub column : index.column < length table.columns
+
+-- ---- cursors
+
+-- A session has at most CURSORS cursors, each under a name; only sessions below SESSIONS have any.
+pub record AreCursors (session : ℕ) (cursors : Cursors) : Type 0 where
+  pub named : Each cursors (λ name lines. IsName name)
+  pub few : names.len cursors ≤ CURSORS
+  pub none_beyond : SESSIONS ≤ session → names.len cursors ≡ 0
+
 -- ---- the state
 
 -- how many there may be
@@ -130,6 +148,7 @@ pub record IsWithinLimits (state : State) : Type 0 where
   pub routes : names.len state.routes ≤ ROUTES
   pub referents : (route : Name) → names.len (state.referents route) ≤ REFERENTS
   pub tables : names.len state.tables ≤ TABLES
+  pub indexes : names.len state.indexes ≤ INDEXES
   pub views : names.len state.views ≤ VIEWS
   pub alignments : names.len state.alignments ≤ ALIGNMENTS
   pub changes : state.changes ≤ CHANGES
@@ -143,4 +162,6 @@ pub record IsLawful (state : State) : Type 0 where
   pub views : Each state.views (IsView state)
   pub view_order : AreInOrder state.views
   pub alignments : Each state.alignments (IsAlignment state.routes)
+  pub indexes : Each state.indexes (IsIndex state.tables)
+  pub cursors : (session : ℕ) → AreCursors session (state.cursors session)
   pub limits : IsWithinLimits state

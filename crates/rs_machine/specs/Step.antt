@@ -1,9 +1,9 @@
 -- The step of the reference machine: one command of one session.
-use Rattle.std.specs.Prelude.{ℕ, ◌+◌, Bool, not, ◌&&◌, ◌||◌, nat_le, nat_lt, List, [], ◌∷◌, length, Option, Result, Ok, map, flat_map, if◌then◌else◌}
+use Rattle.std.specs.Prelude.{ℕ, ◌+◌, Bool, false, not, ◌&&◌, ◌||◌, nat_le, nat_lt, List, [], ◌∷◌, length, take, drop, Option, Some, None, Result, Ok, map, flat_map, if◌then◌else◌}
 use Rattle.std.specs.List.{list_any}
 use Rattle.std.specs.FinMap as names
 use Rattle.rs_refusal.specs.declared.refusal.Refusal.{Refusal}
-use Rattle.rs_refusal.specs.declared.refusal.Refusal.TheVariants.{InUse, NameTaken, NoSuchReferent, Limit, EmptySpan, PointOrLineWanted, ColumnTwice}
+use Rattle.rs_refusal.specs.declared.refusal.Refusal.TheVariants.{InUse, NameTaken, NoSuchReferent, Limit, EmptySpan, PointOrLineWanted, ColumnTwice, CursorNameTaken, TooManyCursors}
 use Rattle.rs_methods.specs.Position.{PositionExpression, start_name, expression_at, expression_text}
 use Rattle.rs_methods.specs.declared.position.Method.{Method}
 use Rattle.rs_value.specs.declared.column.Kind.{Kind}
@@ -18,12 +18,14 @@ use Rattle.rs_facts.specs.Runs.{Stretch, runs_of}
 use Rattle.rs_facts.specs.LineText.{line_of}
 use Rattle.rs_facts.specs.Totals.{Along, totalled}
 use Rattle.rs_facts.specs.TotalText.{total_text}
-use Rattle.rs_syntax.specs.Tree.{EventLocationTree, WindowTree, PieceTree, ConditionTree, QueryTree, CommandTree, define_route, define_table, define_referent, define_view, define_alignment, move_referent, drop_route, drop_table, drop_view, drop_alignment, drop_referent, insert, remove, translate, select, total}
-use Rattle.rs_machine.specs.declared.limits.TheConstants.{ROUTES, REFERENTS, TABLES, VIEWS, ALIGNMENTS, PIECES, CHANGES}
-use Rattle.rs_machine.specs.State.{State, RowText, world_of, has}
-use Rattle.rs_machine.specs.Checks.{◌>>=◌, unless, route_named, table_named, view_named, alignment_named, pieces_checked, has_table_or_view, has_referent, position_on, event_span, location_kind, window_span, window_route, same_kind, some_name_twice, column_names, row_fits}
+use Rattle.rs_planning.specs.Basis.{IndexedColumn}
+use Rattle.rs_planning.specs.Explain.{explained}
+use Rattle.rs_syntax.specs.Tree.{EventLocationTree, WindowTree, PieceTree, ConditionTree, QueryTree, CommandTree, define_route, define_table, define_referent, define_index, define_view, define_alignment, move_referent, drop_route, drop_table, drop_index, drop_view, drop_alignment, drop_referent, insert, remove, translate, select, total, explain, open_cursor, fetch, close_cursor, save, reopen}
+use Rattle.rs_machine.specs.declared.limits.TheConstants.{ROUTES, REFERENTS, TABLES, INDEXES, VIEWS, ALIGNMENTS, PIECES, CHANGES, CURSORS}
+use Rattle.rs_machine.specs.State.{State, RowText, no_cursors, world_of, has, some_cursor, cursors_at}
+use Rattle.rs_machine.specs.Checks.{◌>>=◌, unless, route_named, table_named, view_named, alignment_named, index_named, cursor_named, pieces_checked, has_table_or_view, has_referent, position_on, event_span, location_kind, window_span, window_route, same_kind, some_name_twice, column_names, row_fits}
 use Rattle.rs_machine.specs.Opening.{some_view, names_query, names_alignment, names_route, names_referent, some_piece_on}
-use Rattle.rs_machine.specs.Checking.{checked, removal_checked, columns_in, group_checked, summed_checked}
+use Rattle.rs_machine.specs.Checking.{column_place, checked, removal_checked, columns_in, group_checked, summed_checked}
 
 -- what an accepted command answers, and the state after it
 pub record Effect : Type 0 where
@@ -75,6 +77,21 @@ table_defined state kind name columns = do
   _ ← may_change state
   Ok (counted 0 (with_table state name (empty_table kind columns)))
 
+abbrev pub with_index : State → Name → IndexedColumn → State
+with_index state name index = record state {
+  indexes = names.insert state.indexes name index;
+  changes = state.changes + 1;
+}
+
+abbrev pub index_defined : State → Name → Name → Name → Result Effect Refusal
+index_defined state name of column = do
+  table ← table_named state of
+  place ← column_place table.columns column
+  _ ← unless (not (has state.indexes name)) NameTaken
+  _ ← unless (nat_lt (names.len state.indexes) INDEXES) Limit
+  _ ← may_change state
+  Ok (counted 0 (with_index state name (record { table = of; column = place })))
+
 abbrev pub with_view : State → Name → QueryTree → State
 with_view state name query = record state {
   views = names.insert state.views name query;
@@ -105,6 +122,10 @@ alignment_defined state name written = do
 
 -- ---- what is dropped
 
+-- Nobody waits for rows that a cursor has still to give.
+abbrev pub no_cursor_waits : State → Result (Unit {0}) Refusal
+no_cursor_waits state = unless (not (some_cursor state.cursors)) InUse
+
 -- whether the table has a fact on the route
 abbrev pub has_fact_on : Name → RouteEnds → Table → Bool
 has_fact_on route ends table = list_any (λ k. not (has_none (table.facts route k))) (thousandths ends.start (ends.finish + 1))
@@ -128,18 +149,44 @@ abbrev pub route_dropped : State → Name → Result Effect Refusal
 route_dropped state name = do
   ends ← route_named state name
   _ ← unless (not (some_table state (has_fact_on name ends) || some_piece_on state name || some_view state (names_route name))) InUse
+  _ ← no_cursor_waits state
   _ ← may_change state
   Ok (counted 0 (without_route state name))
 
+-- whether it is an index, and of another table than this
+abbrev pub is_of_another : Name → Option IndexedColumn → Bool
+is_of_another table None = false
+is_of_another table (Some index) = not (same_name table index.table)
+
+-- the indexes of other tables than this
+unfoldable pub indexes_of_others : Name → Names IndexedColumn → Names IndexedColumn
+indexes_of_others table indexes = names.retain_keys indexes (λ name. is_of_another table (names.get indexes name))
+
+-- the table and its indexes go
 abbrev pub without_table : State → Name → State
-without_table state name = record state { tables = names.remove state.tables name; changes = state.changes + 1 }
+without_table state name = record state {
+  tables = names.remove state.tables name;
+  indexes = indexes_of_others name state.indexes;
+  changes = state.changes + 1;
+}
 
 abbrev pub table_dropped : State → Name → Result Effect Refusal
 table_dropped state name = do
   _ ← table_named state name
   _ ← unless (not (some_view state (names_query name))) InUse
+  _ ← no_cursor_waits state
   _ ← may_change state
   Ok (counted 0 (without_table state name))
+
+abbrev pub without_index : State → Name → State
+without_index state name = record state { indexes = names.remove state.indexes name; changes = state.changes + 1 }
+
+abbrev pub index_dropped : State → Name → Result Effect Refusal
+index_dropped state name = do
+  _ ← index_named state name
+  _ ← no_cursor_waits state
+  _ ← may_change state
+  Ok (counted 0 (without_index state name))
 
 abbrev pub without_view : State → Name → State
 without_view state name = record state { views = names.remove state.views name; changes = state.changes + 1 }
@@ -267,17 +314,59 @@ totals_printed state tree by summed = do
   totals ← totalled group column (rows_along state query)
   Ok (effect (map (total_text (kind_of (world_of state) query)) totals) (length totals) state)
 
+-- ---- plans
+
+-- the lines of the query's plan
+abbrev pub plan_printed : State → QueryTree → Result Effect Refusal
+plan_printed state tree = do
+  query ← checked state tree
+  Ok (effect (explained (world_of state) state.indexes query) (length (explained (world_of state) state.indexes query)) state)
+
+-- ---- cursors
+
+abbrev pub with_cursors : State → ℕ → Names (List RowText) → State
+with_cursors state session cursors = record state { cursors = cursors_at session cursors state.cursors }
+
+-- a cursor that has still to give these lines
+abbrev pub with_cursor : State → ℕ → Name → List RowText → State
+with_cursor state session name lines = with_cursors state session (names.insert (state.cursors session) name lines)
+
+-- It gives the lines that SELECT would print now.
+abbrev pub cursor_opened : State → ℕ → Name → QueryTree → Method → Result Effect Refusal
+cursor_opened state session name tree method = do
+  query ← checked state tree
+  _ ← unless (not (has (state.cursors session) name)) CursorNameTaken
+  _ ← unless (nat_lt (names.len (state.cursors session)) CURSORS) TooManyCursors
+  Ok (counted 0 (with_cursor state session name (lines_of state query method)))
+
+-- the next lines, so many or as many as are left
+abbrev pub rows_fetched : State → ℕ → Name → ℕ → Result Effect Refusal
+rows_fetched state session name rows = do
+  lines ← cursor_named state session name
+  Ok (effect (take rows lines) (length (take rows lines)) (with_cursor state session name (drop rows lines)))
+
+abbrev pub cursor_closed : State → ℕ → Name → Result Effect Refusal
+cursor_closed state session name = do
+  _ ← cursor_named state session name
+  Ok (counted 0 (with_cursors state session (names.remove (state.cursors session) name)))
+
+-- every cursor of every session goes
+abbrev pub without_cursors : State → State
+without_cursors state = record state { cursors = no_cursors }
+
 -- ---- the step
 
 abbrev pub outcome : State → ℕ → CommandTree → Result Effect Refusal
 outcome state session (define_route name start finish) = route_defined state name start finish
 outcome state session (define_table kind name columns) = table_defined state kind name columns
 outcome state session (define_referent route name position) = referent_defined state route name position
+outcome state session (define_index name table column) = index_defined state name table column
 outcome state session (define_view name query text) = view_defined state name query
 outcome state session (define_alignment name pieces) = alignment_defined state name pieces
 outcome state session (move_referent route name position) = referent_moved state route name position
 outcome state session (drop_route name) = route_dropped state name
 outcome state session (drop_table name) = table_dropped state name
+outcome state session (drop_index name) = index_dropped state name
 outcome state session (drop_view name) = view_dropped state name
 outcome state session (drop_alignment name) = alignment_dropped state name
 outcome state session (drop_referent route name) = referent_dropped state route name
@@ -286,3 +375,9 @@ outcome state session (remove table window condition) = rows_removed state table
 outcome state session (translate route position method) = position_translated state route position method
 outcome state session (select query method) = selected state query method
 outcome state session (total query by summed) = totals_printed state query by summed
+outcome state session (explain query) = plan_printed state query
+outcome state session (open_cursor name query method) = cursor_opened state session name query method
+outcome state session (fetch name rows) = rows_fetched state session name rows
+outcome state session (close_cursor name) = cursor_closed state session name
+outcome state session save = Ok (counted 0 state)
+outcome state session reopen = Ok (counted 0 (without_cursors state))

@@ -1,33 +1,37 @@
 -- Each accepted command leaves a lawful state.
-use Rattle.std.proofs.Common.{◌≡◌, ◌∙◌, ℕ, ◌+◌, ◌≤◌, Bool, true, false, ◌&&◌, ◌||◌, List, Option, Some, is_some, length, not, Result, Ok, Err, IfOk, refl, sym, ap, subst, arith}
-use Rattle.std.specs.Prelude.{if◌then◌else◌, nat_le, nat_lt}
+use Rattle.std.proofs.Common.{◌≡◌, ◌∙◌, ℕ, ◌+◌, ◌<◌, ◌≤◌, Bool, true, false, ◌&&◌, ◌||◌, List, Option, Some, is_some, length, not, Result, Ok, Err, IfOk, refl, sym, ap, subst, arith}
+use Rattle.std.specs.Prelude.{if◌then◌else◌, nat_le, nat_lt, take, drop}
 use Rattle.std.specs.FinMap as names
 use Rattle.std.proofs.lemmas.Bool.{ltb-true, leb-true, and_parts}
 use Rattle.rs_refusal.specs.declared.refusal.Refusal.{Refusal}
-use Rattle.rs_refusal.specs.declared.refusal.Refusal.TheVariants.{InUse, NameTaken, NoSuchRoute, NoSuchName, NoSuchReferent, Limit, EmptySpan, PointOrLineWanted, ColumnTwice}
+use Rattle.rs_refusal.specs.declared.refusal.Refusal.TheVariants.{InUse, NameTaken, NoSuchRoute, NoSuchName, NoSuchReferent, Limit, EmptySpan, PointOrLineWanted, ColumnTwice, NoSuchCursor, CursorNameTaken, TooManyCursors}
 use Rattle.rs_value.specs.declared.column.Kind.{Kind}
 use Rattle.rs_value.specs.declared.column.TheConstants.{COLUMNS}
 use Rattle.rs_value.specs.Row.{Row}
 use Rattle.rs_facts.specs.Fact.{Name, Names}
 use Rattle.rs_facts.specs.Insert.{same_name}
 use Rattle.rs_facts.specs.Totals.{totalled}
-use Rattle.rs_facts.specs.Query.{RouteEnds, Column, Table}
+use Rattle.rs_facts.specs.Query.{RouteEnds, Column, Table, Query}
+use Rattle.rs_planning.specs.Basis.{IndexedColumn}
 use Rattle.rs_methods.specs.Position.{PositionExpression, start_name}
-use Rattle.rs_syntax.specs.Tree.{EventLocationTree, WindowTree, PieceTree, ConditionTree, QueryTree, CommandTree, define_route, define_table, define_referent, define_view, define_alignment, move_referent, drop_route, drop_table, drop_view, drop_alignment, drop_referent, insert, remove, translate, select, total}
+use Rattle.rs_methods.specs.declared.position.Method.{Method}
+use Rattle.rs_syntax.specs.Tree.{EventLocationTree, WindowTree, PieceTree, ConditionTree, QueryTree, CommandTree, define_route, define_table, define_referent, define_index, define_view, define_alignment, move_referent, drop_route, drop_table, drop_index, drop_view, drop_alignment, drop_referent, insert, remove, translate, select, total, explain, open_cursor, fetch, close_cursor, save, reopen}
 use Rattle.rs_syntax.specs.Sound.{IsName, IsQuery, IsSound}
-use Rattle.rs_machine.specs.State.{State, has}
-use Rattle.rs_machine.specs.Checks.{◌>>=◌, unless, route_named, table_named, view_named, alignment_named, pieces_checked, has_table_or_view, has_referent, position_on, event_span, location_kind, window_span, window_route, same_kind, some_name_twice, column_names, row_fits}
+use Rattle.rs_machine.specs.State.{State, no_cursors, has, cursors_at}
+use Rattle.rs_machine.specs.Checks.{◌>>=◌, unless, route_named, table_named, view_named, alignment_named, index_named, cursor_named, pieces_checked, has_table_or_view, has_referent, position_on, event_span, location_kind, window_span, window_route, same_kind, some_name_twice, column_names, row_fits}
 use Rattle.rs_machine.specs.Opening.{some_view, names_query, names_alignment, names_route, names_referent, some_piece_on}
-use Rattle.rs_machine.specs.Checking.{checked, removal_checked, columns_in, group_checked, summed_checked}
-use Rattle.rs_machine.specs.declared.limits.TheConstants.{ROUTES, REFERENTS, TABLES, VIEWS, ALIGNMENTS, PIECES, CHANGES}
-use Rattle.rs_machine.specs.Step.{Effect, may_change, with_route, with_table, with_facts_along, without_facts, without_route, empty_table, has_fact_on, some_table, referents_at, with_referents, route_defined, route_dropped, table_defined, table_dropped, view_defined, view_dropped, alignment_defined, alignment_dropped, referent_defined, referent_moved, referent_dropped, row_inserted, rows_removed, rows_along, outcome}
-use Rattle.rs_machine.specs.Lawful.{Each, IsRoute, IsPlaceOf, MayHoldAt, IsReferent, IsTable, IsView, IsAlignment, IsLawful}
+use Rattle.rs_machine.specs.Checking.{column_place, checked, removal_checked, columns_in, group_checked, summed_checked}
+use Rattle.rs_machine.specs.declared.limits.TheConstants.{ROUTES, REFERENTS, TABLES, INDEXES, VIEWS, ALIGNMENTS, PIECES, CHANGES, SESSIONS, CURSORS}
+use Rattle.rs_machine.specs.Step.{Effect, may_change, no_cursor_waits, indexes_of_others, index_defined, index_dropped, lines_of, cursor_opened, rows_fetched, cursor_closed, with_route, with_table, with_facts_along, without_facts, without_route, empty_table, has_fact_on, some_table, referents_at, with_referents, route_defined, route_dropped, table_defined, table_dropped, view_defined, view_dropped, alignment_defined, alignment_dropped, referent_defined, referent_moved, referent_dropped, row_inserted, rows_removed, rows_along, outcome}
+use Rattle.rs_machine.specs.Lawful.{Each, IsRoute, IsPlaceOf, MayHoldAt, IsReferent, IsTable, IsView, IsAlignment, IsIndex, AreCursors, IsLawful}
 use Rattle.rs_machine_laws.proofs.Names.{either_false, each_empty, each_weaker, each_inserted, each_removed, len_none, len_more, len_same, len_less, same_name-true, same_name-false, same_name-back}
 use Rattle.rs_machine_laws.proofs.Checked.{passed, not_true, was_found, or_right, position-lies, event-lies, same_kind-same, distinct}
 use Rattle.rs_machine_laws.proofs.Rows.{row_fits-row}
 use Rattle.rs_machine_laws.proofs.Facts.{referent-more, table-more, table-empty, row-along, table-less, table-route_gone, referent-route_gone}
 use Rattle.rs_machine_laws.proofs.Windows.{checks-passed}
 use Rattle.rs_machine_laws.proofs.Alignments.{pieces-made, alignments-more, alignments-gone}
+use Rattle.rs_machine_laws.proofs.NamedColumns.{place-below}
+use Rattle.rs_machine_laws.proofs.Indexes.{index-table_more, index-table_changed, indexes-table_gone, fewer_indexes, views-indexes, none-cursors, with_other_cursors, at_session, cursors-more, cursors-same, cursors-less}
 use Rattle.rs_machine_laws.proofs.Views.{none_there, table_no_view, views-route_more, views-route_gone, views-table_put, views-table_gone, order-view_more, views-view_more, order-view_gone, views-view_gone, views-alignment_more, views-alignment_gone, views-referent_put, views-referent_gone}
 
 -- an accepted command leaves a lawful state
@@ -56,10 +60,13 @@ route_added state name start finish lawful new is room change =
       views = views-route_more state name start finish lawful;
       view_order = lawful.view_order;
       alignments = alignments-more state name ends new lawful.alignments;
+      indexes = lawful.indexes;
+      cursors = lawful.cursors;
       limits = record {
         routes = len_more state.routes name ends ROUTES room;
         referents = lawful.limits.referents;
         tables = lawful.limits.tables;
+        indexes = lawful.limits.indexes;
         views = lawful.limits.views;
         alignments = lawful.limits.alignments;
         changes = change;
@@ -91,10 +98,13 @@ route_gone state name ends lawful there no_facts no_pieces no_window change = re
   views = views-route_gone state name lawful no_window;
   view_order = lawful.view_order;
   alignments = alignments-gone state name no_pieces lawful.alignments;
+  indexes = lawful.indexes;
+  cursors = lawful.cursors;
   limits = record {
     routes = len_less state.routes name ROUTES lawful.limits.routes;
     referents = λ route. few_at route (same_name route name);
     tables = lawful.limits.tables;
+    indexes = lawful.limits.indexes;
     views = lawful.limits.views;
     alignments = lawful.limits.alignments;
     changes = change;
@@ -117,15 +127,17 @@ route_dropped-lawful : (state : State) (name : Name) → IsLawful state → Keep
 route_dropped-lawful state name lawful =
     through (route_named state name) _ (λ ends there.
     through (unless (not (some_table state (has_fact_on name ends) || some_piece_on state name || some_view state (names_route name))) InUse) _ (λ u unused.
+    through (no_cursor_waits state) _ (λ w none_open.
     through (may_change state) _ (λ v change.
     let free = either_false (some_table state (has_fact_on name ends) || some_piece_on state name) (some_view state (names_route name)) (not_true _ (passed _ InUse u unused)) in
     let none = either_false (some_table state (has_fact_on name ends)) (some_piece_on state name) free.0 in
-    record { lawful = route_gone state name ends lawful (was_found (names.get state.routes name) NoSuchRoute ends there) none.0 none.1 free.1 (one_change state v change) })))
+    record { lawful = route_gone state name ends lawful (was_found (names.get state.routes name) NoSuchRoute ends there) none.0 none.1 free.1 (one_change state v change) }))))
 
 -- ---- tables
 
-table_put : (state : State) (name : Name) (table : Table) → IsLawful state → has state.views name ≡ false → IsTable state.routes name table → names.len (names.insert state.tables name table) ≤ TABLES → state.changes + 1 ≤ CHANGES → IsLawful (with_table state name table)
-table_put state name table lawful no_view is few change = record {
+table_put : (state : State) (name : Name) (table : Table) → IsLawful state → has state.views name ≡ false → IsTable state.routes name table → Each state.indexes (IsIndex (names.insert state.tables name table))
+    → names.len (names.insert state.tables name table) ≤ TABLES → state.changes + 1 ≤ CHANGES → IsLawful (with_table state name table)
+table_put state name table lawful no_view is indexes few change = record {
   routes = lawful.routes;
   referents_named = record { each = lawful.referents_named.each };
   referents = lawful.referents;
@@ -133,7 +145,9 @@ table_put state name table lawful no_view is few change = record {
   views = views-table_put state name table lawful no_view;
   view_order = lawful.view_order;
   alignments = lawful.alignments;
-  limits = record { routes = lawful.limits.routes; referents = lawful.limits.referents; tables = few; views = lawful.limits.views; alignments = lawful.limits.alignments; changes = change };
+  indexes = indexes;
+  cursors = lawful.cursors;
+  limits = record { routes = lawful.limits.routes; referents = lawful.limits.referents; tables = few; indexes = lawful.limits.indexes; views = lawful.limits.views; alignments = lawful.limits.alignments; changes = change };
 }
 
 table_defined-lawful : (state : State) (kind : Kind) (name : Name) (columns : List Column) → IsSound (define_table kind name columns) → IsLawful state → Keeps (table_defined state kind name columns)
@@ -151,14 +165,19 @@ table_defined-lawful state kind name columns sound lawful =
             sound = sound.2;
             distinct = distinct (column_names columns) (not_true (some_name_twice (column_names columns)) (passed _ ColumnTwice v once));
           }))
+          (each_weaker state.indexes (IsIndex state.tables) (IsIndex (names.insert state.tables name (empty_table kind columns)))
+          (index-table_more state.tables name (empty_table kind columns) (either_false (has state.tables name) (has state.views name) (not_true (has_table_or_view state name) (passed _ NameTaken u new))).0)
+          lawful.indexes)
           (len_more state.tables name (empty_table kind columns) TABLES (passed _ Limit x room))
           (one_change state y change);
     })))))
 
 -- a table that is there has other facts
-table_changed : (state : State) (name : Name) (table changed : Table) → IsLawful state → names.get state.tables name ≡ Some table → IsTable state.routes name changed → state.changes + 1 ≤ CHANGES → IsLawful (with_table state name changed)
-table_changed state name table changed lawful there is change =
-    table_put state name changed lawful (table_no_view state name lawful (ap is_some there)) is (len_same state.tables name changed TABLES (ap is_some there) lawful.limits.tables) change
+table_changed : (state : State) (name : Name) (table changed : Table) → IsLawful state → names.get state.tables name ≡ Some table → changed.columns ≡ table.columns → IsTable state.routes name changed → state.changes + 1 ≤ CHANGES → IsLawful (with_table state name changed)
+table_changed state name table changed lawful there columns is change =
+    table_put state name changed lawful (table_no_view state name lawful (ap is_some there)) is
+    (each_weaker state.indexes (IsIndex state.tables) (IsIndex (names.insert state.tables name changed)) (index-table_changed state.tables name table changed there columns) lawful.indexes)
+    (len_same state.tables name changed TABLES (ap is_some there) lawful.limits.tables) change
 
 inserted-lawful : (state : State) (table route : Name) (place : EventLocationTree) (row : Row) → IsSound (insert table route place row) → IsLawful state → Keeps (row_inserted state table route place row)
 inserted-lawful state name route place row sound lawful =
@@ -171,7 +190,7 @@ inserted-lawful state name route place row sound lawful =
     let is_there = was_found (names.get state.tables name) NoSuchName table there in
     let kind = same_kind-same table.kind (location_kind place) (passed _ PointOrLineWanted u kinds) in
     record {
-      lawful = table_changed state name table (with_facts_along table route span.0 span.1 row) lawful is_there
+      lawful = table_changed state name table (with_facts_along table route span.0 span.1 row) lawful is_there refl
           (row-along state.routes name table route ends span row
           (was_found (names.get state.routes route) NoSuchRoute ends on)
           (λ k low high. subst (λ q. MayHoldAt q k ends) (sym kind) (event-lies state route ends place span lies k low high))
@@ -189,7 +208,7 @@ removed-lawful state name window condition lawful =
     through (may_change state) _ (λ u change.
     let is_there = was_found (names.get state.tables name) NoSuchName table there in
     record {
-      lawful = table_changed state name table (without_facts table (window_route window) span.0 span.1 goes) lawful is_there
+      lawful = table_changed state name table (without_facts table (window_route window) span.0 span.1 goes) lawful is_there refl
           (table-less state.routes name table (window_route window) span.0 span.1 goes (lawful.tables name table is_there))
           (one_change state u change);
     })))))
@@ -198,6 +217,7 @@ table_dropped-lawful : (state : State) (name : Name) → IsLawful state → Keep
 table_dropped-lawful state name lawful =
     through (table_named state name) _ (λ table there.
     through (unless (not (some_view state (names_query name))) InUse) _ (λ u unused.
+    through (no_cursor_waits state) _ (λ w none_open.
     through (may_change state) _ (λ v change. record {
       lawful = record {
         routes = lawful.routes;
@@ -207,7 +227,59 @@ table_dropped-lawful state name lawful =
         views = views-table_gone state name lawful (not_true (some_view state (names_query name)) (passed _ InUse u unused));
         view_order = lawful.view_order;
         alignments = lawful.alignments;
-        limits = record { routes = lawful.limits.routes; referents = lawful.limits.referents; tables = len_less state.tables name TABLES lawful.limits.tables; views = lawful.limits.views; alignments = lawful.limits.alignments; changes = one_change state v change };
+        indexes = indexes-table_gone state name lawful.indexes;
+        cursors = lawful.cursors;
+        limits = record { routes = lawful.limits.routes; referents = lawful.limits.referents; tables = len_less state.tables name TABLES lawful.limits.tables; indexes = fewer_indexes state name INDEXES lawful.limits.indexes; views = lawful.limits.views; alignments = lawful.limits.alignments; changes = one_change state v change };
+      };
+    }))))
+
+-- ---- indexes
+
+index_defined-lawful : (state : State) (name of column : Name) → IsName name → IsLawful state → Keeps (index_defined state name of column)
+index_defined-lawful state name of column named lawful =
+    through (table_named state of) _ (λ table there.
+    through (column_place table.columns column) _ (λ place found.
+    through (unless (not (has state.indexes name)) NameTaken) _ (λ u new.
+    through (unless (nat_lt (names.len state.indexes) INDEXES) Limit) _ (λ v room.
+    through (may_change state) _ (λ w change.
+    let index : IndexedColumn = record { table = of; column = place } in
+    let is : IsIndex state.tables name index = record {
+      named = named;
+      table = table;
+      there = was_found (names.get state.tables of) NoSuchName table there;
+      column = place-below table.columns column place found;
+    } in
+    record {
+      lawful = record {
+        routes = lawful.routes;
+        referents_named = record { each = lawful.referents_named.each };
+        referents = lawful.referents;
+        tables = lawful.tables;
+        views = views-indexes state (names.insert state.indexes name index) (state.changes + 1) lawful;
+        view_order = lawful.view_order;
+        alignments = lawful.alignments;
+        indexes = each_inserted state.indexes (IsIndex state.tables) name index is lawful.indexes;
+        cursors = lawful.cursors;
+        limits = record { routes = lawful.limits.routes; referents = lawful.limits.referents; tables = lawful.limits.tables; indexes = len_more state.indexes name index INDEXES (passed _ Limit v room); views = lawful.limits.views; alignments = lawful.limits.alignments; changes = one_change state w change };
+      };
+    })))))
+
+index_dropped-lawful : (state : State) (name : Name) → IsLawful state → Keeps (index_dropped state name)
+index_dropped-lawful state name lawful =
+    through (index_named state name) _ (λ index there.
+    through (no_cursor_waits state) _ (λ u none_open.
+    through (may_change state) _ (λ v change. record {
+      lawful = record {
+        routes = lawful.routes;
+        referents_named = record { each = lawful.referents_named.each };
+        referents = lawful.referents;
+        tables = lawful.tables;
+        views = views-indexes state (names.remove state.indexes name) (state.changes + 1) lawful;
+        view_order = lawful.view_order;
+        alignments = lawful.alignments;
+        indexes = each_removed state.indexes (IsIndex state.tables) name lawful.indexes;
+        cursors = lawful.cursors;
+        limits = record { routes = lawful.limits.routes; referents = lawful.limits.referents; tables = lawful.limits.tables; indexes = len_less state.indexes name INDEXES lawful.limits.indexes; views = lawful.limits.views; alignments = lawful.limits.alignments; changes = one_change state v change };
       };
     })))
 
@@ -230,7 +302,9 @@ view_defined-lawful state name query named sound lawful =
         views = views-view_more state name query lawful none is.known named sound is.alignments is.windows is.few_nodes is.not_deep;
         view_order = order-view_more state name query lawful none is.known;
         alignments = lawful.alignments;
-        limits = record { routes = lawful.limits.routes; referents = lawful.limits.referents; tables = lawful.limits.tables; views = len_more state.views name query VIEWS (passed _ Limit v room); alignments = lawful.limits.alignments; changes = one_change state w change };
+        indexes = lawful.indexes;
+        cursors = lawful.cursors;
+        limits = record { routes = lawful.limits.routes; referents = lawful.limits.referents; tables = lawful.limits.tables; indexes = lawful.limits.indexes; views = len_more state.views name query VIEWS (passed _ Limit v room); alignments = lawful.limits.alignments; changes = one_change state w change };
       };
     }))))
 
@@ -250,7 +324,9 @@ view_dropped-lawful state name lawful =
         views = views-view_gone state name dropped lawful is_there free;
         view_order = order-view_gone state name dropped lawful is_there free;
         alignments = lawful.alignments;
-        limits = record { routes = lawful.limits.routes; referents = lawful.limits.referents; tables = lawful.limits.tables; views = len_less state.views name VIEWS lawful.limits.views; alignments = lawful.limits.alignments; changes = one_change state v change };
+        indexes = lawful.indexes;
+        cursors = lawful.cursors;
+        limits = record { routes = lawful.limits.routes; referents = lawful.limits.referents; tables = lawful.limits.tables; indexes = lawful.limits.indexes; views = len_less state.views name VIEWS lawful.limits.views; alignments = lawful.limits.alignments; changes = one_change state v change };
       };
     })))
 
@@ -275,7 +351,9 @@ alignment_defined-lawful state name written named some lawful =
         views = views-alignment_more state name pieces lawful;
         view_order = lawful.view_order;
         alignments = each_inserted state.alignments (IsAlignment state.routes) name pieces (record { named = named; some = omega arith; few = omega arith; lie = are.lie }) lawful.alignments;
-        limits = record { routes = lawful.limits.routes; referents = lawful.limits.referents; tables = lawful.limits.tables; views = lawful.limits.views; alignments = len_more state.alignments name pieces ALIGNMENTS limits.0; changes = one_change state w change };
+        indexes = lawful.indexes;
+        cursors = lawful.cursors;
+        limits = record { routes = lawful.limits.routes; referents = lawful.limits.referents; tables = lawful.limits.tables; indexes = lawful.limits.indexes; views = lawful.limits.views; alignments = len_more state.alignments name pieces ALIGNMENTS limits.0; changes = one_change state w change };
       };
     }))))
 
@@ -292,7 +370,9 @@ alignment_dropped-lawful state name lawful =
         views = views-alignment_gone state name lawful (not_true (some_view state (names_alignment name)) (passed _ InUse u unused));
         view_order = lawful.view_order;
         alignments = each_removed state.alignments (IsAlignment state.routes) name lawful.alignments;
-        limits = record { routes = lawful.limits.routes; referents = lawful.limits.referents; tables = lawful.limits.tables; views = lawful.limits.views; alignments = len_less state.alignments name ALIGNMENTS lawful.limits.alignments; changes = one_change state v change };
+        indexes = lawful.indexes;
+        cursors = lawful.cursors;
+        limits = record { routes = lawful.limits.routes; referents = lawful.limits.referents; tables = lawful.limits.tables; indexes = lawful.limits.indexes; views = lawful.limits.views; alignments = len_less state.alignments name ALIGNMENTS lawful.limits.alignments; changes = one_change state v change };
       };
     })))
 
@@ -310,10 +390,13 @@ referents_put state route referents lawful named are views few change = record {
   views = views;
   view_order = lawful.view_order;
   alignments = lawful.alignments;
+  indexes = lawful.indexes;
+  cursors = lawful.cursors;
   limits = record {
     routes = lawful.limits.routes;
     referents = λ r. few_at r (same_name r route);
     tables = lawful.limits.tables;
+    indexes = lawful.limits.indexes;
     views = lawful.limits.views;
     alignments = lawful.limits.alignments;
     changes = change;
@@ -392,27 +475,66 @@ referent_dropped-lawful state route name lawful =
           (one_change state w change);
     }))))
 
+-- ---- cursors
+
+cursor_opened-lawful : (state : State) (session : ℕ) (name : Name) (tree : QueryTree) (method : Method) → session < SESSIONS → IsName name → IsLawful state → Keeps (cursor_opened state session name tree method)
+cursor_opened-lawful state session name tree method below named lawful =
+    through (checked state tree) _ (λ query is.
+    through (unless (not (has (state.cursors session) name)) CursorNameTaken) _ (λ u new.
+    through (unless (nat_lt (names.len (state.cursors session)) CURSORS) TooManyCursors) _ (λ v room.
+    let lines = lines_of state query method in
+    record {
+      lawful = with_other_cursors state (cursors_at session (names.insert (state.cursors session) name lines) state.cursors) lawful
+          (at_session session (names.insert (state.cursors session) name lines) state.cursors
+          (cursors-more session (state.cursors session) name lines below named (passed _ TooManyCursors v room) (lawful.cursors session))
+          lawful.cursors);
+    })))
+
+rows_fetched-lawful : (state : State) (session : ℕ) (name : Name) (rows : ℕ) → IsLawful state → Keeps (rows_fetched state session name rows)
+rows_fetched-lawful state session name rows lawful =
+    through (cursor_named state session name) _ (λ lines there. record {
+      lawful = with_other_cursors state (cursors_at session (names.insert (state.cursors session) name (drop rows lines)) state.cursors) lawful
+          (at_session session (names.insert (state.cursors session) name (drop rows lines)) state.cursors
+          (cursors-same session (state.cursors session) name lines (drop rows lines) (was_found (names.get (state.cursors session) name) NoSuchCursor lines there) (lawful.cursors session))
+          lawful.cursors);
+    })
+
+cursor_closed-lawful : (state : State) (session : ℕ) (name : Name) → IsLawful state → Keeps (cursor_closed state session name)
+cursor_closed-lawful state session name lawful =
+    through (cursor_named state session name) _ (λ lines there. record {
+      lawful = with_other_cursors state (cursors_at session (names.remove (state.cursors session) name) state.cursors) lawful
+          (at_session session (names.remove (state.cursors session) name) state.cursors (cursors-less session (state.cursors session) name (lawful.cursors session)) lawful.cursors);
+    })
+
 -- ---- the step
 
-pub outcome-lawful : (state : State) (session : ℕ) (tree : CommandTree) → IsSound tree → IsLawful state → Keeps (outcome state session tree)
-outcome-lawful state session (define_route name start finish) sound lawful = route_defined-lawful state name start finish sound lawful
-outcome-lawful state session (define_table kind name columns) sound lawful = table_defined-lawful state kind name columns sound lawful
-outcome-lawful state session (define_referent route name position) sound lawful = referent_defined-lawful state route name position sound.1 lawful
-outcome-lawful state session (move_referent route name position) sound lawful = referent_moved-lawful state route name position sound.1 lawful
-outcome-lawful state session (define_view name query text) sound lawful = view_defined-lawful state name query sound.0 sound.1 lawful
-outcome-lawful state session (define_alignment name pieces) sound lawful = alignment_defined-lawful state name pieces sound.0 sound.1 lawful
-outcome-lawful state session (drop_route name) sound lawful = route_dropped-lawful state name lawful
-outcome-lawful state session (drop_table name) sound lawful = table_dropped-lawful state name lawful
-outcome-lawful state session (drop_view name) sound lawful = view_dropped-lawful state name lawful
-outcome-lawful state session (drop_alignment name) sound lawful = alignment_dropped-lawful state name lawful
-outcome-lawful state session (drop_referent route name) sound lawful = referent_dropped-lawful state route name lawful
-outcome-lawful state session (insert table route place row) sound lawful = inserted-lawful state table route place row sound lawful
-outcome-lawful state session (remove table window condition) sound lawful = removed-lawful state table window condition lawful
-outcome-lawful state session (translate route position method) sound lawful =
+pub outcome-lawful : (state : State) (session : ℕ) (tree : CommandTree) → session < SESSIONS → IsSound tree → IsLawful state → Keeps (outcome state session tree)
+outcome-lawful state session (define_route name start finish) below sound lawful = route_defined-lawful state name start finish sound lawful
+outcome-lawful state session (define_table kind name columns) below sound lawful = table_defined-lawful state kind name columns sound lawful
+outcome-lawful state session (define_referent route name position) below sound lawful = referent_defined-lawful state route name position sound.1 lawful
+outcome-lawful state session (move_referent route name position) below sound lawful = referent_moved-lawful state route name position sound.1 lawful
+outcome-lawful state session (define_index name table column) below sound lawful = index_defined-lawful state name table column sound.0 lawful
+outcome-lawful state session (define_view name query text) below sound lawful = view_defined-lawful state name query sound.0 sound.1 lawful
+outcome-lawful state session (define_alignment name pieces) below sound lawful = alignment_defined-lawful state name pieces sound.0 sound.1 lawful
+outcome-lawful state session (drop_route name) below sound lawful = route_dropped-lawful state name lawful
+outcome-lawful state session (drop_table name) below sound lawful = table_dropped-lawful state name lawful
+outcome-lawful state session (drop_index name) below sound lawful = index_dropped-lawful state name lawful
+outcome-lawful state session (drop_view name) below sound lawful = view_dropped-lawful state name lawful
+outcome-lawful state session (drop_alignment name) below sound lawful = alignment_dropped-lawful state name lawful
+outcome-lawful state session (drop_referent route name) below sound lawful = referent_dropped-lawful state route name lawful
+outcome-lawful state session (insert table route place row) below sound lawful = inserted-lawful state table route place row sound lawful
+outcome-lawful state session (remove table window condition) below sound lawful = removed-lawful state table window condition lawful
+outcome-lawful state session (translate route position method) below sound lawful =
     through (route_named state route) _ (λ ends there. through (position_on state route ends position) _ (λ measure lies. record { lawful = lawful }))
-outcome-lawful state session (select query method) sound lawful = through (checked state query) _ (λ query is. record { lawful = lawful })
-outcome-lawful state session (total tree by summed) sound lawful =
+outcome-lawful state session (select query method) below sound lawful = through (checked state query) _ (λ query is. record { lawful = lawful })
+outcome-lawful state session (total tree by summed) below sound lawful =
     through (checked state tree) _ (λ query is.
     through (group_checked (columns_in state query) by) _ (λ group groups.
     through (summed_checked (columns_in state query) summed) _ (λ column sums.
     through (totalled group column (rows_along state query)) _ (λ totals are. record { lawful = lawful }))))
+outcome-lawful state session (explain tree) below sound lawful = through (checked state tree) _ (λ query is. record { lawful = lawful })
+outcome-lawful state session (open_cursor name query method) below sound lawful = cursor_opened-lawful state session name query method below sound.0 lawful
+outcome-lawful state session (fetch name rows) below sound lawful = rows_fetched-lawful state session name rows lawful
+outcome-lawful state session (close_cursor name) below sound lawful = cursor_closed-lawful state session name lawful
+outcome-lawful state session save below sound lawful = record { lawful = lawful }
+outcome-lawful state session reopen below sound lawful = record { lawful = with_other_cursors state no_cursors lawful none-cursors }

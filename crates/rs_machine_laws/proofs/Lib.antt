@@ -8,11 +8,14 @@ mod Views
 mod Rows
 mod Alignments
 mod Facts
+mod Indexes
 mod Commands
+mod Sessions
 mod Lines
 mod Columns
 mod WellFormedQueries
-mod NamedColumns
+pub mod NamedColumns
+pub mod QuerySizes
 mod Runs
 mod Tokens
 mod PositionTokens

@@ -1,5 +1,5 @@
 -- Whatever lines are answered, a lawful state stays lawful.
-use Rattle.std.proofs.Common.{◌∙◌, ℕ, arith, List, [], ◌∷◌, Result, Ok, Err, sym, subst, inl, inr}
+use Rattle.std.proofs.Common.{◌∙◌, ℕ, ◌<◌, arith, List, [], ◌∷◌, Result, Ok, Err, sym, subst, inl, inr}
 use Rattle.std.specs.Prelude.{IsTrue}
 use Rattle.std.specs.FinMap as names
 use Rattle.std.specs.FinMap.{get-empty}
@@ -7,10 +7,11 @@ use Rattle.rs_refusal.specs.declared.refusal.Refusal.{Refusal}
 use Rattle.rs_value.specs.Values.{is_text}
 use Rattle.rs_facts.specs.Fact.{name_cmp}
 use Rattle.rs_facts.specs.Query.{RouteEnds, Table, Piece}
+use Rattle.rs_planning.specs.Basis.{IndexedColumn}
 use Rattle.rs_syntax.specs.Tree.{QueryTree, CommandTree}
 use Rattle.rs_syntax.specs.Verdict.{Reads}
 use Rattle.rs_syntax.specs.Sound.{IsSound}
-use Rattle.rs_machine.specs.declared.limits.TheConstants.{ROUTES, REFERENTS, TABLES, VIEWS, ALIGNMENTS}
+use Rattle.rs_machine.specs.declared.limits.TheConstants.{ROUTES, REFERENTS, TABLES, INDEXES, VIEWS, ALIGNMENTS, SESSIONS}
 use Rattle.rs_machine.specs.State.{fresh}
 use Rattle.rs_machine.specs.Step.{Effect, outcome}
 use Rattle.rs_machine.specs.Served.{Machine, Reply, Answers, Served}
@@ -21,15 +22,17 @@ use Rattle.rs_machine.specs.Lawful.{IsLawful}
 use Rattle.rs_machine.proofs.ReadableLines.{readable_text}
 use Rattle.rs_machine_laws.proofs.Names.{none_some, len_none, each_empty}
 use Rattle.rs_machine_laws.proofs.Commands.{Keeps, outcome-lawful}
+use Rattle.rs_machine_laws.proofs.Indexes.{none-cursors}
+use Rattle.rs_machine_laws.proofs.Sessions.{session_below}
 
 answers-lawful : (old : Machine) (result : Result Effect Refusal) (reply : Reply) (new : Machine) → Keeps result → IsLawful old.state → Answers old result reply new → IsLawful new.state
 answers-lawful old (Ok effect) reply new kept lawful answers = subst IsLawful (sym answers.1) kept.lawful
 answers-lawful old (Err refusal) reply new kept lawful answers = subst IsLawful (sym answers.1.state) lawful
 
-served-lawful : (old : Machine) (session : ℕ) (tree : CommandTree) (reply : Reply) (new : Machine) → IsSound tree → IsLawful old.state → Served old session tree reply new → IsLawful new.state
-served-lawful old session tree reply new sound lawful (inl answers) =
-    answers-lawful old (outcome old.state session tree) reply new (outcome-lawful old.state session tree sound lawful) lawful answers
-served-lawful old session tree reply new sound lawful (inr want) = subst IsLawful (sym want.0.state) lawful
+served-lawful : (old : Machine) (session : ℕ) (tree : CommandTree) (reply : Reply) (new : Machine) → session < SESSIONS → IsSound tree → IsLawful old.state → Served old session tree reply new → IsLawful new.state
+served-lawful old session tree reply new below sound lawful (inl answers) =
+    answers-lawful old (outcome old.state session tree) reply new (outcome-lawful old.state session tree below sound lawful) lawful answers
+served-lawful old session tree reply new below sound lawful (inr want) = subst IsLawful (sym want.0.state) lawful
 
 -- The commands of lines are sound.
 module _ (read_sound : (line : List ℕ) (from : ℕ) (tree : CommandTree) → IsTrue (is_text line) → Reads line from (Ok tree) → IsSound tree) where
@@ -37,7 +40,7 @@ module _ (read_sound : (line : List ℕ) (from : ℕ) (tree : CommandTree) → I
   replies-lawful old line (unreadable refusal) given new asks lawful replies = subst (λ (m : Machine). IsLawful m.state) (sym replies.1) lawful
   replies-lawful old line (no_command session refusal) given new asks lawful replies = subst (λ (m : Machine). IsLawful m.state) (sym replies.1) lawful
   replies-lawful old line (command session tree) given new asks lawful replies =
-      served-lawful old session tree given.reply new (read_sound _ asks.digits tree (readable_text line asks.begins.is_readable) asks.reads) lawful replies.1
+      served-lawful old session tree given.reply new (session_below line session asks.digits asks.begins) (read_sound _ asks.digits tree (readable_text line asks.begins.is_readable) asks.reads) lawful replies.1
 
   line-lawful : (old : Machine) (line : List ℕ) (given : Answer) (new : Machine) → IsLawful old.state → AnswersLine old line given new → IsLawful new.state
   line-lawful old line given new lawful (inl asked) = replies-lawful old line asked.0 given new asked.1 lawful asked.2
@@ -71,10 +74,13 @@ fresh-lawful = record {
   views = each_empty _;
   view_order = none_in_order;
   alignments = each_empty _;
+  indexes = each_empty _;
+  cursors = none-cursors;
   limits = record {
     routes = len_none RouteEnds ROUTES;
     referents = λ route. len_none ℕ REFERENTS;
     tables = len_none Table TABLES;
+    indexes = len_none IndexedColumn INDEXES;
     views = len_none QueryTree VIEWS;
     alignments = len_none (List Piece) ALIGNMENTS;
     changes = omega arith;

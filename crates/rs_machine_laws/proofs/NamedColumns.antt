@@ -34,7 +34,7 @@ every-append P (x ∷ xs) ys a b = (a.0, every-append P xs ys a.1 b)
 
 -- ---- columns that are found by their names
 
-place-below : (columns : List Column) (name : Name) (place : ℕ) → column_place columns name ≡ Ok place → place < length columns
+pub place-below : (columns : List Column) (name : Name) (place : ℕ) → column_place columns name ≡ Ok place → place < length columns
 place-below columns name place e = subst (λ n. place < n) (length-map columns (λ (column : Column). column.0)) (column-stands columns name place e).within
 
 places-below : (columns : List Column) (list : List Name) (places : List ℕ) → column_places columns list ≡ Ok places → AreBelow (length columns) places
@@ -89,10 +89,10 @@ condition-below columns (either a b) condition e =
 
 -- ---- all nodes
 
-abbrev Named : State → Query → Type 0
+abbrev pub Named : State → Query → Type 0
 Named state query = NamesItsColumns (world_of state) query
 
-nodes-named : (state : State) (tree : QueryTree) (query : Query) → nodes_checked state tree ≡ Ok query → Named state query
+pub nodes-named : (state : State) (tree : QueryTree) (query : Query) → nodes_checked state tree ≡ Ok query → Named state query
 nodes-named state (named name) query e =
     let table = then_ok (table_named state name) _ query e in
     subst (Named state) (ok_same (table_rows name) query table.2) tt

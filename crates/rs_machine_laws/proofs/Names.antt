@@ -103,7 +103,7 @@ module _ {X : Type 0} where
       ∙ elim (eq_by_cmp name_cmp q name) as (λ same. is_some (cond same (Some thing) (names.get things q)) ≡ true) [ true ↦ refl | false ↦ there ]
 
   -- what stood there still does, where another name took a value
-  still_there : (things : Names X) (name : Name) (thing : X) (q : Name) (other : X) → has things name ≡ false → names.get things q ≡ Some other → names.get (names.insert things name thing) q ≡ Some other
+  pub still_there : (things : Names X) (name : Name) (thing : X) (q : Name) (other : X) → has things name ≡ false → names.get things q ≡ Some other → names.get (names.insert things name thing) q ≡ Some other
   still_there things name thing q other new there =
       get-insert name_cmp-total things name thing q
       ∙ elim (eq_by_cmp name_cmp q name) as (λ same. eq_by_cmp name_cmp q name ≡ same → cond same (Some thing) (names.get things q) ≡ Some other) [

@@ -5,14 +5,16 @@
 ghost use Rattle.std.specs.Prelude.{◌≡◌, [], true, All, IfOk, IfErr};
 ghost use Rattle.rs_lexer.specs.Lexis.{IsTokenOf};
 ghost use Rattle.rs_syntax.specs.View.{tree_of, written_of};
-ghost use Rattle.rs_syntax.specs.Written.{written_move, written_drop_route, written_drop_table, written_drop_view, written_drop_alignment, written_drop_referent, written_translate, written_select, spelling, Says, AreToldOf};
+ghost use Rattle.rs_syntax.specs.Written.{written_move, written_translate, written_select, written_explain, spelling, Says, AreToldOf};
 ghost use Rattle.rs_syntax.specs.WrittenView.{query_syntax};
 ghost use Rattle.rs_meaning.specs.Saying.{NothingSaid};
-ghost use Rattle.rs_meaning.specs.Definitions.{is_definition};
+ghost use Rattle.rs_meaning.specs.Schema.{changes_schema};
 
 use crate::meaning::{name, position};
 use crate::said_alignments::alignment_said;
-use crate::said_definitions::{referent_said, route_said, table_said, view_said};
+use crate::said_cursors::{cursor_closed, fetch_said, opening_said};
+use crate::said_definitions::{index_said, referent_said, route_said, table_said, view_said};
+use crate::said_drops::drop_said;
 use crate::said_events::{event_said, removal_said};
 use crate::said_queries::query_said;
 use crate::said_totals::total_said;
@@ -76,59 +78,19 @@ fn selection_said(
     })
 }
 
-// A route dropped.
-fn route_dropped(line: &str, route: Token) -> Command
-    requires { AreToldOf line.now (spelling (written_drop_route route)) }
-    ensures { Says line.now [] (written_drop_route route) (tree_of result) }
+// A query whose plan is printed.
+fn explanation_said(alloc: Global, line: &str, query: &WrittenQuery) -> Result<Command, Refusal>
+    requires { AreToldOf line.now (spelling (written_explain (query_syntax query.now))) }
+    ensures ok { IfOk result (λ command. Says line.now [] (written_explain (query_syntax query.now)) (tree_of command)) }
+    ensures err { IfErr result (NothingSaid (Says line.now [] (written_explain (query_syntax query.now)))) }
 {
-    Command::DropRoute {
-        name: name(line, route),
-    }
+    Ok(Command::Explain {
+        query: query_said(alloc, line, query)?,
+    })
 }
 
-// A table dropped.
-fn table_dropped(line: &str, table: Token) -> Command
-    requires { AreToldOf line.now (spelling (written_drop_table table)) }
-    ensures { Says line.now [] (written_drop_table table) (tree_of result) }
-{
-    Command::DropTable {
-        name: name(line, table),
-    }
-}
-
-// A view dropped.
-fn view_dropped(line: &str, view: Token) -> Command
-    requires { AreToldOf line.now (spelling (written_drop_view view)) }
-    ensures { Says line.now [] (written_drop_view view) (tree_of result) }
-{
-    Command::DropView {
-        name: name(line, view),
-    }
-}
-
-// An alignment dropped.
-fn alignment_dropped(line: &str, alignment: Token) -> Command
-    requires { AreToldOf line.now (spelling (written_drop_alignment alignment)) }
-    ensures { Says line.now [] (written_drop_alignment alignment) (tree_of result) }
-{
-    Command::DropAlignment {
-        name: name(line, alignment),
-    }
-}
-
-// A referent dropped.
-fn referent_dropped(line: &str, route: Token, referent: Token) -> Command
-    requires { AreToldOf line.now (spelling (written_drop_referent route referent)) }
-    ensures { Says line.now [] (written_drop_referent route referent) (tree_of result) }
-{
-    Command::DropReferent {
-        route: name(line, route),
-        name: name(line, referent),
-    }
-}
-
-// A definition that the tokens of a line write so.
-fn definition_said(
+// A change of the schema that the tokens of a line write so.
+fn schema_change_said(
     alloc: Global,
     line: &str,
     tokens: &[Token],
@@ -136,7 +98,7 @@ fn definition_said(
 ) -> Result<Command, Refusal>
     requires told { AreToldOf line.now (spelling (written_of written.now)) }
     requires inside { All (IsTokenOf line.now) tokens.now }
-    requires defines { is_definition (written_of written.now) ≡ true }
+    requires schema { changes_schema (written_of written.now) ≡ true }
     ensures ok { IfOk result (λ command. Says line.now tokens.now (written_of written.now) (tree_of command)) }
     ensures err { IfErr result (NothingSaid (Says line.now tokens.now (written_of written.now))) }
 {
@@ -156,11 +118,16 @@ fn definition_said(
             name,
             position,
         } => referent_said(line, *route, *name, *position),
+        WrittenCommand::DefineIndex {
+            name,
+            table,
+            column,
+        } => Ok(index_said(line, *name, *table, *column)),
         WrittenCommand::DefineView { name, query } => view_said(alloc, line, tokens, *name, query),
         WrittenCommand::DefineAlignment { name, pieces } => {
             alignment_said(alloc, line, *name, pieces)
         }
-        _ => unreachable!(),
+        _ => Ok(drop_said(line, written)),
     }
 }
 
@@ -185,11 +152,6 @@ pub fn meaning(
             name,
             position,
         } => move_said(line, *route, *name, *position),
-        WrittenCommand::DropRoute { name } => Ok(route_dropped(line, *name)),
-        WrittenCommand::DropTable { name } => Ok(table_dropped(line, *name)),
-        WrittenCommand::DropView { name } => Ok(view_dropped(line, *name)),
-        WrittenCommand::DropAlignment { name } => Ok(alignment_dropped(line, *name)),
-        WrittenCommand::DropReferent { route, name } => Ok(referent_dropped(line, *route, *name)),
         WrittenCommand::Insert {
             table,
             route,
@@ -208,6 +170,16 @@ pub fn meaning(
         } => translation_said(line, *route, *position, *method),
         WrittenCommand::Select { query, method } => selection_said(alloc, line, query, *method),
         WrittenCommand::Total { query, by, summed } => total_said(alloc, line, query, by, *summed),
-        _ => definition_said(alloc, line, tokens, written),
+        WrittenCommand::Explain { query } => explanation_said(alloc, line, query),
+        WrittenCommand::Open {
+            cursor,
+            query,
+            method,
+        } => opening_said(alloc, line, *cursor, query, *method),
+        WrittenCommand::Fetch { cursor, rows } => fetch_said(line, *cursor, *rows),
+        WrittenCommand::Close { cursor } => Ok(cursor_closed(line, *cursor)),
+        WrittenCommand::Save => Ok(Command::Save),
+        WrittenCommand::Reopen => Ok(Command::Reopen),
+        _ => schema_change_said(alloc, line, tokens, written),
     }
 }

@@ -1,4 +1,4 @@
-//! What a definition of a line says: a route, a table, a referent or a view.
+//! What a definition of a line says: a route, a table, a referent, an index or a view.
 //!
 //! The syntax has been read, so a number out of its range is all that can be wrong with it.
 
@@ -6,7 +6,7 @@ ghost use Rattle.std.specs.Prelude.{◌≡◌, [], map, All, IfOk, IfErr};
 ghost use Rattle.rs_grammar.specs.declared.kind.TokenKind.TheVariants as kinds;
 ghost use Rattle.rs_lexer.specs.Lexis.{IsTokenOf};
 ghost use Rattle.rs_syntax.specs.View.{column_tree, tree_of};
-ghost use Rattle.rs_syntax.specs.Written.{written_route, written_table, written_referent, written_view, column_lexemes, list_lexemes, spelling, SaysColumns, Says, AreToldOf};
+ghost use Rattle.rs_syntax.specs.Written.{written_route, written_table, written_referent, written_index, written_view, column_lexemes, list_lexemes, spelling, SaysColumns, Says, AreToldOf};
 ghost use Rattle.rs_syntax.specs.WrittenView.{query_syntax};
 ghost use Rattle.rs_meaning.specs.Saying.{NothingSaid};
 
@@ -91,6 +91,18 @@ pub fn referent_said(
         name: name(line, referent),
         position: position(line, at)?,
     })
+}
+
+/// An index of a column of a table.
+pub fn index_said(line: &str, index: Token, table: Token, column: Token) -> Command
+    requires { AreToldOf line.now (spelling (written_index index table column)) }
+    ensures { Says line.now [] (written_index index table column) (tree_of result) }
+{
+    Command::DefineIndex {
+        name: name(line, index),
+        table: name(line, table),
+        column: name(line, column),
+    }
 }
 
 /// A query under a name, with its text.

@@ -7,5 +7,5 @@ pub mod parser;
 mod reading;
 
 pub use parser::{command_of, parse};
-pub use rs_grammar::kind::{BRACKETS, NAME_BYTES, TokenKind};
+pub use rs_grammar::kind::{BRACKETS, FETCHED_ROWS, NAME_BYTES, TokenKind};
 pub use rs_lexer::{Token, tokens};

@@ -25,11 +25,11 @@ is-below a b = by (nat_lt a b) (nat_eq a b)
     by false false = refl
 
 module _ {X : Type 0} (key : X → ℕ) where
-  abbrev lighter : X → X → Bool
+  abbrev pub lighter : X → X → Bool
   lighter x y = is_lt (nat_cmp (key x) (key y))
 
   -- each is no heavier than all that follow
-  abbrev Rise : List X → Type 0
+  abbrev pub Rise : List X → Type 0
   Rise [] = Unit {0}
   Rise (x ∷ xs) = AllByRecursion (λ y. key x ≤ key y) xs × Rise xs
 
@@ -55,7 +55,7 @@ module _ {X : Type 0} (key : X → ℕ) where
   rise-pairs [] h = tt
   rise-pairs (x ∷ xs) h = (recursion_from_All (λ y. key x ≤ key y) xs (λ k d below. h 0 (suc k) d (omega arith) (omega arith)), rise-pairs xs (λ i j d a b. h (suc i) (suc j) d (omega arith) (omega arith)))
 
-  rise-sorted : (xs : List X) → IsSortedByKey key nat_cmp xs → Rise xs
+  pub rise-sorted : (xs : List X) → IsSortedByKey key nat_cmp xs → Rise xs
   rise-sorted xs up = rise-pairs xs (λ i j d a b. ltb-false (key (get_or xs j d)) (key (get_or xs i d)) (sym (is-below (key (get_or xs j d)) (key (get_or xs i d))) ∙ sorted_far lighter (ranks_by nat_cmp_total key) xs up i j d a b))
 
   near : (xs : List X) → Rise xs → (k : ℕ) (d : X) → suc k < length xs → key (get_or xs k d) ≤ key (get_or xs (suc k) d)
@@ -64,7 +64,7 @@ module _ {X : Type 0} (key : X → ℕ) where
   near (x ∷ y ∷ xs) rise zero d below = rise.0.0
   near (x ∷ xs) rise (suc k) d below = near xs rise.1 k d (omega arith)
 
-  sorted-rise : (xs : List X) → Rise xs → IsSortedByKey key nat_cmp xs
+  pub sorted-rise : (xs : List X) → Rise xs → IsSortedByKey key nat_cmp xs
   sorted-rise xs rise k d from below =
       ap (λ n. lighter (get_or xs n d) (get_or xs k d)) (add-one k)
       ∙ is-below (key (get_or xs (suc k) d)) (key (get_or xs k d))

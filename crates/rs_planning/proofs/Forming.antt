@@ -25,7 +25,7 @@ use Rattle.rs_planning.proofs.PuttingBack.{lightest-permutes}
 
 -- ---- no query is too wide
 
-narrow : (world : World) (query : Query) → IsWellFormed world query → width_of world query ≤ COLUMNS
+pub narrow : (world : World) (query : Query) → IsWellFormed world query → width_of world query ≤ COLUMNS
 narrow world (table_rows name) wf = subst (λ o. length (table_columns o) ≤ COLUMNS) (sym wf.1) wf.2
 narrow world (where_rows query condition) wf = narrow world query wf
 narrow world (dissolve_rows query columns) wf = let few = wf.1 in omega (arith, few, length-map columns (column_at (columns_of world query)))

@@ -1,11 +1,11 @@
-mod Meeting
-mod Shown
-mod PuttingBack
-mod Widths
-mod Operands
-mod Forming
-mod Meaning
-mod LeastIndex
-mod ByWeight
-mod RecordCounts
+pub mod Meeting
+pub mod Shown
+pub mod PuttingBack
+pub mod Widths
+pub mod Operands
+pub mod Forming
+pub mod Meaning
+pub mod LeastIndex
+pub mod ByWeight
+pub mod RecordCounts
 mod Examples

@@ -36,7 +36,7 @@ unit_right rows = same_rows _ _ (λ row. either-way _ _
     (λ e. let pair = (pairs rows no_columns row).0 e in ap (contains rows) (pair.together ∙ ap (λ (r : Row). pair.left ++ r) (only_empty pair.right pair.in_second) ∙ append_nil pair.left) ∙ pair.in_first)
     (λ e. (pairs rows no_columns row).1 (record { left = row; right = []; in_first = e; in_second = has_empty; together = sym (append_nil row) })))
 
-overlaid_assoc : (a b c : RowSet) → overlaid (overlaid a b) c ≡ overlaid a (overlaid b c)
+pub overlaid_assoc : (a b c : RowSet) → overlaid (overlaid a b) c ≡ overlaid a (overlaid b c)
 overlaid_assoc a b c = same_rows _ _ (λ row. either-way _ _
     (λ e.
     let outer = (pairs (overlaid a b) c row).0 e in
@@ -77,7 +77,7 @@ pub rows-append : (world : World) (a b : List Plan) (route : Name) (k : ℕ) →
 rows-append world [] b route k = sym (unit_left (rows_together world b route k))
 rows-append world (plan ∷ a) b route k = ap (overlaid (plan_rows_at world plan route k)) (rows-append world a b route k) ∙ sym (overlaid_assoc (plan_rows_at world plan route k) (rows_together world a route k) (rows_together world b route k))
 
-line_first : (a : Kind) → overlaid_kind kinds.Line a ≡ a
+pub line_first : (a : Kind) → overlaid_kind kinds.Line a ≡ a
 line_first kinds.Line = refl
 line_first kinds.Point = refl
 
@@ -85,7 +85,7 @@ pub line_last : (a : Kind) → overlaid_kind a kinds.Line ≡ a
 line_last kinds.Line = refl
 line_last kinds.Point = refl
 
-kind_assoc : (a b c : Kind) → overlaid_kind (overlaid_kind a b) c ≡ overlaid_kind a (overlaid_kind b c)
+pub kind_assoc : (a b c : Kind) → overlaid_kind (overlaid_kind a b) c ≡ overlaid_kind a (overlaid_kind b c)
 kind_assoc kinds.Line kinds.Line kinds.Line = refl
 kind_assoc kinds.Line kinds.Line kinds.Point = refl
 kind_assoc kinds.Line kinds.Point kinds.Line = refl

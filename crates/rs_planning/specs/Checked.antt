@@ -1,5 +1,5 @@
 -- What a checked query keeps to beside being well formed, and what tables keep to.
-use Rattle.std.specs.Prelude.{◌≡◌, ℕ, ◌<◌, true, List, length, Some}
+use Rattle.std.specs.Prelude.{◌≡◌, ℕ, ◌+◌, ◌<◌, true, List, length, Some}
 use Rattle.std.specs.List.{AllByRecursion}
 use Rattle.std.specs.FinMap as names
 use Rattle.rs_value.specs.Row.{Row}
@@ -30,6 +30,19 @@ NamesItsColumns world (merge_rows a b) = NamesItsColumns world a × NamesItsColu
 NamesItsColumns world (minus_rows a b) = NamesItsColumns world a × NamesItsColumns world b
 NamesItsColumns world (window_rows query window) = NamesItsColumns world query
 NamesItsColumns world (transform_rows query name pieces) = NamesItsColumns world query
+
+-- how many nodes the query has: each operator and each table is one
+abbrev pub nodes_of : Query → ℕ
+nodes_of (table_rows name) = 1
+nodes_of (where_rows query condition) = nodes_of query + 1
+nodes_of (dissolve_rows query columns) = nodes_of query + 1
+nodes_of (rename_column query column name) = nodes_of query + 1
+nodes_of (overlay_rows a b) = nodes_of a + nodes_of b + 1
+nodes_of (cover_rows m n a b) = nodes_of a + nodes_of b + 1
+nodes_of (merge_rows a b) = nodes_of a + nodes_of b + 1
+nodes_of (minus_rows a b) = nodes_of a + nodes_of b + 1
+nodes_of (window_rows query window) = nodes_of query + 1
+nodes_of (transform_rows query name pieces) = nodes_of query + 1
 
 -- each row of a table has a value for each of its columns
 abbrev pub RowsHaveTheirWidth : World → Type 0

@@ -4,5 +4,6 @@ pub mod Plan
 pub mod Rule
 pub mod Explain
 pub mod Checked
+pub mod Numbered
 pub mod WellFormedPlan
 pub mod Laws

@@ -20,11 +20,11 @@ use Rattle.rs_syntax.specs.declared.written.WrittenPiece.{WrittenPiece}
 use Rattle.rs_syntax.specs.declared.written.WrittenOperand.{WrittenOperand}
 use Rattle.rs_syntax.specs.declared.written.WrittenOperand.TheVariants as written_operands
 use Rattle.rs_syntax.specs.declared.written.PairOperator.{PairOperator}
-use Rattle.rs_syntax.specs.Tree.{whole_route, part_of_route, column_named, written_value, compare, is_null, is_not_null, negated, bracketed, both, either, named, filtered, dissolved, renamed, windowed, transformed, define_route, define_table, define_referent, define_view, define_alignment, move_referent, drop_route, drop_table, drop_view, drop_alignment, drop_referent, insert, remove, translate, select, total}
-use Rattle.rs_syntax.specs.WrittenParts.{SaysColumns, SaysDatum, SaysRow, SaysPosition, SaysLocation, SaysPieces, summed_name}
+use Rattle.rs_syntax.specs.Tree.{whole_route, part_of_route, column_named, written_value, compare, is_null, is_not_null, negated, bracketed, both, either, named, filtered, dissolved, renamed, windowed, transformed, define_route, define_table, define_referent, define_index, define_view, define_alignment, move_referent, drop_route, drop_table, drop_index, drop_view, drop_alignment, drop_referent, insert, remove, translate, select, total, explain, open_cursor, fetch, close_cursor, save, reopen}
+use Rattle.rs_syntax.specs.WrittenParts.{SaysColumns, SaysRows, SaysDatum, SaysRow, SaysPosition, SaysLocation, SaysPieces, summed_name}
 use Rattle.rs_syntax.specs.WrittenQueries.{AtomSyntax, written_comparison, written_null, written_not_null, written_negation, written_bracket, ConjunctionSyntax, last_atom, and_then, ConditionSyntax, last_conjunction, or_else, QuerySyntax, written_name, written_where, written_dissolve, written_rename, written_pair, written_window, written_transform, SaysWindow, SaysOperand, SaysAtom, SaysConjunction, SaysCondition, paired, SaysQuery, SaysRemoval}
-use Rattle.rs_syntax.specs.Written.{Written, written_route, written_table, written_referent, written_view, written_alignment, written_move, written_drop_route, written_drop_table, written_drop_view, written_drop_alignment, written_drop_referent, written_insert, written_remove, written_translate, written_select, written_total, view_text, Says}
-use Rattle.rs_syntax.proofs.Ranges.{position_cases, location_cases, columns_cases, datum_cases, row_cases, pieces_cases}
+use Rattle.rs_syntax.specs.Written.{Written, written_route, written_table, written_referent, written_index, written_view, written_alignment, written_move, written_drop_route, written_drop_table, written_drop_index, written_drop_view, written_drop_alignment, written_drop_referent, written_insert, written_remove, written_translate, written_select, written_total, written_explain, written_open, written_fetch, written_close, written_save, written_reopen, view_text, Says}
+use Rattle.rs_syntax.proofs.Ranges.{position_cases, location_cases, columns_cases, rows_cases, datum_cases, row_cases, pieces_cases}
 
 -- Windows and conditions.
 part_of : (line : List ℕ) (r : Token) (from to : WrittenPosition) → Cases (SaysPosition line from) → Cases (SaysPosition line to) → Cases (SaysWindow line (written_windows.Part r from to))
@@ -180,15 +180,29 @@ total_of : (line : List ℕ) (tokens : List Token) (w : QuerySyntax) (by : List 
 total_of line tokens w by summed (inl query) = inl (total query.0 (map (token_text line) by) (summed_name line summed), (query.0, query.1, refl))
 total_of line tokens w by summed (inr none) = inr (λ tree says. none says.0 says.1)
 
+explain_of : (line : List ℕ) (tokens : List Token) (w : QuerySyntax) → Cases (SaysQuery line w) → Cases (Says line tokens (written_explain w))
+explain_of line tokens w (inl query) = inl (explain query.0, (query.0, query.1, refl))
+explain_of line tokens w (inr none) = inr (λ tree says. none says.0 says.1)
+
+open_of : (line : List ℕ) (tokens : List Token) (n : Token) (w : QuerySyntax) (m : Option Method) → Cases (SaysQuery line w) → Cases (Says line tokens (written_open n w m))
+open_of line tokens n w m (inl query) = inl (open_cursor (token_text line n) query.0 (unwrap_or m methods.Absolute), (query.0, query.1, refl))
+open_of line tokens n w m (inr none) = inr (λ tree says. none says.0 says.1)
+
+fetch_of : (line : List ℕ) (tokens : List Token) (n w : Token) → Cases (SaysRows (token_text line w)) → Cases (Says line tokens (written_fetch n w))
+fetch_of line tokens n w (inl rows) = inl (fetch (token_text line n) rows.0, (rows.0, rows.1, refl))
+fetch_of line tokens n w (inr none) = inr (λ tree says. none says.0 says.1)
+
 pub says_cases : (line : List ℕ) (tokens : List Token) (w : Written) → Cases (Says line tokens w)
 says_cases line tokens (written_route n s f) = route_of line tokens n s f (measure_cases (token_text line s)) (measure_cases (token_text line f))
 says_cases line tokens (written_table k n ws) = table_of line tokens k n ws (columns_cases line ws)
 says_cases line tokens (written_referent r n w) = referent_of line tokens r n w (position_cases line w)
+says_cases line tokens (written_index n t c) = inl (define_index (token_text line n) (token_text line t) (token_text line c), refl)
 says_cases line tokens (written_view n w) = view_of line tokens n w (query_cases line w)
 says_cases line tokens (written_alignment n ws) = alignment_of line tokens n ws (pieces_cases line ws)
 says_cases line tokens (written_move r n w) = move_of line tokens r n w (position_cases line w)
 says_cases line tokens (written_drop_route n) = inl (drop_route (token_text line n), refl)
 says_cases line tokens (written_drop_table n) = inl (drop_table (token_text line n), refl)
+says_cases line tokens (written_drop_index n) = inl (drop_index (token_text line n), refl)
 says_cases line tokens (written_drop_view n) = inl (drop_view (token_text line n), refl)
 says_cases line tokens (written_drop_alignment n) = inl (drop_alignment (token_text line n), refl)
 says_cases line tokens (written_drop_referent r n) = inl (drop_referent (token_text line r) (token_text line n), refl)
@@ -197,3 +211,9 @@ says_cases line tokens (written_remove t w c) = remove_of line tokens t w c (win
 says_cases line tokens (written_translate r w m) = translate_of line tokens r w m (position_cases line w)
 says_cases line tokens (written_select w m) = select_of line tokens w m (query_cases line w)
 says_cases line tokens (written_total w by summed) = total_of line tokens w by summed (query_cases line w)
+says_cases line tokens (written_explain w) = explain_of line tokens w (query_cases line w)
+says_cases line tokens (written_open n w m) = open_of line tokens n w m (query_cases line w)
+says_cases line tokens (written_fetch n w) = fetch_of line tokens n w (rows_cases (token_text line w))
+says_cases line tokens (written_close n) = inl (close_cursor (token_text line n), refl)
+says_cases line tokens written_save = inl (save, refl)
+says_cases line tokens written_reopen = inl (reopen, refl)

@@ -15,7 +15,7 @@ use Rattle.rs_syntax.specs.declared.written.WrittenWindow.{WrittenWindow}
 use Rattle.rs_syntax.specs.declared.written.WrittenPiece.{WrittenPiece}
 use Rattle.rs_syntax.specs.WrittenParts.{mark, position_lexemes, location_lexemes, method_kind, method_lexemes, wanted_lexemes, table_kind, column_lexemes, value_lexemes, name_lexemes, summed_lexemes, piece_lexemes, list_lexemes}
 use Rattle.rs_syntax.specs.WrittenQueries.{ConditionSyntax, QuerySyntax, window_lexemes, bracketed_names_lexemes, query_lexemes, removal_lexemes}
-use Rattle.rs_syntax.specs.Written.{Written, written_route, written_table, written_referent, written_view, written_alignment, written_move, written_drop_route, written_drop_table, written_drop_view, written_drop_alignment, written_drop_referent, written_insert, written_remove, written_translate, written_select, written_total, spelling}
+use Rattle.rs_syntax.specs.Written.{Written, written_route, written_table, written_referent, written_index, written_view, written_alignment, written_move, written_drop_route, written_drop_table, written_drop_index, written_drop_view, written_drop_alignment, written_drop_referent, written_insert, written_remove, written_translate, written_select, written_total, written_explain, written_open, written_fetch, written_close, written_save, written_reopen, spelling}
 use Rattle.rs_syntax.proofs.SpellingLaws.{begins_with_sign, columns_same, values_same, pieces_same, last_position, position_same, location_same, method_same, wanted_same, names_same}
 use Rattle.rs_syntax.proofs.QuerySpelling.{Ends, window_same, query_same, removal_same}
 
@@ -37,6 +37,10 @@ no_route k e = false≢true (sym (ap is_table_kind e) ∙ is_one k)
 no_referent : (k : Kind) → table_kind k ≡ kinds.Referent → ⊥
 unfolding is_table_kind
 no_referent k e = false≢true (sym (ap is_table_kind e) ∙ is_one k)
+
+no_index : (k : Kind) → table_kind k ≡ kinds.Index → ⊥
+unfolding is_table_kind
+no_index k e = false≢true (sym (ap is_table_kind e) ∙ is_one k)
 
 no_view : (k : Kind) → table_kind k ≡ kinds.View → ⊥
 unfolding is_table_kind
@@ -140,6 +144,19 @@ select_same a b x y e =
     let first = query_same a b (wanted_lexemes x) (wanted_lexemes y) rest in
     ap (λ z. written_select z x) first.0 ∙ ap (written_select b) (wanted_same x y first.1)
 
+explain_same : (a b : QuerySyntax) → spelling (written_explain a) ≡ spelling (written_explain b) → written_explain a ≡ written_explain b
+explain_same a b e =
+    let rest : query_lexemes a ≡ query_lexemes b = cc in
+    let queries = query_same a b [] [] (append-nil (query_lexemes a) ∙ rest ∙ sym (append-nil (query_lexemes b))) in
+    ap written_explain queries.0
+
+open_same : (a b : Token) (x y : QuerySyntax) (m n : Option Method) → spelling (written_open a x m) ≡ spelling (written_open b y n) → written_open a x m ≡ written_open b y n
+open_same a b x y m n e =
+    let names : a ≡ b = cc in
+    let rest : query_lexemes x ++ wanted_lexemes m ≡ query_lexemes y ++ wanted_lexemes n = cc in
+    let queries = query_same x y (wanted_lexemes m) (wanted_lexemes n) rest in
+    ap (λ z. written_open z x m) names ∙ ap (λ z. written_open b z m) queries.0 ∙ ap (written_open b y) (wanted_same m n queries.1)
+
 -- the column that is summed, at the end of a line
 summed_same : (x y : Option Token) → summed_lexemes x ≡ summed_lexemes y → x ≡ y
 summed_same None None e = refl
@@ -170,6 +187,7 @@ table_told : (k : Kind) (a : Token) (xs : List WrittenColumn) (w : Written) → 
 table_told k a xs (written_route d e f) same = let words : table_kind k ≡ kinds.Route = cc in absurd (no_route k words)
 table_told k a xs (written_table l b ys) same = table_same k l a b xs ys same
 table_told k a xs (written_referent d e y) same = let words : table_kind k ≡ kinds.Referent = cc in absurd (no_referent k words)
+table_told k a xs (written_index d e f) same = let words : table_kind k ≡ kinds.Index = cc in absurd (no_index k words)
 table_told k a xs (written_view d y) same = let words : table_kind k ≡ kinds.View = cc in absurd (no_view k words)
 table_told k a xs (written_alignment d ys) same = let words : table_kind k ≡ kinds.Alignment = cc in absurd (no_alignment k words)
 table_told k a xs _ same = absurd cc
@@ -178,6 +196,11 @@ referent_told : (a b : Token) (x : WrittenPosition) (w : Written) → spelling (
 referent_told a b x (written_referent c d y) same = referent_same a b c d x y same
 referent_told a b x (written_table k d xs) same = let words : table_kind k ≡ kinds.Referent = cc in absurd (no_referent k words)
 referent_told a b x _ same = absurd cc
+
+index_told : (a b c : Token) (w : Written) → spelling (written_index a b c) ≡ spelling w → written_index a b c ≡ w
+index_told a b c (written_index d e f) same = cc
+index_told a b c (written_table k d xs) same = let words : table_kind k ≡ kinds.Index = cc in absurd (no_index k words)
+index_told a b c _ same = absurd cc
 
 view_told : (a : Token) (x : QuerySyntax) (w : Written) → spelling (written_view a x) ≡ spelling w → written_view a x ≡ w
 view_told a x (written_view b y) same = view_same a b x y same
@@ -200,6 +223,10 @@ drop_route_told a _ same = absurd cc
 drop_table_told : (a : Token) (w : Written) → spelling (written_drop_table a) ≡ spelling w → written_drop_table a ≡ w
 drop_table_told a (written_drop_table b) same = cc
 drop_table_told a _ same = absurd cc
+
+drop_index_told : (a : Token) (w : Written) → spelling (written_drop_index a) ≡ spelling w → written_drop_index a ≡ w
+drop_index_told a (written_drop_index b) same = cc
+drop_index_told a _ same = absurd cc
 
 drop_view_told : (a : Token) (w : Written) → spelling (written_drop_view a) ≡ spelling w → written_drop_view a ≡ w
 drop_view_told a (written_drop_view b) same = cc
@@ -233,16 +260,42 @@ total_told : (a : QuerySyntax) (xs : List Token) (x : Option Token) (w : Written
 total_told a xs x (written_total b ys y) same = total_same a b xs ys x y same
 total_told a xs x _ same = absurd cc
 
+explain_told : (a : QuerySyntax) (w : Written) → spelling (written_explain a) ≡ spelling w → written_explain a ≡ w
+explain_told a (written_explain b) same = explain_same a b same
+explain_told a _ same = absurd cc
+
+open_told : (a : Token) (x : QuerySyntax) (m : Option Method) (w : Written) → spelling (written_open a x m) ≡ spelling w → written_open a x m ≡ w
+open_told a x m (written_open b y n) same = open_same a b x y m n same
+open_told a x m _ same = absurd cc
+
+fetch_told : (a b : Token) (w : Written) → spelling (written_fetch a b) ≡ spelling w → written_fetch a b ≡ w
+fetch_told a b (written_fetch c d) same = cc
+fetch_told a b _ same = absurd cc
+
+close_told : (a : Token) (w : Written) → spelling (written_close a) ≡ spelling w → written_close a ≡ w
+close_told a (written_close b) same = cc
+close_told a _ same = absurd cc
+
+save_told : (w : Written) → spelling written_save ≡ spelling w → written_save ≡ w
+save_told written_save same = refl
+save_told _ same = absurd cc
+
+reopen_told : (w : Written) → spelling written_reopen ≡ spelling w → written_reopen ≡ w
+reopen_told written_reopen same = refl
+reopen_told _ same = absurd cc
+
 -- what is spelled says how it is written
 pub written_same : (v w : Written) → spelling v ≡ spelling w → v ≡ w
 written_same (written_route a b c) w same = route_told a b c w same
 written_same (written_table k a xs) w same = table_told k a xs w same
 written_same (written_referent a b x) w same = referent_told a b x w same
+written_same (written_index a b c) w same = index_told a b c w same
 written_same (written_view a x) w same = view_told a x w same
 written_same (written_alignment a xs) w same = alignment_told a xs w same
 written_same (written_move a b x) w same = move_told a b x w same
 written_same (written_drop_route a) w same = drop_route_told a w same
 written_same (written_drop_table a) w same = drop_table_told a w same
+written_same (written_drop_index a) w same = drop_index_told a w same
 written_same (written_drop_view a) w same = drop_view_told a w same
 written_same (written_drop_alignment a) w same = drop_alignment_told a w same
 written_same (written_drop_referent a b) w same = drop_referent_told a b w same
@@ -251,3 +304,9 @@ written_same (written_remove a v x) w same = remove_told a v x w same
 written_same (written_translate a x m) w same = translate_told a x m w same
 written_same (written_select a x) w same = select_told a x w same
 written_same (written_total a xs x) w same = total_told a xs x w same
+written_same (written_explain a) w same = explain_told a w same
+written_same (written_open a x m) w same = open_told a x m w same
+written_same (written_fetch a b) w same = fetch_told a b w same
+written_same (written_close a) w same = close_told a w same
+written_same written_save w same = save_told w same
+written_same written_reopen w same = reopen_told w same

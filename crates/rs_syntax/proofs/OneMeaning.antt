@@ -22,10 +22,10 @@ use Rattle.rs_syntax.specs.declared.written.WrittenWindow.TheVariants as written
 use Rattle.rs_syntax.specs.declared.written.WrittenPiece.{WrittenPiece}
 use Rattle.rs_syntax.specs.declared.written.WrittenOperand.{WrittenOperand}
 use Rattle.rs_syntax.specs.declared.written.WrittenOperand.TheVariants as written_operands
-use Rattle.rs_syntax.specs.Tree.{EventLocationTree, along, at_point, WindowTree, part_of_route, PieceTree, OperandTree, written_value, ConditionTree, compare, negated, bracketed, both, either, QueryTree, filtered, dissolved, renamed, windowed, transformed, CommandTree, define_route, define_table, define_referent, define_view, define_alignment, move_referent, insert, remove, translate, select, total}
+use Rattle.rs_syntax.specs.Tree.{EventLocationTree, along, at_point, WindowTree, part_of_route, PieceTree, OperandTree, written_value, ConditionTree, compare, negated, bracketed, both, either, QueryTree, filtered, dissolved, renamed, windowed, transformed, CommandTree, define_route, define_table, define_referent, define_view, define_alignment, move_referent, insert, remove, translate, select, total, explain, open_cursor, fetch}
 use Rattle.rs_syntax.specs.WrittenParts.{SaysType, SaysColumns, SaysDatum, SaysRow, SaysPosition, SaysLocation, SaysPiece, SaysPieces, summed_name}
 use Rattle.rs_syntax.specs.WrittenQueries.{AtomSyntax, written_comparison, written_null, written_not_null, written_negation, written_bracket, ConjunctionSyntax, last_atom, and_then, ConditionSyntax, last_conjunction, or_else, QuerySyntax, written_name, written_where, written_dissolve, written_rename, written_pair, written_window, written_transform, SaysWindow, SaysOperand, SaysAtom, SaysConjunction, SaysCondition, paired, SaysQuery, SaysRemoval}
-use Rattle.rs_syntax.specs.Written.{Written, written_route, written_table, written_referent, written_view, written_alignment, written_move, written_drop_route, written_drop_table, written_drop_view, written_drop_alignment, written_drop_referent, written_insert, written_remove, written_translate, written_select, written_total, view_text, Says}
+use Rattle.rs_syntax.specs.Written.{Written, written_route, written_table, written_referent, written_index, written_view, written_alignment, written_move, written_drop_route, written_drop_table, written_drop_index, written_drop_view, written_drop_alignment, written_drop_referent, written_insert, written_remove, written_translate, written_select, written_total, written_explain, written_open, written_fetch, written_close, written_save, written_reopen, view_text, Says}
 use Rattle.std.specs.Prelude.{map, unwrap_or}
 use Rattle.rs_methods.specs.declared.position.Method.TheVariants as methods
 
@@ -184,6 +184,7 @@ says_same one line tokens (written_route n s f) a b p q =
 says_same one line tokens (written_table k n cs) a b p q = p.2 ∙ ap (define_table k (token_text line n)) (says_columns_same line cs p.0 q.0 p.1 q.1) ∙ sym q.2
 says_same one line tokens (written_referent r n w) a b p q =
     p.2 ∙ ap (define_referent (token_text line r) (token_text line n)) (says_position_same one line w p.0 q.0 p.1 q.1) ∙ sym q.2
+says_same one line tokens (written_index n t c) a b p q = p ∙ sym q
 says_same one line tokens (written_view n w) a b p q =
     p.2 ∙ ap (λ query. define_view (token_text line n) query (view_text line tokens)) (says_query_same one line w p.0 q.0 p.1 q.1) ∙ sym q.2
 says_same one line tokens (written_alignment n ws) a b p q = p.2 ∙ ap (define_alignment (token_text line n)) (says_pieces_same one line ws p.0 q.0 p.1 q.1) ∙ sym q.2
@@ -191,6 +192,7 @@ says_same one line tokens (written_move r n w) a b p q =
     p.2 ∙ ap (move_referent (token_text line r) (token_text line n)) (says_position_same one line w p.0 q.0 p.1 q.1) ∙ sym q.2
 says_same one line tokens (written_drop_route n) a b p q = p ∙ sym q
 says_same one line tokens (written_drop_table n) a b p q = p ∙ sym q
+says_same one line tokens (written_drop_index n) a b p q = p ∙ sym q
 says_same one line tokens (written_drop_view n) a b p q = p ∙ sym q
 says_same one line tokens (written_drop_alignment n) a b p q = p ∙ sym q
 says_same one line tokens (written_drop_referent r n) a b p q = p ∙ sym q
@@ -210,3 +212,10 @@ says_same one line tokens (written_select w m) a b p q =
     p.2 ∙ ap (λ query. select query (unwrap_or m methods.Absolute)) (says_query_same one line w p.0 q.0 p.1 q.1) ∙ sym q.2
 says_same one line tokens (written_total w by summed) a b p q =
     p.2 ∙ ap (λ query. total query (map (token_text line) by) (summed_name line summed)) (says_query_same one line w p.0 q.0 p.1 q.1) ∙ sym q.2
+says_same one line tokens (written_explain w) a b p q = p.2 ∙ ap explain (says_query_same one line w p.0 q.0 p.1 q.1) ∙ sym q.2
+says_same one line tokens (written_open n w m) a b p q =
+    p.2 ∙ ap (λ query. open_cursor (token_text line n) query (unwrap_or m methods.Absolute)) (says_query_same one line w p.0 q.0 p.1 q.1) ∙ sym q.2
+says_same one line tokens (written_fetch n w) a b p q = p.2 ∙ ap (fetch (token_text line n)) (p.1.0 ∙ sym q.1.0) ∙ sym q.2
+says_same one line tokens (written_close n) a b p q = p ∙ sym q
+says_same one line tokens written_save a b p q = p ∙ sym q
+says_same one line tokens written_reopen a b p q = p ∙ sym q

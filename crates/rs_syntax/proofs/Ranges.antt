@@ -11,6 +11,7 @@ use Rattle.rs_value.specs.declared.column.TheConstants.{TEXT_BYTES}
 use Rattle.rs_value.specs.declared.column.ColumnType.{ColumnType}
 use Rattle.rs_value.specs.declared.column.ColumnType.TheVariants as types
 use Rattle.rs_value.specs.Row.{Datum, null, number, text, Row}
+use Rattle.rs_grammar.specs.declared.kind.TheConstants.{FETCHED_ROWS}
 use Rattle.rs_lexer.specs.declared.token.Token.{Token}
 use Rattle.rs_lexer.specs.Lexis.{token_text}
 use Rattle.rs_syntax.specs.declared.written.WrittenType.{WrittenType}
@@ -24,7 +25,7 @@ use Rattle.rs_syntax.specs.declared.written.WrittenLocation.{WrittenLocation}
 use Rattle.rs_syntax.specs.declared.written.WrittenLocation.TheVariants as written_locations
 use Rattle.rs_syntax.specs.declared.written.WrittenPiece.{WrittenPiece}
 use Rattle.rs_syntax.specs.Tree.{EventLocationTree, along, at_point, PieceTree}
-use Rattle.rs_syntax.specs.WrittenParts.{unquoted, signed, SaysType, SaysColumns, SaysDatum, SaysRow, SaysPosition, SaysLocation, SaysPiece, SaysPieces}
+use Rattle.rs_syntax.specs.WrittenParts.{unquoted, signed, SaysType, SaysColumns, SaysRows, SaysDatum, SaysRow, SaysPosition, SaysLocation, SaysPiece, SaysPieces}
 
 -- A position.
 measure_position : (line : List ℕ) (token : Token) → Cases (SaysMeasure (token_text line token)) → Cases (SaysPosition line (written_positions.Measure token))
@@ -101,6 +102,16 @@ more_columns line w ws (inr none) others = inr (no_columns line w ws (λ s other
 pub columns_cases : (line : List ℕ) (ws : List WrittenColumn) → Cases (SaysColumns line ws)
 columns_cases line [] = inl ([], tt)
 columns_cases line (w ∷ ws) = more_columns line w ws (type_cases line w.column_type) (columns_cases line ws)
+
+-- How many rows are fetched.
+rows_of : (digits : List ℕ) → (number_of_digits digits < 1) ⊎ (1 ≤ number_of_digits digits) → (FETCHED_ROWS < number_of_digits digits) ⊎ (number_of_digits digits ≤ FETCHED_ROWS)
+    → Cases (SaysRows digits)
+rows_of digits (inl none) many = inr (λ rows says. omega (arith, says.0, says.1))
+rows_of digits (inr some) (inl many) = inr (λ rows says. omega (arith, says.0, says.2))
+rows_of digits (inr some) (inr few) = inl (number_of_digits digits, (refl, some, few))
+
+pub rows_cases : (digits : List ℕ) → Cases (SaysRows digits)
+rows_cases digits = rows_of digits (cases_lt (number_of_digits digits) 1) (cases_lt FETCHED_ROWS (number_of_digits digits))
 
 -- The values of a row.
 no_number : (line : List ℕ) (is_negative : Bool) (digits : Token) → 10 ^ 12 < number_of_digits (token_text line digits) → (datum : Datum) → SaysDatum line (written_values.Whole is_negative digits) datum → ⊥

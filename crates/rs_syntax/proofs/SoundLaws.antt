@@ -8,7 +8,7 @@ use Rattle.rs_value.specs.Values.{is_text}
 use Rattle.rs_syntax.specs.Tree.{CommandTree}
 use Rattle.rs_syntax.specs.WrittenParts.{column_lexemes, position_lexemes, location_lexemes, value_lexemes, summed_lexemes, piece_lexemes, list_lexemes, AreToldOf, summed_name}
 use Rattle.rs_syntax.specs.WrittenQueries.{window_lexemes, bracketed_names_lexemes, query_lexemes}
-use Rattle.rs_syntax.specs.Written.{Written, written_route, written_table, written_referent, written_view, written_alignment, written_move, written_drop_route, written_drop_table, written_drop_view, written_drop_alignment, written_drop_referent, written_insert, written_remove, written_translate, written_select, written_total, spelling, Says, IsFull}
+use Rattle.rs_syntax.specs.Written.{Written, written_route, written_table, written_referent, written_index, written_view, written_alignment, written_move, written_drop_route, written_drop_table, written_drop_index, written_drop_view, written_drop_alignment, written_drop_referent, written_insert, written_remove, written_translate, written_select, written_total, written_explain, written_open, written_fetch, written_close, written_save, written_reopen, spelling, Says, IsFull}
 use Rattle.rs_syntax.specs.Sound.{IsSummedColumn, IsSound}
 use Rattle.rs_syntax.proofs.ToldLaws.{AreToldOf-append}
 use Rattle.rs_syntax.proofs.SoundParts.{name_sound, each_told, columns_sound, columns_length, row_sound, row_length, measure_sound, pieces_sound, pieces_length, position_sound, location_sound}
@@ -39,6 +39,12 @@ sound line tokens (written_referent r n p) tree clean full all says =
       name_sound line n (token_text line n) all.1.1.1.0 refl,
       position_sound line p says.0 all.1.1.1.1.1 says.1,
     )
+sound line tokens (written_index n t c) tree clean full all says =
+    subst IsSound (sym says) (
+      name_sound line n (token_text line n) all.1.1.0 refl,
+      name_sound line t (token_text line t) all.1.1.1.1.0 refl,
+      name_sound line c (token_text line c) all.1.1.1.1.1.1.0 refl,
+    )
 sound line tokens (written_view n w) tree clean full all says =
     subst IsSound (sym says.2) (name_sound line n (token_text line n) all.1.1.0 refl, query_sound line w says.0 clean all.1.1.1.1 says.1)
 sound line tokens (written_alignment n ps) tree clean full all says =
@@ -56,6 +62,7 @@ sound line tokens (written_move r n p) tree clean full all says =
     )
 sound line tokens (written_drop_route n) tree clean full all says = subst IsSound (sym says) (name_sound line n (token_text line n) all.1.1.0 refl)
 sound line tokens (written_drop_table n) tree clean full all says = subst IsSound (sym says) (name_sound line n (token_text line n) all.1.1.0 refl)
+sound line tokens (written_drop_index n) tree clean full all says = subst IsSound (sym says) (name_sound line n (token_text line n) all.1.1.0 refl)
 sound line tokens (written_drop_view n) tree clean full all says = subst IsSound (sym says) (name_sound line n (token_text line n) all.1.1.0 refl)
 sound line tokens (written_drop_alignment n) tree clean full all says = subst IsSound (sym says) (name_sound line n (token_text line n) all.1.1.0 refl)
 sound line tokens (written_drop_referent r n) tree clean full all says =
@@ -87,3 +94,10 @@ sound line tokens (written_total w by summed) tree clean full all says =
     let told = AreToldOf-append line (query_lexemes w) _ all.1 in
     let behind = AreToldOf-append line (bracketed_names_lexemes by) (summed_lexemes summed) told.1.1 in
     subst IsSound (sym says.2) (query_sound line w says.0 clean told.0 says.1, bracketed_sound line by behind.0, summed_sound line summed behind.1)
+sound line tokens (written_explain w) tree clean full all says = subst IsSound (sym says.2) (query_sound line w says.0 clean all.1 says.1)
+sound line tokens (written_open n w m) tree clean full all says =
+    subst IsSound (sym says.2) (name_sound line n (token_text line n) all.1.0 refl, query_sound line w says.0 clean (AreToldOf-append line (query_lexemes w) _ all.1.1.1).0 says.1)
+sound line tokens (written_fetch n w) tree clean full all says = subst IsSound (sym says.2) (name_sound line n (token_text line n) all.1.0 refl, says.1.1, says.1.2)
+sound line tokens (written_close n) tree clean full all says = subst IsSound (sym says) (name_sound line n (token_text line n) all.1.0 refl)
+sound line tokens written_save tree clean full all says = subst IsSound (sym says) tt
+sound line tokens written_reopen tree clean full all says = subst IsSound (sym says) tt

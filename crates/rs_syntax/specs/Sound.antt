@@ -8,11 +8,11 @@ use Rattle.rs_value.specs.declared.column.ColumnType.{ColumnType}
 use Rattle.rs_value.specs.declared.column.ColumnType.TheVariants as types
 use Rattle.rs_value.specs.Row.{null}
 use Rattle.rs_value.specs.Values.{IsValue, AreValues}
-use Rattle.rs_grammar.specs.declared.kind.TheConstants.{NAME_BYTES}
+use Rattle.rs_grammar.specs.declared.kind.TheConstants.{NAME_BYTES, FETCHED_ROWS}
 use Rattle.rs_lexer.specs.Lexis.{reserved, kind_in}
 use Rattle.rs_methods.specs.Position.{PositionExpression, absolute, beyond, before, interpolative}
 use Rattle.rs_methods.specs.PositionText.{IsWord}
-use Rattle.rs_syntax.specs.Tree.{EventLocationTree, along, at_point, WindowTree, whole_route, part_of_route, PieceTree, OperandTree, column_named, written_value, ConditionTree, compare, is_null, is_not_null, negated, bracketed, both, either, QueryTree, named, filtered, dissolved, renamed, overlaid, covered, merged, subtracted, windowed, transformed, CommandTree, define_route, define_table, define_referent, define_view, define_alignment, move_referent, drop_route, drop_table, drop_view, drop_alignment, drop_referent, insert, remove, translate, select, total}
+use Rattle.rs_syntax.specs.Tree.{EventLocationTree, along, at_point, WindowTree, whole_route, part_of_route, PieceTree, OperandTree, column_named, written_value, ConditionTree, compare, is_null, is_not_null, negated, bracketed, both, either, QueryTree, named, filtered, dissolved, renamed, overlaid, covered, merged, subtracted, windowed, transformed, CommandTree, define_route, define_table, define_referent, define_index, define_view, define_alignment, move_referent, drop_route, drop_table, drop_index, drop_view, drop_alignment, drop_referent, insert, remove, translate, select, total, explain, open_cursor, fetch, close_cursor, save, reopen}
 
 -- A name: a word of at most NAME_BYTES bytes that is not reserved.
 pub record IsName (name : List ℕ) : Type 0 where
@@ -96,11 +96,13 @@ abbrev pub IsSound : CommandTree → Type 0
 IsSound (define_route name start finish) = IsName name × IsMeasure start × IsMeasure finish
 IsSound (define_table kind name columns) = IsName name × (1 ≤ length columns) × AreColumns columns
 IsSound (define_referent route name position) = IsName route × IsName name × IsPosition position
+IsSound (define_index name table column) = IsName name × IsName table × IsName column
 IsSound (define_view name query text) = IsName name × IsQuery query
 IsSound (define_alignment name pieces) = IsName name × (1 ≤ length pieces) × AllByRecursion IsPiece pieces
 IsSound (move_referent route name position) = IsName route × IsName name × IsPosition position
 IsSound (drop_route name) = IsName name
 IsSound (drop_table name) = IsName name
+IsSound (drop_index name) = IsName name
 IsSound (drop_view name) = IsName name
 IsSound (drop_alignment name) = IsName name
 IsSound (drop_referent route name) = IsName route × IsName name
@@ -109,3 +111,9 @@ IsSound (remove table window condition) = IsName table × IsWindow window × IsR
 IsSound (translate route position method) = IsName route × IsPosition position
 IsSound (select query method) = IsQuery query
 IsSound (total query by summed) = IsQuery query × AllByRecursion IsName by × IsSummedColumn summed
+IsSound (explain query) = IsQuery query
+IsSound (open_cursor name query method) = IsName name × IsQuery query
+IsSound (fetch name rows) = IsName name × (1 ≤ rows) × (rows ≤ FETCHED_ROWS)
+IsSound (close_cursor name) = IsName name
+IsSound save = Unit {0}
+IsSound reopen = Unit {0}

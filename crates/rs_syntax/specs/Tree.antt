@@ -58,11 +58,13 @@ pub data CommandTree : Type 0 where
   define_route : List ℕ → ℕ → ℕ → CommandTree  -- name, start, finish
   define_table : Kind → List ℕ → List (List ℕ × ColumnType) → CommandTree  -- kind, name, columns
   define_referent : List ℕ → List ℕ → PositionExpression → CommandTree  -- route, name, position
+  define_index : List ℕ → List ℕ → List ℕ → CommandTree  -- name, table, column
   define_view : List ℕ → QueryTree → List ℕ → CommandTree  -- name, query, the query's text as written
   define_alignment : List ℕ → List PieceTree → CommandTree  -- name, pieces
   move_referent : List ℕ → List ℕ → PositionExpression → CommandTree  -- route, name, position
   drop_route : List ℕ → CommandTree  -- name
   drop_table : List ℕ → CommandTree  -- name
+  drop_index : List ℕ → CommandTree  -- name
   drop_view : List ℕ → CommandTree  -- name
   drop_alignment : List ℕ → CommandTree  -- name
   drop_referent : List ℕ → List ℕ → CommandTree  -- route, name
@@ -71,3 +73,9 @@ pub data CommandTree : Type 0 where
   translate : List ℕ → PositionExpression → Method → CommandTree  -- route, position, the method wanted
   select : QueryTree → Method → CommandTree  -- query, the method of its positions
   total : QueryTree → List (List ℕ) → Option (List ℕ) → CommandTree  -- query, the columns of its groups, the column summed
+  explain : QueryTree → CommandTree  -- query
+  open_cursor : List ℕ → QueryTree → Method → CommandTree  -- name, query, the method of its positions
+  fetch : List ℕ → ℕ → CommandTree  -- the cursor's name, how many lines
+  close_cursor : List ℕ → CommandTree  -- name
+  save : CommandTree
+  reopen : CommandTree

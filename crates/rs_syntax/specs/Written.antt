@@ -16,9 +16,9 @@ use Rattle.rs_syntax.specs.declared.written.WrittenPosition.{WrittenPosition}
 use Rattle.rs_syntax.specs.declared.written.WrittenLocation.{WrittenLocation}
 use Rattle.rs_syntax.specs.declared.written.WrittenWindow.{WrittenWindow}
 use Rattle.rs_syntax.specs.declared.written.WrittenPiece.{WrittenPiece}
-use Rattle.rs_syntax.specs.Tree.{EventLocationTree, WindowTree, PieceTree, ConditionTree, QueryTree, CommandTree, define_route, define_table, define_referent, define_view, define_alignment, move_referent, drop_route, drop_table, drop_view, drop_alignment, drop_referent, insert, remove, translate, select, total}
+use Rattle.rs_syntax.specs.Tree.{EventLocationTree, WindowTree, PieceTree, ConditionTree, QueryTree, CommandTree, define_route, define_table, define_referent, define_index, define_view, define_alignment, move_referent, drop_route, drop_table, drop_index, drop_view, drop_alignment, drop_referent, insert, remove, translate, select, total, explain, open_cursor, fetch, close_cursor, save, reopen}
 -- the parts that a command is made of
-pub use Rattle.rs_syntax.specs.WrittenParts.{Lexeme, mark, told, has_text, lexeme_of, lexemes_of, measure_lexemes, position_lexemes, span_lexemes, location_lexemes, method_kind, method_lexemes, wanted_lexemes, table_kind, type_lexemes, column_lexemes, value_lexemes, name_lexemes, summed_lexemes, piece_lexemes, further_lexemes, list_lexemes, IsToldOf, AreToldOf, SaysType, SaysColumns, unquoted_rest, unquoted, signed, SaysDatum, SaysRow, SaysPosition, SaysLocation, SaysPiece, SaysPieces, summed_name}
+pub use Rattle.rs_syntax.specs.WrittenParts.{Lexeme, mark, told, has_text, lexeme_of, lexemes_of, measure_lexemes, position_lexemes, span_lexemes, location_lexemes, method_kind, method_lexemes, wanted_lexemes, table_kind, type_lexemes, column_lexemes, value_lexemes, name_lexemes, summed_lexemes, piece_lexemes, further_lexemes, list_lexemes, IsToldOf, AreToldOf, SaysType, SaysColumns, SaysRows, unquoted_rest, unquoted, signed, SaysDatum, SaysRow, SaysPosition, SaysLocation, SaysPiece, SaysPieces, summed_name}
 pub use Rattle.rs_syntax.specs.WrittenQueries.{AtomSyntax, written_comparison, written_null, written_not_null, written_negation, written_bracket, ConjunctionSyntax, last_atom, and_then, ConditionSyntax, last_conjunction, or_else, QuerySyntax, written_name, written_where, written_dissolve, written_rename, written_pair, written_window, written_transform, window_lexemes, comparison_kind, comparison_lexemes, operand_lexemes, atom_lexemes, conjunction_lexemes, condition_lexemes, bracketed_names_lexemes, pair_kind, operator_lexemes, query_lexemes, removal_lexemes, SaysWindow, SaysOperand, SaysAtom, SaysConjunction, SaysCondition, paired, SaysQuery, SaysRemoval}
 
 -- a command whose names, numbers and texts are still tokens of the line
@@ -26,11 +26,13 @@ pub data Written : Type 0 where
   written_route : Token → Token → Token → Written  -- name, start, finish
   written_table : Kind → Token → List WrittenColumn → Written  -- kind, name, columns
   written_referent : Token → Token → WrittenPosition → Written  -- route, name, position
+  written_index : Token → Token → Token → Written  -- name, table, column
   written_view : Token → QuerySyntax → Written  -- name, query
   written_alignment : Token → List WrittenPiece → Written  -- name, pieces
   written_move : Token → Token → WrittenPosition → Written  -- route, name, position
   written_drop_route : Token → Written  -- name
   written_drop_table : Token → Written  -- name
+  written_drop_index : Token → Written  -- name
   written_drop_view : Token → Written  -- name
   written_drop_alignment : Token → Written  -- name
   written_drop_referent : Token → Token → Written  -- route, name
@@ -39,6 +41,12 @@ pub data Written : Type 0 where
   written_translate : Token → WrittenPosition → Method → Written  -- route, position, the method wanted
   written_select : QuerySyntax → Option Method → Written  -- query, the method after AS
   written_total : QuerySyntax → List Token → Option Token → Written  -- query, the columns after BY, the column after SUM
+  written_explain : QuerySyntax → Written  -- query
+  written_open : Token → QuerySyntax → Option Method → Written  -- cursor, query, the method after AS
+  written_fetch : Token → Token → Written  -- cursor, how many rows
+  written_close : Token → Written  -- cursor
+  written_save : Written
+  written_reopen : Written
 
 -- how a command is spelled
 abbrev pub spelling : Written → List Lexeme
@@ -50,6 +58,9 @@ spelling (written_table kind name columns) =
     ∷ mark kinds.LeftParen ∷ (list_lexemes kinds.Comma column_lexemes columns ++ mark kinds.RightParen ∷ [])
 spelling (written_referent route name position) =
     mark kinds.Define ∷ mark kinds.Referent ∷ told kinds.Name route ∷ told kinds.Name name ∷ mark kinds.At ∷ position_lexemes position
+spelling (written_index name table column) =
+    mark kinds.Define ∷ mark kinds.Index ∷ told kinds.Name name ∷ mark kinds.On ∷ told kinds.Name table
+    ∷ mark kinds.LeftParen ∷ told kinds.Name column ∷ mark kinds.RightParen ∷ []
 spelling (written_view name query) = mark kinds.Define ∷ mark kinds.View ∷ told kinds.Name name ∷ mark kinds.As ∷ query_lexemes query
 spelling (written_alignment name pieces) =
     mark kinds.Define ∷ mark kinds.Alignment ∷ told kinds.Name name
@@ -58,6 +69,7 @@ spelling (written_move route name position) =
     mark kinds.Move ∷ mark kinds.Referent ∷ told kinds.Name route ∷ told kinds.Name name ∷ mark kinds.To ∷ position_lexemes position
 spelling (written_drop_route name) = mark kinds.Drop ∷ mark kinds.Route ∷ told kinds.Name name ∷ []
 spelling (written_drop_table name) = mark kinds.Drop ∷ mark kinds.Table ∷ told kinds.Name name ∷ []
+spelling (written_drop_index name) = mark kinds.Drop ∷ mark kinds.Index ∷ told kinds.Name name ∷ []
 spelling (written_drop_view name) = mark kinds.Drop ∷ mark kinds.View ∷ told kinds.Name name ∷ []
 spelling (written_drop_alignment name) = mark kinds.Drop ∷ mark kinds.Alignment ∷ told kinds.Name name ∷ []
 spelling (written_drop_referent route name) = mark kinds.Drop ∷ mark kinds.Referent ∷ told kinds.Name route ∷ told kinds.Name name ∷ []
@@ -71,6 +83,13 @@ spelling (written_translate route position method) =
 spelling (written_select query method) = mark kinds.Select ∷ (query_lexemes query ++ wanted_lexemes method)
 spelling (written_total query by summed) =
     mark kinds.Total ∷ (query_lexemes query ++ mark kinds.By ∷ (bracketed_names_lexemes by ++ summed_lexemes summed))
+spelling (written_explain query) = mark kinds.Explain ∷ query_lexemes query
+spelling (written_open cursor query method) =
+    mark kinds.Open ∷ told kinds.Name cursor ∷ mark kinds.For ∷ (query_lexemes query ++ wanted_lexemes method)
+spelling (written_fetch cursor rows) = mark kinds.Fetch ∷ told kinds.Name cursor ∷ told kinds.Whole rows ∷ []
+spelling (written_close cursor) = mark kinds.Close ∷ told kinds.Name cursor ∷ []
+spelling written_save = mark kinds.Save ∷ []
+spelling written_reopen = mark kinds.Reopen ∷ []
 
 -- a list of the command has an item at least
 abbrev pub IsFull : Written → Type 0
@@ -104,6 +123,7 @@ Says line tokens (written_table kind name columns) tree =
     (definitions : List (List ℕ × ColumnType)) × SaysColumns line columns definitions × (tree ≡ define_table kind (token_text line name) definitions)
 Says line tokens (written_referent route name written) tree =
     (position : PositionExpression) × SaysPosition line written position × (tree ≡ define_referent (token_text line route) (token_text line name) position)
+Says line tokens (written_index name table column) tree = tree ≡ define_index (token_text line name) (token_text line table) (token_text line column)
 Says line tokens (written_view name written) tree =
     (query : QueryTree) × SaysQuery line written query × (tree ≡ define_view (token_text line name) query (view_text line tokens))
 Says line tokens (written_alignment name written) tree =
@@ -112,6 +132,7 @@ Says line tokens (written_move route name written) tree =
     (position : PositionExpression) × SaysPosition line written position × (tree ≡ move_referent (token_text line route) (token_text line name) position)
 Says line tokens (written_drop_route name) tree = tree ≡ drop_route (token_text line name)
 Says line tokens (written_drop_table name) tree = tree ≡ drop_table (token_text line name)
+Says line tokens (written_drop_index name) tree = tree ≡ drop_index (token_text line name)
 Says line tokens (written_drop_view name) tree = tree ≡ drop_view (token_text line name)
 Says line tokens (written_drop_alignment name) tree = tree ≡ drop_alignment (token_text line name)
 Says line tokens (written_drop_referent route name) tree = tree ≡ drop_referent (token_text line route) (token_text line name)
@@ -127,3 +148,11 @@ Says line tokens (written_select written method) tree =
     (query : QueryTree) × SaysQuery line written query × (tree ≡ select query (unwrap_or method methods.Absolute))
 Says line tokens (written_total written by summed) tree =
     (query : QueryTree) × SaysQuery line written query × (tree ≡ total query (map (token_text line) by) (summed_name line summed))
+Says line tokens (written_explain written) tree = (query : QueryTree) × SaysQuery line written query × (tree ≡ explain query)
+Says line tokens (written_open cursor written method) tree =
+    (query : QueryTree) × SaysQuery line written query × (tree ≡ open_cursor (token_text line cursor) query (unwrap_or method methods.Absolute))
+Says line tokens (written_fetch cursor written) tree =
+    (rows : ℕ) × SaysRows (token_text line written) rows × (tree ≡ fetch (token_text line cursor) rows)
+Says line tokens (written_close cursor) tree = tree ≡ close_cursor (token_text line cursor)
+Says line tokens written_save tree = tree ≡ save
+Says line tokens written_reopen tree = tree ≡ reopen

@@ -14,6 +14,7 @@ use Rattle.rs_value.specs.declared.column.ColumnType.TheVariants as types
 use Rattle.rs_value.specs.Row.{Datum, null, number, text, Row}
 use Rattle.rs_grammar.specs.declared.kind.TokenKind.{TokenKind}
 use Rattle.rs_grammar.specs.declared.kind.TokenKind.TheVariants as kinds
+use Rattle.rs_grammar.specs.declared.kind.TheConstants.{FETCHED_ROWS}
 use Rattle.rs_lexer.specs.declared.token.Token.{Token}
 use Rattle.rs_lexer.specs.Lexis.{token_text, IsTokenOf}
 use Rattle.rs_syntax.specs.declared.written.WrittenType.{WrittenType}
@@ -142,6 +143,10 @@ SaysColumns line [] [] = Unit {0}
 SaysColumns line (written ∷ more) (column ∷ columns) =
     (column.0 ≡ token_text line written.name) × SaysType line written.column_type column.1 × SaysColumns line more columns
 SaysColumns line _ _ = ⊥
+
+-- how many rows are fetched: one at least
+abbrev pub SaysRows : List ℕ → ℕ → Type 0
+SaysRows digits rows = (rows ≡ number_of_digits digits) × (1 ≤ rows) × (rows ≤ FETCHED_ROWS)
 
 -- the text after an opening quote, up to the closing one, each doubled quote once
 abbrev pub unquoted_rest : (behind_quote : Bool) → List ℕ → List ℕ

@@ -78,6 +78,15 @@ pub enum Command {
         /// Where it is put on the route.
         position: Position,
     },
+    /// An index of a column of a table.
+    DefineIndex {
+        /// The index's name.
+        name: Name,
+        /// The table's name.
+        table: Name,
+        /// The column's name.
+        column: Name,
+    },
     /// A query under a name.
     DefineView {
         /// The view's name.
@@ -111,6 +120,11 @@ pub enum Command {
     /// A table, to be dropped.
     DropTable {
         /// The table's name.
+        name: Name,
+    },
+    /// An index, to be dropped.
+    DropIndex {
+        /// The index's name.
         name: Name,
     },
     /// A view, to be dropped.
@@ -175,4 +189,34 @@ pub enum Command {
         /// The column that is summed, if any.
         summed: Option<Name>,
     },
+    /// The plan of a query, to be printed.
+    Explain {
+        /// What is asked for.
+        query: Query,
+    },
+    /// A cursor on the rows of a query as they are now, their positions printed by a method.
+    Open {
+        /// The cursor's name.
+        cursor: Name,
+        /// What is asked for.
+        query: Query,
+        /// How positions are to be printed; absolute where the line says nothing of it.
+        method: Method,
+    },
+    /// The next rows of a cursor.
+    Fetch {
+        /// The cursor's name.
+        cursor: Name,
+        /// How many rows at the most, from 1 to `FETCHED_ROWS`.
+        rows: u32,
+    },
+    /// A cursor, to be closed.
+    Close {
+        /// The cursor's name.
+        cursor: Name,
+    },
+    /// All that was accepted, to be written and synced.
+    Save,
+    /// The file, to be closed and opened again; every cursor goes.
+    Reopen,
 }

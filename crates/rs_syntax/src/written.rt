@@ -189,6 +189,15 @@ pub enum WrittenCommand {
         /// Where it is put.
         position: WrittenPosition,
     },
+    /// `DEFINE INDEX`.
+    DefineIndex {
+        /// The index's name.
+        name: Token,
+        /// The table's name.
+        table: Token,
+        /// The column's name.
+        column: Token,
+    },
     /// `DEFINE VIEW`.
     DefineView {
         /// The view's name.
@@ -220,6 +229,11 @@ pub enum WrittenCommand {
     /// `DROP TABLE`.
     DropTable {
         /// The table's name.
+        name: Token,
+    },
+    /// `DROP INDEX`.
+    DropIndex {
+        /// The index's name.
         name: Token,
     },
     /// `DROP VIEW`.
@@ -284,4 +298,34 @@ pub enum WrittenCommand {
         /// The column that is summed, where the line says it.
         summed: Option<Token>,
     },
+    /// `EXPLAIN`.
+    Explain {
+        /// What is asked for.
+        query: WrittenQuery,
+    },
+    /// `OPEN`, with the method after `AS` where there is one.
+    Open {
+        /// The cursor's name.
+        cursor: Token,
+        /// What is asked for.
+        query: WrittenQuery,
+        /// How positions are to be printed, where the line says it.
+        method: Option<Method>,
+    },
+    /// `FETCH`.
+    Fetch {
+        /// The cursor's name.
+        cursor: Token,
+        /// How many rows at the most.
+        rows: Token,
+    },
+    /// `CLOSE`.
+    Close {
+        /// The cursor's name.
+        cursor: Token,
+    },
+    /// `SAVE`.
+    Save,
+    /// `REOPEN`.
+    Reopen,
 }

@@ -9,7 +9,7 @@ use Rattle.rs_grammar.specs.Grammar.{Form, fail, pick, rules, Derives, nothing, 
 use Rattle.rs_lexer.specs.declared.token.Token.{Token}
 use Rattle.rs_lexer.specs.Lexis.{kinds_of, AreTokensFrom}
 use Rattle.rs_syntax.specs.Tree.{QueryTree, define_view}
-use Rattle.rs_syntax.specs.Written.{Lexeme, mark, told, has_text, lexeme_of, lexemes_of, QuerySyntax, query_lexemes, SaysQuery, end_of, text_of_tokens, Written, written_route, written_table, written_referent, written_view, written_alignment, written_move, written_drop_route, written_drop_table, written_drop_view, written_drop_alignment, written_drop_referent, written_insert, written_remove, written_translate, written_select, written_total, Says, view_text}
+use Rattle.rs_syntax.specs.Written.{Lexeme, mark, told, has_text, lexeme_of, lexemes_of, QuerySyntax, query_lexemes, SaysQuery, end_of, text_of_tokens, Written, written_route, written_table, written_referent, written_index, written_view, written_alignment, written_move, written_drop_route, written_drop_table, written_drop_index, written_drop_view, written_drop_alignment, written_drop_referent, written_insert, written_remove, written_translate, written_select, written_total, written_explain, written_open, written_fetch, written_close, written_save, written_reopen, Says, view_text}
 use Rattle.rs_syntax.specs.Verdict.{IsWritten, is_command, Reads, has_tokens}
 use Rattle.rs_syntax_laws.specs.ViewTexts.{first_place, from_the_first, TextSaysQuery}
 use Rattle.rs_syntax_laws.proofs.Cuts.{last_cut}
@@ -42,8 +42,8 @@ unfolding rules
 view_derived ks (this (that (that (this (this (this (part query nothing))))))) = query
 view_derived ks (this (that (that (this (this (that none)))))) = elim none [ ]
 view_derived ks (this (that (that (this (that none))))) = elim none [ ]
-view_derived ks (this (that (that (that (that (that (that none))))))) = elim none [ ]
-view_derived ks (that (that (that (that (that (that (that (that none)))))))) = elim none [ ]
+view_derived ks (this (that (that (that (that (that (that (that none)))))))) = elim none [ ]
+view_derived ks (that (that (that (that (that (that (that (that (that (that (that (that (that (that none)))))))))))))) = elim none [ ]
 
 -- tokens of a line that are spelled as a query, by themselves
 alone : (line : List ℕ) (place : ℕ) (tokens : List Token) (written : QuerySyntax) (query : QueryTree) → AreTokensFrom line place tokens
@@ -78,10 +78,12 @@ view_said line tokens name query text (written_view n w) says =
 view_said line tokens name query text (written_route n s f) says = let e = says.4 in absurd cc
 view_said line tokens name query text (written_table k n cs) says = let e = says.2 in absurd cc
 view_said line tokens name query text (written_referent r n p) says = let e = says.2 in absurd cc
+view_said line tokens name query text (written_index n t c) says = absurd cc
 view_said line tokens name query text (written_alignment n ps) says = let e = says.2 in absurd cc
 view_said line tokens name query text (written_move r n p) says = let e = says.2 in absurd cc
 view_said line tokens name query text (written_drop_route n) says = absurd cc
 view_said line tokens name query text (written_drop_table n) says = absurd cc
+view_said line tokens name query text (written_drop_index n) says = absurd cc
 view_said line tokens name query text (written_drop_view n) says = absurd cc
 view_said line tokens name query text (written_drop_alignment n) says = absurd cc
 view_said line tokens name query text (written_drop_referent r n) says = absurd cc
@@ -90,6 +92,12 @@ view_said line tokens name query text (written_remove t w c) says = let e = says
 view_said line tokens name query text (written_translate r p m) says = let e = says.2 in absurd cc
 view_said line tokens name query text (written_select w m) says = let e = says.2 in absurd cc
 view_said line tokens name query text (written_total w by summed) says = let e = says.2 in absurd cc
+view_said line tokens name query text (written_explain w) says = let e = says.2 in absurd cc
+view_said line tokens name query text (written_open n w m) says = let e = says.2 in absurd cc
+view_said line tokens name query text (written_fetch n w) says = let e = says.2 in absurd cc
+view_said line tokens name query text (written_close n) says = absurd cc
+view_said line tokens name query text written_save says = absurd cc
+view_said line tokens name query text written_reopen says = absurd cc
 
 -- tokens that are spelled as a view's definition
 of_view : (line : List ℕ) (from : ℕ) (tokens : List Token) (name : Token) (w : QuerySyntax) (query : QueryTree) → AreTokensFrom line from tokens

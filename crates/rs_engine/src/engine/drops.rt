@@ -19,7 +19,7 @@ impl Engine {
     ghost use Rattle.rs_engine.specs.Held.{state_of};
 
     /// Drops a route with its referents. Checks, in order: 20; a table has a fact on it, an alignment has a piece on it or
-    /// a view's window is on it (23); 27.
+    /// a view's window is on it, or a session has a cursor (23); 27.
     pub(crate) fn drop_route(&mut self, name: &Name) -> Result<u128, Refusal>
         ensures done { IfOk result (λ count. route_dropped (state_of self.old) name.now.bytes ≡ Ok (counted count (state_of self.new))) }
         ensures refused { IfErr result (λ refusal. route_dropped (state_of self.old) name.now.bytes ≡ Err refusal) }
@@ -49,6 +49,9 @@ impl Engine {
         if self.catalog.is_route_named(name) {
             return Err(Refusal::InUse);
         }
+        if self.cursors.any() {
+            return Err(Refusal::InUse);
+        }
         self.may_change()?;
         Ok(route)
     }
@@ -68,7 +71,7 @@ impl Engine {
         self.changes += 1;
     }
 
-    /// Drops a table with its facts. Checks, in order: 21; a view names it (23); 27.
+    /// Drops a table with its facts and its indexes. Checks, in order: 21; a view names it, or a session has a cursor (23); 27.
     pub(crate) fn drop_table(&mut self, name: &Name) -> Result<u128, Refusal>
         ensures done { IfOk result (λ count. table_dropped (state_of self.old) name.now.bytes ≡ Ok (counted count (state_of self.new))) }
         ensures refused { IfErr result (λ refusal. table_dropped (state_of self.old) name.now.bytes ≡ Err refusal) }
@@ -90,11 +93,14 @@ impl Engine {
         if self.catalog.is_query_named(name) {
             return Err(Refusal::InUse);
         }
+        if self.cursors.any() {
+            return Err(Refusal::InUse);
+        }
         self.may_change()?;
         Ok(number)
     }
 
-    /// Takes a table out with its spans, and counts the change.
+    /// Takes a table out with its spans and its indexes, and counts the change.
     fn take_table(&mut self, name: &Name, number: u32)
         requires there { HasTable self.old.definitions name.now.bytes number }
         requires may_change { self.old.changes < CHANGES }

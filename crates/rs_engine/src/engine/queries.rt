@@ -71,7 +71,7 @@ impl Engine {
     }
 
     /// The lines of a checked query of this kind on all routes.
-    fn lines(
+    pub(crate) fn lines(
         &self,
         query: &CheckedQuery,
         kind: Kind,
@@ -109,7 +109,7 @@ impl Engine {
         ensures { OnOk result (rows_of rows.new.items ≡ rows_of rows.old.items ++ lines_on (state_of self.now) (query_of query.now) printer.now.method printer.now.name.now.bytes printer.now.route.ends) }
     {
         if let CheckedQuery::Table(table) = query {
-            let runs = self.kept_runs_on(table, printer.name, printer.route)?;
+            let runs = self.kept_runs_on(&table.name, printer.name, printer.route)?;
             return push_lent_lines(self.alloc, kind, printer, runs.as_slice(), rows);
         }
         let runs = self.evaluated_runs(query, kind, printer.name, printer.route)?;

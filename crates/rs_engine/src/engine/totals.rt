@@ -110,7 +110,7 @@ impl Engine {
     {
         let alloc = self.alloc;
         if let CheckedQuery::Table(table) = query {
-            let runs = self.kept_runs_on(table, name, route)?;
+            let runs = self.kept_runs_on(&table.name, name, route)?;
             return totals.add_route(runs.as_slice());
         }
         let runs = self.evaluated_runs(query, kind, name, route)?;

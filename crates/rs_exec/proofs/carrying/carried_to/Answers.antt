@@ -2,10 +2,9 @@ use Rattle.std.proofs.Common.{◌+◌, map, drop, sym, subst}
 use Rattle.std.specs.List.{AllByRecursion}
 use Rattle.rs_facts.specs.Spans.{seen, ArePlaced}
 use Rattle.rs_facts.specs.WellFormed.{ArePiecesOn}
-use Rattle.rs_syntax.specs.View.{piece_tree}
-use Rattle.rs_machine.specs.Checks.{piece_of}
 use Rattle.rs_event_lists.specs.Held.{spans_on}
-use Rattle.rs_catalog.specs.Definitions.{routes_of, pieces_of}
+use Rattle.rs_catalog.specs.Definitions.{routes_of}
+use Rattle.rs_checker.specs.CheckedView.{located_pieces, located_piece}
 use Rattle.rs_exec.specs.Operand.{asked}
 use Rattle.rs_exec.specs.Routes.{base_world, names_of}
 use Rattle.rs_exec.specs.Carried.{Gathers, IsLed}
@@ -16,7 +15,7 @@ use Rattle.rs_exec.proofs.carrying.carried_to.Goals as goal
 pub loop-piece-init : goal.loop-piece-init
 loop-piece-init c = record {
   led = c.requires.led;
-  gathers = gathers-none (base_world c.args.sources.now.base) (asked c.args.sources.now.operand) c.args.name.now.bytes (pieces_of c.args.sources.now.pieces.now) c.new-gathered.result.items c.requires.held.lie c.new-gathered.ensures.items;
+  gathers = gathers-none (base_world c.args.sources.now.base) (asked c.args.sources.now.operand) c.args.name.now.bytes (located_pieces c.args.sources.now.pieces.now) c.new-gathered.result.items c.requires.held.lie c.new-gathered.ensures.items;
 }
 
 pub carry_piece-requires-clause-lies : goal.carry_piece-requires-clause-lies
@@ -31,9 +30,9 @@ pub loop-piece-preserved : goal.loop-piece-preserved
 loop-piece-preserved c =
     let world = base_world c.args.sources.now.base in
     let operand = asked c.args.sources.now.operand in
-    let pieces = pieces_of c.args.sources.now.pieces.now in record {
+    let pieces = located_pieces c.args.sources.now.pieces.now in record {
       led = (subst (AllByRecursion (IsLed (names_of c.args.sources.now.routes) c.args.name.now.bytes)) (piece-first c.args.sources.now.pieces.now c.loop-piece.piece-index c.piece-item.result c.loop-piece-test.true c.piece-item.is) c.loop-piece.invariant.led).1;
-      gathers = gathers-more world operand c.args.name.now.bytes pieces (pieces_of (drop (c.loop-piece.piece-index + 1) c.args.sources.now.pieces.now)) (piece_of (piece_tree c.piece-item.result)) (map seen c.loop-piece.gathered.items) (map seen c.carry_piece.new.gathered.items)
+      gathers = gathers-more world operand c.args.name.now.bytes pieces (located_pieces (drop (c.loop-piece.piece-index + 1) c.args.sources.now.pieces.now)) (located_piece c.piece-item.result) (map seen c.loop-piece.gathered.items) (map seen c.carry_piece.new.gathered.items)
           (subst (λ rest. Gathers world operand c.args.name.now.bytes pieces rest (map seen c.loop-piece.gathered.items)) (pieces-more c.args.sources.now.pieces.now c.loop-piece.piece-index c.piece-item.result c.loop-piece-test.true c.piece-item.is) c.loop-piece.invariant.gathers)
           c.in_ok-carry_piece.ensures;
     }
@@ -47,6 +46,6 @@ pub returns : goal.returns
 returns c = record {
   holds = λ alignment.
       made-rows _ _ _ c.runs.result
-      (gathers-all (base_world c.args.sources.now.base) (asked c.args.sources.now.operand) c.args.name.now.bytes alignment c.kind-kind.result (pieces_of c.args.sources.now.pieces.now) (pieces_of (drop c.loop-piece.piece-index c.args.sources.now.pieces.now)) (map seen c.loop-piece.gathered.items) (map seen c.runs.result.items)
+      (gathers-all (base_world c.args.sources.now.base) (asked c.args.sources.now.operand) c.args.name.now.bytes alignment c.kind-kind.result (located_pieces c.args.sources.now.pieces.now) (located_pieces (drop c.loop-piece.piece-index c.args.sources.now.pieces.now)) (map seen c.loop-piece.gathered.items) (map seen c.runs.result.items)
       (c.kind-kind.ensures (spans_on c.args.sources.now.base.events.now)) (pieces-end c.args.sources.now.pieces.now c.loop-piece.piece-index c.loop-piece-test.false) c.loop-piece.invariant.gathers c.runs.ensures.runs c.runs.ensures.placed c.runs.ensures.same);
 }

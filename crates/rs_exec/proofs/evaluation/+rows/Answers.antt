@@ -7,8 +7,7 @@ use Rattle.rs_facts.specs.Insert.{same_name}
 use Rattle.rs_facts.specs.Spans.{seen}
 use Rattle.rs_facts.specs.Query.{World, Query, rename_column, transform_rows}
 use Rattle.rs_facts.specs.WellFormed.{IsWellFormed}
-use Rattle.rs_catalog.specs.Definitions.{pieces_of}
-use Rattle.rs_checker.specs.CheckedView.{window_of}
+use Rattle.rs_checker.specs.CheckedView.{window_of, located_pieces}
 use Rattle.rs_exec.specs.declared.rows.Rows.{Rows}
 use Rattle.rs_exec.specs.Operand.{asked, asked_of, node_query}
 use Rattle.rs_exec.specs.Changes.{changed_query}
@@ -101,4 +100,4 @@ carried_rows-carried_on-requires-clause-led t c =
 pub carried_rows-returns : goal.carried_rows-returns
 carried_rows-returns t c =
     IfOk-weaker c.carried_on.result _ _ (λ rows held alignment.
-    subst (λ a. AreHeld (base_world c.args.base.now) (transform_rows (asked a) alignment (pieces_of c.args.pieces.now)) (names_of c.args.routes) (list_of rows)) c.asked-asked.ensures (held alignment)) c.carried_on.ensures
+    subst (λ a. AreHeld (base_world c.args.base.now) (transform_rows (asked a) alignment (located_pieces c.args.pieces.now)) (names_of c.args.routes) (list_of rows)) c.asked-asked.ensures (held alignment)) c.carried_on.ensures

@@ -10,11 +10,11 @@ use Rattle.rs_exec.proofs.kinds.+kind_of.Goals as goal
 pub returns-in-Some : goal.returns-in-Some
 returns-in-Some t c = λ spans_on.
     c.kind.ensures ∙ sym (
-    ap (kind_of (world_from c.args.catalog.now spans_on)) (ap query_of c.in-Table.is ∙ table_is c.in-Table.name)
-    ∙ ap table_kind (get-tables_from c.args.catalog.now spans_on c.in-Table.name.bytes ∙ ap (option_map (table_from c.args.catalog.now.routes spans_on)) (sym c.table.ensures ∙ ap option_copied c.in-Some.is)))
+    ap (kind_of (world_from c.args.catalog.now spans_on)) (ap query_of c.in-Table.is ∙ table_is c.in-Table.table)
+    ∙ ap table_kind (get-tables_from c.args.catalog.now spans_on c.in-Table.table.name.bytes ∙ ap (option_map (table_from c.args.catalog.now.routes spans_on)) (sym c.table.ensures ∙ ap option_copied c.in-Some.is)))
 
 pub returns-in-None : goal.returns-in-None
 returns-in-None t c = λ spans_on.
     sym (
-    ap (kind_of (world_from c.args.catalog.now spans_on)) (ap query_of c.in-Table.is ∙ table_is c.in-Table.name)
-    ∙ ap table_kind (get-tables_from c.args.catalog.now spans_on c.in-Table.name.bytes ∙ ap (option_map (table_from c.args.catalog.now.routes spans_on)) (sym c.table.ensures ∙ ap option_copied c.in-None.is)))
+    ap (kind_of (world_from c.args.catalog.now spans_on)) (ap query_of c.in-Table.is ∙ table_is c.in-Table.table)
+    ∙ ap table_kind (get-tables_from c.args.catalog.now spans_on c.in-Table.table.name.bytes ∙ ap (option_map (table_from c.args.catalog.now.routes spans_on)) (sym c.table.ensures ∙ ap option_copied c.in-None.is)))

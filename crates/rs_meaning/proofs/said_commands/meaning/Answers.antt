@@ -1,7 +1,7 @@
 use Rattle.std.proofs.Common.{◌≡◌, true, refl}
 use Rattle.rs_syntax.specs.declared.written.WrittenCommand.TheVariants as forms
 use Rattle.rs_syntax.specs.View.{written_of}
-use Rattle.rs_meaning.specs.Definitions.{is_definition}
+use Rattle.rs_meaning.specs.Schema.{changes_schema}
 use Rattle.rs_meaning.proofs.said_commands.meaning.Goals as goal
 
 pub returns-in-MoveReferent-clause-err : goal.returns-in-MoveReferent-clause-err
@@ -22,6 +22,15 @@ returns-in-Select-clause-err c = rw c.in-Select.is c.selection_said.ensures.err
 pub returns-in-Total-clause-err : goal.returns-in-Total-clause-err
 returns-in-Total-clause-err c = rw (c.in-Total.is, ← c.deref-in-Total.ensures.value) c.total_said.ensures.err
 
+pub returns-in-Explain-clause-err : goal.returns-in-Explain-clause-err
+returns-in-Explain-clause-err c = rw c.in-Explain.is c.explanation_said.ensures.err
+
+pub returns-in-Open-clause-err : goal.returns-in-Open-clause-err
+returns-in-Open-clause-err c = rw c.in-Open.is c.opening_said.ensures.err
+
+pub returns-in-Fetch-clause-err : goal.returns-in-Fetch-clause-err
+returns-in-Fetch-clause-err c = rw c.in-Fetch.is c.fetch_said.ensures.err
+
 pub returns-in-MoveReferent-clause-ok : goal.returns-in-MoveReferent-clause-ok
 returns-in-MoveReferent-clause-ok c = rw c.in-MoveReferent.is c.move_said.ensures.ok
 
@@ -40,24 +49,41 @@ returns-in-Select-clause-ok c = rw c.in-Select.is c.selection_said.ensures.ok
 pub returns-in-Total-clause-ok : goal.returns-in-Total-clause-ok
 returns-in-Total-clause-ok c = rw (c.in-Total.is, ← c.deref-in-Total.ensures.value) c.total_said.ensures.ok
 
-pub definition_said-requires-clause-defines : goal.definition_said-requires-clause-defines
-definition_said-requires-clause-defines c =
+pub returns-in-Explain-clause-ok : goal.returns-in-Explain-clause-ok
+returns-in-Explain-clause-ok c = rw c.in-Explain.is c.explanation_said.ensures.ok
+
+pub returns-in-Open-clause-ok : goal.returns-in-Open-clause-ok
+returns-in-Open-clause-ok c = rw c.in-Open.is c.opening_said.ensures.ok
+
+pub returns-in-Fetch-clause-ok : goal.returns-in-Fetch-clause-ok
+returns-in-Fetch-clause-ok c = rw c.in-Fetch.is c.fetch_said.ensures.ok
+
+pub schema_change_said-requires-clause-schema : goal.schema_change_said-requires-clause-schema
+schema_change_said-requires-clause-schema c =
     let no = c.in_default in
-    elim (c.args.written.now) as (λ written. c.args.written.now ≡ written → is_definition (written_of written) ≡ true) [
+    elim (c.args.written.now) as (λ written. c.args.written.now ≡ written → changes_schema (written_of written) ≡ true) [
       | forms.DefineRoute name start finish ↦ λ is. refl
       | forms.DefineTable kind name columns ↦ λ is. refl
       | forms.DefineReferent route name position ↦ λ is. refl
+      | forms.DefineIndex name table column ↦ λ is. refl
       | forms.DefineView name query ↦ λ is. refl
       | forms.DefineAlignment name pieces ↦ λ is. refl
       | forms.MoveReferent route name position ↦ λ is. absurd (no.not-MoveReferent route name position is)
-      | forms.DropRoute name ↦ λ is. absurd (no.not-DropRoute name is)
-      | forms.DropTable name ↦ λ is. absurd (no.not-DropTable name is)
-      | forms.DropView name ↦ λ is. absurd (no.not-DropView name is)
-      | forms.DropAlignment name ↦ λ is. absurd (no.not-DropAlignment name is)
-      | forms.DropReferent route name ↦ λ is. absurd (no.not-DropReferent route name is)
+      | forms.DropRoute name ↦ λ is. refl
+      | forms.DropTable name ↦ λ is. refl
+      | forms.DropIndex name ↦ λ is. refl
+      | forms.DropView name ↦ λ is. refl
+      | forms.DropAlignment name ↦ λ is. refl
+      | forms.DropReferent route name ↦ λ is. refl
       | forms.Insert table route place values ↦ λ is. absurd (no.not-Insert table route place values is)
       | forms.Remove table window condition ↦ λ is. absurd (no.not-Remove table window condition is)
       | forms.Translate route position method ↦ λ is. absurd (no.not-Translate route position method is)
       | forms.Select query method ↦ λ is. absurd (no.not-Select query method is)
       | forms.Total query by summed ↦ λ is. absurd (no.not-Total query by summed is)
+      | forms.Explain query ↦ λ is. absurd (no.not-Explain query is)
+      | forms.Open cursor query method ↦ λ is. absurd (no.not-Open cursor query method is)
+      | forms.Fetch cursor rows ↦ λ is. absurd (no.not-Fetch cursor rows is)
+      | forms.Close cursor ↦ λ is. absurd (no.not-Close cursor is)
+      | forms.Save ↦ λ is. absurd (no.not-Save is)
+      | forms.Reopen ↦ λ is. absurd (no.not-Reopen is)
     ] refl

@@ -13,6 +13,6 @@ invariant_of-self-2 c =
     let free : IsFree (λ (item : RouteItem). item.number) c.self.inside.routes c.free_route_number-number.result =
     subst (λ (d : Definitions). IsFree (λ (item : RouteItem). item.number) d.routes c.free_route_number-number.result) (sym c.self.view_is) c.free_route_number-number.ensures.least.free in
     let new : has c.self.inside.routes c.args.name.bytes ≡ false = subst (λ (d : Definitions). has d.routes c.args.name.bytes ≡ false) (sym c.self.view_is) c.requires.new in
-    subst (λ (routes : Names RouteItem). AreDefinitions (record { routes = routes; tables = c.self.inside.tables; views = c.self.inside.views; alignments = c.self.inside.alignments }))
+    subst (λ (routes : Names RouteItem). AreDefinitions (record { routes = routes; tables = c.self.inside.tables; indexes = c.self.inside.indexes; views = c.self.inside.views; alignments = c.self.inside.alignments }))
     (sym (c.in_ok-define.ensures.ok ∙ ap (names.insert c.self.inside.routes c.args.name.bytes) is))
     (are_definitions-route _ c.args.name.bytes item c.self.invariant new free (c.free_route_number-number.ensures.below, c.requires.ordered, c.new.ensures.measured))

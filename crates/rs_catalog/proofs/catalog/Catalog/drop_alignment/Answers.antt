@@ -7,5 +7,5 @@ use Rattle.rs_catalog.proofs.catalog.Catalog.drop_alignment.Goals as goal
 
 pub invariant_of-self : goal.invariant_of-self
 invariant_of-self c =
-    subst (λ (alignments : Names (List Piece)). AreDefinitions (record { routes = c.self.inside.routes; tables = c.self.inside.tables; views = c.self.inside.views; alignments = alignments })) (sym c.remove.ensures)
+    subst (λ (alignments : Names (List Piece)). AreDefinitions (record { routes = c.self.inside.routes; tables = c.self.inside.tables; indexes = c.self.inside.indexes; views = c.self.inside.views; alignments = alignments })) (sym c.remove.ensures)
     (are_definitions-without_alignment _ c.args.name.now.bytes c.self.invariant)

@@ -8,6 +8,6 @@ use Rattle.rs_engine.proofs.engine.Engine.check_new_alignment.Goals as goal
 
 pub returns-then-is_some-clause-refused : goal.returns-then-is_some-clause-refused
 returns-then-is_some-clause-refused c =
-    let held : Held = record { definitions = c.self.inside.catalog; referents = c.self.inside.referents; events = c.self.inside.events; changes = c.self.inside.changes } in
+    let held : Held = record { definitions = c.self.inside.catalog; referents = c.self.inside.referents; events = c.self.inside.events; cursors = c.self.inside.cursors; changes = c.self.inside.changes } in
     subst (λ (h : Held). alignment_defined (state_of h) c.args.name.now.bytes (map piece_tree c.args.pieces.now) ≡ Err NameTaken) c.self.view_is
     (alignment_taken held c.args.name.now.bytes (map piece_tree c.args.pieces.now) (lent_there c.alignment.result _ false false c.alignment.ensures (sym c.is_some.ensures ∙ c.if-is_some.true) refl))

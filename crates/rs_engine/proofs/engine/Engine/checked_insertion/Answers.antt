@@ -17,14 +17,14 @@ use Rattle.rs_engine.proofs.engine.Engine.checked_insertion.Goals as goal
 
 pub returns-in_err-on-clause-refused : goal.returns-in_err-on-clause-refused
 returns-in_err-on-clause-refused c =
-    let held : Held = record { definitions = c.self.inside.catalog; referents = c.self.inside.referents; events = c.self.inside.events; changes = c.self.inside.changes } in
+    let held : Held = record { definitions = c.self.inside.catalog; referents = c.self.inside.referents; events = c.self.inside.events; cursors = c.self.inside.cursors; changes = c.self.inside.changes } in
     let p = err_from_is_err_and c.from_residual.result c.from_residual.ensures.1 in
     let none = found_none (names.get c.self.inside.catalog.routes c.args.route.now.bytes) NoSuchRoute c.in_err-on.field-0.0 c.in_err-on.ensures in
     rw (p.1, p.2) (inr (subst (λ (h : Held). row_inserted (state_of h) c.args.name.now.bytes c.args.route.now.bytes (location_tree c.args.place.now) (literal_row c.args.values.now) ≡ Err c.in_err-on.field-0.0) c.self.view_is (row_no_route held c.args.name.now.bytes c.args.route.now.bytes (location_tree c.args.place.now) (literal_row c.args.values.now) none.0 ∙ ap Err (sym none.1))))
 
 pub returns-in_err-table-clause-refused : goal.returns-in_err-table-clause-refused
 returns-in_err-table-clause-refused c =
-    let held : Held = record { definitions = c.self.inside.catalog; referents = c.self.inside.referents; events = c.self.inside.events; changes = c.self.inside.changes } in
+    let held : Held = record { definitions = c.self.inside.catalog; referents = c.self.inside.referents; events = c.self.inside.events; cursors = c.self.inside.cursors; changes = c.self.inside.changes } in
     let p = err_from_is_err_and c.from_residual-in_err-table.result c.from_residual-in_err-table.ensures.1 in
     let route_there = found_some (names.get c.self.inside.catalog.routes c.args.route.now.bytes) NoSuchRoute c.in_ok-on.on c.in_ok-on.ensures in
     let none = found_none (names.get c.self.inside.catalog.tables c.args.name.now.bytes) NoSuchName c.in_err-table.field-0.0 c.in_err-table.ensures in
@@ -32,7 +32,7 @@ returns-in_err-table-clause-refused c =
 
 pub returns-in_err-lo-clause-refused : goal.returns-in_err-lo-clause-refused
 returns-in_err-lo-clause-refused c =
-    let held : Held = record { definitions = c.self.inside.catalog; referents = c.self.inside.referents; events = c.self.inside.events; changes = c.self.inside.changes } in
+    let held : Held = record { definitions = c.self.inside.catalog; referents = c.self.inside.referents; events = c.self.inside.events; cursors = c.self.inside.cursors; changes = c.self.inside.changes } in
     let p = err_from_is_err_and c.from_residual-in_err-lo.result c.from_residual-in_err-lo.ensures.1 in
     let route_there = found_some (names.get c.self.inside.catalog.routes c.args.route.now.bytes) NoSuchRoute c.in_ok-on.on c.in_ok-on.ensures in
     let table_there = found_some (names.get c.self.inside.catalog.tables c.args.name.now.bytes) NoSuchName c.in_ok-table.table.now c.in_ok-table.ensures in
@@ -40,7 +40,7 @@ returns-in_err-lo-clause-refused c =
 
 pub returns-then-not-is_of_kind-clause-refused : goal.returns-then-not-is_of_kind-clause-refused
 returns-then-not-is_of_kind-clause-refused c =
-    let held : Held = record { definitions = c.self.inside.catalog; referents = c.self.inside.referents; events = c.self.inside.events; changes = c.self.inside.changes } in
+    let held : Held = record { definitions = c.self.inside.catalog; referents = c.self.inside.referents; events = c.self.inside.events; cursors = c.self.inside.cursors; changes = c.self.inside.changes } in
     let route_there = found_some (names.get c.self.inside.catalog.routes c.args.route.now.bytes) NoSuchRoute c.in_ok-on.on c.in_ok-on.ensures in
     let table_there = found_some (names.get c.self.inside.catalog.tables c.args.name.now.bytes) NoSuchName c.in_ok-table.table.now c.in_ok-table.ensures in
     let other = ap (λ kind. same_kind kind (location_kind (location_tree c.args.place.now))) (sym c.kind.ensures) ∙ sym c.is_of_kind.ensures ∙ c.if-not-is_of_kind.true in
@@ -54,7 +54,7 @@ fitted-requires c =
 
 pub returns-in_err-row-clause-refused : goal.returns-in_err-row-clause-refused
 returns-in_err-row-clause-refused c =
-    let held : Held = record { definitions = c.self.inside.catalog; referents = c.self.inside.referents; events = c.self.inside.events; changes = c.self.inside.changes } in
+    let held : Held = record { definitions = c.self.inside.catalog; referents = c.self.inside.referents; events = c.self.inside.events; cursors = c.self.inside.cursors; changes = c.self.inside.changes } in
     let p = err_from_is_err_and c.from_residual-in_err-row.result c.from_residual-in_err-row.ensures.1 in
     let route_there = found_some (names.get c.self.inside.catalog.routes c.args.route.now.bytes) NoSuchRoute c.in_ok-on.on c.in_ok-on.ensures in
     let table_there = found_some (names.get c.self.inside.catalog.tables c.args.name.now.bytes) NoSuchName c.in_ok-table.table.now c.in_ok-table.ensures in

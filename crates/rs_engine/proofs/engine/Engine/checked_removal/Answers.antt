@@ -17,7 +17,7 @@ use Rattle.rs_engine.proofs.engine.Engine.checked_removal.Goals as goal
 
 pub returns-in_err-on-clause-refused : goal.returns-in_err-on-clause-refused
 returns-in_err-on-clause-refused c =
-    let held : Held = record { definitions = c.self.inside.catalog; referents = c.self.inside.referents; events = c.self.inside.events; changes = c.self.inside.changes } in
+    let held : Held = record { definitions = c.self.inside.catalog; referents = c.self.inside.referents; events = c.self.inside.events; cursors = c.self.inside.cursors; changes = c.self.inside.changes } in
     let p = err_from_is_err_and c.from_residual.result c.from_residual.ensures.1 in
     let named = ap (names.get c.self.inside.catalog.routes) (sym c.route_of.ensures) in
     let none = found_none (names.get c.self.inside.catalog.routes c.route_of.result.now.bytes) NoSuchRoute c.in_err-on.field-0.0 c.in_err-on.ensures in
@@ -25,7 +25,7 @@ returns-in_err-on-clause-refused c =
 
 pub returns-in_err-table-clause-refused : goal.returns-in_err-table-clause-refused
 returns-in_err-table-clause-refused c =
-    let held : Held = record { definitions = c.self.inside.catalog; referents = c.self.inside.referents; events = c.self.inside.events; changes = c.self.inside.changes } in
+    let held : Held = record { definitions = c.self.inside.catalog; referents = c.self.inside.referents; events = c.self.inside.events; cursors = c.self.inside.cursors; changes = c.self.inside.changes } in
     let p = err_from_is_err_and c.from_residual-in_err-table.result c.from_residual-in_err-table.ensures.1 in
     let named = ap (names.get c.self.inside.catalog.routes) (sym c.route_of.ensures) in
     let route_there = named ∙ found_some (names.get c.self.inside.catalog.routes c.route_of.result.now.bytes) NoSuchRoute c.in_ok-on.on c.in_ok-on.ensures in
@@ -34,7 +34,7 @@ returns-in_err-table-clause-refused c =
 
 pub returns-in_err-lo-clause-refused : goal.returns-in_err-lo-clause-refused
 returns-in_err-lo-clause-refused c =
-    let held : Held = record { definitions = c.self.inside.catalog; referents = c.self.inside.referents; events = c.self.inside.events; changes = c.self.inside.changes } in
+    let held : Held = record { definitions = c.self.inside.catalog; referents = c.self.inside.referents; events = c.self.inside.events; cursors = c.self.inside.cursors; changes = c.self.inside.changes } in
     let p = err_from_is_err_and c.from_residual-in_err-lo.result c.from_residual-in_err-lo.ensures.1 in
     let named = ap (names.get c.self.inside.catalog.routes) (sym c.route_of.ensures) in
     let route_there = named ∙ found_some (names.get c.self.inside.catalog.routes c.route_of.result.now.bytes) NoSuchRoute c.in_ok-on.on c.in_ok-on.ensures in
@@ -49,7 +49,7 @@ checked_rows-requires c =
 
 pub returns-in_err-goes-clause-refused : goal.returns-in_err-goes-clause-refused
 returns-in_err-goes-clause-refused c =
-    let held : Held = record { definitions = c.self.inside.catalog; referents = c.self.inside.referents; events = c.self.inside.events; changes = c.self.inside.changes } in
+    let held : Held = record { definitions = c.self.inside.catalog; referents = c.self.inside.referents; events = c.self.inside.events; cursors = c.self.inside.cursors; changes = c.self.inside.changes } in
     let p = err_from_is_err_and c.from_residual-in_err-goes.result c.from_residual-in_err-goes.ensures.1 in
     let named = ap (names.get c.self.inside.catalog.routes) (sym c.route_of.ensures) in
     let route_there = named ∙ found_some (names.get c.self.inside.catalog.routes c.route_of.result.now.bytes) NoSuchRoute c.in_ok-on.on c.in_ok-on.ensures in

@@ -11,7 +11,7 @@ use Rattle.rs_engine.proofs.engine.Engine.define_referent.Goals as goal
 
 pub returns-in_err-entry-clause-refused : goal.returns-in_err-entry-clause-refused
 returns-in_err-entry-clause-refused c =
-    let held : Held = record { definitions = c.self.inside.catalog; referents = c.self.inside.referents; events = c.self.inside.events; changes = c.self.inside.changes } in
+    let held : Held = record { definitions = c.self.inside.catalog; referents = c.self.inside.referents; events = c.self.inside.events; cursors = c.self.inside.cursors; changes = c.self.inside.changes } in
     let p = err_from_is_err_and c.from_residual.result c.from_residual.ensures.1 in
     let none = found_none (names.get c.self.inside.catalog.routes c.args.route.now.bytes) NoSuchRoute c.in_err-entry.field-0.0 c.in_err-entry.ensures in
     rw (p.1, p.2) (inr (subst (λ (h : Held). referent_defined (state_of h) c.args.route.now.bytes c.args.name.bytes (expression_of c.args.position.now) ≡ Err c.in_err-entry.field-0.0) c.self.view_is

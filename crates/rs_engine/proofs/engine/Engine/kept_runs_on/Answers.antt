@@ -15,13 +15,13 @@ use Rattle.rs_engine.proofs.engine.Engine.kept_runs_on.Goals as goal
 
 pub returns-in_default : goal.returns-in_default
 returns-in_default c =
-    let held : Held = record { definitions = c.self.inside.catalog; referents = c.self.inside.referents; events = c.self.inside.events; changes = c.self.inside.changes } in
+    let held : Held = record { definitions = c.self.inside.catalog; referents = c.self.inside.referents; events = c.self.inside.events; cursors = c.self.inside.cursors; changes = c.self.inside.changes } in
     let formed = subst (λ (h : Held). IsWellFormed (world_of (state_of h)) (table_rows c.args.table.now.bytes)) (sym c.self.view_is) c.requires.well_formed in
     absurd (table_absent held c.args.table.now.bytes (sym c.table.ensures ∙ ap option_copied c.in_default.is) formed)
 
 pub returns : goal.returns
 returns c =
-    let held : Held = record { definitions = c.self.inside.catalog; referents = c.self.inside.referents; events = c.self.inside.events; changes = c.self.inside.changes } in
+    let held : Held = record { definitions = c.self.inside.catalog; referents = c.self.inside.referents; events = c.self.inside.events; cursors = c.self.inside.cursors; changes = c.self.inside.changes } in
     let there = subst (λ (h : Held). names.get h.definitions.routes c.args.name.now.bytes ≡ Some c.args.route) (sym c.self.view_is) c.requires.there in
     let table_there = sym c.table.ensures ∙ ap option_copied c.in-Some.is in
     let spans_are = c.spans.ensures ∙ (λ i. spans_on c.self.inside.events (c.number.ensures i) (c.number-2.ensures i)) in

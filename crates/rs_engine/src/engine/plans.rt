@@ -1,0 +1,95 @@
+//! The command that prints the plan of a query.
+//!
+//! It promises the machine's lines: those of the plan that the rule gives by the present numbers of records and the indexes.
+//! Nothing changes.
+
+ghost use Rattle.std.specs.Prelude.{◌≡◌, ◌⊎◌, ◌<◌, ◌^◌, length, map, Ok, Err, IfOk, IfErr};
+ghost use Rattle.rs_syntax.specs.QueryView.{query_tree};
+ghost use Rattle.rs_machine.specs.Step.{effect, plan_printed};
+ghost use Rattle.rs_serve.specs.ReplyView.{rows_of};
+ghost use Rattle.rs_event_lists.specs.Held.{spans_on};
+ghost use Rattle.rs_engine.specs.Planned.{records_kept, indexes_kept, index_seen};
+
+use crate::engine::Engine;
+use rs_checker::check;
+use rs_facts::laws::kept_spans_are_the_runs;
+use rs_plan::planning::plan;
+use rs_plan::{Counts, Index, explain};
+use rs_refusal::Refusal;
+use rs_syntax::Query;
+use std::alloc::AllocError;
+
+/// What plans are chosen by: the spans that an engine keeps of each table, and its indexes.
+#[derive(Drop)]
+struct KeptCounts<'a> {
+    engine: &'a Engine,
+    indexes: Vec<Index>,
+}
+
+impl Counts for KeptCounts<'_> {
+    ghost use Rattle.rs_engine.specs.Planned.{records_kept};
+
+    ghost counted = { λ c. record { records = records_kept c.engine.now; indexes = c.indexes.items } };
+
+    fn records(&self, table: u32) -> u128 {
+        self.engine.records(table)
+    }
+
+    fn indexes(&self) -> &[Index] {
+        self.indexes.as_slice()
+    }
+}
+
+impl Engine {
+    ghost use Rattle.rs_engine.specs.Held.{state_of};
+
+    /// The lines of a query's plan, each node before its operands; or the refusal of the query's checks.
+    pub(crate) fn explain(&self, query: &Query) -> Result<Vec<String>, Refusal>
+        ensures done { IfOk result (λ rows. plan_printed (state_of self.now) (query_tree query.now) ≡ Ok (effect (rows_of rows.items) (length (rows_of rows.items)) (state_of self.now))) }
+        ensures refused { IfErr result (λ refusal. (refusal ≡ Refusal.OutOfMemory) ⊎ (plan_printed (state_of self.now) (query_tree query.now) ≡ Err refusal)) }
+    {
+        let checked = check(self.alloc, &self.catalog, &self.referents, query)?;
+        kept_spans_are_the_runs();
+        let counts = KeptCounts {
+            engine: self,
+            indexes: self.planning_indexes()?,
+        };
+        let plan = plan(self.alloc, checked, &counts)?;
+        Ok(explain(self.alloc, &plan)?)
+    }
+
+    /// How many spans are kept of the table of this number.
+    fn records(&self, table: u32) -> u128
+        ensures records { result ≡ records_kept self.now table }
+        ensures few { result < 2 ^ 96 }
+    {
+        let mut records: u128 = 0;
+        for (_, route) in self.catalog.routes() {
+            records += self.records_on(table, route.number()) as u128;
+        }
+        records
+    }
+
+    /// How many spans are kept of the table of this number on the route of that number.
+    fn records_on(&self, table: u32, route: u32) -> usize
+        ensures { result ≡ length (spans_on self.now.events table route) }
+    {
+        self.events.spans(table, route).len()
+    }
+
+    /// The indexes as planning sees them, in the order of their names. The only refusal is for want of memory.
+    fn planning_indexes(&self) -> Result<Vec<Index>, AllocError>
+        ensures { IfOk result (λ indexes. map index_seen indexes.items ≡ indexes_kept self.now) }
+    {
+        let mut indexes = Vec::new(self.alloc);
+        for (name, index) in self.catalog.indexes() {
+            indexes.push(Index {
+                name: *name,
+                number: index.number(),
+                table: index.table_number(),
+                column: index.column(),
+            })?;
+        }
+        Ok(indexes)
+    }
+}

@@ -1,0 +1,14 @@
+mod Lists
+mod Tests
+mod RowLaws
+mod CarriedSpans
+mod WindowLaws
+mod Steps
+mod Finding
+mod Gathering
+mod Leading
+mod Pairing
+mod Same
+mod Plans
+mod Leavings
+mod Holding

@@ -1,0 +1,13 @@
+pub mod Snapshot
+pub mod Meaning
+pub mod Given
+pub mod Found
+pub mod Leaving
+pub mod Held
+pub mod Routes
+pub mod Changes
+pub mod Pairs
+pub mod Windows
+pub mod Carried
+pub mod Operand
+pub mod Agreement

@@ -1,0 +1,20 @@
+//! Evaluation of a plan on one route, over a source of spans.
+//!
+//! It promises the maximal runs of the plan's rows there, as they were at a version. Each node of the plan is evaluated
+//! once, on a list of routes that is longer than one below a TRANSFORM alone.
+#![tactic(auto)]
+
+mod carrying;
+mod changes;
+pub mod evaluation;
+mod kinds;
+pub mod laws;
+mod leaves;
+mod operand;
+mod pairs;
+mod routes;
+pub mod source;
+mod windows;
+
+pub use evaluation::eval;
+pub use source::{Asked, Part, SoughtValue, Source};

@@ -1,0 +1,127 @@
+//! OVERLAY, COVER, MERGE and MINUS of two operands, whose rows on one route make the operator's rows there.
+
+ghost use Rattle.std.specs.Prelude.{IfOk};
+ghost use Rattle.std.specs.List.{AllZip, zip};
+ghost use Rattle.rs_eval.specs.Routes.{list_of};
+ghost use Rattle.rs_eval.specs.Pairs.{CanPair, IsPaired};
+
+use crate::routes::RowsOn;
+use rs_coalesce::lent;
+use rs_facts::Span;
+use rs_sweep::{cover, merge, minus, overlay};
+use std::alloc::{AllocError, Global};
+
+/// An operator of two operands.
+#[derive(Clone, Copy)]
+pub(crate) enum Pairing {
+    /// Each row of the first before each row of the second.
+    Overlay,
+    /// OVERLAY, and where one alone has rows, these beside NULLs. The numbers are the operands' widths.
+    Cover(u8, u8),
+    /// The rows of either.
+    Merge,
+    /// The rows of the first that the second does not have.
+    Minus,
+}
+
+/// On each route what the operator makes of the operands' rows there. The only refusal is for want of memory.
+pub(crate) fn paired_on(
+    alloc: Global,
+    pairing: Pairing,
+    left: RowsOn,
+    right: RowsOn,
+) -> Result<RowsOn, AllocError>
+    requires { AllZip (CanPair pairing) (list_of left) (list_of right) }
+    ensures { IfOk result (λ made. AllZip (IsPaired pairing) (zip (list_of left) (list_of right)) (list_of made)) }
+{
+    let first = paired(alloc, pairing, left.first, right.first)?;
+    let others = paired_each(alloc, pairing, left.others, right.others)?;
+    Ok(RowsOn { first, others })
+}
+
+/// What the operator makes of each two lists of rows at one place.
+fn paired_each(
+    alloc: Global,
+    pairing: Pairing,
+    lefts: Vec<Vec<Span>>,
+    rights: Vec<Vec<Span>>,
+) -> Result<Vec<Vec<Span>>, AllocError>
+    requires { AllZip (CanPair pairing) lefts.items rights.items }
+    ensures { IfOk result (λ made. AllZip (IsPaired pairing) (zip lefts.items rights.items) made.items) }
+{
+    let mut made = Vec::new(alloc);
+    let mut rights = rights.into_iter();
+    for left in lefts {
+        let right = rights.next().unwrap();
+        made.push(paired(alloc, pairing, left, right)?)?;
+    }
+    Ok(made)
+}
+
+/// What the operator makes of the operands' rows on one route.
+fn paired(
+    alloc: Global,
+    pairing: Pairing,
+    left: Vec<Span>,
+    right: Vec<Span>,
+) -> Result<Vec<Span>, AllocError>
+    requires { CanPair pairing left right }
+    ensures { IfOk result (IsPaired pairing (left, right)) }
+{
+    match pairing {
+        Pairing::Overlay => overlaid(alloc, &left, &right),
+        Pairing::Cover(left_width, right_width) => {
+            covered(alloc, left_width, right_width, &left, &right)
+        }
+        Pairing::Merge => merged(left, right),
+        Pairing::Minus => without(alloc, left, &right),
+    }
+}
+
+/// Each row of the left before each row of the right.
+fn overlaid(alloc: Global, left: &Vec<Span>, right: &Vec<Span>) -> Result<Vec<Span>, AllocError>
+    requires { CanPair Pairing.Overlay left.now right.now }
+    ensures { IfOk result (IsPaired Pairing.Overlay (left.now, right.now)) }
+{
+    let lower = lent(alloc, left)?;
+    let upper = lent(alloc, right)?;
+    let (spans, _) = overlay(alloc, &lower, &upper)?;
+    Ok(spans)
+}
+
+/// The same, and where one side alone has rows, these beside NULLs, for operands of these widths.
+fn covered(
+    alloc: Global,
+    left_width: u8,
+    right_width: u8,
+    left: &Vec<Span>,
+    right: &Vec<Span>,
+) -> Result<Vec<Span>, AllocError>
+    requires { CanPair (Pairing.Cover left_width right_width) left.now right.now }
+    ensures { IfOk result (IsPaired (Pairing.Cover left_width right_width) (left.now, right.now)) }
+{
+    let lower = lent(alloc, left)?;
+    let upper = lent(alloc, right)?;
+    let (first_width, second_width) = (usize::from(left_width), usize::from(right_width));
+    let spans = cover(alloc, &lower, &upper, first_width, second_width)?;
+    Ok(spans)
+}
+
+/// The rows of either.
+fn merged(left: Vec<Span>, right: Vec<Span>) -> Result<Vec<Span>, AllocError>
+    requires { CanPair Pairing.Merge left right }
+    ensures { IfOk result (IsPaired Pairing.Merge (left, right)) }
+{
+    let spans = merge(left, right)?;
+    Ok(spans)
+}
+
+/// The rows of the left that the right does not have.
+fn without(alloc: Global, left: Vec<Span>, right: &Vec<Span>) -> Result<Vec<Span>, AllocError>
+    requires { CanPair Pairing.Minus left right.now }
+    ensures { IfOk result (IsPaired Pairing.Minus (left, right.now)) }
+{
+    let upper = lent(alloc, right)?;
+    let spans = minus(alloc, left, &upper)?;
+    Ok(spans)
+}

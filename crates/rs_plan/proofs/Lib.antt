@@ -1,0 +1,14 @@
+pub mod PlanLaws
+pub mod Walks
+pub mod ConditionWalks
+pub mod LineLaws
+pub mod Sorting
+pub mod OverlayLaws
+pub mod NodeLaws
+pub mod QueryVariants
+pub mod Standing
+pub mod WidthLaws
+pub mod LeafLaws
+pub mod PlacingLaws
+pub mod Arms
+pub mod WholePlans

@@ -1,0 +1,24 @@
+//! Planning: the plan of a checked query by the rule.
+
+ghost use Rattle.std.specs.Prelude.{IfOk};
+ghost use Rattle.rs_plan.specs.Planned.{IsPlanOf};
+
+use crate::asking::Asked;
+use crate::counts::Counts;
+use crate::placing::place_alone;
+use crate::plan::Plan;
+use rs_checker::Checked;
+use std::alloc::{AllocError, Global};
+
+/// The plan that the rule of planning gives a checked query, by these numbers of records and indexes. Its tables and
+/// routes have the numbers of the query's, its indexes those of the counts'. The only refusal is for want of memory.
+pub fn plan<C: Counts>(alloc: Global, checked: Checked, counts: &C) -> Result<Plan, AllocError>
+    ensures { IfOk result (λ plan. IsPlanOf (C.counted counts.now) checked plan) }
+{
+    let asked = Asked {
+        windows: Vec::new(alloc),
+        conditions: Vec::new(alloc),
+    };
+    let one = place_alone(alloc, checked.query, asked, counts)?;
+    Ok(one.plan)
+}
