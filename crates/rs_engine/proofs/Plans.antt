@@ -68,8 +68,7 @@ module _ (law : KeptSpansAreTheRuns) (held : Held) (is : IsHeld held) (name : Na
   are_runs (e ∷ es) each =
       let here = sym (ap (on_numbered [] (spans_on held.events item.number)) each.0) in
       let facts = sym (facts_at held.definitions.routes (spans_on held.events item.number) e.0 e.1 each.0) in
-      let kept = law item.kind (spans_on held.events item.number e.1.number) (is.events.spans name item there e.1.number).kept in
-      (
+      let kept = law item.kind (spans_on held.events item.number e.1.number) (is.events.spans name item there e.1.number).kept in (
         (
           subst (λ places. AreAllRunsOf item.kind places (spans_by_name e.0)) facts (subst (λ spans. AreAllRunsOf item.kind (places_of (spans_on held.events item.number e.1.number)) spans) here kept),
           subst (LieWithin e.1.ends.start (e.1.ends.finish + 1)) facts (lies-within item.kind e.1.ends _ (is.events.on_routes name item there e.0 e.1 each.0)),
@@ -121,8 +120,7 @@ module _ (law : KeptSpansAreTheRuns) (held : Held) (is : IsHeld held) (name : Na
   indexes-seen [] (index ∷ indexes) each same = cc
   indexes-seen (e ∷ es) [] each same = cc
   indexes-seen (e ∷ es) (index ∷ indexes) each same =
-      let first = head_same _ _ _ _ same in
-      (
+      let first = head_same _ _ _ _ same in (
         sym (ap (λ (s : SeenIndex). s.0) first),
         sym (ap (λ (s : SeenIndex). s.1.1.1) first),
         same_number e.1 (is.definitions.indexes e.0 e.1 each.0).1 ∙ ap (λ n. n == item.number) (sym (ap (λ (s : SeenIndex). s.1.1.0) first)),
@@ -167,13 +165,12 @@ module _ (law : KeptSpansAreTheRuns) (held : Held) (is : IsHeld held) (indexes :
   unfolding indexes_kept
   counted (numbered_table name number kind width) numbered =
       let item = numbered.0 in
-      let there = numbered.1 in
-      (
+      let there = numbered.1 in (
         ap (λ o. length (table_columns o)) (table_at held name item there) ∙ numbered.4,
         records-counted law held is name item there ∙ ap (records_kept held) numbered.2,
         subst (λ n. AreIndexesOf name n (names.entries (indexes_of held.definitions)) indexes) numbered.2
-        (subst (λ entries. AreIndexesOf name item.number entries indexes) (sym (entries-map_values indexed_column held.definitions.indexes))
-        (indexes-seen law held is name item there (names.entries held.definitions.indexes) indexes (each_entry held.definitions.indexes) seen)),
+            (subst (λ entries. AreIndexesOf name item.number entries indexes) (sym (entries-map_values indexed_column held.definitions.indexes))
+            (indexes-seen law held is name item there (names.entries held.definitions.indexes) indexes (each_entry held.definitions.indexes) seen)),
       )
   counted (numbered_route name number) numbered = tt
   counted (numbered_index name number) numbered = tt
