@@ -15,7 +15,6 @@ use Rattle.rs_syntax.specs.QueryView.{query_tree}
 use Rattle.rs_machine.specs.State.{no_referents}
 use Rattle.rs_machine.specs.Step.{referents_at, empty_table}
 use Rattle.rs_catalog.specs.Definitions.{RouteItem, TableItem, IndexItem, ViewItem, Definitions, no_definitions, indexed_column, indexes_of, AreNumbered, routes_of, views_of, on_numbered, no_places, facts_from, table_from, tables_from, referents_from}
-use Rattle.rs_planning.specs.Basis.{IndexedColumn}
 use Rattle.rs_machine.specs.Step as machine
 use Rattle.rs_catalog.specs.Changes.{with_route, with_table, with_index, with_view, without_route, is_of_another, indexes_of_others, without_table, without_index, without_view}
 use Rattle.rs_catalog.specs.Referents.{at_number}

@@ -1,6 +1,6 @@
 //! Checks whether the definitions of a file pass the checks and limits of their DEFINE lines, each beside the others.
 
-ghost use Rattle.std.specs.Prelude.{◌≡◌, IsOkUnless, OnErr, OnOk};
+ghost use Rattle.std.specs.Prelude.{IsOkUnless, OnErr, OnOk};
 ghost use Rattle.rs_catalog_meaning.specs.Meaning.{AreMeant};
 ghost use Rattle.rs_catalog_pages.specs.Said.{said_catalogue};
 

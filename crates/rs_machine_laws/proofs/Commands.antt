@@ -1,6 +1,6 @@
 -- Each accepted command leaves a lawful state.
 use Rattle.std.proofs.Common.{◌≡◌, ◌∙◌, ℕ, ◌+◌, ◌<◌, ◌≤◌, Bool, true, false, ◌&&◌, ◌||◌, List, Option, Some, is_some, length, not, Result, Ok, Err, IfOk, refl, sym, ap, subst, arith}
-use Rattle.std.specs.Prelude.{if◌then◌else◌, nat_le, nat_lt, take, drop}
+use Rattle.std.specs.Prelude.{if◌then◌else◌, nat_le, nat_lt, drop}
 use Rattle.std.specs.FinMap as names
 use Rattle.std.proofs.lemmas.Bool.{ltb-true, leb-true, and_parts}
 use Rattle.rs_refusal.specs.declared.refusal.Refusal.{Refusal}
@@ -11,7 +11,7 @@ use Rattle.rs_value.specs.Row.{Row}
 use Rattle.rs_facts.specs.Fact.{Name, Names}
 use Rattle.rs_facts.specs.Insert.{same_name}
 use Rattle.rs_facts.specs.Totals.{totalled}
-use Rattle.rs_facts.specs.Query.{RouteEnds, Column, Table, Query}
+use Rattle.rs_facts.specs.Query.{RouteEnds, Column, Table}
 use Rattle.rs_planning.specs.Basis.{IndexedColumn}
 use Rattle.rs_methods.specs.Position.{PositionExpression, start_name}
 use Rattle.rs_methods.specs.declared.position.Method.{Method}
@@ -22,8 +22,8 @@ use Rattle.rs_machine.specs.Checks.{◌>>=◌, unless, route_named, table_named,
 use Rattle.rs_machine.specs.Opening.{some_view, names_query, names_alignment, names_route, names_referent, some_piece_on}
 use Rattle.rs_machine.specs.Checking.{column_place, checked, removal_checked, columns_in, group_checked, summed_checked}
 use Rattle.rs_machine.specs.declared.limits.TheConstants.{ROUTES, REFERENTS, TABLES, INDEXES, VIEWS, ALIGNMENTS, PIECES, CHANGES, SESSIONS, CURSORS}
-use Rattle.rs_machine.specs.Step.{Effect, may_change, no_cursor_waits, indexes_of_others, index_defined, index_dropped, lines_of, cursor_opened, rows_fetched, cursor_closed, with_route, with_table, with_facts_along, without_facts, without_route, empty_table, has_fact_on, some_table, referents_at, with_referents, route_defined, route_dropped, table_defined, table_dropped, view_defined, view_dropped, alignment_defined, alignment_dropped, referent_defined, referent_moved, referent_dropped, row_inserted, rows_removed, rows_along, outcome}
-use Rattle.rs_machine.specs.Lawful.{Each, IsRoute, IsPlaceOf, MayHoldAt, IsReferent, IsTable, IsView, IsAlignment, IsIndex, AreCursors, IsLawful}
+use Rattle.rs_machine.specs.Step.{Effect, may_change, no_cursor_waits, index_defined, index_dropped, lines_of, cursor_opened, rows_fetched, cursor_closed, with_route, with_table, with_facts_along, without_facts, without_route, empty_table, has_fact_on, some_table, referents_at, with_referents, route_defined, route_dropped, table_defined, table_dropped, view_defined, view_dropped, alignment_defined, alignment_dropped, referent_defined, referent_moved, referent_dropped, row_inserted, rows_removed, rows_along, outcome}
+use Rattle.rs_machine.specs.Lawful.{Each, IsRoute, IsPlaceOf, MayHoldAt, IsReferent, IsTable, IsView, IsAlignment, IsIndex, IsLawful}
 use Rattle.rs_machine_laws.proofs.Names.{either_false, each_empty, each_weaker, each_inserted, each_removed, len_none, len_more, len_same, len_less, same_name-true, same_name-false, same_name-back}
 use Rattle.rs_machine_laws.proofs.Checked.{passed, not_true, was_found, or_right, position-lies, event-lies, same_kind-same, distinct}
 use Rattle.rs_machine_laws.proofs.Rows.{row_fits-row}

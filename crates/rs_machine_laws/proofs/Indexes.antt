@@ -2,22 +2,20 @@
 use Rattle.std.proofs.Common.{◌≡◌, ◌∙◌, ℕ, ◌<◌, ◌≤◌, Bool, true, false, ◌||◌, cond, List, [], ◌∷◌, length, Option, Some, None, is_some, not, refl, sym, ap, subst, arith}
 use Rattle.std.specs.Prelude.{nat_lt, nat_eq, if◌then◌else◌}
 use Rattle.std.specs.List.{filter, list_any}
-use Rattle.std.specs.Ordering.{eq_by_cmp}
 use Rattle.std.specs.FinMap as names
 use Rattle.std.specs.FinMap.{get-retain_keys, get_tied, contains_key-keys, same_map}
 use Rattle.std.proofs.lemmas.Bool.{eqb-true}
-use Rattle.rs_facts.specs.Fact.{Name, Names, name_cmp}
+use Rattle.rs_facts.specs.Fact.{Name, Names}
 use Rattle.rs_facts.specs.Insert.{same_name}
 use Rattle.rs_facts.specs.Query.{Table}
 use Rattle.rs_planning.specs.Basis.{IndexedColumn}
 use Rattle.rs_syntax.specs.Sound.{IsName}
-use Rattle.rs_syntax.specs.Tree.{QueryTree}
 use Rattle.rs_machine.specs.declared.limits.TheConstants.{SESSIONS, CURSORS}
 use Rattle.rs_machine.specs.State.{RowText, Cursors, State, no_cursors, has, cursors_at}
 use Rattle.rs_machine.specs.Step.{is_of_another, indexes_of_others}
 use Rattle.rs_machine.specs.Lawful.{Each, IsView, IsIndex, AreCursors, IsLawful}
 use Rattle.rs_machine.proofs.NameOrder.{name_cmp-total, name_cmp-antisymmetric}
-use Rattle.rs_machine_laws.proofs.Names.{false_true, none_some, some_same, same_name-true, same_name-back, each_empty, each_inserted, each_removed, at_inserted, AtInserted, removed_other, still_there, len_none, len_more, len_same, len_less}
+use Rattle.rs_machine_laws.proofs.Names.{false_true, none_some, some_same, same_name-true, same_name-back, each_empty, each_inserted, each_removed, removed_other, still_there, len_none, len_more, len_same, len_less}
 
 -- ---- indexes
 

@@ -1,11 +1,11 @@
 -- The session that a line begins with is one of those that there are.
-use Rattle.std.proofs.Common.{◌≡◌, ◌∙◌, ℕ, ◌<◌, Bool, true, false, ◌&&◌, List, Option, Some, None, length, refl, sym, ap, subst}
+use Rattle.std.proofs.Common.{◌≡◌, ℕ, ◌<◌, Bool, true, false, ◌&&◌, List, Some, None, length, refl, sym, subst}
 use Rattle.std.specs.Prelude.{◌==◌, nat_lt, take, drop, if◌then◌else◌}
 use Rattle.std.specs.Str.{all_ascii_digits}
 use Rattle.std.proofs.lemmas.Bool.{ltb-true, and_parts}
 use Rattle.rs_measure.specs.FixedPoint.{number_of_digits}
 use Rattle.rs_machine.specs.declared.limits.TheConstants.{SESSIONS}
-use Rattle.rs_machine.specs.Request.{without_return, ends_number, has_session, session_digits, BeginsWith}
+use Rattle.rs_machine.specs.Request.{without_return, ends_number, has_session, BeginsWith}
 use Rattle.rs_machine_laws.proofs.Names.{some_same, none_some}
 
 has-below : (digits : ℕ) (text : List ℕ) → has_session digits text ≡ true → number_of_digits (take digits text) < SESSIONS

@@ -1,7 +1,7 @@
 //! The state is lawful at the beginning, and whatever lines are answered leave it lawful.
 
 ghost use Rattle.std.specs.Prelude.{List, ℕ};
-ghost use Rattle.rs_machine.specs.State.{State, fresh};
+ghost use Rattle.rs_machine.specs.State.{fresh};
 ghost use Rattle.rs_machine.specs.Served.{Machine};
 ghost use Rattle.rs_machine.specs.Answered.{Answer, Answered};
 ghost use Rattle.rs_machine.specs.Lawful.{IsLawful};

@@ -3,7 +3,7 @@
 //! What a text says and what the tokens of a line say are two definitions. The first law joins them; the second
 //! is on the positions that are printed in a lawful state, which are located again where they came from.
 
-ghost use Rattle.std.specs.Prelude.{◌≡◌, ℕ, ◌+◌, ◌≤◌, List, length, Some, Ok};
+ghost use Rattle.std.specs.Prelude.{◌≡◌, ℕ, ◌+◌, List, length, Some, Ok};
 ghost use Rattle.std.specs.FinMap as names;
 ghost use Rattle.rs_methods.specs.Position.{PositionExpression};
 ghost use Rattle.rs_methods.specs.PositionText.{TextSaysPosition};

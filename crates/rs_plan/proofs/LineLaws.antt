@@ -5,7 +5,7 @@ use Rattle.std.specs.declared.string.String.{String}
 use Rattle.std.proofs.lemmas.List.{length-map, map-append, take_more}
 use Rattle.std.proofs.Math.Numerals.{add-one}
 use Rattle.rs_planning.specs.Plan as plans
-use Rattle.rs_planning.specs.Plan.{Operands, overlay_node}
+use Rattle.rs_planning.specs.Plan.{overlay_node}
 use Rattle.rs_planning.specs.Explain.{and_number, operands_counted, node_text, line_of_node, lines_from, lines_of_each}
 use Rattle.rs_plan.specs.declared.plan.PlannedWindow.{PlannedWindow}
 use Rattle.rs_plan.specs.declared.plan.Plan.{Plan}

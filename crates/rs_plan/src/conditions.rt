@@ -1,7 +1,7 @@
 //! Conditions on their way to the leaves: their conjuncts, copies whose columns are at other places, and whose columns
 //! they read.
 
-ghost use Rattle.std.specs.Prelude.{◌≡◌, List, [], ◌∷◌, ◌++◌, map, flat_map, filter, get_or, IfOk};
+ghost use Rattle.std.specs.Prelude.{◌≡◌, [], ◌∷◌, ◌++◌, map, flat_map, filter, get_or, IfOk};
 ghost use Rattle.std.specs.List.{list_all, list_any};
 ghost use Rattle.rs_value.specs.View.{literal_datum};
 ghost use Rattle.rs_facts.specs.Condition as conditions;

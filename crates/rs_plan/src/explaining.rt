@@ -2,7 +2,7 @@
 //!
 //! It promises exactly the lines that the definition gives.
 
-ghost use Rattle.std.specs.Prelude.{◌≡◌, ◌≤◌, ◌+◌, ◌++◌, List, [], ◌∷◌, map, length, codes, decimal, OnOk, IfOk, string_bytes};
+ghost use Rattle.std.specs.Prelude.{◌≡◌, ◌≤◌, ◌+◌, ◌++◌, [], ◌∷◌, map, length, codes, OnOk, IfOk, string_bytes};
 ghost use Rattle.rs_planning.specs.Explain.{access_text, and_number, node_text, line_of_node, lines_from};
 ghost use Rattle.rs_plan.specs.PlanView.{access_of, leaf_of, plan_tree};
 ghost use Rattle.rs_plan.specs.Lines.{lines_of, lines_from_each};

@@ -2,7 +2,7 @@
 //!
 //! A query is taken by value, so no part of it is planned twice.
 
-ghost use Rattle.std.specs.Prelude.{◌≡◌, IfOk};
+ghost use Rattle.std.specs.Prelude.{IfOk};
 ghost use Rattle.rs_checker.specs.CheckedView.{query_of, named_in};
 ghost use Rattle.rs_plan.specs.Operands.{IsPlaced, IsPlacedAlone};
 ghost use Rattle.rs_plan.specs.PlanView.{conditions_of};

@@ -11,7 +11,7 @@ use Rattle.std.specs.List.Sorted.{IsSortedByKey, ties}
 use Rattle.std.specs.Ordering.{is_lt, nat_cmp}
 use Rattle.rs_facts.specs.Fact.{Name}
 use Rattle.rs_planning.specs.Laws as laws
-use Rattle.rs_planning.specs.Laws.{weight_of, AreByWeight}
+use Rattle.rs_planning.specs.Laws.{weight_of}
 use Rattle.rs_planning.specs.Rule.{PlacedOperand, inserted_by_weight, lightest_first}
 use Rattle.rs_planning.proofs.Meeting.{every-weaker}
 use Rattle.rs_planning.proofs.PuttingBack.{lightest-permutes}

@@ -1,4 +1,4 @@
-use Rattle.std.proofs.Common.{◌≡◌, ◌++◌, ◌∷◌, [], flat_map, sym, ap, subst, ◌∙◌}
+use Rattle.std.proofs.Common.{flat_map, sym, ap, subst, ◌∙◌}
 use Rattle.std.proofs.lemmas.List.{take_all}
 use Rattle.rs_catalog.specs.Definitions.{routes_of, pieces_of}
 use Rattle.rs_checker.specs.CheckedView.{located_pieces, named_by_piece}

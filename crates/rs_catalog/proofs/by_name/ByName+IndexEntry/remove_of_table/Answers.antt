@@ -1,13 +1,10 @@
-use Rattle.std.proofs.Common.{◌≡◌, Bool, not, filter, Option, Some, None, rules, sym, ap, ◌∙◌, subst}
-use Rattle.std.proofs.Math.Path.{fun_ext}
+use Rattle.std.proofs.Common.{◌≡◌, not, filter, rules, ap, ◌∙◌}
 use Rattle.std.proofs.lemmas.Map.Made.{filter_same_pairs}
-use Rattle.std.specs.FinMap as names
-use Rattle.rs_facts.specs.Fact.{Names}
 use Rattle.rs_facts.specs.Insert.{same_name}
-use Rattle.rs_catalog.specs.Changes.{is_of_another, indexes_of_others}
+use Rattle.rs_catalog.specs.Changes.{indexes_of_others}
 use Rattle.rs_catalog.specs.Definitions.{IndexItem}
 use Rattle.rs_catalog.specs.Names.{names_of}
-use Rattle.rs_catalog.proofs.Names.{kept, names_of-kept}
+use Rattle.rs_catalog.proofs.Names.{names_of-kept}
 use Rattle.rs_catalog.proofs.DefinitionLaws.{same_kept}
 use Rattle.rs_catalog.proofs.by_name.ByName+IndexEntry.remove_of_table.Goals as goal
 use Rattle.rs_catalog.proofs.by_name.ByName+IndexEntry.remove_of_table.Goals.{After-retain}

@@ -1,5 +1,4 @@
-use Rattle.std.proofs.Common.{◌<◌, ℕ, length, true, slice_set, sym, ap, subst, ◌∙◌}
-use Rattle.std.specs.FinMap as names
+use Rattle.std.proofs.Common.{◌<◌, length, true, slice_set, sym, ap, subst, ◌∙◌}
 use Rattle.rs_catalog.specs.Names.{entries_by_bytes}
 use Rattle.rs_catalog.proofs.FreeNumbers.{AreTaken, IsFirstFree, numbers_in, taken_start, taken_end, next_below, next_taken, least_free_of, below_limit, length-numbers}
 use Rattle.rs_catalog.proofs.by_name.ByName.free_number.Goals as goal

@@ -1,4 +1,4 @@
-use Rattle.std.proofs.Common.{rules, ◌≡◌, sym, ap, subst, ◌∙◌}
+use Rattle.std.proofs.Common.{rules, sym, ap, subst, ◌∙◌}
 use Rattle.std.specs.FinMap as names
 use Rattle.rs_facts.specs.Fact.{Names}
 use Rattle.rs_catalog.specs.Definitions.{IndexItem, Definitions, IsFree, IsColumnOf, AreDefinitions}

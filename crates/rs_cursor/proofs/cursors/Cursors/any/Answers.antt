@@ -1,6 +1,5 @@
-use Rattle.std.proofs.Common.{ℕ, ◌<◌, sym, ap, subst, ◌∙◌, arith}
+use Rattle.std.proofs.Common.{◌<◌, sym, ap, subst, ◌∙◌, arith}
 use Rattle.std.specs.FinMap as names
-use Rattle.rs_machine.specs.State.{some_cursor}
 use Rattle.rs_cursor.specs.Held.{cursors_of}
 use Rattle.rs_cursor.proofs.CursorLaws.{some_session, no_session}
 use Rattle.rs_cursor.proofs.cursors.Cursors.any.Goals as goal

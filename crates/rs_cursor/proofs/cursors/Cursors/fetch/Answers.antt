@@ -1,14 +1,13 @@
-use Rattle.std.proofs.Common.{◌≡◌, ◌⊎◌, inl, drop, refl, sym, ap, subst, ◌∙◌}
+use Rattle.std.proofs.Common.{inl, drop, refl, sym, ap, subst, ◌∙◌}
 use Rattle.std.proofs.lemmas.Result.{on_err_weaker, IfOk-weaker, IfErr-weaker}
 use Rattle.std.specs.Option.{option_copied_mut}
 use Rattle.std.specs.FinMap as names
 use Rattle.std.specs.FinMap.{get-empty}
 use Rattle.rs_facts.specs.Fact.{name_cmp}
 use Rattle.rs_machine.specs.State.{Cursors}
-use Rattle.rs_serve.specs.ReplyView.{rows_of}
 use Rattle.rs_catalog.proofs.Numbered.{numbered-put}
 use Rattle.rs_catalog.proofs.MapLaws.{some_there}
-use Rattle.rs_cursor.specs.Held.{cursors_of, GivesOf, FindsNoneOf}
+use Rattle.rs_cursor.specs.Held.{FindsNoneOf}
 use Rattle.rs_cursor.proofs.CursorLaws.{at_found, at_none, put_at, same_at}
 use Rattle.rs_cursor.proofs.cursors.Cursors.fetch.Goals as goal
 

@@ -4,7 +4,6 @@ use Rattle.std.specs.FinMap as names
 use Rattle.rs_machine.specs.State.{Cursors}
 use Rattle.rs_catalog.proofs.Numbered.{numbered, numbered-put}
 use Rattle.rs_catalog.proofs.MapLaws.{some_there}
-use Rattle.rs_cursor.specs.Held.{HeldCursors}
 use Rattle.rs_cursor.proofs.CursorLaws.{BySession, at_found, at_none, put_at, same_at}
 use Rattle.rs_cursor.proofs.cursors.Cursors.open.Goals as goal
 
