@@ -2,7 +2,7 @@
 //!
 //! The syntax has been read, so a number out of its range is all that can be wrong with it.
 
-ghost use Rattle.std.specs.Prelude.{ℕ, [], MatchOption, IfOk, IfErr};
+ghost use Rattle.std.specs.Prelude.{◌≡◌, ℕ, [], MatchOption, IfOk, IfErr};
 ghost use Rattle.rs_lexer.specs.Lexis.{token_text, IsTokenOf};
 ghost use Rattle.rs_syntax.specs.View.{tree_of};
 ghost use Rattle.rs_syntax.specs.Written.{written_open, written_fetch, written_close, spelling, SaysRows, Says, AreToldOf};

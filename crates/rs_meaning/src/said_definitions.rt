@@ -2,7 +2,7 @@
 //!
 //! The syntax has been read, so a number out of its range is all that can be wrong with it.
 
-ghost use Rattle.std.specs.Prelude.{[], map, All, IfOk, IfErr};
+ghost use Rattle.std.specs.Prelude.{◌≡◌, [], map, All, IfOk, IfErr};
 ghost use Rattle.rs_grammar.specs.declared.kind.TokenKind.TheVariants as kinds;
 ghost use Rattle.rs_lexer.specs.Lexis.{IsTokenOf};
 ghost use Rattle.rs_syntax.specs.View.{column_tree, tree_of};

@@ -2,7 +2,7 @@
 //!
 //! The syntax has been read, so a number out of its range is all that can be wrong with them.
 
-ghost use Rattle.std.specs.Prelude.{[], IfOk, IfErr};
+ghost use Rattle.std.specs.Prelude.{◌≡◌, [], IfOk, IfErr};
 ghost use Rattle.rs_grammar.specs.declared.kind.TokenKind.TheVariants as kinds;
 ghost use Rattle.rs_value.specs.View.{literal_row};
 ghost use Rattle.rs_syntax.specs.View.{removal_tree, tree_of};
