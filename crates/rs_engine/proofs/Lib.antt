@@ -17,3 +17,4 @@ mod Printing
 mod QueryAnswers
 mod TotalRows
 mod Plans
+mod PlannedRows

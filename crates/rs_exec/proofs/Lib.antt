@@ -12,3 +12,4 @@ mod Same
 mod Plans
 mod Leavings
 mod Holding
+mod TableAlone

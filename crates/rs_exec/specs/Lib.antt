@@ -11,3 +11,4 @@ pub mod Windows
 pub mod Carried
 pub mod Operand
 pub mod Agreement
+pub mod Alone

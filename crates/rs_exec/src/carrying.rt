@@ -12,6 +12,7 @@ ghost use Rattle.rs_exec.specs.Meaning.{carried_by, goes_forwards};
 ghost use Rattle.rs_exec.specs.Routes.{numbers_of, list_of};
 ghost use Rattle.rs_exec.specs.Carried.{meets, rows_given, AreAllWide, AreGathered, AreSourcesOf, AreApart, CanCarry, IsCarried};
 
+use crate::copies::copies_meeting;
 use crate::routes::{Routes, RowsOn, is_among, is_in};
 use rs_coalesce::runs;
 use rs_facts::Span;
@@ -169,34 +170,4 @@ fn carry(
     shift(&mut spans, from, to, onto);
     gathered.append(&mut spans)?;
     Ok(())
-}
-
-/// Copies of the spans that meet the part from thousandth `from` on and below `to`. The only refusal is for want of
-/// memory.
-fn copies_meeting(
-    alloc: Global,
-    spans: &[Span],
-    from: u32,
-    to: u32,
-) -> Result<Vec<Span>, AllocError>
-    ensures { IfOk result (λ copies. map seen copies.items ≡ filter (meets from to) (map seen spans.now)) }
-{
-    let mut copies = Vec::new(alloc);
-    for span in spans {
-        if is_met(span, from, to) {
-            copies.push(Span {
-                lo: span.lo,
-                hi: span.hi,
-                tuple: span.tuple.clone()?,
-            })?;
-        }
-    }
-    Ok(copies)
-}
-
-/// Whether some of a span lies from thousandth `from` on and below `to`.
-fn is_met(span: &Span, from: u32, to: u32) -> bool
-    ensures { result ≡ meets from to (seen span.now) }
-{
-    span.lo < to && from < span.hi
 }

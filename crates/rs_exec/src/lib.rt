@@ -4,8 +4,10 @@
 //! once, on a list of routes that is longer than one below a TRANSFORM alone.
 #![tactic(auto)]
 
+pub mod alone;
 mod carrying;
 mod changes;
+pub mod copies;
 pub mod evaluation;
 mod kinds;
 pub mod laws;
@@ -16,5 +18,7 @@ mod routes;
 pub mod source;
 mod windows;
 
+pub use alone::table_alone;
+pub use copies::copies_inside;
 pub use evaluation::eval;
 pub use source::{Asked, Part, SoughtValue, Source};

@@ -9,8 +9,8 @@ use Rattle.rs_facts.specs.Runs.{Stretch, stretch}
 use Rattle.rs_facts.specs.Spans.{seen}
 use Rattle.rs_exec.specs.Carried.{meets}
 use Rattle.rs_exec.proofs.CarriedSpans.{filter-last}
-use Rattle.rs_exec.proofs.carrying.copies_meeting.Goals as goal
-use Rattle.rs_exec.proofs.carrying.copies_meeting.Goals.{then-is_met+in_ok-clone+in_ok-push, else-is_met}
+use Rattle.rs_exec.proofs.copies.copies_meeting.Goals as goal
+use Rattle.rs_exec.proofs.copies.copies_meeting.Goals.{then-is_met+in_ok-clone+in_ok-push, else-is_met}
 
 same_row : (a b : ArrayVec Value) → a.items ≡ b.items → row_of a ≡ row_of b
 unfolding row_of
