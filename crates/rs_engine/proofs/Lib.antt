@@ -18,3 +18,4 @@ mod QueryAnswers
 mod TotalRows
 mod Plans
 mod PlannedRows
+mod PresentSpans

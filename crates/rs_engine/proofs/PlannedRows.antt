@@ -167,7 +167,7 @@ module _ (held : Held) (is : IsHeld held) where
 
 module _ (kept : KeptSpansAreTheRuns) (mean : PlansMeanTheirQueries) (form : PlansAreWellFormed) (same : PlansAreTheSame)
     (held : Held) (is : IsHeld held) (indexes : List Index) (seen : map index_seen indexes ≡ indexes_kept held)
-    (checked : Checked) (can : CanBePlanned held checked) (plan : Plan) (plans : IsPlanOf (counts_of kept held is indexes seen) checked plan) where
+    (checked : Checked) (can : CanBePlanned held checked) (plan : Plan) (by_rule : IsPlanOf (counts_of kept held is indexes seen) checked plan) where
   abbrev query : Query
   query = query_of checked.query
 
@@ -175,7 +175,7 @@ module _ (kept : KeptSpansAreTheRuns) (mean : PlansMeanTheirQueries) (form : Pla
   basis = basis_of kept held is indexes seen
 
   pub plan-by_rule : plan_tree plan ≡ plan_of basis query
-  plan-by_rule = plans.tree basis (record {
+  plan-by_rule = by_rule.tree basis (record {
     well_formed = can.well_formed;
     few = omega (arith, can.few);
     tables = all-counted kept held is indexes seen (named_in checked.query) can.numbers;
@@ -184,7 +184,7 @@ module _ (kept : KeptSpansAreTheRuns) (mean : PlansMeanTheirQueries) (form : Pla
   plan-agrees : AllByRecursion (Agrees held is) (planned.named_in plan)
   plan-agrees = among-agree held is (named_in checked.query ++ map named_index indexes) (planned.named_in plan)
       (every-append (Agrees held is) (named_in checked.query) (map named_index indexes) (query-agrees held is (named_in checked.query) can.numbers) (indexes-agree held is indexes))
-      plans.numbers
+      by_rule.numbers
 
   pub plan-means : IsPlanFor held query plan
   plan-means =
@@ -202,11 +202,11 @@ module _ (kept : KeptSpansAreTheRuns) (mean : PlansMeanTheirQueries) (form : Pla
 
 -- ---- its runs on a route are those of the query
 
-pub runs-planned : (held : Held) (query : Query) (plan : Plan) → IsPlanFor held query plan → (route : Name) (on : RouteItem) → names.get held.definitions.routes route ≡ Some on
-    → (runs : List Stretch) → AreRunsOf (kind_in plan) (rows_in plan (present held.events) on.number) runs → AreRunsOf (kind_of (world_of (state_of held)) query) (rows_at (world_of (state_of held)) query route) runs
-runs-planned held query plan is route on there runs are =
-    subst (λ (places : Places). AreRunsOf (kind_of (world_of (state_of held)) query) places runs) (fun_ext (is.rows route on there))
-    (subst (λ (kind : Kind). AreRunsOf kind (rows_in plan (present held.events) on.number) runs) is.kind are)
+pub runs-planned : (held : Held) (query : Query) (plan : Plan) → IsPlanFor held query plan → (kind : Kind) → kind ≡ kind_in plan → (route : Name) (on : RouteItem) → names.get held.definitions.routes route ≡ Some on
+    → (runs : List Stretch) → AreRunsOf (kind_in plan) (rows_in plan (present held.events) on.number) runs → AreRunsOf kind (rows_at (world_of (state_of held)) query route) runs
+runs-planned held query plan is kind of_kind route on there runs are =
+    subst (λ (places : Places). AreRunsOf kind places runs) (fun_ext (is.rows route on there))
+    (subst (λ (k : Kind). AreRunsOf k (rows_in plan (present held.events) on.number) runs) (sym of_kind) are)
 
 -- those of a plan that is a table alone are the table's
 pub runs-alone : (held : Held) (plan : Plan) (table : PlannedTable) → IsTableAlone plan table → (number : ℕ) (runs : List Stretch)
@@ -223,6 +223,12 @@ starts-alike held is table route width = elim (spans_on held.events table route)
   | span ∷ spans ↦ λ e. alike span spans e (are_so_wide width spans) refl (length span.row == width) refl
 ] refl
   where
+    some : (span : Stretch) (spans : List Stretch) → ◌≡◌ {A = List Stretch} (span ∷ spans) [] → ⊥
+    some span spans e = cc
+
+    wrong : false ≡ true → ⊥
+    wrong e = cc
+
     -- were the rest not as wide as the first, no table would have the number, and there would be no spans
     alike : (span : Stretch) (spans : List Stretch) → spans_on held.events table route ≡ span ∷ spans
         → (rest : Bool) → are_so_wide width spans ≡ rest → (first : Bool) → (length span.row == width) ≡ first → first ≡ (first && are_so_wide width spans)
@@ -233,9 +239,3 @@ starts-alike held is table route width = elim (spans_on held.events table route)
             (subst (λ n. AreWide (length item.columns) (spans_on held.events n route)) same (is.events.spans name item there route).wide) in
         let so_wide : length item.columns ≡ width = sym wide.0 ∙ (Decides-eqb (length span.row) width).0 of_first in
         wrong (sym of_rest ∙ all-so-wide width spans (subst (λ n. AreWide n spans) so_wide wide.1))) route))
-
-    some : (span : Stretch) (spans : List Stretch) → ◌≡◌ {A = List Stretch} (span ∷ spans) [] → ⊥
-    some span spans e = cc
-
-    wrong : false ≡ true → ⊥
-    wrong e = cc

@@ -38,3 +38,7 @@ pub record IsPlanFor (held : Held) (query : Query) (plan : Plan) : Type 0 where
 pub record IsPlanned (held : Held) (plan : Plan) : Type 0 where
   pub query : Query
   pub is : IsPlanFor held query plan
+
+-- this is so of the query that it is a plan for, whichever that is
+abbrev pub OfItsQuery : Held → Plan → (Query → Type 0) → Type 0
+OfItsQuery held plan P = (query : Query) → IsPlanFor held query plan → P query

@@ -70,7 +70,8 @@ impl Engine {
         ensures columns { IfOk result (λ made. map column_tree made.columns.items ≡ columns_in (state_of self.now) (query_of made.query)) }
         ensures refused { IfErr result (λ refusal. (refusal ≡ Refusal.OutOfMemory) ⊎ (checked (state_of self.now) (query_tree query.now) ≡ Err refusal)) }
     {
-        check(self.alloc, &self.catalog, &self.referents, query)
+        let checked = check(self.alloc, &self.catalog, &self.referents, query)?;
+        Ok(checked)
     }
 
     /// The plan of a checked query that the rule gives by the present numbers of records and the indexes.

@@ -5,13 +5,12 @@
 ghost use Rattle.std.specs.Prelude.{◌≡◌, ◌≤◌, ◌⊎◌, ◌++◌, [], ◌∷◌, length, Some, Ok, Err, IfOk, IfErr, OnOk};
 ghost use Rattle.std.specs.FinMap as names;
 ghost use Rattle.rs_methods.specs.Position.{expression_of};
-ghost use Rattle.rs_facts.specs.Query.{Query};
 ghost use Rattle.rs_syntax.specs.QueryView.{query_tree};
 ghost use Rattle.rs_machine.specs.Step.{effect, position_text, position_translated, selected, lines_on, lines_of};
 ghost use Rattle.rs_serve.specs.ReplyView.{rows_of};
 ghost use Rattle.rs_checker.specs.CheckedView.{query_of};
 ghost use Rattle.rs_exec.specs.Meaning.{kind_in};
-ghost use Rattle.rs_engine.specs.Plans.{CanBePlanned, IsPlanFor, IsPlanned};
+ghost use Rattle.rs_engine.specs.Plans.{CanBePlanned, IsPlanned, OfItsQuery};
 
 use crate::engine::Engine;
 use crate::printer::PositionPrinter;
@@ -91,8 +90,7 @@ impl Engine {
     ) -> Result<Vec<String>, AllocError>
         requires planned { IsPlanned self.now plan.now }
         requires kind { kind ≡ kind_in plan.now }
-        ensures { IfOk result (λ rows. (query : Query) → IsPlanFor self.now query plan.now
-            → rows_of rows.items ≡ lines_of (state_of self.now) query method) }
+        ensures { IfOk result (λ rows. OfItsQuery self.now plan.now (λ query. rows_of rows.items ≡ lines_of (state_of self.now) query method)) }
     {
         let mut rows = Vec::new(self.alloc);
         for (name, route) in self.catalog.routes() {
@@ -119,8 +117,8 @@ impl Engine {
         requires kind { kind ≡ kind_in plan.now }
         requires referents { printer.now.referents.now ≡ self.now.referents }
         requires there { names.get self.now.definitions.routes printer.now.name.now.bytes ≡ Some printer.now.route }
-        ensures { OnOk result ((query : Query) → IsPlanFor self.now query plan.now
-            → rows_of rows.new.items ≡ rows_of rows.old.items ++ lines_on (state_of self.now) query printer.now.method printer.now.name.now.bytes printer.now.route.ends) }
+        ensures { OnOk result (OfItsQuery self.now plan.now (λ query. rows_of rows.new.items
+            ≡ rows_of rows.old.items ++ lines_on (state_of self.now) query printer.now.method printer.now.name.now.bytes printer.now.route.ends)) }
     {
         if let Some(table) = table_alone(plan) {
             let runs = self.kept_runs_on(table, printer.route)?;

@@ -5,7 +5,6 @@
 ghost use Rattle.std.specs.Prelude.{◌≡◌, ◌≤◌, ◌<◌, ◌⊎◌, ◌++◌, ◌^◌, [], ◌∷◌, ℕ, List, Option, map, length, Some, Ok, Err, IfOk, IfErr, OnOk, string_bytes};
 ghost use Rattle.std.specs.FinMap as names;
 ghost use Rattle.rs_value.specs.declared.column.TheConstants.{COLUMNS};
-ghost use Rattle.rs_facts.specs.Query.{Query};
 ghost use Rattle.rs_facts.specs.Totals.{Along};
 ghost use Rattle.rs_facts.specs.TotalText.{total_text};
 ghost use Rattle.rs_syntax.specs.QueryView.{query_tree};
@@ -16,7 +15,7 @@ ghost use Rattle.rs_serve.specs.ReplyView.{rows_of};
 ghost use Rattle.rs_checker.specs.CheckedView.{query_of};
 ghost use Rattle.rs_total.specs.Totalling.{AreTotalsOf};
 ghost use Rattle.rs_total.specs.Answer.{answered};
-ghost use Rattle.rs_engine.specs.Plans.{CanBePlanned, IsPlanFor, IsPlanned};
+ghost use Rattle.rs_engine.specs.Plans.{CanBePlanned, IsPlanned, OfItsQuery};
 ghost use Rattle.rs_engine.specs.Totalled.{along_route, totals_of_query};
 
 use crate::engine::Engine;
@@ -98,8 +97,7 @@ impl Engine {
     ) -> Result<Totals, AllocError>
         requires planned { IsPlanned self.now plan.now }
         requires few { length group.items ≤ COLUMNS }
-        ensures { IfOk result (λ totals. (query : Query) → IsPlanFor self.now query plan.now
-            → AreTotalsOf group.items column (rows_along (state_of self.now) query) totals) }
+        ensures { IfOk result (λ totals. OfItsQuery self.now plan.now (λ query. AreTotalsOf group.items column (rows_along (state_of self.now) query) totals)) }
     {
         let mut totals = Totals::new(self.alloc, group, column);
         for (name, route) in self.catalog.routes() {
@@ -118,9 +116,9 @@ impl Engine {
     ) -> Result<(), AllocError>
         requires planned { IsPlanned self.now plan.now }
         requires there { names.get self.now.definitions.routes name.now.bytes ≡ Some route }
-        ensures { OnOk result ((query : Query) → IsPlanFor self.now query plan.now
-            → (by : List ℕ) (column : Option ℕ) (done : List Along) → length done < 2 ^ 31 → AreTotalsOf by column done totals.old
-            → AreTotalsOf by column (done ++ along_route (state_of self.now) query name.now.bytes route.ends ∷ []) totals.new) }
+        ensures { OnOk result (OfItsQuery self.now plan.now (λ query.
+            (by : List ℕ) (column : Option ℕ) (done : List Along) → length done < 2 ^ 31 → AreTotalsOf by column done totals.old
+            → AreTotalsOf by column (done ++ along_route (state_of self.now) query name.now.bytes route.ends ∷ []) totals.new)) }
     {
         let alloc = self.alloc;
         if let Some(table) = table_alone(plan) {

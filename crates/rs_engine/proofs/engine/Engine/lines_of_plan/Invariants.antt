@@ -5,14 +5,14 @@ use Rattle.rs_facts.specs.Fact.{Name}
 use Rattle.rs_machine.specs.Step.{lines_on}
 use Rattle.rs_catalog.specs.Names.{entries_by_bytes}
 use Rattle.rs_catalog.specs.Definitions.{RouteItem}
-use Rattle.rs_checker.specs.CheckedView.{query_of}
 use Rattle.rs_serve.specs.ReplyView.{rows_of}
 use Rattle.rs_engine.specs.Held.{state_of}
-use Rattle.rs_engine.proofs.engine.Engine.lines.Given as goal
+use Rattle.rs_engine.specs.Plans.{OfItsQuery}
+use Rattle.rs_engine.proofs.engine.Engine.lines_of_plan.Given as goal
 
 abbrev pub invariant-loop-name : goal.invariant-loop-name
 invariant-loop-name l = record {
-  printed : rows_of l.rows.items ++ flat_map (λ (e : Name × RouteItem). lines_on (state_of l.self) (query_of l.query) l.method e.0 e.1.ends) (entries_by_bytes (λ item. item) l.name-iterator)
-      ≡ flat_map (λ (e : Name × RouteItem). lines_on (state_of l.self) (query_of l.query) l.method e.0 e.1.ends) (names.entries l.self.definitions.routes);
+  printed : OfItsQuery l.self l.plan (λ query. rows_of l.rows.items ++ flat_map (λ (e : Name × RouteItem). lines_on (state_of l.self) query l.method e.0 e.1.ends) (entries_by_bytes (λ item. item) l.name-iterator)
+      ≡ flat_map (λ (e : Name × RouteItem). lines_on (state_of l.self) query l.method e.0 e.1.ends) (names.entries l.self.definitions.routes));
   there : AllByRecursion (λ e. names.get l.self.definitions.routes e.0 ≡ Some e.1) (entries_by_bytes (λ item. item) l.name-iterator);
 }
