@@ -24,7 +24,7 @@ returns-in-Some c =
     (runs_along c.args.self.now query is c.args.name.now.bytes c.args.route c.requires.there for.query_formed (map seen_lent c.as_slice.result.now) runs)) c.add_route.ensures
 
 pub evaluated_runs-requires : goal.evaluated_runs-requires
-evaluated_runs-requires c = c.requires.planned.is.formed
+evaluated_runs-requires c = record { formed = c.requires.planned.is.formed }
 
 pub returns : goal.returns
 returns c =

@@ -38,7 +38,7 @@ returns-in-Some c =
 -- ---- the runs of a plan that is evaluated
 
 pub evaluated_runs-requires : goal.evaluated_runs-requires
-evaluated_runs-requires c = c.requires.planned.is.formed
+evaluated_runs-requires c = record { formed = c.requires.planned.is.formed }
 
 pub push_lines-requires : goal.push_lines-requires
 push_lines-requires c =
