@@ -236,6 +236,6 @@ starts-alike held is table route width = elim (spans_on held.events table route)
     alike span spans e true of_rest true of_first = sym of_rest
     alike span spans e false of_rest true of_first = absurd (some span spans (sym e ∙ is.events.no_table table (λ name item there same.
         let wide : AreWide (length item.columns) (span ∷ spans) = subst (AreWide (length item.columns)) e
-            (subst (λ n. AreWide (length item.columns) (spans_on held.events n route)) same (is.events.spans name item there route).wide) in
+        (subst (λ n. AreWide (length item.columns) (spans_on held.events n route)) same (is.events.spans name item there route).wide) in
         let so_wide : length item.columns ≡ width = sym wide.0 ∙ (Decides-eqb (length span.row) width).0 of_first in
         wrong (sym of_rest ∙ all-so-wide width spans (subst (λ n. AreWide n spans) so_wide wide.1))) route))

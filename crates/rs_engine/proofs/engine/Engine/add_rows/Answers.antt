@@ -18,8 +18,8 @@ returns-in-Some c =
     on_ok_weaker c.add_route.result (λ adds query for by column done few are.
     let kind = kind_of (world_of (state_of c.args.self.now)) query in
     let runs = subst (λ (spans : List (Bor Span)). AreRunsOf kind (rows_at (world_of (state_of c.args.self.now)) query c.args.name.now.bytes) (map seen_lent spans)) (sym c.as_slice.ensures.value)
-        (runs-planned c.args.self.now query c.args.plan.now for kind (sym for.kind) c.args.name.now.bytes c.args.route c.requires.there _
-        (runs-alone c.args.self.now c.args.plan.now c.in-Some.table c.in-Some.ensures c.args.route.number _ c.in_ok-runs.ensures)) in
+    (runs-planned c.args.self.now query c.args.plan.now for kind (sym for.kind) c.args.name.now.bytes c.args.route c.requires.there _
+    (runs-alone c.args.self.now c.args.plan.now c.in-Some.table c.in-Some.ensures c.args.route.number _ c.in_ok-runs.ensures)) in
     adds kind by column done (along_route (state_of c.args.self.now) query c.args.name.now.bytes c.args.route.ends) few are
     (runs_along c.args.self.now query is c.args.name.now.bytes c.args.route c.requires.there for.query_formed (map seen_lent c.as_slice.result.now) runs)) c.add_route.ensures
 
@@ -33,6 +33,6 @@ returns c =
     on_ok_weaker c.add_route-2.result (λ adds query for by column done few are.
     let kind = kind_of (world_of (state_of c.args.self.now)) query in
     let runs = subst (λ (spans : List Stretch). AreRunsOf kind (rows_at (world_of (state_of c.args.self.now)) query c.args.name.now.bytes) spans) (sym same)
-        (runs-planned c.args.self.now query c.args.plan.now for kind (sym for.kind) c.args.name.now.bytes c.args.route c.requires.there _ c.in_ok-runs-2.ensures) in
+    (runs-planned c.args.self.now query c.args.plan.now for kind (sym for.kind) c.args.name.now.bytes c.args.route c.requires.there _ c.in_ok-runs-2.ensures) in
     adds kind by column done (along_route (state_of c.args.self.now) query c.args.name.now.bytes c.args.route.ends) few are
     (runs_along c.args.self.now query is c.args.name.now.bytes c.args.route c.requires.there for.query_formed (map seen_lent c.as_slice-3.result.now) runs)) c.add_route-2.ensures

@@ -20,8 +20,8 @@ push_lent_lines-requires c =
     let query = c.requires.planned.query in
     let for = c.requires.planned.is in
     let runs = subst (λ (spans : List (Bor Span)). AreRunsOf c.args.kind (rows_at (world_of (state_of c.args.self.now)) query c.args.printer.now.name.now.bytes) (map seen_lent spans)) (sym c.as_slice.ensures.value)
-        (runs-planned c.args.self.now query c.args.plan.now for c.args.kind c.requires.kind c.args.printer.now.name.now.bytes c.args.printer.now.route c.requires.there _
-        (runs-alone c.args.self.now c.args.plan.now c.in-Some.table c.in-Some.ensures c.args.printer.now.route.number _ c.in_ok-runs.ensures)) in
+    (runs-planned c.args.self.now query c.args.plan.now for c.args.kind c.requires.kind c.args.printer.now.name.now.bytes c.args.printer.now.route c.requires.there _
+    (runs-alone c.args.self.now c.args.plan.now c.in-Some.table c.in-Some.ensures c.args.printer.now.route.number _ c.in_ok-runs.ensures)) in
     query_printable c.args.self.now is c.args.printer.now.name.now.bytes c.args.printer.now.route c.requires.there query for.query_formed c.args.kind (c.requires.kind ∙ for.kind) (map seen_lent c.as_slice.result.now) runs
 
 pub returns-in-Some : goal.returns-in-Some
@@ -29,8 +29,8 @@ returns-in-Some c =
     let is = subst IsHeld c.self.view_is c.self.invariant in
     on_ok_weaker c.push_lent_lines.result (λ pushed query for.
     let runs = subst (λ (spans : List (Bor Span)). AreRunsOf c.args.kind (rows_at (world_of (state_of c.args.self.now)) query c.args.printer.now.name.now.bytes) (map seen_lent spans)) (sym c.as_slice.ensures.value)
-        (runs-planned c.args.self.now query c.args.plan.now for c.args.kind c.requires.kind c.args.printer.now.name.now.bytes c.args.printer.now.route c.requires.there _
-        (runs-alone c.args.self.now c.args.plan.now c.in-Some.table c.in-Some.ensures c.args.printer.now.route.number _ c.in_ok-runs.ensures)) in
+    (runs-planned c.args.self.now query c.args.plan.now for c.args.kind c.requires.kind c.args.printer.now.name.now.bytes c.args.printer.now.route c.requires.there _
+    (runs-alone c.args.self.now c.args.plan.now c.in-Some.table c.in-Some.ensures c.args.printer.now.route.number _ c.in_ok-runs.ensures)) in
     pushed
     ∙ ap (λ lines. rows_of c.args.rows.now.items ++ lines)
     (query_lines c.args.self.now is c.args.printer.now.name.now.bytes c.args.printer.now.route c.requires.there query for.query_formed c.args.kind (c.requires.kind ∙ for.kind) (map seen_lent c.as_slice.result.now) runs c.args.printer.now.referents.now c.args.printer.now.method c.requires.referents)) c.push_lent_lines.ensures
@@ -46,7 +46,7 @@ push_lines-requires c =
     let query = c.requires.planned.query in
     let for = c.requires.planned.is in
     let runs = subst (λ (spans : List Span). AreRunsOf c.args.kind (rows_at (world_of (state_of c.args.self.now)) query c.args.printer.now.name.now.bytes) (map seen spans)) (sym c.as_slice-2.ensures.value)
-        (runs-planned c.args.self.now query c.args.plan.now for c.args.kind c.requires.kind c.args.printer.now.name.now.bytes c.args.printer.now.route c.requires.there _ c.in_ok-runs-2.ensures) in
+    (runs-planned c.args.self.now query c.args.plan.now for c.args.kind c.requires.kind c.args.printer.now.name.now.bytes c.args.printer.now.route c.requires.there _ c.in_ok-runs-2.ensures) in
     query_printable c.args.self.now is c.args.printer.now.name.now.bytes c.args.printer.now.route c.requires.there query for.query_formed c.args.kind (c.requires.kind ∙ for.kind) (map seen c.as_slice-2.result.now) runs
 
 pub returns : goal.returns
@@ -54,7 +54,7 @@ returns c =
     let is = subst IsHeld c.self.view_is c.self.invariant in
     on_ok_weaker c.push_lines.result (λ pushed query for.
     let runs = subst (λ (spans : List Span). AreRunsOf c.args.kind (rows_at (world_of (state_of c.args.self.now)) query c.args.printer.now.name.now.bytes) (map seen spans)) (sym c.as_slice-2.ensures.value)
-        (runs-planned c.args.self.now query c.args.plan.now for c.args.kind c.requires.kind c.args.printer.now.name.now.bytes c.args.printer.now.route c.requires.there _ c.in_ok-runs-2.ensures) in
+    (runs-planned c.args.self.now query c.args.plan.now for c.args.kind c.requires.kind c.args.printer.now.name.now.bytes c.args.printer.now.route c.requires.there _ c.in_ok-runs-2.ensures) in
     pushed
     ∙ ap (λ lines. rows_of c.args.rows.now.items ++ lines)
     (query_lines c.args.self.now is c.args.printer.now.name.now.bytes c.args.printer.now.route c.requires.there query for.query_formed c.args.kind (c.requires.kind ∙ for.kind) (map seen c.as_slice-2.result.now) runs c.args.printer.now.referents.now c.args.printer.now.method c.requires.referents)) c.push_lines.ensures
