@@ -2,7 +2,7 @@
 use Rattle.std.proofs.Common.{◌≡◌, ℕ, Bool, true, false, ◌&&◌, List, [], ◌∷◌, ◌++◌, map, length, Option, Some, None, refl, sym, ap, subst, ◌∙◌, arith}
 use Rattle.std.proofs.Math.Path.{fun_ext}
 use Rattle.std.specs.Prelude.{◌==◌, Contains, if◌then◌else◌}
-use Rattle.std.specs.List.{AllByRecursion, list_all}
+use Rattle.std.specs.List.{AllByRecursion}
 use Rattle.std.specs.Option.{option_map}
 use Rattle.std.specs.FinMap as names
 use Rattle.std.proofs.lemmas.Bool.{and_from}
@@ -12,7 +12,7 @@ use Rattle.rs_value.specs.declared.column.Kind.{Kind}
 use Rattle.rs_value.specs.declared.column.Kind.TheVariants.{Point, Line}
 use Rattle.rs_value.specs.Row.{Row}
 use Rattle.rs_facts.specs.Fact.{Name, Names, Places, contains}
-use Rattle.rs_facts.specs.Query.{World, Query, Table, rows_at, kind_of}
+use Rattle.rs_facts.specs.Query.{World, Query, Table, rows_at}
 use Rattle.rs_facts.specs.Runs.{Stretch, AreRunsOf}
 use Rattle.rs_facts.specs.Spans.{places_of}
 use Rattle.rs_facts.specs.Laws.{KeptSpansAreTheRuns}
@@ -38,7 +38,7 @@ use Rattle.rs_catalog.proofs.MapLaws.{none_some, some_same}
 use Rattle.rs_checker.specs.declared.checked.Checked.{Checked}
 use Rattle.rs_checker.specs.CheckedView.{query_of, named_in}
 use Rattle.rs_checker.specs.Numbers.{IsNumberedIn, AreNumberedIn}
-use Rattle.rs_event_lists.specs.Held.{HeldLists, kind_at, spans_on}
+use Rattle.rs_event_lists.specs.Held.{spans_on}
 use Rattle.rs_plan.specs.Counted.{named_index}
 use Rattle.rs_plan.specs.Planned.{IsPlanOf}
 use Rattle.rs_plan.specs.PlanView as planned
@@ -47,7 +47,7 @@ use Rattle.rs_plan.specs.declared.counts.Index.{Index}
 use Rattle.rs_plan.specs.declared.plan.Plan.{Plan}
 use Rattle.rs_plan.specs.declared.plan.PlannedTable.{PlannedTable}
 use Rattle.rs_exec.specs.Alone.{IsTableAlone}
-use Rattle.rs_exec.specs.Snapshot.{NumberedTable, Snapshot}
+use Rattle.rs_exec.specs.Snapshot.{NumberedTable}
 use Rattle.rs_exec.specs.Meaning.{rows_in, kind_in, table_of}
 use Rattle.rs_exec.specs.Agreement.{IsNumberedTable, AgreesOn, AreDistinct, PlansAreTheSame}
 use Rattle.rs_engine.specs.Held.{Held, state_of, IsHeld}

@@ -3,7 +3,6 @@ use Rattle.std.proofs.lemmas.Result.{err_from_is_err_and}
 use Rattle.rs_refusal.specs.declared.refusal.Refusal.TheVariants.{OutOfMemory}
 use Rattle.rs_syntax.specs.QueryView.{query_tree}
 use Rattle.rs_machine.specs.Checking.{checked}
-use Rattle.rs_catalog.specs.Definitions.{Definitions}
 use Rattle.rs_checker.specs.Checks.{IsChecked}
 use Rattle.rs_checker.specs.CheckedView.{named_in}
 use Rattle.rs_checker.specs.Numbers.{AreNumberedIn}

@@ -1,4 +1,4 @@
-use Rattle.std.proofs.Common.{ℕ, map, refl, ap, subst}
+use Rattle.std.proofs.Common.{ℕ, map, refl, subst}
 use Rattle.rs_facts.specs.Runs.{AreRunsOf}
 use Rattle.rs_facts.specs.Spans.{seen}
 use Rattle.rs_exec.specs.Meaning.{rows_in, kind_in}

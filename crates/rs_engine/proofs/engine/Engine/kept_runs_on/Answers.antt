@@ -1,7 +1,7 @@
-use Rattle.std.proofs.Common.{List, map, sym, ap, subst, ◌∙◌}
+use Rattle.std.proofs.Common.{List, map, ap, subst, ◌∙◌}
 use Rattle.std.proofs.lemmas.Result.{IfOk-weaker}
 use Rattle.rs_facts.specs.Runs.{Stretch, AreRunsOf}
-use Rattle.rs_facts.specs.Spans.{seen, places_of}
+use Rattle.rs_facts.specs.Spans.{places_of}
 use Rattle.rs_coalesce.specs.Lent.{seen_lent}
 use Rattle.rs_exec.specs.Meaning.{table_of}
 use Rattle.rs_engine.specs.Present.{spans_of_table}

@@ -1,11 +1,6 @@
-use Rattle.std.proofs.Common.{◌≡◌, sym, ap, subst, ◌∙◌}
+use Rattle.std.proofs.Common.{subst}
 use Rattle.std.proofs.lemmas.Result.{IfOk-weaker}
-use Rattle.rs_checker.specs.CheckedView.{query_of}
-use Rattle.rs_planning.specs.Basis.{present_basis}
-use Rattle.rs_planning.specs.Rule.{plan_of}
-use Rattle.rs_machine.specs.State.{world_of}
-use Rattle.rs_plan.specs.PlanView.{plan_tree}
-use Rattle.rs_engine.specs.Held.{Held, state_of, IsHeld}
+use Rattle.rs_engine.specs.Held.{IsHeld}
 use Rattle.rs_engine.proofs.PlannedRows.{plan-by_rule, plan-means}
 use Rattle.rs_engine.proofs.engine.Engine.planned.Goals as goal
 

@@ -1,11 +1,11 @@
-use Rattle.std.proofs.Common.{◌≡◌, true, List, [], map, sym, ap, subst, ◌∙◌}
+use Rattle.std.proofs.Common.{◌≡◌, List, [], map, sym, ap, subst, ◌∙◌}
 use Rattle.rs_facts.specs.Runs.{Stretch}
 use Rattle.rs_facts.specs.Spans.{seen, AreKept}
 use Rattle.rs_sweep.specs.Lists.{AreWide}
 use Rattle.rs_event_lists.specs.Held.{spans_on}
 use Rattle.rs_exec.specs.Given.{table_asked}
 use Rattle.rs_engine.specs.Held.{Held}
-use Rattle.rs_engine.specs.Present.{is_of_kind, are_so_wide, starts_wide, spans_of_table}
+use Rattle.rs_engine.specs.Present.{is_of_kind, starts_wide, spans_of_table}
 use Rattle.rs_engine.proofs.PlannedRows.{starts-alike}
 use Rattle.rs_engine.proofs.PresentSpans.{kind-on, none-of_kind, none-so_wide, all-there, wide-all}
 use Rattle.rs_engine.proofs.engine.Engine.spans_asked.Goals as goal
