@@ -1,5 +1,5 @@
 -- What the commands of cursors answer, and what they do to the state.
-use Rattle.std.proofs.Common.{◌≡◌, ℕ, ◌<◌, ◌≤◌, Bool, true, false, not, nat_lt, List, length, take, drop, Option, Some, None, Result, Ok, Err, is_some, refl, sym, ap, ◌∙◌}
+use Rattle.std.proofs.Common.{◌≡◌, ℕ, ◌<◌, ◌≤◌, true, false, not, nat_lt, List, length, take, drop, Option, None, Result, Ok, Err, refl, sym, ap, ◌∙◌}
 use Rattle.std.specs.FinMap as names
 use Rattle.rs_refusal.specs.declared.refusal.Refusal.{Refusal}
 use Rattle.rs_refusal.specs.declared.refusal.Refusal.TheVariants.{NoSuchCursor, CursorNameTaken, TooManyCursors}
@@ -8,10 +8,10 @@ use Rattle.rs_facts.specs.Fact.{Name}
 use Rattle.rs_facts.specs.Query.{Query}
 use Rattle.rs_syntax.specs.Tree.{QueryTree}
 use Rattle.rs_machine.specs.declared.limits.TheConstants.{CURSORS}
-use Rattle.rs_machine.specs.State.{RowText, Cursors, has, cursors_at}
+use Rattle.rs_machine.specs.State.{RowText, has, cursors_at}
 use Rattle.rs_machine.specs.Checks.{◌>>=◌, found, unless}
 use Rattle.rs_machine.specs.Checking.{checked}
-use Rattle.rs_machine.specs.Step.{Effect, effect, counted, lines_of, with_cursors, with_cursor, cursor_opened, rows_fetched, cursor_closed}
+use Rattle.rs_machine.specs.Step.{Effect, effect, counted, lines_of, with_cursor, cursor_opened, rows_fetched, cursor_closed}
 use Rattle.rs_cursor.specs.Held.{HeldCursors, cursors_of, Gives}
 use Rattle.rs_engine.specs.Held.{Held, state_of, IsHeld}
 use Rattle.rs_engine.proofs.Outcomes.{below-true, below-false, none_there, some_of}

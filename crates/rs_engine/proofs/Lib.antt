@@ -17,3 +17,5 @@ mod Printing
 mod QueryAnswers
 mod TotalRows
 mod Plans
+mod PlannedRows
+mod PresentSpans

@@ -1,25 +1,23 @@
 -- The plan of a query is chosen by the present numbers of maximal runs and by the indexes of the state.
-use Rattle.std.proofs.Common.{◌≡◌, ℕ, ◌+◌, ◌<◌, ◌≤◌, ◌^◌, Bool, true, false, ◌==◌, nat_eq, ⊎_elim, List, [], ◌∷◌, ◌++◌, map, length, sum_by, Option, Some, None, Result, Ok, Err, refl, sym, ap, subst, ◌∙◌, arith}
+use Rattle.std.proofs.Common.{◌≡◌, ℕ, ◌+◌, true, false, ◌==◌, nat_eq, List, [], ◌∷◌, ◌++◌, map, length, sum_by, Some, Result, Ok, Err, refl, sym, ap, subst, ◌∙◌, arith}
 use Rattle.std.proofs.lemmas.Bool.Decides.{Decides-eqb}
 use Rattle.std.proofs.lemmas.List.{map-append, append_assoc}
 use Rattle.std.proofs.lemmas.List.Sums.{sum_by-cons}
 use Rattle.std.specs.List.{AllByRecursion}
-use Rattle.std.specs.Option.{option_map}
 use Rattle.std.specs.FinMap as names
 use Rattle.arrayvec.specs.ArrayString.{ArrayString}
 use Rattle.rs_refusal.specs.declared.refusal.Refusal.{Refusal}
 use Rattle.rs_value.specs.declared.column.Kind.{Kind}
 use Rattle.rs_value.specs.declared.column.Kind.TheVariants.{Point, Line}
-use Rattle.rs_value.specs.Row.{Row}
-use Rattle.rs_facts.specs.Fact.{Name, Names, Places, contains}
-use Rattle.rs_facts.specs.Insert.{within, same_name}
+use Rattle.rs_facts.specs.Fact.{Name, Places}
+use Rattle.rs_facts.specs.Insert.{same_name}
 use Rattle.rs_facts.specs.Query.{RouteEnds, Query, table_columns}
 use Rattle.rs_facts.specs.Runs.{Stretch, LieWithin}
 use Rattle.rs_facts.specs.Spans.{places_of, AreAllRunsOf}
 use Rattle.rs_facts.specs.Laws.{KeptSpansAreTheRuns}
 use Rattle.rs_facts.proofs.Placing.{within-bounds}
-use Rattle.rs_planning.specs.Basis.{IndexedColumn, Basis, present_basis, runs_counted}
-use Rattle.rs_planning.specs.Explain.{explained, explained_by, lines_from}
+use Rattle.rs_planning.specs.Basis.{Basis, present_basis, runs_counted}
+use Rattle.rs_planning.specs.Explain.{explained, explained_by}
 use Rattle.rs_planning.specs.Laws.{AreItsRuns}
 use Rattle.rs_planning.specs.Numbered.{Numbered, numbered_table, numbered_route, numbered_index}
 use Rattle.rs_planning.proofs.RecordCounts.{records-are_runs}
@@ -28,16 +26,16 @@ use Rattle.rs_machine.specs.State.{RowText, world_of}
 use Rattle.rs_machine.specs.Checks.{◌>>=◌}
 use Rattle.rs_machine.specs.Checking.{checked}
 use Rattle.rs_machine.specs.Step.{Effect, effect, plan_printed}
-use Rattle.rs_catalog.specs.Definitions.{RouteItem, TableItem, IndexItem, Definitions, IsColumnOf, AreDefinitions, routes_of, indexes_of, indexed_column, on_numbered, facts_from, table_from}
+use Rattle.rs_catalog.specs.Definitions.{RouteItem, TableItem, IndexItem, IsColumnOf, indexes_of, indexed_column, on_numbered, table_from}
 use Rattle.rs_catalog.specs.Names.{entries_by_bytes}
-use Rattle.rs_catalog.specs.Events.{behind, LieOn}
+use Rattle.rs_catalog.specs.Events.{LieOn}
 use Rattle.rs_catalog.proofs.Names.{each_entry, entries-map_values}
 use Rattle.rs_catalog.proofs.MapLaws.{some_same, same_name-true}
 use Rattle.std.specs.Cmp.{eq_by_cmp_equiv}
 use Rattle.rs_catalog.proofs.NameOrder.{name_cmp-total}
 use Rattle.rs_checker.specs.Numbers.{IsNumberedIn, AreNumberedIn}
 use Rattle.rs_event_lists.specs.Held.{HeldLists, spans_on}
-use Rattle.rs_plan.specs.Counted.{Counted, AreIndexesOf, IsCounted, StandsFor}
+use Rattle.rs_plan.specs.Counted.{Counted, AreIndexesOf, IsCounted}
 use Rattle.rs_plan.specs.declared.counts.Index.{Index}
 use Rattle.rs_engine.specs.Held.{Held, state_of, IsHeld}
 use Rattle.rs_engine.specs.Planned.{records_kept, SeenIndex, index_seen, item_seen, indexes_kept}

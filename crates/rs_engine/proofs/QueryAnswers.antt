@@ -3,38 +3,28 @@ use Rattle.std.proofs.Common.{◌≡◌, ℕ, List, [], ◌∷◌, ◌++◌, map
 use Rattle.std.proofs.Math.Path.{fun_ext}
 use Rattle.std.specs.List.{AllByRecursion}
 use Rattle.std.specs.FinMap as names
-use Rattle.arrayvec.specs.ArrayString.{ArrayString}
 use Rattle.rs_refusal.specs.declared.refusal.Refusal.{Refusal}
 use Rattle.rs_refusal.specs.declared.refusal.Refusal.TheVariants.{NoSuchRoute}
 use Rattle.rs_methods.specs.declared.position.Method.{Method}
 use Rattle.rs_methods.specs.Position.{PositionExpression, expression_at, expression_text}
 use Rattle.rs_value.specs.declared.column.Kind.{Kind}
-use Rattle.rs_facts.specs.Fact.{Name, Names, Places}
-use Rattle.rs_facts.specs.Query.{RouteEnds, Query, table_rows, rows_at, kind_of, facts_of, table_kind}
+use Rattle.rs_facts.specs.Fact.{Name, Names}
+use Rattle.rs_facts.specs.Query.{RouteEnds, Query, rows_at, kind_of}
 use Rattle.rs_facts.specs.WellFormed.{IsWellFormed}
 use Rattle.rs_facts.specs.Runs.{Stretch, AreRunsOf}
-use Rattle.rs_facts.specs.Spans.{places_of, AreKept}
 use Rattle.rs_facts.specs.LineText.{line_of}
 use Rattle.rs_syntax.specs.Tree.{QueryTree}
 use Rattle.rs_machine.specs.State.{State, RowText, world_of}
 use Rattle.rs_machine.specs.Checks.{◌>>=◌, found, position_on}
 use Rattle.rs_machine.specs.Checking.{checked}
 use Rattle.rs_machine.specs.Step.{Effect, effect, position_text, position_translated, selected, lines_on, lines_of}
-use Rattle.rs_catalog.specs.Definitions.{Numbered, RouteItem, TableItem, Definitions, routes_of}
+use Rattle.rs_catalog.specs.Definitions.{Numbered, RouteItem, Definitions, routes_of}
 use Rattle.rs_catalog.specs.Referents.{HeldReferents, referents_on}
 use Rattle.rs_catalog.proofs.Names.{entries-map_values}
-use Rattle.rs_catalog.proofs.MapLaws.{none_some}
-use Rattle.rs_event_lists.specs.Held.{spans_on}
-use Rattle.rs_checker.specs.CheckedView.{query_step, query_of}
-use Rattle.rs_checker.specs.declared.checked.CheckedTable.{CheckedTable}
-use Rattle.rs_checker.specs.declared.checked.CheckedQuery.{fold-roll-CheckedQuery}
-use Rattle.rs_checker.specs.declared.checked.CheckedQuery.TheOpen.{CheckedQuery-F}
-use Rattle.rs_checker.specs.declared.checked.CheckedQuery.TheVariants as queries
 use Rattle.rs_engine.specs.Held.{Held, state_of, IsHeld}
 use Rattle.rs_engine.specs.Printed.{printed_position, IsWithinEnds}
 use Rattle.rs_engine.specs.Located.{position_by}
-use Rattle.rs_engine.proofs.StateLaws.{facts_at}
-use Rattle.rs_engine.proofs.Outcomes.{no_route, route_at, no_table, table_at}
+use Rattle.rs_engine.proofs.Outcomes.{no_route, route_at}
 use Rattle.rs_engine.proofs.ReferentSteps.{referents_there}
 use Rattle.rs_engine.proofs.QueryRows.{query_lies}
 use Rattle.rs_engine.proofs.Printing.{runs_printable, same_runs}
@@ -90,25 +80,6 @@ module _ (held : Held) (is : IsHeld held) (route : Name) (on : RouteItem) (there
       (λ i. map (line_of (printed_there referents method same i) (of_kind i) route) runs)
       ∙ ap (map (line_of (position_text (state_of held) route on.ends method) (kind_of (world_of (state_of held)) query) route))
       (same_runs (kind_of (world_of (state_of held)) query) on.ends (rows_at (world_of (state_of held)) query route) runs (query_lies held is route on there query formed) are_so)
-
--- ---- a table alone
-
--- the table that is asked for is there
-pub table_absent : (held : Held) (name : Name) → names.get held.definitions.tables name ≡ None → IsWellFormed (world_of (state_of held)) (table_rows name) → ⊥
-table_absent held name none formed = none_some formed.0 (sym (no_table held name none) ∙ formed.1)
-
-pub table_is : (table : CheckedTable) → query_of (queries.Table table) ≡ table_rows table.name.bytes
-table_is table = ap query_of (sym (queries.rolls-Table table)) ∙ fold-roll-CheckedQuery Query query_step (CheckedQuery-F.Table table)
-
-pub table_runs : (held : Held) (is : IsHeld held) (route : Name) (on : RouteItem) → names.get held.definitions.routes route ≡ Some on → (name : Name) (table : TableItem) → names.get held.definitions.tables name ≡ Some table
-    → (kind : Kind) (spans runs : List Stretch) → kind ≡ kind_of (world_of (state_of held)) (table_rows name) → spans ≡ spans_on held.events table.number on.number
-    → ((kind : Kind) → AreKept kind spans → AreRunsOf kind (places_of spans) runs) → AreRunsOf kind (rows_at (world_of (state_of held)) (table_rows name) route) runs
-table_runs held is route on there name table table_there kind spans runs of_kind are lent =
-    let found = table_at held name table table_there in
-    let same_kind = of_kind ∙ ap table_kind found in
-    let kept = subst (λ kind. AreKept kind spans) (sym same_kind) (subst (AreKept table.kind) (sym are) (is.events.spans name table table_there on.number).kept) in
-    let facts = ap places_of are ∙ sym (facts_at held.definitions.routes (spans_on held.events table.number) route on there) ∙ sym (ap (λ o. facts_of o route) found) in
-    subst (λ (places : Places). AreRunsOf kind places runs) facts (lent kind kept)
 
 -- ---- the lines of a query on all routes
 

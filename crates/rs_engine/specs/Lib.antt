@@ -10,3 +10,5 @@ pub mod View
 pub mod Replied
 pub mod Totalled
 pub mod Planned
+pub mod Present
+pub mod Plans

@@ -19,6 +19,7 @@ mod plans;
 mod queries;
 mod referent_commands;
 mod runs;
+mod source;
 mod totals;
 mod view_commands;
 

@@ -48,6 +48,13 @@ impl TableEvents {
         }
     }
 
+    /// Whether the table's rows are points or lines.
+    pub fn kind(&self) -> Kind
+        ensures { result ≡ self.now.kind }
+    {
+        self.kind
+    }
+
     /// The spans on a route.
     pub fn spans(&self, route: u32) -> &[Span]
         ensures { map seen result.now ≡ spans_along self.now route }

@@ -74,6 +74,16 @@ impl EventLists {
         self.tables.remove(&table);
     }
 
+    /// Whether a table's rows are points or lines; none where the table is not there.
+    pub fn kind(&self, table: u32) -> Option<Kind>
+        ensures { result ≡ kind_at self.now table }
+    {
+        match self.tables.get(&table) {
+            Some(events) => Some(events.kind()),
+            None => None,
+        }
+    }
+
     /// The spans of a table on a route, by row and then by place; none where the table is not there.
     pub fn spans(&self, table: u32, route: u32) -> &[Span]
         ensures { map seen result.now ≡ spans_on self.now table route }

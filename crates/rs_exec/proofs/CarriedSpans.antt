@@ -11,7 +11,7 @@ use Rattle.rs_value.specs.declared.column.Kind.TheVariants.{Point, Line}
 use Rattle.rs_facts.specs.declared.fact.Span.{Span}
 use Rattle.rs_facts.specs.Fact.{RowSet, none, contains, Places}
 use Rattle.rs_facts.specs.Insert.{within}
-use Rattle.rs_facts.specs.Operators.{merged, carried}
+use Rattle.rs_facts.specs.Operators.{merged, carried, windowed}
 use Rattle.rs_facts.specs.Runs.{Stretch, stretch_cmp, AreOrdered, IsMaximalRun}
 use Rattle.rs_facts.specs.Spans.{seen, places_of}
 use Rattle.rs_facts.proofs.KeptLaws.{every-append}
@@ -19,7 +19,7 @@ use Rattle.rs_facts.proofs.Placing.{within-bounds}
 use Rattle.rs_facts.proofs.Sets.{contains-none, same_rows}
 use Rattle.rs_facts.proofs.SpanLaws.{holds, Covers-from_contains, contains-places_of, contains-append}
 use Rattle.rs_facts.proofs.Carrying.{contains-carried}
-use Rattle.rs_facts.proofs.RowSets.{contains-merged}
+use Rattle.rs_facts.proofs.RowSets.{contains-merged, contains-windowed}
 use Rattle.rs_facts.proofs.RunLaws.{each-at}
 use Rattle.rs_facts.proofs.StretchOrder.{stretch_cmp-less}
 use Rattle.rs_sweep.specs.Lists.{AreSorted, AreWide}
@@ -62,6 +62,23 @@ carried-met from to onto xs k = same_rows _ _ (λ row.
           contains-places_of (filter (meets from to) xs) there row
           ∙ any_met from to row there xs (omega arith) (omega (arith, a, b))
           ∙ sym (contains-places_of xs there row)
+      | false ↦ λ e. refl
+    ] refl
+
+-- nor is it seen inside the part
+pub windowed-met : (from to : ℕ) (xs : List Stretch) (k : ℕ) → windowed from to k (places_of (filter (meets from to) xs) k) ≡ windowed from to k (places_of xs k)
+windowed-met from to xs k = same_rows _ _ (λ row.
+    contains-windowed from to k (places_of (filter (meets from to) xs) k) row
+    ∙ inside row
+    ∙ sym (contains-windowed from to k (places_of xs k) row))
+  where
+    inside : (row : Row) → (within from to k && contains (places_of (filter (meets from to) xs) k) row) ≡ (within from to k && contains (places_of xs k) row)
+    inside row = elim (within from to k) as (λ t. within from to k ≡ t → (t && contains (places_of (filter (meets from to) xs) k) row) ≡ (t && contains (places_of xs k) row)) [
+      | true ↦ λ e.
+          let bounds = within-bounds from to k e in
+          contains-places_of (filter (meets from to) xs) k row
+          ∙ any_met from to row k xs bounds.0 bounds.1
+          ∙ sym (contains-places_of xs k row)
       | false ↦ λ e. refl
     ] refl
 

@@ -1,43 +1,42 @@
--- Lists of rows that are made one by one beside another list, and what is so of each element of a list.
-use Rattle.std.proofs.Common.{◌≡◌, ◌<◌, ◌≤◌, ℕ, suc, zero, ◌+◌, Bool, true, false, ◌||◌, Bor, List, [], ◌∷◌, ◌++◌, length, drop, get_or, refl, sym, ap, ◌∙◌, subst, append_assoc, append-nil, arith}
+-- Lists that are made one by one beside another list, and what is so of each element of a list.
+use Rattle.std.proofs.Common.{◌≡◌, ◌<◌, ◌≤◌, ℕ, ◌+◌, Bool, true, false, ◌||◌, List, [], ◌∷◌, ◌++◌, length, drop, get_or, refl, sym, ap, ◌∙◌, subst, append_assoc, append-nil, arith}
 use Rattle.std.proofs.lemmas.List.{drop_more, drop_all}
 use Rattle.std.specs.List.{AllZip, AllByRecursion, list_any}
-use Rattle.arrayvec.specs.ArrayString.{ArrayString}
-use Rattle.rs_facts.specs.Fact.{Name}
-use Rattle.rs_facts.specs.Insert.{same_name}
-use Rattle.rs_exec.specs.declared.rows.Rows.{Rows}
-use Rattle.rs_exec.specs.Routes.{names_in}
 
--- ---- rows made one by one
+-- ---- elements made one by one
 
-module _ {A : Type 0} (R : A → Rows → Type 0) where
+module _ {A B : Type 0} (R : A → B → Type 0) where
   -- what is made, with what fits the rest, fits all
-  pub record Zips (all rest : List A) (made : List Rows) : Type 0 where
-    pub joins : (more : List Rows) → AllZip R rest more → AllZip R all (made ++ more)
+  pub record Zips (all rest : List A) (made : List B) : Type 0 where
+    pub joins : (more : List B) → AllZip R rest more → AllZip R all (made ++ more)
 
-  pub zips-none : (all : List A) (made : List Rows) → made ≡ [] → Zips all all made
+  pub zips-none : (all : List A) (made : List B) → made ≡ [] → Zips all all made
   zips-none all made none = record { joins = λ more each. subst (λ zs. AllZip R all (zs ++ more)) (sym none) each }
 
-  pub zips-next : (all rest later : List A) (made new : List Rows) (x : A) (m : Rows) → Zips all rest made → rest ≡ x ∷ later → new ≡ made ++ m ∷ [] → R x m → Zips all later new
+  pub zips-next : (all rest later : List A) (made new : List B) (x : A) (m : B) → Zips all rest made → rest ≡ x ∷ later → new ≡ made ++ m ∷ [] → R x m → Zips all later new
   zips-next all rest later made new x m so_far first pushed here = record {
     joins = λ more each.
         subst (AllZip R all) (sym (ap (λ zs. zs ++ more) pushed ∙ append_assoc made (m ∷ []) more))
         (so_far.joins (m ∷ more) (subst (λ xs. AllZip R xs (m ∷ more)) (sym first) (here, each)));
   }
 
-  pub zips-all : (all rest : List A) (made : List Rows) → Zips all rest made → rest ≡ [] → AllZip R all made
+  pub zips-all : (all rest : List A) (made : List B) → Zips all rest made → rest ≡ [] → AllZip R all made
   zips-all all rest made so_far none = subst (AllZip R all) (append-nil made) (so_far.joins [] (subst (λ xs. AllZip R xs []) (sym none) tt))
 
 pub empty : {A : Type 0} (xs : List A) → length xs ≡ 0 → xs ≡ []
 empty [] e = refl
 empty (x ∷ xs) e = absurd (omega (arith, e))
 
--- the names from a place on
-pub names-more : (xs : List (Bor ArrayString)) (i : ℕ) (x : Bor ArrayString) → i < length xs → x ≡ get_or xs i x → names_in (drop i xs) ≡ x.now.bytes ∷ names_in (drop (i + 1) xs)
-names-more xs i x below is = ap names_in (drop_more xs i x below ∙ ap (λ n. n ∷ drop (i + 1) xs) (sym is))
+-- the elements from a place on
+pub more : {A : Type 0} (xs : List A) (i : ℕ) (x : A) → i < length xs → x ≡ get_or xs i x → drop i xs ≡ x ∷ drop (i + 1) xs
+more xs i x below is = drop_more xs i x below ∙ ap (λ n. n ∷ drop (i + 1) xs) (sym is)
 
-pub names-end : (xs : List (Bor ArrayString)) (i : ℕ) → length xs ≤ i → names_in (drop i xs) ≡ []
-names-end xs i done = ap names_in (drop_all i xs done)
+-- the same of numbers, which are read
+pub more-numbers : (xs : List ℕ) (i : ℕ) → i < length xs → drop i xs ≡ get_or xs i 0 ∷ drop (i + 1) xs
+more-numbers xs i below = drop_more xs i 0 below
+
+pub end : {A : Type 0} (xs : List A) (i : ℕ) → length xs ≤ i → drop i xs ≡ []
+end xs i done = drop_all i xs done
 
 -- ---- each element
 
@@ -61,18 +60,18 @@ zip-where L P Q [] (y ∷ ys) weaker each all = absurd all
 zip-where L P Q (x ∷ xs) [] weaker each all = absurd all
 zip-where L P Q (x ∷ xs) (y ∷ ys) weaker each all = (weaker x y each.0 all.0, zip-where L P Q xs ys weaker each.1 all.1)
 
-pub zip-length : (R : Name → Rows → Type 0) (names : List (Bor ArrayString)) (rows : List Rows) → AllZip R (names_in names) rows → length rows ≡ length names
+pub zip-length : {A B : Type 0} (R : A → B → Type 0) (xs : List A) (ys : List B) → AllZip R xs ys → length xs ≡ length ys
 zip-length R [] [] all = refl
-zip-length R [] (r ∷ rows) all = absurd all
-zip-length R (n ∷ names) [] all = absurd all
-zip-length R (n ∷ names) (r ∷ rows) all = let e = zip-length R names rows all.1 in omega (arith, e)
+zip-length R [] (y ∷ ys) all = absurd all
+zip-length R (x ∷ xs) [] all = absurd all
+zip-length R (x ∷ xs) (y ∷ ys) all = let e = zip-length R xs ys all.1 in omega (arith, e)
 
--- what is so of a name and of the rows at its place
-pub zip-at : (R : Name → Rows → Type 0) (names : List (Bor ArrayString)) (rows : List Rows) (i : ℕ) (name : Bor ArrayString) (each : Rows) → AllZip R (names_in names) rows → i < length names → name ≡ get_or names i name → each ≡ get_or rows i each → R name.now.bytes each
-zip-at R [] rows i name each all below is same = absurd (omega (arith, below))
-zip-at R (n ∷ names) [] i name each all below is same = absurd all
-zip-at R (n ∷ names) (r ∷ rows) zero name each all below is same = subst (λ x. R x.now.bytes each) (sym is) (subst (R n.now.bytes) (sym same) all.0)
-zip-at R (n ∷ names) (r ∷ rows) (suc i) name each all below is same = zip-at R names rows i name each all.1 (omega (arith, below)) is same
+-- what is so of each second, whatever its first
+pub zip-seconds : {A B : Type 0} (R : A → B → Type 0) (P : B → Type 0) (xs : List A) (ys : List B) → ((x : A) (y : B) → R x y → P y) → AllZip R xs ys → AllByRecursion P ys
+zip-seconds R P [] [] weaker all = tt
+zip-seconds R P [] (y ∷ ys) weaker all = absurd all
+zip-seconds R P (x ∷ xs) [] weaker all = tt
+zip-seconds R P (x ∷ xs) (y ∷ ys) weaker all = (weaker x y all.0, zip-seconds R P xs ys weaker all.1)
 
 -- ---- tests
 
@@ -95,10 +94,9 @@ pub none_second : (a b : Bool) → (a || b) ≡ false → b ≡ false
 none_second true b e = absurd (let wrong : true ≡ false = e in cc)
 none_second false b e = e
 
-pub any-none : {A : Type 0} (test : A → Bool) (xs : List A) → list_any test xs ≡ false → AllByRecursion (λ x. test x ≡ false) xs
-any-none test [] e = tt
-any-none test (x ∷ xs) e = (none_first (test x) (list_any test xs) e, any-none test xs (none_second (test x) (list_any test xs) e))
+-- from a place on: the element there passes, or it does not
+pub any-found : {A : Type 0} (test : A → Bool) (xs : List A) (i : ℕ) (x : A) → i < length xs → x ≡ get_or xs i x → test x ≡ true → list_any test (drop i xs) ≡ true
+any-found test xs i x below is passes = ap (list_any test) (more xs i x below is) ∙ or_first (test x) (list_any test (drop (i + 1) xs)) passes
 
--- whether a name is among those
-abbrev pub is_named : Name → List (Bor ArrayString) → Bool
-is_named name names = list_any (same_name name) (names_in names)
+pub any-other : {A : Type 0} (test : A → Bool) (xs : List A) (i : ℕ) (x : A) → i < length xs → x ≡ get_or xs i x → test x ≡ false → list_any test (drop i xs) ≡ list_any test (drop (i + 1) xs)
+any-other test xs i x below is fails = ap (list_any test) (more xs i x below is) ∙ ap (λ t. t || list_any test (drop (i + 1) xs)) fails

@@ -1,23 +1,34 @@
--- Operators that change each row or leave it out, and what they make of an operand's rows on a route.
-use Rattle.std.specs.Prelude.{◌≤◌, length}
+-- Operators that change each row or leave it out, and what they make of spans.
+use Rattle.std.specs.Prelude.{◌≡◌, ◌≤◌, ℕ, length, map, Vec}
+use Rattle.std.specs.declared.alloc.Global.{Global}
+use Rattle.rs_value.specs.declared.column.Kind.{Kind}
 use Rattle.rs_value.specs.declared.column.TheConstants.{COLUMNS}
-use Rattle.rs_facts.specs.Fact.{Name}
+use Rattle.rs_facts.specs.declared.fact.Span.{Span}
 use Rattle.rs_facts.specs.ConditionView.{condition_of}
-use Rattle.rs_facts.specs.Query.{World, Query, where_rows, dissolve_rows}
+use Rattle.rs_facts.specs.Fact.{RowSet}
+use Rattle.rs_facts.specs.Operators.{dissolved}
+use Rattle.rs_facts.specs.Spans.{seen, places_of, ArePlaced}
+use Rattle.rs_planning.specs.Plan.{met_by_each}
+use Rattle.rs_sweep.specs.Lists.{AreSorted, AreWide}
 use Rattle.rs_exec.specs.declared.changes.Change.{Change}
 use Rattle.rs_exec.specs.declared.changes.Change.TheVariants as changes
-use Rattle.rs_exec.specs.declared.rows.Rows.{Rows}
-use Rattle.rs_exec.specs.Rows.{HoldsRows}
 
-abbrev pub changed_query : Change → Query → Query
-changed_query (changes.Where condition) query = where_rows query (condition_of condition.now)
-changed_query (changes.Dissolve columns) query = dissolve_rows query columns.now
+abbrev pub changed_rows : Change → RowSet → RowSet
+changed_rows (changes.Where conditions) rows = met_by_each (map condition_of conditions.now) rows
+changed_rows (changes.Dissolve columns) rows = dissolved columns.now rows
+
+abbrev pub changed_width : Change → ℕ → ℕ
+changed_width (changes.Where conditions) width = width
+changed_width (changes.Dissolve columns) width = length columns.now
 
 -- no more columns than a row has room for
 abbrev pub IsNarrow : Change → Type 0
-IsNarrow (changes.Where condition) = Unit {0}
+IsNarrow (changes.Where conditions) = Unit {0}
 IsNarrow (changes.Dissolve columns) = length columns.now ≤ COLUMNS
 
--- of an operand's rows on any route the operator made its own rows there
-pub record IsChanged (change : Change) (old new : Rows) : Type 0 where
-  pub holds : (world : World) (query : Query) (route : Name) → HoldsRows world query route old → HoldsRows world (changed_query change query) route new
+-- what the operator makes of the one list of spans is the other
+pub record IsChanged (change : Change) (old new : Vec Span Global) : Type 0 where
+  pub means : (k : ℕ) → places_of (map seen new.items) k ≡ changed_rows change (places_of (map seen old.items) k)
+  pub sorted : AreSorted (map seen new.items)
+  pub placed : (kind : Kind) → ArePlaced kind (map seen old.items) → ArePlaced kind (map seen new.items)
+  pub wide : (width : ℕ) → AreWide width (map seen old.items) → AreWide (changed_width change width) (map seen new.items)

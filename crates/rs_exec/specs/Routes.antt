@@ -1,32 +1,35 @@
--- Routes that a query is evaluated on, and its rows on each of them.
-use Rattle.std.specs.Prelude.{List, ◌∷◌, map}
-use Rattle.std.specs.Borrow.{Bor}
-use Rattle.std.specs.List.{AllZip}
-use Rattle.arrayvec.specs.ArrayString.{ArrayString}
-use Rattle.rs_facts.specs.Fact.{Name}
-use Rattle.rs_facts.specs.Query.{World}
-use Rattle.rs_event_lists.specs.Held.{spans_on}
-use Rattle.rs_catalog.specs.Definitions.{world_from}
-use Rattle.rs_exec.specs.declared.evaluation.Base.{Base}
+-- Routes that a plan is evaluated on, and lists of rows on each of them.
+use Rattle.std.specs.Prelude.{◌≡◌, ℕ, List, [], ◌∷◌, map, Vec}
+use Rattle.std.specs.List.{AllZip, AllByRecursion}
+use Rattle.std.specs.declared.alloc.Global.{Global}
+use Rattle.rs_facts.specs.declared.fact.Span.{Span}
+use Rattle.rs_value.specs.declared.column.Kind.{Kind}
+use Rattle.rs_facts.specs.Spans.{seen, ArePlaced}
+use Rattle.rs_sweep.specs.Lists.{AreSorted, AreWide}
 use Rattle.rs_exec.specs.declared.routes.Routes.{Routes}
 use Rattle.rs_exec.specs.declared.routes.RowsOn.{RowsOn}
-use Rattle.rs_exec.specs.declared.rows.Rows.{Rows}
-use Rattle.rs_exec.specs.Rows.{HasNone}
 
--- what queries are asked of
-abbrev pub base_world : Base → World
-base_world base = world_from base.catalog.now (spans_on base.events.now)
+abbrev pub numbers_of : Routes → List ℕ
+numbers_of routes = routes.first ∷ routes.others.now
 
--- the bytes of names that are lent
-abbrev pub names_in : List (Bor ArrayString) → List Name
-names_in names = map (λ name. name.now.bytes) names
-
-abbrev pub names_of : Routes → List Name
-names_of routes = routes.first.now.bytes ∷ names_in routes.others.now
-
-abbrev pub list_of : RowsOn → List Rows
+abbrev pub list_of : RowsOn → List (Vec Span Global)
 list_of rows = rows.first ∷ rows.others.items
 
+abbrev pub IsInOrder : Vec Span Global → Type 0
+IsInOrder rows = AreSorted (map seen rows.items)
+
+abbrev pub HasNone : Vec Span Global → Type 0
+HasNone rows = rows.items ≡ []
+
 -- no rows on each of several routes
-abbrev pub AreNone : List Name → List Rows → Type 0
-AreNone names rows = AllZip (λ name each. HasNone each) names rows
+abbrev pub AreNone : List ℕ → List (Vec Span Global) → Type 0
+AreNone numbers rows = AllZip (λ number each. HasNone each) numbers rows
+
+abbrev pub AllAreNone : List (Vec Span Global) → Type 0
+AllAreNone rows = AllByRecursion HasNone rows
+
+-- by where they begin, of this kind, and so wide
+pub record IsShaped (kind : Kind) (width : ℕ) (rows : Vec Span Global) : Type 0 where
+  pub sorted : AreSorted (map seen rows.items)
+  pub placed : ArePlaced kind (map seen rows.items)
+  pub wide : AreWide width (map seen rows.items)

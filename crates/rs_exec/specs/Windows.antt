@@ -1,20 +1,29 @@
--- What is seen through a window on its route, and on other routes.
-use Rattle.std.specs.Prelude.{◌≡◌, true, false, List, []}
-use Rattle.rs_facts.specs.Fact.{Name}
-use Rattle.rs_facts.specs.Insert.{same_name}
-use Rattle.rs_facts.specs.Query.{World, Query, Window, window_rows}
+-- What windows leave of a route, and spans put on their route.
+use Rattle.std.specs.Prelude.{◌≡◌, ◌≢◌, ℕ, List, [], map, Vec}
+use Rattle.std.specs.declared.alloc.Global.{Global}
+use Rattle.rs_facts.specs.declared.fact.Span.{Span}
+use Rattle.rs_facts.specs.Fact.{RowSet, none}
 use Rattle.rs_facts.specs.Runs.{Stretch}
-use Rattle.rs_sweep.specs.Lists.{AreSorted}
-use Rattle.rs_exec.specs.declared.rows.Rows.{Rows}
-use Rattle.rs_exec.specs.Evaluated.{AreRowsOf, route_of}
-use Rattle.rs_exec.specs.Rows.{spans_of, IsInOrder, HoldsRows}
+use Rattle.rs_facts.specs.Spans.{seen}
+use Rattle.rs_plan.specs.declared.plan.PlannedWindow.{PlannedWindow}
+use Rattle.rs_exec.specs.Given.{inside}
+use Rattle.rs_exec.specs.Meaning.{seen_through_each}
+use Rattle.rs_exec.specs.declared.source.Part.{Part}
 
--- of a query's rows on the window's route the spans are what is seen through the window
-pub record IsSeenThrough (window : Window) (old : Rows) (spans : List Stretch) : Type 0 where
-  pub holds : (world : World) (query : Query) → HoldsRows world query (route_of window) old → AreRowsOf world (window_rows query window) (route_of window) spans
+-- what is seen through all windows on the route is what is inside the part
+pub record IsInsideEach (windows : List PlannedWindow) (route : ℕ) (part : Part) : Type 0 where
+  pub same : (k : ℕ) (rows : RowSet) → seen_through_each windows route k rows ≡ inside part k rows
+
+-- nothing is seen through all windows on the route
+pub record AreOff (windows : List PlannedWindow) (route : ℕ) : Type 0 where
+  pub nothing : (k : ℕ) (rows : RowSet) → seen_through_each windows route k rows ≡ none
+
+-- of the route the part is inside all windows, and nothing of any other
+pub record IsSeenOn (windows : List PlannedWindow) (route : ℕ) (part : Part) : Type 0 where
+  pub here : IsInsideEach windows route part
+  pub elsewhere : (number : ℕ) → number ≢ route → AreOff windows number
 
 -- the spans on the one route, none on another
-pub record IsSpread (route : Name) (spans : List Stretch) (name : Name) (rows : Rows) : Type 0 where
-  pub here : same_name route name ≡ true → spans_of rows ≡ spans
-  pub elsewhere : same_name route name ≡ false → spans_of rows ≡ []
-  pub ordered : AreSorted spans → IsInOrder rows
+pub record IsSpread (route : ℕ) (spans : List Stretch) (number : ℕ) (rows : Vec Span Global) : Type 0 where
+  pub here : number ≡ route → map seen rows.items ≡ spans
+  pub elsewhere : number ≢ route → rows.items ≡ []

@@ -1,73 +1,86 @@
 //! WHERE and DISSOLVE: operators that change each row of their operand, or leave it out.
 
-ghost use Rattle.std.specs.Prelude.{IfOk};
+ghost use Rattle.std.specs.Prelude.{◌≡◌, ℕ, IfOk, map};
 ghost use Rattle.std.specs.List.{AllZip, AllByRecursion};
-ghost use Rattle.rs_exec.specs.Rows.{IsInOrder};
-ghost use Rattle.rs_exec.specs.Routes.{list_of};
+ghost use Rattle.rs_value.specs.declared.column.Kind.{Kind};
+ghost use Rattle.rs_facts.specs.ConditionView.{condition_of};
+ghost use Rattle.rs_facts.specs.Spans.{seen, places_of, ArePlaced};
+ghost use Rattle.rs_planning.specs.Plan.{met_by_each};
+ghost use Rattle.rs_sweep.specs.Lists.{AreSorted, AreWide};
+ghost use Rattle.rs_exec.specs.Routes.{list_of, IsInOrder};
 ghost use Rattle.rs_exec.specs.Changes.{IsNarrow, IsChanged};
 
 use crate::routes::RowsOn;
-use crate::rows::{Rows, own_rows};
-use rs_facts::Condition;
+use rs_facts::{Condition, Span};
 use rs_sweep::{dissolve, select};
 use std::alloc::{AllocError, Global};
 
 /// An operator that changes each row of its operand, or leaves it out.
 #[derive(Clone, Copy)]
 pub(crate) enum Change<'a> {
-    /// The rows that meet a condition.
-    Where(&'a Condition),
+    /// The rows that meet all conditions.
+    Where(&'a [Condition]),
     /// Of each row the columns at these places, the leftmost 0.
     Dissolve(&'a [u8]),
 }
 
 /// The rows on each route, changed. The only refusal is for want of memory.
-pub(crate) fn changed_on<'a>(
+pub(crate) fn changed_on(
     alloc: Global,
     change: Change<'_>,
-    rows: RowsOn<'_>,
-) -> Result<RowsOn<'a>, AllocError>
+    rows: RowsOn,
+) -> Result<RowsOn, AllocError>
     requires narrow { IsNarrow change }
     requires ordered { AllByRecursion IsInOrder (list_of rows) }
-    ensures { IfOk result (λ changed. AllZip (IsChanged change.entry) (list_of rows.entry) (list_of changed)) }
+    ensures { IfOk result (λ made. AllZip (IsChanged change.entry) (list_of rows) (list_of made)) }
 {
-    let first = changed(alloc, change, rows.first)?;
+    let first = changed(change, rows.first);
     let others = changed_each(alloc, change, rows.others)?;
     Ok(RowsOn { first, others })
 }
 
 /// Each list of rows, changed.
-fn changed_each<'a>(
+fn changed_each(
     alloc: Global,
     change: Change<'_>,
-    lists: Vec<Rows<'_>>,
-) -> Result<Vec<Rows<'a>>, AllocError>
+    lists: Vec<Vec<Span>>,
+) -> Result<Vec<Vec<Span>>, AllocError>
     requires narrow { IsNarrow change }
     requires ordered { AllByRecursion IsInOrder lists.items }
-    ensures { IfOk result (λ made. AllZip (IsChanged change.entry) lists.entry.items made.items) }
+    ensures { IfOk result (λ made. AllZip (IsChanged change.entry) lists.items made.items) }
 {
     let mut made = Vec::new(alloc);
     for rows in lists {
-        made.push(changed(alloc, change, rows)?)?;
+        made.push(changed(change, rows))?;
     }
     Ok(made)
 }
 
-/// The rows on one route, changed. Rows that an operator made are changed in place, those that are kept are copied.
-fn changed<'a>(alloc: Global, change: Change<'_>, rows: Rows<'_>) -> Result<Rows<'a>, AllocError>
+/// The rows on one route, changed in place.
+fn changed(change: Change<'_>, mut rows: Vec<Span>) -> Vec<Span>
     requires narrow { IsNarrow change }
     requires ordered { IsInOrder rows }
-    ensures { IfOk result (IsChanged change.entry rows.entry) }
+    ensures { IsChanged change.entry rows result }
 {
-    let mut spans = own_rows(alloc, rows)?;
     match change {
-        Change::Where(condition) => {
-            select(&mut spans, condition);
-            Ok(Rows::Made(spans))
-        }
-        Change::Dissolve(columns) => {
-            dissolve(&mut spans, columns);
-            Ok(Rows::Made(spans))
-        }
+        Change::Where(conditions) => select_each(&mut rows, conditions),
+        Change::Dissolve(columns) => dissolve(&mut rows, columns),
+    }
+    rows
+}
+
+/// Keeps the rows that meet each condition. It takes no memory.
+pub(crate) fn select_each(spans: &mut Vec<Span>, conditions: &[Condition])
+    requires sorted { AreSorted (map seen spans.old.items) }
+    ensures means { (k : ℕ) → places_of (map seen spans.new.items) k
+        ≡ met_by_each (map condition_of conditions.now) (places_of (map seen spans.old.items) k) }
+    ensures sorted { AreSorted (map seen spans.new.items) }
+    ensures placed { (kind : Kind) → ArePlaced kind (map seen spans.old.items)
+        → ArePlaced kind (map seen spans.new.items) }
+    ensures width { (width : ℕ) → AreWide width (map seen spans.old.items)
+        → AreWide width (map seen spans.new.items) }
+{
+    for condition in conditions {
+        select(spans, condition);
     }
 }

@@ -1,182 +1,249 @@
-//! Evaluation of a checked query, operands before the operator: each node once, on a list of routes.
+//! Evaluation of a plan, operands before the operator: each node once, on a list of routes.
 //!
-//! A query is evaluated on one route. Only the operand of a TRANSFORM is evaluated on others: on each route from which a
-//! piece leads onto a route that is asked for, and there are no more of these than pieces. So the cost of a query grows
+//! A plan is evaluated on one route. Only the operand of a TRANSFORM is evaluated on others: on each route from which a
+//! piece leads onto a route that is asked for, and there are no more of these than pieces. So the cost of a plan grows
 //! with its nodes and with pieces, however deep TRANSFORMs are nested.
 
-ghost use Rattle.std.specs.Prelude.{◌≡◌, ℕ, List, Some, map, IfOk};
-ghost use Rattle.std.specs.FinMap as names;
-ghost use Rattle.rs_facts.specs.Query.{window_rows, transform_rows};
-ghost use Rattle.rs_facts.specs.WellFormed.{ArePiecesOn, IsWellFormed};
-ghost use Rattle.rs_facts.specs.Spans.{seen};
-ghost use Rattle.rs_event_lists.specs.Held.{spans_on};
-ghost use Rattle.rs_catalog.specs.Definitions.{routes_of, world_from};
-ghost use Rattle.rs_catalog.specs.Events.{AreEventsOf};
-ghost use Rattle.rs_checker.specs.CheckedView.{window_of, located_pieces, query_of};
-ghost use Rattle.rs_exec.specs.Evaluated.{AreRowsOf};
-ghost use Rattle.rs_exec.specs.Operand.{asked_of};
-ghost use Rattle.rs_exec.specs.Rows.{AreHeld};
-ghost use Rattle.rs_exec.specs.Routes.{base_world, names_of, list_of};
+ghost use Rattle.std.specs.Prelude.{◌≡◌, true, map, IfOk, IfErr};
+ghost use Rattle.rs_facts.specs.Runs.{AreRunsOf};
+ghost use Rattle.rs_facts.specs.Spans.{seen, ArePlaced};
+ghost use Rattle.rs_sweep.specs.Lists.{AreWide};
+ghost use Rattle.rs_exec.specs.Snapshot.{Snapshots};
+ghost use Rattle.rs_exec.specs.Meaning.{rows_in, kind_in, width_in, is_well_formed, overlay_meaning, transform_meaning, window_meaning};
+ghost use Rattle.rs_exec.specs.Leaving.{LeavesBehind};
+ghost use Rattle.rs_exec.specs.Operand.{operand_meaning, operands_meaning, changed_meaning, paired_meaning};
+ghost use Rattle.rs_exec.specs.Held.{AreHeld, AreLaidOver, CanOverlay};
+ghost use Rattle.rs_exec.specs.Routes.{numbers_of, list_of};
 
 use crate::carrying::{Sources, carried_on, sources_of};
-use crate::changes::changed_on;
-use crate::operand::{Node, Operand};
-use crate::pairs::paired_on;
-use crate::routes::{Routes, RowsOn, is_among, none_on};
-use crate::rows::own_rows;
-use crate::tables::kept_on;
-use crate::windows::{is_on, route_of, seen_through, spread_on};
-use rs_catalog::{Catalog, RouteEntry};
-use rs_checker::{CheckedQuery, LocatedPiece, LocatedWindow};
-use rs_event_lists::EventLists;
+use crate::changes::{Change, changed_on};
+use crate::kinds::kind_of;
+use crate::leaves::leaf_on;
+use crate::operand::{Node, Operand, Operands};
+use crate::pairs::{Pairing, paired_on};
+use crate::routes::{Routes, RowsOn, are_none, none_on};
+use crate::source::Source;
+use crate::windows::{cut, part_seen, spread_on};
+use rs_coalesce::runs;
 use rs_facts::Span;
-use rs_methods::Name;
-use std::alloc::{AllocError, Global};
+use rs_plan::{Plan, PlannedPiece, PlannedWindow};
+use rs_refusal::Refusal;
+use std::alloc::Global;
 
-/// What a query is evaluated over, and on which route.
-#[derive(Clone, Copy)]
-pub struct Site<'a> {
-    /// Routes, tables, views and alignments.
-    pub catalog: &'a Catalog,
-    /// The spans by the numbers of tables and routes.
-    pub events: &'a EventLists,
-    /// The route's name.
-    pub name: &'a Name,
-    /// The route's number and its ends.
-    pub route: RouteEntry,
-}
-
-/// What a query is evaluated over.
-#[derive(Clone, Copy)]
-pub(crate) struct Base<'a> {
-    /// Routes, tables, views and alignments.
-    pub(crate) catalog: &'a Catalog,
-    /// The spans by the numbers of tables and routes.
-    pub(crate) events: &'a EventLists,
-}
-
-/// The spans of a query on one route, by where they begin. Operands that a window leaves nothing of are not evaluated.
-/// The only refusal is for want of memory.
-pub fn eval<'a>(
+/// The maximal runs of a plan on the route of this number, as they were at a version, in printing order. Operands that
+/// windows leave nothing of are not evaluated. The source tells why a plan is refused.
+pub fn eval<S: Source>(
     alloc: Global,
-    site: &Site<'a>,
-    query: &'a CheckedQuery,
-) -> Result<Vec<Span>, AllocError>
-    requires there { names.get site.now.catalog.now.routes site.now.name.now.bytes ≡ Some site.now.route }
-    requires stored { AreEventsOf site.now.catalog.now (spans_on site.now.events.now) }
-    requires well_formed { IsWellFormed (world_from site.now.catalog.now (spans_on site.now.events.now)) (query_of query.now) }
-    ensures { IfOk result (λ spans. AreRowsOf (world_from site.now.catalog.now (spans_on site.now.events.now))
-        (query_of query.now) site.now.name.now.bytes (map seen spans.items)) }
+    source: &mut S,
+    plan: &Plan,
+    route: u32,
+    version: u64,
+) -> Result<Vec<Span>, Refusal>
+    requires well_formed { is_well_formed plan.now ≡ true }
+    ensures runs { IfOk result (λ spans. (snapshots : Snapshots) → S.is source.old snapshots
+        → AreRunsOf (kind_in plan.now) (rows_in plan.now (snapshots version) route) (map seen spans.items)) }
+    ensures placed { IfOk result (λ spans. ArePlaced (kind_in plan.now) (map seen spans.items)) }
+    ensures wide { IfOk result (λ spans. AreWide (width_in plan.now) (map seen spans.items)) }
+    ensures stays { (snapshots : Snapshots) → S.is source.old snapshots → S.is source.new snapshots }
+    ensures passes { S.passes source.old source.new }
+    ensures wants { IfErr result (λ why. S.wants why source.old source.new) }
 {
-    if let CheckedQuery::Window(_, window) = query {
-        if !is_on(*window, site.name) {
-            return Ok(Vec::new(alloc));
-        }
-    }
-    let base = Base {
-        catalog: site.catalog,
-        events: site.events,
-    };
     let alone = Routes {
-        first: site.name,
+        version,
+        first: route,
         others: &[],
     };
-    let rows = rows_on(alloc, &base, alone, Operand::of(query))?;
-    let spans = own_rows(alloc, rows.first)?;
-    Ok(spans)
+    let rows = rows_on(alloc, source, alone, Operand::of(plan))?;
+    Ok(runs(kind_of(plan), rows.first))
 }
 
-/// The rows of a query on each of the routes. Those of a table are lent, also to operators that make rows anew. The query
-/// is given away, and so is each of its operands: a second evaluation of one is a use of what was moved, which no check
-/// lets pass. The only refusal is for want of memory.
+/// The rows of a plan on each of the routes. The plan is given away, and so is each of its operands: a second evaluation
+/// of one is a use of what was moved, which no check lets pass.
 #[cycle(rows)]
-fn rows_on<'a>(
+fn rows_on<S: Source>(
     alloc: Global,
-    base: &Base<'a>,
+    source: &mut S,
     routes: Routes<'_>,
-    operand: Operand<'a>,
-) -> Result<RowsOn<'a>, AllocError>
-    requires stored { AreEventsOf base.now.catalog.now (spans_on base.now.events.now) }
-    requires well_formed { IsWellFormed (base_world base.now) (asked_of operand) }
-    ensures { IfOk result (λ rows. AreHeld (base_world base.now) (asked_of operand.entry) (names_of routes.entry) (list_of rows)) }
+    operand: Operand<'_>,
+) -> Result<RowsOn, Refusal>
+    requires well_formed { (operand_meaning operand).is_well_formed ≡ true }
+    ensures held { IfOk result (λ rows. AreHeld (S.is source.old) routes.entry.version (operand_meaning operand.entry)
+        (numbers_of routes.entry) (list_of rows)) }
+    ensures leaves { LeavesBehind S.Source source.old source.new }
+    ensures wants { IfErr result (λ why. S.wants why source.old source.new) }
 {
     match operand.node() {
-        Node::Table(name) => kept_on(alloc, base, routes, name),
-        Node::Changed(change, operand) => {
-            let rows = rows_on(alloc, base, routes, operand)?;
-            changed_on(alloc, change, rows)
-        }
-        Node::Renamed(operand, _, _) => rows_on(alloc, base, routes, operand),
+        Node::Leaf(leaf) => leaf_on(alloc, source, routes, leaf),
+        Node::Changed(change, operand) => changed_rows(alloc, source, routes, change, operand),
+        Node::Overlaid(back, operands) => overlaid_rows(alloc, source, routes, back, operands),
         Node::Paired(pairing, left, right) => {
-            let left_rows = rows_on(alloc, base, routes, left)?;
-            let right_rows = rows_on(alloc, base, routes, right)?;
-            paired_on(alloc, pairing, left_rows, right_rows)
+            paired_rows(alloc, source, routes, pairing, left, right)
         }
-        Node::Seen(operand, window) => seen_rows(alloc, base, routes, operand, window),
-        Node::Carried(operand, _, pieces) => carried_rows(alloc, base, routes, operand, pieces),
+        Node::Seen(windows, operand) => seen_rows(alloc, source, routes, windows, operand),
+        Node::Carried(pieces, operand) => carried_rows(alloc, source, routes, pieces, operand),
     }
 }
 
-/// What is seen of a query through a window, on each of the routes. The query is evaluated on the window's route alone,
-/// and not at all if that is none of the routes.
+/// The rows of an operand, changed or left out, on each of the routes.
 #[cycle(rows)]
-fn seen_rows<'a>(
+fn changed_rows<S: Source>(
     alloc: Global,
-    base: &Base<'a>,
+    source: &mut S,
     routes: Routes<'_>,
-    operand: Operand<'a>,
-    window: &'a LocatedWindow,
-) -> Result<RowsOn<'a>, AllocError>
-    requires stored { AreEventsOf base.now.catalog.now (spans_on base.now.events.now) }
-    requires well_formed { IsWellFormed (base_world base.now) (asked_of operand) }
-    ensures { IfOk result (λ rows. AreHeld (base_world base.now) (window_rows (asked_of operand.entry) (window_of window.now))
-        (names_of routes.entry) (list_of rows)) }
+    change: Change<'_>,
+    operand: Operand<'_>,
+) -> Result<RowsOn, Refusal>
+    requires well_formed { (changed_meaning change (operand_meaning operand)).is_well_formed ≡ true }
+    ensures held { IfOk result (λ rows. AreHeld (S.is source.old) routes.entry.version
+        (changed_meaning change.entry (operand_meaning operand.entry)) (numbers_of routes.entry) (list_of rows)) }
+    ensures leaves { LeavesBehind S.Source source.old source.new }
+    ensures wants { IfErr result (λ why. S.wants why source.old source.new) }
 {
-    let inside = route_of(window);
-    if !is_among(inside, routes) {
-        return none_on(alloc, routes);
+    let rows = rows_on(alloc, source, routes, operand)?;
+    let changed = changed_on(alloc, change, rows)?;
+    Ok(changed)
+}
+
+/// What the rows of two operands make on each of the routes.
+#[cycle(rows)]
+fn paired_rows<S: Source>(
+    alloc: Global,
+    source: &mut S,
+    routes: Routes<'_>,
+    pairing: Pairing,
+    left: Operand<'_>,
+    right: Operand<'_>,
+) -> Result<RowsOn, Refusal>
+    requires well_formed { (paired_meaning pairing (operand_meaning left) (operand_meaning right)).is_well_formed ≡ true }
+    ensures held { IfOk result (λ rows. AreHeld (S.is source.old) routes.entry.version
+        (paired_meaning pairing (operand_meaning left.entry) (operand_meaning right.entry)) (numbers_of routes.entry) (list_of rows)) }
+    ensures leaves { LeavesBehind S.Source source.old source.new }
+    ensures wants { IfErr result (λ why. S.wants why source.old source.new) }
+{
+    let left_rows = rows_on(alloc, source, routes, left)?;
+    let right_rows = rows_on(alloc, source, routes, right)?;
+    let paired = paired_on(alloc, pairing, left_rows, right_rows)?;
+    Ok(paired)
+}
+
+/// The rows of several operands side by side, on each of the routes, each column where it belongs.
+#[cycle(rows)]
+fn overlaid_rows<S: Source>(
+    alloc: Global,
+    source: &mut S,
+    routes: Routes<'_>,
+    back: &[u8],
+    operands: Operands<'_>,
+) -> Result<RowsOn, Refusal>
+    requires well_formed { (overlay_meaning back.now (operands_meaning operands)).is_well_formed ≡ true }
+    ensures held { IfOk result (λ rows. AreHeld (S.is source.old) routes.entry.version
+        (overlay_meaning back.now (operands_meaning operands.entry)) (numbers_of routes.entry) (list_of rows)) }
+    ensures leaves { LeavesBehind S.Source source.old source.new }
+    ensures wants { IfErr result (λ why. S.wants why source.old source.new) }
+{
+    let Some((first, others)) = operands.next() else {
+        let none = none_on(alloc, routes)?;
+        return Ok(none);
+    };
+    let rows = rows_on(alloc, source, routes, first)?;
+    let overlaid = overlaid_with(alloc, source, routes, rows, others)?;
+    let put_back = changed_on(alloc, Change::Dissolve(back), overlaid)?;
+    Ok(put_back)
+}
+
+/// The rows, on each of the routes, with those of further operands beside them. Where no rows are left, no further
+/// operand is evaluated.
+#[cycle(rows)]
+fn overlaid_with<S: Source>(
+    alloc: Global,
+    source: &mut S,
+    routes: Routes<'_>,
+    rows: RowsOn,
+    operands: Operands<'_>,
+) -> Result<RowsOn, Refusal>
+    requires can { CanOverlay (operands_meaning operands) (numbers_of routes) (list_of rows) }
+    ensures laid { IfOk result (λ overlaid. AreLaidOver (S.is source.old) routes.entry.version (operands_meaning operands.entry)
+        (numbers_of routes.entry) (list_of rows) (list_of overlaid)) }
+    ensures leaves { LeavesBehind S.Source source.old source.new }
+    ensures wants { IfErr result (λ why. S.wants why source.old source.new) }
+{
+    if are_none(&rows) {
+        return Ok(rows);
     }
+    let Some((next, others)) = operands.next() else {
+        return Ok(rows);
+    };
+    let right = rows_on(alloc, source, routes, next)?;
+    let paired = paired_on(alloc, Pairing::Overlay, rows, right)?;
+    overlaid_with(alloc, source, routes, paired, others)
+}
+
+/// What is seen of a plan through all windows, on each of the routes. The plan is evaluated on the windows' route alone,
+/// and not at all if that is none of the routes, or if the windows leave nothing of it.
+#[cycle(rows)]
+fn seen_rows<S: Source>(
+    alloc: Global,
+    source: &mut S,
+    routes: Routes<'_>,
+    windows: &[PlannedWindow],
+    operand: Operand<'_>,
+) -> Result<RowsOn, Refusal>
+    requires well_formed { (window_meaning windows.now (operand_meaning operand)).is_well_formed ≡ true }
+    ensures held { IfOk result (λ rows. AreHeld (S.is source.old) routes.entry.version
+        (window_meaning windows.now (operand_meaning operand.entry)) (numbers_of routes.entry) (list_of rows)) }
+    ensures leaves { LeavesBehind S.Source source.old source.new }
+    ensures wants { IfErr result (λ why. S.wants why source.old source.new) }
+{
+    let Some((route, part)) = part_seen(windows, routes) else {
+        let none = none_on(alloc, routes)?;
+        return Ok(none);
+    };
     let alone = Routes {
-        first: inside,
+        version: routes.version,
+        first: route,
         others: &[],
     };
-    let rows = rows_on(alloc, base, alone, operand)?;
-    let spans = seen_through(alloc, rows.first, *window)?;
-    spread_on(alloc, routes, window, spans)
+    let rows = rows_on(alloc, source, alone, operand)?;
+    let mut spans = rows.first;
+    cut(&mut spans, part);
+    let spread = spread_on(alloc, routes, route, spans)?;
+    Ok(spread)
 }
 
-/// What pieces carry of a query, on each of the routes. The query is evaluated once on each route from which a piece
-/// leads onto one of the routes, and not at all if none does.
+/// What pieces carry of a plan, on each of the routes. The plan is evaluated once on each route from which a piece leads
+/// onto one of the routes, and not at all if none does.
 #[cycle(rows)]
-fn carried_rows<'a>(
+fn carried_rows<S: Source>(
     alloc: Global,
-    base: &Base<'a>,
+    source: &mut S,
     routes: Routes<'_>,
-    operand: Operand<'a>,
-    pieces: &'a [LocatedPiece],
-) -> Result<RowsOn<'a>, AllocError>
-    requires stored { AreEventsOf base.now.catalog.now (spans_on base.now.events.now) }
-    requires well_formed { IsWellFormed (base_world base.now) (asked_of operand) }
-    requires lie { ArePiecesOn (routes_of base.now.catalog.now) (located_pieces pieces.now) }
-    ensures { IfOk result (λ rows. (alignment : List ℕ) → AreHeld (base_world base.now)
-        (transform_rows (asked_of operand.entry) alignment (located_pieces pieces.now)) (names_of routes.entry) (list_of rows)) }
+    pieces: &[PlannedPiece],
+    operand: Operand<'_>,
+) -> Result<RowsOn, Refusal>
+    requires well_formed { (transform_meaning pieces.now (operand_meaning operand)).is_well_formed ≡ true }
+    ensures held { IfOk result (λ rows. AreHeld (S.is source.old) routes.entry.version
+        (transform_meaning pieces.now (operand_meaning operand.entry)) (numbers_of routes.entry) (list_of rows)) }
+    ensures leaves { LeavesBehind S.Source source.old source.new }
+    ensures wants { IfErr result (λ why. S.wants why source.old source.new) }
 {
-    let names = sources_of(alloc, pieces, routes)?;
-    let Some((first, others)) = names.split_first() else {
-        return none_on(alloc, routes);
+    let numbers = sources_of(alloc, pieces, routes)?;
+    let Some((first, others)) = numbers.split_first() else {
+        let none = none_on(alloc, routes)?;
+        return Ok(none);
     };
     let from = Routes {
+        version: routes.version,
         first: *first,
         others,
     };
-    let asked = operand.asked();
-    let rows = rows_on(alloc, base, from, operand)?;
+    let kind = operand.kind();
+    let rows = rows_on(alloc, source, from, operand)?;
     let sources = Sources {
-        base: *base,
-        operand: asked,
+        kind,
         pieces,
         routes: from,
         rows: &rows,
     };
-    carried_on(alloc, &sources, routes)
+    let carried = carried_on(alloc, &sources, routes)?;
+    Ok(carried)
 }

@@ -1,37 +1,40 @@
-//! Whether the rows of a checked query are points or lines.
+//! Whether the rows of a plan are points or lines.
 
-ghost use Rattle.std.specs.Prelude.{◌≡◌, ℕ, List};
-ghost use Rattle.rs_facts.specs.Query.{kind_of, overlaid_kind};
-ghost use Rattle.rs_facts.specs.Runs.{Stretch};
-ghost use Rattle.rs_catalog.specs.Definitions.{world_from};
-ghost use Rattle.rs_checker.specs.CheckedView.{query_of};
+ghost use Rattle.std.specs.Prelude.{◌≡◌, map};
+ghost use Rattle.rs_facts.specs.Query.{overlaid_kind};
+ghost use Rattle.rs_exec.specs.Meaning.{meaning_of, kinds_together, kind_in};
 
-use rs_catalog::Catalog;
-use rs_checker::CheckedQuery;
+use rs_plan::Plan;
 use rs_value::Kind;
 
-/// The kind of a query's rows, by the tables that it names.
-pub(crate) fn kind_of(catalog: &Catalog, query: &CheckedQuery) -> Kind
-    ensures { (spans_on : ℕ → ℕ → List Stretch) → result ≡ kind_of (world_from catalog.now spans_on) (query_of query.now) }
+/// The kind of a plan's rows, by the tables at its leaves.
+#[cycle(kinds)]
+pub(crate) fn kind_of(plan: &Plan) -> Kind
+    ensures { result ≡ kind_in plan.now }
 {
-    match query {
-        CheckedQuery::Table(table) => match catalog.table(&table.name) {
-            Some(table) => table.kind(),
-            None => Kind::Line,
-        },
-        CheckedQuery::Overlay(left, right) => overlaid_kind(
-            kind_of(catalog, left),
-            kind_of(catalog, right),
-        ),
-        CheckedQuery::Where(operand, _)
-        | CheckedQuery::Dissolve(operand, _)
-        | CheckedQuery::Rename(operand, _, _)
-        | CheckedQuery::Cover(_, _, operand, _)
-        | CheckedQuery::Merge(operand, _)
-        | CheckedQuery::Minus(operand, _)
-        | CheckedQuery::Window(operand, _)
-        | CheckedQuery::Transform(operand, _, _) => kind_of(catalog, operand),
+    match plan {
+        Plan::Leaf(leaf) => leaf.table.kind,
+        Plan::Overlay(_, operands) => kind_together(operands.as_slice()),
+        Plan::Where(_, operand)
+        | Plan::Dissolve(_, operand)
+        | Plan::Cover(_, _, operand, _)
+        | Plan::Merge(operand, _)
+        | Plan::Minus(operand, _)
+        | Plan::Window(_, operand)
+        | Plan::Transform(_, _, operand) => kind_of(operand),
     }
+}
+
+/// The kind of the rows of an OVERLAY of these operands.
+#[cycle(kinds)]
+fn kind_together(operands: &[Plan]) -> Kind
+    ensures { result ≡ kinds_together (map meaning_of operands.now) }
+{
+    let mut kind = Kind::Line;
+    for operand in operands {
+        kind = overlaid_kind(kind, kind_of(operand));
+    }
+    kind
 }
 
 /// The kind of what two kinds of rows have in common: lines of two lists of lines, and else points.

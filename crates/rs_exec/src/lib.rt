@@ -1,18 +1,24 @@
-//! Evaluation of a checked query on one route.
+//! Evaluation of a plan on one route, over a source of spans.
 //!
-//! It promises spans that mean the query's rows at each thousandth of the route. Each node of the query is evaluated once
-//! on a list of routes, which is longer than one below a TRANSFORM alone.
+//! It promises the maximal runs of the plan's rows there, as they were at a version. Each node of the plan is evaluated
+//! once, on a list of routes that is longer than one below a TRANSFORM alone.
 #![tactic(auto)]
 
+pub mod alone;
 mod carrying;
 mod changes;
+pub mod copies;
 pub mod evaluation;
 mod kinds;
+pub mod laws;
+mod leaves;
 mod operand;
 mod pairs;
 mod routes;
-mod rows;
-mod tables;
+pub mod source;
 mod windows;
 
-pub use evaluation::{Site, eval};
+pub use alone::table_alone;
+pub use copies::copies_inside;
+pub use evaluation::eval;
+pub use source::{Asked, Part, SoughtValue, Source};

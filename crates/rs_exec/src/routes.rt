@@ -1,79 +1,90 @@
-//! Routes that a query is evaluated on, and its rows on each of them.
+//! Routes that a plan is evaluated on, and its rows on each of them.
 //!
 //! The first route is apart from the others, so that what is evaluated on one route alone takes no memory for lists.
 
-ghost use Rattle.std.specs.Prelude.{◌≡◌, IfOk};
+ghost use Rattle.std.specs.Prelude.{◌≡◌, ◌==◌, IfOk, true};
 ghost use Rattle.std.specs.List.{list_any};
-ghost use Rattle.rs_facts.specs.Insert.{same_name};
-ghost use Rattle.rs_exec.specs.Rows.{HasNone};
-ghost use Rattle.rs_exec.specs.Routes.{names_in, names_of, list_of, AreNone};
+ghost use Rattle.rs_exec.specs.Routes.{numbers_of, list_of, AreNone, AllAreNone};
 
-use crate::rows::{Rows, no_rows};
-use rs_methods::Name;
+use rs_facts::Span;
 use std::alloc::{AllocError, Global};
 
-/// Routes that a query is evaluated on, by their names: there is one at least.
+/// Routes that a plan is evaluated on, by their numbers: there is one at least.
 #[derive(Clone, Copy)]
 pub(crate) struct Routes<'a> {
+    /// The version of which rows are asked for.
+    pub(crate) version: u64,
     /// The first.
-    pub(crate) first: &'a Name,
+    pub(crate) first: u32,
     /// Those after it.
-    pub(crate) others: &'a [&'a Name],
+    pub(crate) others: &'a [u32],
 }
 
-/// The rows of a query on each of some routes, in the order of the routes.
+/// The rows of a plan on each of some routes, in the order of the routes, each by where they begin.
 #[derive(Drop)]
-pub(crate) struct RowsOn<'a> {
+pub(crate) struct RowsOn {
     /// Those on the first.
-    pub(crate) first: Rows<'a>,
+    pub(crate) first: Vec<Span>,
     /// Those on each after it.
-    pub(crate) others: Vec<Rows<'a>>,
+    pub(crate) others: Vec<Vec<Span>>,
 }
 
-/// Whether a name is that of one of the routes.
-pub(crate) fn is_among(name: &Name, routes: Routes<'_>) -> bool
-    ensures { result ≡ list_any (same_name name.now.bytes) (names_of routes.entry) }
+/// Whether a number is that of one of the routes.
+pub(crate) fn is_among(number: u32, routes: Routes<'_>) -> bool
+    ensures { result ≡ list_any (λ other. number == other) (numbers_of routes.entry) }
 {
-    is_same(name, routes.first) || is_in(name, routes.others)
+    number == routes.first || is_in(number, routes.others)
 }
 
-/// Whether a name is among those.
-pub(crate) fn is_in(name: &Name, names: &[&Name]) -> bool
-    ensures { result ≡ list_any (same_name name.now.bytes) (names_in names.now) }
+/// Whether a number is among those.
+pub(crate) fn is_in(number: u32, numbers: &[u32]) -> bool
+    ensures { result ≡ list_any (λ other. number == other) numbers.now }
 {
-    for other in names {
-        if is_same(name, other) {
+    for other in numbers {
+        if number == *other {
             return true;
         }
     }
     false
 }
 
-/// Whether the names have the same bytes.
-pub(crate) fn is_same(name: &Name, other: &Name) -> bool
-    ensures { result ≡ same_name name.now.bytes other.now.bytes }
+/// Whether there are no rows on any of the routes.
+pub(crate) fn are_none(rows: &RowsOn) -> bool
+    ensures { result ≡ true → AllAreNone (list_of rows.now) }
 {
-    other.as_str() == name.as_str()
+    rows.first.is_empty() && are_all_empty(rows.others.as_slice())
+}
+
+/// Whether each list is empty.
+fn are_all_empty(lists: &[Vec<Span>]) -> bool
+    ensures { result ≡ true → AllAreNone lists.now }
+{
+    for rows in lists {
+        if !rows.is_empty() {
+            return false;
+        }
+    }
+    true
 }
 
 /// No rows on each of the routes. The only refusal is for want of memory.
-pub(crate) fn none_on<'a>(alloc: Global, routes: Routes<'_>) -> Result<RowsOn<'a>, AllocError>
-    ensures { IfOk result (λ rows. AreNone (names_of routes.entry) (list_of rows)) }
+pub(crate) fn none_on(alloc: Global, routes: Routes<'_>) -> Result<RowsOn, AllocError>
+    ensures { IfOk result (λ rows. AreNone (numbers_of routes.entry) (list_of rows)) }
 {
     let others = none_each(alloc, routes.others)?;
     Ok(RowsOn {
-        first: no_rows(),
+        first: Vec::new(alloc),
         others,
     })
 }
 
-/// No rows for each of the names.
-fn none_each<'a>(alloc: Global, names: &[&Name]) -> Result<Vec<Rows<'a>>, AllocError>
-    ensures { IfOk result (λ rows. AreNone (names_in names.now) rows.items) }
+/// No rows for each of the numbers.
+fn none_each(alloc: Global, numbers: &[u32]) -> Result<Vec<Vec<Span>>, AllocError>
+    ensures { IfOk result (λ rows. AreNone numbers.now rows.items) }
 {
     let mut rows = Vec::new(alloc);
-    for _name in names {
-        rows.push(no_rows())?;
+    for _number in numbers {
+        rows.push(Vec::new(alloc))?;
     }
     Ok(rows)
 }

@@ -1,129 +1,171 @@
-//! WINDOW: what is seen through a window on its own route, put where it belongs among several routes.
+//! Windows: what several of them leave of a route, and what is seen there.
 
-ghost use Rattle.std.specs.Prelude.{◌≡◌, ℕ, map, IfOk};
-ghost use Rattle.std.specs.List.{AllZip};
+ghost use Rattle.std.specs.Prelude.{◌≡◌, ◌≤◌, ℕ, true, length, map, IfSome, IfNone, IfOk};
+ghost use Rattle.std.specs.List.{AllZip, AllByRecursion};
 ghost use Rattle.rs_value.specs.declared.column.Kind.{Kind};
-ghost use Rattle.rs_facts.specs.Insert.{same_name};
+ghost use Rattle.rs_facts.specs.Fact.{RowSet, none};
 ghost use Rattle.rs_facts.specs.Spans.{seen, places_of, ArePlaced};
 ghost use Rattle.rs_sweep.specs.Lists.{AreSorted, AreWide};
-ghost use Rattle.rs_checker.specs.CheckedView.{window_of};
-ghost use Rattle.rs_exec.specs.Evaluated.{route_of, seen_inside};
-ghost use Rattle.rs_exec.specs.Rows.{IsInOrder};
-ghost use Rattle.rs_exec.specs.Routes.{names_in, names_of, list_of};
-ghost use Rattle.rs_exec.specs.Windows.{IsSeenThrough, IsSpread};
+ghost use Rattle.rs_exec.specs.Given.{inside};
+ghost use Rattle.rs_exec.specs.Meaning.{route_number, seen_on_its_route};
+ghost use Rattle.rs_exec.specs.Routes.{numbers_of, list_of};
+ghost use Rattle.rs_exec.specs.Windows.{AreOff, IsInsideEach, IsSeenOn, IsSpread};
 
-use crate::routes::{Routes, RowsOn, is_same};
-use crate::rows::{Rows, no_rows, own_rows};
-use rs_checker::LocatedWindow;
+use crate::routes::{Routes, RowsOn, is_among};
+use crate::source::Part;
 use rs_facts::Span;
-use rs_methods::Name;
+use rs_plan::PlannedWindow;
 use rs_spans::copy_spans;
 use rs_sweep::window;
 use std::alloc::{AllocError, Global};
 
-/// The route of a window.
-pub(crate) fn route_of(window: &LocatedWindow) -> &Name
-    ensures { result.now.bytes ≡ route_of (window_of window.now) }
+/// The number of a window's route.
+pub(crate) fn route_of(window: PlannedWindow) -> u32
+    ensures { result ≡ route_number window }
 {
     match window {
-        LocatedWindow::Whole { route, .. } => route,
-        LocatedWindow::Part { route, .. } => route,
+        PlannedWindow::Whole { route } => route.number,
+        PlannedWindow::Part { route, .. } => route.number,
     }
 }
 
-/// Whether a window is on the route of this name.
-pub(crate) fn is_on(window: LocatedWindow, name: &Name) -> bool
-    ensures { result ≡ same_name (route_of (window_of window)) name.now.bytes }
+/// The part of a route that is inside all windows; none where nothing of it is.
+pub(crate) fn part_inside(windows: &[PlannedWindow], route: u32) -> Option<Part>
+    ensures part { IfSome result (λ part. IsInsideEach windows.now route part) }
+    ensures none { IfNone result (AreOff windows.now route) }
+{
+    let mut part = Part::Whole;
+    for window in windows {
+        if route_of(*window) != route {
+            return None;
+        }
+        part = narrowed(part, *window);
+    }
+    if is_empty(part) {
+        return None;
+    }
+    Some(part)
+}
+
+/// The route of the windows, and the part of it that is inside all of them; none where it is none of the routes, and where
+/// nothing is inside.
+pub(crate) fn part_seen(windows: &[PlannedWindow], routes: Routes<'_>) -> Option<(u32, Part)>
+    requires { 1 ≤ length windows.now }
+    ensures seen { IfSome result (λ seen. IsSeenOn windows.now seen.0 seen.1) }
+    ensures none { IfNone result (AllByRecursion (AreOff windows.now) (numbers_of routes.entry)) }
+{
+    let route = route_of(windows[0]);
+    if !is_among(route, routes) {
+        return None;
+    }
+    let part = part_inside(windows, route)?;
+    Some((route, part))
+}
+
+/// What is inside both the part and a window on its route.
+fn narrowed(part: Part, window: PlannedWindow) -> Part
+    ensures { (k : ℕ) (rows : RowSet) → inside result k rows ≡ inside part k (seen_on_its_route window k rows) }
 {
     match window {
-        LocatedWindow::Whole { route, .. } => is_same(&route, name),
-        LocatedWindow::Part { route, .. } => is_same(&route, name),
+        PlannedWindow::Whole { .. } => part,
+        PlannedWindow::Part { from, to, .. } => between(part, from, to),
     }
 }
 
-/// What is seen through a window of rows on its route. The only refusal is for want of memory.
-pub(crate) fn seen_through(
-    alloc: Global,
-    rows: Rows<'_>,
-    inside: LocatedWindow,
-) -> Result<Vec<Span>, AllocError>
-    requires { IsInOrder rows }
-    ensures { IfOk result (λ spans. IsSeenThrough (window_of inside) rows.entry (map seen spans.items)) }
+/// What is inside the part from one thousandth on and below another.
+fn between(part: Part, from: u32, to: u32) -> Part
+    ensures { (k : ℕ) (rows : RowSet) → inside result k rows ≡ inside part k (inside (Part.Between from to) k rows) }
 {
-    let mut spans = own_rows(alloc, rows)?;
-    cut(&mut spans, inside);
-    Ok(spans)
+    match part {
+        Part::Whole => Part::Between { from, to },
+        Part::Between {
+            from: first,
+            to: last,
+        } => Part::Between {
+            from: from.max(first),
+            to: to.min(last),
+        },
+    }
 }
 
-/// Keeps what lies inside a window, of spans on the window's route.
-fn cut(spans: &mut Vec<Span>, inside: LocatedWindow)
+/// Whether nothing is inside the part.
+fn is_empty(part: Part) -> bool
+    ensures { result ≡ true → (k : ℕ) (rows : RowSet) → inside part k rows ≡ none }
+{
+    match part {
+        Part::Whole => false,
+        Part::Between { from, to } => from >= to,
+    }
+}
+
+/// Keeps what is inside a part.
+pub(crate) fn cut(spans: &mut Vec<Span>, part: Part)
     requires sorted { AreSorted (map seen spans.old.items) }
     ensures means { (k : ℕ) → places_of (map seen spans.new.items) k
-        ≡ seen_inside (window_of inside) k (places_of (map seen spans.old.items) k) }
+        ≡ inside part k (places_of (map seen spans.old.items) k) }
     ensures sorted { AreSorted (map seen spans.new.items) }
     ensures placed { (kind : Kind) → ArePlaced kind (map seen spans.old.items)
         → ArePlaced kind (map seen spans.new.items) }
     ensures width { (width : ℕ) → AreWide width (map seen spans.old.items)
         → AreWide width (map seen spans.new.items) }
 {
-    if let LocatedWindow::Part { from, to, .. } = inside {
+    if let Part::Between { from, to } = part {
         window(spans, from, to);
     }
 }
 
-/// The spans on the window's route, none on each other one. They are moved to the first route, and copied to one after
-/// it; the only refusal is for want of memory.
-pub(crate) fn spread_on<'a>(
+/// The spans on the route of this number, none on each other one. They are moved to the first route, and copied to one
+/// after it; the only refusal is for want of memory.
+pub(crate) fn spread_on(
     alloc: Global,
     routes: Routes<'_>,
-    window: &LocatedWindow,
+    route: u32,
     spans: Vec<Span>,
-) -> Result<RowsOn<'a>, AllocError>
-    ensures { IfOk result (λ rows. AllZip (IsSpread (route_of (window_of window.now)) (map seen spans.items)) (names_of routes.entry) (list_of rows)) }
+) -> Result<RowsOn, AllocError>
+    ensures { IfOk result (λ rows. AllZip (IsSpread route (map seen spans.items)) (numbers_of routes.entry) (list_of rows)) }
 {
-    let others = spread_each(alloc, routes.others, *window, &spans)?;
-    let first = moved_to(routes.first, *window, spans);
+    let others = spread_each(alloc, routes.others, route, &spans)?;
+    let first = moved_to(alloc, routes.first, route, spans);
     Ok(RowsOn { first, others })
 }
 
-/// The spans, if the window is on the route of this name.
-fn moved_to<'a>(name: &Name, window: LocatedWindow, spans: Vec<Span>) -> Rows<'a>
-    ensures { IsSpread (route_of (window_of window)) (map seen spans.items) name.now.bytes result }
+/// The spans, if they are on the route of this number.
+fn moved_to(alloc: Global, number: u32, route: u32, spans: Vec<Span>) -> Vec<Span>
+    ensures { IsSpread route (map seen spans.items) number result }
 {
-    if !is_on(window, name) {
-        return no_rows();
+    if number != route {
+        return Vec::new(alloc);
     }
-    Rows::Made(spans)
+    spans
 }
 
-/// For each name copies of the spans, if the window is on its route.
-fn spread_each<'a>(
+/// For each number copies of the spans, if they are on its route.
+fn spread_each(
     alloc: Global,
-    names: &[&Name],
-    window: LocatedWindow,
+    numbers: &[u32],
+    route: u32,
     spans: &[Span],
-) -> Result<Vec<Rows<'a>>, AllocError>
-    ensures { IfOk result (λ rows. AllZip (IsSpread (route_of (window_of window)) (map seen spans.now)) (names_in names.now) rows.items) }
+) -> Result<Vec<Vec<Span>>, AllocError>
+    ensures { IfOk result (λ rows. AllZip (IsSpread route (map seen spans.now)) numbers.now rows.items) }
 {
     let mut rows = Vec::new(alloc);
-    for name in names {
-        rows.push(copied_to(alloc, name, window, spans)?)?;
+    for number in numbers {
+        rows.push(copied_to(alloc, *number, route, spans)?)?;
     }
     Ok(rows)
 }
 
-/// Copies of the spans, if the window is on the route of this name.
-fn copied_to<'a>(
+/// Copies of the spans, if they are on the route of this number.
+fn copied_to(
     alloc: Global,
-    name: &Name,
-    window: LocatedWindow,
+    number: u32,
+    route: u32,
     spans: &[Span],
-) -> Result<Rows<'a>, AllocError>
-    ensures { IfOk result (IsSpread (route_of (window_of window)) (map seen spans.now) name.now.bytes) }
+) -> Result<Vec<Span>, AllocError>
+    ensures { IfOk result (IsSpread route (map seen spans.now) number) }
 {
-    if !is_on(window, name) {
-        return Ok(no_rows());
+    if number != route {
+        return Ok(Vec::new(alloc));
     }
-    let copies = copy_spans(alloc, spans)?;
-    Ok(Rows::Made(copies))
+    copy_spans(alloc, spans)
 }

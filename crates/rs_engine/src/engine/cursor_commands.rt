@@ -6,16 +6,14 @@
 ghost use Rattle.std.specs.Prelude.{◌≡◌, ◌⊎◌, length, Ok, Err, IfErr, IfOk, OnOk, OnErr};
 ghost use Rattle.std.specs.FinMap as names;
 ghost use Rattle.rs_syntax.specs.QueryView.{query_tree};
-ghost use Rattle.rs_facts.specs.Query.{kind_of};
-ghost use Rattle.rs_facts.specs.WellFormed.{IsWellFormed};
-ghost use Rattle.rs_machine.specs.State.{world_of};
 ghost use Rattle.rs_machine.specs.Step.{counted, effect, lines_of, with_cursor, cursor_opened, rows_fetched, cursor_closed, without_cursors};
 ghost use Rattle.rs_serve.specs.ReplyView.{rows_of};
 ghost use Rattle.rs_checker.specs.CheckedView.{query_of};
 ghost use Rattle.rs_cursor.specs.Held.{cursors_of};
+ghost use Rattle.rs_engine.specs.Plans.{CanBePlanned};
 
 use crate::engine::Engine;
-use rs_checker::{Checked, check};
+use rs_checker::Checked;
 use rs_machine::limits::CURSORS;
 use rs_methods::{Method, Name};
 use rs_refusal::Refusal;
@@ -40,7 +38,7 @@ impl Engine {
         ensures err { OnErr result (self.new ≡ self.old) }
     {
         let checked = self.check_new_cursor(session, &name, query, method)?;
-        let lines = self.lines(&checked.query, checked.kind, method)?;
+        let lines = self.lines(checked, method)?;
         self.put_cursor(session, name, lines)?;
         Ok(0)
     }
@@ -56,10 +54,9 @@ impl Engine {
         ensures accepted { IfOk result (λ checked. cursor_opened (state_of self.now) session name.now.bytes (query_tree query.now) method
             ≡ Ok (counted 0 (with_cursor (state_of self.now) session name.now.bytes (lines_of (state_of self.now) (query_of checked.query) method)))) }
         ensures refused { IfErr result (λ refusal. (refusal ≡ Refusal.OutOfMemory) ⊎ (cursor_opened (state_of self.now) session name.now.bytes (query_tree query.now) method ≡ Err refusal)) }
-        ensures well_formed { IfOk result (λ checked. IsWellFormed (world_of (state_of self.now)) (query_of checked.query)) }
-        ensures kind { IfOk result (λ checked. checked.kind ≡ kind_of (world_of (state_of self.now)) (query_of checked.query)) }
+        ensures can { IfOk result (CanBePlanned self.now) }
     {
-        let checked = check(self.alloc, &self.catalog, &self.referents, query)?;
+        let checked = self.checked(query)?;
         if self.cursors.has(session, name) {
             return Err(Refusal::CursorNameTaken);
         }

@@ -5,21 +5,22 @@
 ghost use Rattle.std.specs.Prelude.{◌≡◌, ◌≤◌, ◌⊎◌, ◌++◌, [], ◌∷◌, length, Some, Ok, Err, IfOk, IfErr, OnOk};
 ghost use Rattle.std.specs.FinMap as names;
 ghost use Rattle.rs_methods.specs.Position.{expression_of};
-ghost use Rattle.rs_facts.specs.Query.{kind_of};
-ghost use Rattle.rs_facts.specs.WellFormed.{IsWellFormed};
 ghost use Rattle.rs_syntax.specs.QueryView.{query_tree};
-ghost use Rattle.rs_machine.specs.State.{world_of};
 ghost use Rattle.rs_machine.specs.Step.{effect, position_text, position_translated, selected, lines_on, lines_of};
 ghost use Rattle.rs_serve.specs.ReplyView.{rows_of};
 ghost use Rattle.rs_checker.specs.CheckedView.{query_of};
+ghost use Rattle.rs_exec.specs.Meaning.{kind_in};
+ghost use Rattle.rs_engine.specs.Plans.{CanBePlanned, IsPlanned, OfItsQuery};
 
 use crate::engine::Engine;
 use crate::printer::PositionPrinter;
 use crate::row_text::{push_lent_lines, push_lines};
 use rs_catalog::RouteEntry;
-use rs_checker::{Checked, CheckedQuery, check};
+use rs_checker::Checked;
+use rs_exec::table_alone;
 use rs_measure::Measure;
 use rs_methods::{Method, Name, Position};
+use rs_plan::Plan;
 use rs_refusal::Refusal;
 use rs_syntax::Query;
 use rs_value::Kind;
@@ -66,20 +67,30 @@ impl Engine {
         ensures done { IfOk result (λ rows. selected (state_of self.now) (query_tree query.now) method ≡ Ok (effect (rows_of rows.items) (length (rows_of rows.items)) (state_of self.now))) }
         ensures refused { IfErr result (λ refusal. (refusal ≡ Refusal.OutOfMemory) ⊎ (selected (state_of self.now) (query_tree query.now) method ≡ Err refusal)) }
     {
-        let checked = check(self.alloc, &self.catalog, &self.referents, query)?;
-        Ok(self.lines(&checked.query, checked.kind, method)?)
+        let checked = self.checked(query)?;
+        Ok(self.lines(checked, method)?)
     }
 
-    /// The lines of a checked query of this kind on all routes.
-    pub(crate) fn lines(
+    /// The lines of a checked query on all routes.
+    pub(crate) fn lines(&self, checked: Checked, method: Method) -> Result<Vec<String>, AllocError>
+        requires can { CanBePlanned self.now checked }
+        ensures { IfOk result (λ rows. rows_of rows.items ≡ lines_of (state_of self.now) (query_of checked.query) method) }
+    {
+        let kind = checked.kind;
+        let plan = self.planned(checked)?;
+        self.lines_of_plan(&plan, kind, method)
+    }
+
+    /// The lines of a plan of this kind on all routes.
+    fn lines_of_plan(
         &self,
-        query: &CheckedQuery,
+        plan: &Plan,
         kind: Kind,
         method: Method,
     ) -> Result<Vec<String>, AllocError>
-        requires well_formed { IsWellFormed (world_of (state_of self.now)) (query_of query.now) }
-        requires kind { kind ≡ kind_of (world_of (state_of self.now)) (query_of query.now) }
-        ensures { IfOk result (λ rows. rows_of rows.items ≡ lines_of (state_of self.now) (query_of query.now) method) }
+        requires planned { IsPlanned self.now plan.now }
+        requires kind { kind ≡ kind_in plan.now }
+        ensures { IfOk result (λ rows. OfItsQuery self.now plan.now (λ query. rows_of rows.items ≡ lines_of (state_of self.now) query method)) }
     {
         let mut rows = Vec::new(self.alloc);
         for (name, route) in self.catalog.routes() {
@@ -89,30 +100,31 @@ impl Engine {
                 route: *route,
                 method,
             };
-            self.push_rows(query, kind, &printer, &mut rows)?;
+            self.push_rows(plan, kind, &printer, &mut rows)?;
         }
         Ok(rows)
     }
 
-    /// Appends the lines of a checked query on one route. A table alone lends its spans.
+    /// Appends the lines of a plan on one route. A table alone lends its spans.
     fn push_rows(
         &self,
-        query: &CheckedQuery,
+        plan: &Plan,
         kind: Kind,
         printer: &PositionPrinter<'_>,
         rows: &mut Vec<String>,
     ) -> Result<(), AllocError>
-        requires well_formed { IsWellFormed (world_of (state_of self.now)) (query_of query.now) }
-        requires kind { kind ≡ kind_of (world_of (state_of self.now)) (query_of query.now) }
+        requires planned { IsPlanned self.now plan.now }
+        requires kind { kind ≡ kind_in plan.now }
         requires referents { printer.now.referents.now ≡ self.now.referents }
         requires there { names.get self.now.definitions.routes printer.now.name.now.bytes ≡ Some printer.now.route }
-        ensures { OnOk result (rows_of rows.new.items ≡ rows_of rows.old.items ++ lines_on (state_of self.now) (query_of query.now) printer.now.method printer.now.name.now.bytes printer.now.route.ends) }
+        ensures { OnOk result (OfItsQuery self.now plan.now (λ query. rows_of rows.new.items
+            ≡ rows_of rows.old.items ++ lines_on (state_of self.now) query printer.now.method printer.now.name.now.bytes printer.now.route.ends)) }
     {
-        if let CheckedQuery::Table(table) = query {
-            let runs = self.kept_runs_on(&table.name, printer.name, printer.route)?;
+        if let Some(table) = table_alone(plan) {
+            let runs = self.kept_runs_on(table, printer.route)?;
             return push_lent_lines(self.alloc, kind, printer, runs.as_slice(), rows);
         }
-        let runs = self.evaluated_runs(query, kind, printer.name, printer.route)?;
+        let runs = self.evaluated_runs(plan, printer.route)?;
         push_lines(self.alloc, kind, printer, runs.as_slice(), rows)
     }
 }

@@ -1,73 +1,58 @@
-//! The runs of a checked query on one route.
+//! The runs of a plan on one route.
 //!
 //! Those of a table alone are its kept spans, which are lent; all others are made by an evaluation.
 
-ghost use Rattle.std.specs.Prelude.{◌≡◌, Some, map, IfOk};
-ghost use Rattle.std.specs.FinMap as names;
-ghost use Rattle.rs_facts.specs.Query.{kind_of, table_rows, rows_at};
-ghost use Rattle.rs_facts.specs.WellFormed.{IsWellFormed};
+ghost use Rattle.std.specs.Prelude.{◌≡◌, true, map, IfOk};
 ghost use Rattle.rs_facts.specs.Runs.{AreRunsOf};
 ghost use Rattle.rs_facts.specs.Spans.{seen};
 ghost use Rattle.rs_coalesce.specs.Lent.{seen_lent};
-ghost use Rattle.rs_machine.specs.State.{world_of};
-ghost use Rattle.rs_checker.specs.CheckedView.{query_of};
+ghost use Rattle.rs_exec.specs.Meaning.{rows_in, kind_in, is_well_formed, table_of};
+ghost use Rattle.rs_engine.specs.Present.{present};
 
 use crate::engine::Engine;
+use crate::engine::source::{KeptSpans, PRESENT};
 use rs_catalog::RouteEntry;
-use rs_checker::CheckedQuery;
-use rs_coalesce::{kept_runs, runs};
-use rs_exec::{Site, eval};
+use rs_coalesce::kept_runs;
+use rs_exec::{Asked, eval};
 use rs_facts::Span;
-use rs_methods::Name;
-use rs_value::Kind;
+use rs_plan::{Plan, PlannedTable};
 use std::alloc::AllocError;
 
 impl Engine {
-    ghost use Rattle.rs_engine.specs.Held.{state_of};
-
     /// The runs of a table on one route, lent.
     pub(crate) fn kept_runs_on(
         &self,
-        table: &Name,
-        name: &Name,
+        table: PlannedTable,
         route: RouteEntry,
     ) -> Result<Vec<&Span>, AllocError>
-        requires well_formed { IsWellFormed (world_of (state_of self.now)) (table_rows table.now.bytes) }
-        requires there { names.get self.now.definitions.routes name.now.bytes ≡ Some route }
-        ensures { IfOk result (λ runs. AreRunsOf (kind_of (world_of (state_of self.now)) (table_rows table.now.bytes))
-            (rows_at (world_of (state_of self.now)) (table_rows table.now.bytes) name.now.bytes) (map seen_lent runs.items)) }
+        ensures { IfOk result (λ runs. AreRunsOf table.kind ((present self.now.events).rows (table_of table) route.number)
+            (map seen_lent runs.items)) }
     {
-        let Some(table) = self.catalog.table(table) else {
-            return Ok(Vec::new(self.alloc));
+        let asked = Asked {
+            table: table.number,
+            kind: table.kind,
+            width: table.width,
+            route: route.number(),
+            version: PRESENT,
         };
-        self.catalog.stand();
-        kept_runs(
-            self.alloc,
-            self.events.spans(table.number(), route.number()),
-        )
+        kept_runs(self.alloc, self.spans_asked(&asked))
     }
 
-    /// The runs of a query of this kind on one route, by its evaluation.
+    /// The runs of a plan on one route, by its evaluation.
     pub(crate) fn evaluated_runs(
         &self,
-        query: &CheckedQuery,
-        kind: Kind,
-        name: &Name,
+        plan: &Plan,
         route: RouteEntry,
     ) -> Result<Vec<Span>, AllocError>
-        requires well_formed { IsWellFormed (world_of (state_of self.now)) (query_of query.now) }
-        requires kind { kind ≡ kind_of (world_of (state_of self.now)) (query_of query.now) }
-        requires there { names.get self.now.definitions.routes name.now.bytes ≡ Some route }
-        ensures { IfOk result (λ runs. AreRunsOf kind (rows_at (world_of (state_of self.now)) (query_of query.now) name.now.bytes) (map seen runs.items)) }
+        requires formed { is_well_formed plan.now ≡ true }
+        ensures { IfOk result (λ runs. AreRunsOf (kind_in plan.now) (rows_in plan.now (present self.now.events) route.number)
+            (map seen runs.items)) }
     {
-        let site = Site {
-            catalog: &self.catalog,
-            events: &self.events,
-            name,
-            route,
-        };
-        self.catalog.stand();
-        let spans = eval(self.alloc, &site, query)?;
-        Ok(runs(kind, spans))
+        let mut source = KeptSpans { engine: self };
+        // what is kept is refused for want of memory alone
+        match eval(self.alloc, &mut source, plan, route.number(), PRESENT) {
+            Ok(runs) => Ok(runs),
+            Err(_) => Err(AllocError),
+        }
     }
 }

@@ -1,6 +1,6 @@
 use Rattle.std.proofs.Common.{◌∙◌, length, sym, ap, subst, arith}
 use Rattle.std.specs.List.{AllByRecursion}
-use Rattle.rs_exec.specs.Rows.{IsInOrder}
+use Rattle.rs_exec.specs.Routes.{IsInOrder}
 use Rattle.rs_exec.specs.Changes.{IsChanged}
 use Rattle.rs_exec.proofs.Lists.{Zips, zips-none, zips-next, zips-all, empty}
 use Rattle.rs_exec.proofs.changes.changed_each.Goals as goal
@@ -23,7 +23,7 @@ pub loop-rows-preserved : goal.loop-rows-preserved
 loop-rows-preserved c = record {
   counted = let e = ap length c.in-Some.ensures.steps.0 in let f = c.in-Some.ensures.steps.1 in omega (arith, e, f, c.loop-rows.invariant.counted);
   ordered = (subst (AllByRecursion IsInOrder) c.in-Some.ensures.steps.0 c.loop-rows.invariant.ordered).1;
-  changed = zips-next (IsChanged c.args.change) _ _ _ _ _ _ _ c.loop-rows.invariant.changed c.in-Some.ensures.steps.0 c.in_ok-push.ensures.items c.in_ok-changed.ensures;
+  changed = zips-next (IsChanged c.args.change) _ _ _ _ _ _ _ c.loop-rows.invariant.changed c.in-Some.ensures.steps.0 c.in_ok-push.ensures.items c.changed.ensures;
 }
 
 pub returns : goal.returns

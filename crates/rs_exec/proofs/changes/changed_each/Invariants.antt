@@ -1,6 +1,6 @@
 use Rattle.std.proofs.Common.{◌≡◌, length}
 use Rattle.std.specs.List.{AllByRecursion}
-use Rattle.rs_exec.specs.Rows.{IsInOrder}
+use Rattle.rs_exec.specs.Routes.{IsInOrder}
 use Rattle.rs_exec.specs.Changes.{IsChanged}
 use Rattle.rs_exec.proofs.Lists.{Zips}
 use Rattle.rs_exec.proofs.changes.changed_each.Given as goal

@@ -1,103 +1,136 @@
--- What is made on each route of the operands' rows is what the query has there.
-use Rattle.std.proofs.Common.{◌≡◌, ◌∙◌, ◌∷◌, List, map, sym, ap, subst}
+-- What is made on each route of the operands' rows is what the plan has there.
+use Rattle.std.proofs.Common.{◌∙◌, List, map, sym, ap, subst, rules}
 use Rattle.std.proofs.lemmas.Result.{IfOk-weaker}
-use Rattle.std.specs.List.{list_any}
-use Rattle.rs_facts.specs.Fact.{Name}
-use Rattle.rs_facts.specs.Insert.{same_name}
 use Rattle.rs_facts.specs.Spans.{seen}
-use Rattle.rs_facts.specs.Query.{World, Query, rename_column, transform_rows}
-use Rattle.rs_facts.specs.WellFormed.{IsWellFormed}
-use Rattle.rs_checker.specs.CheckedView.{window_of, located_pieces}
-use Rattle.rs_exec.specs.declared.rows.Rows.{Rows}
-use Rattle.rs_exec.specs.Operand.{asked, asked_of, node_query}
-use Rattle.rs_exec.specs.Changes.{changed_query}
-use Rattle.rs_exec.specs.Pairs.{paired_query}
-use Rattle.rs_exec.specs.Rows.{HoldsRows, AreHeld}
-use Rattle.rs_exec.specs.Routes.{base_world, names_in, names_of, list_of}
 use Rattle.rs_exec.specs.Carried.{AreSourcesOf}
+use Rattle.rs_exec.specs.Held.{CanOverlay, AreLaidOver}
+use Rattle.rs_exec.specs.Meaning.{PlanMeaning, meaning_of}
+use Rattle.rs_exec.specs.Operand.{operand_meaning, operands_meaning}
+use Rattle.rs_exec.specs.Routes.{numbers_of, list_of}
+use Rattle.rs_exec.proofs.Leading.{pieces-forwards, transform-none, can-carry, carried-held}
+use Rattle.rs_exec.proofs.Leavings.{leaves-then}
 use Rattle.rs_exec.proofs.Lists.{empty}
-use Rattle.rs_exec.proofs.OnRoutes.{in-order, changed-held, renamed-held, can-pair, paired-held, spread-held, window-held}
-use Rattle.rs_exec.proofs.Leading.{each-led, transform-held}
+use Rattle.rs_exec.proofs.Steps.{formed-pair}
+use Rattle.rs_exec.proofs.Holding.{earlier, laid-earlier, can-pair, shaped-of, in-order, changed-held, paired-held, laid-none, laid-bare, laid-next, laid-in-order, overlay-held, seen-held, window-none, formed-overlay, can-begin, can-pair-next, can-go-on}
 use Rattle.rs_exec.proofs.evaluation.+rows.Goals as goal
-
-held-of : (world : World) (query is : Query) (names : List Name) (rows : List Rows) → query ≡ is → AreHeld world is names rows → AreHeld world query names rows
-held-of world query is names rows same held = subst (λ q. AreHeld world q names rows) (sym same) held
 
 -- ---- operators of one operand
 
-pub rows_on-changed_on-requires-clause-ordered : goal.rows_on-changed_on-requires-clause-ordered
-rows_on-changed_on-requires-clause-ordered t c = in-order (base_world c.args.base.now) (asked_of c.in-Changed.operand) (names_of c.args.routes) (list_of c.in_ok-rows-in-Changed.rows) c.in_ok-rows-in-Changed.ensures
+pub changed_rows-changed_on-requires-clause-ordered : goal.changed_rows-changed_on-requires-clause-ordered
+changed_rows-changed_on-requires-clause-ordered g t c =
+    in-order (g.S.Source.is c.args.source.now) c.args.routes.version (operand_meaning c.args.operand) (numbers_of c.args.routes) (list_of c.in_ok-rows.rows) c.in_ok-rows.ensures.held
 
-pub rows_on-returns-in_ok-rows-in-Changed : goal.rows_on-returns-in_ok-rows-in-Changed
-rows_on-returns-in_ok-rows-in-Changed t c =
-    let world = base_world c.args.base.now in
-    let names = names_of c.args.routes in
-    let operand = asked_of c.in-Changed.operand in
-    IfOk-weaker c.changed_on.result _ _ (λ rows all.
-    held-of world (asked_of c.args.operand) (changed_query c.in-Changed.change operand) names (list_of rows) (c.node.ensures ∙ ap node_query c.in-Changed.is)
-    (changed-held world c.in-Changed.change operand names (list_of c.in_ok-rows-in-Changed.rows) (list_of rows) all c.in_ok-rows-in-Changed.ensures)) c.changed_on.ensures
-
-pub rows_on-returns-in-Renamed : goal.rows_on-returns-in-Renamed
-rows_on-returns-in-Renamed t c =
-    let world = base_world c.args.base.now in
-    let names = names_of c.args.routes in
-    let operand = asked_of c.in-Renamed.operand in
-    IfOk-weaker c.rows_on-in-Renamed.result _ _ (λ rows held.
-    held-of world (asked_of c.args.operand) (rename_column operand c.in-Renamed.field-1 c.in-Renamed.field-2.now.bytes) names (list_of rows) (c.node.ensures ∙ ap node_query c.in-Renamed.is)
-    (renamed-held world operand c.in-Renamed.field-1 c.in-Renamed.field-2.now.bytes names (list_of rows) held)) c.rows_on-in-Renamed.ensures
+pub changed_rows-returns-clause-held : goal.changed_rows-returns-clause-held
+changed_rows-returns-clause-held g t c =
+    changed-held (g.S.Source.is c.args.source.now) c.args.routes.version c.args.change (operand_meaning c.args.operand) (numbers_of c.args.routes) (list_of c.in_ok-rows.rows) (list_of c.in_ok-changed.changed) c.in_ok-changed.ensures c.in_ok-rows.ensures.held
 
 -- ---- operators of two
 
-pub rows_on-paired_on-requires : goal.rows_on-paired_on-requires
-rows_on-paired_on-requires t c =
-    let world = base_world c.args.base.now in
-    can-pair world c.in-Paired.pairing (asked_of c.in-Paired.left) (asked_of c.in-Paired.right) (names_of c.args.routes) (list_of c.in_ok-left_rows-in-Paired.left_rows) (list_of c.in_ok-right_rows-in-Paired.right_rows)
-    (subst (IsWellFormed world) (c.node.ensures ∙ ap node_query c.in-Paired.is) c.requires.well_formed) c.in_ok-left_rows-in-Paired.ensures c.in_ok-right_rows-in-Paired.ensures
+pub paired_rows-paired_on-requires : goal.paired_rows-paired_on-requires
+paired_rows-paired_on-requires g t c =
+    let a = operand_meaning c.args.left in
+    let b = operand_meaning c.args.right in
+    let numbers = numbers_of c.args.routes in
+    can-pair c.args.pairing a.kind b.kind a.width b.width numbers (list_of c.in_ok-left_rows.left_rows) (list_of c.in_ok-right_rows.right_rows) (formed-pair c.args.pairing a b c.requires.well_formed).fit
+    (shaped-of (g.S.Source.is c.args.source.now) c.args.routes.version a numbers (list_of c.in_ok-left_rows.left_rows) c.in_ok-left_rows.ensures.held)
+    (shaped-of (g.S.Source.is c.rows_on.new.source) c.args.routes.version b numbers (list_of c.in_ok-right_rows.right_rows) c.in_ok-right_rows.ensures.held)
 
-pub rows_on-returns-in_ok-right_rows-in-Paired : goal.rows_on-returns-in_ok-right_rows-in-Paired
-rows_on-returns-in_ok-right_rows-in-Paired t c =
-    let world = base_world c.args.base.now in
-    let names = names_of c.args.routes in
-    let a = asked_of c.in-Paired.left in
-    let b = asked_of c.in-Paired.right in
-    let is = c.node.ensures ∙ ap node_query c.in-Paired.is in
-    IfOk-weaker c.paired_on.result _ _ (λ rows all.
-    held-of world (asked_of c.args.operand) (paired_query c.in-Paired.pairing a b) names (list_of rows) is
-    (paired-held world c.in-Paired.pairing a b names (list_of c.in_ok-left_rows-in-Paired.left_rows) (list_of c.in_ok-right_rows-in-Paired.right_rows) (list_of rows)
-    (subst (IsWellFormed world) is c.requires.well_formed) all c.in_ok-left_rows-in-Paired.ensures c.in_ok-right_rows-in-Paired.ensures)) c.paired_on.ensures
+pub paired_rows-returns-clause-held : goal.paired_rows-returns-clause-held
+paired_rows-returns-clause-held g t c =
+    let a = operand_meaning c.args.left in
+    let b = operand_meaning c.args.right in
+    let numbers = numbers_of c.args.routes in
+    paired-held (g.S.Source.is c.args.source.now) c.args.routes.version c.args.pairing a b numbers (list_of c.in_ok-left_rows.left_rows) (list_of c.in_ok-right_rows.right_rows) (list_of c.in_ok-paired.paired)
+    c.requires.well_formed c.in_ok-paired.ensures c.in_ok-left_rows.ensures.held
+    (earlier (g.S.Source.is c.args.source.now) (g.S.Source.is c.rows_on.new.source) c.args.routes.version b numbers (list_of c.in_ok-right_rows.right_rows) c.in_ok-left_rows.ensures.leaves.stands c.in_ok-right_rows.ensures.held)
+
+pub paired_rows-returns-clause-leaves : goal.paired_rows-returns-clause-leaves
+paired_rows-returns-clause-leaves g t c =
+    leaves-then g.S.Source g.met.S.Source.passes_trans c.args.source.now c.rows_on.new.source c.rows_on-2.new.source c.in_ok-left_rows.ensures.leaves c.in_ok-right_rows.ensures.leaves
+
+-- ---- operands of an OVERLAY
+
+pub overlaid_rows-overlaid_with-requires : goal.overlaid_rows-overlaid_with-requires
+overlaid_rows-overlaid_with-requires g t c κs within =
+    let can : CanOverlay (operands_meaning c.in-Some.others) (numbers_of c.args.routes) (list_of c.in_ok-rows.rows) =
+    can-begin (g.S.Source.is c.args.source.now) c.args.routes.version c.args.back.now (operands_meaning c.args.operands) (operand_meaning c.in-Some.first) (operands_meaning c.in-Some.others) (numbers_of c.args.routes) (list_of c.in_ok-rows.rows)
+    (ap (map meaning_of) c.in-Some.ensures.first) (formed-overlay c.args.back.now (operands_meaning c.args.operands) c.requires.well_formed) c.in_ok-rows.ensures.held in
+    search rules
+
+pub overlaid_rows-changed_on-requires-clause-ordered : goal.overlaid_rows-changed_on-requires-clause-ordered
+overlaid_rows-changed_on-requires-clause-ordered g t c =
+    laid-in-order (g.S.Source.is c.args.source.now) c.args.routes.version (operand_meaning c.in-Some.first) (operands_meaning c.in-Some.others) (numbers_of c.args.routes) (list_of c.in_ok-rows.rows) (list_of c.in_ok-overlaid.overlaid) c.in_ok-rows.ensures.held
+    (laid-earlier (g.S.Source.is c.args.source.now) (g.S.Source.is c.rows_on.new.source) c.args.routes.version (operands_meaning c.in-Some.others) (numbers_of c.args.routes) (list_of c.in_ok-rows.rows) (list_of c.in_ok-overlaid.overlaid) c.in_ok-rows.ensures.leaves.stands c.in_ok-overlaid.ensures.laid)
+
+pub overlaid_rows-returns-clause-held : goal.overlaid_rows-returns-clause-held
+overlaid_rows-returns-clause-held g t c =
+    overlay-held (g.S.Source.is c.args.source.now) c.args.routes.version c.args.back (operands_meaning c.args.operands) (operand_meaning c.in-Some.first) (operands_meaning c.in-Some.others) (numbers_of c.args.routes)
+    (list_of c.in_ok-rows.rows) (list_of c.in_ok-overlaid.overlaid) (list_of c.in_ok-put_back.put_back) (ap (map meaning_of) c.in-Some.ensures.first) c.in_ok-rows.ensures.held
+    (laid-earlier (g.S.Source.is c.args.source.now) (g.S.Source.is c.rows_on.new.source) c.args.routes.version (operands_meaning c.in-Some.others) (numbers_of c.args.routes) (list_of c.in_ok-rows.rows) (list_of c.in_ok-overlaid.overlaid) c.in_ok-rows.ensures.leaves.stands c.in_ok-overlaid.ensures.laid)
+    c.in_ok-put_back.ensures
+
+pub overlaid_with-returns-then-are_none-clause-laid : goal.overlaid_with-returns-then-are_none-clause-laid
+overlaid_with-returns-then-are_none-clause-laid g t c =
+    let can = c.requires.can in
+    laid-bare (g.S.Source.is c.args.source.now) c.args.routes.version (operands_meaning c.args.operands) can.kind can.width (numbers_of c.args.routes) (list_of c.args.rows) (c.are_none.ensures c.if-are_none.true) can.shaped
+
+pub overlaid_with-returns-in_default-clause-laid : goal.overlaid_with-returns-in_default-clause-laid
+overlaid_with-returns-in_default-clause-laid g t c =
+    let can = c.requires.can in
+    subst (λ (plans : List PlanMeaning). AreLaidOver (g.S.Source.is c.args.source.now) c.args.routes.version plans (numbers_of c.args.routes) (list_of c.args.rows) (list_of c.args.rows)) (sym (ap (map meaning_of) c.in_default.ensures.end))
+    (laid-none (g.S.Source.is c.args.source.now) c.args.routes.version can.kind can.width (numbers_of c.args.routes) (list_of c.args.rows) can.shaped)
+
+pub overlaid_with-paired_on-requires : goal.overlaid_with-paired_on-requires
+overlaid_with-paired_on-requires g t c =
+    can-pair-next (g.S.Source.is c.args.source.now) c.args.routes.version (operands_meaning c.args.operands) (operand_meaning c.in-Some.next) (operands_meaning c.in-Some.others) (numbers_of c.args.routes) (list_of c.args.rows) (list_of c.in_ok-right.right)
+    (ap (map meaning_of) c.in-Some.ensures.first) c.requires.can c.in_ok-right.ensures.held
+
+pub overlaid_with-overlaid_with-requires : goal.overlaid_with-overlaid_with-requires
+overlaid_with-overlaid_with-requires g t c κs within =
+    let can : CanOverlay (operands_meaning c.in-Some.others) (numbers_of c.args.routes) (list_of c.in_ok-paired.paired) =
+    can-go-on (g.S.Source.is c.args.source.now) c.args.routes.version (operands_meaning c.args.operands) (operand_meaning c.in-Some.next) (operands_meaning c.in-Some.others) (numbers_of c.args.routes) (list_of c.args.rows) (list_of c.in_ok-right.right) (list_of c.in_ok-paired.paired)
+    (ap (map meaning_of) c.in-Some.ensures.first) c.requires.can c.in_ok-right.ensures.held c.in_ok-paired.ensures in
+    search rules
+
+pub overlaid_with-returns-clause-laid : goal.overlaid_with-returns-clause-laid
+overlaid_with-returns-clause-laid g t c =
+    let can = c.requires.can in
+    let numbers = numbers_of c.args.routes in
+    IfOk-weaker c.overlaid_with.result _ _ (λ overlaid laid.
+    subst (λ (plans : List PlanMeaning). AreLaidOver (g.S.Source.is c.args.source.now) c.args.routes.version plans numbers (list_of c.args.rows) (list_of overlaid)) (sym (ap (map meaning_of) c.in-Some.ensures.first))
+    (laid-next (g.S.Source.is c.args.source.now) c.args.routes.version (operand_meaning c.in-Some.next) (operands_meaning c.in-Some.others) can.kind can.width numbers (list_of c.args.rows) (list_of c.in_ok-right.right) (list_of c.in_ok-paired.paired) (list_of overlaid)
+    can.shaped c.in_ok-paired.ensures c.in_ok-right.ensures.held
+    (laid-earlier (g.S.Source.is c.args.source.now) (g.S.Source.is c.rows_on.new.source) c.args.routes.version (operands_meaning c.in-Some.others) numbers (list_of c.in_ok-paired.paired) (list_of overlaid) c.in_ok-right.ensures.leaves.stands laid))) c.overlaid_with.ensures.laid
 
 -- ---- windows
 
-pub seen_rows-returns-then-not-is_among : goal.seen_rows-returns-then-not-is_among
-seen_rows-returns-then-not-is_among t c =
-    IfOk-weaker c.none_on.result _ _ (λ rows none.
-    window-held (base_world c.args.base.now) (asked_of c.args.operand) (window_of c.args.window.now) (names_of c.args.routes) (list_of rows)
-    (ap (λ name. list_any (same_name name) (names_of c.args.routes)) (sym c.route_of-inside.ensures) ∙ sym c.is_among.ensures ∙ c.if-not-is_among.true) none) c.none_on.ensures
+pub seen_rows-returns-in_default-clause-held : goal.seen_rows-returns-in_default-clause-held
+seen_rows-returns-in_default-clause-held g t c =
+    window-none (g.S.Source.is c.args.source.now) c.args.routes.version c.args.windows.now (operand_meaning c.args.operand) (numbers_of c.args.routes) (list_of c.in_ok-none.none) c.in_default.ensures.none c.in_ok-none.ensures
 
-pub seen_rows-returns : goal.seen_rows-returns
-seen_rows-returns t c =
-    let world = base_world c.args.base.now in
-    let operand = asked_of c.args.operand in
-    let window = window_of c.args.window.now in
-    let there = subst (λ name. HoldsRows world operand name c.in_ok-rows.rows.first) c.route_of-inside.ensures c.in_ok-rows.ensures.0 in
-    IfOk-weaker c.spread_on.result _ _ (λ rows spread. spread-held world operand window (map seen c.in_ok-spans.spans.items) (names_of c.args.routes) (list_of rows) (c.in_ok-spans.ensures.holds world operand there) spread) c.spread_on.ensures
+pub seen_rows-returns-clause-held : goal.seen_rows-returns-clause-held
+seen_rows-returns-clause-held g t c =
+    seen-held (g.S.Source.is c.args.source.now) c.args.routes.version c.args.windows.now (operand_meaning c.args.operand) c.in-Some.route c.in-Some.part c.in_ok-rows.rows.first (map seen c.cut.new.spans.items) (numbers_of c.args.routes) (list_of c.in_ok-spread.spread)
+    c.in-Some.ensures.seen c.in_ok-rows.ensures.held.0 c.cut.ensures.means c.cut.ensures.sorted c.cut.ensures.placed c.cut.ensures.width c.in_ok-spread.ensures
 
 -- ---- what pieces carry
 
-pub carried_rows-returns-in_default : goal.carried_rows-returns-in_default
-carried_rows-returns-in_default t c =
-    let names = names_of c.args.routes in
+pub carried_rows-returns-in_default-clause-held : goal.carried_rows-returns-in_default-clause-held
+carried_rows-returns-in_default-clause-held g t c =
+    let numbers = numbers_of c.args.routes in
     let none_left = sym c.deref.ensures.value ∙ empty c.deref.result.now c.in_default.ensures.cases in
-    let sources = subst (λ items. AreSourcesOf names (names_in items) c.args.pieces.now) none_left c.in_ok-names.ensures.led in
-    IfOk-weaker c.none_on.result _ _ (λ rows none alignment. transform-held (base_world c.args.base.now) (asked_of c.args.operand) alignment c.args.pieces.now names (list_of rows) sources none) c.none_on.ensures
+    transform-none (g.S.Source.is c.args.source.now) c.args.routes.version (operand_meaning c.args.operand) c.args.pieces.now numbers (list_of c.in_ok-none.none)
+    (subst (λ sources. AreSourcesOf numbers sources c.args.pieces.now) none_left c.in_ok-numbers.ensures.led) c.in_ok-none.ensures
 
-pub carried_rows-carried_on-requires-clause-led : goal.carried_rows-carried_on-requires-clause-led
-carried_rows-carried_on-requires-clause-led t c =
-    let names = names_of c.args.routes in
+pub carried_rows-carried_on-requires : goal.carried_rows-carried_on-requires
+carried_rows-carried_on-requires g t c = record {
+  can = can-carry (g.S.Source.is c.args.source.now) c.args.routes.version (operand_meaning c.args.operand) _
+      (pieces-forwards c.args.pieces.now (operand_meaning c.args.operand) c.requires.well_formed).1 c.kind-kind.ensures c.in_ok-rows.ensures.held;
+}
+
+pub carried_rows-returns-clause-held : goal.carried_rows-returns-clause-held
+carried_rows-returns-clause-held g t c =
+    let numbers = numbers_of c.args.routes in
     let some = sym c.deref.ensures.value ∙ c.in-Some.ensures.cases.0 in
-    each-led names (names_in (c.in-Some.first.now ∷ c.in-Some.others.now)) c.args.pieces.now (subst (λ items. AreSourcesOf names (names_in items) c.args.pieces.now) some c.in_ok-names.ensures.led)
-
-pub carried_rows-returns : goal.carried_rows-returns
-carried_rows-returns t c =
-    IfOk-weaker c.carried_on.result _ _ (λ rows held alignment.
-    subst (λ a. AreHeld (base_world c.args.base.now) (transform_rows (asked a) alignment (located_pieces c.args.pieces.now)) (names_of c.args.routes) (list_of rows)) c.asked-asked.ensures (held alignment)) c.carried_on.ensures
+    carried-held (g.S.Source.is c.args.source.now) c.args.routes.version (operand_meaning c.args.operand) _ numbers (list_of c.in_ok-carried.carried) c.kind-kind.ensures c.in_ok-rows.ensures.held
+    (subst (λ sources. AreSourcesOf numbers sources c.args.pieces.now) some c.in_ok-numbers.ensures.led) c.in_ok-carried.ensures

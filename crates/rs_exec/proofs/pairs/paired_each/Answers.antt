@@ -2,17 +2,19 @@
 use Rattle.std.proofs.Common.{◌≡◌, ◌<◌, ◌∙◌, List, [], ◌∷◌, ◌++◌, Option, Some, length, sym, ap, subst, arith}
 use Rattle.std.specs.List.{AllZip, zip}
 use Rattle.std.specs.Option.{option_to_list}
-use Rattle.rs_exec.specs.declared.rows.Rows.{Rows}
+use Rattle.std.specs.Prelude.{Vec}
+use Rattle.std.specs.declared.alloc.Global.{Global}
+use Rattle.rs_facts.specs.declared.fact.Span.{Span}
 use Rattle.rs_exec.specs.Pairs.{CanPair, IsPaired}
 use Rattle.rs_exec.proofs.Lists.{Zips, zips-none, zips-next, zips-all, empty}
 use Rattle.rs_exec.proofs.pairs.paired_each.Goals as goal
 
-some_right : (R : Rows → Rows → Type 0) (lefts rights later : List Rows) (left : Rows) → AllZip R lefts rights → lefts ≡ left ∷ later → 0 < length rights
+some_right : (R : Vec Span Global → Vec Span Global → Type 0) (lefts rights later : List (Vec Span Global)) (left : Vec Span Global) → AllZip R lefts rights → lefts ≡ left ∷ later → 0 < length rights
 some_right R [] rights later left all first = absurd (let e = ap length first in omega (arith, e))
 some_right R (l ∷ lefts) [] later left all first = absurd all
 some_right R (l ∷ lefts) (r ∷ rights) later left all first = omega arith
 
-both : (R : Rows → Rows → Type 0) (lefts more_lefts rights more_rights : List Rows) (left right : Rows) → AllZip R lefts rights → lefts ≡ left ∷ more_lefts → rights ≡ right ∷ more_rights → R left right × AllZip R more_lefts more_rights
+both : (R : Vec Span Global → Vec Span Global → Type 0) (lefts more_lefts rights more_rights : List (Vec Span Global)) (left right : Vec Span Global) → AllZip R lefts rights → lefts ≡ left ∷ more_lefts → rights ≡ right ∷ more_rights → R left right × AllZip R more_lefts more_rights
 both R lefts more_lefts rights more_rights left right all e f = subst (λ zs. AllZip R (left ∷ more_lefts) zs) f (subst (λ zs. AllZip R zs rights) e all)
 
 pub loop-left-init : goal.loop-left-init
@@ -27,7 +29,7 @@ loop-left-init c =
     }
 
 -- the right that comes is the first of those that are left
-right_first : (before later : List Rows) (given : Option Rows) (right : Rows) → before ≡ option_to_list given ++ later → given ≡ Some right → before ≡ right ∷ later
+right_first : (before later : List (Vec Span Global)) (given : Option (Vec Span Global)) (right : Vec Span Global) → before ≡ option_to_list given ++ later → given ≡ Some right → before ≡ right ∷ later
 right_first before later given right items is = items ∙ ap (λ o. option_to_list o ++ later) is
 
 pub unwrap-right-requires : goal.unwrap-right-requires

@@ -1,4 +1,4 @@
-use Rattle.std.proofs.Common.{◌≡◌, ◌≤◌, true, false, length, Ok, Err, sym, ap, subst, ◌∙◌, arith}
+use Rattle.std.proofs.Common.{◌≡◌, true, false, Ok, Err, sym, ap, subst, ◌∙◌, arith}
 use Rattle.std.specs.FinMap as names
 use Rattle.std.proofs.lemmas.Result.{err_from_is_err_and}
 use Rattle.rs_refusal.specs.declared.refusal.Refusal.TheVariants.{NoSuchName, NameTaken, Limit}

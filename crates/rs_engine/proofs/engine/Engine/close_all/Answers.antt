@@ -1,4 +1,4 @@
-use Rattle.std.proofs.Common.{◌≡◌, ℕ, ap, ◌∙◌}
+use Rattle.std.proofs.Common.{ℕ, ap, ◌∙◌}
 use Rattle.rs_machine.specs.State.{Cursors}
 use Rattle.rs_machine.specs.Step.{without_cursors}
 use Rattle.rs_engine.specs.Held.{Held, state_of}

@@ -1,4 +1,4 @@
-use Rattle.std.proofs.Common.{◌≡◌, List, [], ◌++◌, map, sym, ap, ◌∙◌, append-nil}
+use Rattle.std.proofs.Common.{◌≡◌, ◌++◌, map, sym, ap, ◌∙◌, append-nil}
 use Rattle.std.specs.FinMap as names
 use Rattle.rs_catalog.specs.Names.{entries_by_bytes}
 use Rattle.rs_plan.specs.declared.counts.Index.{Index}

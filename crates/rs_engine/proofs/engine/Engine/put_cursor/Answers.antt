@@ -1,5 +1,5 @@
-use Rattle.std.proofs.Common.{◌≡◌, ℕ, ap, ◌∙◌}
-use Rattle.std.proofs.lemmas.Result.{on_ok_weaker, on_err_weaker}
+use Rattle.std.proofs.Common.{ℕ, ap, ◌∙◌}
+use Rattle.std.proofs.lemmas.Result.{on_ok_weaker}
 use Rattle.rs_machine.specs.State.{Cursors}
 use Rattle.rs_machine.specs.Step.{with_cursor}
 use Rattle.rs_serve.specs.ReplyView.{rows_of}

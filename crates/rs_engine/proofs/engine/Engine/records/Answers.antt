@@ -1,9 +1,8 @@
-use Rattle.std.proofs.Common.{◌≡◌, ◌<◌, ◌+◌, ◌^◌, Bool, List, [], length, map, sym, ap, ◌∙◌, arith}
+use Rattle.std.proofs.Common.{length, sym, ap, ◌∙◌, arith}
 use Rattle.std.proofs.lemmas.List.{length-map}
 use Rattle.std.specs.FinMap as names
 use Rattle.rs_event_lists.specs.Held.{spans_on}
 use Rattle.rs_catalog.specs.Names.{entries_by_bytes}
-use Rattle.rs_catalog.specs.Definitions.{RouteItem}
 use Rattle.rs_engine.specs.Held.{Held}
 use Rattle.rs_engine.specs.Planned.{records_kept}
 use Rattle.rs_engine.proofs.Plans.{spans_of, spans-passed}

@@ -1,9 +1,0 @@
-use Rattle.rs_eval.specs.Carried.{IsCarried}
-use Rattle.rs_eval.proofs.Lists.{zips-none, zips-all, end}
-use Rattle.rs_eval.proofs.carrying.carried_each.Goals as goal
-
-pub loop-number-init : goal.loop-number-init
-loop-number-init c = zips-none (IsCarried c.args.sources.now) _ _ c.new-rows.ensures.items
-
-pub returns : goal.returns
-returns c = zips-all (IsCarried c.args.sources.now) _ _ _ c.loop-number.invariant (end c.args.numbers.now c.loop-number.number-index c.loop-number-test.false)

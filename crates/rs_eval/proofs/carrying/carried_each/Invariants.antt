@@ -1,7 +1,0 @@
-use Rattle.std.proofs.Common.{drop}
-use Rattle.rs_eval.specs.Carried.{IsCarried}
-use Rattle.rs_eval.proofs.Lists.{Zips}
-use Rattle.rs_eval.proofs.carrying.carried_each.Given as goal
-
-abbrev pub invariant-loop-number : goal.invariant-loop-number
-invariant-loop-number l = Zips (IsCarried l.sources) l.numbers (drop l.number-index l.numbers) l.rows.items

@@ -1,9 +1,0 @@
-use Rattle.std.proofs.Common.{map, refl}
-use Rattle.rs_facts.specs.Spans.{seen}
-use Rattle.rs_eval.proofs.Pairing.{merge-paired}
-use Rattle.rs_eval.proofs.pairs.merged.Goals as goal
-
-pub returns : goal.returns
-returns c =
-    let made = c.in_ok-spans.ensures in
-    merge-paired c.args.left c.args.right c.in_ok-spans.spans (map seen c.args.left.items) (map seen c.args.right.items) refl refl made.sorted made.means made.placed made.width

@@ -1,6 +1,0 @@
-use Rattle.std.proofs.Common.{drop}
-use Rattle.rs_eval.proofs.WindowLaws.{Narrows}
-use Rattle.rs_eval.proofs.windows.part_inside.Given as goal
-
-abbrev pub invariant-loop-window : goal.invariant-loop-window
-invariant-loop-window l = Narrows l.route l.windows (drop l.window-index l.windows) l.part

@@ -1,0 +1,286 @@
+-- Rows that are made on each of several routes are rows of a plan on each of them.
+use Rattle.std.proofs.Common.{◌≡◌, ◌≢◌, ◌≤◌, ℕ, ◌+◌, Bor, true, false, ◌&&◌, List, [], ◌∷◌, map, length, refl, sym, ap, ◌∙◌, subst, arith}
+use Rattle.std.proofs.lemmas.Bool.{and_parts}
+use Rattle.std.specs.Prelude.{◌==◌, nat_le, Vec}
+use Rattle.std.specs.declared.alloc.Global.{Global}
+use Rattle.std.specs.List.{AllZip, AllByRecursion, list_all, zip}
+use Rattle.rs_value.specs.declared.column.Kind.{Kind}
+use Rattle.rs_value.specs.declared.column.Kind.TheVariants as kinds
+use Rattle.rs_value.specs.declared.column.TheConstants.{COLUMNS}
+use Rattle.rs_facts.specs.declared.fact.Span.{Span}
+use Rattle.rs_facts.specs.Fact.{RowSet}
+use Rattle.rs_facts.specs.Operators.{overlaid, dissolved, mapped, chosen}
+use Rattle.rs_facts.specs.Query.{overlaid_kind}
+use Rattle.rs_facts.specs.Runs.{Stretch}
+use Rattle.rs_facts.specs.Spans.{seen, places_of, ArePlaced}
+use Rattle.rs_sweep.specs.Lists.{AreSorted, AreWide}
+use Rattle.rs_plan.specs.declared.plan.PlannedWindow.{PlannedWindow}
+use Rattle.rs_planning.proofs.Operands.{unit_right, overlaid_assoc, line_last, kind_assoc}
+use Rattle.rs_exec.specs.Snapshot.{Snapshots}
+use Rattle.rs_exec.specs.Meaning.{PlanMeaning, rows_together, kinds_together, widths_together, overlay_meaning, window_meaning, seen_through_each}
+use Rattle.rs_exec.specs.Operand.{changed_meaning, paired_meaning}
+use Rattle.rs_exec.specs.declared.changes.Change.{Change}
+use Rattle.rs_exec.specs.declared.changes.Change.TheVariants as changes
+use Rattle.rs_exec.specs.declared.pairs.Pairing.{Pairing}
+use Rattle.rs_exec.specs.declared.pairs.Pairing.TheVariants as pairings
+use Rattle.rs_exec.specs.declared.source.Part.{Part}
+use Rattle.rs_exec.specs.Given.{inside}
+use Rattle.rs_exec.specs.Changes.{IsChanged}
+use Rattle.rs_exec.specs.Pairs.{FitTogether, CanPair, IsPaired}
+use Rattle.rs_exec.specs.Routes.{IsInOrder, HasNone, AreNone, AllAreNone, IsShaped}
+use Rattle.rs_exec.specs.Windows.{AreOff, IsSeenOn, IsSpread}
+use Rattle.rs_exec.specs.Held.{HoldsRows, AreHeld, CanOverlay, IsLaidOver, AreLaidOver}
+use Rattle.rs_exec.proofs.Lists.{zip-weaker, zip-where}
+use Rattle.rs_exec.proofs.RowLaws.{overlaid-nothing}
+use Rattle.rs_exec.proofs.Steps.{at-most, earlier-one, changed-step, paired-step, none-shaped, none-means}
+use Rattle.rs_exec.proofs.Tests.{is-number, no-number}
+
+put_back : (columns : List ℕ) (rows : RowSet) → dissolved columns rows ≡ mapped (chosen columns) rows
+unfolding dissolved
+put_back columns rows = refl
+
+abbrev AreShaped : Kind → ℕ → List ℕ → List (Vec Span Global) → Type 0
+AreShaped kind width numbers rows = AllZip (λ (number : ℕ) each. IsShaped kind width each) numbers rows
+
+-- what stood for later snapshots stood for earlier ones
+pub earlier : (was is : Snapshots → Type 0) (version : ℕ) (plan : PlanMeaning) (numbers : List ℕ) (rows : List (Vec Span Global)) → ((snapshots : Snapshots) → was snapshots → is snapshots) → AreHeld is version plan numbers rows → AreHeld was version plan numbers rows
+earlier was is version plan numbers rows stands held =
+    zip-weaker (HoldsRows is version plan) (HoldsRows was version plan) numbers rows
+    (λ number each holds. earlier-one was is version number plan each stands holds) held
+
+pub laid-earlier : (was is : Snapshots → Type 0) (version : ℕ) (plans : List PlanMeaning) (numbers : List ℕ) (old new : List (Vec Span Global)) → ((snapshots : Snapshots) → was snapshots → is snapshots) → AreLaidOver is version plans numbers old new → AreLaidOver was version plans numbers old new
+laid-earlier was is version plans numbers old new stands laid =
+    zip-weaker (IsLaidOver is version plans) (IsLaidOver was version plans) (zip numbers old) new
+    (λ pair each holds. record { means = λ snapshots there k. holds.means snapshots (stands snapshots there) k; shaped = holds.shaped }) laid
+
+pub can-pair : (pairing : Pairing) (p q : Kind) (m n : ℕ) (numbers : List ℕ) (lefts rights : List (Vec Span Global)) → FitTogether pairing m n → AreShaped p m numbers lefts → AreShaped q n numbers rights → AllZip (CanPair pairing) lefts rights
+can-pair pairing p q m n [] [] [] fit first second = tt
+can-pair pairing p q m n [] [] (r ∷ rights) fit first second = absurd second
+can-pair pairing p q m n [] (l ∷ lefts) rights fit first second = absurd first
+can-pair pairing p q m n (number ∷ numbers) [] rights fit first second = absurd first
+can-pair pairing p q m n (number ∷ numbers) (l ∷ lefts) [] fit first second = absurd second
+can-pair pairing p q m n (number ∷ numbers) (l ∷ lefts) (r ∷ rights) fit first second = (
+  record { left_kind = p; right_kind = q; left_width = m; right_width = n; left_shaped = first.0; right_shaped = second.0; fit = fit },
+  can-pair pairing p q m n numbers lefts rights fit first.1 second.1,
+)
+
+module _ (stands : Snapshots → Type 0) (version : ℕ) where
+  pub shaped-of : (plan : PlanMeaning) (numbers : List ℕ) (rows : List (Vec Span Global)) → AreHeld stands version plan numbers rows → AreShaped plan.kind plan.width numbers rows
+  shaped-of plan numbers rows held = zip-weaker (HoldsRows stands version plan) (λ number each. IsShaped plan.kind plan.width each) numbers rows (λ number each holds. holds.shaped) held
+
+  -- ---- operators of one operand
+
+  pub in-order : (plan : PlanMeaning) (numbers : List ℕ) (rows : List (Vec Span Global)) → AreHeld stands version plan numbers rows → AllByRecursion IsInOrder rows
+  in-order plan [] [] held = tt
+  in-order plan [] (each ∷ rows) held = absurd held
+  in-order plan (number ∷ numbers) [] held = tt
+  in-order plan (number ∷ numbers) (each ∷ rows) held = (held.0.shaped.sorted, in-order plan numbers rows held.1)
+
+  pub changed-held : (change : Change) (plan : PlanMeaning) (numbers : List ℕ) (old new : List (Vec Span Global)) → AllZip (IsChanged change) old new → AreHeld stands version plan numbers old → AreHeld stands version (changed_meaning change plan) numbers new
+  changed-held change plan [] [] [] all held = tt
+  changed-held change plan [] [] (n ∷ new) all held = absurd all
+  changed-held change plan [] (o ∷ old) new all held = absurd held
+  changed-held change plan (number ∷ numbers) [] new all held = absurd held
+  changed-held change plan (number ∷ numbers) (o ∷ old) [] all held = absurd all
+  changed-held change plan (number ∷ numbers) (o ∷ old) (n ∷ new) all held = (changed-step stands version number change plan o n held.0 all.0, changed-held change plan numbers old new all.1 held.1)
+
+  -- ---- operators of two
+
+  pub paired-held : (pairing : Pairing) (a b : PlanMeaning) (numbers : List ℕ) (lefts rights made : List (Vec Span Global)) → (paired_meaning pairing a b).is_well_formed ≡ true → AllZip (IsPaired pairing) (zip lefts rights) made → AreHeld stands version a numbers lefts → AreHeld stands version b numbers rights → AreHeld stands version (paired_meaning pairing a b) numbers made
+  paired-held pairing a b [] [] [] [] formed all first second = tt
+  paired-held pairing a b [] [] [] (m ∷ made) formed all first second = absurd all
+  paired-held pairing a b [] [] (r ∷ rights) made formed all first second = absurd second
+  paired-held pairing a b [] (l ∷ lefts) rights made formed all first second = absurd first
+  paired-held pairing a b (number ∷ numbers) [] rights made formed all first second = absurd first
+  paired-held pairing a b (number ∷ numbers) (l ∷ lefts) [] made formed all first second = absurd second
+  paired-held pairing a b (number ∷ numbers) (l ∷ lefts) (r ∷ rights) [] formed all first second = absurd all
+  paired-held pairing a b (number ∷ numbers) (l ∷ lefts) (r ∷ rights) (m ∷ made) formed all first second = (paired-step stands version number pairing a b l r m formed first.0 second.0 all.0, paired-held pairing a b numbers lefts rights made formed all.1 first.1 second.1)
+
+  -- ---- operands of an OVERLAY, one after another
+
+  laid_none-one : (number : ℕ) (rows : Vec Span Global) → IsLaidOver stands version [] (number, rows) rows
+  laid_none-one number rows = record {
+    means = λ snapshots there k. sym (unit_right (places_of (map seen rows.items) k));
+    shaped = λ kind width shape.
+        let same : width ≡ width + 0 = omega arith in
+        subst (λ w. IsShaped (overlaid_kind kind kinds.Line) w rows) same (subst (λ p. IsShaped p width rows) (sym (line_last kind)) shape);
+  }
+
+  -- no further operand
+  pub laid-none : (p : Kind) (m : ℕ) (numbers : List ℕ) (rows : List (Vec Span Global)) → AreShaped p m numbers rows → AreLaidOver stands version [] numbers rows rows
+  laid-none p m [] [] shaped = tt
+  laid-none p m [] (r ∷ rows) shaped = absurd shaped
+  laid-none p m (number ∷ numbers) [] shaped = absurd shaped
+  laid-none p m (number ∷ numbers) (r ∷ rows) shaped = (laid_none-one number r, laid-none p m numbers rows shaped.1)
+
+  laid_bare-one : (plans : List PlanMeaning) (number : ℕ) (rows : Vec Span Global) → HasNone rows → IsLaidOver stands version plans (number, rows) rows
+  laid_bare-one plans number rows bare = record {
+    means = λ snapshots there k.
+        none-means rows k bare
+        ∙ sym (ap (λ x. overlaid x (rows_together plans (snapshots version) number k)) (none-means rows k bare) ∙ overlaid-nothing (rows_together plans (snapshots version) number k));
+    shaped = λ kind width shape. none-shaped (overlaid_kind kind (kinds_together plans)) (width + widths_together plans) rows bare;
+  }
+
+  -- no rows are left
+  pub laid-bare : (plans : List PlanMeaning) (p : Kind) (m : ℕ) (numbers : List ℕ) (rows : List (Vec Span Global)) → AllAreNone rows → AreShaped p m numbers rows → AreLaidOver stands version plans numbers rows rows
+  laid-bare plans p m [] [] bare shaped = tt
+  laid-bare plans p m [] (r ∷ rows) bare shaped = absurd shaped
+  laid-bare plans p m (number ∷ numbers) [] bare shaped = absurd shaped
+  laid-bare plans p m (number ∷ numbers) (r ∷ rows) bare shaped = (laid_bare-one plans number r bare.0, laid-bare plans p m numbers rows bare.1 shaped.1)
+
+  laid_next-one : (next : PlanMeaning) (others : List PlanMeaning) (number : ℕ) (old right paired new : Vec Span Global) → IsPaired pairings.Overlay (old, right) paired → HoldsRows stands version next number right
+      → IsLaidOver stands version others (number, paired) new → IsLaidOver stands version (next ∷ others) (number, old) new
+  laid_next-one next others number old right paired new is held laid = record {
+    means = λ snapshots there k.
+        laid.means snapshots there k
+        ∙ ap (λ x. overlaid x (rows_together others (snapshots version) number k)) (is.means k ∙ ap (overlaid (places_of (map seen old.items) k)) (held.means snapshots there k))
+        ∙ overlaid_assoc (places_of (map seen old.items) k) (next.rows (snapshots version) number k) (rows_together others (snapshots version) number k);
+    shaped = λ kind width shape.
+        let both : IsShaped (overlaid_kind kind next.kind) (width + next.width) paired = record { sorted = is.sorted; placed = is.placed kind next.kind tt shape.placed held.shaped.placed; wide = is.wide width next.width tt shape.wide held.shaped.wide } in
+        let all = laid.shaped (overlaid_kind kind next.kind) (width + next.width) both in
+        let same : (width + next.width) + widths_together others ≡ width + (next.width + widths_together others) = omega arith in
+        subst (λ w. IsShaped (overlaid_kind kind (overlaid_kind next.kind (kinds_together others))) w new) same
+        (subst (λ p. IsShaped p ((width + next.width) + widths_together others) new) (kind_assoc kind next.kind (kinds_together others)) all);
+  }
+
+  -- one operand more
+  pub laid-next : (next : PlanMeaning) (others : List PlanMeaning) (p : Kind) (m : ℕ) (numbers : List ℕ) (old rights paired new : List (Vec Span Global)) → AreShaped p m numbers old → AllZip (IsPaired pairings.Overlay) (zip old rights) paired
+      → AreHeld stands version next numbers rights → AreLaidOver stands version others numbers paired new → AreLaidOver stands version (next ∷ others) numbers old new
+  laid-next next others p m [] old rights paired [] shaped all held laid = tt
+  laid-next next others p m [] old rights paired (n ∷ new) shaped all held laid = absurd laid
+  laid-next next others p m (number ∷ numbers) [] rights paired new shaped all held laid = absurd shaped
+  laid-next next others p m (number ∷ numbers) (o ∷ old) [] paired new shaped all held laid = absurd held
+  laid-next next others p m (number ∷ numbers) (o ∷ old) (r ∷ rights) [] new shaped all held laid = absurd all
+  laid-next next others p m (number ∷ numbers) (o ∷ old) (r ∷ rights) (q ∷ paired) [] shaped all held laid = absurd laid
+  laid-next next others p m (number ∷ numbers) (o ∷ old) (r ∷ rights) (q ∷ paired) (n ∷ new) shaped all held laid =
+      (laid_next-one next others number o r q n all.0 held.0 laid.0, laid-next next others p m numbers old rights paired new shaped.1 all.1 held.1 laid.1)
+
+  -- the rows of operands side by side, before columns are put back
+  abbrev beside : List PlanMeaning → PlanMeaning
+  beside plans = record { rows = rows_together plans; kind = kinds_together plans; width = widths_together plans; is_well_formed = true }
+
+  laid_held : (first : PlanMeaning) (others : List PlanMeaning) (numbers : List ℕ) (old new : List (Vec Span Global)) → AreHeld stands version first numbers old → AreLaidOver stands version others numbers old new → AreHeld stands version (beside (first ∷ others)) numbers new
+  laid_held first others [] [] [] held laid = tt
+  laid_held first others [] [] (n ∷ new) held laid = absurd laid
+  laid_held first others [] (o ∷ old) new held laid = absurd held
+  laid_held first others (number ∷ numbers) [] new held laid = absurd held
+  laid_held first others (number ∷ numbers) (o ∷ old) [] held laid = absurd laid
+  laid_held first others (number ∷ numbers) (o ∷ old) (n ∷ new) held laid = (
+    record {
+      means = λ snapshots there k. laid.0.means snapshots there k ∙ ap (λ x. overlaid x (rows_together others (snapshots version) number k)) (held.0.means snapshots there k);
+      shaped = laid.0.shaped first.kind first.width held.0.shaped;
+    },
+    laid_held first others numbers old new held.1 laid.1,
+  )
+
+  pub laid-in-order : (first : PlanMeaning) (others : List PlanMeaning) (numbers : List ℕ) (old new : List (Vec Span Global)) → AreHeld stands version first numbers old → AreLaidOver stands version others numbers old new → AllByRecursion IsInOrder new
+  laid-in-order first others numbers old new held laid = in-order (beside (first ∷ others)) numbers new (laid_held first others numbers old new held laid)
+
+  -- columns are put back
+  pub overlay-held : (back : Bor (List ℕ)) (plans : List PlanMeaning) (first : PlanMeaning) (others : List PlanMeaning) (numbers : List ℕ) (old mid new : List (Vec Span Global)) → plans ≡ first ∷ others → AreHeld stands version first numbers old
+      → AreLaidOver stands version others numbers old mid → AllZip (IsChanged (changes.Dissolve back)) mid new → AreHeld stands version (overlay_meaning back.now plans) numbers new
+  overlay-held back plans first others numbers old mid new are held laid all =
+      subst (λ p. AreHeld stands version (overlay_meaning back.now p) numbers new) (sym are)
+      (zip-weaker (HoldsRows stands version (changed_meaning (changes.Dissolve back) (beside (first ∷ others)))) (HoldsRows stands version (overlay_meaning back.now (first ∷ others))) numbers new
+      (λ number each holds. record { means = λ snapshots there k. holds.means snapshots there k ∙ put_back back.now (rows_together (first ∷ others) (snapshots version) number k); shaped = holds.shaped })
+      (changed-held (changes.Dissolve back) (beside (first ∷ others)) numbers mid new all (laid_held first others numbers old mid held laid)))
+
+  -- ---- windows
+
+  pub seen-held : (windows : List PlannedWindow) (plan : PlanMeaning) (route : ℕ) (part : Part) (rows : Vec Span Global) (spans : List Stretch) (numbers : List ℕ) (made : List (Vec Span Global)) → IsSeenOn windows route part → HoldsRows stands version plan route rows
+      → ((k : ℕ) → places_of spans k ≡ inside part k (places_of (map seen rows.items) k)) → AreSorted spans
+      → ((kind : Kind) → ArePlaced kind (map seen rows.items) → ArePlaced kind spans) → ((width : ℕ) → AreWide width (map seen rows.items) → AreWide width spans)
+      → AllZip (IsSpread route spans) numbers made → AreHeld stands version (window_meaning windows plan) numbers made
+  seen-held windows plan route part rows spans numbers made seen_on held means sorted placed wide all =
+      zip-weaker (IsSpread route spans) (HoldsRows stands version (window_meaning windows plan)) numbers made one all
+    where
+      here : (number : ℕ) (each : Vec Span Global) → IsSpread route spans number each → number ≡ route → HoldsRows stands version (window_meaning windows plan) number each
+      here number each spread same =
+          let is = spread.here same in
+          record {
+            means = λ snapshots there k.
+                ap (λ zs. places_of zs k) is ∙ means k ∙ ap (inside part k) (held.means snapshots there k)
+                ∙ sym (seen_on.here.same k (plan.rows (snapshots version) route k))
+                ∙ ap (λ n. seen_through_each windows n k (plan.rows (snapshots version) n k)) (sym same);
+            shaped = record {
+              sorted = subst AreSorted (sym is) sorted;
+              placed = subst (ArePlaced plan.kind) (sym is) (placed plan.kind held.shaped.placed);
+              wide = subst (AreWide plan.width) (sym is) (wide plan.width held.shaped.wide);
+            };
+          }
+
+      away : (number : ℕ) (each : Vec Span Global) → IsSpread route spans number each → number ≢ route → HoldsRows stands version (window_meaning windows plan) number each
+      away number each spread other = record {
+        means = λ snapshots there k. none-means each k (spread.elsewhere other) ∙ sym ((seen_on.elsewhere number other).nothing k (plan.rows (snapshots version) number k));
+        shaped = none-shaped plan.kind plan.width each (spread.elsewhere other);
+      }
+
+      one : (number : ℕ) (each : Vec Span Global) → IsSpread route spans number each → HoldsRows stands version (window_meaning windows plan) number each
+      one number each spread = elim (number == route) as (λ b. (number == route) ≡ b → HoldsRows stands version (window_meaning windows plan) number each) [
+        | true ↦ λ e. here number each spread (is-number number route e)
+        | false ↦ λ e. away number each spread (no-number number route e)
+      ] refl
+
+  pub window-none : (windows : List PlannedWindow) (plan : PlanMeaning) (numbers : List ℕ) (rows : List (Vec Span Global)) → AllByRecursion (AreOff windows) numbers → AreNone numbers rows → AreHeld stands version (window_meaning windows plan) numbers rows
+  window-none windows plan numbers rows off all =
+      zip-where (AreOff windows) (λ number each. HasNone each) (HoldsRows stands version (window_meaning windows plan)) numbers rows
+      (λ number each away bare. record {
+        means = λ snapshots there k. none-means each k bare ∙ sym (away.nothing k (plan.rows (snapshots version) number k));
+        shaped = none-shaped plan.kind plan.width each bare;
+      }) off all
+
+-- ---- the operands of an OVERLAY that is well-formed
+
+pub paired-shaped : (p q : Kind) (m n : ℕ) (numbers : List ℕ) (lefts rights made : List (Vec Span Global)) → AllZip (IsPaired pairings.Overlay) (zip lefts rights) made → AreShaped p m numbers lefts → AreShaped q n numbers rights → AreShaped (overlaid_kind p q) (m + n) numbers made
+paired-shaped p q m n [] [] [] [] all first second = tt
+paired-shaped p q m n [] [] [] (x ∷ made) all first second = absurd all
+paired-shaped p q m n [] [] (r ∷ rights) made all first second = absurd second
+paired-shaped p q m n [] (l ∷ lefts) rights made all first second = absurd first
+paired-shaped p q m n (number ∷ numbers) [] rights made all first second = absurd first
+paired-shaped p q m n (number ∷ numbers) (l ∷ lefts) [] made all first second = absurd second
+paired-shaped p q m n (number ∷ numbers) (l ∷ lefts) (r ∷ rights) [] all first second = absurd all
+paired-shaped p q m n (number ∷ numbers) (l ∷ lefts) (r ∷ rights) (x ∷ made) all first second = (
+  record { sorted = all.0.sorted; placed = all.0.placed p q tt first.0.placed second.0.placed; wide = all.0.wide m n tt first.0.wide second.0.wide },
+  paired-shaped p q m n numbers lefts rights made all.1 first.1 second.1,
+)
+
+-- the first operand, and the rest of them
+pub record FormedOverlay (back : List ℕ) (plans : List PlanMeaning) : Type 0 where
+  pub each : list_all (λ (plan : PlanMeaning). plan.is_well_formed) plans ≡ true
+  pub several : 2 ≤ length plans
+  pub wide : widths_together plans ≡ length back
+  pub few : length back ≤ COLUMNS
+
+pub formed-overlay : (back : List ℕ) (plans : List PlanMeaning) → (overlay_meaning back plans).is_well_formed ≡ true → FormedOverlay back plans
+formed-overlay back plans e =
+    let parts = and_parts (list_all (λ (plan : PlanMeaning). plan.is_well_formed) plans) (nat_le 2 (length plans) && (widths_together plans == length back && nat_le (length back) COLUMNS)) e in
+    let more = and_parts (nat_le 2 (length plans)) (widths_together plans == length back && nat_le (length back) COLUMNS) parts.1 in
+    let widths = and_parts (widths_together plans == length back) (nat_le (length back) COLUMNS) more.1 in
+    record { each = parts.0; several = at-most 2 (length plans) more.0; wide = is-number (widths_together plans) (length back) widths.0; few = at-most (length back) COLUMNS widths.1 }
+
+pub first-formed : (plans : List PlanMeaning) (first : PlanMeaning) (others : List PlanMeaning) → plans ≡ first ∷ others → list_all (λ (plan : PlanMeaning). plan.is_well_formed) plans ≡ true → (first.is_well_formed ≡ true) × (list_all (λ (plan : PlanMeaning). plan.is_well_formed) others ≡ true)
+first-formed plans first others are each = and_parts first.is_well_formed (list_all (λ (plan : PlanMeaning). plan.is_well_formed) others) (subst (λ p. list_all (λ (plan : PlanMeaning). plan.is_well_formed) p ≡ true) are each)
+
+pub can-begin : (stands : Snapshots → Type 0) (version : ℕ) (back : List ℕ) (plans : List PlanMeaning) (first : PlanMeaning) (others : List PlanMeaning) (numbers : List ℕ) (rows : List (Vec Span Global)) → plans ≡ first ∷ others → FormedOverlay back plans → AreHeld stands version first numbers rows → CanOverlay others numbers rows
+can-begin stands version back plans first others numbers rows are formed held = record {
+  kind = first.kind;
+  width = first.width;
+  shaped = shaped-of stands version first numbers rows held;
+  fit = let e = ap widths_together are in let w = formed.wide in let f = formed.few in omega (arith, e, w, f);
+  formed = (first-formed plans first others are formed.each).1;
+}
+
+pub can-pair-next : (stands : Snapshots → Type 0) (version : ℕ) (plans : List PlanMeaning) (next : PlanMeaning) (others : List PlanMeaning) (numbers : List ℕ) (rows rights : List (Vec Span Global)) → plans ≡ next ∷ others → CanOverlay plans numbers rows → AreHeld stands version next numbers rights → AllZip (CanPair pairings.Overlay) rows rights
+can-pair-next stands version plans next others numbers rows rights are can held =
+    let e = ap widths_together are in let f = can.fit in
+    can-pair pairings.Overlay can.kind next.kind can.width next.width numbers rows rights (omega (arith, e, f)) can.shaped (shaped-of stands version next numbers rights held)
+
+pub can-go-on : (stands : Snapshots → Type 0) (version : ℕ) (plans : List PlanMeaning) (next : PlanMeaning) (others : List PlanMeaning) (numbers : List ℕ) (rows rights paired : List (Vec Span Global)) → plans ≡ next ∷ others → CanOverlay plans numbers rows → AreHeld stands version next numbers rights
+    → AllZip (IsPaired pairings.Overlay) (zip rows rights) paired → CanOverlay others numbers paired
+can-go-on stands version plans next others numbers rows rights paired are can held all = record {
+  kind = overlaid_kind can.kind next.kind;
+  width = can.width + next.width;
+  shaped = paired-shaped can.kind next.kind can.width next.width numbers rows rights paired all can.shaped (shaped-of stands version next numbers rights held);
+  fit = let e = ap widths_together are in let f = can.fit in omega (arith, e, f);
+  formed = (first-formed plans next others are can.formed).1;
+}

@@ -1,0 +1,26 @@
+use Rattle.std.proofs.Common.{get_or}
+use Rattle.rs_exec.specs.Held.{HoldsRows}
+use Rattle.rs_exec.specs.Meaning.{leaf_meaning}
+use Rattle.rs_exec.proofs.Leavings.{leaves-none, leaves-then}
+use Rattle.rs_exec.proofs.Lists.{zips-none, zips-next, zips-all, more-numbers, end}
+use Rattle.rs_exec.proofs.Steps.{earlier-one}
+use Rattle.rs_exec.proofs.leaves.leaf_each.Goals as goal
+
+pub loop-number-init : goal.loop-number-init
+loop-number-init g c = record {
+  held = zips-none (HoldsRows (g.S.Source.is c.args.source.now) c.args.version (leaf_meaning c.args.leaf.now)) _ _ c.new-rows.ensures.items;
+  leaves = leaves-none g.S.Source g.met.S.Source.passes_refl c.args.source.now;
+}
+
+pub loop-number-preserved : goal.loop-number-preserved
+loop-number-preserved g c = record {
+  held = zips-next (HoldsRows (g.S.Source.is c.args.source.now) c.args.version (leaf_meaning c.args.leaf.now)) _ _ _ _ _ _ _ c.loop-number.invariant.held
+      (more-numbers c.args.numbers.now c.loop-number.number-index c.loop-number-test.true) c.in_ok-push.ensures.items
+      (earlier-one (g.S.Source.is c.args.source.now) (g.S.Source.is c.loop-number.source) c.args.version (get_or c.args.numbers.now c.loop-number.number-index 0) (leaf_meaning c.args.leaf.now) c.in_ok-on_route.on_route
+      c.loop-number.invariant.leaves.stands c.in_ok-on_route.ensures.held);
+  leaves = leaves-then g.S.Source g.met.S.Source.passes_trans c.args.source.now c.loop-number.source c.leaf_rows.new.source c.loop-number.invariant.leaves c.in_ok-on_route.ensures.leaves;
+}
+
+pub returns-clause-held : goal.returns-clause-held
+returns-clause-held g c =
+    zips-all (HoldsRows (g.S.Source.is c.args.source.now) c.args.version (leaf_meaning c.args.leaf.now)) _ _ _ c.loop-number.invariant.held (end c.args.numbers.now c.loop-number.number-index c.loop-number-test.false)

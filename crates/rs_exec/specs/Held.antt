@@ -1,0 +1,42 @@
+-- The rows of a plan on routes.
+use Rattle.std.specs.Prelude.{◌≡◌, ℕ, ◌+◌, ◌≤◌, true, List, map, Vec}
+use Rattle.std.specs.List.{AllZip, list_all, zip}
+use Rattle.std.specs.declared.alloc.Global.{Global}
+use Rattle.rs_value.specs.declared.column.Kind.{Kind}
+use Rattle.rs_value.specs.declared.column.TheConstants.{COLUMNS}
+use Rattle.rs_facts.specs.declared.fact.Span.{Span}
+use Rattle.rs_facts.specs.Operators.{overlaid}
+use Rattle.rs_facts.specs.Query.{overlaid_kind}
+use Rattle.rs_facts.specs.Spans.{seen, places_of}
+use Rattle.rs_exec.specs.Snapshot.{Snapshots}
+use Rattle.rs_exec.specs.Meaning.{PlanMeaning, rows_together, kinds_together, widths_together}
+use Rattle.rs_exec.specs.Routes.{IsShaped}
+
+-- In each of the snapshots the spans mean the plan's rows on the route. Whatever the snapshots, they are sorted, of the
+-- plan's kind, and as wide as its columns.
+pub record HoldsRows (stands : Snapshots → Type 0) (version : ℕ) (plan : PlanMeaning) (route : ℕ) (rows : Vec Span Global) : Type 0 where
+  pub means : (snapshots : Snapshots) → stands snapshots → (k : ℕ) → places_of (map seen rows.items) k ≡ plan.rows (snapshots version) route k
+  pub shaped : IsShaped plan.kind plan.width rows
+
+-- the same on each of several routes, in turn
+abbrev pub AreHeld : (Snapshots → Type 0) → ℕ → PlanMeaning → List ℕ → List (Vec Span Global) → Type 0
+AreHeld stands version plan numbers rows = AllZip (HoldsRows stands version plan) numbers rows
+
+-- ---- operands of an OVERLAY one after another
+
+-- rows on each of the routes that are together with further operands no wider than a row may be
+pub record CanOverlay (operands : List PlanMeaning) (numbers : List ℕ) (rows : List (Vec Span Global)) : Type 0 where
+  pub kind : Kind
+  pub width : ℕ
+  pub shaped : AllZip (λ number each. IsShaped kind width each) numbers rows
+  pub fit : width + widths_together operands ≤ COLUMNS
+  pub formed : list_all (λ plan. plan.is_well_formed) operands ≡ true
+
+-- In each of the snapshots the new spans mean the rows of the operands, on the route, beside those of the old spans.
+pub record IsLaidOver (stands : Snapshots → Type 0) (version : ℕ) (operands : List PlanMeaning) (laid : ℕ × Vec Span Global) (new : Vec Span Global) : Type 0 where
+  pub means : (snapshots : Snapshots) → stands snapshots → (k : ℕ) → places_of (map seen new.items) k ≡ overlaid (places_of (map seen laid.1.items) k) (rows_together operands (snapshots version) laid.0 k)
+  pub shaped : (kind : Kind) (width : ℕ) → IsShaped kind width laid.1 → IsShaped (overlaid_kind kind (kinds_together operands)) (width + widths_together operands) new
+
+-- the same on each of several routes, in turn
+abbrev pub AreLaidOver : (Snapshots → Type 0) → ℕ → List PlanMeaning → List ℕ → List (Vec Span Global) → List (Vec Span Global) → Type 0
+AreLaidOver stands version operands numbers old new = AllZip (IsLaidOver stands version operands) (zip numbers old) new
