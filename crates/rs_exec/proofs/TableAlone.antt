@@ -10,8 +10,7 @@ use Rattle.rs_plan.specs.declared.plan.Plan.{Plan, fold-roll-Plan}
 use Rattle.rs_plan.specs.declared.plan.Plan.TheOpen.{Plan-F}
 use Rattle.rs_plan.specs.declared.plan.Plan.TheVariants as variants
 use Rattle.rs_plan.specs.declared.plan.PlannedWindow.{PlannedWindow}
-use Rattle.rs_exec.specs.Snapshot.{Snapshot}
-use Rattle.rs_exec.specs.Meaning.{PlanMeaning, meaning_of, meaning_step, leaf_meaning, seen_through_each, table_of, rows_in}
+use Rattle.rs_exec.specs.Meaning.{PlanMeaning, meaning_of, meaning_step, leaf_meaning, seen_through_each, table_of}
 use Rattle.rs_exec.specs.Alone.{IsTableAlone}
 use Rattle.rs_exec.proofs.RowLaws.{met-none}
 

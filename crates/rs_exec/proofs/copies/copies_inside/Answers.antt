@@ -1,4 +1,4 @@
-use Rattle.std.proofs.Common.{◌≡◌, length, filter, map, ap, sym, subst, ◌∙◌}
+use Rattle.std.proofs.Common.{◌≡◌, length, map, ap, sym, subst, ◌∙◌}
 use Rattle.std.proofs.lemmas.Result.{IfOk-weaker}
 use Rattle.rs_facts.specs.Spans.{seen, places_of, IsPlaced, ArePlaced}
 use Rattle.rs_facts.specs.Operators.{windowed}
