@@ -3,9 +3,9 @@
 //! It promises that each list stays in its form, that a change of one table on one route leaves all else, and that a
 //! refusal changes nothing.
 
-ghost use Rattle.std.specs.Prelude.{◌≡◌, ℕ, true, false, map, IsSome, IfOk, OnOk, OnErr};
+ghost use Rattle.std.specs.Prelude.{◌≡◌, true, false, map, IsSome, IfOk, OnOk, OnErr};
 ghost use Rattle.std.specs.Option.{option_copied};
-ghost use Rattle.rs_facts.specs.Spans.{seen, IsPlaced, AreKept};
+ghost use Rattle.rs_facts.specs.Spans.{seen, IsPlaced};
 ghost use Rattle.rs_event_lists.specs.Removal.{goes_by};
 ghost use Rattle.rs_event_lists.specs.Held.{kind_at, kind_on, spans_on};
 ghost use Rattle.rs_event_lists.specs.Changed.{HoldsNothing, TakesSpan, LosesRows, DefinesTable, DropsTable, DropsRoute, HasSpansOn, HasNoSpansOn, AreAllKept};

@@ -3,7 +3,7 @@
 //! It promises that the list stays in its form and means what it meant without the rows that go, and how many facts
 //! went. What needs memory is made first, so that a refusal changes nothing.
 
-ghost use Rattle.std.specs.Prelude.{◌≡◌, ◌<◌, ◌≤◌, ◌+◌, ◌&&◌, false, nat_lt, [], ◌++◌, map, length, min, IfOk, OnOk, OnErr};
+ghost use Rattle.std.specs.Prelude.{◌≡◌, ◌<◌, ◌≤◌, ◌+◌, ◌&&◌, false, nat_lt, [], map, length, min, IfOk, OnOk, OnErr};
 ghost use Rattle.std.specs.Vec.{vec_capacity};
 ghost use Rattle.std.specs.Option.{option_copied, option_to_list};
 ghost use Rattle.rs_value.specs.View.{row_of};

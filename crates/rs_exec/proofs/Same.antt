@@ -17,7 +17,7 @@ use Rattle.rs_facts.specs.Condition.{Condition}
 use Rattle.rs_facts.specs.Fact.{Name, name_cmp, Names, Places, RowSet, none}
 use Rattle.rs_facts.specs.Insert.{same_name}
 use Rattle.rs_facts.specs.Operators.{mapped, chosen, dissolved, overlaid, covered, merged, without, windowed, carried}
-use Rattle.rs_facts.specs.Query.{World, Piece, overlaid_kind}
+use Rattle.rs_facts.specs.Query.{World, overlaid_kind}
 use Rattle.rs_facts.specs.Query as queries
 use Rattle.rs_facts.specs.WellFormed.{ArePiecesOn}
 use Rattle.rs_facts.proofs.RowSets.{either-way}

@@ -4,12 +4,10 @@
 //! opened, and that a refusal changes nothing.
 
 ghost use Rattle.std.specs.Prelude.{◌≡◌, ◌⊎◌, length, Ok, Err, IfErr, IfOk, OnOk, OnErr};
-ghost use Rattle.std.specs.FinMap as names;
 ghost use Rattle.rs_syntax.specs.QueryView.{query_tree};
 ghost use Rattle.rs_machine.specs.Step.{counted, effect, lines_of, with_cursor, cursor_opened, rows_fetched, cursor_closed, without_cursors};
 ghost use Rattle.rs_serve.specs.ReplyView.{rows_of};
 ghost use Rattle.rs_checker.specs.CheckedView.{query_of};
-ghost use Rattle.rs_cursor.specs.Held.{cursors_of};
 ghost use Rattle.rs_engine.specs.Plans.{CanBePlanned};
 
 use crate::engine::Engine;
