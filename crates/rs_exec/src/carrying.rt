@@ -2,7 +2,7 @@
 //!
 //! It promises what the pieces carry there, joined into runs.
 
-ghost use Rattle.std.specs.Prelude.{◌≡◌, ◌≤◌, ◌==◌, ℕ, true, filter, map, IfOk, OnOk};
+ghost use Rattle.std.specs.Prelude.{◌≡◌, ◌≤◌, ◌==◌, ℕ, true, map, IfOk, OnOk};
 ghost use Rattle.std.specs.List.{AllZip, list_any};
 ghost use Rattle.rs_value.specs.declared.column.Kind.{Kind};
 ghost use Rattle.rs_facts.specs.Operators.{carried, merged};
@@ -10,7 +10,7 @@ ghost use Rattle.rs_facts.specs.Spans.{seen, places_of, ArePlaced};
 ghost use Rattle.rs_sweep.specs.Lists.{AreWide};
 ghost use Rattle.rs_exec.specs.Meaning.{carried_by, goes_forwards};
 ghost use Rattle.rs_exec.specs.Routes.{numbers_of, list_of};
-ghost use Rattle.rs_exec.specs.Carried.{meets, rows_given, AreAllWide, AreGathered, AreSourcesOf, AreApart, CanCarry, IsCarried};
+ghost use Rattle.rs_exec.specs.Carried.{rows_given, AreAllWide, AreGathered, AreSourcesOf, AreApart, CanCarry, IsCarried};
 
 use crate::copies::copies_meeting;
 use crate::routes::{Routes, RowsOn, is_among, is_in};
