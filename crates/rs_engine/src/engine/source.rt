@@ -3,7 +3,6 @@
 //! It promises the spans that are kept now, whatever version is asked for.
 
 ghost use Rattle.std.specs.Prelude.{◌≡◌, map};
-ghost use Rattle.rs_value.specs.declared.column.Kind.{Kind};
 ghost use Rattle.rs_refusal.specs.declared.refusal.Refusal.TheVariants.{OutOfMemory};
 ghost use Rattle.rs_facts.specs.Spans.{seen, AreKept};
 ghost use Rattle.rs_sweep.specs.Lists.{AreWide};
