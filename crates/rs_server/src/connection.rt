@@ -26,8 +26,8 @@ pub struct Connection<R, W> {
 impl<'a> Connection<&'a TcpStream, &'a TcpStream> {
     /// Both halves of a TCP stream. The stream stays the caller's, who closes it by dropping it.
     pub fn over(stream: &'a TcpStream) -> Self
-        ensures reader { result.reader ≡ stream }
-        ensures writer { result.writer ≡ stream }
+        ensures reader { result.reader.now ≡ stream.now }
+        ensures writer { result.writer.now ≡ stream.now }
     {
         Connection {
             reader: stream,
@@ -49,7 +49,12 @@ pub fn serve_one<E: Serve, R: Read, W: Write>(
     ensures { (old : Machine) → E.is engine.old old → (new : Machine) × E.is engine.new new
         × ((told : List ℕ) × Consumes (R.remaining connection.old.reader) (R.remaining connection.new.reader) told
         × Ends result told (R.remaining connection.new.reader) old new
-            (W.contents connection.old.writer) (W.contents connection.new.writer)) }
+        (W.contents connection.old.writer) (W.contents connection.new.writer)) }
 {
-    run(alloc, engine, &mut connection.reader, &mut connection.writer)
+    run(
+        alloc,
+        engine,
+        &mut connection.reader,
+        &mut connection.writer,
+    )
 }
