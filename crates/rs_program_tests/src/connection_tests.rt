@@ -132,7 +132,8 @@ fn cursors_outlive_their_connection(rt: HostRuntime) -> Result<(), Fail> {
 fn a_cut_line_is_not_answered_and_not_joined_to_the_next(rt: HostRuntime) -> Result<(), Fail> {
     let listener = listen(&rt)?;
     let mut engine = Engine::fresh(rt.alloc());
-    let sent = b"0 DEFINE ROUTE A FROM 0 TO 10\n0 DEFINE LINE TABLE pave (surf TEXT(8))\n0 SELECT pa";
+    let sent =
+        b"0 DEFINE ROUTE A FROM 0 TO 10\n0 DEFINE LINE TABLE pave (surf TEXT(8))\n0 SELECT pa";
     let received = b"0 OK 0\n0 OK 0\n";
     expect_served(&rt, &listener, &mut engine, sent, received, End::CutLine)?;
     let sent = b"ve\n0 SELECT pave\n";

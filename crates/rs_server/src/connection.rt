@@ -1,4 +1,4 @@
-//! One connection: its lines are served by an engine that is there before it and after it.
+//! One connection: its lines are served by an engine that outlives it.
 //!
 //! Sessions and cursors are the engine's, so what one connection did the next one finds. A fault ends the
 //! connection alone.
@@ -36,11 +36,11 @@ impl<'a> Connection<&'a TcpStream, &'a TcpStream> {
     }
 }
 
-/// Serves the lines of one connection, until its peer has sent its last byte or a fault.
+/// Serves the lines of one connection, until its end or a fault.
 ///
 /// It is `rs_protocol::run` over the two halves: the same replies, the same end or fault, and the same engine after it.
-/// A fault is the connection's alone: the engine keeps what it had accepted by then, and the next connection
-/// is served by it as by any other. Nothing is shut or flushed.
+/// A fault is the connection's alone: the engine keeps what it had accepted by then, and can serve the next
+/// connection. Nothing is shut or flushed.
 pub fn serve_one<E: Serve, R: Read, W: Write>(
     alloc: Global,
     engine: &mut E,
