@@ -1,8 +1,11 @@
-//! What no line shows of the language side: the program's words, streams that are short or fail, and calls below the engine.
+//! What no line shows of the language side: the program's words, connections, streams that are short or fail, and calls
+//! below the engine.
 //!
 //! A crate of tests takes about a minute of a processor before its first test, so these are one.
 #![tactic(auto)]
 
+#[cfg(test)]
+mod connection_tests;
 #[cfg(test)]
 mod pieces;
 #[cfg(test)]

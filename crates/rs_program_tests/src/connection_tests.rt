@@ -1,0 +1,203 @@
+//! Connections over TCP, one after another, to one engine.
+//!
+//! A client connects, sends all that it has to send, and shuts its writing side before the connection is accepted; it
+//! reads once the connection was served. The replies are written by hand.
+
+use crate::pieces::Pieces;
+use crate::streams::BrokenWriter;
+use rs_engine::Engine;
+use rs_protocol::{End, Fault};
+use rs_server::{Connection, serve_one};
+use std::alloc::{AllocError, Global};
+use std::io;
+use std::io::{ErrorKind, Read, Write};
+use std::net::{Ipv4Addr, Shutdown, SocketAddr, TcpListener, TcpStream};
+use std::test::Fail;
+
+/// A line with its LF, and its reply.
+type Row = (&'static [u8], &'static [u8]);
+
+/// A cursor keeps what was there when it was opened.
+static CURSOR_ROWS: [Row; 13] = [
+    (b"0 DEFINE ROUTE A FROM 0 TO 10\n", b"0 OK 0\n"),
+    (b"0 DEFINE LINE TABLE pave (surf TEXT(8))\n", b"0 OK 0\n"),
+    (
+        b"0 INSERT INTO pave ON A FROM 0 TO 2 VALUES ('AC')\n",
+        b"0 OK 2000\n",
+    ),
+    (
+        b"0 INSERT INTO pave ON A FROM 3 TO 4.5 VALUES ('PC')\n",
+        b"0 OK 1500\n",
+    ),
+    (b"0 DEFINE REFERENT A K0 AT 1\n", b"0 OK 0\n"),
+    (b"1 OPEN c FOR pave AS RELATIVE\n", b"1 OK 0\n"),
+    (
+        b"1 FETCH c 1\n",
+        b"1 ROW A @START+0.000 @K0+1.000 'AC'\n1 OK 1\n",
+    ),
+    (b"2 REMOVE pave ON A\n", b"2 OK 3500\n"),
+    (b"2 MOVE REFERENT A K0 TO 2\n", b"2 OK 0\n"),
+    (
+        b"1 FETCH c 10\n",
+        b"1 ROW A @K0+2.000 @K0+3.500 'PC'\n1 OK 1\n",
+    ),
+    (b"1 FETCH c 1\n", b"1 OK 0\n"),
+    (b"1 SELECT pave\n", b"1 OK 0\n"),
+    (b"2 DROP TABLE pave\n", b"2 ERR 23 in use\n"),
+];
+
+/// The rows: a call, so that proofs don't carry their bytes.
+fn cursor_rows() -> &'static [Row] {
+    &CURSOR_ROWS
+}
+
+/// The lines of the rows.
+fn lines(alloc: Global, rows: &[Row]) -> Result<Vec<u8>, AllocError> {
+    let mut lines = Vec::new(alloc);
+    for (line, _) in rows {
+        lines.extend_from_slice(line)?;
+    }
+    Ok(lines)
+}
+
+/// The replies of the rows.
+fn replies(alloc: Global, rows: &[Row]) -> Result<Vec<u8>, AllocError> {
+    let mut replies = Vec::new(alloc);
+    for (_, reply) in rows {
+        replies.extend_from_slice(reply)?;
+    }
+    Ok(replies)
+}
+
+/// Listens on a free port.
+fn listen(rt: &HostRuntime) -> io::Result<TcpListener> {
+    TcpListener::bind(rt, SocketAddr::from((Ipv4Addr::LOCALHOST, 0)))
+}
+
+/// A client that has sent these bytes, and sends no more.
+fn client_of(rt: &HostRuntime, listener: &TcpListener, sent: &[u8]) -> io::Result<TcpStream> {
+    let mut client = TcpStream::connect(rt, listener.local_addr()?)?;
+    client.write_all(sent)?;
+    client.shutdown(Shutdown::Write)?;
+    Ok(client)
+}
+
+/// Accepts one connection, serves it and closes it.
+fn serve_next(
+    alloc: Global,
+    listener: &TcpListener,
+    engine: &mut Engine,
+) -> io::Result<Result<End, Fault>> {
+    let (stream, _) = listener.accept()?;
+    Ok(serve_one(alloc, engine, &mut Connection::over(&stream)))
+}
+
+/// Expects that a client that sends these bytes receives these, and that its connection ends so.
+fn expect_served(
+    rt: &HostRuntime,
+    listener: &TcpListener,
+    engine: &mut Engine,
+    sent: &[u8],
+    received: &[u8],
+    end: End,
+) -> Result<(), Fail> {
+    let mut client = client_of(rt, listener, sent)?;
+    let ended = serve_next(rt.alloc(), listener, engine)?;
+    let mut got = Vec::new(rt.alloc());
+    client.read_to_end(&mut got)?;
+    if ended == Ok(end) && got.as_slice() == received {
+        return Ok(());
+    }
+    Err(Fail::new(format_args!("not so: {ended:?} {got:?}")))
+}
+
+#[test]
+fn cursors_outlive_their_connection(rt: HostRuntime) -> Result<(), Fail> {
+    let alloc = rt.alloc();
+    let listener = listen(&rt)?;
+    let rows = cursor_rows();
+    for count in 0..=rows.len() {
+        let mut engine = Engine::fresh(alloc);
+        let (first, second) = rows.split_at(count);
+        for part in [first, second] {
+            let sent = lines(alloc, part)?;
+            let received = replies(alloc, part)?;
+            expect_served(&rt, &listener, &mut engine, &sent, &received, End::Whole)?;
+        }
+    }
+    Ok(())
+}
+
+#[test]
+fn a_cut_line_is_not_answered_and_not_joined_to_the_next(rt: HostRuntime) -> Result<(), Fail> {
+    let listener = listen(&rt)?;
+    let mut engine = Engine::fresh(rt.alloc());
+    let sent =
+        b"0 DEFINE ROUTE A FROM 0 TO 10\n0 DEFINE LINE TABLE pave (surf TEXT(8))\n0 SELECT pa";
+    let received = b"0 OK 0\n0 OK 0\n";
+    expect_served(&rt, &listener, &mut engine, sent, received, End::CutLine)?;
+    let sent = b"ve\n0 SELECT pave\n";
+    let received = b"0 ERR 3 session number\n0 OK 0\n";
+    expect_served(&rt, &listener, &mut engine, sent, received, End::Whole)
+}
+
+#[test]
+fn a_peer_may_send_nothing(rt: HostRuntime) -> Result<(), Fail> {
+    let listener = listen(&rt)?;
+    let mut engine = Engine::fresh(rt.alloc());
+    expect_served(&rt, &listener, &mut engine, b"", b"", End::Whole)?;
+    let sent = b"0 DEFINE ROUTE A FROM 0 TO 10\n";
+    expect_served(&rt, &listener, &mut engine, sent, b"0 OK 0\n", End::Whole)?;
+    expect_served(&rt, &listener, &mut engine, b"", b"", End::Whole)?;
+    let sent = b"0 TRANSLATE A 4 AS ABSOLUTE\n";
+    let received = b"0 ROW 4.000\n0 OK 1\n";
+    expect_served(&rt, &listener, &mut engine, sent, received, End::Whole)
+}
+
+/// Serves a peer that has gone when its 1,000 lines are answered: no reply is read.
+fn serve_gone(rt: &HostRuntime, listener: &TcpListener, engine: &mut Engine) -> Result<(), Fail> {
+    let mut sent = Vec::new(rt.alloc());
+    for _ in 0..1_000u16 {
+        sent.extend_from_slice(b"0 SELECT pave\n")?;
+    }
+    drop(client_of(rt, listener, &sent)?);
+    let _ = serve_next(rt.alloc(), listener, engine)?;
+    Ok(())
+}
+
+#[test]
+fn a_peer_that_has_gone_ends_its_connection_alone(rt: HostRuntime) -> Result<(), Fail> {
+    let listener = listen(&rt)?;
+    let mut engine = Engine::fresh(rt.alloc());
+    serve_gone(&rt, &listener, &mut engine)?;
+    let sent = b"0 SELECT pave\n";
+    let received = b"0 ERR 21 no such name\n";
+    expect_served(&rt, &listener, &mut engine, sent, received, End::Whole)
+}
+
+#[test]
+fn a_fault_ends_its_connection_alone(rt: HostRuntime) -> Result<(), Fail> {
+    let alloc = rt.alloc();
+    let mut engine = Engine::fresh(alloc);
+    let mut unwritable = Connection {
+        reader: b"0 DEFINE ROUTE A FROM 0 TO 10\n".as_slice(),
+        writer: BrokenWriter,
+    };
+    let ended = serve_one(alloc, &mut engine, &mut unwritable);
+    assert_eq!(rt; ended, Err(Fault::Write));
+    let mut unreadable = Connection {
+        reader: Pieces {
+            rest: b"0 DEFINE LINE TABLE pave (surf TEXT(8))\n0 SELECT pa",
+            size: 64,
+            reads_before_fault: 1,
+            kind: ErrorKind::ConnectionReset,
+        },
+        writer: Vec::new(alloc),
+    };
+    let ended = serve_one(alloc, &mut engine, &mut unreadable);
+    assert_eq!(rt; ended, Err(Fault::Read));
+    assert_eq!(rt; unreadable.writer.as_slice(), b"0 OK 0\n".as_slice());
+    let sent = b"0 INSERT INTO pave ON A FROM 0 TO 1 VALUES ('AC')\n";
+    let received = b"0 OK 1000\n";
+    expect_served(&rt, &listen(&rt)?, &mut engine, sent, received, End::Whole)
+}

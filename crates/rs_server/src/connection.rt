@@ -1,0 +1,60 @@
+//! One connection: its lines are served by an engine that outlives it.
+//!
+//! Sessions and cursors are the engine's, so what one connection did the next one finds. A fault ends the
+//! connection alone.
+
+ghost use Rattle.std.specs.Prelude.{◌≡◌, ℕ, List};
+ghost use Rattle.std.specs.Io.KnownBytes.{Consumes};
+ghost use Rattle.rs_machine.specs.Served.{Machine};
+ghost use Rattle.rs_protocol.specs.Ends.{Ends};
+
+use rs_protocol::{End, Fault, run};
+use rs_serve::Serve;
+use std::alloc::Global;
+use std::io::{Read, Write};
+use std::net::TcpStream;
+
+/// The two halves of one stream: a peer's bytes are read from the one, and its replies written to the other.
+#[derive(Drop)]
+pub struct Connection<R, W> {
+    /// What the peer sends.
+    pub reader: R,
+    /// What the peer receives.
+    pub writer: W,
+}
+
+impl<'a> Connection<&'a TcpStream, &'a TcpStream> {
+    /// Both halves of a TCP stream. The stream stays the caller's, who closes it by dropping it.
+    pub fn over(stream: &'a TcpStream) -> Self
+        ensures reader { result.reader.now ≡ stream.now }
+        ensures writer { result.writer.now ≡ stream.now }
+    {
+        Connection {
+            reader: stream,
+            writer: stream,
+        }
+    }
+}
+
+/// Serves the lines of one connection, until its end or a fault.
+///
+/// It is `rs_protocol::run` over the two halves: the same replies, the same end or fault, and the same engine after it.
+/// A fault is the connection's alone: the engine keeps what it had accepted by then, and can serve the next
+/// connection. Nothing is shut or flushed.
+pub fn serve_one<E: Serve, R: Read, W: Write>(
+    alloc: Global,
+    engine: &mut E,
+    connection: &mut Connection<R, W>,
+) -> Result<End, Fault>
+    ensures { (old : Machine) → E.is engine.old old → (new : Machine) × E.is engine.new new
+        × ((told : List ℕ) × Consumes (R.remaining connection.old.reader) (R.remaining connection.new.reader) told
+        × Ends result told (R.remaining connection.new.reader) old new
+        (W.contents connection.old.writer) (W.contents connection.new.writer)) }
+{
+    run(
+        alloc,
+        engine,
+        &mut connection.reader,
+        &mut connection.writer,
+    )
+}
