@@ -48,12 +48,13 @@ impl Engine {
         ensures { IfOk result (λ runs. AreRunsOf (kind_in plan.now) (rows_in plan.now (present self.now.events) route.number)
             (map seen runs.items)) }
     {
-        if is_elsewhere(plan, route.number()) {
+        let number = route.number();
+        if is_elsewhere(plan, number) {
             return Ok(Vec::new(self.alloc));
         }
         let mut source = KeptSpans { engine: self };
         // what is kept is refused for want of memory alone
-        match eval(self.alloc, &mut source, plan, route.number(), PRESENT) {
+        match eval(self.alloc, &mut source, plan, number, PRESENT) {
             Ok(runs) => Ok(runs),
             Err(_) => Err(AllocError),
         }
