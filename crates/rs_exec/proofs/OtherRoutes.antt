@@ -92,4 +92,3 @@ pub operand-nothing : (plan : Plan) (operand : Box Plan Global) (route : ℕ)
 operand-nothing plan operand route (inl one) off = subst (HasNothingOn route) (sym one.1) (where-nothing one.0 operand route off)
 operand-nothing plan operand route (inr (inl one)) off = subst (HasNothingOn route) (sym one.1) (dissolve-nothing one.0 operand route off)
 operand-nothing plan operand route (inr (inr one)) off = subst (HasNothingOn route) (sym one.1) (minus-nothing operand one.0 route off)
-
