@@ -204,7 +204,7 @@ module _ (kept : KeptSpansAreTheRuns) (mean : PlansMeanTheirQueries) (form : Pla
 
 pub runs-planned : (held : Held) (query : Query) (plan : Plan) → IsPlanFor held query plan → (kind : Kind) → kind ≡ kind_in plan → (route : Name) (on : RouteItem) → names.get held.definitions.routes route ≡ Some on
     → (runs : List Stretch) → AreRunsOf (kind_in plan) (rows_in plan (present held.events) on.number) runs → AreRunsOf kind (rows_at (world_of (state_of held)) query route) runs
-runs-planned held query plan is kind of_kind route on there runs are =
+runs-planned held _ plan is kind of_kind route on there runs are =
     subst (λ (places : Places). AreRunsOf kind places runs) (fun_ext (is.rows route on there))
     (subst (λ (k : Kind). AreRunsOf k (rows_in plan (present held.events) on.number) runs) (sym of_kind) are)
 

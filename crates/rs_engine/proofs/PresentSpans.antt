@@ -68,4 +68,4 @@ length-row tuple = length-map tuple.items datum_of
 
 pub starts-first : (width : ℕ) (spans : List Span) (first : Span) → Some first ≡ slice_get spans 0 → starts_wide width (map seen spans) ≡ (length (row_of first.tuple.value) == width)
 starts-first width [] first e = none_some first (sym e)
-starts-first width (span ∷ spans) first e = ap (λ (s : Span). length (row_of s.tuple.value) == width) (sym (some_same first span e))
+starts-first width (span ∷ _) first e = ap (λ (s : Span). length (row_of s.tuple.value) == width) (sym (some_same first span e))

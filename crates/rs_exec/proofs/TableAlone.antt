@@ -14,7 +14,7 @@ use Rattle.rs_exec.specs.Meaning.{PlanMeaning, meaning_of, meaning_step, leaf_me
 use Rattle.rs_exec.specs.Alone.{IsTableAlone}
 use Rattle.rs_exec.proofs.RowLaws.{met-none}
 
-leaf-means : (leaf : Leaf) → meaning_of (variants.Leaf leaf) ≡ leaf_meaning leaf
+pub leaf-means : (leaf : Leaf) → meaning_of (variants.Leaf leaf) ≡ leaf_meaning leaf
 leaf-means leaf = ap meaning_of (sym (variants.rolls-Leaf leaf)) ∙ fold-roll-Plan PlanMeaning meaning_step (Plan-F.Leaf leaf)
 
 pub leaf-alone : (plan : Plan) (leaf : Leaf) → plan ≡ variants.Leaf leaf → leaf.windows.items ≡ [] → leaf.conditions.items ≡ [] → IsTableAlone plan leaf.table

@@ -8,6 +8,7 @@ pub mod alone;
 mod carrying;
 mod changes;
 pub mod copies;
+pub mod elsewhere;
 pub mod evaluation;
 mod kinds;
 pub mod laws;
@@ -20,5 +21,6 @@ mod windows;
 
 pub use alone::table_alone;
 pub use copies::copies_inside;
+pub use elsewhere::is_elsewhere;
 pub use evaluation::eval;
 pub use source::{Asked, Part, SoughtValue, Source};

@@ -12,3 +12,4 @@ pub mod LeafLaws
 pub mod PlacingLaws
 pub mod Arms
 pub mod WholePlans
+pub mod Uncounted

@@ -6,3 +6,4 @@ pub mod Operands
 pub mod Leaves
 pub mod Widths
 pub mod Planned
+pub mod Weighing

@@ -12,6 +12,7 @@ mod overlays;
 mod placing;
 pub mod plan;
 pub mod planning;
+mod weighing;
 mod widths;
 
 pub use counts::{Counts, Index};

@@ -13,7 +13,7 @@ use crate::engine::Engine;
 use crate::engine::source::{KeptSpans, PRESENT};
 use rs_catalog::RouteEntry;
 use rs_coalesce::kept_runs;
-use rs_exec::{Asked, eval};
+use rs_exec::{Asked, eval, is_elsewhere};
 use rs_facts::Span;
 use rs_plan::{Plan, PlannedTable};
 use std::alloc::AllocError;
@@ -38,7 +38,7 @@ impl Engine {
         kept_runs(self.alloc, self.spans_asked(&asked))
     }
 
-    /// The runs of a plan on one route, by its evaluation.
+    /// The runs of a plan on one route, by its evaluation; none at once where its windows leave nothing of the route.
     pub(crate) fn evaluated_runs(
         &self,
         plan: &Plan,
@@ -48,9 +48,13 @@ impl Engine {
         ensures { IfOk result (λ runs. AreRunsOf (kind_in plan.now) (rows_in plan.now (present self.now.events) route.number)
             (map seen runs.items)) }
     {
+        let number = route.number();
+        if is_elsewhere(plan, number) {
+            return Ok(Vec::new(self.alloc));
+        }
         let mut source = KeptSpans { engine: self };
         // what is kept is refused for want of memory alone
-        match eval(self.alloc, &mut source, plan, route.number(), PRESENT) {
+        match eval(self.alloc, &mut source, plan, number, PRESENT) {
             Ok(runs) => Ok(runs),
             Err(_) => Err(AllocError),
         }

@@ -1,9 +1,7 @@
-use Rattle.std.proofs.Common.{map, ap}
-use Rattle.rs_facts.specs.ConditionView.{condition_of}
-use Rattle.rs_plan.specs.PlanView.{conditions_of}
-use Rattle.rs_plan.proofs.WholePlans.{planned}
+use Rattle.std.proofs.Common.{sym, ◌∙◌}
+use Rattle.std.proofs.lemmas.Result.{IfOk-weaker}
+use Rattle.rs_plan.proofs.Uncounted.{planned-uncounted}
 use Rattle.rs_plan.proofs.planning.plan.Goals as goal
 
 pub returns : goal.returns
-returns g c =
-    planned (g.C.Counts.counted c.args.counts.now) c.args.checked c.new.result.items (conditions_of c.new-2.result) c.in_ok-one.one c.new.ensures.items (ap (map condition_of) c.new-2.ensures.items) c.in_ok-one.ensures
+returns g c = IfOk-weaker c.plan_by-2.result _ _ (λ plan is. planned-uncounted (g.C.Counts.counted c.args.counts.now) c.args.checked plan (sym c.has_overlay.ensures ∙ c.if-has_overlay.false) is) c.plan_by-2.ensures
