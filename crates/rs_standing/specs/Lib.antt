@@ -1,0 +1,5 @@
+pub mod Later
+pub mod Meant
+pub mod Seen
+pub mod Standing
+pub mod States
