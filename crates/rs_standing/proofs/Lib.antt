@@ -1,0 +1,7 @@
+mod Same
+mod One
+mod Named
+mod Picked
+mod Lawful
+mod LaterRecords
+mod LaterContents

@@ -1,7 +1,6 @@
 -- What changes after a version do to the contents of a file, and what such a version sees as it did before them.
-use Rattle.std.specs.Prelude.{◌≡◌, ◌⊎◌, ◌<◌, ◌≤◌, ℕ, Some, Contains, IsPermutation, List, [], ◌∷◌, ◌++◌}
+use Rattle.std.specs.Prelude.{◌≡◌, ◌⊎◌, ◌<◌, ◌≤◌, ℕ, Some, Contains, List, [], ◌∷◌}
 use Rattle.std.specs.FinMap as names
-use Rattle.std.specs.List.{AllByRecursion}
 use Rattle.rs_catalog_pages.specs.Items.{RouteItem, TableItem}
 use Rattle.rs_cell_versions.specs.declared.cell.TheConstants.{LIVING}
 use Rattle.rs_contents.specs.Contents.{Contents}
@@ -10,7 +9,7 @@ use Rattle.rs_facts.specs.Query.{Table}
 use Rattle.rs_facts.specs.Spans.{places_of}
 use Rattle.rs_value.specs.declared.column.ColumnType.{ColumnType}
 use Rattle.rs_versioned.specs.Events.{kept_events}
-use Rattle.rs_versioned.specs.Records.{HasEnded, HasOneMore, Kept}
+use Rattle.rs_versioned.specs.Records.{HasCleared, HasEnded, HasOneMore, Kept}
 use Rattle.rs_versioned.specs.Referents.{kept_referents}
 use Rattle.rs_standing.specs.Seen.{born_by, events_of, referents_seen, spans_seen}
 use Rattle.rs_standing.specs.States.{routes_named, world_at}
@@ -33,11 +32,12 @@ pub record EndsAfter {R : Type 0} (kept : Kept R) (version : ℕ) (old now : Lis
   pub fresh : Contains old (kept.ended at one) → ⊥
   pub ended : HasEnded kept at one old now
 
--- some are gone that had died by the version
+-- some are gone that neither the version nor a later one saw
 pub record ClearsBefore {R : Type 0} (kept : Kept R) (version : ℕ) (old now : List R) : Type 0 where
-  pub gone : List R
-  pub dead : AllByRecursion (λ one. kept.died one ≤ version) gone
-  pub rest : IsPermutation old (gone ++ now)
+  pub oldest : ℕ
+  pub before : oldest ≤ version
+  pub cells : List (List ℕ)
+  pub cleared : HasCleared kept oldest cells old now
 
 abbrev pub ChangesOnce : {R : Type 0} → Kept R → ℕ → List R → List R → Type 0
 ChangesOnce kept version old now = ComesAfter kept version old now ⊎ EndsAfter kept version old now ⊎ ClearsBefore kept version old now

@@ -1,10 +1,63 @@
 //! A disk stands for one state at the most, which is lawful, and what a version sees depends on nothing that came after it.
 
-ghost use Rattle.std.specs.Prelude.{◌≡◌, ℕ};
+ghost use Rattle.std.specs.Prelude.{◌≡◌, ◌≤◌, ℕ};
 ghost use Rattle.rs_contents.specs.Contents.{Contents, SameContents};
-ghost use Rattle.rs_standing.specs.States.{world_at};
+ghost use Rattle.rs_disk.specs.Content.{Content};
+ghost use Rattle.rs_machine.specs.Lawful.{IsLawful};
+ghost use Rattle.rs_machine.specs.State.{State};
+ghost use Rattle.rs_pages.specs.PageMap.{PageMap};
+ghost use Rattle.rs_standing.specs.Later.{IsLater, SeesTheSame};
+ghost use Rattle.rs_standing.specs.Meant.{IsMeant};
+ghost use Rattle.rs_standing.specs.Standing.{IsFileOf, Stands, StandsFor};
+ghost use Rattle.rs_standing.specs.States.{IsStateAt, world_at};
 
-/// The same contents have one world at each version.
+use rs_catalog_meaning::laws::meant_definitions_make_a_lawful_state;
+use rs_contents::laws::file_holds_one_thing;
+use rs_pager::laws::disk_stands_for_one_map;
+use rs_syntax_laws::views::{text_of_a_view_says_its_query, text_says_one_query};
+use rs_value::said_row_is_of_its_columns;
+
+/// A disk stands for one state at the most, within whatever limit it is looked at, and whether it was closed or not.
+pub fn disk_stands_for_one_state()
+    ensures file { (limit most : ℕ) (disk : Content) (one other : State)
+        → IsFileOf limit disk one → IsFileOf most disk other → one ≡ other }
+    ensures closed { (limit most : ℕ) (disk : Content) (one other : State)
+        → Stands limit disk one → Stands most disk other → one ≡ other }
+{
+    disk_stands_for_one_map();
+    file_holds_one_thing();
+    text_of_a_view_says_its_query();
+    text_says_one_query();
+}
+
+/// Contents have one state at each version at the most, and the same contents have the same states.
+pub fn contents_have_one_state()
+    ensures one { (version : ℕ) (contents : Contents) (one other : State)
+        → IsStateAt version contents one → IsStateAt version contents other → one ≡ other }
+    ensures same { (version : ℕ) (one other : Contents) (state : State)
+        → SameContents one other → IsStateAt version one state → IsStateAt version other state }
+{
+    text_of_a_view_says_its_query();
+    text_says_one_query();
+}
+
+/// The same contents have the same world at each version.
 pub fn same_contents_have_one_world()
     ensures { (version : ℕ) (one other : Contents) → SameContents one other → world_at one version ≡ world_at other version }
+{}
+
+/// The state that a file stands for is lawful.
+pub fn what_stands_is_lawful()
+    ensures pages { (pages : PageMap) (contents : Contents) (state : State) → StandsFor pages contents state → IsLawful state }
+    ensures disk { (limit : ℕ) (disk : Content) (state : State) → Stands limit disk state → IsLawful state }
+{
+    meant_definitions_make_a_lawful_state();
+    said_row_is_of_its_columns();
+}
+
+/// A version sees nothing of what comes after it: routes and tables that are defined, records that come and end, and dead ones that
+/// are cleared.
+pub fn version_sees_nothing_of_what_comes_after_it()
+    ensures { (version oldest from : ℕ) (old now : Contents) → IsLater version old now
+        → IsMeant oldest old → IsMeant from now → oldest ≤ version → version ≤ old.directory.accepted → SeesTheSame version old now }
 {}
