@@ -13,7 +13,7 @@ use Rattle.rs_catalog.specs.Definitions as catalog
 use Rattle.rs_catalog.specs.Definitions.{facts_from, no_places, on_numbered, table_from}
 use Rattle.rs_catalog.specs.Names.{map_values}
 use Rattle.rs_catalog.proofs.NameOrder.{name_cmp-antisymmetric, name_cmp-total}
-use Rattle.rs_catalog_meaning.specs.Meaning.{AreInOrder, ends_of}
+use Rattle.rs_catalog_meaning.specs.Meaning.{AreInOrder}
 use Rattle.rs_catalog_pages.specs.Items.{RouteItem, TableItem}
 use Rattle.rs_contents.specs.Contents.{Contents}
 use Rattle.rs_facts.specs.Fact.{Facts, Name, Names, Places, name_cmp}
@@ -27,7 +27,7 @@ use Rattle.rs_versioned.proofs.EventsSeen.{event_route, events_end, referent_rou
 use Rattle.rs_standing.specs.Later.{IsLater, RoutesComeAfter, SeesTheSame}
 use Rattle.rs_standing.specs.Meant.{IsMeant}
 use Rattle.rs_standing.specs.Seen.{born_by, events_of, is_born, referents_seen, spans_seen}
-use Rattle.rs_standing.specs.States.{named_table, routes_named, tables_named, world_at}
+use Rattle.rs_standing.specs.States.{named_route, named_table, routes_named, tables_named, world_at}
 use Rattle.rs_standing.proofs.LaterRecords.{entries_moved, seen_as_before}
 use Rattle.rs_standing.proofs.Named.{get_there, item_of, order_kept, values_changed}
 use Rattle.rs_standing.proofs.Picked.{each_kept, kept_passes, kept_there}
@@ -84,7 +84,7 @@ module _ (version : ℕ) (old now : Contents) (later : IsLater version old now) 
   routes_seen : AreInOrder (λ (route : RouteItem). route.name) was → AreInOrder (λ (route : RouteItem). route.name) are
       → routes_named (born_by version are) ≡ routes_named (born_by version was)
   routes_seen rise order =
-      same_listed (λ (route : RouteItem). route.name) (λ route. record { number = route.number; ends = ends_of route }) (born_by version are) (born_by version was)
+      same_listed (λ (route : RouteItem). route.name) (λ route. (named_route route).1) (born_by version are) (born_by version was)
       (order_kept (λ (route : RouteItem). route.name) (is_born version) are order) (order_kept (λ (route : RouteItem). route.name) (is_born version) was rise)
       born_before still_born
 

@@ -47,10 +47,11 @@ use Rattle.rs_value.specs.Values.{IsRowOf}
 use Rattle.rs_versioned.specs.Events.{Event, SaysEvent, is_on, sees_event, span_of, spans_at}
 use Rattle.rs_versioned.specs.Referents.{ReferentRecord, is_referent_of, kept_referents, referents_at}
 use Rattle.rs_versioned.specs.Records.{is_seen}
-use Rattle.rs_standing.specs.Meant.{AreReferentsMeant, AreViewsMeant, IsEventOn, IsMeant, IsReferentOn, IsSpanOf, IsTableMeant, OnRoute}
+use Rattle.rs_standing.specs.Meant.{AreReferentsMeant, IsEventOn, IsMeant, IsReferentOn, IsSpanOf, IsTableMeant, OnRoute}
 use Rattle.rs_standing.specs.Seen.{born_by, events_of, referents_seen, spans_seen}
 use Rattle.rs_standing.specs.Standing.{StandsFor}
-use Rattle.rs_standing.specs.States.{AreDefinitionsAt, IsStateAt, IsViewOf, named_index, named_table, routes_named, tables_named}
+use Rattle.rs_standing.specs.Views.{AreViewsMeant}
+use Rattle.rs_standing.specs.States.{AreDefinitionsAt, IsStateAt, IsViewOf, named_index, named_route, named_table, routes_named, tables_named}
 use Rattle.rs_standing.proofs.Named.{HasItem, found_item, get_there, item_of, len_by, values_changed}
 use Rattle.rs_standing.proofs.Picked.{HasSource, HasTable, as_many, beside, born_all, each_kept, kept_passes, kept_there, same_numbered, source_of, table_of}
 
@@ -110,7 +111,7 @@ module _ (pages : PageMap) (contents : Contents) (definitions : Definitions) (ho
   routes_are : state.routes ≡ meaning.routes_of catalogue.routes
   routes_are =
       ap (map_values (λ (item : catalog.RouteItem). item.ends)) routes_kept
-      ∙ values_changed (λ (route : RouteItem). route.name) (λ route. record { number = route.number; ends = ends_of route }) (λ (item : catalog.RouteItem). item.ends)
+      ∙ values_changed (λ (route : RouteItem). route.name) (λ route. (named_route route).1) (λ (item : catalog.RouteItem). item.ends)
       catalogue.routes meant.definitions.routes.in_order
 
   full_table : TableItem → Table
@@ -145,9 +146,9 @@ module _ (pages : PageMap) (contents : Contents) (definitions : Definitions) (ho
 
   -- a route that is found by its name
   route_of : (name : Name) (kept : catalog.RouteItem) → names.get definitions.routes name ≡ Some kept
-      → HasItem (λ (route : RouteItem). route.name) (λ route. record { number = route.number; ends = ends_of route }) catalogue.routes name kept
+      → HasItem (λ (route : RouteItem). route.name) (λ route. (named_route route).1) catalogue.routes name kept
   route_of name kept there =
-      item_of (λ (route : RouteItem). route.name) (λ route. record { number = route.number; ends = ends_of route }) catalogue.routes name kept meant.definitions.routes.in_order
+      item_of (λ (route : RouteItem). route.name) (λ route. (named_route route).1) catalogue.routes name kept meant.definitions.routes.in_order
       (sym (ap (λ (routes : Names catalog.RouteItem). names.get routes name) routes_kept) ∙ there)
 
   -- ---- tables

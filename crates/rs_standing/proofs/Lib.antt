@@ -3,5 +3,7 @@ mod One
 mod Named
 mod Picked
 mod Lawful
+mod Fresh
+mod Worlds
 mod LaterRecords
 mod LaterContents

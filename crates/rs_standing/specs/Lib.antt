@@ -3,3 +3,4 @@ pub mod Meant
 pub mod Seen
 pub mod Standing
 pub mod States
+pub mod Views

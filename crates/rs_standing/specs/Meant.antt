@@ -1,25 +1,19 @@
 -- Which contents of a file are meant: definitions that their DEFINE lines would make, and records that commands could leave, from
 -- the oldest version that is looked at up to the one that was accepted last. Of records that none of these versions sees nothing is
 -- asked: a dropped route leaves dead ones, and its number is given again.
-use Rattle.std.specs.Prelude.{◌≡◌, ◌≢◌, ◌≤◌, ℕ, Ok, Contains, List, filter, length, map}
+use Rattle.std.specs.Prelude.{◌≡◌, ◌≢◌, ◌≤◌, ℕ, Contains, List, filter, length, map}
 use Rattle.std.specs.List.{AllByRecursion, AllZip}
 use Rattle.rs_catalog.specs.Events.{behind}
 use Rattle.rs_catalog_meaning.specs.Meaning.{AreMeant, ends_of}
 use Rattle.rs_catalog_meaning.specs.Stating.{kind_of}
 use Rattle.rs_catalog_pages.specs.Items.{RouteItem, TableItem}
 use Rattle.rs_contents.specs.Contents.{Contents, TableContents}
-use Rattle.rs_facts.specs.Fact.{Name}
-use Rattle.rs_facts.specs.Query.{Query, RouteEnds}
+use Rattle.rs_facts.specs.Query.{RouteEnds}
 use Rattle.rs_facts.specs.Runs.{Stretch}
-use Rattle.rs_machine.specs.Checking.{nodes_checked}
-use Rattle.rs_machine.specs.Checks.{window_route}
-use Rattle.rs_machine.specs.Lawful.{AreDistinct, Each, IsPlaceOf, IsView}
-use Rattle.rs_machine.specs.Opening.{AreInOrder, opened}
-use Rattle.rs_machine.specs.State.{State}
+use Rattle.rs_machine.specs.Lawful.{AreDistinct, IsPlaceOf}
 use Rattle.rs_machine.specs.declared.limits.TheConstants.{REFERENTS}
 use Rattle.rs_methods.specs.Position.{start_name}
 use Rattle.rs_syntax.specs.Sound.{IsName}
-use Rattle.rs_syntax.specs.Tree.{QueryTree, covered, dissolved, filtered, merged, named, overlaid, renamed, subtracted, transformed, whole_route, windowed}
 use Rattle.rs_value.specs.declared.column.Kind.{Kind}
 use Rattle.rs_versioned.specs.Events.{Event, sees_event, span_of}
 use Rattle.rs_versioned.specs.Records.{is_seen}
@@ -71,29 +65,3 @@ pub record IsMeant (oldest : ℕ) (contents : Contents) : Type 0 where
   pub tables : AllZip (IsTableMeant contents.definitions.routes oldest contents.directory.accepted) contents.definitions.tables contents.tables
   pub referents : (version : ℕ) → oldest ≤ version → version ≤ contents.directory.accepted
       → AreReferentsMeant contents.definitions.routes version contents.referents.referents
-
--- ---- views
-
--- the same query, with each window as wide as its route
-abbrev pub widened : QueryTree → QueryTree
-widened (named name) = named name
-widened (filtered query condition) = filtered (widened query) condition
-widened (dissolved query columns) = dissolved (widened query) columns
-widened (renamed query from to) = renamed (widened query) from to
-widened (overlaid a b) = overlaid (widened a) (widened b)
-widened (covered a b) = covered (widened a) (widened b)
-widened (merged a b) = merged (widened a) (widened b)
-widened (subtracted a b) = subtracted (widened a) (widened b)
-widened (windowed query window) = windowed (widened query) (whole_route (window_route window))
-widened (transformed query alignment) = transformed (widened query) alignment
-
--- A view that its DEFINE line would make. Where its windows lie is not asked, since referents move after it was defined.
-pub record IsViewMeant (state : State) (name : Name) (query : QueryTree) : Type 0 where
-  pub is : IsView state name query
-  pub checked : Query
-  pub passes : nodes_checked state (widened (opened state.views query)) ≡ Ok checked
-
--- each view is meant, and names only views before it
-pub record AreViewsMeant (state : State) : Type 0 where
-  pub each : Each state.views (IsViewMeant state)
-  pub order : AreInOrder state.views

@@ -83,6 +83,6 @@ table_at contents version = table_from (routes_named (born_by version contents.d
 -- what a query is asked of at a version
 abbrev pub world_at : Contents → ℕ → World
 world_at contents version = record {
-  routes = map_values (λ item. item.ends) (routes_named (born_by version contents.definitions.routes));
+  routes = map_values (λ (item : catalog.RouteItem). item.ends) (routes_named (born_by version contents.definitions.routes));
   tables = map_values (table_at contents version) (tables_named contents.definitions.tables);
 }

@@ -1,17 +1,18 @@
 //! A disk stands for one state at the most, which is lawful, and what a version sees depends on nothing that came after it.
 
-ghost use Rattle.std.specs.Prelude.{◌≡◌, ◌≤◌, ℕ};
-ghost use Rattle.rs_contents.specs.Contents.{Contents, SameContents};
+ghost use Rattle.std.specs.Prelude.{◌≡◌, ◌≤◌, ℕ, List};
+ghost use Rattle.rs_contents.specs.Contents.{Contents, HoldsAll, SameContents};
+ghost use Rattle.rs_contents.specs.Creating.{no_contents};
 ghost use Rattle.rs_disk.specs.Content.{Content};
 ghost use Rattle.rs_machine.specs.Lawful.{IsLawful};
-ghost use Rattle.rs_machine.specs.State.{State};
+ghost use Rattle.rs_machine.specs.State.{State, fresh, world_of};
 ghost use Rattle.rs_pages.specs.PageMap.{PageMap};
 ghost use Rattle.rs_standing.specs.Later.{IsLater, SeesTheSame};
 ghost use Rattle.rs_standing.specs.Meant.{IsMeant};
 ghost use Rattle.rs_standing.specs.Standing.{IsFileOf, Stands, StandsFor};
 ghost use Rattle.rs_standing.specs.States.{IsStateAt, world_at};
 
-use rs_catalog_meaning::laws::meant_definitions_make_a_lawful_state;
+use rs_catalog_meaning::laws::{empty_catalogue_is_meant, meant_definitions_make_a_lawful_state};
 use rs_contents::laws::file_holds_one_thing;
 use rs_pager::laws::disk_stands_for_one_map;
 use rs_syntax_laws::views::{text_of_a_view_says_its_query, text_says_one_query};
@@ -61,3 +62,16 @@ pub fn version_sees_nothing_of_what_comes_after_it()
     ensures { (version oldest from : ℕ) (old now : Contents) → IsLater version old now
         → IsMeant oldest old → IsMeant from now → oldest ≤ version → version ≤ old.directory.accepted → SeesTheSame version old now }
 {}
+
+/// The world of the state of a version is the world at that version.
+pub fn state_has_the_world_of_its_version()
+    ensures { (version : ℕ) (contents : Contents) (state : State)
+        → IsStateAt version contents state → world_of state ≡ world_at contents version }
+{}
+
+/// A file in which there are no definitions stands for the state at the beginning.
+pub fn created_file_stands_for_the_fresh_state()
+    ensures { (map : PageMap) (pages : List ℕ) → HoldsAll map (no_contents pages) → StandsFor map (no_contents pages) fresh }
+{
+    empty_catalogue_is_meant();
+}
