@@ -3,7 +3,9 @@ mod One
 mod Named
 mod Picked
 mod Lawful
+mod Kept
 mod Fresh
+mod Staying
 mod Worlds
 mod LaterRecords
 mod LaterContents

@@ -1,7 +1,11 @@
 //! A disk stands for one state at the most, which is lawful, and what a version sees depends on nothing that came after it.
 
 ghost use Rattle.std.specs.Prelude.{◌≡◌, ◌≤◌, ℕ, List};
-ghost use Rattle.rs_contents.specs.Contents.{Contents, HoldsAll, SameContents};
+ghost use Rattle.std.specs.List.{AllByRecursion};
+ghost use Rattle.rs_catalog.specs.Definitions.{AreDefinitions, Definitions};
+ghost use Rattle.rs_catalog_meaning.specs.Meaning.{AreMeant};
+ghost use Rattle.rs_catalog_pages.specs.Items.{CatalogueItems};
+ghost use Rattle.rs_contents.specs.Contents.{AreGivenOnce, Contents, HoldsAll, SameContents};
 ghost use Rattle.rs_contents.specs.Creating.{no_contents};
 ghost use Rattle.rs_disk.specs.Content.{Content};
 ghost use Rattle.rs_machine.specs.Lawful.{IsLawful};
@@ -10,7 +14,7 @@ ghost use Rattle.rs_pages.specs.PageMap.{PageMap};
 ghost use Rattle.rs_standing.specs.Later.{IsLater, SeesTheSame};
 ghost use Rattle.rs_standing.specs.Meant.{IsMeant};
 ghost use Rattle.rs_standing.specs.Standing.{IsFileOf, Stands, StandsFor};
-ghost use Rattle.rs_standing.specs.States.{IsStateAt, world_at};
+ghost use Rattle.rs_standing.specs.States.{AreDefinitionsAt, IsStateAt, world_at};
 
 use rs_catalog_meaning::laws::{empty_catalogue_is_meant, meant_definitions_make_a_lawful_state};
 use rs_contents::laws::file_holds_one_thing;
@@ -74,4 +78,19 @@ pub fn created_file_stands_for_the_fresh_state()
     ensures { (map : PageMap) (pages : List ℕ) → HoldsAll map (no_contents pages) → StandsFor map (no_contents pages) fresh }
 {
     empty_catalogue_is_meant();
+}
+
+/// Contents that are meant from a version on are meant from a later one on, and the same contents are meant alike.
+pub fn meant_contents_stay_meant()
+    ensures fewer { (oldest from : ℕ) (contents : Contents) → oldest ≤ from → IsMeant oldest contents → IsMeant from contents }
+    ensures same { (oldest : ℕ) (one other : Contents) → SameContents one other → IsMeant oldest one → IsMeant oldest other }
+{}
+
+/// The definitions of the present version are those of a catalogue, as it keeps them in memory.
+pub fn definitions_of_a_file_are_a_catalogues()
+    ensures { (version : ℕ) (catalogue : CatalogueItems) (definitions : Definitions)
+        → AreMeant catalogue → AreGivenOnce catalogue → AllByRecursion (λ route. route.born ≤ version) catalogue.routes
+        → AreDefinitionsAt version catalogue definitions → AreDefinitions definitions }
+{
+    meant_definitions_make_a_lawful_state();
 }
