@@ -338,6 +338,6 @@ module _ (pages : PageMap) (contents : Contents) (definitions : Definitions) (ho
       }
 
 pub stands_lawful : MeantAreLawful → RowsFit → (pages : PageMap) (contents : Contents) (state : State) → StandsFor pages contents state → IsLawful state
-stands_lawful make fit pages contents state stands =
+stands_lawful make fit pages contents one stands =
     subst IsLawful (sym stands.is.is)
     (lawful_with pages contents stands.is.definitions stands.holds stands.meant stands.is.are make fit (subst AreViewsMeant stands.is.is stands.views))
