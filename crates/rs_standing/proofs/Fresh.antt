@@ -1,22 +1,20 @@
 -- A file in which there are no definitions stands for the state at the beginning.
-use Rattle.std.proofs.Common.{◌≡◌, ◌≤◌, ℕ, Some, None, List, [], length, refl, sym, ap, subst, ◌∙◌, arith}
+use Rattle.std.proofs.Common.{◌≡◌, ℕ, Some, List, [], sym, ap, subst, ◌∙◌, arith}
 use Rattle.std.specs.FinMap as names
 use Rattle.std.specs.FinMap.{get-empty, get-from_sorted, len-empty, len-entries, same_map}
 use Rattle.std.specs.List.{AllZip}
 use Rattle.std.proofs.lemmas.List.{nil_from_length}
 use Rattle.std.proofs.lemmas.Option.{none-some}
-use Rattle.rs_catalog.specs.Definitions as catalog
-use Rattle.rs_catalog.specs.Definitions.{Definitions, indexes_of, no_definitions, referents_from, routes_of, state_from, tables_from, views_of}
+use Rattle.rs_catalog.specs.Definitions.{indexes_of, no_definitions, referents_from, state_from, tables_from, views_of}
 use Rattle.rs_catalog.proofs.NameOrder.{name_cmp-antisymmetric, name_cmp-total}
 use Rattle.rs_catalog.proofs.StateLaws.{indexes_of-none, referents_from-none, routes_of-none, tables_from-none, views_of-none}
 use Rattle.rs_catalog_meaning.specs.Meaning.{AreMeant}
-use Rattle.rs_contents.specs.Contents.{Contents, HoldsAll}
+use Rattle.rs_contents.specs.Contents.{HoldsAll}
 use Rattle.rs_contents.specs.Creating as created
 use Rattle.rs_contents.specs.Creating.{no_contents}
 use Rattle.rs_facts.specs.Fact.{Name, Names, name_cmp}
-use Rattle.rs_facts.specs.Query.{Piece, RouteEnds, Table}
+use Rattle.rs_facts.specs.Query.{RouteEnds, Table}
 use Rattle.rs_facts.specs.Runs.{Stretch}
-use Rattle.rs_machine.specs.Opening.{AreInOrder}
 use Rattle.rs_machine.specs.State.{State, fresh, no_cursors, no_referents}
 use Rattle.rs_pages.specs.PageMap.{PageMap}
 use Rattle.rs_planning.specs.Basis.{IndexedColumn}
@@ -37,7 +35,14 @@ no_entries {X} = nil_from_length (names.entries (names.empty {X = X} {R = name_c
 
 state_of_parts : Names RouteEnds → (Name → Names ℕ) → Names Table → Names QueryTree → Names IndexedColumn → State
 state_of_parts routes referents tables views indexes = record {
-  routes = routes; referents = referents; tables = tables; views = views; alignments = names.empty; indexes = indexes; changes = 0; cursors = no_cursors;
+  routes = routes;
+  referents = referents;
+  tables = tables;
+  views = views;
+  alignments = names.empty;
+  indexes = indexes;
+  changes = 0;
+  cursors = no_cursors;
 }
 
 fresh_is : (referents : ℕ → Names ℕ) (spans : ℕ → ℕ → List Stretch) → fresh ≡ state_from no_definitions referents spans (record { changes = 0; cursors = no_cursors })

@@ -18,7 +18,7 @@ use Rattle.rs_contents.specs.Contents.{AreGivenOnce}
 use Rattle.rs_facts.specs.Fact.{Name, Names, name_cmp}
 use Rattle.rs_facts.specs.Query.{Piece, RouteEnds}
 use Rattle.rs_facts.specs.WellFormed.{ArePiecesOn}
-use Rattle.rs_machine.specs.Lawful.{IsLawful, IsRoute}
+use Rattle.rs_machine.specs.Lawful.{IsRoute}
 use Rattle.rs_machine.specs.declared.limits.TheConstants.{INDEXES, ROUTES, TABLES}
 use Rattle.rs_measure.specs.declared.measure.TheConstants.{GREATEST_MEASURE}
 use Rattle.rs_page_owners.specs.Counts.{times}

@@ -1,14 +1,13 @@
 -- What a version sees of contents that change after it.
-use Rattle.std.proofs.Common.{◌≡◌, ◌<◌, ◌≤◌, ◌⊎◌, inl, inr, ℕ, Bool, true, Option, Some, None, List, [], ◌∷◌, map, filter, refl, sym, ap, subst, ◌∙◌, arith}
+use Rattle.std.proofs.Common.{◌≡◌, ◌≤◌, inl, inr, ℕ, Bool, true, Some, None, List, map, filter, refl, sym, ap, subst, ◌∙◌, arith}
 use Rattle.std.specs.Prelude.{Contains}
 use Rattle.std.proofs.Math.Path.{fun_ext}
 use Rattle.std.specs.FinMap as names
 use Rattle.std.specs.FinMap.{same_map}
-use Rattle.std.specs.List.Sorted.{IsPermutation}
 use Rattle.std.proofs.lemmas.Bool.{leb-true}
 use Rattle.std.proofs.lemmas.List.Elements.{All-contains_itself, recursion_from_All}
 use Rattle.std.proofs.lemmas.List.Sorted.{IsPermutation-sym}
-use Rattle.std.proofs.lemmas.Option.{none-some, same_Some}
+use Rattle.std.proofs.lemmas.Option.{none-some}
 use Rattle.rs_catalog.specs.Definitions as catalog
 use Rattle.rs_catalog.specs.Definitions.{facts_from, no_places, on_numbered, table_from}
 use Rattle.rs_catalog.specs.Names.{map_values}
@@ -24,10 +23,10 @@ use Rattle.rs_facts.proofs.SpanLaws.{places_of-permutation}
 use Rattle.rs_versioned.specs.Events.{kept_events, span_of}
 use Rattle.rs_versioned.specs.Referents.{kept_referents, referents_at}
 use Rattle.rs_versioned.proofs.EventsSeen.{event_route, events_end, referent_route, referent_shown, referents_end}
-use Rattle.rs_standing.specs.Later.{IsLater, RoutesComeAfter, SeesTheSame}
+use Rattle.rs_standing.specs.Later.{IsLater, SeesTheSame}
 use Rattle.rs_standing.specs.Meant.{IsMeant}
 use Rattle.rs_standing.specs.Seen.{born_by, events_of, is_born, referents_seen, spans_seen}
-use Rattle.rs_standing.specs.States.{named_route, named_table, routes_named, tables_named, world_at}
+use Rattle.rs_standing.specs.States.{named_route, named_table, routes_named, world_at}
 use Rattle.rs_standing.proofs.LaterRecords.{entries_moved, seen_as_before}
 use Rattle.rs_standing.proofs.Named.{get_there, item_of, order_kept, values_changed}
 use Rattle.rs_standing.proofs.Picked.{each_kept, kept_passes, kept_there}

@@ -1,27 +1,22 @@
 -- The state of a file is lawful.
-use Rattle.std.proofs.Common.{◌≡◌, ◌<◌, ◌≤◌, ◌+◌, ◌-◌, ◌^◌, ◌&&◌, ◌==◌, ℕ, Bool, true, false, cond, Option, Some, None, List, [], ◌∷◌, length, map, filter, refl, sym, ap, subst, ◌∙◌, arith}
+use Rattle.std.proofs.Common.{◌≡◌, ◌<◌, ◌≤◌, ◌+◌, ◌&&◌, ◌==◌, ℕ, Bool, true, false, cond, Some, None, List, [], ◌∷◌, length, map, filter, refl, sym, ap, subst, ◌∙◌, arith}
 use Rattle.std.specs.Prelude.{◌≢◌, Contains, nat_le, nat_lt}
-use Rattle.std.specs.List.{AllByRecursion, AllZip}
-use Rattle.std.specs.Option.{option_map}
 use Rattle.std.specs.FinMap as names
-use Rattle.std.specs.FinMap.{find, get-empty, get-from_entries, len-empty, len-entries, len-insert}
+use Rattle.std.specs.FinMap.{get-empty, get-from_entries, len-empty, len-entries, len-insert}
 use Rattle.std.proofs.lemmas.Bool.{and_parts, eqb-true, false≢true}
-use Rattle.std.proofs.lemmas.List.{length-map}
 use Rattle.std.proofs.lemmas.List.Elements.{All-contains, All-from_recursion}
-use Rattle.std.proofs.lemmas.Option.{none-some, same_Some}
-use Rattle.rs_attr.specs.Tables.{HoldsTable}
+use Rattle.std.proofs.lemmas.Option.{none-some}
 use Rattle.rs_catalog.specs.Definitions as catalog
 use Rattle.rs_catalog.specs.Definitions.{Definitions, facts_from, indexed_column, no_places, on_numbered, referents_from, routes_of, state_from, table_from, tables_from, views_of}
-use Rattle.rs_catalog.specs.Events.{behind}
 use Rattle.rs_catalog.specs.Names.{map_values}
 use Rattle.rs_catalog.proofs.NameOrder.{name_cmp-total}
-use Rattle.rs_catalog.proofs.Names.{get-map_values, len-map_values}
+use Rattle.rs_catalog.proofs.Names.{len-map_values}
 use Rattle.rs_catalog_meaning.specs.Meaning as meaning
 use Rattle.rs_catalog_meaning.specs.Meaning.{AreMeant, columns_of, column_of, ends_of, route_numbers}
 use Rattle.rs_catalog_meaning.specs.Stating as stating
 use Rattle.rs_catalog_pages.specs.Items.{CatalogueItems, ColumnItem, IndexItem, RouteItem, TableItem}
 use Rattle.rs_contents.specs.Contents.{Contents, HoldsAll, IsTable, LiesTable, TableContents, type_of}
-use Rattle.rs_facts.specs.Fact.{Name, Names, Places, contains, name_cmp}
+use Rattle.rs_facts.specs.Fact.{Name, Names, contains, name_cmp}
 use Rattle.rs_facts.specs.Query.{Piece, RouteEnds, Table}
 use Rattle.rs_facts.specs.Runs.{Stretch}
 use Rattle.rs_facts.specs.Spans.{places_of}
@@ -32,7 +27,6 @@ use Rattle.rs_machine.specs.Lawful as lawful
 use Rattle.rs_machine.specs.Lawful.{IsLawful, IsPlaceOf, MayHoldAt}
 use Rattle.rs_machine.specs.State.{State, no_cursors}
 use Rattle.rs_machine.specs.declared.limits.TheConstants.{ALIGNMENTS, INDEXES, REFERENTS, ROUTES, TABLES, VIEWS}
-use Rattle.rs_page_owners.specs.Counts.{times}
 use Rattle.rs_pages.specs.PageMap.{PageMap}
 use Rattle.rs_planning.specs.Basis.{IndexedColumn}
 use Rattle.rs_methods.specs.Position.{start_name}
@@ -44,16 +38,16 @@ use Rattle.rs_value.specs.declared.column.Kind.TheVariants.{Line, Point}
 use Rattle.rs_value.specs.Encoding.{SaysRow}
 use Rattle.rs_value.specs.Row.{Row}
 use Rattle.rs_value.specs.Values.{IsRowOf}
-use Rattle.rs_versioned.specs.Events.{Event, SaysEvent, is_on, sees_event, span_of, spans_at}
+use Rattle.rs_versioned.specs.Events.{Event, SaysEvent, is_on, sees_event, span_of}
 use Rattle.rs_versioned.specs.Referents.{ReferentRecord, is_referent_of, kept_referents, referents_at}
 use Rattle.rs_versioned.specs.Records.{is_seen}
 use Rattle.rs_standing.specs.Meant.{AreReferentsMeant, IsEventOn, IsMeant, IsReferentOn, IsSpanOf, IsTableMeant, OnRoute}
 use Rattle.rs_standing.specs.Seen.{born_by, events_of, referents_seen, spans_seen}
 use Rattle.rs_standing.specs.Standing.{StandsFor}
 use Rattle.rs_standing.specs.Views.{AreViewsMeant}
-use Rattle.rs_standing.specs.States.{AreDefinitionsAt, IsStateAt, IsViewOf, named_index, named_route, named_table, routes_named, tables_named}
+use Rattle.rs_standing.specs.States.{AreDefinitionsAt, IsViewOf, named_index, named_route, named_table, routes_named}
 use Rattle.rs_standing.proofs.Named.{HasItem, found_item, get_there, item_of, len_by, values_changed}
-use Rattle.rs_standing.proofs.Picked.{HasSource, HasTable, as_many, beside, born_all, each_kept, kept_passes, kept_there, same_numbered, source_of, table_of}
+use Rattle.rs_standing.proofs.Picked.{HasTable, as_many, beside, born_all, each_kept, kept_passes, kept_there, same_numbered, source_of, table_of}
 
 -- what is said of definitions and of rows
 abbrev pub MeantAreLawful : Type 0
@@ -304,8 +298,13 @@ module _ (pages : PageMap) (contents : Contents) (definitions : Definitions) (ho
 
   few_views : names.len state.views ≤ VIEWS
   few_views =
-      omega (arith, len-map_values (λ item. query_tree item.query) definitions.views, len-entries definitions.views, as_many IsViewOf catalogue.views (names.entries definitions.views) are.views,
-      meant.definitions.views.few)
+      omega (
+        arith,
+        len-map_values (λ item. query_tree item.query) definitions.views,
+        len-entries definitions.views,
+        as_many IsViewOf catalogue.views (names.entries definitions.views) are.views,
+        meant.definitions.views.few,
+      )
 
   few_tables : names.len state.tables ≤ TABLES
   few_tables =
@@ -337,7 +336,7 @@ module _ (pages : PageMap) (contents : Contents) (definitions : Definitions) (ho
         };
       }
 
-pub stands_lawful : MeantAreLawful → RowsFit → (pages : PageMap) (contents : Contents) (state : State) → StandsFor pages contents state → IsLawful state
+pub stands_lawful : MeantAreLawful → RowsFit → (pages : PageMap) (contents : Contents) (one : State) → StandsFor pages contents one → IsLawful one
 stands_lawful make fit pages contents one stands =
     subst IsLawful (sym stands.is.is)
     (lawful_with pages contents stands.is.definitions stands.holds stands.meant stands.is.are make fit (subst AreViewsMeant stands.is.is stands.views))

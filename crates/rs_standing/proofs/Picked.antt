@@ -1,16 +1,15 @@
 -- Items that are picked out of lists: by a test, by a number, and beside one another.
-use Rattle.std.proofs.Common.{◌≡◌, ◌<◌, ◌≤◌, ◌+◌, ◌==◌, ℕ, zero, suc, Bool, true, false, cond, List, [], ◌∷◌, length, map, filter, get_or, refl, sym, ap, subst, ◌∙◌, arith}
-use Rattle.std.specs.Prelude.{Contains, nat_le, if◌then◌else◌}
+use Rattle.std.proofs.Common.{◌≡◌, ◌<◌, ◌≤◌, ◌==◌, ℕ, zero, suc, Bool, true, false, cond, List, [], ◌∷◌, length, map, filter, get_or, refl, sym, ap, subst, ◌∙◌, arith}
+use Rattle.std.specs.Prelude.{Contains, if◌then◌else◌}
 use Rattle.std.specs.List.{AllByRecursion, AllZip}
-use Rattle.std.proofs.lemmas.Bool.{eqb-false, eqb-true, false≢true, le-leb}
+use Rattle.std.proofs.lemmas.Bool.{eqb-false, eqb-true, le-leb}
 use Rattle.std.proofs.lemmas.List.Elements.{All-contains, All-contains_itself, All-filter, filter_passes}
 use Rattle.rs_catalog_pages.specs.Items.{RouteItem, TableItem}
 use Rattle.rs_contents.specs.Contents.{TableContents}
 use Rattle.rs_page_owners.specs.Counts.{one_at, times}
 use Rattle.rs_page_owners.proofs.Moving.{one_at-same}
 use Rattle.rs_catalog_pages.proofs.Counting.{times-cons}
-use Rattle.rs_versioned.specs.Events.{Event}
-use Rattle.rs_standing.specs.Seen.{born_by, events_with, is_born}
+use Rattle.rs_standing.specs.Seen.{born_by, events_with}
 use Rattle.rs_standing.proofs.Named.{first_there, later_there}
 
 -- ---- by a test

@@ -1,5 +1,5 @@
 -- The world of a state is that of its version.
-use Rattle.std.proofs.Common.{◌≡◌, ℕ, sym, ap, ◌∙◌}
+use Rattle.std.proofs.Common.{◌≡◌, ℕ, ap, ◌∙◌}
 use Rattle.rs_catalog.specs.Definitions as catalog
 use Rattle.rs_catalog.specs.Definitions.{Definitions, table_from, tables_from}
 use Rattle.rs_catalog.specs.Names.{map_values}

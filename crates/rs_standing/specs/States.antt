@@ -35,12 +35,15 @@ abbrev pub tables_named : List TableItem → Names catalog.TableItem
 tables_named tables = names.from_sorted (map named_table tables)
 
 abbrev pub named_index : List TableItem → IndexItem → Name × catalog.IndexItem
-named_index tables index = (index.name, record {
-  number = index.number;
-  table = table_with tables index.table index.column;
-  table_number = index.table;
-  column = index.column;
-})
+named_index tables index = (
+  index.name,
+  record {
+    number = index.number;
+    table = table_with tables index.table index.column;
+    table_number = index.table;
+    column = index.column;
+  },
+)
 
 abbrev pub indexes_named : List TableItem → List IndexItem → Names catalog.IndexItem
 indexes_named tables indexes = names.from_sorted (map (named_index tables) indexes)
