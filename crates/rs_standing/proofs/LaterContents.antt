@@ -16,7 +16,7 @@ use Rattle.rs_catalog_meaning.specs.Meaning.{AreInOrder}
 use Rattle.rs_catalog_pages.specs.Items.{RouteItem, TableItem}
 use Rattle.rs_contents.specs.Contents.{Contents}
 use Rattle.rs_facts.specs.Fact.{Facts, Name, Names, Places, name_cmp}
-use Rattle.rs_facts.specs.Query.{Table}
+use Rattle.rs_facts.specs.Query.{Table, World}
 use Rattle.rs_facts.specs.Runs.{Stretch}
 use Rattle.rs_facts.specs.Spans.{places_of}
 use Rattle.rs_facts.proofs.SpanLaws.{places_of-permutation}
@@ -26,7 +26,7 @@ use Rattle.rs_versioned.proofs.EventsSeen.{event_route, events_end, referent_rou
 use Rattle.rs_standing.specs.Later.{IsLater, SeesTheSame}
 use Rattle.rs_standing.specs.Meant.{IsMeant}
 use Rattle.rs_standing.specs.Seen.{born_by, events_of, is_born, referents_seen, spans_seen}
-use Rattle.rs_standing.specs.States.{named_route, named_table, routes_named, world_at}
+use Rattle.rs_standing.specs.States.{named_route, named_table, routes_named, tables_named, world_at}
 use Rattle.rs_standing.proofs.LaterRecords.{entries_moved, seen_as_before}
 use Rattle.rs_standing.proofs.Named.{get_there, item_of, order_kept, values_changed}
 use Rattle.rs_standing.proofs.Picked.{each_kept, kept_passes, kept_there}
@@ -131,6 +131,25 @@ module _ (version : ℕ) (old now : Contents) (later : IsLater version old now) 
       let found = get_there (λ (t : TableItem). t.name) (full now) now.definitions.tables has.item order (later.tables has.item has.there) in
       subst (λ (n : Name). names.get (world_at now version).tables n ≡ Some table) has.named
       (subst (λ (tables : Names Table). names.get tables has.item.name ≡ Some table) (sym (tables_full now order)) (found ∙ ap Some (full_same routes has.item ∙ has.is)))
+
+  tables_from_same : routes_named (born_by version are) ≡ routes_named (born_by version was)
+      → table_from (routes_named (born_by version are)) (spans_seen now version) ≡ table_from (routes_named (born_by version was)) (spans_seen old version)
+  tables_from_same routes =
+      ap (λ (kept : Names catalog.RouteItem). table_from kept (spans_seen now version)) routes
+      ∙ fun_ext (λ (item : catalog.TableItem). ap (λ (facts : Facts). record { kind = item.kind; columns = item.columns; facts = facts })
+      (facts_by (routes_named (born_by version was)) (spans_seen now version item.number) (spans_seen old version item.number) (facts_seen item.number)))
+
+  world_parts : Names catalog.RouteItem → (catalog.TableItem → Table) → Names catalog.TableItem → World
+  world_parts routes see tables = record { routes = map_values (λ (item : catalog.RouteItem). item.ends) routes; tables = map_values see tables }
+
+  pub world_same : AreInOrder (λ (route : RouteItem). route.name) was → AreInOrder (λ (route : RouteItem). route.name) are → now.definitions.tables ≡ old.definitions.tables
+      → world_at now version ≡ world_at old version
+  unfolding world_parts
+  world_same rise order tables =
+      let routes = routes_seen rise order in
+      ap (λ (kept : Names catalog.RouteItem). world_parts kept (table_from (routes_named (born_by version are)) (spans_seen now version)) (tables_named now.definitions.tables)) routes
+      ∙ ap (λ (see : catalog.TableItem → Table). world_parts (routes_named (born_by version was)) see (tables_named now.definitions.tables)) (tables_from_same routes)
+      ∙ ap (λ (items : List TableItem). world_parts (routes_named (born_by version was)) (table_from (routes_named (born_by version was)) (spans_seen old version)) (tables_named items)) tables
 
   pub seen_the_same : (oldest from : ℕ) → IsMeant oldest old → IsMeant from now → oldest ≤ version → version ≤ old.directory.accepted → SeesTheSame version old now
   seen_the_same oldest from meant means low high =
