@@ -68,7 +68,7 @@ module _ (version : ℕ) (old now : Contents) (later : IsLater version old now) 
   abbrev are : List RouteItem
   are = now.definitions.routes
 
-  still_born : (route : RouteItem) → Contains (born_by version was) route → Contains (born_by version are) route
+  pub still_born : (route : RouteItem) → Contains (born_by version was) route → Contains (born_by version are) route
   still_born route there =
       kept_in (is_born version) are route (later.routes.still route (kept_there (is_born version) was route there)) (kept_passes (is_born version) was route there)
 

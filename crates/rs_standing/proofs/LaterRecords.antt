@@ -40,7 +40,7 @@ module _ {R Y : Type 0} (kept : Kept R) (route_of : R → ℕ) (show : R → Y) 
 -- ---- under names
 
 module _ {X : Type 0} where
-  abbrev Distinct : List (Name × X) → Type 0
+  abbrev pub Distinct : List (Name × X) → Type 0
   Distinct es = AreDistinct (map (λ e. e.0) es)
 
   -- the same entries, and the same is found under each name
@@ -83,3 +83,6 @@ module _ {X : Type 0} where
   pub entries_moved : (xs ys : List (Name × X)) → IsPermutation xs ys → Distinct xs → names.from_entries {R = name_cmp} ys ≡ names.from_entries xs
   entries_moved xs ys p once = same_map name_cmp-total name_cmp-antisymmetric _ _ (λ q.
       get-from_entries name_cmp-total ys q ∙ sym ((alike xs ys p).found once q) ∙ sym (get-from_entries name_cmp-total xs q))
+
+  pub distinct_moved : (xs ys : List (Name × X)) → IsPermutation xs ys → Distinct xs → Distinct ys
+  distinct_moved xs ys p = (alike xs ys p).once

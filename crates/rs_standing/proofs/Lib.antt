@@ -9,3 +9,4 @@ mod Staying
 mod Worlds
 mod LaterRecords
 mod LaterContents
+mod Carried

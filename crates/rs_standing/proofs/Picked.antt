@@ -69,7 +69,7 @@ module _ {X : Type 0} (number_of : X → ℕ) where
       omega (arith, times-cons (number_of y) (map number_of xs) (number_of x), some_there xs k x (omega (arith, inside)) is)
 
   -- one that is first has its number once more
-  first_too : (y x : X) (xs : List X) (k : ℕ) → k < length xs → get_or xs k x ≡ x → number_of y ≡ number_of x → times (map number_of (y ∷ xs)) (number_of x) ≤ 1 → ⊥
+  pub first_too : (y x : X) (xs : List X) (k : ℕ) → k < length xs → get_or xs k x ≡ x → number_of y ≡ number_of x → times (map number_of (y ∷ xs)) (number_of x) ≤ 1 → ⊥
   first_too y x xs k inside is same once =
       omega (arith, times-cons (number_of y) (map number_of xs) (number_of x), ap (λ n. one_at n (number_of x)) same, one_at-same (number_of x), some_there xs k x inside is, once)
 

@@ -1,6 +1,6 @@
 //! A disk stands for one state at the most, which is lawful, and what a version sees depends on nothing that came after it.
 
-ghost use Rattle.std.specs.Prelude.{◌≡◌, ◌≤◌, ℕ, List};
+ghost use Rattle.std.specs.Prelude.{◌≡◌, ◌≤◌, ◌+◌, ℕ, List};
 ghost use Rattle.std.specs.List.{AllByRecursion};
 ghost use Rattle.rs_catalog.specs.Definitions.{AreDefinitions, Definitions};
 ghost use Rattle.rs_catalog_meaning.specs.Meaning.{AreMeant};
@@ -97,3 +97,11 @@ pub fn definitions_of_a_file_are_a_catalogues()
 {
     meant_definitions_make_a_lawful_state();
 }
+
+/// A change keeps what earlier versions mean: where each version from the oldest on up to the last one sees nothing of it, and the
+/// new version is meant, the contents are meant from the oldest version on.
+pub fn change_keeps_the_meaning_of_earlier_versions()
+    ensures { (oldest : ℕ) (old now : Contents) → IsMeant oldest old → IsMeant now.directory.accepted now
+        → now.directory.accepted ≡ old.directory.accepted + 1 → AreGivenOnce old.definitions → AreGivenOnce now.definitions
+        → ((version : ℕ) → oldest ≤ version → version ≤ old.directory.accepted → IsLater version old now) → IsMeant oldest now }
+{}
