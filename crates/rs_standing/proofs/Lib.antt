@@ -10,3 +10,4 @@ mod Worlds
 mod LaterRecords
 mod LaterContents
 mod Carried
+mod Next

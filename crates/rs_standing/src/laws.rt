@@ -1,10 +1,11 @@
 //! A disk stands for one state at the most, which is lawful, and what a version sees depends on nothing that came after it.
 
-ghost use Rattle.std.specs.Prelude.{◌≡◌, ◌≤◌, ◌+◌, ℕ, List};
+ghost use Rattle.std.specs.Prelude.{◌≡◌, ◌≤◌, ◌<◌, ◌+◌, ℕ, List};
 ghost use Rattle.std.specs.List.{AllByRecursion};
 ghost use Rattle.rs_catalog.specs.Definitions.{AreDefinitions, Definitions};
 ghost use Rattle.rs_catalog_meaning.specs.Meaning.{AreMeant};
 ghost use Rattle.rs_catalog_pages.specs.Items.{CatalogueItems};
+ghost use Rattle.rs_cell_versions.specs.declared.cell.TheConstants.{LIVING};
 ghost use Rattle.rs_contents.specs.Contents.{AreGivenOnce, Contents, HoldsAll, SameContents};
 ghost use Rattle.rs_contents.specs.Creating.{no_contents};
 ghost use Rattle.rs_disk.specs.Content.{Content};
@@ -13,8 +14,9 @@ ghost use Rattle.rs_machine.specs.State.{State, fresh, world_of};
 ghost use Rattle.rs_pages.specs.PageMap.{PageMap};
 ghost use Rattle.rs_standing.specs.Later.{IsLater, SeesTheSame};
 ghost use Rattle.rs_standing.specs.Meant.{IsMeant};
+ghost use Rattle.rs_standing.specs.Seen.{referents_seen, spans_seen};
 ghost use Rattle.rs_standing.specs.Standing.{IsFileOf, Stands, StandsFor};
-ghost use Rattle.rs_standing.specs.States.{AreDefinitionsAt, IsStateAt, world_at};
+ghost use Rattle.rs_standing.specs.States.{AreDefinitionsAt, IsState, IsStateAt, world_at};
 
 use rs_catalog_meaning::laws::{empty_catalogue_is_meant, meant_definitions_make_a_lawful_state};
 use rs_contents::laws::file_holds_one_thing;
@@ -104,4 +106,20 @@ pub fn change_keeps_the_meaning_of_earlier_versions()
     ensures { (oldest : ℕ) (old now : Contents) → IsMeant oldest old → IsMeant now.directory.accepted now
         → now.directory.accepted ≡ old.directory.accepted + 1 → AreGivenOnce old.definitions → AreGivenOnce now.definitions
         → ((version : ℕ) → oldest ≤ version → version ≤ old.directory.accepted → IsLater version old now) → IsMeant oldest now }
+{}
+
+/// Until something changes, the next version sees what the present one sees, and its state differs in the count of changes alone.
+pub fn next_version_begins_as_the_present_one()
+    ensures spans { (pages : PageMap) (contents : Contents) (version : ℕ) → HoldsAll pages contents
+        → contents.directory.accepted ≤ version → version < LIVING → (table route : ℕ)
+        → spans_seen contents version table route ≡ spans_seen contents contents.directory.accepted table route }
+    ensures referents { (pages : PageMap) (contents : Contents) (version : ℕ) → HoldsAll pages contents
+        → contents.directory.accepted ≤ version → version < LIVING → (route : ℕ)
+        → referents_seen contents version route ≡ referents_seen contents contents.directory.accepted route }
+    ensures world { (pages : PageMap) (contents : Contents) (version : ℕ) → HoldsAll pages contents
+        → contents.directory.accepted ≤ version → version < LIVING
+        → world_at contents version ≡ world_at contents contents.directory.accepted }
+    ensures state { (pages : PageMap) (contents : Contents) (version : ℕ) → HoldsAll pages contents
+        → contents.directory.accepted ≤ version → version < LIVING → (state : State)
+        → IsState contents state → IsStateAt version contents (record state { changes = version }) }
 {}
