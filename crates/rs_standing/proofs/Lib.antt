@@ -11,3 +11,4 @@ mod LaterRecords
 mod LaterContents
 mod Carried
 mod Next
+mod Changed

@@ -25,17 +25,17 @@ use Rattle.rs_standing.specs.Seen.{born_by, events_with, referents_seen, spans_s
 use Rattle.rs_standing.specs.States.{IsState, IsStateAt, routes_named, tables_named, world_at}
 use Rattle.rs_standing.proofs.Picked.{born_all}
 
-filter_alike : {X : Type 0} (one other : X → Bool) (xs : List X) → AllByRecursion (λ x. one x ≡ other x) xs → filter one xs ≡ filter other xs
+pub filter_alike : {X : Type 0} (one other : X → Bool) (xs : List X) → AllByRecursion (λ x. one x ≡ other x) xs → filter one xs ≡ filter other xs
 filter_alike one other [] all = refl
 filter_alike one other (x ∷ xs) all =
     ap (λ b. cond b (x ∷ filter one xs) (filter one xs)) all.0 ∙ ap (λ l. cond (other x) (x ∷ l) l) (filter_alike one other xs all.1)
 
-on_alike : (from to route : ℕ) (referents : List ReferentRecord) → AllByRecursion (λ one. is_seen kept_referents to one ≡ is_seen kept_referents from one) referents
+pub on_alike : (from to route : ℕ) (referents : List ReferentRecord) → AllByRecursion (λ one. is_seen kept_referents to one ≡ is_seen kept_referents from one) referents
     → AllByRecursion (λ one. is_referent_of to route one ≡ is_referent_of from route one) referents
 on_alike from to route [] all = tt
 on_alike from to route (r ∷ referents) all = (ap (λ b. r.route == route && b) all.0, on_alike from to route referents all.1)
 
-born_later : (from to : ℕ) → from ≤ to → (routes : List RouteItem) → AllByRecursion (λ (route : RouteItem). route.born ≤ from) routes → AllByRecursion (λ (route : RouteItem). route.born ≤ to) routes
+pub born_later : (from to : ℕ) → from ≤ to → (routes : List RouteItem) → AllByRecursion (λ (route : RouteItem). route.born ≤ from) routes → AllByRecursion (λ (route : RouteItem). route.born ≤ to) routes
 born_later from to later [] all = tt
 born_later from to later (r ∷ routes) all = (omega (arith, all.0, later), born_later from to later routes all.1)
 

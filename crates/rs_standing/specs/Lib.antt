@@ -1,3 +1,4 @@
+pub mod Changed
 pub mod Later
 pub mod Meant
 pub mod Seen

@@ -4,17 +4,19 @@ ghost use Rattle.std.specs.Prelude.{◌≡◌, ◌≤◌, ◌<◌, ◌+◌, ℕ,
 ghost use Rattle.std.specs.List.{AllByRecursion};
 ghost use Rattle.rs_catalog.specs.Definitions.{AreDefinitions, Definitions};
 ghost use Rattle.rs_catalog_meaning.specs.Meaning.{AreMeant};
-ghost use Rattle.rs_catalog_pages.specs.Items.{CatalogueItems};
+ghost use Rattle.rs_catalog_pages.specs.Items.{CatalogueItems, TableItem};
 ghost use Rattle.rs_cell_versions.specs.declared.cell.TheConstants.{LIVING};
-ghost use Rattle.rs_contents.specs.Contents.{AreGivenOnce, Contents, HoldsAll, SameContents};
+ghost use Rattle.rs_contents.specs.Contents.{AreGivenOnce, Contents, HoldsAll, ReferentContents, SameContents, TableContents, table_numbers};
 ghost use Rattle.rs_contents.specs.Creating.{no_contents};
 ghost use Rattle.rs_disk.specs.Content.{Content};
 ghost use Rattle.rs_machine.specs.Lawful.{IsLawful};
 ghost use Rattle.rs_machine.specs.State.{State, fresh, world_of};
+ghost use Rattle.rs_page_owners.specs.Counts.{times};
 ghost use Rattle.rs_pages.specs.PageMap.{PageMap};
+ghost use Rattle.rs_standing.specs.Changed.{HasTableBetween, with_table};
 ghost use Rattle.rs_standing.specs.Later.{IsLater, SeesTheSame};
-ghost use Rattle.rs_standing.specs.Meant.{IsMeant};
-ghost use Rattle.rs_standing.specs.Seen.{referents_seen, spans_seen};
+ghost use Rattle.rs_standing.specs.Meant.{AreReferentsMeant, IsMeant, IsTableMeant};
+ghost use Rattle.rs_standing.specs.Seen.{events_of, referents_seen, spans_seen};
 ghost use Rattle.rs_standing.specs.Standing.{IsFileOf, Stands, StandsFor};
 ghost use Rattle.rs_standing.specs.States.{AreDefinitionsAt, IsState, IsStateAt, world_at};
 
@@ -122,4 +124,37 @@ pub fn next_version_begins_as_the_present_one()
     ensures state { (pages : PageMap) (contents : Contents) (version : ℕ) → HoldsAll pages contents
         → contents.directory.accepted ≤ version → version < LIVING → (state : State)
         → IsState contents state → IsStateAt version contents (record state { changes = version }) }
+{}
+
+/// Contents that are meant stay so when the version counts on and nothing else changes.
+pub fn next_version_is_meant_as_the_present_one()
+    ensures { (pages : PageMap) (contents : Contents) (oldest version : ℕ) → HoldsAll pages contents → IsMeant oldest contents
+        → oldest ≤ contents.directory.accepted → contents.directory.accepted ≤ version → version < LIVING
+        → IsMeant oldest (record contents { directory = record contents.directory { accepted = version } }) }
+{}
+
+/// Where a table is another one, what is asked of it alone keeps the contents meant, and no other table is seen otherwise.
+pub fn changed_table_leaves_the_others_meant()
+    ensures meant { (oldest : ℕ) (contents : Contents) (item : TableItem) (before : List TableContents) (table now : TableContents) (after : List TableContents)
+        → HasTableBetween contents item before table after → IsMeant oldest contents
+        → IsTableMeant contents.definitions.routes oldest contents.directory.accepted item now
+        → IsMeant oldest (with_table contents before now after) }
+    ensures was { (contents : Contents) (item : TableItem) (before : List TableContents) (table : TableContents) (after : List TableContents)
+        → HasTableBetween contents item before table after → ((number : ℕ) → times (table_numbers contents.definitions) number ≤ 1)
+        → events_of contents item.number ≡ table.events }
+    ensures is { (contents : Contents) (item : TableItem) (before : List TableContents) (table : TableContents) (after : List TableContents)
+        → HasTableBetween contents item before table after → (now : TableContents)
+        → ((number : ℕ) → times (table_numbers contents.definitions) number ≤ 1)
+        → events_of (with_table contents before now after) item.number ≡ now.events }
+    ensures others { (contents : Contents) (item : TableItem) (before : List TableContents) (table : TableContents) (after : List TableContents)
+        → HasTableBetween contents item before table after → (now : TableContents) (number : ℕ) → (number ≡ item.number → ⊥)
+        → events_of (with_table contents before now after) number ≡ events_of contents number }
+{}
+
+/// Where the referents are others, what is asked of them alone keeps the contents meant.
+pub fn changed_referents_leave_all_else_meant()
+    ensures { (oldest : ℕ) (contents : Contents) (now : ReferentContents) → IsMeant oldest contents
+        → ((version : ℕ) → oldest ≤ version → version ≤ contents.directory.accepted
+            → AreReferentsMeant contents.definitions.routes version now.referents)
+        → IsMeant oldest (record contents { referents = now }) }
 {}
