@@ -12,3 +12,5 @@ mod LaterContents
 mod Carried
 mod Next
 mod Changed
+mod Opened
+mod Passing
