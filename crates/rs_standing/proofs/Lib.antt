@@ -14,3 +14,5 @@ mod Next
 mod Changed
 mod Opened
 mod Passing
+mod Keeping
+mod ViewSteps
