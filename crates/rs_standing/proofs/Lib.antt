@@ -16,3 +16,4 @@ mod Opened
 mod Passing
 mod Keeping
 mod ViewSteps
+mod ViewLines

@@ -3,4 +3,7 @@
 //! It has no running code: definitions in `specs/`, and laws, each the contract of a function that does nothing.
 #![tactic(auto)]
 
-pub mod laws;
+pub mod changes;
+pub mod standing;
+pub mod versions;
+pub mod views;

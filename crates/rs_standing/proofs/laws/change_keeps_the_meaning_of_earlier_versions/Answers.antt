@@ -1,5 +1,0 @@
-use Rattle.rs_standing.proofs.Carried.{carried}
-use Rattle.rs_standing.proofs.laws.change_keeps_the_meaning_of_earlier_versions.Goals as goal
-
-pub returns : goal.returns
-returns c = carried

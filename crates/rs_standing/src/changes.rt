@@ -1,0 +1,41 @@
+//! What stays meant where one part of a file's contents changes, or fewer versions are looked at.
+
+ghost use Rattle.std.specs.Prelude.{◌≡◌, ◌≤◌, ℕ, List};
+ghost use Rattle.rs_catalog_pages.specs.Items.{TableItem};
+ghost use Rattle.rs_contents.specs.Contents.{Contents, ReferentContents, SameContents, TableContents, table_numbers};
+ghost use Rattle.rs_page_owners.specs.Counts.{times};
+ghost use Rattle.rs_standing.specs.Changed.{HasTableBetween, with_table};
+ghost use Rattle.rs_standing.specs.Meant.{AreReferentsMeant, IsMeant, IsTableMeant};
+ghost use Rattle.rs_standing.specs.Seen.{events_of};
+
+/// Contents that are meant from a version on are meant from a later one on, and the same contents are meant alike.
+pub fn meant_contents_stay_meant()
+    ensures fewer { (oldest from : ℕ) (contents : Contents) → oldest ≤ from → IsMeant oldest contents → IsMeant from contents }
+    ensures same { (oldest : ℕ) (one other : Contents) → SameContents one other → IsMeant oldest one → IsMeant oldest other }
+{}
+
+/// Where a table is another one, what is asked of it alone keeps the contents meant, and no other table is seen otherwise.
+pub fn changed_table_leaves_the_others_meant()
+    ensures meant { (oldest : ℕ) (contents : Contents) (item : TableItem) (before : List TableContents) (table now : TableContents) (after : List TableContents)
+        → HasTableBetween contents item before table after → IsMeant oldest contents
+        → IsTableMeant contents.definitions.routes oldest contents.directory.accepted item now
+        → IsMeant oldest (with_table contents before now after) }
+    ensures was { (contents : Contents) (item : TableItem) (before : List TableContents) (table : TableContents) (after : List TableContents)
+        → HasTableBetween contents item before table after → ((number : ℕ) → times (table_numbers contents.definitions) number ≤ 1)
+        → events_of contents item.number ≡ table.events }
+    ensures is { (contents : Contents) (item : TableItem) (before : List TableContents) (table : TableContents) (after : List TableContents)
+        → HasTableBetween contents item before table after → (now : TableContents)
+        → ((number : ℕ) → times (table_numbers contents.definitions) number ≤ 1)
+        → events_of (with_table contents before now after) item.number ≡ now.events }
+    ensures others { (contents : Contents) (item : TableItem) (before : List TableContents) (table : TableContents) (after : List TableContents)
+        → HasTableBetween contents item before table after → (now : TableContents) (number : ℕ) → (number ≡ item.number → ⊥)
+        → events_of (with_table contents before now after) number ≡ events_of contents number }
+{}
+
+/// Where the referents are others, what is asked of them alone keeps the contents meant.
+pub fn changed_referents_leave_all_else_meant()
+    ensures { (oldest : ℕ) (contents : Contents) (now : ReferentContents) → IsMeant oldest contents
+        → ((version : ℕ) → oldest ≤ version → version ≤ contents.directory.accepted
+            → AreReferentsMeant contents.definitions.routes version now.referents)
+        → IsMeant oldest (record contents { referents = now }) }
+{}
