@@ -1,11 +1,11 @@
 -- What versions before a change are meant to be they are after it, too.
-use Rattle.std.proofs.Common.{◌≡◌, ◌<◌, ◌≤◌, ◌+◌, ◌==◌, ◌⊎◌, inl, inr, ℕ, zero, suc, Bool, true, false, List, [], ◌∷◌, length, map, filter, refl, sym, ap, subst, ◌∙◌, arith}
+use Rattle.std.proofs.Common.{◌≡◌, ◌≤◌, ◌+◌, ◌==◌, ◌⊎◌, inl, inr, ℕ, true, false, List, [], ◌∷◌, map, filter, refl, sym, ap, subst, ◌∙◌, arith}
 use Rattle.std.specs.Prelude.{Contains, if◌then◌else◌}
 use Rattle.std.specs.List.{AllByRecursion, AllZip}
 use Rattle.std.specs.List.Sorted.{IsPermutation}
 use Rattle.std.proofs.lemmas.Bool.{cases_lt, eqb-false, eqb-true}
-use Rattle.std.proofs.lemmas.List.Elements.{All-contains, All-from_recursion, recursion_from_All}
-use Rattle.std.proofs.lemmas.List.Sorted.{All-permutation, IsPermutation-map, IsPermutation-sym, length_permutation}
+use Rattle.std.proofs.lemmas.List.Elements.{All-from_recursion, recursion_from_All}
+use Rattle.std.proofs.lemmas.List.Sorted.{All-permutation, IsPermutation-sym, length_permutation}
 use Rattle.rs_catalog_meaning.specs.Stating.{kind_of}
 use Rattle.rs_catalog_pages.specs.Items.{RouteItem, TableItem}
 use Rattle.rs_contents.specs.Contents.{AreGivenOnce, Contents, TableContents}
@@ -13,7 +13,6 @@ use Rattle.rs_facts.specs.Fact.{Name}
 use Rattle.rs_facts.specs.Query.{RouteEnds}
 use Rattle.rs_facts.specs.Runs.{Stretch}
 use Rattle.rs_machine.specs.Lawful.{IsPlaceOf}
-use Rattle.rs_machine.specs.declared.limits.TheConstants.{REFERENTS}
 use Rattle.rs_page_owners.specs.Counts.{times}
 use Rattle.rs_catalog_pages.proofs.Counting.{times-cons}
 use Rattle.rs_value.specs.declared.column.Kind.{Kind}
@@ -32,7 +31,7 @@ use Rattle.rs_standing.specs.Seen.{born_by, events_of, events_with}
 use Rattle.rs_standing.proofs.LaterContents.{still_born}
 use Rattle.rs_standing.proofs.LaterRecords.{distinct_moved, seen_as_before}
 use Rattle.rs_standing.proofs.Named.{first_there, later_there}
-use Rattle.rs_standing.proofs.Picked.{HasTable, first_too, same_numbered, table_of}
+use Rattle.rs_standing.proofs.Picked.{first_too, same_numbered, table_of}
 
 -- ---- lists
 
@@ -89,16 +88,22 @@ events_zipped R [] [] all once = tt
 events_zipped R [] (t ∷ tables) all once = absurd all
 events_zipped R (i ∷ items) [] all once = absurd all
 events_zipped R (i ∷ items) (t ∷ tables) all once = (
-  (all.0, elim (i.number == i.number) as (λ b. (i.number == i.number) ≡ b → (if b then t.events else events_with items tables i.number) ≡ t.events) [
-    | true ↦ λ same. refl
-    | false ↦ λ apart. absurd (eqb-false i.number i.number apart refl)
-  ] refl),
+  (
+    all.0,
+    elim (i.number == i.number) as (λ b. (i.number == i.number) ≡ b → (if b then t.events else events_with items tables i.number) ≡ t.events) [
+      | true ↦ λ same. refl
+      | false ↦ λ apart. absurd (eqb-false i.number i.number apart refl)
+    ] refl,
+  ),
   zip_among (λ item table. R item table × HasEvents items tables item table) (λ item table. R item table × HasEvents (i ∷ items) (t ∷ tables) item table) items tables
       (events_zipped R items tables all.1 (λ n. omega (arith, once n, times-cons i.number (numbers items) n)))
-      (λ item table there has. (has.0, elim (i.number == item.number) as (λ b. (i.number == item.number) ≡ b → (if b then t.events else events_with items tables item.number) ≡ table.events) [
-        | true ↦ λ same. absurd (first_too (λ (table : TableItem). table.number) i item items there.0 there.1 there.2 (eqb-true i.number item.number same) (once item.number))
-        | false ↦ λ apart. has.1
-      ] refl)),
+      (λ item table there has. (
+        has.0,
+        elim (i.number == item.number) as (λ b. (i.number == item.number) ≡ b → (if b then t.events else events_with items tables item.number) ≡ table.events) [
+          | true ↦ λ same. absurd (first_too (λ (table : TableItem). table.number) i item items there.0 there.1 there.2 (eqb-true i.number item.number same) (once item.number))
+          | false ↦ λ apart. has.1
+        ] refl,
+      )),
 )
 
 -- ---- what is seen before and after
@@ -200,10 +205,12 @@ module _ (oldest : ℕ) (old now : Contents) (meant : IsMeant oldest old) (means
   table_now : (item : TableItem) (table : TableContents) → Contains now.definitions.tables item → IsTableMeant are accepted accepted item table
       → HasEvents now.definitions.tables now.tables item table → IsTableMeant are oldest accepted item table
   table_now item table inside is same = record {
-    runs = record { each = λ version route low high. elim (cases_lt version accepted) [
-      | inl before ↦ subst (AreRunsAt (kind_of item.kind) version route) same (runs_now version low (omega (arith, before, next)) item inside route)
-      | inr from ↦ is.runs.each version route from high
-    ] };
+    runs = record {
+      each = λ version route low high. elim (cases_lt version accepted) [
+        | inl before ↦ subst (AreRunsAt (kind_of item.kind) version route) same (runs_now version low (omega (arith, before, next)) item inside route)
+        | inr from ↦ is.runs.each version route from high
+      ];
+    };
     lie = λ version low high. elim (cases_lt version accepted) [
       | inl before ↦ subst (LieOnRoutes are (kind_of item.kind) version) same (lie_now version low (omega (arith, before, next)) item inside)
       | inr from ↦ is.lie version from high

@@ -10,14 +10,14 @@ use Rattle.rs_catalog.specs.Names.{map_values}
 use Rattle.rs_catalog_pages.specs.Items.{RouteItem, TableItem}
 use Rattle.rs_cell_versions.specs.declared.cell.TheConstants.{LIVING}
 use Rattle.rs_contents.specs.Contents.{Contents, HoldsAll, LiesTable, TableContents}
-use Rattle.rs_facts.specs.Fact.{Name, Names}
+use Rattle.rs_facts.specs.Fact.{Names}
 use Rattle.rs_facts.specs.Query.{World}
 use Rattle.rs_facts.specs.Runs.{Stretch}
 use Rattle.rs_machine.specs.State.{State, no_cursors}
 use Rattle.rs_pages.specs.PageMap.{PageMap}
 use Rattle.rs_versioned.specs.Events.{spans_at}
 use Rattle.rs_versioned.specs.Records.{is_seen}
-use Rattle.rs_versioned.specs.Referents.{ReferentRecord, is_referent_of, kept_referents, referents_at}
+use Rattle.rs_versioned.specs.Referents.{ReferentRecord, is_referent_of, kept_referents}
 use Rattle.rs_versioned.proofs.KeptReferents.{referents_are_kept}
 use Rattle.rs_versioned.proofs.Present.{held_level}
 use Rattle.rs_versioned.proofs.RunsByVersion.{spans_level}

@@ -1,9 +1,9 @@
 -- Queries whose views are opened open to the same where a view comes or goes that none of them names.
-use Rattle.std.proofs.Common.{◌≡◌, ◌∙◌, ℕ, zero, suc, ◌+◌, ◌-◌, ◌<◌, false, true, cond, [], ◌∷◌, ◌++◌, List, Contains, Option, Some, None, is_some, refl, sym, ap, arith}
+use Rattle.std.proofs.Common.{◌≡◌, ◌∙◌, ℕ, zero, suc, ◌+◌, ◌-◌, ◌<◌, false, cond, [], ◌∷◌, ◌++◌, List, Contains, Option, Some, None, is_some, refl, sym, ap, arith}
 use Rattle.std.specs.Prelude.{unwrap_or}
 use Rattle.std.specs.List.{AllByRecursion}
 use Rattle.std.specs.FinMap as names
-use Rattle.std.specs.FinMap.{len-insert, len-remove, get-insert, get-remove}
+use Rattle.std.specs.FinMap.{len-insert, len-remove}
 use Rattle.std.proofs.lemmas.Option.{none-some}
 use Rattle.std.proofs.lemmas.List.Elements.{All-contains_itself, All-weaker, recursion_from_All}
 use Rattle.rs_catalog.proofs.NameOrder.{name_cmp-total}

@@ -1,5 +1,5 @@
 -- A query that passes the checks of its nodes passes them, each window as wide as its route, where what it names is kept.
-use Rattle.std.proofs.Common.{◌≡◌, ◌∙◌, ℕ, zero, suc, Bool, true, false, ◌||◌, not, List, [], ◌∷◌, ◌++◌, length, map, Option, Some, None, Result, Ok, Err, refl, sym, ap, subst}
+use Rattle.std.proofs.Common.{◌≡◌, ◌∙◌, ℕ, zero, suc, ◌||◌, not, List, ◌++◌, length, map, Option, Some, None, Result, Ok, Err, refl, sym, ap}
 use Rattle.std.specs.Prelude.{unwrap_or}
 use Rattle.std.specs.FinMap as names
 use Rattle.std.specs.List.{list_any}
@@ -9,7 +9,7 @@ use Rattle.rs_facts.specs.Query.{Column, Piece, Query, RouteEnds, Table, Window,
 use Rattle.rs_machine.specs.Checking.{alike, column_place, column_places, condition_checked, cover_checked, dissolve_checked, filter_checked, may_stand_together, nodes_checked, overlay_checked, rename_checked, same_columns, window_checked}
 use Rattle.rs_machine.specs.Checks.{◌>>=◌, alignment_named, column_names, found, route_named, same_kind, some_name_twice, span_on, table_named, unless, window_route}
 use Rattle.rs_machine.specs.Lawful.{Each}
-use Rattle.rs_machine.specs.Opening.{alignments_in, names_in, opened, opened_once, opened_times, windows_in}
+use Rattle.rs_machine.specs.Opening.{opened, opened_once, opened_times}
 use Rattle.rs_machine.specs.State.{State, world_of}
 use Rattle.rs_refusal.specs.declared.refusal.Refusal.{Refusal}
 use Rattle.rs_refusal.specs.declared.refusal.Refusal.TheVariants.{ColumnTwice, ColumnsDiffer, KindsDiffer, NoSuchName, NoSuchRoute}

@@ -1,6 +1,6 @@
 -- Each accepted command leaves views whose queries pass the checks of their nodes.
-use Rattle.std.proofs.Common.{◌≡◌, ◌∙◌, ℕ, ◌+◌, Bool, true, false, ◌&&◌, ◌||◌, cond, List, [], ◌∷◌, Option, Some, None, not, Result, Ok, Err, IfOk, refl, sym, ap, subst}
-use Rattle.std.specs.Prelude.{IsTrue, nat_le, nat_lt, take, drop, length, if◌then◌else◌}
+use Rattle.std.proofs.Common.{◌≡◌, ◌∙◌, ℕ, Bool, true, false, ◌&&◌, ◌||◌, cond, List, [], ◌∷◌, Option, Some, not, Result, Ok, Err, IfOk, refl, sym, ap, subst}
+use Rattle.std.specs.Prelude.{nat_le, nat_lt, length}
 use Rattle.std.specs.FinMap as names
 use Rattle.std.specs.FinMap.{get-insert}
 use Rattle.std.specs.List.{AllByRecursion, list_any}
@@ -15,9 +15,9 @@ use Rattle.rs_machine.specs.Checking.{alignments_known, checked, column_place, c
 use Rattle.rs_machine.specs.Checks.{◌>>=◌, alignment_named, column_names, cursor_named, event_span, has_referent, has_table_or_view, index_named, location_kind, pieces_checked, position_on, route_named, row_fits, same_kind, some_name_twice, table_named, unless, view_named, window_route, window_span}
 use Rattle.rs_machine.specs.Lawful.{AreKnown, Each, IsLawful}
 use Rattle.rs_machine.specs.Opening.{alignments_in, names_alignment, names_in, names_query, names_referent, names_route, opened, some_piece_on, some_view, window_on, windows_in}
-use Rattle.rs_machine.specs.State.{State, has, no_cursors}
-use Rattle.rs_machine.specs.Step.{Effect, cursor_closed, cursor_opened, alignment_defined, alignment_dropped, has_fact_on, index_defined, index_dropped, may_change, no_cursor_waits, outcome, referent_defined, referent_dropped, referent_moved, route_defined, route_dropped, row_inserted, rows_along, rows_fetched, rows_removed, some_table, table_defined, table_dropped, view_defined, view_dropped, with_alignment, with_facts_along, with_route, with_table, with_view, without_alignment, without_facts, without_route, without_table, without_view, empty_table}
-use Rattle.rs_machine.specs.declared.limits.TheConstants.{ALIGNMENTS, CHANGES, CURSORS, INDEXES, PIECES, REFERENTS, ROUTES, TABLES, VIEWS}
+use Rattle.rs_machine.specs.State.{State, has}
+use Rattle.rs_machine.specs.Step.{Effect, cursor_opened, alignment_defined, alignment_dropped, has_fact_on, index_defined, index_dropped, may_change, no_cursor_waits, outcome, referent_defined, referent_dropped, referent_moved, route_defined, route_dropped, row_inserted, rows_along, rows_removed, some_table, table_defined, table_dropped, view_defined, view_dropped, with_alignment, with_facts_along, with_route, with_table, with_view, without_alignment, without_facts, without_route, without_table, without_view, empty_table}
+use Rattle.rs_machine.specs.declared.limits.TheConstants.{ALIGNMENTS, CURSORS, INDEXES, PIECES, REFERENTS, ROUTES, TABLES, VIEWS}
 use Rattle.rs_methods.specs.Position.{PositionExpression, start_name}
 use Rattle.rs_methods.specs.declared.position.Method.{Method}
 use Rattle.rs_refusal.specs.declared.refusal.Refusal.{Refusal}
@@ -92,10 +92,12 @@ module _ (state : State) (lawful : IsLawful state) (pass : ViewsPass state) wher
       through state (unless (not (has state.routes name)) NameTaken) _ (λ u new.
       through state (unless (nat_lt start finish) EmptySpan) _ (λ v order.
       through state (unless (nat_lt (names.len state.routes) ROUTES) Limit) _ (λ w room.
-      through state (may_change state) _ (λ x change. record { pass = λ is.
-          pass_on state (with_route state name start finish)
-          (λ n query there. all_kept state (with_route state name start finish) (λ q table at. at)
-          (λ route ends at. insert_some state.routes name (record { start = start; finish = finish }) route ends at) (λ q pieces at. at) query) pass }))))
+      through state (may_change state) _ (λ x change. record {
+        pass = λ is.
+            pass_on state (with_route state name start finish)
+            (λ n query there. all_kept state (with_route state name start finish) (λ q table at. at)
+            (λ route ends at. insert_some state.routes name (record { start = start; finish = finish }) route ends at) (λ q pieces at. at) query) pass;
+      }))))
 
   table_more : (kind : Kind) (name : Name) (columns : List Column) → Leaves state (table_defined state kind name columns)
   table_more kind name columns =
@@ -103,21 +105,25 @@ module _ (state : State) (lawful : IsLawful state) (pass : ViewsPass state) wher
       through state (unless (not (some_name_twice (column_names columns))) ColumnTwice) _ (λ v once.
       through state (unless (nat_le (length columns) COLUMNS) Limit) _ (λ w few.
       through state (unless (nat_lt (names.len state.tables) TABLES) Limit) _ (λ x room.
-      through state (may_change state) _ (λ y change. record { pass = λ is.
-          let none = either_false (has state.tables name) (has state.views name) (not_true _ (passed _ NameTaken u new)) in
-          pass_on state (with_table state name (empty_table kind columns))
-          (λ n query there. all_kept state (with_table state name (empty_table kind columns)) (λ q table at. insert_kept state.tables name (empty_table kind columns) q table none.0 at)
-          (λ route ends at. (ends, at)) (λ q pieces at. at) query) pass })))))
+      through state (may_change state) _ (λ y change. record {
+        pass = λ is.
+            let none = either_false (has state.tables name) (has state.views name) (not_true _ (passed _ NameTaken u new)) in
+            pass_on state (with_table state name (empty_table kind columns))
+            (λ n query there. all_kept state (with_table state name (empty_table kind columns)) (λ q table at. insert_kept state.tables name (empty_table kind columns) q table none.0 at)
+            (λ route ends at. (ends, at)) (λ q pieces at. at) query) pass;
+      })))))
 
   alignment_more : (name : Name) (pieces : List PieceTree) → Leaves state (alignment_defined state name pieces)
   alignment_more name written =
       through state (unless (not (has state.alignments name)) NameTaken) _ (λ u new.
       through state (unless (nat_lt (names.len state.alignments) ALIGNMENTS && nat_le (length written) PIECES) Limit) _ (λ v room.
       through state (pieces_checked state.routes written) _ (λ pieces lie.
-      through state (may_change state) _ (λ w change. record { pass = λ is.
-          pass_on state (with_alignment state name pieces)
-          (λ n query there. all_kept state (with_alignment state name pieces) (λ q table at. at) (λ route ends at. (ends, at))
-          (λ q other at. insert_kept state.alignments name pieces q other (not_true _ (passed _ NameTaken u new)) at) query) pass }))))
+      through state (may_change state) _ (λ w change. record {
+        pass = λ is.
+            pass_on state (with_alignment state name pieces)
+            (λ n query there. all_kept state (with_alignment state name pieces) (λ q table at. at) (λ route ends at. (ends, at))
+            (λ q other at. insert_kept state.alignments name pieces q other (not_true _ (passed _ NameTaken u new)) at) query) pass;
+      }))))
 
   -- ---- rows
 
@@ -133,8 +139,10 @@ module _ (state : State) (lawful : IsLawful state) (pass : ViewsPass state) wher
       through state (event_span state route ends place) _ (λ span lies.
       through state (unless (same_kind table.kind (location_kind place)) PointOrLineWanted) _ (λ u of_kind.
       through state (row_fits table.columns row) _ (λ v fits.
-      through state (may_change state) _ (λ w change. record { pass = λ is.
-          table_put name table (with_facts_along table route span.0 span.1 row) (was_found (names.get state.tables name) NoSuchName table there) refl refl }))))))
+      through state (may_change state) _ (λ w change. record {
+        pass = λ is.
+            table_put name table (with_facts_along table route span.0 span.1 row) (was_found (names.get state.tables name) NoSuchName table there) refl refl;
+      }))))))
 
   rows_less : (name : Name) (window : WindowTree) (condition : Option ConditionTree) → Leaves state (rows_removed state name window condition)
   rows_less name window condition =
@@ -142,8 +150,10 @@ module _ (state : State) (lawful : IsLawful state) (pass : ViewsPass state) wher
       through state (table_named state name) _ (λ table there.
       through state (window_span state ends window) _ (λ span lies.
       through state (removal_checked table.columns condition) _ (λ goes test.
-      through state (may_change state) _ (λ w change. record { pass = λ is.
-          table_put name table (without_facts table (window_route window) span.0 span.1 goes) (was_found (names.get state.tables name) NoSuchName table there) refl refl })))))
+      through state (may_change state) _ (λ w change. record {
+        pass = λ is.
+            table_put name table (without_facts table (window_route window) span.0 span.1 goes) (was_found (names.get state.tables name) NoSuchName table there) refl refl;
+      })))))
 
   -- ---- what is dropped
 
@@ -159,46 +169,52 @@ module _ (state : State) (lawful : IsLawful state) (pass : ViewsPass state) wher
       through state (route_named state name) _ (λ ends there.
       through state (unless (not (some_table state (has_fact_on name ends) || some_piece_on state name || some_view state (names_route name))) InUse) _ (λ u unused.
       through state (no_cursor_waits state) _ (λ w none_open.
-      through state (may_change state) _ (λ v change. record { pass = λ is.
-          let new = without_route state name in
-          let free = either_false (some_table state (has_fact_on name ends) || some_piece_on state name) (some_view state (names_route name)) (not_true _ (passed _ InUse u unused)) in
-          let routes = λ (window : WindowTree) (apart : window_on name window ≡ false) (has : (ends : RouteEnds) × (names.get state.routes (window_route window) ≡ Some ends)).
-          let still : (other : RouteEnds) × (names.get new.routes (window_route window) ≡ Some other) =
-          (has.0, remove_other state.routes name (window_route window) (turned name (window_route window) (window_other name window apart)) ∙ has.1) in still in
-          pass_on state new
-          (λ n query at.
-              kept_but state new (λ q. false) (window_on name) (λ q. false) (λ q none. still_same new.tables q) routes (λ q none pieces is. is) query
-              (spares state new (λ q. false) (window_on name) (λ q. false) (λ q none. still_same new.tables q) routes (λ q none pieces is. is) query
-              (none_any (names_in query)) (none_gone (names_route name) free.1 n query at) (none_any (alignments_in query)))) pass }))))
+      through state (may_change state) _ (λ v change. record {
+        pass = λ is.
+            let new = without_route state name in
+            let free = either_false (some_table state (has_fact_on name ends) || some_piece_on state name) (some_view state (names_route name)) (not_true _ (passed _ InUse u unused)) in
+            let routes = λ (window : WindowTree) (apart : window_on name window ≡ false) (has : (ends : RouteEnds) × (names.get state.routes (window_route window) ≡ Some ends)).
+            let still : (other : RouteEnds) × (names.get new.routes (window_route window) ≡ Some other) =
+            (has.0, remove_other state.routes name (window_route window) (turned name (window_route window) (window_other name window apart)) ∙ has.1) in still in
+            pass_on state new
+            (λ n query at.
+            kept_but state new (λ q. false) (window_on name) (λ q. false) (λ q none. still_same new.tables q) routes (λ q none pieces is. is) query
+            (spares state new (λ q. false) (window_on name) (λ q. false) (λ q none. still_same new.tables q) routes (λ q none pieces is. is) query
+            (none_any (names_in query)) (none_gone (names_route name) free.1 n query at) (none_any (alignments_in query)))) pass;
+      }))))
 
   table_less : (name : Name) → Leaves state (table_dropped state name)
   table_less name =
       through state (table_named state name) _ (λ table there.
       through state (unless (not (some_view state (names_query name))) InUse) _ (λ u unused.
       through state (no_cursor_waits state) _ (λ w none_open.
-      through state (may_change state) _ (λ v change. record { pass = λ is.
-          let new = without_table state name in
-          let tables = λ (q : Name) (apart : same_name name q ≡ false) (one : Table) (at : names.get state.tables q ≡ Some one).
-          still_same new.tables q one (remove_other state.tables name q (turned name q apart) ∙ at) in
-          pass_on state new
-          (λ n query at.
-              kept_but state new (same_name name) (λ window. false) (λ q. false) tables (λ window none has. has) (λ q none pieces is. is) query
-              (spares state new (same_name name) (λ window. false) (λ q. false) tables (λ window none has. has) (λ q none pieces is. is) query
-              (none_gone (names_query name) (not_true _ (passed _ InUse u unused)) n query at) (none_any (windows_in query)) (none_any (alignments_in query)))) pass }))))
+      through state (may_change state) _ (λ v change. record {
+        pass = λ is.
+            let new = without_table state name in
+            let tables = λ (q : Name) (apart : same_name name q ≡ false) (one : Table) (at : names.get state.tables q ≡ Some one).
+            still_same new.tables q one (remove_other state.tables name q (turned name q apart) ∙ at) in
+            pass_on state new
+            (λ n query at.
+            kept_but state new (same_name name) (λ window. false) (λ q. false) tables (λ window none has. has) (λ q none pieces is. is) query
+            (spares state new (same_name name) (λ window. false) (λ q. false) tables (λ window none has. has) (λ q none pieces is. is) query
+            (none_gone (names_query name) (not_true _ (passed _ InUse u unused)) n query at) (none_any (windows_in query)) (none_any (alignments_in query)))) pass;
+      }))))
 
   alignment_less : (name : Name) → Leaves state (alignment_dropped state name)
   alignment_less name =
       through state (alignment_named state name) _ (λ pieces there.
       through state (unless (not (some_view state (names_alignment name))) InUse) _ (λ u unused.
-      through state (may_change state) _ (λ v change. record { pass = λ is.
-          let new = without_alignment state name in
-          let alignments = λ (q : Name) (apart : same_name name q ≡ false) (one : List Piece) (at : names.get state.alignments q ≡ Some one).
-          remove_other state.alignments name q (turned name q apart) ∙ at in
-          pass_on state new
-          (λ n query at.
-              kept_but state new (λ q. false) (λ window. false) (same_name name) (λ q none. still_same new.tables q) (λ window none has. has) alignments query
-              (spares state new (λ q. false) (λ window. false) (same_name name) (λ q none. still_same new.tables q) (λ window none has. has) alignments query
-              (none_any (names_in query)) (none_any (windows_in query)) (none_gone (names_alignment name) (not_true _ (passed _ InUse u unused)) n query at))) pass })))
+      through state (may_change state) _ (λ v change. record {
+        pass = λ is.
+            let new = without_alignment state name in
+            let alignments = λ (q : Name) (apart : same_name name q ≡ false) (one : List Piece) (at : names.get state.alignments q ≡ Some one).
+            remove_other state.alignments name q (turned name q apart) ∙ at in
+            pass_on state new
+            (λ n query at.
+            kept_but state new (λ q. false) (λ window. false) (same_name name) (λ q none. still_same new.tables q) (λ window none has. has) alignments query
+            (spares state new (λ q. false) (λ window. false) (same_name name) (λ q none. still_same new.tables q) (λ window none has. has) alignments query
+            (none_any (names_in query)) (none_any (windows_in query)) (none_gone (names_alignment name) (not_true _ (passed _ InUse u unused)) n query at))) pass;
+      })))
 
   -- ---- views
 
@@ -223,12 +239,14 @@ module _ (state : State) (lawful : IsLawful state) (pass : ViewsPass state) wher
       through state (checked state query) _ (λ made is.
       through state (unless (not (has_table_or_view state name)) NameTaken) _ (λ u new.
       through state (unless (nat_lt (names.len state.views) VIEWS) Limit) _ (λ v room.
-      through state (may_change state) _ (λ w change. record { pass = λ lawful_then.
-          let none = not_true (has_table_or_view state name) (passed _ NameTaken u new) in
-          let one = then_ok (names_known state (names_in query)) (λ _. alignments_known state (alignments_in query) >>= (λ _. unless (fits_limits (opened state.views query)) Limit >>= (λ _. nodes_checked state (opened state.views query)))) made is in
-          let two = then_ok (alignments_known state (alignments_in query)) (λ _. unless (fits_limits (opened state.views query)) Limit >>= (λ _. nodes_checked state (opened state.views query))) made one.2 in
-          let three = then_ok (unless (fits_limits (opened state.views query)) Limit) (λ _. nodes_checked state (opened state.views query)) made two.2 in
-          view_added name query none (known (names_in query) one.0 one.1) made three.2 }))))
+      through state (may_change state) _ (λ w change. record {
+        pass = λ lawful_then.
+            let none = not_true (has_table_or_view state name) (passed _ NameTaken u new) in
+            let one = then_ok (names_known state (names_in query)) (λ _. alignments_known state (alignments_in query) >>= (λ _. unless (fits_limits (opened state.views query)) Limit >>= (λ _. nodes_checked state (opened state.views query)))) made is in
+            let two = then_ok (alignments_known state (alignments_in query)) (λ _. unless (fits_limits (opened state.views query)) Limit >>= (λ _. nodes_checked state (opened state.views query))) made one.2 in
+            let three = then_ok (unless (fits_limits (opened state.views query)) Limit) (λ _. nodes_checked state (opened state.views query)) made two.2 in
+            view_added name query none (known (names_in query) one.0 one.1) made three.2;
+      }))))
     where
       view_added : (name : Name) (query : QueryTree) → has_table_or_view state name ≡ false → AreKnown state (names_in query) → (made : Query) → nodes_checked state (opened state.views query) ≡ Ok made
           → ViewsPass (with_view state name query)
@@ -253,8 +271,10 @@ module _ (state : State) (lawful : IsLawful state) (pass : ViewsPass state) wher
   view_less name =
       through state (view_named state name) _ (λ dropped there.
       through state (unless (not (some_view state (names_query name))) InUse) _ (λ u unused.
-      through state (may_change state) _ (λ v change. record { pass = λ lawful_then.
-          view_gone dropped (was_found (names.get state.views name) NoSuchName dropped there) (not_true _ (passed _ InUse u unused)) lawful_then })))
+      through state (may_change state) _ (λ v change. record {
+        pass = λ lawful_then.
+            view_gone dropped (was_found (names.get state.views name) NoSuchName dropped there) (not_true _ (passed _ InUse u unused)) lawful_then;
+      })))
     where
       spared : (xs : List Name) → list_any (same_name name) xs ≡ false → AllByRecursion (λ other. same_name name other ≡ false) xs
       spared [] none = tt

@@ -36,6 +36,6 @@ pub fn changed_table_leaves_the_others_meant()
 pub fn changed_referents_leave_all_else_meant()
     ensures { (oldest : ℕ) (contents : Contents) (now : ReferentContents) → IsMeant oldest contents
         → ((version : ℕ) → oldest ≤ version → version ≤ contents.directory.accepted
-            → AreReferentsMeant contents.definitions.routes version now.referents)
+        → AreReferentsMeant contents.definitions.routes version now.referents)
         → IsMeant oldest (record contents { referents = now }) }
 {}
