@@ -12,7 +12,7 @@ use Rattle.rs_catalog.specs.Definitions as catalog
 use Rattle.rs_catalog.specs.Definitions.{facts_from, no_places, on_numbered, table_from}
 use Rattle.rs_catalog.specs.Names.{map_values}
 use Rattle.rs_catalog.proofs.NameOrder.{name_cmp-antisymmetric, name_cmp-total}
-use Rattle.rs_catalog_meaning.specs.Meaning.{AreInOrder}
+use Rattle.rs_catalog_meaning.specs.Meaning.{AreInOrder, AreMeant}
 use Rattle.rs_catalog_pages.specs.Items.{RouteItem, TableItem}
 use Rattle.rs_contents.specs.Contents.{Contents}
 use Rattle.rs_facts.specs.Fact.{Facts, Name, Names, Places, name_cmp}
@@ -151,13 +151,13 @@ module _ (version : ℕ) (old now : Contents) (later : IsLater version old now) 
       ∙ ap (λ (see : catalog.TableItem → Table). world_parts (routes_named (born_by version was)) see (tables_named now.definitions.tables)) (tables_from_same routes)
       ∙ ap (λ (items : List TableItem). world_parts (routes_named (born_by version was)) (table_from (routes_named (born_by version was)) (spans_seen old version)) (tables_named items)) tables
 
-  pub seen_the_same : (oldest from : ℕ) → IsMeant oldest old → IsMeant from now → oldest ≤ version → version ≤ old.directory.accepted → SeesTheSame version old now
-  seen_the_same oldest from meant means low high =
-      let routes = routes_seen meant.definitions.routes.in_order means.definitions.routes.in_order in
+  pub seen_the_same : (oldest : ℕ) → IsMeant oldest old → AreMeant now.definitions → oldest ≤ version → version ≤ old.directory.accepted → SeesTheSame version old now
+  seen_the_same oldest meant means low high =
+      let routes = routes_seen meant.definitions.routes.in_order means.routes.in_order in
       record {
         routes = routes;
         facts = facts_seen;
         referents = referents_kept oldest meant low high;
         world_routes = ap (map_values (λ (item : catalog.RouteItem). item.ends)) routes;
-        world_tables = tables_seen routes meant.definitions.tables.in_order means.definitions.tables.in_order;
+        world_tables = tables_seen routes meant.definitions.tables.in_order means.tables.in_order;
       }

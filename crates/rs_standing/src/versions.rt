@@ -14,8 +14,8 @@ ghost use Rattle.rs_standing.specs.States.{IsState, IsStateAt, world_at};
 /// A version sees nothing of what comes after it: routes and tables that are defined, records that come and end, and dead ones that
 /// are cleared.
 pub fn version_sees_nothing_of_what_comes_after_it()
-    ensures sees { (version oldest from : ℕ) (old now : Contents) → IsLater version old now
-        → IsMeant oldest old → IsMeant from now → oldest ≤ version → version ≤ old.directory.accepted → SeesTheSame version old now }
+    ensures sees { (version oldest : ℕ) (old now : Contents) → IsLater version old now
+        → IsMeant oldest old → AreMeant now.definitions → oldest ≤ version → version ≤ old.directory.accepted → SeesTheSame version old now }
     ensures world { (version : ℕ) (old now : Contents) → IsLater version old now
         → AreMeant old.definitions → AreMeant now.definitions → now.definitions.tables ≡ old.definitions.tables
         → world_at now version ≡ world_at old version }
