@@ -12,6 +12,7 @@ mod LaterContents
 mod Carried
 mod Next
 mod Changed
+mod OneLater
 mod Opened
 mod Passing
 mod Keeping

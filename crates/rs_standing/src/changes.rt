@@ -2,11 +2,16 @@
 
 ghost use Rattle.std.specs.Prelude.{◌≡◌, ◌≤◌, ℕ, List};
 ghost use Rattle.rs_catalog_pages.specs.Items.{TableItem};
+ghost use Rattle.rs_catalog_pages.specs.Directory.{DirectoryItems};
 ghost use Rattle.rs_contents.specs.Contents.{Contents, ReferentContents, SameContents, TableContents, table_numbers};
 ghost use Rattle.rs_page_owners.specs.Counts.{times};
 ghost use Rattle.rs_standing.specs.Changed.{HasTableBetween, with_table};
+ghost use Rattle.rs_standing.specs.Later.{ChangesAfter, IsLater};
 ghost use Rattle.rs_standing.specs.Meant.{AreReferentsMeant, IsMeant, IsTableMeant};
 ghost use Rattle.rs_standing.specs.Seen.{events_of};
+ghost use Rattle.rs_value.specs.declared.column.ColumnType.{ColumnType};
+ghost use Rattle.rs_versioned.specs.Events.{kept_events};
+ghost use Rattle.rs_versioned.specs.Referents.{kept_referents};
 
 /// Contents that are meant from a version on are meant from a later one on, and the same contents are meant alike.
 pub fn meant_contents_stay_meant()
@@ -38,4 +43,15 @@ pub fn changed_referents_leave_all_else_meant()
         → ((version : ℕ) → oldest ≤ version → version ≤ contents.directory.accepted
         → AreReferentsMeant contents.definitions.routes version now.referents)
         → IsMeant oldest (record contents { referents = now }) }
+{}
+
+/// Where the events of one table, or the referents, change after a version, that version sees nothing of it.
+pub fn change_of_one_part_is_later()
+    ensures table { (version : ℕ) (contents : Contents) (item : TableItem) (before : List TableContents) (table now : TableContents) (after : List TableContents) (directory : DirectoryItems)
+        → HasTableBetween contents item before table after → ((number : ℕ) → times (table_numbers contents.definitions) number ≤ 1)
+        → (types : List ColumnType) → ChangesAfter (kept_events types) version table.events now.events
+        → IsLater version contents (record (with_table contents before now after) { directory = directory }) }
+    ensures referents { (version : ℕ) (contents : Contents) (now : ReferentContents) (directory : DirectoryItems)
+        → ChangesAfter kept_referents version contents.referents.referents now.referents
+        → IsLater version contents (record contents { referents = now; directory = directory }) }
 {}

@@ -71,7 +71,7 @@ pub fn state_has_the_world_of_its_version()
         → IsStateAt version contents state → world_of state ≡ world_at contents version }
 {}
 
-/// The definitions of the present version are those of a catalogue, as it keeps them in memory.
+/// The definitions that are seen at a version by which each route was born keep to what is so of every catalogue in memory.
 pub fn definitions_of_a_file_are_a_catalogues()
     ensures { (version : ℕ) (catalogue : CatalogueItems) (definitions : Definitions)
         → AreMeant catalogue → AreGivenOnce catalogue → AllByRecursion (λ route. route.born ≤ version) catalogue.routes
