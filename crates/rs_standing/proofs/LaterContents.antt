@@ -57,7 +57,7 @@ module _ {X Y : Type 0} (name_of : X → Name) (value : X → Y) where
       → listed xs ≡ listed ys
   same_listed xs ys rise order still back = same_map name_cmp-total name_cmp-antisymmetric _ _ (same_at xs ys rise order still back)
 
-kept_in : {X : Type 0} (test : X → Bool) (xs : List X) (x : X) → Contains xs x → test x ≡ true → Contains (filter test xs) x
+pub kept_in : {X : Type 0} (test : X → Bool) (xs : List X) (x : X) → Contains xs x → test x ≡ true → Contains (filter test xs) x
 kept_in test xs x there passes =
     each_kept test (Contains (filter test xs)) xs x (recursion_from_All (Contains (filter test xs)) (filter test xs) (All-contains_itself (filter test xs))) there passes
 

@@ -13,6 +13,7 @@ mod Carried
 mod Next
 mod Changed
 mod OneLater
+mod Redefined
 mod Opened
 mod Passing
 mod Keeping

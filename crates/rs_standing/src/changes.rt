@@ -1,11 +1,12 @@
 //! What stays meant where one part of a file's contents changes, or fewer versions are looked at.
 
-ghost use Rattle.std.specs.Prelude.{◌≡◌, ◌≤◌, ℕ, List};
-ghost use Rattle.rs_catalog_pages.specs.Items.{TableItem};
+ghost use Rattle.std.specs.Prelude.{◌≡◌, ◌≤◌, ◌⊎◌, ◌++◌, ◌∷◌, ℕ, Contains, List};
+ghost use Rattle.rs_catalog_pages.specs.Items.{CatalogueItems, RouteItem, TableItem};
+ghost use Rattle.rs_catalog_meaning.specs.Meaning.{AreMeant};
 ghost use Rattle.rs_catalog_pages.specs.Directory.{DirectoryItems};
 ghost use Rattle.rs_contents.specs.Contents.{Contents, ReferentContents, SameContents, TableContents, table_numbers};
 ghost use Rattle.rs_page_owners.specs.Counts.{times};
-ghost use Rattle.rs_standing.specs.Changed.{HasTableBetween, with_table};
+ghost use Rattle.rs_standing.specs.Changed.{HasTableBetween, IsUnusedFrom, TableComes, with_table};
 ghost use Rattle.rs_standing.specs.Later.{ChangesAfter, IsLater};
 ghost use Rattle.rs_standing.specs.Meant.{AreReferentsMeant, IsMeant, IsTableMeant};
 ghost use Rattle.rs_standing.specs.Seen.{events_of};
@@ -54,4 +55,25 @@ pub fn change_of_one_part_is_later()
     ensures referents { (version : ℕ) (contents : Contents) (now : ReferentContents) (directory : DirectoryItems)
         → ChangesAfter kept_referents version contents.referents.referents now.referents
         → IsLater version contents (record contents { referents = now; directory = directory }) }
+{}
+
+/// Where the definitions are others, which are meant, the records stay so: where routes come and tables stay, where a route goes on
+/// which no version from the oldest on sees a record, where a table without events comes, and where a table goes.
+pub fn changed_definitions_leave_records_meant()
+    ensures routes_come { (oldest : ℕ) (contents : Contents) (definitions : CatalogueItems)
+        → IsMeant oldest contents → AreMeant definitions → definitions.tables ≡ contents.definitions.tables
+        → ((route : RouteItem) → Contains contents.definitions.routes route → Contains definitions.routes route)
+        → IsMeant oldest (record contents { definitions = definitions }) }
+    ensures route_goes { (oldest gone : ℕ) (contents : Contents) (definitions : CatalogueItems)
+        → IsMeant oldest contents → AreMeant definitions → definitions.tables ≡ contents.definitions.tables
+        → ((route : RouteItem) → Contains contents.definitions.routes route → Contains definitions.routes route ⊎ (route.number ≡ gone))
+        → IsUnusedFrom oldest gone contents → IsMeant oldest (record contents { definitions = definitions }) }
+    ensures table_comes { (oldest : ℕ) (contents : Contents) (definitions : CatalogueItems) (before : List TableContents) (table : TableContents) (after : List TableContents)
+        → IsMeant oldest contents → AreMeant definitions → definitions.routes ≡ contents.definitions.routes
+        → TableComes contents definitions before table after
+        → IsMeant oldest (record contents { definitions = definitions; tables = before ++ table ∷ after }) }
+    ensures table_goes { (oldest : ℕ) (contents : Contents) (definitions : CatalogueItems) (item : TableItem) (before : List TableContents) (table : TableContents) (after : List TableContents)
+        → IsMeant oldest contents → AreMeant definitions → definitions.routes ≡ contents.definitions.routes
+        → (has : HasTableBetween contents item before table after) → definitions.tables ≡ has.first ++ has.last
+        → IsMeant oldest (record contents { definitions = definitions; tables = before ++ after }) }
 {}
