@@ -30,6 +30,7 @@ use Rattle.rs_standing.specs.Meant.{AreReferentsMeant, IsEventOn, IsMeant, IsRef
 use Rattle.rs_standing.specs.Seen.{born_by, events_of, events_with}
 use Rattle.rs_standing.proofs.LaterContents.{still_born}
 use Rattle.rs_standing.proofs.LaterRecords.{distinct_moved, seen_as_before}
+use Rattle.rs_standing.proofs.Lists.{each_weaker}
 use Rattle.rs_standing.proofs.Named.{first_there, later_there}
 use Rattle.rs_standing.proofs.Picked.{first_too, same_numbered, table_of}
 
@@ -48,10 +49,6 @@ each_shown show P (x ∷ xs) all = (all.0, each_shown show P xs all.1)
 shown_each : {X Y : Type 0} (show : X → Y) (P : Y → Type 0) (xs : List X) → AllByRecursion P (map show xs) → AllByRecursion (λ x. P (show x)) xs
 shown_each show P [] all = tt
 shown_each show P (x ∷ xs) all = (all.0, shown_each show P xs all.1)
-
-each_weaker : {X : Type 0} (P Q : X → Type 0) → ((x : X) → P x → Q x) → (xs : List X) → AllByRecursion P xs → AllByRecursion Q xs
-each_weaker P Q gives [] all = tt
-each_weaker P Q gives (x ∷ xs) all = (gives x all.0, each_weaker P Q gives xs all.1)
 
 each_moved : {Y : Type 0} (P : Y → Type 0) (xs ys : List Y) → IsPermutation xs ys → AllByRecursion P xs → AllByRecursion P ys
 each_moved P xs ys p all = recursion_from_All P ys (All-permutation P xs ys p (All-from_recursion P xs all))

@@ -23,16 +23,11 @@ use Rattle.rs_versioned.proofs.RunsByVersion.{runs_level}
 use Rattle.rs_standing.specs.Changed.{HasTableBetween, with_table}
 use Rattle.rs_standing.specs.Meant.{AreReferentsMeant, IsEventOn, IsMeant, IsReferentOn, IsTableMeant, LieOnRoutes}
 use Rattle.rs_standing.specs.Seen.{born_by, events_of, events_with}
+use Rattle.rs_standing.proofs.Lists.{zip_held}
 use Rattle.rs_standing.proofs.Next.{born_later, filter_alike, on_alike}
 use Rattle.rs_standing.proofs.Picked.{born_all, first_too}
 
 -- ---- a version without changes
-
-zip_held : {X Y : Type 0} (R S : X → Y → Type 0) (Q : Y → Type 0) (xs : List X) (ys : List Y) → AllZip R xs ys → AllByRecursion Q ys → ((x : X) (y : Y) → R x y → Q y → S x y) → AllZip S xs ys
-zip_held R S Q [] [] all held gives = tt
-zip_held R S Q [] (y ∷ ys) all held gives = absurd all
-zip_held R S Q (x ∷ xs) [] all held gives = absurd all
-zip_held R S Q (x ∷ xs) (y ∷ ys) all held gives = (gives x y all.0 held.0, zip_held R S Q xs ys all.1 held.1 gives)
 
 module _ (pages : PageMap) (contents : Contents) (oldest version : ℕ) (holds : HoldsAll pages contents) (meant : IsMeant oldest contents) (from : oldest ≤ contents.directory.accepted)
     (later : contents.directory.accepted ≤ version) (below : version < LIVING) where

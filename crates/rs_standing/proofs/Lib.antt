@@ -1,3 +1,4 @@
+mod Lists
 mod Same
 mod One
 mod Named

@@ -1,5 +1,5 @@
 -- Records stay meant where definitions change beside them.
-use Rattle.std.proofs.Common.{◌≡◌, ◌≢◌, ◌≤◌, ◌⊎◌, inl, inr, ℕ, List, [], ◌∷◌, ◌++◌, length, filter, refl, sym, subst, ◌∙◌, arith}
+use Rattle.std.proofs.Common.{◌≡◌, ◌≢◌, ◌≤◌, ◌⊎◌, inl, inr, ℕ, List, [], ◌∷◌, ◌++◌, length, filter, sym, subst, ◌∙◌, arith}
 use Rattle.std.specs.Prelude.{Contains}
 use Rattle.std.specs.List.{AllByRecursion, AllZip}
 use Rattle.rs_catalog_meaning.specs.Meaning.{AreMeant}
@@ -17,19 +17,10 @@ use Rattle.rs_standing.specs.Changed.{HasTableBetween, IsUnusedFrom, TableComes}
 use Rattle.rs_standing.specs.Meant.{AreReferentsMeant, IsEventOn, IsMeant, IsReferentOn, IsSpanOf, IsTableMeant, OnRoute}
 use Rattle.rs_standing.specs.Seen.{born_by, is_born}
 use Rattle.rs_standing.proofs.LaterContents.{kept_in}
+use Rattle.rs_standing.proofs.Lists.{each_both, each_weaker, zip_each, zip_held}
 use Rattle.rs_standing.proofs.Picked.{kept_passes, kept_there}
 
 -- ---- lists
-
-each_both : {X : Type 0} (P Q R : X → Type 0) → ((x : X) → P x → Q x → R x) → (xs : List X) → AllByRecursion P xs → AllByRecursion Q xs → AllByRecursion R xs
-each_both P Q R gives [] one other = tt
-each_both P Q R gives (x ∷ xs) one other = (gives x one.0 other.0, each_both P Q R gives xs one.1 other.1)
-
-zip_both : {X Y : Type 0} (R S : X → Y → Type 0) (Q : Y → Type 0) (xs : List X) (ys : List Y) → AllZip R xs ys → AllByRecursion Q ys → ((x : X) (y : Y) → R x y → Q y → S x y) → AllZip S xs ys
-zip_both R S Q [] [] all held gives = tt
-zip_both R S Q [] (y ∷ ys) all held gives = absurd all
-zip_both R S Q (x ∷ xs) [] all held gives = absurd all
-zip_both R S Q (x ∷ xs) (y ∷ ys) all held gives = (gives x y all.0 held.0, zip_both R S Q xs ys all.1 held.1 gives)
 
 zip_more : {X Y : Type 0} (R : X → Y → Type 0) (xs : List X) (x : X) (others : List X) (ys : List Y) (y : Y) (more : List Y) → length xs ≡ length ys
     → AllZip R (xs ++ others) (ys ++ more) → R x y → AllZip R (xs ++ x ∷ others) (ys ++ y ∷ more)
@@ -89,7 +80,7 @@ meant_without_route oldest gone contents definitions meant are tables stay unuse
     record {
       definitions = are;
       tables = subst (λ (items : List TableItem). AllZip (IsTableMeant now oldest accepted) items contents.tables) (sym tables)
-          (zip_both (IsTableMeant old oldest accepted) (IsTableMeant now oldest accepted)
+          (zip_held (IsTableMeant old oldest accepted) (IsTableMeant now oldest accepted)
           (λ table. (version : ℕ) → oldest ≤ version → version ≤ accepted → AllByRecursion (λ event. event.route ≢ gone) (filter (sees_event version) table.events))
           contents.definitions.tables contents.tables meant.tables unused.events (λ item table. table_stays gone old now stay oldest accepted item table));
       referents = λ version low high. referents_stay gone old now stay version contents.referents.referents (meant.referents version low high) (unused.referents version low high);
@@ -105,16 +96,6 @@ on_still old now still version number IsSo on = record {
   is_so = on.is_so;
 }
 
-each_more : {X : Type 0} (P Q : X → Type 0) → ((x : X) → P x → Q x) → (xs : List X) → AllByRecursion P xs → AllByRecursion Q xs
-each_more P Q gives [] all = tt
-each_more P Q gives (x ∷ xs) all = (gives x all.0, each_more P Q gives xs all.1)
-
-zip_each : {X Y : Type 0} (R S : X → Y → Type 0) (xs : List X) (ys : List Y) → AllZip R xs ys → ((x : X) (y : Y) → R x y → S x y) → AllZip S xs ys
-zip_each R S [] [] all gives = tt
-zip_each R S [] (y ∷ ys) all gives = absurd all
-zip_each R S (x ∷ xs) [] all gives = absurd all
-zip_each R S (x ∷ xs) (y ∷ ys) all gives = (gives x y all.0, zip_each R S xs ys all.1 gives)
-
 pub meant_with_routes : (oldest : ℕ) (contents : Contents) (definitions : CatalogueItems) → IsMeant oldest contents → AreMeant definitions → definitions.tables ≡ contents.definitions.tables
     → ((route : RouteItem) → Contains contents.definitions.routes route → Contains definitions.routes route) → IsMeant oldest (record contents { definitions = definitions })
 meant_with_routes oldest contents definitions meant are tables still =
@@ -127,11 +108,11 @@ meant_with_routes oldest contents definitions meant are tables still =
           (zip_each (IsTableMeant old oldest accepted) (IsTableMeant now oldest accepted) contents.definitions.tables contents.tables meant.tables (λ item table is. record {
             runs = is.runs;
             lie = λ version low high.
-                each_more (IsEventOn (born_by version old) (kind_of item.kind)) (IsEventOn (born_by version now) (kind_of item.kind))
+                each_weaker (IsEventOn (born_by version old) (kind_of item.kind)) (IsEventOn (born_by version now) (kind_of item.kind))
                 (λ event. on_still old now still version event.route (IsSpanOf (kind_of item.kind) (span_of event))) (filter (sees_event version) table.events) (is.lie version low high);
           }));
       referents = λ version low high. let is = meant.referents version low high in record {
-        each = each_more (IsReferentOn (born_by version old)) (IsReferentOn (born_by version now))
+        each = each_weaker (IsReferentOn (born_by version old)) (IsReferentOn (born_by version now))
             (λ referent one. record { named = one.named; not_start = one.not_start; lies = on_still old now still version referent.route (IsPlaceOf referent.measure) one.lies })
             (filter (is_seen kept_referents version) contents.referents.referents) is.each;
         once = is.once;

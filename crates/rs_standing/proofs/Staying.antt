@@ -10,12 +10,7 @@ use Rattle.rs_versioned.specs.Events.{Event}
 use Rattle.rs_versioned.specs.Referents.{ReferentRecord}
 use Rattle.rs_versioned.specs.Runs.{AreRunsFrom}
 use Rattle.rs_standing.specs.Meant.{AreReferentsMeant, IsMeant, IsTableMeant, LieOnRoutes}
-
-zip_weaker : {X Y : Type 0} (R S : X → Y → Type 0) → ((x : X) (y : Y) → R x y → S x y) → (xs : List X) (ys : List Y) → AllZip R xs ys → AllZip S xs ys
-zip_weaker R S gives [] [] all = tt
-zip_weaker R S gives [] (y ∷ ys) all = absurd all
-zip_weaker R S gives (x ∷ xs) [] all = absurd all
-zip_weaker R S gives (x ∷ xs) (y ∷ ys) all = (gives x y all.0, zip_weaker R S gives xs ys all.1)
+use Rattle.rs_standing.proofs.Lists.{zip_each}
 
 fewer_table : (routes : List RouteItem) (oldest from accepted : ℕ) → oldest ≤ from → (item : TableItem) (table : TableContents)
     → IsTableMeant routes oldest accepted item table → IsTableMeant routes from accepted item table
@@ -27,8 +22,8 @@ fewer_table routes oldest from accepted later item table is = record {
 pub fewer : (oldest from : ℕ) (contents : Contents) → oldest ≤ from → IsMeant oldest contents → IsMeant from contents
 fewer oldest from contents later is = record {
   definitions = is.definitions;
-  tables = zip_weaker (IsTableMeant contents.definitions.routes oldest contents.directory.accepted) (IsTableMeant contents.definitions.routes from contents.directory.accepted)
-      (fewer_table contents.definitions.routes oldest from contents.directory.accepted later) contents.definitions.tables contents.tables is.tables;
+  tables = zip_each (IsTableMeant contents.definitions.routes oldest contents.directory.accepted) (IsTableMeant contents.definitions.routes from contents.directory.accepted)
+      contents.definitions.tables contents.tables is.tables (fewer_table contents.definitions.routes oldest from contents.directory.accepted later);
   referents = λ version low high. is.referents version (omega (arith, later, low)) high;
 }
 
