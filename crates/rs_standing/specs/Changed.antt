@@ -1,0 +1,38 @@
+-- What changes in a file's contents: one table among the others, and the definitions beside the records.
+use Rattle.std.specs.Prelude.{◌≡◌, ◌≢◌, ◌≤◌, ℕ, List, [], ◌∷◌, ◌++◌, filter, length}
+use Rattle.std.specs.List.{AllByRecursion}
+use Rattle.rs_catalog_pages.specs.Items.{CatalogueItems, TableItem}
+use Rattle.rs_contents.specs.Contents.{Contents, TableContents}
+use Rattle.rs_versioned.specs.Events.{sees_event}
+use Rattle.rs_versioned.specs.Records.{is_seen}
+use Rattle.rs_versioned.specs.Referents.{kept_referents}
+
+-- the item's table is this one, with these before it and these after it
+pub record HasTableBetween (contents : Contents) (item : TableItem) (before : List TableContents) (table : TableContents) (after : List TableContents) : Type 0 where
+  pub first : List TableItem
+  pub last : List TableItem
+  pub items : contents.definitions.tables ≡ first ++ item ∷ last
+  pub long : length first ≡ length before
+  pub tables : contents.tables ≡ before ++ table ∷ after
+
+-- the same contents with another table in that place
+abbrev pub with_table : Contents → List TableContents → TableContents → List TableContents → Contents
+with_table contents before table after = record contents { tables = before ++ table ∷ after }
+
+-- no version from the oldest on sees an event or a referent on the route with this number
+pub record IsUnusedFrom (oldest number : ℕ) (contents : Contents) : Type 0 where
+  pub events : AllByRecursion (λ table. (version : ℕ) → oldest ≤ version → version ≤ contents.directory.accepted
+      → AllByRecursion (λ event. event.route ≢ number) (filter (sees_event version) table.events)) contents.tables
+  pub referents : (version : ℕ) → oldest ≤ version → version ≤ contents.directory.accepted
+      → AllByRecursion (λ referent. referent.route ≢ number) (filter (is_seen kept_referents version) contents.referents.referents)
+
+-- the tables are those that were there but for one, which has come between these, and has no events
+pub record TableComes (contents : Contents) (definitions : CatalogueItems) (before : List TableContents) (table : TableContents) (after : List TableContents) : Type 0 where
+  pub first : List TableItem
+  pub item : TableItem
+  pub last : List TableItem
+  pub were : contents.definitions.tables ≡ first ++ last
+  pub are : definitions.tables ≡ first ++ item ∷ last
+  pub long : length first ≡ length before
+  pub tables : contents.tables ≡ before ++ after
+  pub no_events : table.events ≡ []

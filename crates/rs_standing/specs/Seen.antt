@@ -1,0 +1,34 @@
+-- What a version sees of the contents of a file: by the numbers of tables and routes.
+use Rattle.std.specs.Prelude.{◌==◌, ℕ, Bool, nat_le, List, [], ◌∷◌, filter, if◌then◌else◌}
+use Rattle.std.specs.FinMap as names
+use Rattle.rs_catalog_pages.specs.Items.{RouteItem, TableItem}
+use Rattle.rs_contents.specs.Contents.{Contents, TableContents}
+use Rattle.rs_facts.specs.Fact.{Names}
+use Rattle.rs_facts.specs.Runs.{Stretch}
+use Rattle.rs_versioned.specs.Events.{Event, spans_at}
+use Rattle.rs_versioned.specs.Referents.{referents_at}
+
+-- the version sees the route
+abbrev pub is_born : ℕ → RouteItem → Bool
+is_born version route = nat_le route.born version
+
+-- the routes that the version sees, in their order
+abbrev pub born_by : ℕ → List RouteItem → List RouteItem
+born_by version routes = filter (is_born version) routes
+
+-- the events of the table with this number; none where no table has it
+abbrev pub events_with : List TableItem → List TableContents → ℕ → List Event
+events_with [] tables number = []
+events_with (item ∷ items) [] number = []
+events_with (item ∷ items) (table ∷ tables) number = if item.number == number then table.events else events_with items tables number
+
+abbrev pub events_of : Contents → ℕ → List Event
+events_of contents table = events_with contents.definitions.tables contents.tables table
+
+-- the spans that the version sees of a table on a route
+abbrev pub spans_seen : Contents → ℕ → ℕ → ℕ → List Stretch
+spans_seen contents version table route = spans_at version route (events_of contents table)
+
+-- the referents that the version sees on a route
+abbrev pub referents_seen : Contents → ℕ → ℕ → Names ℕ
+referents_seen contents version route = names.from_entries (referents_at version route contents.referents.referents)
