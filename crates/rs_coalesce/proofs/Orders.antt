@@ -32,18 +32,16 @@ pub joins-apart : (kind : Kind) (a b : Stretch) (t : Bool) → t ≡ false → f
 unfolding joins same_row
 joins-apart kind a b t e far = e ∙ ap (λ n. n && same_row a.row b.row) far
 
+-- ---- spans that lie apart
+
 abbrev pub ends_before : Span → Span → Bool
 ends_before one next = nat_le one.hi next.lo
-
--- one of the list after another, as a stretch
-at : (spans : List Span) (k : ℕ) (d : Span) (e : Stretch) → k < length spans → get_or (map seen spans) k e ≡ seen (get_or spans k d)
-at spans k d e inside = get_or-map seen spans k d e inside
 
 unless_apart : (spans : List Span) (k : ℕ) (d : Span) → suc k < length spans → false ≡ ends_before (get_or spans k d) (get_or spans (suc k) d) → AreApart (map seen spans) → ⊥
 unless_apart spans k d inside is apart =
     let low : (get_or spans k d).hi ≤ (get_or spans (suc k) d).lo =
-    subst (λ x. (get_or spans k d).hi ≤ x.lo) (at spans (suc k) d (seen d) inside)
-    (subst (λ x. x.hi ≤ (get_or (map seen spans) (suc k) (seen d)).lo) (at spans k d (seen d) (omega (arith, inside))) (apart k (seen d) (omega (arith, inside, length-map spans seen)))) in
+    subst (λ x. (get_or spans k d).hi ≤ x.lo) (get_or-map seen spans (suc k) d (seen d) inside)
+    (subst (λ x. x.hi ≤ (get_or (map seen spans) (suc k) (seen d)).lo) (get_or-map seen spans k d (seen d) (omega (arith, inside))) (apart k (seen d) (omega (arith, inside, length-map spans seen)))) in
     let high = leb-false (get_or spans k d).hi (get_or spans (suc k) d).lo (sym is) in
     omega (arith, low, high)
 
@@ -55,8 +53,8 @@ apart-answer (first ∷ rest) true all = (
   λ e k d inside.
       let within : suc k < length (first ∷ rest) = omega (arith, inside, length-map (first ∷ rest) seen) in
       let low = leb-true (get_or (first ∷ rest) k first).hi (get_or (first ∷ rest) (suc k) first).lo (subst (λ n. ends_before (get_or (first ∷ rest) k first) (get_or (first ∷ rest) n first) ≡ true) (add-one k) (sym (all k first (omega (arith, within))))) in
-      subst (λ x. (get_or (map seen (first ∷ rest)) k d).hi ≤ x.lo) (sym (at (first ∷ rest) (suc k) first d within))
-      (subst (λ x. x.hi ≤ (get_or (first ∷ rest) (suc k) first).lo) (sym (at (first ∷ rest) k first d (omega (arith, within)))) low),
+      subst (λ x. (get_or (map seen (first ∷ rest)) k d).hi ≤ x.lo) (sym (get_or-map seen (first ∷ rest) (suc k) first d within))
+      (subst (λ x. x.hi ≤ (get_or (first ∷ rest) (suc k) first).lo) (sym (get_or-map seen (first ∷ rest) k first d (omega (arith, within)))) low),
   λ apart. refl,
 )
 apart-answer (first ∷ rest) false (k, inside, is) = (

@@ -1,4 +1,5 @@
--- How runs are made: spans by row and place, and each joined with what follows it as far as they are one.
+-- How runs are made: spans by row and place, or by place and apart, and each joined with what follows it as far as they
+-- are one.
 use Rattle.std.specs.Prelude.{ℕ, suc, ◌+◌, ◌<◌, ◌≤◌, max, Bool, ◌&&◌, nat_lt, List, [], ◌∷◌, length, get_or, if◌then◌else◌}
 use Rattle.std.specs.declared.cmp.Ordering.{Ordering}
 use Rattle.std.specs.Ordering.{nat_cmp, ordering_then, eq_by_cmp}

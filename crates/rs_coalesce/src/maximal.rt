@@ -12,7 +12,8 @@ use rs_value::Kind;
 
 /// The maximal runs of that kind, by place and then by row.
 ///
-/// Spans of a row that overlap or, of lines, touch are one run; points stay apart. Takes no memory.
+/// Spans of a row that overlap or, of lines, touch are one run; points stay apart. Takes no memory. Spans that lie apart
+/// in order of place are not sorted.
 pub fn runs(kind: Kind, mut spans: Vec<Span>) -> Vec<Span>
     requires placed { ArePlaced kind (map seen spans.items) }
     ensures runs { AreRunsOf kind (places_of (map seen spans.items)) (map seen result.items) }
@@ -27,7 +28,7 @@ pub fn runs(kind: Kind, mut spans: Vec<Span>) -> Vec<Span>
     }
 }
 
-/// The same of spans in whatever order: those of a row are brought together to be joined, and the runs are sorted.
+/// The same of spans in any order: sorted by row, joined, and sorted by place.
 fn runs_of_any(kind: Kind, mut spans: Vec<Span>) -> Vec<Span>
     requires placed { ArePlaced kind (map seen spans.items) }
     ensures runs { AreRunsOf kind (places_of (map seen spans.items)) (map seen result.items) }

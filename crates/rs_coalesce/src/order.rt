@@ -1,4 +1,5 @@
-//! The two orders of spans: by row and place, to join them, and by place and row, to print them.
+//! The two orders of spans, by row and place to join them, and by place and row to print them, and the test whether
+//! they need none.
 
 ghost use Rattle.std.specs.Prelude.{◌≡◌, ◌↔◌, map, IsTrue, IsPermutation};
 ghost use Rattle.std.specs.Ordering.{is_lt};
