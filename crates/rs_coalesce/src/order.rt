@@ -24,9 +24,10 @@ fn by_row(left: &Span, right: &Span) -> Ordering
 fn by_place(left: &Span, right: &Span) -> Ordering
     ensures { result ≡ stretch_cmp (seen left.now) (seen right.now) }
 {
-    left.lo
-        .cmp(&right.lo)
-        .then(compare_rows(&left.tuple, &right.tuple))
+    match left.lo.cmp(&right.lo) {
+        Ordering::Equal => compare_rows(&left.tuple, &right.tuple),
+        order => order,
+    }
 }
 
 /// Whether each span begins at or after the end of the one before it.
