@@ -59,7 +59,7 @@ stand-from_sorted first (next ∷ rest) h = (not_behind (seen first) (seen next)
 
 -- ---- joining
 
-joins-true : (kind : Kind) (a b : Stretch) → joins kind a b ≡ true → (b.lo < a.hi + gap_of kind) × (a.row ≡ b.row)
+pub joins-true : (kind : Kind) (a b : Stretch) → joins kind a b ≡ true → (b.lo < a.hi + gap_of kind) × (a.row ≡ b.row)
 unfolding joins same_row
 joins-true kind a b e = let parts = and_parts (nat_lt b.lo (a.hi + gap_of kind)) (same_row a.row b.row) e in (ltb-true b.lo (a.hi + gap_of kind) parts.0, same_row-true a.row b.row parts.1)
 
@@ -85,7 +85,7 @@ in_order a b same (inl less) =
     let tie : row_cmp a.row b.row ≡ Equal = subst (λ r. row_cmp a.row r ≡ Equal) same (row_cmp-itself a.row) in cc
 in_order a b same (inr h) = h.1
 
-join-placed : (kind : Kind) (a b : Stretch) → a.lo ≤ b.lo → b.lo < a.hi + gap_of kind → IsPlaced kind a → IsPlaced kind b → IsPlaced kind (join a b)
+pub join-placed : (kind : Kind) (a b : Stretch) → a.lo ≤ b.lo → b.lo < a.hi + gap_of kind → IsPlaced kind a → IsPlaced kind b → IsPlaced kind (join a b)
 join-placed Line a b l near x y = omega arith
 join-placed Point a b l near x y = omega arith
 
@@ -113,7 +113,7 @@ joined-kept kind before (next ∷ rest) s p q =
     ] refl
 
 -- two spans that are joined mean what the two mean
-join-means : (kind : Kind) (a b : Stretch) (rest : List Stretch) → a.lo ≤ b.lo → b.lo < a.hi + gap_of kind → a.row ≡ b.row → IsPlaced kind b → places_of (join a b ∷ rest) ≡ places_of (a ∷ b ∷ rest)
+pub join-means : (kind : Kind) (a b : Stretch) (rest : List Stretch) → a.lo ≤ b.lo → b.lo < a.hi + gap_of kind → a.row ≡ b.row → IsPlaced kind b → places_of (join a b ∷ rest) ≡ places_of (a ∷ b ∷ rest)
 join-means kind a b rest l near same placed =
     let some : b.lo < b.hi = placed-some kind b placed in
     let low : min a.lo b.lo ≡ a.lo = omega arith in

@@ -2,3 +2,4 @@ pub mod Orders
 pub mod Joining
 mod JoinLoop
 mod Whole
+mod InTurn

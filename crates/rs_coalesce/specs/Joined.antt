@@ -1,5 +1,6 @@
--- How runs are made: spans by row and place, and each joined with what follows it as far as they are one.
-use Rattle.std.specs.Prelude.{◌+◌, max, Bool, ◌&&◌, nat_lt, List, [], ◌∷◌, if◌then◌else◌}
+-- How runs are made: spans by row and place, or by place and apart, and each joined with what follows it as far as they
+-- are one.
+use Rattle.std.specs.Prelude.{ℕ, suc, ◌+◌, ◌<◌, ◌≤◌, max, Bool, ◌&&◌, nat_lt, List, [], ◌∷◌, length, get_or, if◌then◌else◌}
 use Rattle.std.specs.declared.cmp.Ordering.{Ordering}
 use Rattle.std.specs.Ordering.{nat_cmp, ordering_then, eq_by_cmp}
 use Rattle.rs_value.specs.declared.column.Kind.{Kind}
@@ -26,3 +27,7 @@ joined_onto kind before (next ∷ rest) = if joins kind before next then joined_
 unfoldable pub joined : Kind → List Stretch → List Stretch
 joined kind [] = []
 joined kind (first ∷ rest) = joined_onto kind first rest
+
+-- each begins at or after the end of the one before it
+abbrev pub AreApart : List Stretch → Type 0
+AreApart spans = (k : ℕ) (d : Stretch) → suc k < length spans → (get_or spans k d).hi ≤ (get_or spans (suc k) d).lo

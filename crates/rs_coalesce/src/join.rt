@@ -1,4 +1,4 @@
-//! The joining of neighbours in a list of spans that are in order by row and place.
+//! The joining of neighbours in a list of spans, which are in order by row and place, or by place and apart.
 
 ghost use Rattle.std.specs.Prelude.{◌≡◌, ◌+◌, ◌≤◌, nat_lt, length, map, take};
 ghost use Rattle.rs_facts.specs.Spans.{seen, gap_of};
@@ -17,14 +17,15 @@ fn reaches(kind: Kind, hi: u32, lo: u32) -> bool
     }
 }
 
-/// Whether a span and the next one, by row and place, are one run.
+/// Whether a span and the next one are one run.
 fn is_joined(kind: Kind, before: &Span, next: &Span) -> bool
     ensures { result ≡ joins kind (seen before.now) (seen next.now) }
 {
     reaches(kind, before.hi, next.lo) && same_row(&before.tuple, &next.tuple)
 }
 
-/// Joins spans that are in order by row and place, and says how many are left; elements past these are unspecified.
+/// Joins each span with what follows it as far as they are one run, and says how many are left; elements past these are
+/// unspecified.
 fn join_in_place(kind: Kind, spans: &mut [Span]) -> usize
     ensures within { result ≤ length spans.new }
     ensures joined { map seen (take result spans.new) ≡ joined kind (map seen spans.old) }
@@ -45,7 +46,7 @@ fn join_in_place(kind: Kind, spans: &mut [Span]) -> usize
     last + 1
 }
 
-/// Joins spans that are in order by row and place, and drops the rest.
+/// Joins each span with what follows it as far as they are one run.
 pub fn join_neighbours(kind: Kind, spans: &mut Vec<Span>)
     ensures { map seen spans.new.items ≡ joined kind (map seen spans.old.items) }
 {

@@ -1,7 +1,7 @@
 //! Maximal runs: the longest spans along which one row holds.
 //!
-//! `runs` takes no memory: it sorts and joins the spans in place. `kept_runs` takes spans that need no joining, and lends
-//! them.
+//! `runs` takes no memory: it joins the spans in place, and sorts them unless they lie apart in order of place.
+//! `kept_runs` takes spans that need no joining, and lends them.
 #![tactic(auto)]
 
 mod join;

@@ -1,11 +1,12 @@
-//! The two orders of spans: by row and place, to join them, and by place and row, to print them.
+//! The two orders of spans, by row and place to join them, and by place and row to print them, and the test whether
+//! they need none.
 
-ghost use Rattle.std.specs.Prelude.{◌≡◌, IsPermutation};
+ghost use Rattle.std.specs.Prelude.{◌≡◌, ◌↔◌, map, IsTrue, IsPermutation};
 ghost use Rattle.std.specs.Ordering.{is_lt};
 ghost use Rattle.std.specs.List.Sorted.{IsSortedBy};
 ghost use Rattle.rs_facts.specs.Runs.{stretch_cmp};
 ghost use Rattle.rs_facts.specs.Spans.{seen};
-ghost use Rattle.rs_coalesce.specs.Joined.{row_place_cmp};
+ghost use Rattle.rs_coalesce.specs.Joined.{row_place_cmp, AreApart};
 ghost use Rattle.rs_coalesce.specs.Lent.{seen_lent};
 
 use rs_facts::Span;
@@ -23,9 +24,17 @@ fn by_row(left: &Span, right: &Span) -> Ordering
 fn by_place(left: &Span, right: &Span) -> Ordering
     ensures { result ≡ stretch_cmp (seen left.now) (seen right.now) }
 {
-    left.lo
-        .cmp(&right.lo)
-        .then(compare_rows(&left.tuple, &right.tuple))
+    match left.lo.cmp(&right.lo) {
+        Ordering::Equal => compare_rows(&left.tuple, &right.tuple),
+        order => order,
+    }
+}
+
+/// Whether each span begins at or after the end of the one before it.
+pub fn are_apart(spans: &[Span]) -> bool
+    ensures { IsTrue result ↔ AreApart (map seen spans.now) }
+{
+    spans.is_sorted_by(|one, next| one.hi <= next.lo)
 }
 
 /// Sorts spans by row, and those of one row by place.
