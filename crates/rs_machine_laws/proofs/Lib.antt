@@ -1,6 +1,6 @@
 mod Names
 mod Lists
-mod Opening
+pub mod Opening
 mod ViewOrder
 mod Checked
 mod Windows

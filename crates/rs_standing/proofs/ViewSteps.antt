@@ -29,7 +29,8 @@ use Rattle.rs_value.specs.Row.{Row}
 use Rattle.rs_standing.specs.Views.{widened}
 use Rattle.rs_standing.proofs.Keeping.{insert_kept, insert_other, insert_some, kept_any, kept_but, none_any, none_there, put_kept, remove_other, remove_there, spares, still_same, turned}
 use Rattle.rs_standing.proofs.Named.{same_name as same_bytes}
-use Rattle.rs_standing.proofs.Opened.{Avoids, opened_less, opened_more}
+use Rattle.rs_machine_laws.proofs.Opening.{Avoids}
+use Rattle.rs_standing.proofs.Opened.{opened_less, opened_more}
 use Rattle.rs_standing.proofs.Passing.{Kept, err_ok, kept_opened, passes, passes_wide, then_ok, was_found}
 
 -- the query of each view passes, with each window as wide as its route
