@@ -1,5 +1,5 @@
 -- Queries whose views are opened open to the same where a view comes or goes that none of them names.
-use Rattle.std.proofs.Common.{◌≡◌, ◌∙◌, ℕ, suc, ◌+◌, ◌-◌, false, cond, Option, Some, None, is_some, sym, ap, arith}
+use Rattle.std.proofs.Common.{◌≡◌, ◌∙◌, suc, ◌+◌, ◌-◌, false, cond, Some, is_some, sym, ap, arith}
 use Rattle.std.specs.FinMap as names
 use Rattle.std.specs.FinMap.{len-insert, len-remove}
 use Rattle.rs_facts.specs.Fact.{Name, Names}
