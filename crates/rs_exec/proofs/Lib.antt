@@ -13,3 +13,4 @@ mod Plans
 mod Leavings
 mod Holding
 mod TableAlone
+mod Siding

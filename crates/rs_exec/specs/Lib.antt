@@ -12,3 +12,4 @@ pub mod Carried
 pub mod Operand
 pub mod Agreement
 pub mod Alone
+pub mod Sides
