@@ -31,7 +31,7 @@ use Rattle.rs_exec.specs.Pairs.{FitTogether, CanPair, CanPairSpans, IsPaired, Ar
 use Rattle.rs_exec.specs.Routes.{IsInOrder, HasNone, AreNone, AllAreNone, IsShaped}
 use Rattle.rs_exec.specs.Windows.{AreOff, IsSeenOn, IsSpread}
 use Rattle.rs_exec.specs.Held.{HoldsRows, AreRowsOf, AreHeld, CanOverlay, IsLaidOver, AreLaidOver, IsBeside, AreBeside}
-use Rattle.rs_exec.proofs.Lists.{zip-weaker, zip-where}
+use Rattle.rs_exec.proofs.Lists.{zip-weaker, zip-where, zip-length}
 use Rattle.rs_exec.proofs.RowLaws.{overlaid-nothing}
 use Rattle.rs_exec.proofs.Steps.{at-most, earlier-one, changed-step, paired-step, none-shaped, none-means}
 use Rattle.rs_exec.proofs.Tests.{is-number, no-number}
@@ -58,6 +58,9 @@ pub beside-earlier : (was is : Snapshots → Type 0) (version : ℕ) (next : Pla
 beside-earlier was is version next numbers old new stands beside =
     zip-weaker (IsBeside is version next) (IsBeside was version next) (zip numbers old) new
     (λ pair each holds. record { means = λ snapshots there k. holds.means snapshots (stands snapshots there) k; shaped = holds.shaped }) beside
+
+pub shaped-length : (kind : Kind) (width : ℕ) (numbers : List ℕ) (rows : List (Vec Span Global)) → EachIsShaped kind width numbers rows → length rows ≡ length numbers
+shaped-length kind width numbers rows shaped = sym (zip-length (λ (number : ℕ) each. IsShaped kind width each) numbers rows shaped)
 
 pub can-pair : (pairing : Pairing) (p q : Kind) (m n : ℕ) (numbers : List ℕ) (lefts rights : List (Vec Span Global)) → FitTogether pairing m n → EachIsShaped p m numbers lefts → EachIsShaped q n numbers rights → AllZip (CanPair pairing) lefts rights
 can-pair pairing p q m n [] [] [] fit first second = tt
@@ -101,6 +104,11 @@ module _ (stands : Snapshots → Type 0) (version : ℕ) where
   paired-held pairing a b (number ∷ numbers) (l ∷ lefts) [] made formed all first second = absurd second
   paired-held pairing a b (number ∷ numbers) (l ∷ lefts) (r ∷ rights) [] formed all first second = absurd all
   paired-held pairing a b (number ∷ numbers) (l ∷ lefts) (r ∷ rights) (m ∷ made) formed all first second = (paired-step stands version number pairing a b (map seen l.items) (map seen r.items) (map seen m.items) formed first.0 second.0 all.0, paired-held pairing a b numbers lefts rights made formed all.1 first.1 second.1)
+
+  -- on one route alone
+  pub held-alone : (plan : PlanMeaning) (route : ℕ) (others : List ℕ) (first : Vec Span Global) (later : List (Vec Span Global)) → others ≡ [] → later ≡ [] → HoldsRows stands version plan route first → AreHeld stands version plan (route ∷ others) (first ∷ later)
+  held-alone plan route others first later alone none held =
+      (held, subst (λ numbers. AreHeld stands version plan numbers later) (sym alone) (subst (AreHeld stands version plan []) (sym none) tt))
 
   -- ---- operands of an OVERLAY, one after another
 
@@ -159,15 +167,16 @@ module _ (stands : Snapshots → Type 0) (version : ℕ) where
   laid-next next others p m (number ∷ numbers) (o ∷ old) (q ∷ laid) (n ∷ new) shaped is later =
       (laid_next-one next others number o q n is.0 later.0, laid-next next others p m numbers old laid new shaped.1 is.1 later.1)
 
-  beside-one : (next : PlanMeaning) (number : ℕ) (old : Vec Span Global) (upper : List Stretch) (new : Vec Span Global) → AreRowsOf stands version next number upper → ArePaired pairings.Overlay (map seen old.items, upper) (map seen new.items) → IsBeside stands version next (number, old) new
+  pub beside-one : (next : PlanMeaning) (number : ℕ) (old : Vec Span Global) (upper : List Stretch) (new : Vec Span Global) → AreRowsOf stands version next number upper → ArePaired pairings.Overlay (map seen old.items, upper) (map seen new.items) → IsBeside stands version next (number, old) new
   beside-one next number old upper new held is = record {
     means = λ snapshots there k. is.means k ∙ ap (overlaid (places_of (map seen old.items) k)) (held.means snapshots there k);
     shaped = λ kind width shape. record { sorted = is.sorted; placed = is.placed kind next.kind tt shape.placed held.shaped.placed; wide = is.wide width next.width tt shape.wide held.shaped.wide };
   }
 
   pub beside-held : (next : PlanMeaning) (numbers : List ℕ) (old rights new : List (Vec Span Global)) → AreHeld stands version next numbers rights → AllZip (IsPaired pairings.Overlay) (zip old rights) new → length old ≡ length numbers → AreBeside stands version next numbers old new
-  beside-held next [] old [] [] held all same = tt
-  beside-held next [] old [] (n ∷ new) held all same = ?
+  beside-held next [] [] [] [] held all same = tt
+  beside-held next [] [] [] (n ∷ new) held all same = absurd all
+  beside-held next [] (o ∷ old) [] new held all same = absurd (omega (arith, same))
   beside-held next [] old (r ∷ rights) new held all same = absurd held
   beside-held next (number ∷ numbers) old [] new held all same = absurd held
   beside-held next (number ∷ numbers) [] (r ∷ rights) new held all same = absurd (omega (arith, same))
@@ -287,19 +296,19 @@ formed-overlay back plans e =
 pub first-formed : (plans : List PlanMeaning) (first : PlanMeaning) (others : List PlanMeaning) → plans ≡ first ∷ others → list_all (λ (plan : PlanMeaning). plan.is_well_formed) plans ≡ true → (first.is_well_formed ≡ true) × (list_all (λ (plan : PlanMeaning). plan.is_well_formed) others ≡ true)
 first-formed plans first others are each = and_parts first.is_well_formed (list_all (λ (plan : PlanMeaning). plan.is_well_formed) others) (subst (λ p. list_all (λ (plan : PlanMeaning). plan.is_well_formed) p ≡ true) are each)
 
+both : (a b : Bool) → a ≡ true → b ≡ true → (a && b) ≡ true
+both a b one two = ap (λ t. t && b) one ∙ two
+
+is_at_most : (a b : ℕ) → a ≤ b → nat_le a b ≡ true
+is_at_most a b e = grind (arith, nat_tests)
+
 -- the operands of an OVERLAY that is well-formed are together
 pub formed-together : (back : List ℕ) (plans : List PlanMeaning) → (overlay_meaning back plans).is_well_formed ≡ true → (together_meaning plans).is_well_formed ≡ true
 formed-together back plans e =
     let formed = formed-overlay back plans e in
     let wide = formed.wide in
     let few = formed.few in
-    both (list_all (λ (plan : PlanMeaning). plan.is_well_formed) plans) (nat_le (widths_together plans) COLUMNS) formed.each (at_most (widths_together plans) COLUMNS (omega (arith, wide, few)))
-  where
-    both : (a b : Bool) → a ≡ true → b ≡ true → (a && b) ≡ true
-    both a b one two = ap (λ t. t && b) one ∙ two
-
-    at_most : (a b : ℕ) → a ≤ b → nat_le a b ≡ true
-    at_most a b e = grind (arith, nat_tests)
+    both (list_all (λ (plan : PlanMeaning). plan.is_well_formed) plans) (nat_le (widths_together plans) COLUMNS) formed.each (is_at_most (widths_together plans) COLUMNS (omega (arith, wide, few)))
 
 -- operands that are together: each is well-formed, and their columns are no more than a row may have
 pub record Together (plans : List PlanMeaning) : Type 0 where
@@ -319,6 +328,19 @@ can-begin stands version first others numbers rows formed held = record {
   fit = formed.few;
   formed = (and_parts first.is_well_formed (list_all (λ (plan : PlanMeaning). plan.is_well_formed) others) formed.each).1;
 }
+
+-- the first two operands side by side are one
+pub together-beside : (first second : PlanMeaning) (others : List PlanMeaning) → Together (first ∷ second ∷ others) → Together (beside_meaning first second ∷ others)
+together-beside first second others formed =
+    let few = formed.few in
+    let parts = and_parts first.is_well_formed (second.is_well_formed && list_all (λ (plan : PlanMeaning). plan.is_well_formed) others) formed.each in
+    let later = and_parts second.is_well_formed (list_all (λ (plan : PlanMeaning). plan.is_well_formed) others) parts.1 in
+    record {
+      each =
+          both ((first.is_well_formed && second.is_well_formed) && nat_le (first.width + second.width) COLUMNS) (list_all (λ (plan : PlanMeaning). plan.is_well_formed) others)
+          (both (first.is_well_formed && second.is_well_formed) (nat_le (first.width + second.width) COLUMNS) (both first.is_well_formed second.is_well_formed parts.0 later.0) (is_at_most (first.width + second.width) COLUMNS (omega (arith, few)))) later.1;
+      few = omega (arith, few);
+    }
 
 pub can-lay-next : (plans : List PlanMeaning) (next : PlanMeaning) (others : List PlanMeaning) (numbers : List ℕ) (rows : List (Vec Span Global)) → plans ≡ next ∷ others → CanOverlay plans numbers rows → CanOverlay (next ∷ []) numbers rows
 can-lay-next plans next others numbers rows are can = record {
