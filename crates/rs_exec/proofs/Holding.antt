@@ -27,7 +27,7 @@ use Rattle.rs_exec.specs.declared.pairs.Pairing.TheVariants as pairings
 use Rattle.rs_exec.specs.declared.source.Part.{Part}
 use Rattle.rs_exec.specs.Given.{inside}
 use Rattle.rs_exec.specs.Changes.{IsChanged}
-use Rattle.rs_exec.specs.Pairs.{FitTogether, CanPair, CanPairSpans, IsPaired, ArePaired}
+use Rattle.rs_exec.specs.Pairs.{FitTogether, CanPair, IsPaired, ArePaired}
 use Rattle.rs_exec.specs.Routes.{IsInOrder, HasNone, AreNone, AllAreNone, IsShaped}
 use Rattle.rs_exec.specs.Windows.{AreOff, IsSeenOn, IsSpread}
 use Rattle.rs_exec.specs.Held.{HoldsRows, AreRowsOf, AreHeld, CanOverlay, IsLaidOver, AreLaidOver, IsBeside, AreBeside}

@@ -6,7 +6,7 @@ use Rattle.rs_coalesce.specs.Lent.{seen_lent}
 use Rattle.std.specs.declared.alloc.Global.{Global}
 use Rattle.rs_facts.specs.declared.fact.Span.{Span}
 use Rattle.rs_facts.specs.Runs.{Stretch}
-use Rattle.rs_facts.specs.Spans.{seen, places_of, ArePlaced}
+use Rattle.rs_facts.specs.Spans.{seen, ArePlaced}
 use Rattle.rs_facts.proofs.SpanLaws.{places_of-permutation}
 use Rattle.rs_sweep.specs.Lists.{AreSorted, AreWide}
 use Rattle.rs_exec.specs.Routes.{AreShaped}
@@ -14,7 +14,7 @@ use Rattle.rs_exec.specs.Snapshot.{Snapshots}
 use Rattle.rs_exec.specs.Given.{AreGiven}
 use Rattle.rs_exec.specs.Meaning.{PlanMeaning}
 use Rattle.rs_exec.specs.Held.{HoldsRows, AreRowsOf}
-use Rattle.rs_exec.specs.Sides.{HasRowsOf, IsSideOf, AreRead}
+use Rattle.rs_exec.specs.Sides.{IsSideOf, AreRead}
 use Rattle.rs_exec.specs.declared.source.Asked.{Asked}
 use Rattle.rs_exec.specs.declared.source.Part.TheVariants as parts
 use Rattle.rs_exec.specs.declared.sides.Side.{Side}
