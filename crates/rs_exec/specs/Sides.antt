@@ -18,7 +18,7 @@ pub record HasRowsOf (version : ℕ) (plan : PlanMeaning) (route : ℕ) (asked :
   pub kind : asked.kind ≡ plan.kind
   pub width : asked.width ≡ plan.width
 
--- it can be read from a source that lends its tables, or does not
+-- it can be read: a table only where the source lends its tables
 abbrev pub CanRead : Bool → Side → Type 0
 CanRead lends (sides.Made rows) = Unit {0}
 CanRead lends (sides.Table asked) = lends ≡ true

@@ -2,7 +2,8 @@
 //!
 //! A plan is evaluated on one route. Only the operand of a TRANSFORM is evaluated on others: on each route from which a
 //! piece leads onto a route that is asked for, and there are no more of these than pieces. So the cost of a plan grows
-//! with its nodes and with pieces, however deep TRANSFORMs are nested.
+//! with its nodes and with pieces, however deep TRANSFORMs are nested. On one route no row of a table alone is copied where
+//! an operator only reads it and the source lends it.
 
 ghost use Rattle.std.specs.Prelude.{◌≡◌, true, [], ◌∷◌, map, IfOk, IfErr};
 ghost use Rattle.rs_facts.specs.Runs.{AreRunsOf};
@@ -135,7 +136,8 @@ fn paired_rows<S: Source>(
     Ok(paired)
 }
 
-/// What the rows of two operands make on the first of the routes.
+/// What the rows of two operands make on the first of the routes. An operand that is only read is not copied where it is
+/// a table alone that the source lends; the others are evaluated first.
 #[cycle(rows)]
 fn paired_alone<S: Source>(
     alloc: Global,
@@ -168,7 +170,8 @@ fn paired_alone<S: Source>(
     }
 }
 
-/// The rows of two operands side by side, on the first of the routes. Where the first has none, the other is not evaluated.
+/// The rows of two operands side by side, on the first of the routes, where both are only read. Where the first has none,
+/// the other is not evaluated.
 #[cycle(rows)]
 fn beside_rows<S: Source>(
     alloc: Global,
@@ -204,7 +207,8 @@ fn covered_rows<S: Source>(
     left: Operand<'_>,
     right: Operand<'_>,
 ) -> Result<Vec<Span>, Refusal>
-    requires well_formed { (cover_meaning widths.0 widths.1 (operand_meaning left) (operand_meaning right)).is_well_formed ≡ true }
+    requires well_formed { (cover_meaning widths.0 widths.1 (operand_meaning left) (operand_meaning right)).is_well_formed
+        ≡ true }
     ensures held { IfOk result (HoldsRows (S.is source.old) routes.entry.version
         (cover_meaning widths.0 widths.1 (operand_meaning left.entry) (operand_meaning right.entry)) routes.entry.first) }
     ensures leaves { LeavesBehind S.Source source.old source.new }
@@ -239,7 +243,7 @@ fn merged_rows<S: Source>(
     Ok(spans)
 }
 
-/// The rows of an operand that the other does not have, on the first of the routes.
+/// The rows of an operand that the other does not have, on the first of the routes. The other is only read.
 #[cycle(rows)]
 fn rows_without<S: Source>(
     alloc: Global,
@@ -284,7 +288,7 @@ fn rows_alone<S: Source>(
     Ok(rows.first)
 }
 
-/// An operand on the first of the routes, to be read. A table alone that the source lends is not evaluated.
+/// An operand on the first of the routes, to be read only. A table alone that the source lends is not evaluated.
 #[cycle(rows)]
 fn side_on<S: Source>(
     alloc: Global,
@@ -353,7 +357,7 @@ fn rows_together<S: Source>(
     overlaid_with(alloc, source, routes, rows, others)
 }
 
-/// The same on one route, where the rows of the first two operands are only read.
+/// The same on one route, where all operands are only read.
 #[cycle(rows)]
 fn together_alone<S: Source>(
     alloc: Global,
@@ -434,7 +438,7 @@ fn laid_with<S: Source>(
     Ok(paired)
 }
 
-/// The same on the first of the routes, where the operand's rows are only read.
+/// The same on the first of the routes, where the operand is only read.
 #[cycle(rows)]
 fn laid_alone<S: Source>(
     alloc: Global,

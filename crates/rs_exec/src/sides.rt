@@ -1,6 +1,6 @@
 //! Operands that an operator only reads, on one route.
 //!
-//! A table alone is read where the source keeps it, so that none of its rows is copied; others are evaluated.
+//! A table alone is lent by the source that keeps it, so that none of its rows is copied; other operands are evaluated.
 
 ghost use Rattle.std.specs.Prelude.{◌≡◌, true, [], IfOk, IfSome, IsPermutation, map};
 ghost use Rattle.rs_coalesce.specs.Lent.{seen_lent};
@@ -17,12 +17,12 @@ use rs_facts::Span;
 use rs_sweep::sort_lent;
 use std::alloc::{AllocError, Global};
 
-/// An operand on one route, for an operator that only reads its rows.
+/// An operand on one route, for an operator that only reads it.
 #[derive(Drop)]
 pub(crate) enum Side {
-    /// Its rows, by where they begin.
+    /// Its rows, which were evaluated, by where they begin.
     Made(Vec<Span>),
-    /// A table alone, which the source lends.
+    /// A table alone, which the source lends: all its rows on the route.
     Table(Asked),
 }
 

@@ -67,7 +67,7 @@ pub trait Source {
     /// Why calls may be refused that begin with the one source and end with the other.
     ghost wants: { Refusal → Self → Self → Type 0 };
 
-    /// Whether sources of this type keep tables as spans, so that they lend them. It is the same for each table.
+    /// Whether sources of this type keep tables as spans, so that they lend each of them.
     ghost lends: { Bool };
 
     /// The spans of the rows of a table within a part of a route, in any order. Rows outside the part may be among them. A
@@ -92,8 +92,8 @@ pub trait Source {
         ensures passes { passes self.old self.new }
         ensures wants { IfErr result (λ why. wants why self.old self.new) };
 
-    /// The spans of the rows of a table on its whole route, in any order, where the source keeps them as spans: no row is
-    /// copied. A source that doesn't keep them so has none for any table, and is asked for copies.
+    /// The spans of the rows of a table on a whole route, in any order, lent: no row is copied. A source that doesn't keep
+    /// tables as spans answers None, whatever the table, and is asked for copies.
     fn lent(&self, asked: &Asked) -> Option<&[Span]>
         ensures gives { IfSome result (λ spans. AreGiven (is self.now) asked.now Part.Whole (map seen spans.now)) }
         ensures always { is_some result ≡ lends };
