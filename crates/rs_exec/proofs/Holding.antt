@@ -1,6 +1,7 @@
 -- Rows that are made on each of several routes are rows of a plan on each of them.
-use Rattle.std.proofs.Common.{◌≡◌, ◌≢◌, ◌≤◌, ℕ, ◌+◌, Bor, true, false, ◌&&◌, List, [], ◌∷◌, map, length, refl, sym, ap, ◌∙◌, subst, arith}
+use Rattle.std.proofs.Common.{◌≡◌, ◌≢◌, ◌≤◌, ℕ, ◌+◌, Bor, Bool, true, false, ◌&&◌, List, [], ◌∷◌, map, length, refl, sym, ap, ◌∙◌, subst, arith}
 use Rattle.std.proofs.lemmas.Bool.{and_parts}
+use Rattle.std.proofs.lemmas.Bool.Decides.{nat_tests}
 use Rattle.std.specs.Prelude.{◌==◌, nat_le, Vec}
 use Rattle.std.specs.declared.alloc.Global.{Global}
 use Rattle.std.specs.List.{AllZip, AllByRecursion, list_all, zip}
@@ -18,7 +19,7 @@ use Rattle.rs_plan.specs.declared.plan.PlannedWindow.{PlannedWindow}
 use Rattle.rs_planning.proofs.Operands.{unit_right, overlaid_assoc, line_last, kind_assoc}
 use Rattle.rs_exec.specs.Snapshot.{Snapshots}
 use Rattle.rs_exec.specs.Meaning.{PlanMeaning, rows_together, kinds_together, widths_together, overlay_meaning, window_meaning, seen_through_each}
-use Rattle.rs_exec.specs.Operand.{changed_meaning, paired_meaning}
+use Rattle.rs_exec.specs.Operand.{changed_meaning, paired_meaning, beside_meaning, together_meaning}
 use Rattle.rs_exec.specs.declared.changes.Change.{Change}
 use Rattle.rs_exec.specs.declared.changes.Change.TheVariants as changes
 use Rattle.rs_exec.specs.declared.pairs.Pairing.{Pairing}
@@ -26,11 +27,11 @@ use Rattle.rs_exec.specs.declared.pairs.Pairing.TheVariants as pairings
 use Rattle.rs_exec.specs.declared.source.Part.{Part}
 use Rattle.rs_exec.specs.Given.{inside}
 use Rattle.rs_exec.specs.Changes.{IsChanged}
-use Rattle.rs_exec.specs.Pairs.{FitTogether, CanPair, IsPaired}
+use Rattle.rs_exec.specs.Pairs.{FitTogether, CanPair, IsPaired, ArePaired}
 use Rattle.rs_exec.specs.Routes.{IsInOrder, HasNone, AreNone, AllAreNone, IsShaped}
 use Rattle.rs_exec.specs.Windows.{AreOff, IsSeenOn, IsSpread}
-use Rattle.rs_exec.specs.Held.{HoldsRows, AreHeld, CanOverlay, IsLaidOver, AreLaidOver}
-use Rattle.rs_exec.proofs.Lists.{zip-weaker, zip-where}
+use Rattle.rs_exec.specs.Held.{HoldsRows, AreRowsOf, AreHeld, CanOverlay, IsLaidOver, AreLaidOver, IsBeside, AreBeside}
+use Rattle.rs_exec.proofs.Lists.{zip-weaker, zip-where, zip-length}
 use Rattle.rs_exec.proofs.RowLaws.{overlaid-nothing}
 use Rattle.rs_exec.proofs.Steps.{at-most, earlier-one, changed-step, paired-step, none-shaped, none-means}
 use Rattle.rs_exec.proofs.Tests.{is-number, no-number}
@@ -39,8 +40,8 @@ put_back : (columns : List ℕ) (rows : RowSet) → dissolved columns rows ≡ m
 unfolding dissolved
 put_back columns rows = refl
 
-abbrev AreShaped : Kind → ℕ → List ℕ → List (Vec Span Global) → Type 0
-AreShaped kind width numbers rows = AllZip (λ (number : ℕ) each. IsShaped kind width each) numbers rows
+abbrev EachIsShaped : Kind → ℕ → List ℕ → List (Vec Span Global) → Type 0
+EachIsShaped kind width numbers rows = AllZip (λ (number : ℕ) each. IsShaped kind width each) numbers rows
 
 -- what stood for later snapshots stood for earlier ones
 pub earlier : (was is : Snapshots → Type 0) (version : ℕ) (plan : PlanMeaning) (numbers : List ℕ) (rows : List (Vec Span Global)) → ((snapshots : Snapshots) → was snapshots → is snapshots) → AreHeld is version plan numbers rows → AreHeld was version plan numbers rows
@@ -53,7 +54,15 @@ laid-earlier was is version plans numbers old new stands laid =
     zip-weaker (IsLaidOver is version plans) (IsLaidOver was version plans) (zip numbers old) new
     (λ pair each holds. record { means = λ snapshots there k. holds.means snapshots (stands snapshots there) k; shaped = holds.shaped }) laid
 
-pub can-pair : (pairing : Pairing) (p q : Kind) (m n : ℕ) (numbers : List ℕ) (lefts rights : List (Vec Span Global)) → FitTogether pairing m n → AreShaped p m numbers lefts → AreShaped q n numbers rights → AllZip (CanPair pairing) lefts rights
+pub beside-earlier : (was is : Snapshots → Type 0) (version : ℕ) (next : PlanMeaning) (numbers : List ℕ) (old new : List (Vec Span Global)) → ((snapshots : Snapshots) → was snapshots → is snapshots) → AreBeside is version next numbers old new → AreBeside was version next numbers old new
+beside-earlier was is version next numbers old new stands beside =
+    zip-weaker (IsBeside is version next) (IsBeside was version next) (zip numbers old) new
+    (λ pair each holds. record { means = λ snapshots there k. holds.means snapshots (stands snapshots there) k; shaped = holds.shaped }) beside
+
+pub shaped-length : (kind : Kind) (width : ℕ) (numbers : List ℕ) (rows : List (Vec Span Global)) → EachIsShaped kind width numbers rows → length rows ≡ length numbers
+shaped-length kind width numbers rows shaped = sym (zip-length (λ (number : ℕ) each. IsShaped kind width each) numbers rows shaped)
+
+pub can-pair : (pairing : Pairing) (p q : Kind) (m n : ℕ) (numbers : List ℕ) (lefts rights : List (Vec Span Global)) → FitTogether pairing m n → EachIsShaped p m numbers lefts → EachIsShaped q n numbers rights → AllZip (CanPair pairing) lefts rights
 can-pair pairing p q m n [] [] [] fit first second = tt
 can-pair pairing p q m n [] [] (r ∷ rights) fit first second = absurd second
 can-pair pairing p q m n [] (l ∷ lefts) rights fit first second = absurd first
@@ -65,7 +74,7 @@ can-pair pairing p q m n (number ∷ numbers) (l ∷ lefts) (r ∷ rights) fit f
 )
 
 module _ (stands : Snapshots → Type 0) (version : ℕ) where
-  pub shaped-of : (plan : PlanMeaning) (numbers : List ℕ) (rows : List (Vec Span Global)) → AreHeld stands version plan numbers rows → AreShaped plan.kind plan.width numbers rows
+  pub shaped-of : (plan : PlanMeaning) (numbers : List ℕ) (rows : List (Vec Span Global)) → AreHeld stands version plan numbers rows → EachIsShaped plan.kind plan.width numbers rows
   shaped-of plan numbers rows held = zip-weaker (HoldsRows stands version plan) (λ number each. IsShaped plan.kind plan.width each) numbers rows (λ number each holds. holds.shaped) held
 
   -- ---- operators of one operand
@@ -94,7 +103,12 @@ module _ (stands : Snapshots → Type 0) (version : ℕ) where
   paired-held pairing a b (number ∷ numbers) [] rights made formed all first second = absurd first
   paired-held pairing a b (number ∷ numbers) (l ∷ lefts) [] made formed all first second = absurd second
   paired-held pairing a b (number ∷ numbers) (l ∷ lefts) (r ∷ rights) [] formed all first second = absurd all
-  paired-held pairing a b (number ∷ numbers) (l ∷ lefts) (r ∷ rights) (m ∷ made) formed all first second = (paired-step stands version number pairing a b l r m formed first.0 second.0 all.0, paired-held pairing a b numbers lefts rights made formed all.1 first.1 second.1)
+  paired-held pairing a b (number ∷ numbers) (l ∷ lefts) (r ∷ rights) (m ∷ made) formed all first second = (paired-step stands version number pairing a b (map seen l.items) (map seen r.items) (map seen m.items) formed first.0 second.0 all.0, paired-held pairing a b numbers lefts rights made formed all.1 first.1 second.1)
+
+  -- on one route alone
+  pub held-alone : (plan : PlanMeaning) (route : ℕ) (others : List ℕ) (first : Vec Span Global) (later : List (Vec Span Global)) → others ≡ [] → later ≡ [] → HoldsRows stands version plan route first → AreHeld stands version plan (route ∷ others) (first ∷ later)
+  held-alone plan route others first later alone none held =
+      (held, subst (λ numbers. AreHeld stands version plan numbers later) (sym alone) (subst (AreHeld stands version plan []) (sym none) tt))
 
   -- ---- operands of an OVERLAY, one after another
 
@@ -107,7 +121,7 @@ module _ (stands : Snapshots → Type 0) (version : ℕ) where
   }
 
   -- no further operand
-  pub laid-none : (p : Kind) (m : ℕ) (numbers : List ℕ) (rows : List (Vec Span Global)) → AreShaped p m numbers rows → AreLaidOver stands version [] numbers rows rows
+  pub laid-none : (p : Kind) (m : ℕ) (numbers : List ℕ) (rows : List (Vec Span Global)) → EachIsShaped p m numbers rows → AreLaidOver stands version [] numbers rows rows
   laid-none p m [] [] shaped = tt
   laid-none p m [] (r ∷ rows) shaped = absurd shaped
   laid-none p m (number ∷ numbers) [] shaped = absurd shaped
@@ -122,68 +136,94 @@ module _ (stands : Snapshots → Type 0) (version : ℕ) where
   }
 
   -- no rows are left
-  pub laid-bare : (plans : List PlanMeaning) (p : Kind) (m : ℕ) (numbers : List ℕ) (rows : List (Vec Span Global)) → AllAreNone rows → AreShaped p m numbers rows → AreLaidOver stands version plans numbers rows rows
+  pub laid-bare : (plans : List PlanMeaning) (p : Kind) (m : ℕ) (numbers : List ℕ) (rows : List (Vec Span Global)) → AllAreNone rows → EachIsShaped p m numbers rows → AreLaidOver stands version plans numbers rows rows
   laid-bare plans p m [] [] bare shaped = tt
   laid-bare plans p m [] (r ∷ rows) bare shaped = absurd shaped
   laid-bare plans p m (number ∷ numbers) [] bare shaped = absurd shaped
   laid-bare plans p m (number ∷ numbers) (r ∷ rows) bare shaped = (laid_bare-one plans number r bare.0, laid-bare plans p m numbers rows bare.1 shaped.1)
 
-  laid_next-one : (next : PlanMeaning) (others : List PlanMeaning) (number : ℕ) (old right paired new : Vec Span Global) → IsPaired pairings.Overlay (old, right) paired → HoldsRows stands version next number right
-      → IsLaidOver stands version others (number, paired) new → IsLaidOver stands version (next ∷ others) (number, old) new
-  laid_next-one next others number old right paired new is held laid = record {
+  laid_next-one : (next : PlanMeaning) (others : List PlanMeaning) (number : ℕ) (old laid new : Vec Span Global) → IsBeside stands version next (number, old) laid
+      → IsLaidOver stands version others (number, laid) new → IsLaidOver stands version (next ∷ others) (number, old) new
+  laid_next-one next others number old laid new is later = record {
     means = λ snapshots there k.
-        laid.means snapshots there k
-        ∙ ap (λ x. overlaid x (rows_together others (snapshots version) number k)) (is.means k ∙ ap (overlaid (places_of (map seen old.items) k)) (held.means snapshots there k))
+        later.means snapshots there k
+        ∙ ap (λ x. overlaid x (rows_together others (snapshots version) number k)) (is.means snapshots there k)
         ∙ overlaid_assoc (places_of (map seen old.items) k) (next.rows (snapshots version) number k) (rows_together others (snapshots version) number k);
     shaped = λ kind width shape.
-        let both : IsShaped (overlaid_kind kind next.kind) (width + next.width) paired = record { sorted = is.sorted; placed = is.placed kind next.kind tt shape.placed held.shaped.placed; wide = is.wide width next.width tt shape.wide held.shaped.wide } in
-        let all = laid.shaped (overlaid_kind kind next.kind) (width + next.width) both in
+        let all = later.shaped (overlaid_kind kind next.kind) (width + next.width) (is.shaped kind width shape) in
         let same : (width + next.width) + widths_together others ≡ width + (next.width + widths_together others) = omega arith in
         subst (λ w. IsShaped (overlaid_kind kind (overlaid_kind next.kind (kinds_together others))) w new) same
         (subst (λ p. IsShaped p ((width + next.width) + widths_together others) new) (kind_assoc kind next.kind (kinds_together others)) all);
   }
 
   -- one operand more
-  pub laid-next : (next : PlanMeaning) (others : List PlanMeaning) (p : Kind) (m : ℕ) (numbers : List ℕ) (old rights paired new : List (Vec Span Global)) → AreShaped p m numbers old → AllZip (IsPaired pairings.Overlay) (zip old rights) paired
-      → AreHeld stands version next numbers rights → AreLaidOver stands version others numbers paired new → AreLaidOver stands version (next ∷ others) numbers old new
-  laid-next next others p m [] old rights paired [] shaped all held laid = tt
-  laid-next next others p m [] old rights paired (n ∷ new) shaped all held laid = absurd laid
-  laid-next next others p m (number ∷ numbers) [] rights paired new shaped all held laid = absurd shaped
-  laid-next next others p m (number ∷ numbers) (o ∷ old) [] paired new shaped all held laid = absurd held
-  laid-next next others p m (number ∷ numbers) (o ∷ old) (r ∷ rights) [] new shaped all held laid = absurd all
-  laid-next next others p m (number ∷ numbers) (o ∷ old) (r ∷ rights) (q ∷ paired) [] shaped all held laid = absurd laid
-  laid-next next others p m (number ∷ numbers) (o ∷ old) (r ∷ rights) (q ∷ paired) (n ∷ new) shaped all held laid =
-      (laid_next-one next others number o r q n all.0 held.0 laid.0, laid-next next others p m numbers old rights paired new shaped.1 all.1 held.1 laid.1)
+  pub laid-next : (next : PlanMeaning) (others : List PlanMeaning) (p : Kind) (m : ℕ) (numbers : List ℕ) (old laid new : List (Vec Span Global)) → EachIsShaped p m numbers old → AreBeside stands version next numbers old laid
+      → AreLaidOver stands version others numbers laid new → AreLaidOver stands version (next ∷ others) numbers old new
+  laid-next next others p m [] old laid [] shaped is later = tt
+  laid-next next others p m [] old laid (n ∷ new) shaped is later = absurd later
+  laid-next next others p m (number ∷ numbers) [] laid new shaped is later = absurd shaped
+  laid-next next others p m (number ∷ numbers) (o ∷ old) [] new shaped is later = absurd is
+  laid-next next others p m (number ∷ numbers) (o ∷ old) (q ∷ laid) [] shaped is later = absurd later
+  laid-next next others p m (number ∷ numbers) (o ∷ old) (q ∷ laid) (n ∷ new) shaped is later =
+      (laid_next-one next others number o q n is.0 later.0, laid-next next others p m numbers old laid new shaped.1 is.1 later.1)
 
-  -- the rows of operands side by side, before columns are put back
-  abbrev beside : List PlanMeaning → PlanMeaning
-  beside plans = record { rows = rows_together plans; kind = kinds_together plans; width = widths_together plans; is_well_formed = true }
+  pub beside-one : (next : PlanMeaning) (number : ℕ) (old : Vec Span Global) (upper : List Stretch) (new : Vec Span Global) → AreRowsOf stands version next number upper → ArePaired pairings.Overlay (map seen old.items, upper) (map seen new.items) → IsBeside stands version next (number, old) new
+  beside-one next number old upper new held is = record {
+    means = λ snapshots there k. is.means k ∙ ap (overlaid (places_of (map seen old.items) k)) (held.means snapshots there k);
+    shaped = λ kind width shape. record { sorted = is.sorted; placed = is.placed kind next.kind tt shape.placed held.shaped.placed; wide = is.wide width next.width tt shape.wide held.shaped.wide };
+  }
 
-  laid_held : (first : PlanMeaning) (others : List PlanMeaning) (numbers : List ℕ) (old new : List (Vec Span Global)) → AreHeld stands version first numbers old → AreLaidOver stands version others numbers old new → AreHeld stands version (beside (first ∷ others)) numbers new
-  laid_held first others [] [] [] held laid = tt
-  laid_held first others [] [] (n ∷ new) held laid = absurd laid
-  laid_held first others [] (o ∷ old) new held laid = absurd held
-  laid_held first others (number ∷ numbers) [] new held laid = absurd held
-  laid_held first others (number ∷ numbers) (o ∷ old) [] held laid = absurd laid
-  laid_held first others (number ∷ numbers) (o ∷ old) (n ∷ new) held laid = (
+  pub beside-held : (next : PlanMeaning) (numbers : List ℕ) (old rights new : List (Vec Span Global)) → AreHeld stands version next numbers rights → AllZip (IsPaired pairings.Overlay) (zip old rights) new → length old ≡ length numbers → AreBeside stands version next numbers old new
+  beside-held next [] [] [] [] held all same = tt
+  beside-held next [] [] [] (n ∷ new) held all same = absurd all
+  beside-held next [] (o ∷ old) [] new held all same = absurd (omega (arith, same))
+  beside-held next [] old (r ∷ rights) new held all same = absurd held
+  beside-held next (number ∷ numbers) old [] new held all same = absurd held
+  beside-held next (number ∷ numbers) [] (r ∷ rights) new held all same = absurd (omega (arith, same))
+  beside-held next (number ∷ numbers) (o ∷ old) (r ∷ rights) [] held all same = absurd all
+  beside-held next (number ∷ numbers) (o ∷ old) (r ∷ rights) (n ∷ new) held all same = (beside-one next number o (map seen r.items) n held.0 all.0, beside-held next numbers old rights new held.1 all.1 (omega (arith, same)))
+
+  -- the first operand, and those laid over it
+  pub together-laid : (first : PlanMeaning) (others : List PlanMeaning) (numbers : List ℕ) (old new : List (Vec Span Global)) → AreHeld stands version first numbers old → AreLaidOver stands version others numbers old new → AreHeld stands version (together_meaning (first ∷ others)) numbers new
+  together-laid first others [] [] [] held laid = tt
+  together-laid first others [] [] (n ∷ new) held laid = absurd laid
+  together-laid first others [] (o ∷ old) new held laid = absurd held
+  together-laid first others (number ∷ numbers) [] new held laid = absurd held
+  together-laid first others (number ∷ numbers) (o ∷ old) [] held laid = absurd laid
+  together-laid first others (number ∷ numbers) (o ∷ old) (n ∷ new) held laid = (
     record {
       means = λ snapshots there k. laid.0.means snapshots there k ∙ ap (λ x. overlaid x (rows_together others (snapshots version) number k)) (held.0.means snapshots there k);
       shaped = laid.0.shaped first.kind first.width held.0.shaped;
     },
-    laid_held first others numbers old new held.1 laid.1,
+    together-laid first others numbers old new held.1 laid.1,
   )
 
-  pub laid-in-order : (first : PlanMeaning) (others : List PlanMeaning) (numbers : List ℕ) (old new : List (Vec Span Global)) → AreHeld stands version first numbers old → AreLaidOver stands version others numbers old new → AllByRecursion IsInOrder new
-  laid-in-order first others numbers old new held laid = in-order (beside (first ∷ others)) numbers new (laid_held first others numbers old new held laid)
+  -- the first two operands are one
+  two-first : (first second : PlanMeaning) (others : List PlanMeaning) (number : ℕ) (new : Vec Span Global) → HoldsRows stands version (together_meaning (beside_meaning first second ∷ others)) number new → HoldsRows stands version (together_meaning (first ∷ second ∷ others)) number new
+  two-first first second others number new held = record {
+    means = λ snapshots there k. held.means snapshots there k ∙ overlaid_assoc (first.rows (snapshots version) number k) (second.rows (snapshots version) number k) (rows_together others (snapshots version) number k);
+    shaped =
+        let same : (first.width + second.width) + widths_together others ≡ first.width + (second.width + widths_together others) = omega arith in
+        subst (λ w. IsShaped (overlaid_kind first.kind (overlaid_kind second.kind (kinds_together others))) w new) same
+        (subst (λ p. IsShaped p ((first.width + second.width) + widths_together others) new) (kind_assoc first.kind second.kind (kinds_together others)) held.shaped);
+  }
+
+  pub together-two : (first second : PlanMeaning) (others : List PlanMeaning) (numbers : List ℕ) (new : List (Vec Span Global)) → AreHeld stands version (together_meaning (beside_meaning first second ∷ others)) numbers new → AreHeld stands version (together_meaning (first ∷ second ∷ others)) numbers new
+  together-two first second others numbers new held =
+      zip-weaker (HoldsRows stands version (together_meaning (beside_meaning first second ∷ others))) (HoldsRows stands version (together_meaning (first ∷ second ∷ others))) numbers new
+      (λ number each holds. two-first first second others number each holds) held
+
+  -- an operand alone
+  pub together-one : (first : PlanMeaning) (numbers : List ℕ) (new : List (Vec Span Global)) → AreHeld stands version first numbers new → AreHeld stands version (together_meaning (first ∷ [])) numbers new
+  together-one first numbers new held = together-laid first [] numbers new new held (laid-none first.kind first.width numbers new (shaped-of first numbers new held))
 
   -- columns are put back
-  pub overlay-held : (back : Bor (List ℕ)) (plans : List PlanMeaning) (first : PlanMeaning) (others : List PlanMeaning) (numbers : List ℕ) (old mid new : List (Vec Span Global)) → plans ≡ first ∷ others → AreHeld stands version first numbers old
-      → AreLaidOver stands version others numbers old mid → AllZip (IsChanged (changes.Dissolve back)) mid new → AreHeld stands version (overlay_meaning back.now plans) numbers new
-  overlay-held back plans first others numbers old mid new are held laid all =
-      subst (λ p. AreHeld stands version (overlay_meaning back.now p) numbers new) (sym are)
-      (zip-weaker (HoldsRows stands version (changed_meaning (changes.Dissolve back) (beside (first ∷ others)))) (HoldsRows stands version (overlay_meaning back.now (first ∷ others))) numbers new
-      (λ number each holds. record { means = λ snapshots there k. holds.means snapshots there k ∙ put_back back.now (rows_together (first ∷ others) (snapshots version) number k); shaped = holds.shaped })
-      (changed-held (changes.Dissolve back) (beside (first ∷ others)) numbers mid new all (laid_held first others numbers old mid held laid)))
+  pub overlay-held : (back : Bor (List ℕ)) (plans : List PlanMeaning) (numbers : List ℕ) (mid new : List (Vec Span Global)) → AreHeld stands version (together_meaning plans) numbers mid
+      → AllZip (IsChanged (changes.Dissolve back)) mid new → AreHeld stands version (overlay_meaning back.now plans) numbers new
+  overlay-held back plans numbers mid new held all =
+      zip-weaker (HoldsRows stands version (changed_meaning (changes.Dissolve back) (together_meaning plans))) (HoldsRows stands version (overlay_meaning back.now plans)) numbers new
+      (λ number each holds. record { means = λ snapshots there k. holds.means snapshots there k ∙ put_back back.now (rows_together plans (snapshots version) number k); shaped = holds.shaped })
+      (changed-held (changes.Dissolve back) (together_meaning plans) numbers mid new all held)
 
   -- ---- windows
 
@@ -231,18 +271,13 @@ module _ (stands : Snapshots → Type 0) (version : ℕ) where
 
 -- ---- the operands of an OVERLAY that is well-formed
 
-pub paired-shaped : (p q : Kind) (m n : ℕ) (numbers : List ℕ) (lefts rights made : List (Vec Span Global)) → AllZip (IsPaired pairings.Overlay) (zip lefts rights) made → AreShaped p m numbers lefts → AreShaped q n numbers rights → AreShaped (overlaid_kind p q) (m + n) numbers made
-paired-shaped p q m n [] [] [] [] all first second = tt
-paired-shaped p q m n [] [] [] (x ∷ made) all first second = absurd all
-paired-shaped p q m n [] [] (r ∷ rights) made all first second = absurd second
-paired-shaped p q m n [] (l ∷ lefts) rights made all first second = absurd first
-paired-shaped p q m n (number ∷ numbers) [] rights made all first second = absurd first
-paired-shaped p q m n (number ∷ numbers) (l ∷ lefts) [] made all first second = absurd second
-paired-shaped p q m n (number ∷ numbers) (l ∷ lefts) (r ∷ rights) [] all first second = absurd all
-paired-shaped p q m n (number ∷ numbers) (l ∷ lefts) (r ∷ rights) (x ∷ made) all first second = (
-  record { sorted = all.0.sorted; placed = all.0.placed p q tt first.0.placed second.0.placed; wide = all.0.wide m n tt first.0.wide second.0.wide },
-  paired-shaped p q m n numbers lefts rights made all.1 first.1 second.1,
-)
+pub beside-shaped : (stands : Snapshots → Type 0) (version : ℕ) (next : PlanMeaning) (p : Kind) (m : ℕ) (numbers : List ℕ) (old new : List (Vec Span Global)) → AreBeside stands version next numbers old new → EachIsShaped p m numbers old → EachIsShaped (overlaid_kind p next.kind) (m + next.width) numbers new
+beside-shaped stands version next p m [] [] [] all shaped = tt
+beside-shaped stands version next p m [] [] (n ∷ new) all shaped = absurd all
+beside-shaped stands version next p m [] (o ∷ old) new all shaped = absurd shaped
+beside-shaped stands version next p m (number ∷ numbers) [] new all shaped = absurd shaped
+beside-shaped stands version next p m (number ∷ numbers) (o ∷ old) [] all shaped = absurd all
+beside-shaped stands version next p m (number ∷ numbers) (o ∷ old) (n ∷ new) all shaped = (all.0.shaped p m shaped.0, beside-shaped stands version next p m numbers old new all.1 shaped.1)
 
 -- the first operand, and the rest of them
 pub record FormedOverlay (back : List ℕ) (plans : List PlanMeaning) : Type 0 where
@@ -261,26 +296,72 @@ formed-overlay back plans e =
 pub first-formed : (plans : List PlanMeaning) (first : PlanMeaning) (others : List PlanMeaning) → plans ≡ first ∷ others → list_all (λ (plan : PlanMeaning). plan.is_well_formed) plans ≡ true → (first.is_well_formed ≡ true) × (list_all (λ (plan : PlanMeaning). plan.is_well_formed) others ≡ true)
 first-formed plans first others are each = and_parts first.is_well_formed (list_all (λ (plan : PlanMeaning). plan.is_well_formed) others) (subst (λ p. list_all (λ (plan : PlanMeaning). plan.is_well_formed) p ≡ true) are each)
 
-pub can-begin : (stands : Snapshots → Type 0) (version : ℕ) (back : List ℕ) (plans : List PlanMeaning) (first : PlanMeaning) (others : List PlanMeaning) (numbers : List ℕ) (rows : List (Vec Span Global)) → plans ≡ first ∷ others → FormedOverlay back plans → AreHeld stands version first numbers rows → CanOverlay others numbers rows
-can-begin stands version back plans first others numbers rows are formed held = record {
+both : (a b : Bool) → a ≡ true → b ≡ true → (a && b) ≡ true
+both a b one two = ap (λ t. t && b) one ∙ two
+
+is_at_most : (a b : ℕ) → a ≤ b → nat_le a b ≡ true
+is_at_most a b e = grind (arith, nat_tests)
+
+-- the operands of an OVERLAY that is well-formed are together
+pub formed-together : (back : List ℕ) (plans : List PlanMeaning) → (overlay_meaning back plans).is_well_formed ≡ true → (together_meaning plans).is_well_formed ≡ true
+formed-together back plans e =
+    let formed = formed-overlay back plans e in
+    let wide = formed.wide in
+    let few = formed.few in
+    both (list_all (λ (plan : PlanMeaning). plan.is_well_formed) plans) (nat_le (widths_together plans) COLUMNS) formed.each (is_at_most (widths_together plans) COLUMNS (omega (arith, wide, few)))
+
+-- operands that are together: each is well-formed, and their columns are no more than a row may have
+pub record Together (plans : List PlanMeaning) : Type 0 where
+  pub each : list_all (λ (plan : PlanMeaning). plan.is_well_formed) plans ≡ true
+  pub few : widths_together plans ≤ COLUMNS
+
+pub together : (plans : List PlanMeaning) → (together_meaning plans).is_well_formed ≡ true → Together plans
+together plans e =
+    let parts = and_parts (list_all (λ (plan : PlanMeaning). plan.is_well_formed) plans) (nat_le (widths_together plans) COLUMNS) e in
+    record { each = parts.0; few = at-most (widths_together plans) COLUMNS parts.1 }
+
+pub can-begin : (stands : Snapshots → Type 0) (version : ℕ) (first : PlanMeaning) (others : List PlanMeaning) (numbers : List ℕ) (rows : List (Vec Span Global)) → Together (first ∷ others) → AreHeld stands version first numbers rows → CanOverlay others numbers rows
+can-begin stands version first others numbers rows formed held = record {
   kind = first.kind;
   width = first.width;
   shaped = shaped-of stands version first numbers rows held;
-  fit = let e = ap widths_together are in let w = formed.wide in let f = formed.few in omega (arith, e, w, f);
-  formed = (first-formed plans first others are formed.each).1;
+  fit = formed.few;
+  formed = (and_parts first.is_well_formed (list_all (λ (plan : PlanMeaning). plan.is_well_formed) others) formed.each).1;
 }
 
-pub can-pair-next : (stands : Snapshots → Type 0) (version : ℕ) (plans : List PlanMeaning) (next : PlanMeaning) (others : List PlanMeaning) (numbers : List ℕ) (rows rights : List (Vec Span Global)) → plans ≡ next ∷ others → CanOverlay plans numbers rows → AreHeld stands version next numbers rights → AllZip (CanPair pairings.Overlay) rows rights
-can-pair-next stands version plans next others numbers rows rights are can held =
-    let e = ap widths_together are in let f = can.fit in
-    can-pair pairings.Overlay can.kind next.kind can.width next.width numbers rows rights (omega (arith, e, f)) can.shaped (shaped-of stands version next numbers rights held)
+-- the first two operands side by side are one
+pub together-beside : (first second : PlanMeaning) (others : List PlanMeaning) → Together (first ∷ second ∷ others) → Together (beside_meaning first second ∷ others)
+together-beside first second others formed =
+    let few = formed.few in
+    let parts = and_parts first.is_well_formed (second.is_well_formed && list_all (λ (plan : PlanMeaning). plan.is_well_formed) others) formed.each in
+    let later = and_parts second.is_well_formed (list_all (λ (plan : PlanMeaning). plan.is_well_formed) others) parts.1 in
+    record {
+      each =
+          both ((first.is_well_formed && second.is_well_formed) && nat_le (first.width + second.width) COLUMNS) (list_all (λ (plan : PlanMeaning). plan.is_well_formed) others)
+          (both (first.is_well_formed && second.is_well_formed) (nat_le (first.width + second.width) COLUMNS) (both first.is_well_formed second.is_well_formed parts.0 later.0) (is_at_most (first.width + second.width) COLUMNS (omega (arith, few)))) later.1;
+      few = omega (arith, few);
+    }
 
-pub can-go-on : (stands : Snapshots → Type 0) (version : ℕ) (plans : List PlanMeaning) (next : PlanMeaning) (others : List PlanMeaning) (numbers : List ℕ) (rows rights paired : List (Vec Span Global)) → plans ≡ next ∷ others → CanOverlay plans numbers rows → AreHeld stands version next numbers rights
-    → AllZip (IsPaired pairings.Overlay) (zip rows rights) paired → CanOverlay others numbers paired
-can-go-on stands version plans next others numbers rows rights paired are can held all = record {
+pub can-lay-next : (plans : List PlanMeaning) (next : PlanMeaning) (others : List PlanMeaning) (numbers : List ℕ) (rows : List (Vec Span Global)) → plans ≡ next ∷ others → CanOverlay plans numbers rows → CanOverlay (next ∷ []) numbers rows
+can-lay-next plans next others numbers rows are can = record {
+  kind = can.kind;
+  width = can.width;
+  shaped = can.shaped;
+  fit = let e = ap widths_together are in let f = can.fit in omega (arith, e, f);
+  formed = let first = (first-formed plans next others are can.formed).0 in ap (λ t. t && true) first;
+}
+
+pub can-pair-next : (stands : Snapshots → Type 0) (version : ℕ) (next : PlanMeaning) (numbers : List ℕ) (rows rights : List (Vec Span Global)) → CanOverlay (next ∷ []) numbers rows → AreHeld stands version next numbers rights → AllZip (CanPair pairings.Overlay) rows rights
+can-pair-next stands version next numbers rows rights can held =
+    let f = can.fit in
+    can-pair pairings.Overlay can.kind next.kind can.width next.width numbers rows rights (omega (arith, f)) can.shaped (shaped-of stands version next numbers rights held)
+
+pub can-go-on : (stands : Snapshots → Type 0) (version : ℕ) (plans : List PlanMeaning) (next : PlanMeaning) (others : List PlanMeaning) (numbers : List ℕ) (rows laid : List (Vec Span Global)) → plans ≡ next ∷ others → CanOverlay plans numbers rows → AreBeside stands version next numbers rows laid
+    → CanOverlay others numbers laid
+can-go-on stands version plans next others numbers rows laid are can all = record {
   kind = overlaid_kind can.kind next.kind;
   width = can.width + next.width;
-  shaped = paired-shaped can.kind next.kind can.width next.width numbers rows rights paired all can.shaped (shaped-of stands version next numbers rights held);
+  shaped = beside-shaped stands version next can.kind can.width numbers rows laid all can.shaped;
   fit = let e = ap widths_together are in let f = can.fit in omega (arith, e, f);
   formed = (first-formed plans next others are can.formed).1;
 }

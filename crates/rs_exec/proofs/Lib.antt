@@ -14,3 +14,4 @@ mod Leavings
 mod Holding
 mod TableAlone
 mod OtherRoutes
+mod Siding

@@ -24,9 +24,9 @@ use Rattle.rs_exec.specs.declared.changes.Change.TheVariants as changes
 use Rattle.rs_exec.specs.declared.pairs.Pairing.{Pairing}
 use Rattle.rs_exec.specs.declared.pairs.Pairing.TheVariants as pairings
 use Rattle.rs_exec.specs.Changes.{IsNarrow, changed_rows, IsChanged}
-use Rattle.rs_exec.specs.Pairs.{paired_rows, FitTogether, IsPaired}
+use Rattle.rs_exec.specs.Pairs.{paired_rows, FitTogether, ArePaired}
 use Rattle.rs_exec.specs.Routes.{IsShaped}
-use Rattle.rs_exec.specs.Held.{HoldsRows}
+use Rattle.rs_exec.specs.Held.{HoldsRows, AreRowsOf}
 
 -- ---- kinds and widths
 
@@ -116,8 +116,8 @@ module _ (stands : Snapshots → Type 0) (version route : ℕ) where
     shaped = record { sorted = is.sorted; placed = is.placed plan.kind held.shaped.placed; wide = is.wide plan.width held.shaped.wide };
   }
 
-  pub paired-step : (pairing : Pairing) (left right : PlanMeaning) (one other made : Vec Span Global) → (paired_meaning pairing left right).is_well_formed ≡ true
-      → HoldsRows stands version left route one → HoldsRows stands version right route other → IsPaired pairing (one, other) made → HoldsRows stands version (paired_meaning pairing left right) route made
+  pub paired-step : (pairing : Pairing) (left right : PlanMeaning) (one other made : List Stretch) → (paired_meaning pairing left right).is_well_formed ≡ true
+      → AreRowsOf stands version left route one → AreRowsOf stands version right route other → ArePaired pairing (one, other) made → AreRowsOf stands version (paired_meaning pairing left right) route made
   paired-step pairings.Overlay left right one other made formed first second is = record {
     means = λ snapshots there k. is.means k ∙ (λ i. paired_rows pairings.Overlay (first.means snapshots there k i) (second.means snapshots there k i));
     shaped = record { sorted = is.sorted; placed = is.placed left.kind right.kind tt first.shaped.placed second.shaped.placed; wide = is.wide left.width right.width tt first.shaped.wide second.shaped.wide };

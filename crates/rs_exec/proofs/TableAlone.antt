@@ -28,6 +28,7 @@ leaf-alone plan leaf is no_windows no_conditions =
           ∙ met-none (seen_through_each leaf.windows.items route k rows)
           ∙ ap (λ (windows : List PlannedWindow). seen_through_each windows route k rows) no_windows;
       kind = ap (λ (meaning : PlanMeaning). meaning.kind) means;
+      width = ap (λ (meaning : PlanMeaning). meaning.width) means;
     }
 
 -- what has no length is empty

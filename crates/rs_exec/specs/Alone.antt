@@ -3,9 +3,10 @@ use Rattle.std.specs.Prelude.{◌≡◌, ℕ}
 use Rattle.rs_plan.specs.declared.plan.Plan.{Plan}
 use Rattle.rs_plan.specs.declared.plan.PlannedTable.{PlannedTable}
 use Rattle.rs_exec.specs.Snapshot.{Snapshot}
-use Rattle.rs_exec.specs.Meaning.{rows_in, kind_in, table_of}
+use Rattle.rs_exec.specs.Meaning.{rows_in, kind_in, width_in, table_of}
 
 -- in each snapshot the plan has the rows of the table, all of them and no others
 pub record IsTableAlone (plan : Plan) (table : PlannedTable) : Type 0 where
   pub rows : (snapshot : Snapshot) (route k : ℕ) → rows_in plan snapshot route k ≡ snapshot.rows (table_of table) route k
   pub kind : kind_in plan ≡ table.kind
+  pub width : width_in plan ≡ table.width

@@ -7,16 +7,20 @@ use Rattle.rs_value.specs.declared.column.TheConstants.{COLUMNS}
 use Rattle.rs_facts.specs.declared.fact.Span.{Span}
 use Rattle.rs_facts.specs.Operators.{overlaid}
 use Rattle.rs_facts.specs.Query.{overlaid_kind}
+use Rattle.rs_facts.specs.Runs.{Stretch}
 use Rattle.rs_facts.specs.Spans.{seen, places_of}
 use Rattle.rs_exec.specs.Snapshot.{Snapshots}
 use Rattle.rs_exec.specs.Meaning.{PlanMeaning, rows_together, kinds_together, widths_together}
-use Rattle.rs_exec.specs.Routes.{IsShaped}
+use Rattle.rs_exec.specs.Routes.{AreShaped, IsShaped}
 
 -- In each of the snapshots the spans mean the plan's rows on the route. Whatever the snapshots, they are sorted, of the
 -- plan's kind, and as wide as its columns.
-pub record HoldsRows (stands : Snapshots → Type 0) (version : ℕ) (plan : PlanMeaning) (route : ℕ) (rows : Vec Span Global) : Type 0 where
-  pub means : (snapshots : Snapshots) → stands snapshots → (k : ℕ) → places_of (map seen rows.items) k ≡ plan.rows (snapshots version) route k
-  pub shaped : IsShaped plan.kind plan.width rows
+pub record AreRowsOf (stands : Snapshots → Type 0) (version : ℕ) (plan : PlanMeaning) (route : ℕ) (spans : List Stretch) : Type 0 where
+  pub means : (snapshots : Snapshots) → stands snapshots → (k : ℕ) → places_of spans k ≡ plan.rows (snapshots version) route k
+  pub shaped : AreShaped plan.kind plan.width spans
+
+abbrev pub HoldsRows : (Snapshots → Type 0) → ℕ → PlanMeaning → ℕ → Vec Span Global → Type 0
+HoldsRows stands version plan route rows = AreRowsOf stands version plan route (map seen rows.items)
 
 -- the same on each of several routes, in turn
 abbrev pub AreHeld : (Snapshots → Type 0) → ℕ → PlanMeaning → List ℕ → List (Vec Span Global) → Type 0
@@ -40,3 +44,12 @@ pub record IsLaidOver (stands : Snapshots → Type 0) (version : ℕ) (operands 
 -- the same on each of several routes, in turn
 abbrev pub AreLaidOver : (Snapshots → Type 0) → ℕ → List PlanMeaning → List ℕ → List (Vec Span Global) → List (Vec Span Global) → Type 0
 AreLaidOver stands version operands numbers old new = AllZip (IsLaidOver stands version operands) (zip numbers old) new
+
+-- In each of the snapshots the new spans mean the rows of one operand more, on the route, beside those of the old spans.
+pub record IsBeside (stands : Snapshots → Type 0) (version : ℕ) (next : PlanMeaning) (laid : ℕ × Vec Span Global) (new : Vec Span Global) : Type 0 where
+  pub means : (snapshots : Snapshots) → stands snapshots → (k : ℕ) → places_of (map seen new.items) k ≡ overlaid (places_of (map seen laid.1.items) k) (next.rows (snapshots version) laid.0 k)
+  pub shaped : (kind : Kind) (width : ℕ) → IsShaped kind width laid.1 → IsShaped (overlaid_kind kind next.kind) (width + next.width) new
+
+-- the same on each of several routes, in turn
+abbrev pub AreBeside : (Snapshots → Type 0) → ℕ → PlanMeaning → List ℕ → List (Vec Span Global) → List (Vec Span Global) → Type 0
+AreBeside stands version next numbers old new = AllZip (IsBeside stands version next) (zip numbers old) new

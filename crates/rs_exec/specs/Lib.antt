@@ -13,3 +13,4 @@ pub mod Operand
 pub mod Agreement
 pub mod Alone
 pub mod Elsewhere
+pub mod Sides

@@ -1,5 +1,6 @@
 -- A plan that is still to be evaluated, by its topmost node.
 use Rattle.std.specs.Prelude.{ℕ, suc, ◌+◌, ◌&&◌, nat_le, List, [], ◌∷◌, map}
+use Rattle.std.specs.List.{list_all}
 use Rattle.rs_value.specs.declared.column.TheConstants.{COLUMNS}
 use Rattle.rs_facts.specs.ConditionView.{condition_of}
 use Rattle.rs_facts.specs.Operators.{overlaid}
@@ -14,7 +15,7 @@ use Rattle.rs_exec.specs.declared.operand.Node.{Node}
 use Rattle.rs_exec.specs.declared.operand.Node.TheVariants as nodes
 use Rattle.rs_exec.specs.declared.pairs.Pairing.{Pairing}
 use Rattle.rs_exec.specs.declared.pairs.Pairing.TheVariants as pairings
-use Rattle.rs_exec.specs.Meaning.{PlanMeaning, meaning_of, leaf_meaning, where_meaning, dissolve_meaning, overlay_meaning, cover_meaning, merge_meaning, minus_meaning, window_meaning, transform_meaning}
+use Rattle.rs_exec.specs.Meaning.{PlanMeaning, rows_together, kinds_together, widths_together, meaning_of, leaf_meaning, where_meaning, dissolve_meaning, overlay_meaning, cover_meaning, merge_meaning, minus_meaning, window_meaning, transform_meaning}
 
 abbrev pub operand_meaning : Operand → PlanMeaning
 operand_meaning operand = meaning_of operand.plan.now
@@ -33,6 +34,15 @@ beside_meaning left right = record {
   kind = overlaid_kind left.kind right.kind;
   width = left.width + right.width;
   is_well_formed = (left.is_well_formed && right.is_well_formed) && nat_le (left.width + right.width) COLUMNS;
+}
+
+-- the rows of several operands side by side
+abbrev pub together_meaning : List PlanMeaning → PlanMeaning
+together_meaning plans = record {
+  rows = rows_together plans;
+  kind = kinds_together plans;
+  width = widths_together plans;
+  is_well_formed = list_all (λ plan. plan.is_well_formed) plans && nat_le (widths_together plans) COLUMNS;
 }
 
 abbrev pub paired_meaning : Pairing → PlanMeaning → PlanMeaning → PlanMeaning

@@ -1,5 +1,5 @@
 -- Operators of two operands, and what they make of spans.
-use Rattle.std.specs.Prelude.{◌≡◌, ℕ, ◌+◌, ◌≤◌, map, Vec}
+use Rattle.std.specs.Prelude.{◌≡◌, ℕ, ◌+◌, ◌≤◌, List, map, Vec}
 use Rattle.std.specs.declared.alloc.Global.{Global}
 use Rattle.rs_value.specs.declared.column.Kind.{Kind}
 use Rattle.rs_value.specs.declared.column.TheConstants.{COLUMNS}
@@ -7,9 +7,10 @@ use Rattle.rs_facts.specs.declared.fact.Span.{Span}
 use Rattle.rs_facts.specs.Fact.{RowSet}
 use Rattle.rs_facts.specs.Operators.{overlaid, covered, merged, without}
 use Rattle.rs_facts.specs.Query.{overlaid_kind}
+use Rattle.rs_facts.specs.Runs.{Stretch}
 use Rattle.rs_facts.specs.Spans.{seen, places_of, ArePlaced}
 use Rattle.rs_sweep.specs.Lists.{AreSorted, AreWide}
-use Rattle.rs_exec.specs.Routes.{IsShaped}
+use Rattle.rs_exec.specs.Routes.{AreShaped}
 use Rattle.rs_exec.specs.declared.pairs.Pairing.{Pairing}
 use Rattle.rs_exec.specs.declared.pairs.Pairing.TheVariants as pairings
 
@@ -55,18 +56,24 @@ WidthsSuit pairings.Merge m n = m ≡ n
 WidthsSuit pairings.Minus m n = Unit {0}
 
 -- operands of some kinds and widths that the operator can take
-pub record CanPair (pairing : Pairing) (left right : Vec Span Global) : Type 0 where
+pub record CanPairSpans (pairing : Pairing) (left right : List Stretch) : Type 0 where
   pub left_kind : Kind
   pub right_kind : Kind
   pub left_width : ℕ
   pub right_width : ℕ
-  pub left_shaped : IsShaped left_kind left_width left
-  pub right_shaped : IsShaped right_kind right_width right
+  pub left_shaped : AreShaped left_kind left_width left
+  pub right_shaped : AreShaped right_kind right_width right
   pub fit : FitTogether pairing left_width right_width
 
+abbrev pub CanPair : Pairing → Vec Span Global → Vec Span Global → Type 0
+CanPair pairing left right = CanPairSpans pairing (map seen left.items) (map seen right.items)
+
 -- what the operator makes of the two lists of spans
-pub record IsPaired (pairing : Pairing) (operands : Vec Span Global × Vec Span Global) (made : Vec Span Global) : Type 0 where
-  pub means : (k : ℕ) → places_of (map seen made.items) k ≡ paired_rows pairing (places_of (map seen operands.0.items) k) (places_of (map seen operands.1.items) k)
-  pub sorted : AreSorted (map seen made.items)
-  pub placed : (a b : Kind) → KindsSuit pairing a b → ArePlaced a (map seen operands.0.items) → ArePlaced b (map seen operands.1.items) → ArePlaced (paired_kind pairing a b) (map seen made.items)
-  pub wide : (m n : ℕ) → WidthsSuit pairing m n → AreWide m (map seen operands.0.items) → AreWide n (map seen operands.1.items) → AreWide (paired_width pairing m n) (map seen made.items)
+pub record ArePaired (pairing : Pairing) (operands : List Stretch × List Stretch) (made : List Stretch) : Type 0 where
+  pub means : (k : ℕ) → places_of made k ≡ paired_rows pairing (places_of operands.0 k) (places_of operands.1 k)
+  pub sorted : AreSorted made
+  pub placed : (a b : Kind) → KindsSuit pairing a b → ArePlaced a operands.0 → ArePlaced b operands.1 → ArePlaced (paired_kind pairing a b) made
+  pub wide : (m n : ℕ) → WidthsSuit pairing m n → AreWide m operands.0 → AreWide n operands.1 → AreWide (paired_width pairing m n) made
+
+abbrev pub IsPaired : Pairing → Vec Span Global × Vec Span Global → Vec Span Global → Type 0
+IsPaired pairing operands made = ArePaired pairing (map seen operands.0.items, map seen operands.1.items) (map seen made.items)

@@ -4,6 +4,7 @@ use Rattle.std.specs.List.{AllZip, AllByRecursion}
 use Rattle.std.specs.declared.alloc.Global.{Global}
 use Rattle.rs_facts.specs.declared.fact.Span.{Span}
 use Rattle.rs_value.specs.declared.column.Kind.{Kind}
+use Rattle.rs_facts.specs.Runs.{Stretch}
 use Rattle.rs_facts.specs.Spans.{seen, ArePlaced}
 use Rattle.rs_sweep.specs.Lists.{AreSorted, AreWide}
 use Rattle.rs_exec.specs.declared.routes.Routes.{Routes}
@@ -29,7 +30,10 @@ abbrev pub AllAreNone : List (Vec Span Global) → Type 0
 AllAreNone rows = AllByRecursion HasNone rows
 
 -- by where they begin, of this kind, and so wide
-pub record IsShaped (kind : Kind) (width : ℕ) (rows : Vec Span Global) : Type 0 where
-  pub sorted : AreSorted (map seen rows.items)
-  pub placed : ArePlaced kind (map seen rows.items)
-  pub wide : AreWide width (map seen rows.items)
+pub record AreShaped (kind : Kind) (width : ℕ) (spans : List Stretch) : Type 0 where
+  pub sorted : AreSorted spans
+  pub placed : ArePlaced kind spans
+  pub wide : AreWide width spans
+
+abbrev pub IsShaped : Kind → ℕ → Vec Span Global → Type 0
+IsShaped kind width rows = AreShaped kind width (map seen rows.items)

@@ -2,17 +2,19 @@
 //!
 //! A plan is evaluated on one route. Only the operand of a TRANSFORM is evaluated on others: on each route from which a
 //! piece leads onto a route that is asked for, and there are no more of these than pieces. So the cost of a plan grows
-//! with its nodes and with pieces, however deep TRANSFORMs are nested.
+//! with its nodes and with pieces, however deep TRANSFORMs are nested. On one route no row of a table alone is copied where
+//! an operator only reads it and the source lends it.
 
-ghost use Rattle.std.specs.Prelude.{◌≡◌, true, map, IfOk, IfErr};
+ghost use Rattle.std.specs.Prelude.{◌≡◌, true, [], ◌∷◌, map, IfOk, IfErr};
 ghost use Rattle.rs_facts.specs.Runs.{AreRunsOf};
 ghost use Rattle.rs_facts.specs.Spans.{seen, ArePlaced};
 ghost use Rattle.rs_sweep.specs.Lists.{AreWide};
 ghost use Rattle.rs_exec.specs.Snapshot.{Snapshots};
-ghost use Rattle.rs_exec.specs.Meaning.{rows_in, kind_in, width_in, is_well_formed, overlay_meaning, transform_meaning, window_meaning};
+ghost use Rattle.rs_exec.specs.Meaning.{rows_in, kind_in, width_in, is_well_formed, overlay_meaning, cover_meaning, merge_meaning, minus_meaning, transform_meaning, window_meaning};
 ghost use Rattle.rs_exec.specs.Leaving.{LeavesBehind};
-ghost use Rattle.rs_exec.specs.Operand.{operand_meaning, operands_meaning, changed_meaning, paired_meaning};
-ghost use Rattle.rs_exec.specs.Held.{AreHeld, AreLaidOver, CanOverlay};
+ghost use Rattle.rs_exec.specs.Operand.{operand_meaning, operands_meaning, beside_meaning, together_meaning, changed_meaning, paired_meaning};
+ghost use Rattle.rs_exec.specs.Held.{HoldsRows, AreHeld, AreLaidOver, IsBeside, AreBeside, CanOverlay};
+ghost use Rattle.rs_exec.specs.Sides.{CanRead, IsSideOf};
 ghost use Rattle.rs_exec.specs.Routes.{numbers_of, list_of};
 
 use crate::carrying::{Sources, carried_on, sources_of};
@@ -20,11 +22,12 @@ use crate::changes::{Change, changed_on};
 use crate::kinds::kind_of;
 use crate::leaves::leaf_on;
 use crate::operand::{Node, Operand, Operands};
-use crate::pairs::{Pairing, paired_on};
+use crate::pairs::{Pairing, covered, merged, overlaid, paired_on, without};
 use crate::routes::{Routes, RowsOn, are_none, none_on};
+use crate::sides::{Side, is_bare, read, table_lent};
 use crate::source::Source;
 use crate::windows::{cut, part_seen, spread_on};
-use rs_coalesce::runs;
+use rs_coalesce::{lent, runs};
 use rs_facts::Span;
 use rs_plan::{Plan, PlannedPiece, PlannedWindow};
 use rs_refusal::Refusal;
@@ -120,10 +123,191 @@ fn paired_rows<S: Source>(
     ensures leaves { LeavesBehind S.Source source.old source.new }
     ensures wants { IfErr result (λ why. S.wants why source.old source.new) }
 {
+    if routes.others.is_empty() {
+        let first = paired_alone(alloc, source, routes, pairing, left, right)?;
+        return Ok(RowsOn {
+            first,
+            others: Vec::new(alloc),
+        });
+    }
     let left_rows = rows_on(alloc, source, routes, left)?;
     let right_rows = rows_on(alloc, source, routes, right)?;
     let paired = paired_on(alloc, pairing, left_rows, right_rows)?;
     Ok(paired)
+}
+
+/// What the rows of two operands make on the first of the routes. An operand that is only read is not copied where it is
+/// a table alone that the source lends; the others are evaluated first.
+#[cycle(rows)]
+fn paired_alone<S: Source>(
+    alloc: Global,
+    source: &mut S,
+    routes: Routes<'_>,
+    pairing: Pairing,
+    left: Operand<'_>,
+    right: Operand<'_>,
+) -> Result<Vec<Span>, Refusal>
+    requires well_formed { (paired_meaning pairing (operand_meaning left) (operand_meaning right)).is_well_formed ≡ true }
+    ensures held { IfOk result (HoldsRows (S.is source.old) routes.entry.version
+        (paired_meaning pairing (operand_meaning left.entry) (operand_meaning right.entry)) routes.entry.first) }
+    ensures leaves { LeavesBehind S.Source source.old source.new }
+    ensures wants { IfErr result (λ why. S.wants why source.old source.new) }
+{
+    match pairing {
+        Pairing::Overlay => beside_rows(alloc, source, routes, left, right),
+        Pairing::Cover(left_width, right_width) => {
+            covered_rows(
+                alloc,
+                source,
+                routes,
+                (left_width, right_width),
+                left,
+                right,
+            )
+        }
+        Pairing::Merge => merged_rows(alloc, source, routes, left, right),
+        Pairing::Minus => rows_without(alloc, source, routes, left, right),
+    }
+}
+
+/// The rows of two operands side by side, on the first of the routes, where both are only read. Where the first has none,
+/// the other is not evaluated.
+#[cycle(rows)]
+fn beside_rows<S: Source>(
+    alloc: Global,
+    source: &mut S,
+    routes: Routes<'_>,
+    left: Operand<'_>,
+    right: Operand<'_>,
+) -> Result<Vec<Span>, Refusal>
+    requires well_formed { (beside_meaning (operand_meaning left) (operand_meaning right)).is_well_formed ≡ true }
+    ensures held { IfOk result (HoldsRows (S.is source.old) routes.entry.version
+        (beside_meaning (operand_meaning left.entry) (operand_meaning right.entry)) routes.entry.first) }
+    ensures leaves { LeavesBehind S.Source source.old source.new }
+    ensures wants { IfErr result (λ why. S.wants why source.old source.new) }
+{
+    let left_side = side_on(alloc, source, routes, left)?;
+    if is_bare(&*source, &left_side) {
+        return Ok(Vec::new(alloc));
+    }
+    let right_side = side_on(alloc, source, routes, right)?;
+    let lower = read(alloc, &*source, &left_side)?;
+    let upper = read(alloc, &*source, &right_side)?;
+    let spans = overlaid(alloc, &lower, &upper)?;
+    Ok(spans)
+}
+
+/// The same, and where one operand alone has rows, these beside NULLs, for operands of these widths.
+#[cycle(rows)]
+fn covered_rows<S: Source>(
+    alloc: Global,
+    source: &mut S,
+    routes: Routes<'_>,
+    widths: (u8, u8),
+    left: Operand<'_>,
+    right: Operand<'_>,
+) -> Result<Vec<Span>, Refusal>
+    requires well_formed { (cover_meaning widths.0 widths.1 (operand_meaning left) (operand_meaning right)).is_well_formed
+        ≡ true }
+    ensures held { IfOk result (HoldsRows (S.is source.old) routes.entry.version
+        (cover_meaning widths.0 widths.1 (operand_meaning left.entry) (operand_meaning right.entry)) routes.entry.first) }
+    ensures leaves { LeavesBehind S.Source source.old source.new }
+    ensures wants { IfErr result (λ why. S.wants why source.old source.new) }
+{
+    let left_side = side_on(alloc, source, routes, left)?;
+    let right_side = side_on(alloc, source, routes, right)?;
+    let lower = read(alloc, &*source, &left_side)?;
+    let upper = read(alloc, &*source, &right_side)?;
+    let spans = covered(alloc, widths.0, widths.1, &lower, &upper)?;
+    Ok(spans)
+}
+
+/// The rows of either of two operands, on the first of the routes.
+#[cycle(rows)]
+fn merged_rows<S: Source>(
+    alloc: Global,
+    source: &mut S,
+    routes: Routes<'_>,
+    left: Operand<'_>,
+    right: Operand<'_>,
+) -> Result<Vec<Span>, Refusal>
+    requires well_formed { (merge_meaning (operand_meaning left) (operand_meaning right)).is_well_formed ≡ true }
+    ensures held { IfOk result (HoldsRows (S.is source.old) routes.entry.version
+        (merge_meaning (operand_meaning left.entry) (operand_meaning right.entry)) routes.entry.first) }
+    ensures leaves { LeavesBehind S.Source source.old source.new }
+    ensures wants { IfErr result (λ why. S.wants why source.old source.new) }
+{
+    let left_rows = rows_alone(alloc, source, routes, left)?;
+    let right_rows = rows_alone(alloc, source, routes, right)?;
+    let spans = merged(left_rows, right_rows)?;
+    Ok(spans)
+}
+
+/// The rows of an operand that the other does not have, on the first of the routes. The other is only read.
+#[cycle(rows)]
+fn rows_without<S: Source>(
+    alloc: Global,
+    source: &mut S,
+    routes: Routes<'_>,
+    left: Operand<'_>,
+    right: Operand<'_>,
+) -> Result<Vec<Span>, Refusal>
+    requires well_formed { (minus_meaning (operand_meaning left) (operand_meaning right)).is_well_formed ≡ true }
+    ensures held { IfOk result (HoldsRows (S.is source.old) routes.entry.version
+        (minus_meaning (operand_meaning left.entry) (operand_meaning right.entry)) routes.entry.first) }
+    ensures leaves { LeavesBehind S.Source source.old source.new }
+    ensures wants { IfErr result (λ why. S.wants why source.old source.new) }
+{
+    let left_rows = rows_alone(alloc, source, routes, left)?;
+    let right_side = side_on(alloc, source, routes, right)?;
+    let upper = read(alloc, &*source, &right_side)?;
+    let spans = without(alloc, left_rows, &upper)?;
+    Ok(spans)
+}
+
+/// The rows of an operand on the first of the routes.
+#[cycle(rows)]
+fn rows_alone<S: Source>(
+    alloc: Global,
+    source: &mut S,
+    routes: Routes<'_>,
+    operand: Operand<'_>,
+) -> Result<Vec<Span>, Refusal>
+    requires well_formed { (operand_meaning operand).is_well_formed ≡ true }
+    ensures held { IfOk result (HoldsRows (S.is source.old) routes.entry.version (operand_meaning operand.entry)
+        routes.entry.first) }
+    ensures leaves { LeavesBehind S.Source source.old source.new }
+    ensures wants { IfErr result (λ why. S.wants why source.old source.new) }
+{
+    let alone = Routes {
+        version: routes.version,
+        first: routes.first,
+        others: &[],
+    };
+    let rows = rows_on(alloc, source, alone, operand)?;
+    Ok(rows.first)
+}
+
+/// An operand on the first of the routes, to be read only. A table alone that the source lends is not evaluated.
+#[cycle(rows)]
+fn side_on<S: Source>(
+    alloc: Global,
+    source: &mut S,
+    routes: Routes<'_>,
+    operand: Operand<'_>,
+) -> Result<Side, Refusal>
+    requires well_formed { (operand_meaning operand).is_well_formed ≡ true }
+    ensures side { IfOk result (IsSideOf (S.is source.old) routes.entry.version (operand_meaning operand.entry)
+        routes.entry.first) }
+    ensures readable { IfOk result (CanRead S.lends) }
+    ensures leaves { LeavesBehind S.Source source.old source.new }
+    ensures wants { IfErr result (λ why. S.wants why source.old source.new) }
+{
+    if let Some(asked) = table_lent(&*source, routes, &operand) {
+        return Ok(Side::Table(asked));
+    }
+    let rows = rows_alone(alloc, source, routes, operand)?;
+    Ok(Side::Made(rows))
 }
 
 /// The rows of several operands side by side, on each of the routes, each column where it belongs.
@@ -145,10 +329,60 @@ fn overlaid_rows<S: Source>(
         let none = none_on(alloc, routes)?;
         return Ok(none);
     };
-    let rows = rows_on(alloc, source, routes, first)?;
-    let overlaid = overlaid_with(alloc, source, routes, rows, others)?;
+    let overlaid = rows_together(alloc, source, routes, first, others)?;
     let put_back = changed_on(alloc, Change::Dissolve(back), overlaid)?;
     Ok(put_back)
+}
+
+/// The rows of an operand and of those after it side by side, on each of the routes.
+#[cycle(rows)]
+fn rows_together<S: Source>(
+    alloc: Global,
+    source: &mut S,
+    routes: Routes<'_>,
+    first: Operand<'_>,
+    others: Operands<'_>,
+) -> Result<RowsOn, Refusal>
+    requires well_formed { (together_meaning (operand_meaning first ∷ operands_meaning others)).is_well_formed ≡ true }
+    ensures held { IfOk result (λ rows. AreHeld (S.is source.old) routes.entry.version
+        (together_meaning (operand_meaning first.entry ∷ operands_meaning others.entry)) (numbers_of routes.entry)
+        (list_of rows)) }
+    ensures leaves { LeavesBehind S.Source source.old source.new }
+    ensures wants { IfErr result (λ why. S.wants why source.old source.new) }
+{
+    if routes.others.is_empty() {
+        return together_alone(alloc, source, routes, first, others);
+    }
+    let rows = rows_on(alloc, source, routes, first)?;
+    overlaid_with(alloc, source, routes, rows, others)
+}
+
+/// The same on one route, where all operands are only read.
+#[cycle(rows)]
+fn together_alone<S: Source>(
+    alloc: Global,
+    source: &mut S,
+    routes: Routes<'_>,
+    first: Operand<'_>,
+    others: Operands<'_>,
+) -> Result<RowsOn, Refusal>
+    requires alone { routes.others.now ≡ [] }
+    requires well_formed { (together_meaning (operand_meaning first ∷ operands_meaning others)).is_well_formed ≡ true }
+    ensures held { IfOk result (λ rows. AreHeld (S.is source.old) routes.entry.version
+        (together_meaning (operand_meaning first.entry ∷ operands_meaning others.entry)) (numbers_of routes.entry)
+        (list_of rows)) }
+    ensures leaves { LeavesBehind S.Source source.old source.new }
+    ensures wants { IfErr result (λ why. S.wants why source.old source.new) }
+{
+    let Some((second, others)) = others.next() else {
+        return rows_on(alloc, source, routes, first);
+    };
+    let spans = beside_rows(alloc, source, routes, first, second)?;
+    let rows = RowsOn {
+        first: spans,
+        others: Vec::new(alloc),
+    };
+    overlaid_with(alloc, source, routes, rows, others)
 }
 
 /// The rows, on each of the routes, with those of further operands beside them. Where no rows are left, no further
@@ -173,9 +407,57 @@ fn overlaid_with<S: Source>(
     let Some((next, others)) = operands.next() else {
         return Ok(rows);
     };
+    let laid = laid_with(alloc, source, routes, rows, next)?;
+    overlaid_with(alloc, source, routes, laid, others)
+}
+
+/// The rows, on each of the routes, with those of one operand more beside them.
+#[cycle(rows)]
+fn laid_with<S: Source>(
+    alloc: Global,
+    source: &mut S,
+    routes: Routes<'_>,
+    rows: RowsOn,
+    next: Operand<'_>,
+) -> Result<RowsOn, Refusal>
+    requires can { CanOverlay (operand_meaning next ∷ []) (numbers_of routes) (list_of rows) }
+    ensures beside { IfOk result (λ laid. AreBeside (S.is source.old) routes.entry.version (operand_meaning next.entry)
+        (numbers_of routes.entry) (list_of rows) (list_of laid)) }
+    ensures leaves { LeavesBehind S.Source source.old source.new }
+    ensures wants { IfErr result (λ why. S.wants why source.old source.new) }
+{
+    if routes.others.is_empty() {
+        let first = laid_alone(alloc, source, routes, rows.first, next)?;
+        return Ok(RowsOn {
+            first,
+            others: Vec::new(alloc),
+        });
+    }
     let right = rows_on(alloc, source, routes, next)?;
     let paired = paired_on(alloc, Pairing::Overlay, rows, right)?;
-    overlaid_with(alloc, source, routes, paired, others)
+    Ok(paired)
+}
+
+/// The same on the first of the routes, where the operand is only read.
+#[cycle(rows)]
+fn laid_alone<S: Source>(
+    alloc: Global,
+    source: &mut S,
+    routes: Routes<'_>,
+    rows: Vec<Span>,
+    next: Operand<'_>,
+) -> Result<Vec<Span>, Refusal>
+    requires can { CanOverlay (operand_meaning next ∷ []) (routes.first ∷ []) (rows ∷ []) }
+    ensures beside { IfOk result (IsBeside (S.is source.old) routes.entry.version (operand_meaning next.entry)
+        (routes.entry.first, rows)) }
+    ensures leaves { LeavesBehind S.Source source.old source.new }
+    ensures wants { IfErr result (λ why. S.wants why source.old source.new) }
+{
+    let side = side_on(alloc, source, routes, next)?;
+    let lower = lent(alloc, &rows)?;
+    let upper = read(alloc, &*source, &side)?;
+    let spans = overlaid(alloc, &lower, &upper)?;
+    Ok(spans)
 }
 
 /// What is seen of a plan through all windows, on each of the routes. The plan is evaluated on the windows' route alone,

@@ -16,6 +16,7 @@ mod leaves;
 mod operand;
 mod pairs;
 mod routes;
+mod sides;
 pub mod source;
 mod windows;
 

@@ -1,9 +1,11 @@
 //! OVERLAY, COVER, MERGE and MINUS of two operands, whose rows on one route make the operator's rows there.
 
-ghost use Rattle.std.specs.Prelude.{IfOk};
+ghost use Rattle.std.specs.Prelude.{IfOk, map};
 ghost use Rattle.std.specs.List.{AllZip, zip};
+ghost use Rattle.rs_coalesce.specs.Lent.{seen_lent};
+ghost use Rattle.rs_facts.specs.Spans.{seen};
 ghost use Rattle.rs_exec.specs.Routes.{list_of};
-ghost use Rattle.rs_exec.specs.Pairs.{CanPair, IsPaired};
+ghost use Rattle.rs_exec.specs.Pairs.{CanPair, CanPairSpans, IsPaired, ArePaired};
 
 use crate::routes::RowsOn;
 use rs_coalesce::lent;
@@ -69,46 +71,57 @@ fn paired(
     ensures { IfOk result (IsPaired pairing (left, right)) }
 {
     match pairing {
-        Pairing::Overlay => overlaid(alloc, &left, &right),
+        Pairing::Overlay => {
+            let lower = lent(alloc, &left)?;
+            let upper = lent(alloc, &right)?;
+            overlaid(alloc, &lower, &upper)
+        }
         Pairing::Cover(left_width, right_width) => {
-            covered(alloc, left_width, right_width, &left, &right)
+            let lower = lent(alloc, &left)?;
+            let upper = lent(alloc, &right)?;
+            covered(alloc, left_width, right_width, &lower, &upper)
         }
         Pairing::Merge => merged(left, right),
-        Pairing::Minus => without(alloc, left, &right),
+        Pairing::Minus => {
+            let upper = lent(alloc, &right)?;
+            without(alloc, left, &upper)
+        }
     }
 }
 
 /// Each row of the left before each row of the right.
-fn overlaid(alloc: Global, left: &Vec<Span>, right: &Vec<Span>) -> Result<Vec<Span>, AllocError>
-    requires { CanPair Pairing.Overlay left.now right.now }
-    ensures { IfOk result (IsPaired Pairing.Overlay (left.now, right.now)) }
+pub(crate) fn overlaid(
+    alloc: Global,
+    lower: &[&Span],
+    upper: &[&Span],
+) -> Result<Vec<Span>, AllocError>
+    requires { CanPairSpans Pairing.Overlay (map seen_lent lower.now) (map seen_lent upper.now) }
+    ensures { IfOk result (λ made. ArePaired Pairing.Overlay (map seen_lent lower.now, map seen_lent upper.now)
+        (map seen made.items)) }
 {
-    let lower = lent(alloc, left)?;
-    let upper = lent(alloc, right)?;
-    let (spans, _) = overlay(alloc, &lower, &upper)?;
+    let (spans, _) = overlay(alloc, lower, upper)?;
     Ok(spans)
 }
 
 /// The same, and where one side alone has rows, these beside NULLs, for operands of these widths.
-fn covered(
+pub(crate) fn covered(
     alloc: Global,
     left_width: u8,
     right_width: u8,
-    left: &Vec<Span>,
-    right: &Vec<Span>,
+    lower: &[&Span],
+    upper: &[&Span],
 ) -> Result<Vec<Span>, AllocError>
-    requires { CanPair (Pairing.Cover left_width right_width) left.now right.now }
-    ensures { IfOk result (IsPaired (Pairing.Cover left_width right_width) (left.now, right.now)) }
+    requires { CanPairSpans (Pairing.Cover left_width right_width) (map seen_lent lower.now) (map seen_lent upper.now) }
+    ensures { IfOk result (λ made. ArePaired (Pairing.Cover left_width right_width)
+        (map seen_lent lower.now, map seen_lent upper.now) (map seen made.items)) }
 {
-    let lower = lent(alloc, left)?;
-    let upper = lent(alloc, right)?;
     let (first_width, second_width) = (usize::from(left_width), usize::from(right_width));
-    let spans = cover(alloc, &lower, &upper, first_width, second_width)?;
+    let spans = cover(alloc, lower, upper, first_width, second_width)?;
     Ok(spans)
 }
 
 /// The rows of either.
-fn merged(left: Vec<Span>, right: Vec<Span>) -> Result<Vec<Span>, AllocError>
+pub(crate) fn merged(left: Vec<Span>, right: Vec<Span>) -> Result<Vec<Span>, AllocError>
     requires { CanPair Pairing.Merge left right }
     ensures { IfOk result (IsPaired Pairing.Merge (left, right)) }
 {
@@ -117,11 +130,15 @@ fn merged(left: Vec<Span>, right: Vec<Span>) -> Result<Vec<Span>, AllocError>
 }
 
 /// The rows of the left that the right does not have.
-fn without(alloc: Global, left: Vec<Span>, right: &Vec<Span>) -> Result<Vec<Span>, AllocError>
-    requires { CanPair Pairing.Minus left right.now }
-    ensures { IfOk result (IsPaired Pairing.Minus (left, right.now)) }
+pub(crate) fn without(
+    alloc: Global,
+    left: Vec<Span>,
+    upper: &[&Span],
+) -> Result<Vec<Span>, AllocError>
+    requires { CanPairSpans Pairing.Minus (map seen left.items) (map seen_lent upper.now) }
+    ensures { IfOk result (λ made. ArePaired Pairing.Minus (map seen left.items, map seen_lent upper.now)
+        (map seen made.items)) }
 {
-    let upper = lent(alloc, right)?;
-    let spans = minus(alloc, left, &upper)?;
+    let spans = minus(alloc, left, upper)?;
     Ok(spans)
 }

@@ -26,7 +26,7 @@ pub(crate) struct KeptSpans<'a> {
 }
 
 impl Source for KeptSpans<'_> {
-    ghost use Rattle.std.specs.Prelude.{refl};
+    ghost use Rattle.std.specs.Prelude.{refl, true};
     ghost use Rattle.rs_engine.specs.Present.{ArePresent};
 
     ghost is = { λ source snapshots. ArePresent source.engine.now.events snapshots };
@@ -34,6 +34,8 @@ impl Source for KeptSpans<'_> {
     ghost passes = { λ old new. Unit {0} };
 
     ghost wants = { λ why old new. why ≡ OutOfMemory };
+
+    ghost lends = { true };
 
     fn spans(&mut self, alloc: Global, asked: &Asked, part: Part) -> Result<Vec<Span>, Refusal> {
         let spans = copies_inside(alloc, self.engine.spans_asked(asked), part)?;
@@ -49,6 +51,10 @@ impl Source for KeptSpans<'_> {
     ) -> Result<Vec<Span>, Refusal> {
         let spans = copies_inside(alloc, self.engine.spans_asked(asked), part)?;
         Ok(spans)
+    }
+
+    fn lent(&self, asked: &Asked) -> Option<&[Span]> {
+        Some(self.engine.spans_asked(asked))
     }
 
     // no list is by value

@@ -1,4 +1,4 @@
-use Rattle.std.proofs.Common.{map, refl}
+use Rattle.std.proofs.Common.{map}
 use Rattle.rs_facts.specs.Spans.{seen}
 use Rattle.rs_exec.proofs.Pairing.{merge-paired}
 use Rattle.rs_exec.proofs.pairs.merged.Goals as goal
@@ -6,4 +6,4 @@ use Rattle.rs_exec.proofs.pairs.merged.Goals as goal
 pub returns : goal.returns
 returns c =
     let made = c.in_ok-spans.ensures in
-    merge-paired c.args.left c.args.right c.in_ok-spans.spans (map seen c.args.left.items) (map seen c.args.right.items) refl refl made.sorted made.means made.placed made.width
+    merge-paired (map seen c.args.left.items) (map seen c.args.right.items) (map seen c.in_ok-spans.spans.items) made.sorted made.means made.placed made.width
