@@ -58,8 +58,8 @@ pub record RoutesComeAfter (version : ℕ) (old now : List RouteItem) : Type 0 w
   pub still : (route : RouteItem) → Contains old route → Contains now route
   pub others : (route : RouteItem) → Contains now route → Contains old route ⊎ (version < route.born)
 
--- Routes and tables have come after the version, and records have come, ended and gone as versions after it do. The events of a table
--- that has come are those that came into none. A route or a table is dropped only while no version but the present one is live.
+-- Routes and tables have come after the version, and records have come, ended and gone as versions after it do; a table that has
+-- come began without events. A route or a table is dropped only while no version but the present one is live.
 pub record IsLater (version : ℕ) (old now : Contents) : Type 0 where
   pub routes : RoutesComeAfter version old.definitions.routes now.definitions.routes
   pub tables : (item : TableItem) → Contains old.definitions.tables item → Contains now.definitions.tables item

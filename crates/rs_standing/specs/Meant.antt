@@ -1,6 +1,6 @@
--- Which contents of a file are meant: definitions that their DEFINE lines would make, and records that commands could leave, from
--- the oldest version that is looked at up to the one that was accepted last. Of records that none of these versions sees nothing is
--- asked: a dropped route leaves dead ones, and its number is given again.
+-- Which contents of a file are meant: each definition passes the checks and limits of DEFINE, and in each version, from the oldest
+-- that is looked at up to the one that was accepted last, records are the runs of facts on routes that are there. Nothing is asked
+-- of records that none of these versions sees: those of a dropped route stay, and its number is given again.
 use Rattle.std.specs.Prelude.{◌≡◌, ◌≢◌, ◌≤◌, ℕ, Contains, List, filter, length, map}
 use Rattle.std.specs.List.{AllByRecursion, AllZip}
 use Rattle.rs_catalog.specs.Events.{behind}
@@ -59,7 +59,8 @@ pub record AreReferentsMeant (routes : List RouteItem) (version : ℕ) (referent
   pub once : (route : ℕ) → AreDistinct (map (λ one. one.0) (referents_at version route referents))
   pub few : (route : ℕ) → length (referents_at version route referents) ≤ REFERENTS
 
--- the definitions, the tables and the referents are meant. What views say is asked of the state
+-- The definitions, the tables and the referents are meant; what views say is asked of the state. The oldest version is no later
+-- than the accepted one, or nothing is asked of records.
 pub record IsMeant (oldest : ℕ) (contents : Contents) : Type 0 where
   pub definitions : AreMeant contents.definitions
   pub tables : AllZip (IsTableMeant contents.definitions.routes oldest contents.directory.accepted) contents.definitions.tables contents.tables

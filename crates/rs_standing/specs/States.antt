@@ -70,7 +70,7 @@ pub record AreDefinitionsAt (version : ℕ) (catalogue : CatalogueItems) (defini
 
 -- ---- states and worlds
 
--- the state of a version
+-- the state of a version: its routes, facts and referents beside the other definitions as they are now
 pub record IsStateAt (version : ℕ) (contents : Contents) (state : State) : Type 0 where
   pub definitions : Definitions
   pub are : AreDefinitionsAt version contents.definitions definitions

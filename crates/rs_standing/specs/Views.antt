@@ -1,4 +1,4 @@
--- Which views of a state are meant: those that their DEFINE lines would make.
+-- Which views of a state are meant: those that pass the checks of their definitions.
 use Rattle.std.specs.Prelude.{◌≡◌, Ok}
 use Rattle.rs_facts.specs.Fact.{Name}
 use Rattle.rs_facts.specs.Query.{Query}
@@ -22,7 +22,7 @@ widened (subtracted a b) = subtracted (widened a) (widened b)
 widened (windowed query window) = windowed (widened query) (whole_route (window_route window))
 widened (transformed query alignment) = transformed (widened query) alignment
 
--- A view that its DEFINE line would make. Where its windows lie is not asked, since referents move after it was defined.
+-- A view that passes the checks of its definition, but that its windows lie on their routes: referents may have moved since.
 pub record IsViewMeant (state : State) (name : Name) (query : QueryTree) : Type 0 where
   pub is : IsView state name query
   pub checked : Query

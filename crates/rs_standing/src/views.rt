@@ -11,8 +11,8 @@ ghost use Rattle.rs_syntax.specs.Tree.{CommandTree};
 
 use rs_machine_laws::lawful::answering_leaves_the_state_lawful;
 
-/// Whatever lines are answered, views that are meant stay so, and those that come are meant: so does each accepted command leave
-/// them, where it leaves a lawful state.
+/// Whatever lines are answered, views that are meant stay so, and those that come are meant. Each accepted command does so, where
+/// it leaves a lawful state.
 pub fn answering_leaves_views_meant()
     ensures step { (state : State) (session : ℕ) (tree : CommandTree) (effect : Effect) → outcome state session tree ≡ Ok effect
         → IsLawful state → IsLawful effect.state → AreViewsMeant state → AreViewsMeant effect.state }
