@@ -26,11 +26,12 @@ use Rattle.rs_exec.specs.declared.pairs.Pairing.{Pairing}
 use Rattle.rs_exec.specs.declared.pairs.Pairing.TheVariants as pairings
 use Rattle.rs_exec.specs.declared.source.Part.{Part}
 use Rattle.rs_exec.specs.Given.{inside}
-use Rattle.rs_exec.specs.Changes.{IsChanged}
+use Rattle.rs_exec.specs.Changes.{IsChanged, AreFrom}
 use Rattle.rs_exec.specs.Pairs.{FitTogether, CanPair, IsPaired, ArePaired}
 use Rattle.rs_exec.specs.Routes.{IsInOrder, HasNone, AreNone, AllAreNone, IsShaped}
 use Rattle.rs_exec.specs.Windows.{AreOff, IsSeenOn, IsSpread}
 use Rattle.rs_exec.specs.Held.{HoldsRows, AreRowsOf, AreHeld, CanOverlay, IsLaidOver, AreLaidOver, IsBeside, AreBeside}
+use Rattle.rs_exec.proofs.InPlace.{rows-stay}
 use Rattle.rs_exec.proofs.Lists.{zip-weaker, zip-where, zip-length}
 use Rattle.rs_exec.proofs.RowLaws.{overlaid-nothing}
 use Rattle.rs_exec.proofs.Steps.{at-most, earlier-one, changed-step, paired-step, none-shaped, none-means}
@@ -224,6 +225,19 @@ module _ (stands : Snapshots → Type 0) (version : ℕ) where
       zip-weaker (HoldsRows stands version (changed_meaning (changes.Dissolve back) (together_meaning plans))) (HoldsRows stands version (overlay_meaning back.now plans)) numbers new
       (λ number each holds. record { means = λ snapshots there k. holds.means snapshots there k ∙ put_back back.now (rows_together plans (snapshots version) number k); shaped = holds.shaped })
       (changed-held (changes.Dissolve back) (together_meaning plans) numbers mid new all held)
+
+  -- columns that are where they belong stay
+  pub overlay-stays : (back : List ℕ) (plans : List PlanMeaning) (numbers : List ℕ) (rows : List (Vec Span Global)) → AreFrom 0 back → widths_together plans ≡ length back
+      → AreHeld stands version (together_meaning plans) numbers rows → AreHeld stands version (overlay_meaning back plans) numbers rows
+  overlay-stays back plans numbers rows from long held =
+      zip-weaker (HoldsRows stands version (together_meaning plans)) (HoldsRows stands version (overlay_meaning back plans)) numbers rows
+      (λ number each holds. record {
+        means = λ snapshots there k.
+            sym (rows-stay back (map seen each.items) k from (subst (λ w. AreWide w (map seen each.items)) long holds.shaped.wide))
+            ∙ ap (mapped (chosen back)) (holds.means snapshots there k);
+        shaped = subst (λ w. IsShaped (kinds_together plans) w each) long holds.shaped;
+      })
+      held
 
   -- ---- windows
 

@@ -15,3 +15,4 @@ mod Holding
 mod TableAlone
 mod OtherRoutes
 mod Siding
+mod InPlace

@@ -1,5 +1,5 @@
 -- Operators that change each row or leave it out, and what they make of spans.
-use Rattle.std.specs.Prelude.{◌≡◌, ◌≤◌, ℕ, length, map, Vec}
+use Rattle.std.specs.Prelude.{◌≡◌, ◌≤◌, ◌+◌, ℕ, List, [], ◌∷◌, length, map, Vec}
 use Rattle.std.specs.declared.alloc.Global.{Global}
 use Rattle.rs_value.specs.declared.column.Kind.{Kind}
 use Rattle.rs_value.specs.declared.column.TheConstants.{COLUMNS}
@@ -32,3 +32,8 @@ pub record IsChanged (change : Change) (old new : Vec Span Global) : Type 0 wher
   pub sorted : AreSorted (map seen new.items)
   pub placed : (kind : Kind) → ArePlaced kind (map seen old.items) → ArePlaced kind (map seen new.items)
   pub wide : (width : ℕ) → AreWide width (map seen old.items) → AreWide (changed_width change width) (map seen new.items)
+
+-- these are the numbers from this one on, in their order
+abbrev pub AreFrom : ℕ → List ℕ → Type 0
+AreFrom first [] = Unit {0}
+AreFrom first (place ∷ places) = (place ≡ first) × AreFrom (first + 1) places

@@ -1,6 +1,6 @@
 //! WHERE and DISSOLVE: operators that change each row of their operand, or leave it out.
 
-ghost use Rattle.std.specs.Prelude.{◌≡◌, ℕ, IfOk, map};
+ghost use Rattle.std.specs.Prelude.{◌≡◌, ℕ, true, IfOk, map};
 ghost use Rattle.std.specs.List.{AllZip, AllByRecursion};
 ghost use Rattle.rs_value.specs.declared.column.Kind.{Kind};
 ghost use Rattle.rs_facts.specs.ConditionView.{condition_of};
@@ -8,7 +8,7 @@ ghost use Rattle.rs_facts.specs.Spans.{seen, places_of, ArePlaced};
 ghost use Rattle.rs_planning.specs.Plan.{met_by_each};
 ghost use Rattle.rs_sweep.specs.Lists.{AreSorted, AreWide};
 ghost use Rattle.rs_exec.specs.Routes.{list_of, IsInOrder};
-ghost use Rattle.rs_exec.specs.Changes.{IsNarrow, IsChanged};
+ghost use Rattle.rs_exec.specs.Changes.{IsNarrow, IsChanged, AreFrom};
 
 use crate::routes::RowsOn;
 use rs_facts::{Condition, Span};
@@ -22,6 +22,20 @@ pub(crate) enum Change<'a> {
     Where(&'a [Condition]),
     /// Of each row the columns at these places, the leftmost 0.
     Dissolve(&'a [u8]),
+}
+
+/// Whether these are the places from 0 on, in their order, so that each column is where it belongs.
+pub(crate) fn are_in_order(places: &[u8]) -> bool
+    ensures { result ≡ true → AreFrom 0 places.now }
+{
+    let mut next: usize = 0;
+    for place in places {
+        if usize::from(*place) != next {
+            return false;
+        }
+        next += 1;
+    }
+    true
 }
 
 /// The rows on each route, changed. The only refusal is for want of memory.

@@ -18,7 +18,7 @@ ghost use Rattle.rs_exec.specs.Sides.{CanRead, IsSideOf};
 ghost use Rattle.rs_exec.specs.Routes.{numbers_of, list_of};
 
 use crate::carrying::{Sources, carried_on, sources_of};
-use crate::changes::{Change, changed_on};
+use crate::changes::{Change, are_in_order, changed_on};
 use crate::kinds::kind_of;
 use crate::leaves::leaf_on;
 use crate::operand::{Node, Operand, Operands};
@@ -330,6 +330,9 @@ fn overlaid_rows<S: Source>(
         return Ok(none);
     };
     let overlaid = rows_together(alloc, source, routes, first, others)?;
+    if are_in_order(back) {
+        return Ok(overlaid);
+    }
     let put_back = changed_on(alloc, Change::Dissolve(back), overlaid)?;
     Ok(put_back)
 }

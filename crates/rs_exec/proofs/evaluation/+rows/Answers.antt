@@ -16,7 +16,7 @@ use Rattle.rs_exec.proofs.Leavings.{leaves-then}
 use Rattle.rs_exec.proofs.Lists.{empty}
 use Rattle.rs_exec.proofs.Siding.{read-lent, can-pair-one, can-lay-one, bare-beside}
 use Rattle.rs_exec.proofs.Steps.{formed-pair, paired-step, earlier-one}
-use Rattle.rs_exec.proofs.Holding.{earlier, laid-earlier, can-pair, shaped-of, shaped-length, in-order, changed-held, paired-held, held-alone, laid-none, laid-bare, laid-next, beside-one, beside-held, together-laid, together-two, together-one, overlay-held, seen-held, window-none, formed-together, Together, together, together-beside, can-begin, can-lay-next, can-pair-next, can-go-on}
+use Rattle.rs_exec.proofs.Holding.{earlier, laid-earlier, can-pair, shaped-of, shaped-length, in-order, changed-held, paired-held, held-alone, laid-none, laid-bare, laid-next, beside-one, beside-held, together-laid, together-two, together-one, overlay-held, overlay-stays, formed-overlay, seen-held, window-none, formed-together, Together, together, together-beside, can-begin, can-lay-next, can-pair-next, can-go-on}
 use Rattle.rs_exec.proofs.evaluation.+rows.Goals as goal
 
 -- ---- operators of one operand
@@ -117,6 +117,12 @@ overlaid_rows-rows_together-requires g t c κs within =
 pub overlaid_rows-changed_on-requires-clause-ordered : goal.overlaid_rows-changed_on-requires-clause-ordered
 overlaid_rows-changed_on-requires-clause-ordered g t c =
     in-order (g.S.Source.is c.args.source.now) c.args.routes.version (together_meaning (operand_meaning c.in-Some.first ∷ operands_meaning c.in-Some.others)) (numbers_of c.args.routes) (list_of c.in_ok-overlaid.overlaid) c.in_ok-overlaid.ensures.held
+
+pub overlaid_rows-returns-then-are_in_order-clause-held : goal.overlaid_rows-returns-then-are_in_order-clause-held
+overlaid_rows-returns-then-are_in_order-clause-held g t c =
+    overlay-stays (g.S.Source.is c.args.source.now) c.args.routes.version c.args.back.now (operands_meaning c.args.operands) (numbers_of c.args.routes) (list_of c.in_ok-overlaid.overlaid)
+    (c.are_in_order.ensures c.if-are_in_order.true) (formed-overlay c.args.back.now (operands_meaning c.args.operands) c.requires.well_formed).wide
+    (subst (λ (plans : List PlanMeaning). AreHeld (g.S.Source.is c.args.source.now) c.args.routes.version (together_meaning plans) (numbers_of c.args.routes) (list_of c.in_ok-overlaid.overlaid)) (sym (ap (map meaning_of) c.in-Some.ensures.first)) c.in_ok-overlaid.ensures.held)
 
 pub overlaid_rows-returns-clause-held : goal.overlaid_rows-returns-clause-held
 overlaid_rows-returns-clause-held g t c =
