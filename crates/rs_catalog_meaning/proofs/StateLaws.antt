@@ -129,12 +129,14 @@ module _ (catalogue : CatalogueItems) (are : AreMeant catalogue) where
     referents_named = record { each = λ route. none_so (λ name measure. IsName name) };
     referents = λ route. none_so (lawful.IsReferent (routes_of catalogue.routes) route);
     tables = each_table;
-    views = none_so (lawful.IsView (state_of catalogue));
-    view_order = record {
-      place = λ name. 0;
-      below = λ name query there. absurd (none_so (λ n q. ⊥) name query there);
-      apart = λ a b x y one other same. absurd (none_so (λ n q. ⊥) a x one);
-      before = λ name other query there inside y known. absurd (none_so (λ n q. ⊥) name query there);
+    views = record {
+      each = none_so (lawful.IsViewMeant (state_of catalogue));
+      order = record {
+        place = λ name. 0;
+        below = λ name query there. absurd (none_so (λ n q. ⊥) name query there);
+        apart = λ a b x y one other same. absurd (none_so (λ n q. ⊥) a x one);
+        before = λ name other query there inside y known. absurd (none_so (λ n q. ⊥) name query there);
+      };
     };
     alignments = each_alignment;
     indexes = each_index;

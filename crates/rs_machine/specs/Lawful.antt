@@ -1,7 +1,7 @@
 -- What is so of every state that the machine comes to.
 --
 -- A law says so: the state at the beginning is lawful, and whatever lines are answered leave it lawful.
-use Rattle.std.specs.Prelude.{◌≡◌, ◌≢◌, ℕ, ◌<◌, ◌≤◌, true, false, IsTrue, List, [], ◌∷◌, length, Some}
+use Rattle.std.specs.Prelude.{◌≡◌, ◌≢◌, ℕ, ◌<◌, ◌≤◌, true, false, IsTrue, List, [], ◌∷◌, length, Some, Ok}
 use Rattle.std.specs.List.{AllByRecursion}
 use Rattle.std.specs.FinMap as names
 use Rattle.rs_measure.specs.declared.measure.TheConstants.{GREATEST_MEASURE}
@@ -12,14 +12,15 @@ use Rattle.rs_value.specs.declared.column.TheConstants.{COLUMNS}
 use Rattle.rs_value.specs.Row.{Row}
 use Rattle.rs_value.specs.Values.{IsRowOf}
 use Rattle.rs_facts.specs.Fact.{Name, Names, contains}
-use Rattle.rs_facts.specs.Query.{RouteEnds, Column, Table, Piece}
+use Rattle.rs_facts.specs.Query.{RouteEnds, Column, Table, Piece, Query}
 use Rattle.rs_planning.specs.Basis.{IndexedColumn}
 use Rattle.rs_facts.specs.WellFormed.{ArePiecesOn}
 use Rattle.rs_syntax.specs.Sound.{IsName, AreColumns, IsQuery}
-use Rattle.rs_syntax.specs.Tree.{WindowTree, whole_route, part_of_route, QueryTree}
+use Rattle.rs_syntax.specs.Tree.{WindowTree, whole_route, part_of_route, QueryTree, named, filtered, dissolved, renamed, overlaid, covered, merged, subtracted, windowed, transformed}
 use Rattle.rs_machine.specs.declared.limits.TheConstants.{ROUTES, REFERENTS, TABLES, INDEXES, VIEWS, ALIGNMENTS, PIECES, NODES, DEPTH, CHANGES, SESSIONS, CURSORS}
 use Rattle.rs_machine.specs.State.{Cursors, State, has}
-use Rattle.rs_machine.specs.Checks.{has_table_or_view, has_referent, column_names, column_types}
+use Rattle.rs_machine.specs.Checks.{has_table_or_view, has_referent, column_names, column_types, window_route}
+use Rattle.rs_machine.specs.Checking.{nodes_checked}
 use Rattle.rs_machine.specs.Opening.{names_in, alignments_in, windows_in, opened, nodes, depth, AreInOrder}
 use Rattle.rs_machine.specs.ReferentNames.{AreNamed}
 
@@ -115,6 +116,30 @@ pub record IsView (state : State) (name : Name) (query : QueryTree) : Type 0 whe
   pub few_nodes : nodes (opened state.views query) ≤ NODES
   pub not_deep : depth (opened state.views query) ≤ DEPTH
 
+-- the same query, with each window as wide as its route
+abbrev pub widened : QueryTree → QueryTree
+widened (named name) = named name
+widened (filtered query condition) = filtered (widened query) condition
+widened (dissolved query columns) = dissolved (widened query) columns
+widened (renamed query from to) = renamed (widened query) from to
+widened (overlaid a b) = overlaid (widened a) (widened b)
+widened (covered a b) = covered (widened a) (widened b)
+widened (merged a b) = merged (widened a) (widened b)
+widened (subtracted a b) = subtracted (widened a) (widened b)
+widened (windowed query window) = windowed (widened query) (whole_route (window_route window))
+widened (transformed query alignment) = transformed (widened query) alignment
+
+-- A view that passes the checks of its DEFINE line, but that its windows lie on their routes: referents may have moved since.
+pub record IsViewMeant (state : State) (name : Name) (query : QueryTree) : Type 0 where
+  pub is : IsView state name query
+  pub checked : Query
+  pub passes : nodes_checked state (widened (opened state.views query)) ≡ Ok checked
+
+-- each view is meant, and names only views before it
+pub record AreViewsMeant (state : State) : Type 0 where
+  pub each : Each state.views (IsViewMeant state)
+  pub order : AreInOrder state.views
+
 -- ---- alignments
 
 -- from 1 to PIECES pieces, each of a part of a route that is there, carried to a place on a route that is there
@@ -159,8 +184,7 @@ pub record IsLawful (state : State) : Type 0 where
   pub referents_named : AreNamed state
   pub referents : (route : Name) → Each (state.referents route) (IsReferent state.routes route)
   pub tables : Each state.tables (IsTable state.routes)
-  pub views : Each state.views (IsView state)
-  pub view_order : AreInOrder state.views
+  pub views : AreViewsMeant state
   pub alignments : Each state.alignments (IsAlignment state.routes)
   pub indexes : Each state.indexes (IsIndex state.tables)
   pub cursors : (session : ℕ) → AreCursors session (state.cursors session)

@@ -23,16 +23,18 @@ use Rattle.rs_machine.specs.Opening.{some_view, names_query, names_alignment, na
 use Rattle.rs_machine.specs.Checking.{column_place, checked, removal_checked, columns_in, group_checked, summed_checked}
 use Rattle.rs_machine.specs.declared.limits.TheConstants.{ROUTES, REFERENTS, TABLES, INDEXES, VIEWS, ALIGNMENTS, PIECES, CHANGES, SESSIONS, CURSORS}
 use Rattle.rs_machine.specs.Step.{Effect, may_change, no_cursor_waits, index_defined, index_dropped, lines_of, cursor_opened, rows_fetched, cursor_closed, with_route, with_table, with_facts_along, without_facts, without_route, empty_table, has_fact_on, some_table, referents_at, with_referents, route_defined, route_dropped, table_defined, table_dropped, view_defined, view_dropped, alignment_defined, alignment_dropped, referent_defined, referent_moved, referent_dropped, row_inserted, rows_removed, rows_along, outcome}
-use Rattle.rs_machine.specs.Lawful.{Each, IsRoute, IsPlaceOf, MayHoldAt, IsReferent, IsTable, IsView, IsAlignment, IsIndex, IsLawful}
-use Rattle.rs_machine_laws.proofs.Names.{either_false, each_empty, each_weaker, each_inserted, each_removed, len_none, len_more, len_same, len_less, same_name-true, same_name-false, same_name-back}
+use Rattle.rs_machine.specs.Lawful.{Each, IsRoute, IsPlaceOf, MayHoldAt, IsReferent, IsTable, IsViewMeant, IsAlignment, IsIndex, IsLawful}
+use Rattle.rs_machine_laws.proofs.Names.{either_false, each_empty, each_weaker, each_inserted, each_removed, len_none, len_more, len_same, len_less, same_name-true, same_name-false, same_name-back, still_there}
+use Rattle.rs_machine_laws.proofs.Passing.{TableKept}
+use Rattle.rs_machine_laws.proofs.Keeping.{put_still, still_same}
 use Rattle.rs_machine_laws.proofs.Checked.{passed, not_true, was_found, or_right, position-lies, event-lies, same_kind-same, distinct}
 use Rattle.rs_machine_laws.proofs.Rows.{row_fits-row}
 use Rattle.rs_machine_laws.proofs.Facts.{referent-more, table-more, table-empty, row-along, table-less, table-route_gone, referent-route_gone}
 use Rattle.rs_machine_laws.proofs.Windows.{checks-passed}
 use Rattle.rs_machine_laws.proofs.Alignments.{pieces-made, alignments-more, alignments-gone}
 use Rattle.rs_machine_laws.proofs.NamedColumns.{place-below}
-use Rattle.rs_machine_laws.proofs.Indexes.{index-table_more, index-table_changed, indexes-table_gone, fewer_indexes, views-indexes, none-cursors, with_other_cursors, at_session, cursors-more, cursors-same, cursors-less}
-use Rattle.rs_machine_laws.proofs.Views.{none_there, table_no_view, views-route_more, views-route_gone, views-table_put, views-table_gone, order-view_more, views-view_more, order-view_gone, views-view_gone, views-alignment_more, views-alignment_gone, views-referent_put, views-referent_gone}
+use Rattle.rs_machine_laws.proofs.Indexes.{index-table_more, index-table_changed, indexes-table_gone, fewer_indexes, none-cursors, with_other_cursors, at_session, cursors-more, cursors-same, cursors-less}
+use Rattle.rs_machine_laws.proofs.Views.{none_there, table_no_view, views-route_more, views-route_gone, views-table_put, views-table_gone, order-view_more, views-view_more, order-view_gone, views-view_gone, views-alignment_more, views-alignment_gone, views-referent_put, views-referent_gone, views-indexes}
 
 -- an accepted command leaves a lawful state
 pub record Keeps (result : Result Effect Refusal) : Type 0 where
@@ -57,8 +59,7 @@ route_added state name start finish lawful new is room change =
       referents_named = record { each = lawful.referents_named.each };
       referents = λ route. each_weaker (state.referents route) (IsReferent state.routes route) (IsReferent (names.insert state.routes name ends) route) (referent-more state.routes name ends route new) (lawful.referents route);
       tables = each_weaker state.tables (IsTable state.routes) (IsTable (names.insert state.routes name ends)) (table-more state.routes name ends new) lawful.tables;
-      views = views-route_more state name start finish lawful;
-      view_order = lawful.view_order;
+      views = record { each = views-route_more state name start finish lawful; order = lawful.views.order };
       alignments = alignments-more state name ends new lawful.alignments;
       indexes = lawful.indexes;
       cursors = lawful.cursors;
@@ -95,8 +96,7 @@ route_gone state name ends lawful there no_facts no_pieces no_window change = re
   referents_named = record { each = λ route. named_at route (same_name route name) };
   referents = λ route. lie_at route (same_name route name) refl;
   tables = λ q table at. table-route_gone state.routes name ends q table there (none_there (has_fact_on name ends) state.tables no_facts q table at) (lawful.tables q table at);
-  views = views-route_gone state name lawful no_window;
-  view_order = lawful.view_order;
+  views = record { each = views-route_gone state name lawful no_window; order = lawful.views.order };
   alignments = alignments-gone state name no_pieces lawful.alignments;
   indexes = lawful.indexes;
   cursors = lawful.cursors;
@@ -135,15 +135,14 @@ route_dropped-lawful state name lawful =
 
 -- ---- tables
 
-table_put : (state : State) (name : Name) (table : Table) → IsLawful state → has state.views name ≡ false → IsTable state.routes name table → Each state.indexes (IsIndex (names.insert state.tables name table))
+table_put : (state : State) (name : Name) (table : Table) → IsLawful state → has state.views name ≡ false → ((n : Name) → TableKept state (with_table state name table) n) → IsTable state.routes name table → Each state.indexes (IsIndex (names.insert state.tables name table))
     → names.len (names.insert state.tables name table) ≤ TABLES → state.changes + 1 ≤ CHANGES → IsLawful (with_table state name table)
-table_put state name table lawful no_view is indexes few change = record {
+table_put state name table lawful no_view still is indexes few change = record {
   routes = lawful.routes;
   referents_named = record { each = lawful.referents_named.each };
   referents = lawful.referents;
   tables = each_inserted state.tables (IsTable state.routes) name table is lawful.tables;
-  views = views-table_put state name table lawful no_view;
-  view_order = lawful.view_order;
+  views = record { each = views-table_put state name table lawful no_view still; order = lawful.views.order };
   alignments = lawful.alignments;
   indexes = indexes;
   cursors = lawful.cursors;
@@ -159,6 +158,8 @@ table_defined-lawful state kind name columns sound lawful =
     through (may_change state) _ (λ y change. record {
       lawful = table_put state name (empty_table kind columns) lawful
           (either_false (has state.tables name) (has state.views name) (not_true (has_table_or_view state name) (passed _ NameTaken u new))).1
+          (λ n one at. still_same (names.insert state.tables name (empty_table kind columns)) n one
+          (still_there state.tables name (empty_table kind columns) n one (either_false (has state.tables name) (has state.views name) (not_true (has_table_or_view state name) (passed _ NameTaken u new))).0 at))
           (table-empty state.routes name kind columns sound.0 (record {
             some = sound.1;
             few = leb-true (length columns) COLUMNS (passed _ Limit w few);
@@ -173,9 +174,9 @@ table_defined-lawful state kind name columns sound lawful =
     })))))
 
 -- a table that is there has other facts
-table_changed : (state : State) (name : Name) (table changed : Table) → IsLawful state → names.get state.tables name ≡ Some table → changed.columns ≡ table.columns → IsTable state.routes name changed → state.changes + 1 ≤ CHANGES → IsLawful (with_table state name changed)
-table_changed state name table changed lawful there columns is change =
-    table_put state name changed lawful (table_no_view state name lawful (ap is_some there)) is
+table_changed : (state : State) (name : Name) (table changed : Table) → IsLawful state → names.get state.tables name ≡ Some table → changed.kind ≡ table.kind → changed.columns ≡ table.columns → IsTable state.routes name changed → state.changes + 1 ≤ CHANGES → IsLawful (with_table state name changed)
+table_changed state name table changed lawful there kind columns is change =
+    table_put state name changed lawful (table_no_view state name lawful (ap is_some there)) (put_still state.tables name table changed there kind columns) is
     (each_weaker state.indexes (IsIndex state.tables) (IsIndex (names.insert state.tables name changed)) (index-table_changed state.tables name table changed there columns) lawful.indexes)
     (len_same state.tables name changed TABLES (ap is_some there) lawful.limits.tables) change
 
@@ -190,7 +191,7 @@ inserted-lawful state name route place row sound lawful =
     let is_there = was_found (names.get state.tables name) NoSuchName table there in
     let kind = same_kind-same table.kind (location_kind place) (passed _ PointOrLineWanted u kinds) in
     record {
-      lawful = table_changed state name table (with_facts_along table route span.0 span.1 row) lawful is_there refl
+      lawful = table_changed state name table (with_facts_along table route span.0 span.1 row) lawful is_there refl refl
           (row-along state.routes name table route ends span row
           (was_found (names.get state.routes route) NoSuchRoute ends on)
           (λ k low high. subst (λ q. MayHoldAt q k ends) (sym kind) (event-lies state route ends place span lies k low high))
@@ -208,7 +209,7 @@ removed-lawful state name window condition lawful =
     through (may_change state) _ (λ u change.
     let is_there = was_found (names.get state.tables name) NoSuchName table there in
     record {
-      lawful = table_changed state name table (without_facts table (window_route window) span.0 span.1 goes) lawful is_there refl
+      lawful = table_changed state name table (without_facts table (window_route window) span.0 span.1 goes) lawful is_there refl refl
           (table-less state.routes name table (window_route window) span.0 span.1 goes (lawful.tables name table is_there))
           (one_change state u change);
     })))))
@@ -224,8 +225,7 @@ table_dropped-lawful state name lawful =
         referents_named = record { each = lawful.referents_named.each };
         referents = lawful.referents;
         tables = each_removed state.tables (IsTable state.routes) name lawful.tables;
-        views = views-table_gone state name lawful (not_true (some_view state (names_query name)) (passed _ InUse u unused));
-        view_order = lawful.view_order;
+        views = record { each = views-table_gone state name lawful (not_true (some_view state (names_query name)) (passed _ InUse u unused)); order = lawful.views.order };
         alignments = lawful.alignments;
         indexes = indexes-table_gone state name lawful.indexes;
         cursors = lawful.cursors;
@@ -255,8 +255,7 @@ index_defined-lawful state name of column named lawful =
         referents_named = record { each = lawful.referents_named.each };
         referents = lawful.referents;
         tables = lawful.tables;
-        views = views-indexes state (names.insert state.indexes name index) (state.changes + 1) lawful;
-        view_order = lawful.view_order;
+        views = record { each = views-indexes state (names.insert state.indexes name index) (state.changes + 1) lawful; order = lawful.views.order };
         alignments = lawful.alignments;
         indexes = each_inserted state.indexes (IsIndex state.tables) name index is lawful.indexes;
         cursors = lawful.cursors;
@@ -274,8 +273,7 @@ index_dropped-lawful state name lawful =
         referents_named = record { each = lawful.referents_named.each };
         referents = lawful.referents;
         tables = lawful.tables;
-        views = views-indexes state (names.remove state.indexes name) (state.changes + 1) lawful;
-        view_order = lawful.view_order;
+        views = record { each = views-indexes state (names.remove state.indexes name) (state.changes + 1) lawful; order = lawful.views.order };
         alignments = lawful.alignments;
         indexes = each_removed state.indexes (IsIndex state.tables) name lawful.indexes;
         cursors = lawful.cursors;
@@ -299,8 +297,7 @@ view_defined-lawful state name query named sound lawful =
         referents_named = record { each = lawful.referents_named.each };
         referents = lawful.referents;
         tables = lawful.tables;
-        views = views-view_more state name query lawful none is.known named sound is.alignments is.windows is.few_nodes is.not_deep;
-        view_order = order-view_more state name query lawful none is.known;
+        views = record { each = views-view_more state name query lawful none is.known named sound made is; order = order-view_more state name query lawful none is.known };
         alignments = lawful.alignments;
         indexes = lawful.indexes;
         cursors = lawful.cursors;
@@ -321,8 +318,7 @@ view_dropped-lawful state name lawful =
         referents_named = record { each = lawful.referents_named.each };
         referents = lawful.referents;
         tables = lawful.tables;
-        views = views-view_gone state name dropped lawful is_there free;
-        view_order = order-view_gone state name dropped lawful is_there free;
+        views = record { each = views-view_gone state name dropped lawful is_there free; order = order-view_gone state name dropped lawful is_there free };
         alignments = lawful.alignments;
         indexes = lawful.indexes;
         cursors = lawful.cursors;
@@ -348,8 +344,7 @@ alignment_defined-lawful state name written named some lawful =
         referents_named = record { each = lawful.referents_named.each };
         referents = lawful.referents;
         tables = lawful.tables;
-        views = views-alignment_more state name pieces lawful;
-        view_order = lawful.view_order;
+        views = record { each = views-alignment_more state name pieces lawful (not_true (has state.alignments name) (passed _ NameTaken u new)); order = lawful.views.order };
         alignments = each_inserted state.alignments (IsAlignment state.routes) name pieces (record { named = named; some = omega arith; few = omega arith; lie = are.lie }) lawful.alignments;
         indexes = lawful.indexes;
         cursors = lawful.cursors;
@@ -367,8 +362,7 @@ alignment_dropped-lawful state name lawful =
         referents_named = record { each = lawful.referents_named.each };
         referents = lawful.referents;
         tables = lawful.tables;
-        views = views-alignment_gone state name lawful (not_true (some_view state (names_alignment name)) (passed _ InUse u unused));
-        view_order = lawful.view_order;
+        views = record { each = views-alignment_gone state name lawful (not_true (some_view state (names_alignment name)) (passed _ InUse u unused)); order = lawful.views.order };
         alignments = each_removed state.alignments (IsAlignment state.routes) name lawful.alignments;
         indexes = lawful.indexes;
         cursors = lawful.cursors;
@@ -380,15 +374,14 @@ alignment_dropped-lawful state name lawful =
 
 -- one route has other referents
 referents_put : (state : State) (route : Name) (referents : Names ℕ) → IsLawful state → Each referents (λ name measure. IsName name) → Each referents (IsReferent state.routes route)
-    → Each state.views (IsView (with_referents state route referents)) → names.len referents ≤ REFERENTS → state.changes + 1 ≤ CHANGES → IsLawful (with_referents state route referents)
+    → Each state.views (IsViewMeant (with_referents state route referents)) → names.len referents ≤ REFERENTS → state.changes + 1 ≤ CHANGES → IsLawful (with_referents state route referents)
 unfolding referents_at
 referents_put state route referents lawful named are views few change = record {
   routes = lawful.routes;
   referents_named = record { each = λ r. named_at r (same_name r route) };
   referents = λ r. lie_at r (same_name r route) refl;
   tables = lawful.tables;
-  views = views;
-  view_order = lawful.view_order;
+  views = record { each = views; order = lawful.views.order };
   alignments = lawful.alignments;
   indexes = lawful.indexes;
   cursors = lawful.cursors;
@@ -538,3 +531,6 @@ outcome-lawful state session (fetch name rows) below sound lawful = rows_fetched
 outcome-lawful state session (close_cursor name) below sound lawful = cursor_closed-lawful state session name lawful
 outcome-lawful state session save below sound lawful = record { lawful = lawful }
 outcome-lawful state session reopen below sound lawful = record { lawful = with_other_cursors state no_cursors lawful none-cursors }
+
+pub step-lawful : (state : State) (session : ℕ) (tree : CommandTree) (effect : Effect) → session < SESSIONS → IsSound tree → IsLawful state → outcome state session tree ≡ Ok effect → IsLawful effect.state
+step-lawful state session tree effect below sound lawful is = let kept : Keeps (Ok effect) = subst Keeps is (outcome-lawful state session tree below sound lawful) in kept.lawful

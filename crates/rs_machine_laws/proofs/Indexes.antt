@@ -13,8 +13,9 @@ use Rattle.rs_syntax.specs.Sound.{IsName}
 use Rattle.rs_machine.specs.declared.limits.TheConstants.{SESSIONS, CURSORS}
 use Rattle.rs_machine.specs.State.{RowText, Cursors, State, no_cursors, has, cursors_at}
 use Rattle.rs_machine.specs.Step.{is_of_another, indexes_of_others}
-use Rattle.rs_machine.specs.Lawful.{Each, IsView, IsIndex, AreCursors, IsLawful}
+use Rattle.rs_machine.specs.Lawful.{Each, IsIndex, AreCursors, IsLawful}
 use Rattle.rs_machine.proofs.NameOrder.{name_cmp-total, name_cmp-antisymmetric}
+use Rattle.rs_machine_laws.proofs.Views.{views-cursors}
 use Rattle.rs_machine_laws.proofs.Names.{false_true, none_some, some_same, same_name-true, same_name-back, each_empty, each_inserted, each_removed, removed_other, still_there, len_none, len_more, len_same, len_less}
 
 -- ---- indexes
@@ -158,18 +159,6 @@ pub fewer_indexes : (state : State) (name : Name) (most : ℕ) → names.len sta
 unfolding indexes_of_others
 fewer_indexes state name most few = len-retained (λ n. is_of_another name (names.get state.indexes n)) state.indexes most few
 
--- ---- views, which say nothing of indexes and cursors
-
-pub views-indexes : (state : State) (indexes : Names IndexedColumn) (changes : ℕ) → IsLawful state → Each state.views (IsView (record state { indexes = indexes; changes = changes }))
-views-indexes state indexes changes lawful name query there =
-    let is = lawful.views name query there in
-    record { named = is.named; sound = is.sound; no_table = is.no_table; known = is.known; alignments = is.alignments; windows = is.windows; few_nodes = is.few_nodes; not_deep = is.not_deep }
-
-views-cursors : (state : State) (cursors : ℕ → Cursors) → IsLawful state → Each state.views (IsView (record state { cursors = cursors }))
-views-cursors state cursors lawful name query there =
-    let is = lawful.views name query there in
-    record { named = is.named; sound = is.sound; no_table = is.no_table; known = is.known; alignments = is.alignments; windows = is.windows; few_nodes = is.few_nodes; not_deep = is.not_deep }
-
 -- ---- cursors
 
 pub none-cursors : (session : ℕ) → AreCursors session (no_cursors session)
@@ -186,8 +175,7 @@ with_other_cursors state cursors lawful are = record {
   referents_named = record { each = lawful.referents_named.each };
   referents = lawful.referents;
   tables = lawful.tables;
-  views = views-cursors state cursors lawful;
-  view_order = lawful.view_order;
+  views = record { each = views-cursors state cursors lawful; order = lawful.views.order };
   alignments = lawful.alignments;
   indexes = lawful.indexes;
   cursors = are;

@@ -4,6 +4,8 @@ pub mod Opening
 mod ViewOrder
 mod Checked
 mod Windows
+mod Passing
+mod Keeping
 mod Views
 mod Rows
 mod Alignments

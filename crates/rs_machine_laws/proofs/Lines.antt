@@ -71,8 +71,7 @@ fresh-lawful = record {
   referents_named = record { each = λ route. each_empty _ };
   referents = λ route. each_empty _;
   tables = each_empty _;
-  views = each_empty _;
-  view_order = none_in_order;
+  views = record { each = each_empty _; order = none_in_order };
   alignments = each_empty _;
   indexes = each_empty _;
   cursors = none-cursors;

@@ -1,5 +1,5 @@
 -- A query that is checked has as many nodes as it is written with, its views opened.
-use Rattle.std.proofs.Common.{◌≡◌, ◌+◌, not, ◌||◌, length, Ok, refl, ap, subst, arith}
+use Rattle.std.proofs.Common.{◌≡◌, ◌+◌, not, ◌||◌, length, Ok, refl, ap, subst}
 use Rattle.std.specs.List.{list_any}
 use Rattle.rs_refusal.specs.declared.refusal.Refusal.TheVariants.{ColumnTwice}
 use Rattle.rs_facts.specs.Insert.{same_name}

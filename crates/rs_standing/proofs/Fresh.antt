@@ -15,6 +15,7 @@ use Rattle.rs_contents.specs.Creating.{no_contents}
 use Rattle.rs_facts.specs.Fact.{Name, Names, name_cmp}
 use Rattle.rs_facts.specs.Query.{RouteEnds, Table}
 use Rattle.rs_facts.specs.Runs.{Stretch}
+use Rattle.rs_machine.specs.Lawful.{AreViewsMeant}
 use Rattle.rs_machine.specs.State.{State, fresh, no_cursors, no_referents}
 use Rattle.rs_pages.specs.PageMap.{PageMap}
 use Rattle.rs_planning.specs.Basis.{IndexedColumn}
@@ -22,7 +23,6 @@ use Rattle.rs_syntax.specs.Tree.{QueryTree}
 use Rattle.rs_standing.specs.Seen.{referents_seen, spans_seen}
 use Rattle.rs_standing.specs.Standing.{StandsFor}
 use Rattle.rs_standing.specs.States.{AreDefinitionsAt, IsViewOf}
-use Rattle.rs_standing.specs.Views.{AreViewsMeant}
 
 none_there : {X P : Type 0} (name : Name) (x : X) → names.get (names.empty {X = X} {R = name_cmp}) name ≡ Some x → P
 none_there name x there = absurd (none-some x (sym (get-empty name_cmp name) ∙ there))

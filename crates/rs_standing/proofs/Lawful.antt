@@ -24,7 +24,7 @@ use Rattle.rs_facts.proofs.Sets.{contains-none}
 use Rattle.rs_facts.proofs.SpanLaws.{Covers-from_contains}
 use Rattle.rs_machine.specs.Checks.{column_types}
 use Rattle.rs_machine.specs.Lawful as lawful
-use Rattle.rs_machine.specs.Lawful.{IsLawful, IsPlaceOf, MayHoldAt}
+use Rattle.rs_machine.specs.Lawful.{AreViewsMeant, IsLawful, IsPlaceOf, MayHoldAt}
 use Rattle.rs_machine.specs.State.{State, no_cursors}
 use Rattle.rs_machine.specs.declared.limits.TheConstants.{ALIGNMENTS, INDEXES, REFERENTS, ROUTES, TABLES, VIEWS}
 use Rattle.rs_pages.specs.PageMap.{PageMap}
@@ -44,7 +44,6 @@ use Rattle.rs_versioned.specs.Records.{is_seen}
 use Rattle.rs_standing.specs.Meant.{AreReferentsMeant, IsEventOn, IsMeant, IsReferentOn, IsSpanOf, IsTableMeant, OnRoute}
 use Rattle.rs_standing.specs.Seen.{born_by, events_of, referents_seen, spans_seen}
 use Rattle.rs_standing.specs.Standing.{StandsFor}
-use Rattle.rs_standing.specs.Views.{AreViewsMeant}
 use Rattle.rs_standing.specs.States.{AreDefinitionsAt, IsViewOf, named_index, named_route, named_table, routes_named}
 use Rattle.rs_standing.proofs.Named.{HasItem, found_item, get_there, item_of, len_by, values_changed}
 use Rattle.rs_standing.proofs.Picked.{HasTable, as_many, beside, born_all, each_kept, kept_passes, kept_there, same_numbered, source_of, table_of}
@@ -318,8 +317,7 @@ module _ (pages : PageMap) (contents : Contents) (definitions : Definitions) (ho
         referents_named = record { each = each_named };
         referents = each_referent;
         tables = each_table fit;
-        views = λ name query there. (views.each name query there).is;
-        view_order = views.order;
+        views = views;
         alignments = subst (λ (alignments : Names (List Piece)). lawful.Each alignments (lawful.IsAlignment state.routes)) (sym are.alignments)
             (subst (λ (routes : Names RouteEnds). lawful.Each (stating.alignments_of catalogue.routes catalogue.alignments) (lawful.IsAlignment routes)) (sym routes_are) base.alignments);
         indexes = subst (λ (indexes : Names IndexedColumn). lawful.Each indexes (lawful.IsIndex state.tables)) (sym indexes_are)

@@ -15,8 +15,3 @@ mod Next
 mod Changed
 mod OneLater
 mod Redefined
-mod Opened
-mod Passing
-mod Keeping
-mod ViewSteps
-mod ViewLines

@@ -4,4 +4,3 @@ pub mod Meant
 pub mod Seen
 pub mod Standing
 pub mod States
-pub mod Views

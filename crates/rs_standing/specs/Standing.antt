@@ -2,13 +2,13 @@
 use Rattle.std.specs.Prelude.{◌≡◌, ◌≤◌, ℕ}
 use Rattle.rs_contents.specs.Contents.{Contents, HoldsAll}
 use Rattle.rs_disk.specs.Content.{Content}
+use Rattle.rs_machine.specs.Lawful.{AreViewsMeant}
 use Rattle.rs_machine.specs.State.{State}
 use Rattle.rs_page.specs.declared.file_header.TheConstants.{FLAG_OFFSET}
 use Rattle.rs_pager.specs.Stored.{Stores}
 use Rattle.rs_pages.specs.PageMap.{PageMap}
 use Rattle.rs_standing.specs.Meant.{IsMeant}
 use Rattle.rs_standing.specs.States.{IsState}
-use Rattle.rs_standing.specs.Views.{AreViewsMeant}
 
 -- The pages hold these contents, which are meant and have this state, without cursors. With no cursor the present version is the
 -- oldest.

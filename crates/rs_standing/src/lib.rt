@@ -6,4 +6,3 @@
 pub mod changes;
 pub mod standing;
 pub mod versions;
-pub mod views;

@@ -1,5 +1,5 @@
 -- A query that passes the checks of its nodes passes them, each window as wide as its route, where what it names is kept.
-use Rattle.std.proofs.Common.{◌≡◌, ◌∙◌, ℕ, zero, suc, ◌||◌, not, List, ◌++◌, length, map, Option, Some, None, Result, Ok, Err, refl, sym, ap}
+use Rattle.std.proofs.Common.{◌≡◌, ◌∙◌, ℕ, zero, suc, ◌||◌, not, List, ◌++◌, length, map, Option, Some, None, Result, Ok, refl, sym, ap}
 use Rattle.std.specs.Prelude.{unwrap_or}
 use Rattle.std.specs.FinMap as names
 use Rattle.std.specs.List.{list_any}
@@ -8,34 +8,14 @@ use Rattle.rs_facts.specs.Insert.{same_name}
 use Rattle.rs_facts.specs.Query.{Column, Piece, Query, RouteEnds, Table, Window, between, column_at, columns_of, cover_rows, dissolve_rows, kind_of, merge_rows, minus_rows, on_route, overlaid_kind, overlay_rows, rename_column, renamed_at, table_columns, table_kind, table_rows, transform_rows, where_rows, window_rows}
 use Rattle.rs_machine.specs.Checking.{alike, column_place, column_places, condition_checked, cover_checked, dissolve_checked, filter_checked, may_stand_together, nodes_checked, overlay_checked, rename_checked, same_columns, window_checked}
 use Rattle.rs_machine.specs.Checks.{◌>>=◌, alignment_named, column_names, found, route_named, same_kind, some_name_twice, span_on, table_named, unless, window_route}
-use Rattle.rs_machine.specs.Lawful.{Each}
+use Rattle.rs_machine.specs.Lawful.{Each, IsLawful, widened}
 use Rattle.rs_machine.specs.Opening.{opened, opened_once, opened_times}
 use Rattle.rs_machine.specs.State.{State, world_of}
 use Rattle.rs_refusal.specs.declared.refusal.Refusal.{Refusal}
 use Rattle.rs_refusal.specs.declared.refusal.Refusal.TheVariants.{ColumnTwice, ColumnsDiffer, KindsDiffer, NoSuchName, NoSuchRoute}
 use Rattle.rs_syntax.specs.Tree.{QueryTree, WindowTree, covered, dissolved, filtered, merged, named, overlaid, part_of_route, renamed, subtracted, transformed, whole_route, windowed}
 use Rattle.rs_value.specs.declared.column.Kind.{Kind}
-use Rattle.rs_standing.specs.Views.{widened}
-
--- ---- checks that let something through
-
-pub ok_same : {A : Type 0} (a b : A) → ◌≡◌ {A = Result A Refusal} (Ok a) (Ok b) → a ≡ b
-ok_same {A} a b e = ap (elim_ok a) e
-  where
-    elim_ok : A → Result A Refusal → A
-    elim_ok other (Ok x) = x
-    elim_ok other (Err r) = other
-
-pub err_ok : {A P : Type 0} (r : Refusal) (a : A) → ◌≡◌ {A = Result A Refusal} (Err r) (Ok a) → P
-err_ok r a e = cc
-
-pub then_ok : {A B : Type 0} (check : Result A Refusal) (next : A → Result B Refusal) (made : B) → (check >>= next) ≡ Ok made → (a : A) × (check ≡ Ok a) × (next a ≡ Ok made)
-then_ok (Ok a) next made e = (a, refl, e)
-then_ok (Err refusal) next made e = err_ok refusal made e
-
-pub was_found : {X : Type 0} (o : Option X) (refusal : Refusal) (x : X) → found o refusal ≡ Ok x → o ≡ Some x
-was_found (Some y) refusal x e = ap Some (ok_same y x e)
-was_found None refusal x e = err_ok refusal x e
+use Rattle.rs_machine_laws.proofs.Checked.{ok_same, then_ok, was_found}
 
 -- ---- windows
 
@@ -51,7 +31,7 @@ widened_twice (subtracted a b) = λ i. subtracted (widened_twice a i) (widened_t
 widened_twice (windowed query window) = ap (λ q. windowed q (whole_route (window_route window))) (widened_twice query)
 widened_twice (transformed query alignment) = ap (λ q. transformed q alignment) (widened_twice query)
 
-abbrev HasRoute : State → Name → Type 0
+abbrev pub HasRoute : State → Name → Type 0
 HasRoute state route = (ends : RouteEnds) × (names.get state.routes route ≡ Some ends)
 
 window_there : (state : State) (window : WindowTree) (located : Window) → window_checked state window ≡ Ok located → HasRoute state (window_route window)
@@ -325,3 +305,13 @@ module _ (old new : State) where
   passes_wide query kept was e =
       let wide = passes (widened query) (kept_widened query kept) was e in
       (wide.made, sym (ap (nodes_checked new) (widened_twice query)) ∙ wide.is)
+
+-- its nodes pass their checks, each window as wide as its route
+abbrev pub Passing : State → QueryTree → Type 0
+Passing state query = (made : Query) × (nodes_checked state (widened query) ≡ Ok made)
+
+-- what passed in the one state passes in the other, opened in the same way
+pub pass_on : (old new : State) → IsLawful old → Each old.views (λ name query. Kept old new query) → Each old.views (λ name query. Passing new (opened old.views query))
+pass_on old new lawful kept name query there =
+    let is = lawful.views.each name query there in
+    passes_wide old new (opened old.views query) (kept_opened old new kept query (kept name query there)) is.checked is.passes
