@@ -22,3 +22,4 @@ mod Runs
 mod Tokens
 mod PositionTokens
 mod PrintedPositions
+mod ViewLines

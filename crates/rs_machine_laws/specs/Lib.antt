@@ -1,2 +1,3 @@
 pub mod TokensSay
 pub mod PrintedPositions
+pub mod ViewLines

@@ -8,3 +8,4 @@ pub mod lawful;
 pub mod plans;
 pub mod positions;
 pub mod printed;
+pub mod view_lines;

@@ -1,5 +1,5 @@
 mod Cuts
-mod MovedTexts
-mod MovedQueries
-mod ViewTexts
+pub mod MovedTexts
+pub mod MovedQueries
+pub mod ViewTexts
 mod Selected

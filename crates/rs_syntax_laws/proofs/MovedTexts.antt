@@ -17,7 +17,7 @@ pub kinds_of-moved : (move : ℕ → ℕ) (tokens : List Token) → kinds_of (ma
 kinds_of-moved move [] = refl
 kinds_of-moved move (token ∷ tokens) = ap (λ ks. token.kind ∷ ks) (kinds_of-moved move tokens)
 
-slice_index-drop : (bytes : List ℕ) (place : ℕ) → slice_index (drop place bytes) 0 ≡ slice_index bytes place
+pub slice_index-drop : (bytes : List ℕ) (place : ℕ) → slice_index (drop place bytes) 0 ≡ slice_index bytes place
 slice_index-drop bytes place = get_or-drop place bytes 0 0 ∙ ap (slice_index bytes) (add-zero place)
 
 -- From a low place on, the other line has at the moved places what the line has.

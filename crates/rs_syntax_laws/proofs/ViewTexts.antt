@@ -1,5 +1,6 @@
 -- The text of a view's query says that query by itself.
-use Rattle.std.proofs.Common.{◌≡◌, ℕ, ◌-◌, true, false, List, [], ◌∷◌, length, drop, map, Ok, refl, sym, ap, ◌∙◌, subst}
+use Rattle.std.proofs.Common.{◌≡◌, ℕ, ◌-◌, true, false, List, [], ◌∷◌, length, take, drop, map, Ok, refl, sym, ap, ◌∙◌, subst, arith}
+use Rattle.std.proofs.Math.Seq.{take-length}
 use Rattle.std.specs.Prelude.{if◌then◌else◌}
 use Rattle.std.proofs.lemmas.List.{drop-map}
 use Rattle.rs_grammar.specs.declared.kind.TokenKind.{TokenKind}
@@ -8,6 +9,7 @@ use Rattle.rs_grammar.specs.Grammar as grammar
 use Rattle.rs_grammar.specs.Grammar.{Form, fail, pick, rules, Derives, nothing, this, that, part, IsShallow}
 use Rattle.rs_lexer.specs.declared.token.Token.{Token}
 use Rattle.rs_lexer.specs.Lexis.{kinds_of, AreTokensFrom}
+use Rattle.rs_lexer.proofs.CutLaws.{cut_same}
 use Rattle.rs_syntax.specs.Tree.{QueryTree, define_view}
 use Rattle.rs_syntax.specs.Written.{Lexeme, mark, told, has_text, lexeme_of, lexemes_of, QuerySyntax, query_lexemes, SaysQuery, end_of, text_of_tokens, Written, written_route, written_table, written_referent, written_index, written_view, written_alignment, written_move, written_drop_route, written_drop_table, written_drop_index, written_drop_view, written_drop_alignment, written_drop_referent, written_insert, written_remove, written_translate, written_select, written_total, written_explain, written_open, written_fetch, written_close, written_save, written_reopen, Says, view_text}
 use Rattle.rs_syntax.specs.Verdict.{IsWritten, is_command, Reads, has_tokens}
@@ -122,3 +124,22 @@ said_by line from name query text tokens written cut is says =
 -- the text of a view that a line defines
 pub view_says : (line : List ℕ) (from : ℕ) (name : List ℕ) (query : QueryTree) (text : List ℕ) → Reads line from (Ok (define_view name query text)) → TextSaysQuery text query
 view_says line from name query text (has_tokens tokens answer cut (is_command written tree is says)) = said_by line from name query text tokens written cut is says
+
+-- the tokens of a text that a line keeps begin with it, and end with it
+pub nothing_around : (line : List ℕ) (place : ℕ) (tokens : List Token) → AreTokensFrom line place tokens → text_of_tokens (text_of_tokens line tokens) (from_the_first tokens) ≡ text_of_tokens line tokens
+nothing_around line place [] cut = refl
+nothing_around line place (token ∷ tokens) cut =
+    let text = text_of_tokens line (token ∷ tokens) in
+    let none : token.first - token.first ≡ 0 = omega arith in
+    let all : end_of (from_the_first (token ∷ tokens)) ≡ length text = text_ends line place (token ∷ tokens) cut in
+    let count : end_of (from_the_first (token ∷ tokens)) - (token.first - token.first) ≡ length text = omega (arith, all) in
+    ap (λ n. take n (drop (token.first - token.first) text)) count ∙ ap (λ n. take (length text) (drop n text)) none ∙ take-length text
+
+-- the text of a view that a line defines is all that its tokens take
+pub view_whole : (line : List ℕ) (from : ℕ) (name : List ℕ) (query : QueryTree) (text : List ℕ) → Reads line from (Ok (define_view name query text))
+    → (tokens : List Token) → AreTokensFrom text 0 tokens → text_of_tokens text tokens ≡ text
+view_whole line from name query text (has_tokens tokens answer cut (is_command written tree is says)) others other =
+    let kept : text ≡ view_text line tokens = (view_said line tokens name query text written says).4 in
+    let last = last_cut line 4 from tokens cut in
+    let same : others ≡ from_the_first (drop 4 tokens) = cut_same text other (from_the_first (drop 4 tokens)) (subst (λ bytes. AreTokensFrom bytes 0 (from_the_first (drop 4 tokens))) (sym kept) (view_cut line from tokens cut)) in
+    subst (λ ts. text_of_tokens text ts ≡ text) (sym same) (subst (λ bytes. text_of_tokens bytes (from_the_first (drop 4 tokens)) ≡ bytes) (sym kept) (nothing_around line last.0 (drop 4 tokens) last.1))
