@@ -23,3 +23,4 @@ mod Tokens
 mod PositionTokens
 mod PrintedPositions
 mod ViewLines
+mod ShortestLines

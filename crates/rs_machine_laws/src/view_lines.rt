@@ -1,13 +1,23 @@
 //! The shortest line that defines a view says what any line that defines it says.
 
-ghost use Rattle.std.specs.Prelude.{List, Ok, ℕ};
+ghost use Rattle.std.specs.Prelude.{◌≤◌, length, List, Ok, ℕ};
+ghost use Rattle.rs_machine.specs.declared.limits.TheConstants.{LINE_BYTES};
+ghost use Rattle.rs_machine.specs.Request.{Asks, command};
 ghost use Rattle.rs_machine_laws.specs.ViewLines.{shortest_view_line};
 ghost use Rattle.rs_syntax.specs.Sound.{IsName};
 ghost use Rattle.rs_syntax.specs.Tree.{QueryTree, define_view};
 ghost use Rattle.rs_syntax.specs.Verdict.{Reads};
 
-/// Where some line defines a view, the shortest line that could defines it too, with the same query and text.
+use rs_syntax::command_of_a_line_is_sound;
+
+/// Where some line defines a view, the shortest line that could says so too, with the same query and text: by its words, and by
+/// session 0 where it is no longer than a line may be.
 pub fn shortest_line_defines_the_view()
-    ensures { (line : List ℕ) (from : ℕ) (name : List ℕ) (query : QueryTree) (text : List ℕ) → IsName name
+    ensures words { (line : List ℕ) (from : ℕ) (name : List ℕ) (query : QueryTree) (text : List ℕ) → IsName name
         → Reads line from (Ok (define_view name query text)) → Reads (shortest_view_line name text) 1 (Ok (define_view name query text)) }
-{}
+    ensures line { (line : List ℕ) (session : ℕ) (name : List ℕ) (query : QueryTree) (text : List ℕ)
+        → Asks line (command session (define_view name query text)) → length (shortest_view_line name text) ≤ LINE_BYTES
+        → Asks (shortest_view_line name text) (command 0 (define_view name query text)) }
+{
+    command_of_a_line_is_sound();
+}

@@ -1,4 +1,4 @@
-mod Cuts
+pub mod Cuts
 pub mod MovedTexts
 pub mod MovedQueries
 pub mod ViewTexts

@@ -143,3 +143,10 @@ view_whole line from name query text (has_tokens tokens answer cut (is_command w
     let last = last_cut line 4 from tokens cut in
     let same : others ≡ from_the_first (drop 4 tokens) = cut_same text other (from_the_first (drop 4 tokens)) (subst (λ bytes. AreTokensFrom bytes 0 (from_the_first (drop 4 tokens))) (sym kept) (view_cut line from tokens cut)) in
     subst (λ ts. text_of_tokens text ts ≡ text) (sym same) (subst (λ bytes. text_of_tokens bytes (from_the_first (drop 4 tokens)) ≡ bytes) (sym kept) (nothing_around line last.0 (drop 4 tokens) last.1))
+
+-- it is the text of some tokens of the line
+pub view_cut_out : (line : List ℕ) (from : ℕ) (name : List ℕ) (query : QueryTree) (text : List ℕ) → Reads line from (Ok (define_view name query text))
+    → (place : ℕ) × (tokens : List Token) × AreTokensFrom line place tokens × (text ≡ text_of_tokens line tokens)
+view_cut_out line from name query text (has_tokens tokens answer cut (is_command written tree is says)) =
+    let last = last_cut line 4 from tokens cut in
+    (last.0, drop 4 tokens, last.1, (view_said line tokens name query text written says).4)
