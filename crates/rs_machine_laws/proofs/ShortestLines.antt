@@ -1,6 +1,6 @@
 -- The shortest line of a view is a line of session 0.
-use Rattle.std.proofs.Common.{◌≡◌, ◌≢◌, ◌∙◌, ℕ, zero, suc, ◌+◌, ◌-◌, ◌<◌, ◌≤◌, Bool, true, false, ◌&&◌, ◌||◌, not, List, [], ◌∷◌, ◌++◌, length, take, drop, Some, None, Ok, refl, sym, ap, subst, arith}
-use Rattle.std.specs.Prelude.{◌==◌, IsTrue, codes, nat_le, nat_lt, slice_index, if◌then◌else◌}
+use Rattle.std.proofs.Common.{◌≡◌, ◌∙◌, ℕ, zero, suc, ◌-◌, ◌<◌, ◌≤◌, Bool, true, false, ◌&&◌, ◌||◌, not, List, [], ◌∷◌, ◌++◌, length, take, drop, Some, Ok, refl, sym, ap, subst, arith}
+use Rattle.std.specs.Prelude.{◌==◌, IsTrue, codes, nat_le, nat_lt, if◌then◌else◌}
 use Rattle.std.specs.Char.{is_ascii_alphabetic}
 use Rattle.std.specs.List.{AllByRecursion, list_all, list_any}
 use Rattle.std.specs.Str.{IsAscii, IsCharBoundary, IsUtf8, is_utf8}
@@ -25,7 +25,7 @@ use Rattle.rs_syntax_laws.proofs.Cuts.{end_after, from_first}
 use Rattle.rs_syntax_laws.proofs.ViewTexts.{view_cut_out}
 use Rattle.rs_value.specs.Values.{is_control, is_text}
 use Rattle.rs_machine.specs.declared.limits.TheConstants.{LINE_BYTES}
-use Rattle.rs_machine.specs.Request.{Asks, CARRIAGE_RETURN, command, line_refusal, session_digits, without_return}
+use Rattle.rs_machine.specs.Request.{Asks, CARRIAGE_RETURN, command, session_digits, without_return}
 use Rattle.rs_machine.proofs.ReadableLines.{readable_text}
 use Rattle.rs_machine_laws.specs.ViewLines.{shortest_view_line}
 use Rattle.rs_machine_laws.proofs.Names.{either_false}

@@ -1,8 +1,8 @@
 -- The shortest line of a view says what the line that defines it says.
-use Rattle.std.proofs.Common.{◌≡◌, ◌∙◌, ℕ, suc, ◌+◌, ◌-◌, List, [], ◌∷◌, ◌++◌, length, take, drop, map, Some, Result, Ok, refl, sym, ap, subst, length-drop, arith}
-use Rattle.std.specs.Prelude.{◌<◌, codes, slice_index, IsTrue}
+use Rattle.std.proofs.Common.{◌≡◌, ◌∙◌, ℕ, ◌+◌, ◌-◌, List, [], ◌∷◌, ◌++◌, length, take, drop, map, Some, Ok, refl, sym, ap, subst, length-drop, arith}
+use Rattle.std.specs.Prelude.{codes, slice_index}
 use Rattle.std.specs.List.{AllByRecursion}
-use Rattle.std.proofs.Math.Seq.{drop-drop, take-length}
+use Rattle.std.proofs.Math.Seq.{drop-drop}
 use Rattle.rs_grammar.specs.declared.kind.TokenKind.{TokenKind}
 use Rattle.rs_grammar.specs.declared.kind.TokenKind.TheVariants as kinds
 use Rattle.rs_grammar.specs.Words.{is_word_byte}
@@ -10,14 +10,13 @@ use Rattle.rs_grammar.specs.Grammar as grammar
 use Rattle.rs_grammar.specs.Grammar.{Derives, IsCommand, IsShallow, nothing, part, rules, that, this}
 use Rattle.rs_lexer.specs.declared.token.Token.{Token}
 use Rattle.rs_lexer.specs.Lexis.{AreTokensFrom, at_blank, kinds_of, reserved, token_kind, token_text, word_kind}
-use Rattle.rs_lexer.proofs.CutLaws.{cut_same}
 use Rattle.rs_methods.specs.PositionText.{IsWord}
 use Rattle.rs_syntax.specs.Sound.{IsName}
 use Rattle.rs_syntax.specs.Tree.{QueryTree, define_view}
 use Rattle.rs_syntax.specs.Verdict.{IsWritten, Reads, has_tokens, is_command}
 use Rattle.rs_syntax.specs.Written.{end_of, lexemes_of, mark, query_lexemes, text_of_tokens, told, view_text, written_view}
-use Rattle.rs_syntax_laws.specs.ViewTexts.{TextSaysQuery, from_the_first}
-use Rattle.rs_syntax_laws.proofs.MovedTexts.{HasSameText, kinds_of-moved, moved, moved_cut, slice_index-drop, text_cut, text_ends}
+use Rattle.rs_syntax_laws.specs.ViewTexts.{TextSaysQuery}
+use Rattle.rs_syntax_laws.proofs.MovedTexts.{HasSameText, kinds_of-moved, moved, moved_cut, slice_index-drop}
 use Rattle.rs_syntax_laws.proofs.MovedQueries.{AreKept, kept_of, lexemes_moved, moved_lexemes, query_moved}
 use Rattle.rs_syntax_laws.proofs.ViewTexts.{view_says, view_whole}
 use Rattle.rs_machine_laws.specs.ViewLines.{shortest_view_line}
