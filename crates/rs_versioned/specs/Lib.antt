@@ -1,6 +1,7 @@
 pub mod Calls
 pub mod EventCalls
 pub mod Events
+pub mod Meant
 pub mod Opening
 pub mod ReferentCalls
 pub mod Referents
