@@ -1,5 +1,5 @@
 -- Which records of a version are meant: events that are the maximal runs of a table's facts, and referents, on routes that are there.
-use Rattle.std.specs.Prelude.{◌≢◌, ◌≡◌, ◌≤◌, ℕ, suc, Contains, List, filter, length, map}
+use Rattle.std.specs.Prelude.{◌≢◌, ◌≡◌, ◌≤◌, ◌<◌, ℕ, suc, Contains, List, [], ◌∷◌, filter, length, map}
 use Rattle.std.specs.List.{AllByRecursion}
 use Rattle.rs_facts.specs.Runs.{Stretch}
 use Rattle.rs_machine.specs.Lawful.{AreDistinct}
@@ -13,6 +13,11 @@ use Rattle.rs_versioned.specs.Records.{is_seen}
 use Rattle.rs_versioned.specs.Referents.{ReferentRecord, kept_referents, referents_at}
 use Rattle.rs_versioned.specs.Runs.{AreRunsAt}
 use Rattle.rs_versioned.specs.declared.route_span.RouteSpan.{RouteSpan}
+
+-- each has a number below those of the routes after it
+abbrev pub AreRising : List RouteSpan → Type 0
+AreRising [] = Unit {0}
+AreRising (route ∷ routes) = AllByRecursion (λ later. route.number < later.number) routes × AreRising routes
 
 -- one of the routes has this number, and this is so of it
 pub record HasRoute (routes : List RouteSpan) (number : ℕ) (IsSo : RouteSpan → Type 0) : Type 0 where
