@@ -6,7 +6,7 @@ use Rattle.rs_tree.proofs.Lists.{all_at}
 use Rattle.rs_versioned.specs.Referents.{ReferentRecord, SaysReferent}
 use Rattle.rs_versioned.proofs.CellsWide.{cell_wide}
 use Rattle.rs_versioned.proofs.Opened.{say_next}
-use Rattle.rs_versioned.proofs.opening.check_referents.Goals as goal
+use Rattle.rs_versioned.proofs.meant.say_referents.Goals as goal
 
 pub says_referent-requires : goal.says_referent-requires
 says_referent-requires c = record { width = cell_wide c.args.cells.now c.loop-place.place c.get.result.now c.get.ensures ∙ c.requires.width }
