@@ -11,6 +11,8 @@ pub mod KeptReferents
 pub mod KeptRecords
 pub mod Lifting
 pub mod ReferentCells
+pub mod MeantLists
+pub mod MeantParts
 pub mod NameOrder
 pub mod Numbers
 pub mod OnRoutes
@@ -18,6 +20,7 @@ pub mod Opened
 pub mod Overlapping
 pub mod Present
 pub mod PrintingOrder
+pub mod RisingNames
 pub mod RunsByVersion
 pub mod RunsPrinted
 pub mod SameRuns

@@ -4,8 +4,6 @@
 
 ghost use Rattle.std.specs.Prelude.{◌≡◌, ◌≢◌, ◌↔◌, [], List, IsTrue, filter, length, map, true};
 ghost use Rattle.std.specs.List.{AllByRecursion, AllZip};
-ghost use Rattle.std.specs.Ordering.{is_lt};
-ghost use Rattle.rs_facts.specs.Fact.{name_cmp};
 ghost use Rattle.rs_machine.specs.Lawful.{AreDistinct};
 ghost use Rattle.rs_records.specs.Listed.{listed, record_width};
 ghost use Rattle.rs_cell_versions.specs.Version.{sees};
@@ -19,7 +17,7 @@ use crate::route_span::RouteSpan;
 use rs_cell_versions::sees;
 use rs_machine::limits::REFERENTS;
 use rs_methods::START;
-use rs_records::Cells;
+use rs_records::{Cells, is_below};
 use rs_syntax_laws::are_name_bytes;
 
 /// Whether each cell says a referent, and those that the version sees are meant on the route, where there is one.
@@ -33,10 +31,16 @@ pub(crate) fn are_part_meant(cells: &Cells, on: Option<RouteSpan>, version: u64)
         → AreInNameOrder (map (λ referent. (referent.name, referent.measure)) (seen version referents))
         → ArePartMeant on version referents → IsTrue result }
 {
-    say_referents(cells)
-        && are_meant_on(cells, on, version)
-        && have_own_names(cells, version)
-        && count_seen(cells, version) <= REFERENTS
+    if !say_referents(cells) {
+        return false;
+    }
+    if !are_meant_on(cells, on, version) {
+        return false;
+    }
+    if !have_own_names(cells, version) {
+        return false;
+    }
+    count_seen(cells, version) <= REFERENTS
 }
 
 /// Whether each of the cells says a referent.
@@ -120,20 +124,13 @@ fn have_own_names(cells: &Cells, version: u64) -> bool
         let cell = cells.get(place);
         if sees(version, cell) {
             let name = name_of(cell);
-            if !comes_before(last, name) {
+            if !is_below(last, name) {
                 return false;
             }
             last = name;
         }
     }
     true
-}
-
-/// Whether the one name is before the other, byte by byte.
-fn comes_before(one: &[u8], other: &[u8]) -> bool
-    ensures { result ≡ is_lt (name_cmp one.now other.now) }
-{
-    one < other
 }
 
 /// How many of the cells the version sees.

@@ -1,4 +1,4 @@
--- The cells so far are dated and were counted, and each says a referent.
+-- The cells so far are dated and were counted, each says a referent, and those below the route are meant.
 use Rattle.std.proofs.Common.{◌≡◌, Ok}
 use Rattle.rs_pages.specs.Lending.{RestsAfter}
 use Rattle.rs_cell_versions.specs.Opening.{HasPassed, told_of}
