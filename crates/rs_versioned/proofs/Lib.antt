@@ -12,7 +12,9 @@ pub mod KeptRecords
 pub mod Lifting
 pub mod ReferentCells
 pub mod MeantLists
+pub mod MeantOpened
 pub mod MeantParts
+pub mod MeantRoutes
 pub mod NameOrder
 pub mod Numbers
 pub mod OnRoutes

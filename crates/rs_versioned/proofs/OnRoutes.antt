@@ -79,7 +79,11 @@ begins_lt (suc k) x y xs =
     ∙ digits_lt (byte_at k x) (byte_at k y) (256 ^ k) (x % 256 ^ k) (y % 256 ^ k) (x % 256 ^ suc k) (y % 256 ^ suc k)
     (mod-lt x (above_none k)) (mod-lt y (above_none k)) (digit_more k x) (digit_more k y)
 
-below_word : (x y : ℕ) (xs : List ℕ) → x < 2 ^ 32 → y < 2 ^ 32 → is_below (to_be_bytes w32 x ++ xs) (to_be_bytes w32 y) ≡ nat_lt x y
+pub below_none : (xs : List ℕ) → is_below xs [] ≡ false
+unfolding is_below
+below_none xs = none_lt xs
+
+pub below_word : (x y : ℕ) (xs : List ℕ) → x < 2 ^ 32 → y < 2 ^ 32 → is_below (to_be_bytes w32 x ++ xs) (to_be_bytes w32 y) ≡ nat_lt x y
 unfolding is_below
 below_word x y xs few small =
     begins_lt 4 x y xs ∙ ap (λ (n : ℕ). nat_lt n (y % 2 ^ 32)) (mod-eq_of_lt few) ∙ ap (λ (n : ℕ). nat_lt x n) (mod-eq_of_lt small)

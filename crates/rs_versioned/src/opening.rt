@@ -3,14 +3,15 @@
 //! The cells are read part by part, so that no more than one part is in memory at a time: a part ends where the next of the
 //! routes begins, and so the referents of one route are in one part.
 
-ghost use Rattle.std.specs.Prelude.{◌≡◌, IfOk, length};
+ghost use Rattle.std.specs.Prelude.{◌≡◌, ◌<◌, ◌^◌, IfOk, length};
+ghost use Rattle.std.specs.Int.{w32, to_be_bytes};
 ghost use Rattle.rs_page_marks.specs.Marks.{taken};
 ghost use Rattle.rs_pages.specs.Calls.{OnlyReads};
 ghost use Rattle.rs_versioned.specs.Meant.{AreRising};
 ghost use Rattle.rs_versioned.specs.ReferentCalls.{IsOpened, Opens, RefusesToOpen};
 
 use crate::meant::are_part_meant;
-use crate::referent::REFERENT_BYTES;
+use crate::referent::{REFERENT_BYTES, beginning};
 use crate::referent_table::ReferentTable;
 use crate::route_span::RouteSpan;
 use rs_cell_versions::{Opening, ToldRecords};
@@ -48,7 +49,7 @@ impl ReferentTable {
         )?;
         let mut on = None;
         for route in routes {
-            let cells = opening.part(alloc, pages, &route.number.to_be_bytes())?;
+            let cells = opening.part(alloc, pages, &start_of(route.number))?;
             if !are_part_meant(&cells, on, told.accepted) {
                 return Err(Refusal::DamagedFile);
             }
@@ -60,4 +61,12 @@ impl ReferentTable {
         }
         Ok(ReferentTable::with(versions))
     }
+}
+
+/// The bytes that no cell is below whose referent is on the route of this number or on a later one.
+fn start_of(number: u32) -> [u8; 4]
+    ensures bytes { result ≡ to_be_bytes w32 number }
+    ensures fits { number < 2 ^ 32 }
+{
+    beginning(number)
 }
