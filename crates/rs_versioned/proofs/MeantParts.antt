@@ -1,12 +1,11 @@
 -- Referents are meant where those of each part are that lies between the numbers of two routes.
 use Rattle.std.proofs.Common.{◌≡◌, ◌≤◌, ◌==◌, ℕ, Bool, true, false, cond, ◌&&◌, Option, Some, None, List, [], ◌∷◌, filter, length, map, refl, sym, ap, ◌∙◌, subst, arith}
-use Rattle.std.proofs.lemmas.Bool.{and_parts}
 use Rattle.std.proofs.lemmas.Bool.Decides.{nat_tests}
 use Rattle.std.proofs.lemmas.List.Elements.{All-contains, All-from_recursion, filter_agree}
 use Rattle.std.specs.List.{AllByRecursion, Contains}
 use Rattle.rs_machine.specs.Lawful.{AreDistinct}
 use Rattle.rs_machine.specs.declared.limits.TheConstants.{REFERENTS}
-use Rattle.rs_versioned.specs.Meant.{AreReferentsMeant, HasRoute, IsPlaceOf, IsReferentMeant}
+use Rattle.rs_versioned.specs.Meant.{AreReferentsMeant, IsReferentMeant}
 use Rattle.rs_versioned.specs.MeantParts.{ArePartMeant, IsMeantOn, names_of, seen}
 use Rattle.rs_versioned.specs.Records.{is_seen}
 use Rattle.rs_versioned.specs.Referents.{AreInNameOrder, ReferentRecord, is_referent_of, kept_referents, referents_at}
@@ -36,7 +35,6 @@ is_same_number : (n m : ℕ) → n ≡ m → (n == m) ≡ true
 is_same_number n m is = grind (arith, nat_tests)
 
 module _ (routes : List RouteSpan) (version : ℕ) where
-
   -- each is meant where those of each number are
   each_of_numbers : (P : ReferentRecord → Type 0) (referents : List ReferentRecord) → ((n : ℕ) → AllByRecursion P (filter (is_referent_of version n) referents)) → AllByRecursion P (seen version referents)
   each_of_numbers P [] all = tt

@@ -127,7 +127,7 @@ module _ (routes : List RouteSpan) (k : ℕ) (on : Option RouteSpan) (rising : A
       (rising_from routes k next there rising))
       (from_between (from_of on) next.number)
       (λ route one. let from : from_of on ≡ route.number = ap from_of one in
-        between_all (from_of on) next.number route.number (omega (arith, from)) (before_below routes k next route rising (sym is ∙ one) there))
+      between_all (from_of on) next.number route.number (omega (arith, from)) (before_below routes k next route rising (sym is ∙ one) there))
 
   -- the last part
   pub part_after : k ≤ length routes → length routes ≤ k → IsPart routes (is_after (from_of on)) on

@@ -70,6 +70,10 @@ none_lt : (xs : List ℕ) → is_lt (slice_cmp nat_cmp xs []) ≡ false
 none_lt [] = refl
 none_lt (x ∷ xs) = refl
 
+pub below_none : (xs : List ℕ) → is_below xs [] ≡ false
+unfolding is_below
+below_none xs = none_lt xs
+
 -- what begins with a number is below another of as many bytes where the number is
 begins_lt : (k x y : ℕ) (xs : List ℕ) → is_lt (slice_cmp nat_cmp (bytes_high_first k x ++ xs) (bytes_high_first k y)) ≡ nat_lt (x % 256 ^ k) (y % 256 ^ k)
 begins_lt zero x y xs = let same : nat_lt (x % 1) (y % 1) ≡ false = le-ltb (x % 1) (y % 1) (omega arith) in none_lt xs ∙ sym same
@@ -78,10 +82,6 @@ begins_lt (suc k) x y xs =
     ∙ ap (λ (t : Bool). nat_lt (byte_at k x) (byte_at k y) || (byte_at k x == byte_at k y && t)) (begins_lt k x y xs)
     ∙ digits_lt (byte_at k x) (byte_at k y) (256 ^ k) (x % 256 ^ k) (y % 256 ^ k) (x % 256 ^ suc k) (y % 256 ^ suc k)
     (mod-lt x (above_none k)) (mod-lt y (above_none k)) (digit_more k x) (digit_more k y)
-
-pub below_none : (xs : List ℕ) → is_below xs [] ≡ false
-unfolding is_below
-below_none xs = none_lt xs
 
 pub below_word : (x y : ℕ) (xs : List ℕ) → x < 2 ^ 32 → y < 2 ^ 32 → is_below (to_be_bytes w32 x ++ xs) (to_be_bytes w32 y) ≡ nat_lt x y
 unfolding is_below

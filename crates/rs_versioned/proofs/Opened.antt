@@ -14,7 +14,7 @@ use Rattle.rs_versioned.specs.Opening.{OpensNone, OpensRecords, StandsAs}
 use Rattle.rs_versioned.specs.Records.{Kept}
 use Rattle.rs_cell_versions.specs.Opening.{StandsOtherwise, StandsTold, Told, told_of}
 use Rattle.rs_cell_versions.specs.Versioned.{Standing}
-use Rattle.rs_cell_versions.proofs.Dated.{all_both, all_kept}
+use Rattle.rs_cell_versions.proofs.Dated.{all_both}
 use Rattle.rs_cell_versions.proofs.Looks.{FindsWithin, below_parted, cells_from, none_below_nothing}
 use Rattle.rs_cell_versions.proofs.Staying.{tree_same}
 

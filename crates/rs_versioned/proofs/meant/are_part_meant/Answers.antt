@@ -1,12 +1,12 @@
 -- They are meant where each test passes.
-use Rattle.std.proofs.Common.{◌≡◌, ◌∙◌, filter, length, sym, arith}
+use Rattle.std.proofs.Common.{◌∙◌, filter, sym, arith}
 use Rattle.std.proofs.lemmas.Bool.{le-leb, leb-true}
 use Rattle.std.specs.Prelude.{◌≢◌, []}
 use Rattle.rs_records.specs.Listed.{listed}
 use Rattle.rs_tree.proofs.Lists.{zip_lengths}
 use Rattle.rs_cell_versions.specs.Version.{sees}
 use Rattle.rs_syntax_laws.proofs.NameTexts.{not_empty}
-use Rattle.rs_versioned.specs.MeantParts.{IsMeantOn, names_of, seen}
+use Rattle.rs_versioned.specs.MeantParts.{IsMeantOn, seen}
 use Rattle.rs_versioned.specs.Records.{is_seen}
 use Rattle.rs_versioned.specs.Referents.{ReferentRecord, SaysReferent, kept_referents}
 use Rattle.rs_versioned.proofs.KeptReferents.{referents_are_kept}
@@ -26,13 +26,13 @@ returns-then-not-are_meant_on-clause-passes c = λ referents all ordered so. sym
 pub returns-then-not-have_own_names-clause-passes : goal.returns-then-not-have_own_names-clause-passes
 returns-then-not-have_own_names-clause-passes c = λ referents all ordered so.
     let some = all_mapped (λ (referent : ReferentRecord). referent.name) (λ name. name ≢ []) (seen c.args.version referents)
-        (all_weaker (IsMeantOn c.args.on) (λ referent. referent.name ≢ []) (λ referent one. not_empty referent.name one.own.named) (seen c.args.version referents) so.each) in
+    (all_weaker (IsMeantOn c.args.on) (λ referent. referent.name ≢ []) (λ referent one. not_empty referent.name one.own.named) (seen c.args.version referents) so.each) in
     sym c.if-not-have_own_names.true ∙ c.have_own_names.ensures.rise referents all ordered some so.once
 
 pub returns-clause-meant : goal.returns-clause-meant
 returns-clause-meant c = λ referents all few.
     let seen_ones = zip_filter SaysReferent (sees c.args.version) (is_seen kept_referents c.args.version) (λ cell referent says. sees_record kept_referents referents_are_kept c.args.version cell referent says)
-        (listed c.args.cells.now) referents all in
+    (listed c.args.cells.now) referents all in
     let long = zip_lengths SaysReferent (filter (sees c.args.version) (listed c.args.cells.now)) (seen c.args.version referents) seen_ones in
     record {
       each = (c.are_meant_on.ensures referents all).0 c.if-not-are_meant_on.false;
@@ -43,6 +43,6 @@ returns-clause-meant c = λ referents all few.
 pub returns-clause-passes : goal.returns-clause-passes
 returns-clause-passes c = λ referents all ordered so.
     let seen_ones = zip_filter SaysReferent (sees c.args.version) (is_seen kept_referents c.args.version) (λ cell referent says. sees_record kept_referents referents_are_kept c.args.version cell referent says)
-        (listed c.args.cells.now) referents all in
+    (listed c.args.cells.now) referents all in
     let long = zip_lengths SaysReferent (filter (sees c.args.version) (listed c.args.cells.now)) (seen c.args.version referents) seen_ones in
     le-leb c.count_seen.result 1000 (omega (arith, long, c.count_seen.ensures, so.few))

@@ -1,5 +1,5 @@
 -- One cell after the other.
-use Rattle.std.proofs.Common.{◌≡◌, ◌+◌, ◌∙◌, Bool, true, false, ℕ, List, [], ◌∷◌, ◌++◌, cond, filter, length, take, take_all, sym, ap, arith}
+use Rattle.std.proofs.Common.{◌∙◌, true, false, ℕ, List, [], ◌∷◌, filter, length, take, sym, ap, arith}
 use Rattle.std.proofs.lemmas.List.{length-append}
 use Rattle.rs_records.specs.Listed.{listed}
 use Rattle.rs_cell_versions.specs.Version.{sees}

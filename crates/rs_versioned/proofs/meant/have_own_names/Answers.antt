@@ -1,8 +1,6 @@
 -- One cell after the other.
-use Rattle.std.proofs.Common.{◌≡◌, ◌+◌, ℕ, Bool, true, false, not, List, [], ◌∷◌, ◌++◌, length, map, take, take_all, refl, sym, ap, ◌∙◌, subst, arith}
-use Rattle.std.proofs.lemmas.Bool.{false≢true}
+use Rattle.std.proofs.Common.{◌≡◌, ◌+◌, ℕ, true, false, List, [], ◌∷◌, ◌++◌, take, take_all, sym, ap, ◌∙◌, subst, arith}
 use Rattle.std.proofs.lemmas.List.{append-nil}
-use Rattle.std.specs.List.{AllZip}
 use Rattle.rs_machine.specs.Lawful.{AreDistinct}
 use Rattle.rs_records.specs.Listed.{listed}
 use Rattle.rs_records.specs.Order.{is_below}
@@ -14,7 +12,7 @@ use Rattle.rs_versioned.proofs.CellsWide.{cell_wide}
 use Rattle.rs_versioned.proofs.KeptReferents.{referents_are_kept}
 use Rattle.rs_versioned.proofs.MeantLists.{kept_next, mapped_next, names_split, zip_has}
 use Rattle.rs_versioned.proofs.Overlapping.{sees_record}
-use Rattle.rs_versioned.proofs.RisingNames.{RisesTo, before_less, name_below, rises, rises_more, rises_none}
+use Rattle.rs_versioned.proofs.RisingNames.{before_less, name_below, rises, rises_more, rises_none}
 use Rattle.rs_versioned.proofs.meant.have_own_names.Goals.{then-sees+else-not-is_below, else-sees}
 use Rattle.rs_versioned.proofs.meant.have_own_names.Goals as goal
 
@@ -38,7 +36,7 @@ returns-then-not-is_below-clause-rise c = λ referents all ordered some distinct
     let last = c.loop-place.last.now in
     let name = c.name_of-name.ensures at.0 at.2 in
     let before = rises name_in (λ referent. referent.measure) (seen c.args.version referents) (names_of (seen c.args.version (take c.loop-place.place referents))) split.0 last at.0.name split.1
-        (c.loop-place.invariant referents all) ordered some distinct in
+    (c.loop-place.invariant referents all) ordered some distinct in
     sym c.if-not-is_below.true ∙ c.is_below.ensures ∙ ap (is_below last) name ∙ name_below last at.0.name ∙ before
 
 pub loop-place-preserved : goal.loop-place-preserved
