@@ -1,5 +1,6 @@
 mod Cuts
 mod MovedTexts
 mod MovedQueries
+pub mod NameTexts
 mod ViewTexts
 mod Selected

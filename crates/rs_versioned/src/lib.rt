@@ -6,6 +6,7 @@
 pub mod event;
 pub mod event_table;
 pub mod laws;
+mod meant;
 pub mod opening;
 pub mod referent;
 pub mod referent_table;
