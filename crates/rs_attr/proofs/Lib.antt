@@ -1,4 +1,5 @@
 pub mod Above
+pub mod AsMany
 pub mod Checked
 pub mod Counted
 pub mod Entering
@@ -7,6 +8,7 @@ pub mod Indexes
 pub mod Opened
 pub mod Parts
 pub mod PartsChecked
+pub mod Placed
 pub mod Placing
 pub mod Roots
 pub mod Tabled
