@@ -5,12 +5,14 @@ pub mod Counted
 pub mod Entering
 pub mod Finding
 pub mod Indexes
+pub mod MeantParts
 pub mod Opened
 pub mod Parts
 pub mod PartsChecked
 pub mod Placed
 pub mod Placing
 pub mod Roots
+pub mod Routes
 pub mod Tabled
 pub mod Together
 pub mod Values

@@ -15,6 +15,7 @@ use Rattle.rs_versioned.specs.Events.{Event, SaysEvent, kept_events, sees_event,
 use Rattle.rs_versioned.specs.declared.route_span.RouteSpan.{RouteSpan}
 use Rattle.rs_versioned.proofs.EventCells.{event_said_once}
 use Rattle.rs_versioned.proofs.KeptRecords.{events_are_kept}
+use Rattle.rs_versioned.proofs.Lifting.{zip_join}
 use Rattle.rs_versioned.proofs.Overlapping.{sees_record}
 
 module _ (told : ToldTable) (route : Option RouteSpan) where
@@ -65,12 +66,6 @@ module _ (told : ToldTable) (route : Option RouteSpan) where
 
   -- ---- cells
 
-  zip_both : {R : Type 0} (says : List ℕ → R → Type 0) (xs ys : List (List ℕ)) (rs ss : List R) → AllZip says xs rs → AllZip says ys ss → AllZip says (xs ++ ys) (rs ++ ss)
-  zip_both says [] ys [] ss first last = last
-  zip_both says [] ys (r ∷ rs) ss first last = absurd first
-  zip_both says (x ∷ xs) ys [] ss first last = absurd first
-  zip_both says (x ∷ xs) ys (r ∷ rs) ss first last = (first.0, zip_both says xs ys rs ss first.1 last)
-
   both_on : (P : Event → Type 0) (xs ys : List Event) → AllByRecursion P xs → AllByRecursion P ys → AllByRecursion P (xs ++ ys)
   both_on P [] ys one other = other
   both_on P (x ∷ xs) ys one other = (one.0, both_on P xs ys one.1 other)
@@ -80,7 +75,7 @@ module _ (told : ToldTable) (route : Option RouteSpan) where
       let parted : seen_events told (one.events ++ other.events) ≡ seen_events told one.events ++ seen_events told other.events = filter-append (sees_event told.records.accepted) one.events other.events in
       record {
         events = one.events ++ other.events;
-        say = zip_both (SaysEvent told.schema.items) xs ys one.events other.events one.say other.say;
+        say = zip_join (SaysEvent told.schema.items) xs ys one.events other.events one.say other.say;
         placed = subst (AllByRecursion IsSeenOn) (sym parted) (both_on IsSeenOn (seen_events told one.events) (seen_events told other.events) one.placed other.placed);
         are = ap (λ (l : List Stretch). l ++ ts) one.are ∙ ap (λ (l : List Stretch). seen_spans told one.events ++ l) other.are
             ∙ sym (ap (map span_of) parted ∙ map-append span_of (seen_events told one.events) (seen_events told other.events));

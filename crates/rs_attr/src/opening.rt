@@ -5,7 +5,8 @@
 //! that events of one route alone may be in it. Where each cell has its entry in an index, and there are as many entries as cells,
 //! the index is that of just these cells.
 
-ghost use Rattle.std.specs.Prelude.{◌≡◌, ◌⊎◌, ◌≤◌, ◌+◌, ◌*◌, Err, IfErr, IfOk, OnOk, length};
+ghost use Rattle.std.specs.Prelude.{◌≡◌, ◌⊎◌, ◌<◌, ◌≤◌, ◌+◌, ◌*◌, ◌^◌, Err, IfErr, IfOk, OnOk, length};
+ghost use Rattle.std.specs.Int.{w32, to_be_bytes};
 ghost use Rattle.rs_attr.specs.Calls.{IsOpened, Opens};
 ghost use Rattle.rs_attr.specs.Meant.{SayMeant};
 ghost use Rattle.rs_attr.specs.Opening.{AreNoPart, ArePart, HasEntries, LacksEntries, ReachesIndexes, ReachesNoIndexes};
@@ -56,13 +57,21 @@ pub fn open<P: Pages>(
     reach_indexes(pages, indexes, told.records, reached)?;
     let mut route = None;
     for next in routes {
-        let cells = opening.part(alloc, pages, &next.number.to_be_bytes())?;
+        let cells = opening.part(alloc, pages, &beginning(*next))?;
         check_part(alloc, pages, &told, indexes, route, &cells)?;
         route = Some(*next);
     }
     let (versions, left) = opening.finish(alloc, pages)?;
     check_part(alloc, pages, &told, indexes, route, &left)?;
     Ok(EventTable::with(told.schema, versions))
+}
+
+/// The bytes with which the cells of events on the route begin.
+fn beginning(route: RouteSpan) -> [u8; 4]
+    ensures bytes { result ≡ to_be_bytes w32 route.number }
+    ensures fits { route.number < 2 ^ 32 }
+{
+    route.number.to_be_bytes()
 }
 
 /// Checks the trees of the indexes, marks their pages, and counts their entries: as many as there are living and dead records.

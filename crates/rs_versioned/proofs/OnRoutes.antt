@@ -79,7 +79,7 @@ begins_lt (suc k) x y xs =
     ∙ digits_lt (byte_at k x) (byte_at k y) (256 ^ k) (x % 256 ^ k) (y % 256 ^ k) (x % 256 ^ suc k) (y % 256 ^ suc k)
     (mod-lt x (above_none k)) (mod-lt y (above_none k)) (digit_more k x) (digit_more k y)
 
-below_word : (x y : ℕ) (xs : List ℕ) → x < 2 ^ 32 → y < 2 ^ 32 → is_below (to_be_bytes w32 x ++ xs) (to_be_bytes w32 y) ≡ nat_lt x y
+pub below_word : (x y : ℕ) (xs : List ℕ) → x < 2 ^ 32 → y < 2 ^ 32 → is_below (to_be_bytes w32 x ++ xs) (to_be_bytes w32 y) ≡ nat_lt x y
 unfolding is_below
 below_word x y xs few small =
     begins_lt 4 x y xs ∙ ap (λ (n : ℕ). nat_lt n (y % 2 ^ 32)) (mod-eq_of_lt few) ∙ ap (λ (n : ℕ). nat_lt x n) (mod-eq_of_lt small)
@@ -115,7 +115,7 @@ referent_within route cell referent known says =
     ap (λ (t : Bool). not t && is_below cell (to_be_bytes w32 (route + 1))) low ∙ ap (λ (t : Bool). not (nat_lt referent.route route) && t) high ∙ between_is referent.route route
 
 -- two tests, one after the other
-filter_both : {A : Type 0} (p q : A → Bool) (xs : List A) → filter q (filter p xs) ≡ filter (λ x. p x && q x) xs
+pub filter_both : {A : Type 0} (p q : A → Bool) (xs : List A) → filter q (filter p xs) ≡ filter (λ x. p x && q x) xs
 filter_both p q [] = refl
 filter_both p q (x ∷ xs) = by_test (p x) (filter_both p q xs) where
   by_test : (b : Bool) → filter q (filter p xs) ≡ filter (λ y. p y && q y) xs
