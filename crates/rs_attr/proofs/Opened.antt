@@ -1,5 +1,5 @@
 -- A table that lies in a file already, as it was told or not.
-use Rattle.std.proofs.Common.{◌≡◌, ◌+◌, ℕ, suc, Bool, false, List, [], ◌∷◌, ◌++◌, length, filter, map, refl, sym, ap, ◌∙◌, subst, arith}
+use Rattle.std.proofs.Common.{◌≡◌, ◌+◌, ℕ, suc, Bool, true, false, Option, List, [], ◌∷◌, ◌++◌, length, filter, map, refl, sym, ap, ◌∙◌, subst, arith}
 use Rattle.std.proofs.lemmas.List.{length-map}
 use Rattle.std.proofs.lemmas.List.Filters.{length-filter_both}
 use Rattle.std.proofs.lemmas.List.Sorted.{length_permutation}
@@ -7,25 +7,32 @@ use Rattle.std.proofs.lemmas.List.Sums.{length-filter}
 use Rattle.std.specs.List.{AllByRecursion, AllZip, Contains}
 use Rattle.rs_attr.specs.Entries.{AreCells, entry_of, index_form}
 use Rattle.rs_attr.specs.Opening.{AreNoPart, ArePart, HasSoMany, HaveAllEntries, IsCountedTree, OpensNoTable, OpensTable, ReachesIndexes, ReachesNoIndexes}
+use Rattle.rs_attr.specs.Meant.{SayMeant}
 use Rattle.rs_attr.specs.Tables.{AreOn, HoldIndexes, IndexState}
+use Rattle.rs_attr.specs.declared.told.ToldTable.{ToldTable}
 use Rattle.rs_attr.proofs.Checked.{index_of_as_many}
 use Rattle.rs_attr.proofs.Counted.{counted_same}
+use Rattle.rs_attr.proofs.MeantParts.{meant_both, meant_part, none_meant}
 use Rattle.rs_attr.proofs.Parts.{tree_wide}
 use Rattle.rs_attr.proofs.PartsChecked.{part_both, part_either, part_none}
+use Rattle.rs_attr.proofs.Routes.{IsAt, IsPart, is_there, routes_before}
 use Rattle.rs_interval.specs.Finding.{event_form}
 use Rattle.rs_pages.specs.PageMap.{PageMap, SamePages}
-use Rattle.rs_records.specs.Order.{is_below}
+use Rattle.rs_records.specs.Order.{Ascends, is_below}
 use Rattle.rs_tree.specs.Cells.{cells_below, cells_within}
 use Rattle.rs_tree.specs.Tree.{IsTree}
+use Rattle.rs_tree.proofs.Below.{NoneBelow, none_below_after}
 use Rattle.rs_tree.proofs.Ones.{tree_has_its_cells, tree_has_its_pages}
 use Rattle.rs_tree_whole.proofs.Entries.{same_back}
 use Rattle.rs_tree_whole.specs.Validating.{HasNoFreshTree, Validates}
 use Rattle.rs_value.specs.declared.column.ColumnType.{ColumnType}
 use Rattle.rs_cell_versions.specs.declared.told.ToldRecords.{ToldRecords}
 use Rattle.rs_versioned.specs.Events.{Event, SaysEvent, event_width, kept_events}
+use Rattle.rs_versioned.specs.Meant.{AreEventsMeant}
 use Rattle.rs_versioned.specs.Opening.{StandsAs}
 use Rattle.rs_versioned.specs.Records.{HoldsRecords}
-use Rattle.rs_versioned.proofs.Opened.{each_of_listed, listed_records}
+use Rattle.rs_versioned.specs.declared.route_span.RouteSpan.{RouteSpan}
+use Rattle.rs_versioned.proofs.Lifting.{zip_join}
 use Rattle.rs_cell_versions.specs.Opening.{HasPassed, Looked, StandsOtherwise, StandsTold, Told, told_of}
 use Rattle.rs_cell_versions.specs.Version.{is_dead, is_living}
 use Rattle.rs_cell_versions.specs.Versioned.{Standing}
@@ -116,32 +123,96 @@ indexes_of types pages cells count are many (x ∷ xs) (u ∷ us) on trees have 
   indexes_of types pages cells count are many xs us on.1 trees.1 have.1,
 )
 
-module _ (types : List ColumnType) (old : PageMap) (indexes : List IndexState) (told : ToldRecords) where
+-- the cells say events that are meant
+pub record SayEventsMeant (told : ToldTable) (routes : List RouteSpan) (cells : List (List ℕ)) : Type 0 where
+  pub events : List Event
+  pub say : AllZip (SaysEvent told.schema.items) cells events
+  pub meant : AreEventsMeant routes told.kind told.records.accepted events
+
+-- whatever tree stands there, its cells below the bound say events that are meant
+pub record AreMeantBelow (told : ToldTable) (routes : List RouteSpan) (pages : PageMap) (low : List ℕ) : Type 0 where
+  pub each : (cells : List (List ℕ)) (used : ℕ → ℕ) → IsTree (event_form (event_width told.schema.items)) pages told.records.root cells used → SayEventsMeant told routes (cells_below low cells)
+
+none_low : (low : List ℕ) (cells : List (List ℕ)) → NoneBelow low cells → cells_below low cells ≡ []
+none_low low [] none = refl
+none_low low (c ∷ cs) none = rw none.0 (none_low low cs none.1)
+
+all_from : (low : List ℕ) (cells : List (List ℕ)) → NoneBelow low cells → cells_from low cells ≡ cells
+all_from low [] none = refl
+all_from low (c ∷ cs) none = rw none.0 (ap (λ xs. c ∷ xs) (all_from low cs none.1))
+
+-- cells are those below a bound, and those from it on
+parted_at : (low : List ℕ) (cells : List (List ℕ)) → Ascends cells → cells ≡ cells_below low cells ++ cells_from low cells
+parted_at low [] up = refl
+parted_at low (c ∷ cs) up = by_low (is_below c low) refl (parted_at low cs up.1) where
+  by_low : (b : Bool) → is_below c low ≡ b → cs ≡ cells_below low cs ++ cells_from low cs → c ∷ cs ≡ cells_below low (c ∷ cs) ++ cells_from low (c ∷ cs)
+  by_low true is rest = rw is (ap (λ xs. c ∷ xs) rest)
+  by_low false isnt rest =
+      let none : NoneBelow low (c ∷ cs) = (isnt, none_below_after low c cs isnt up.0) in
+      sym (ap (λ xs. xs ++ cells_from low (c ∷ cs)) (none_low low (c ∷ cs) none) ∙ all_from low (c ∷ cs) none)
+
+module _ (told : ToldTable) (routes : List RouteSpan) (old : PageMap) where
   -- nothing was looked at yet
-  pub below_none : (low : List ℕ) → low ≡ [] → IsPartBelow types old indexes told.root low
+  pub meant_none : (low : List ℕ) → low ≡ [] → AreMeantBelow told routes old low
+  meant_none low none = record {
+    each = λ cells used tree.
+        subst (SayEventsMeant told routes) (sym (ap (λ (l : List ℕ). cells_below l cells) none ∙ none_below_nothing cells))
+        (record { events = []; say = tt; meant = none_meant routes told.kind told.records.accepted });
+  }
+
+  module _ (index : ℕ) (route : Option RouteSpan) (low : List ℕ) (at : IsAt routes index route low) (below : AreMeantBelow told routes old low) where
+    joined : (cells found : List (List ℕ)) → SayEventsMeant told routes (cells_below low cells) → SayMeant told route found → SayEventsMeant told routes (cells_below low cells ++ found)
+    joined cells found so more = record {
+      events = so.events ++ more.events;
+      say = zip_join (SaysEvent told.schema.items) (cells_below low cells) found so.events more.events so.say more.say;
+      meant = meant_both told routes so.events more.events so.meant route (is_there routes index route low at) (routes_before told.schema.items routes index route low at cells so.events so.say) more.on more.runs;
+    }
+
+    -- one part more
+    pub meant_next : (high now : List ℕ) (found : List (List ℕ)) → is_below high low ≡ false → Finds old (told_of (event_width told.schema.items) told.records) (cells_within low high) found → SayMeant told route found
+        → now ≡ high → AreMeantBelow told routes old now
+    meant_next high now found order finds part is = subst (AreMeantBelow told routes old) (sym is) (record {
+      each = λ cells used tree.
+          subst (SayEventsMeant told routes) (ap (λ (cs : List (List ℕ)). cells_below low cells ++ cs) (finds cells used tree) ∙ sym (below_parted low high cells tree.ascends order))
+          (joined cells found (below.each cells used tree) part);
+    })
+
+    -- and the last
+    pub meant_all : (left : List (List ℕ)) → Finds old (told_of (event_width told.schema.items) told.records) (cells_from low) left → SayMeant told route left
+        → (cells : List (List ℕ)) (used : ℕ → ℕ) → IsTree (event_form (event_width told.schema.items)) old told.records.root cells used → SayEventsMeant told routes cells
+    meant_all left finds part cells used tree =
+        subst (SayEventsMeant told routes) (ap (λ (cs : List (List ℕ)). cells_below low cells ++ cs) (finds cells used tree) ∙ sym (parted_at low cells tree.ascends))
+        (joined cells left (below.each cells used tree) part)
+
+module _ (old : PageMap) (indexes : List IndexState) (told : ToldTable) (routes : List RouteSpan) where
+  abbrev types : List ColumnType
+  types = told.schema.items
+
+  -- nothing was looked at yet
+  pub below_none : (low : List ℕ) → low ≡ [] → IsPartBelow types old indexes told.records.root low
   below_none low none = record {
     each = λ cells used tree.
         subst (ArePart types old indexes) (sym (ap (λ (l : List ℕ). cells_below l cells) none ∙ none_below_nothing cells)) (part_none types old indexes);
   }
 
   -- one part more
-  pub below_next : (low high now : List ℕ) (found : List (List ℕ)) → is_below high low ≡ false → IsPartBelow types old indexes told.root low → Finds old (told_of (event_width types) told) (cells_within low high) found
-      → ArePart types old indexes found → now ≡ high → IsPartBelow types old indexes told.root now
-  below_next low high now found order below finds part is = subst (IsPartBelow types old indexes told.root) (sym is) (record {
+  pub below_next : (low high now : List ℕ) (found : List (List ℕ)) → is_below high low ≡ false → IsPartBelow types old indexes told.records.root low → Finds old (told_of (event_width types) told.records) (cells_within low high) found
+      → ArePart types old indexes found → now ≡ high → IsPartBelow types old indexes told.records.root now
+  below_next low high now found order below finds part is = subst (IsPartBelow types old indexes told.records.root) (sym is) (record {
     each = λ cells used tree.
         subst (ArePart types old indexes) (ap (λ (cs : List (List ℕ)). cells_below low cells ++ cs) (finds cells used tree) ∙ sym (below_parted low high cells tree.ascends order))
         (part_both types old indexes (cells_below low cells) found (below.each cells used tree) part);
   })
 
   -- and the last
-  pub below_all : (low : List ℕ) (left : List (List ℕ)) → IsPartBelow types old indexes told.root low → Finds old (told_of (event_width types) told) (cells_from low) left → ArePart types old indexes left
-      → (cells : List (List ℕ)) (used : ℕ → ℕ) → IsTree (event_form (event_width types)) old told.root cells used → ArePart types old indexes cells
+  pub below_all : (low : List ℕ) (left : List (List ℕ)) → IsPartBelow types old indexes told.records.root low → Finds old (told_of (event_width types) told.records) (cells_from low) left → ArePart types old indexes left
+      → (cells : List (List ℕ)) (used : ℕ → ℕ) → IsTree (event_form (event_width types)) old told.records.root cells used → ArePart types old indexes cells
   below_all low left below finds part cells used tree =
       part_either types old indexes (λ cell. is_below cell low) cells (below.each cells used tree) (subst (ArePart types old indexes) (finds cells used tree) part)
 
   -- a table that stands as it was told
-  table_stands : (standing : Standing) (events : List Event) (used : ℕ → ℕ) → StandsAs told standing → (records : HoldsRecords (kept_events types) old standing told.accepted events used)
-      → StandsTold (event_form (event_width types)) old (told_of (event_width types) told) standing.dead records.cells used
+  table_stands : (standing : Standing) (events : List Event) (used : ℕ → ℕ) → StandsAs told.records standing → (records : HoldsRecords (kept_events types) old standing told.records.accepted events used)
+      → StandsTold (event_form (event_width types)) old (told_of (event_width types) told.records) standing.dead records.cells used
   table_stands standing events used as_told records = record {
     holds = record {
       tree = subst (λ (root : ℕ). IsTree (event_form (event_width types)) old root records.cells used) as_told.root records.holds.tree;
@@ -152,57 +223,59 @@ module _ (types : List ColumnType) (old : PageMap) (indexes : List IndexState) (
     dated = records.dated;
   }
 
-  told_many : (dead cells : List (List ℕ)) (used : ℕ → ℕ) → StandsTold (event_form (event_width types)) old (told_of (event_width types) told) dead cells used → told.living + told.garbage ≡ length cells
+  told_many : (dead cells : List (List ℕ)) (used : ℕ → ℕ) → StandsTold (event_form (event_width types)) old (told_of (event_width types) told.records) dead cells used → told.records.living + told.records.garbage ≡ length cells
   told_many dead cells used stands =
       omega (arith, length-filter_both is_living is_dead (λ x. refl) cells, length-filter is_living cells, stands.holds.living, length_permutation (filter is_dead cells) dead stands.holds.dead, stands.garbage)
 
   module _ (before : ℕ → ℕ) where
     -- no table stands there without a fresh tree of its cells
-    pub no_fresh_table : HasNoFreshTree (event_form (event_width types)) old told.root before → OpensNoTable types old told indexes before
+    pub no_fresh_table : HasNoFreshTree (event_form (event_width types)) old told.records.root before → OpensNoTable old told indexes routes before
     no_fresh_table missing = record {
-      none = λ standing events used uses as_told table fresh.
+      none = λ standing events used uses as_told table meant fresh.
           missing.none table.records.cells used (table_stands standing events used as_told table.records).holds.tree (λ n. omega (arith, fresh n));
     }
 
     -- nor where other cells stand
-    pub no_told_table : StandsOtherwise (event_form (event_width types)) old (told_of (event_width types) told) → OpensNoTable types old told indexes before
+    pub no_told_table : StandsOtherwise (event_form (event_width types)) old (told_of (event_width types) told.records) → OpensNoTable old told indexes routes before
     no_told_table other = record {
-      none = λ standing events used uses as_told table fresh. other.none standing.dead table.records.cells used (table_stands standing events used as_told table.records);
+      none = λ standing events used uses as_told table meant fresh. other.none standing.dead table.records.cells used (table_stands standing events used as_told table.records);
     }
 
     -- nor where a part of them is no part of a table
-    pub no_part_table : (test : List ℕ → Bool) (found : List (List ℕ)) → Finds old (told_of (event_width types) told) (filter test) found → AreNoPart types old indexes found → OpensNoTable types old told indexes before
-    no_part_table test found finds missing = record {
-      none = λ standing events used uses as_told table fresh.
+    pub no_part_table : (route : Option RouteSpan) (test : List ℕ → Bool) (found : List (List ℕ)) → IsPart types routes route test → Finds old (told_of (event_width types) told.records) (filter test) found
+        → AreNoPart told route old indexes found → OpensNoTable old told indexes routes before
+    no_part_table route test found part finds missing = record {
+      none = λ standing events used uses as_told table meant fresh.
           let cells = table.records.cells in
-          let have = kept_among test cells found (finds cells used (table_stands standing events used as_told table.records).holds.tree) in
-          missing.none uses cells (of_all (λ (cell : List ℕ). (event : Event) × SaysEvent types cell event) cells found (each_of_listed (SaysEvent types) cells events table.records.say) have) table.entries have;
+          let is : found ≡ filter test cells = finds cells used (table_stands standing events used as_told table.records).holds.tree in
+          missing.none uses cells (subst (SayMeant told route) (sym is) (meant_part told routes route test part cells events table.records.say meant)) table.entries (kept_among test cells found is);
     }
 
-    module _ (mid : PageMap) (same : SamePages mid old) (between : ℕ → ℕ) (validates : Validates (event_form (event_width types)) old told.root before between) where
+    module _ (mid : PageMap) (same : SamePages mid old) (between : ℕ → ℕ) (validates : Validates (event_form (event_width types)) old told.records.root before between) where
       -- nor where its indexes don't
-      pub no_indexes_table : ReachesNoIndexes mid indexes (told.living + told.garbage) between → OpensNoTable types old told indexes before
+      pub no_indexes_table : ReachesNoIndexes mid indexes (told.records.living + told.records.garbage) between → OpensNoTable old told indexes routes before
       no_indexes_table missing = record {
-        none = λ standing events used uses as_told table fresh.
+        none = λ standing events used uses as_told table meant fresh.
             let cells = table.records.cells in
             let stands = table_stands standing events used as_told table.records in
-            missing.none uses (counted_same old mid same (told.living + told.garbage) indexes uses (counted_of old cells (told.living + told.garbage) (told_many standing.dead cells used stands) indexes uses table.entries))
-            (λ n. omega (arith, fresh n, validates.reached n, tree_has_its_pages (event_form (event_width types)) old told.root validates.cells cells validates.used used validates.tree stands.holds.tree n));
+            missing.none uses (counted_same old mid same (told.records.living + told.records.garbage) indexes uses (counted_of old cells (told.records.living + told.records.garbage) (told_many standing.dead cells used stands) indexes uses table.entries))
+            (λ n. omega (arith, fresh n, validates.reached n, tree_has_its_pages (event_form (event_width types)) old told.records.root validates.cells cells validates.used used validates.tree stands.holds.tree n));
       }
 
       -- all of it stands there
-      pub opens_table : (standing : Standing) (after : ℕ → ℕ) → AreOn types indexes → StandsAs told standing → ReachesIndexes mid indexes (told.living + told.garbage) between after
-          → ((cells : List (List ℕ)) (used : ℕ → ℕ) → IsTree (event_form (event_width types)) old told.root cells used → StandsTold (event_form (event_width types)) old (told_of (event_width types) told) standing.dead cells used)
-          → ((cells : List (List ℕ)) (used : ℕ → ℕ) → IsTree (event_form (event_width types)) old told.root cells used → ArePart types old indexes cells)
-          → OpensTable types old told standing indexes before after
-      opens_table standing after on as_told reaches stands_so part_so =
+      pub opens_table : (standing : Standing) (after : ℕ → ℕ) → AreOn types indexes → StandsAs told.records standing → ReachesIndexes mid indexes (told.records.living + told.records.garbage) between after
+          → ((cells : List (List ℕ)) (used : ℕ → ℕ) → IsTree (event_form (event_width types)) old told.records.root cells used → StandsTold (event_form (event_width types)) old (told_of (event_width types) told.records) standing.dead cells used)
+          → ((cells : List (List ℕ)) (used : ℕ → ℕ) → IsTree (event_form (event_width types)) old told.records.root cells used → ArePart types old indexes cells)
+          → ((cells : List (List ℕ)) (used : ℕ → ℕ) → IsTree (event_form (event_width types)) old told.records.root cells used → SayEventsMeant told routes cells)
+          → OpensTable old told standing indexes routes before after
+      opens_table standing after on as_told reaches stands_so part_so meant_so =
           let cells = validates.cells in
           let stands = stands_so cells validates.used validates.tree in
           let part = part_so cells validates.used validates.tree in
-          let said = listed_records (SaysEvent types) cells part.say in
+          let so = meant_so cells validates.used validates.tree in
           record {
             as_told = as_told;
-            events = said.0;
+            events = so.events;
             used = validates.used;
             uses = reaches.uses;
             holds = record {
@@ -213,12 +286,13 @@ module _ (types : List ColumnType) (old : PageMap) (indexes : List IndexState) (
                   living = stands.holds.living ∙ sym as_told.living;
                   dead = stands.holds.dead;
                 };
-                say = said.1;
+                say = so.say;
                 dated = stands.dated;
               };
-              entries = indexes_of types old cells (told.living + told.garbage) (record { wide = tree_wide (event_form (event_width types)) old told.root cells validates.used validates.tree; ascend = validates.tree.ascends })
+              entries = indexes_of types old cells (told.records.living + told.records.garbage) (record { wide = tree_wide (event_form (event_width types)) old told.records.root cells validates.used validates.tree; ascend = validates.tree.ascends })
                   (told_many standing.dead cells validates.used stands) indexes reaches.uses on
-                  (counted_same mid old (same_back mid old same) (told.living + told.garbage) indexes reaches.uses reaches.trees) part.entered;
+                  (counted_same mid old (same_back mid old same) (told.records.living + told.records.garbage) indexes reaches.uses reaches.trees) part.entered;
             };
+            meant = so.meant;
             reached = λ n. omega (arith, reaches.reached n, validates.reached n);
           }

@@ -1,16 +1,18 @@
 -- Parts of a table's cells that were checked against its indexes.
-use Rattle.std.proofs.Common.{◌≡◌, ◌<◌, ℕ, suc, Bool, not, Some, List, [], ◌∷◌, ◌++◌, length, take, slice_get, map, filter, sym, ap, subst, inl, inr, arith}
+use Rattle.std.proofs.Common.{◌≡◌, ◌<◌, ℕ, suc, Bool, not, Option, Some, List, [], ◌∷◌, ◌++◌, length, take, slice_get, map, filter, sym, ap, subst, inl, inr, arith}
 use Rattle.std.proofs.lemmas.List.Sorted.{Contains-permutation, IsPermutation-sym}
 use Rattle.std.specs.List.{AllByRecursion, Contains}
 use Rattle.std.specs.List.Sorted.{IsPermutation}
 use Rattle.rs_attr.specs.Entries.{Field, HoldsIndex, entry_of, index_form}
 use Rattle.rs_attr.specs.Opening.{AreNoPart, ArePart, HasEntries, HaveAllEntries, HaveEntries, LacksEntries}
 use Rattle.rs_attr.specs.Tables.{HoldIndexes, IndexState}
+use Rattle.rs_attr.specs.declared.told.ToldTable.{ToldTable}
 use Rattle.rs_pages.specs.PageMap.{PageMap, SamePages}
 use Rattle.rs_tree.proofs.Lists.{has_inside, inside_has, take_next, zip_at, zip_lengths}
 use Rattle.rs_tree_whole.proofs.Joins.{all_push}
 use Rattle.rs_value.specs.declared.column.ColumnType.{ColumnType}
 use Rattle.rs_versioned.specs.Events.{Event, SaysEvent}
+use Rattle.rs_versioned.specs.declared.route_span.RouteSpan.{RouteSpan}
 use Rattle.rs_versioned.proofs.Opened.{all_of_parts}
 use Rattle.rs_cell_versions.proofs.Among.{first_or_rest}
 use Rattle.rs_cell_versions.proofs.Dated.{all_both}
@@ -49,12 +51,11 @@ module _ (old mid : PageMap) (same : SamePages mid old) where
     hold_same xs cells us hold.1,
   )
 
-  module _ (types : List ColumnType) (indexes : List IndexState) (cells : List (List ℕ)) where
-    pub part_back : ArePart types mid indexes cells → ArePart types old indexes cells
-    part_back part = record { say = part.say; entered = all_entries_back indexes cells part.entered }
+  pub part_back : (types : List ColumnType) (indexes : List IndexState) (cells : List (List ℕ)) → ArePart types mid indexes cells → ArePart types old indexes cells
+  part_back types indexes cells part = record { say = part.say; entered = all_entries_back indexes cells part.entered }
 
-    pub no_part_back : AreNoPart types mid indexes cells → AreNoPart types old indexes cells
-    no_part_back missing = record { none = λ uses all say hold have. missing.none uses all say (hold_same indexes all uses hold) have }
+  pub no_part_back : (told : ToldTable) (route : Option RouteSpan) (indexes : List IndexState) (cells : List (List ℕ)) → AreNoPart told route mid indexes cells → AreNoPart told route old indexes cells
+  no_part_back told route indexes cells missing = record { none = λ uses all say hold have. missing.none uses all say (hold_same indexes all uses hold) have }
 
   module _ (indexes : List IndexState) (k : ℕ) (index : IndexState) (there : slice_get indexes k ≡ Some index) (cells : List (List ℕ)) where
     -- the cells have their entries in one index more
@@ -64,8 +65,8 @@ module _ (old mid : PageMap) (same : SamePages mid old) where
         (all_push (λ (x : IndexState). HasEntries x.field old x.working cells) (take k indexes) index so (entries_back index.field index.working cells have))
 
     -- where one has none in the next index, they are no part of a table
-    pub no_part_at : (types : List ColumnType) → LacksEntries index.field mid index.working cells → AreNoPart types old indexes cells
-    no_part_at types lacks = record {
+    pub no_part_at : (told : ToldTable) (route : Option RouteSpan) → LacksEntries index.field mid index.working cells → AreNoPart told route old indexes cells
+    no_part_at told route lacks = record {
       none = λ uses all say hold have.
           let within : k < length uses =
           omega (arith, has_inside indexes k index there, zip_lengths (λ (x : IndexState) (u : ℕ → ℕ). HoldsIndex x.field old x.working all u) indexes uses hold) in

@@ -22,6 +22,8 @@ use Rattle.rs_cell_versions.specs.declared.told.ToldRecords.{ToldRecords}
 use Rattle.rs_attr.specs.Entries.{BecomesIndex, IsColumn}
 use Rattle.rs_attr.specs.Opening.{OpensNoTable, OpensTable}
 use Rattle.rs_attr.specs.Tables.{ChangesTable, HoldsNoTable, IndexState, kept_parts}
+use Rattle.rs_attr.specs.declared.told.ToldTable.{ToldTable}
+use Rattle.rs_versioned.specs.declared.route_span.RouteSpan.{RouteSpan}
 
 -- the columns, the fields of the indexes, and what stood there at the last commit stay
 pub record KeepsTable (was is : EventTableState) (were are : List IndexState) : Type 0 where
@@ -94,11 +96,12 @@ pub record IsOpened (columns : List ColumnType) (told : ToldRecords) (table : Ev
   pub committed : table.committed ≡ table.working
   pub order : HaveDiedBy told.accepted table.working.dead
 
--- the table was found exactly where it lies there as it was told, with its indexes, in pages that weren't reached before
-pub record IsFound (types : List ColumnType) (pages : PageMap) (told : ToldRecords) (indexes : List IndexState) (before after : ℕ → ℕ) (result : Result EventTableState Refusal) : Type 0 where
-  pub opens : IfOk result (λ table. OpensTable types pages told table.working indexes before after)
-  pub damaged : result ≡ Err refusal.DamagedFile → OpensNoTable types pages told indexes before
+-- the table was found exactly where it lies there as it was told, with its indexes, in pages that weren't reached before, and its
+-- events are meant
+pub record IsFound (pages : PageMap) (told : ToldTable) (indexes : List IndexState) (routes : List RouteSpan) (before after : ℕ → ℕ) (result : Result EventTableState Refusal) : Type 0 where
+  pub opens : IfOk result (λ table. OpensTable pages told table.working indexes routes before after)
+  pub damaged : result ≡ Err refusal.DamagedFile → OpensNoTable pages told indexes routes before
 
 -- so it is on the pages of an honest disk
-abbrev pub Opens : {P : Type 0} → Ghosts P → List ColumnType → ToldRecords → List IndexState → (ℕ → ℕ) → (ℕ → ℕ) → Result EventTableState Refusal → P → Type 0
-Opens pages types told indexes before after result old = pages.is_tied old → IsFound types (pages.store old).map told indexes before after result
+abbrev pub Opens : {P : Type 0} → Ghosts P → ToldTable → List IndexState → List RouteSpan → (ℕ → ℕ) → (ℕ → ℕ) → Result EventTableState Refusal → P → Type 0
+Opens pages told indexes routes before after result old = pages.is_tied old → IsFound (pages.store old).map told indexes routes before after result

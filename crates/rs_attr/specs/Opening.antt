@@ -1,15 +1,18 @@
 -- An index, and a table with its indexes, that lie in a file already.
-use Rattle.std.specs.Prelude.{◌≡◌, ◌≤◌, ℕ, List, Contains, length}
+use Rattle.std.specs.Prelude.{◌≡◌, ◌≤◌, ℕ, List, Contains, Option, length}
 use Rattle.std.specs.List.{AllByRecursion, AllZip}
 use Rattle.rs_attr.specs.Entries.{Field, entry_of, index_form}
+use Rattle.rs_attr.specs.Meant.{SayMeant}
 use Rattle.rs_attr.specs.Tables.{HoldIndexes, HoldsTable, IndexState, all_of}
+use Rattle.rs_attr.specs.declared.told.ToldTable.{ToldTable}
 use Rattle.rs_page_owners.specs.Counts.{◌&◌}
 use Rattle.rs_pages.specs.PageMap.{PageMap}
 use Rattle.rs_tree.specs.Tree.{IsTree}
 use Rattle.rs_value.specs.declared.column.ColumnType.{ColumnType}
-use Rattle.rs_cell_versions.specs.declared.told.ToldRecords.{ToldRecords}
 use Rattle.rs_versioned.specs.Events.{Event, SaysEvent}
+use Rattle.rs_versioned.specs.Meant.{AreEventsMeant}
 use Rattle.rs_versioned.specs.Opening.{StandsAs}
+use Rattle.rs_versioned.specs.declared.route_span.RouteSpan.{RouteSpan}
 use Rattle.rs_cell_versions.specs.Versioned.{Standing}
 
 -- each of the cells has its entry among these
@@ -28,19 +31,22 @@ pub record LacksEntries (field : Field) (pages : PageMap) (root : ℕ) (cells : 
 pub record HasSoMany (field : Field) (pages : PageMap) (root : ℕ) (count : ℕ) : Type 0 where
   pub each : (entries : List (List ℕ)) (used : ℕ → ℕ) → IsTree (index_form field) pages root entries used → count ≡ length entries
 
--- a table with these indexes lies there as it was told, and each of its pages and of theirs was reached once more
-pub record OpensTable (types : List ColumnType) (pages : PageMap) (told : ToldRecords) (standing : Standing) (indexes : List IndexState) (before after : ℕ → ℕ) : Type 0 where
-  pub as_told : StandsAs told standing
+-- a table with these indexes lies there as it was told, its events are meant, and each of its pages and of theirs was reached once
+-- more
+pub record OpensTable (pages : PageMap) (told : ToldTable) (standing : Standing) (indexes : List IndexState) (routes : List RouteSpan) (before after : ℕ → ℕ) : Type 0 where
+  pub as_told : StandsAs told.records standing
   pub events : List Event
   pub used : ℕ → ℕ
   pub uses : List (ℕ → ℕ)
-  pub holds : HoldsTable types pages standing indexes told.accepted events used uses
+  pub holds : HoldsTable told.schema.items pages standing indexes told.records.accepted events used uses
+  pub meant : AreEventsMeant routes told.kind told.records.accepted events
   pub reached : (number : ℕ) → after number ≡ (before & (used & all_of uses)) number
 
--- no table with these indexes lies there as it was told, in pages that weren't reached before
-pub record OpensNoTable (types : List ColumnType) (pages : PageMap) (told : ToldRecords) (indexes : List IndexState) (before : ℕ → ℕ) : Type 0 where
-  pub none : (standing : Standing) (events : List Event) (used : ℕ → ℕ) (uses : List (ℕ → ℕ)) → StandsAs told standing
-      → HoldsTable types pages standing indexes told.accepted events used uses
+-- no table with these indexes lies there as it was told, whose events are meant, in pages that weren't reached before
+pub record OpensNoTable (pages : PageMap) (told : ToldTable) (indexes : List IndexState) (routes : List RouteSpan) (before : ℕ → ℕ) : Type 0 where
+  pub none : (standing : Standing) (events : List Event) (used : ℕ → ℕ) (uses : List (ℕ → ℕ)) → StandsAs told.records standing
+      → HoldsTable told.schema.items pages standing indexes told.records.accepted events used uses
+      → AreEventsMeant routes told.kind told.records.accepted events
       → ((number : ℕ) → (before & (used & all_of uses)) number ≤ 1) → ⊥
 
 -- a tree of so many entries stands there for the index, with these pages
@@ -68,7 +74,7 @@ pub record ArePart (types : List ColumnType) (pages : PageMap) (indexes : List I
   pub say : AllByRecursion (λ cell. (event : Event) × SaysEvent types cell event) cells
   pub entered : HaveAllEntries pages indexes cells
 
--- where each of the cells says an event, the indexes have no entries of cells that these are among
-pub record AreNoPart (types : List ColumnType) (pages : PageMap) (indexes : List IndexState) (cells : List (List ℕ)) : Type 0 where
-  pub none : (uses : List (ℕ → ℕ)) (all : List (List ℕ)) → AllByRecursion (λ cell. (event : Event) × SaysEvent types cell event) cells
-      → HoldIndexes pages indexes all uses → AllByRecursion (Contains all) cells → ⊥
+-- where the cells say events that are meant on the route, the indexes have no entries of cells that these are among
+pub record AreNoPart (told : ToldTable) (route : Option RouteSpan) (pages : PageMap) (indexes : List IndexState) (cells : List (List ℕ)) : Type 0 where
+  pub none : (uses : List (ℕ → ℕ)) (all : List (List ℕ)) → SayMeant told route cells → HoldIndexes pages indexes all uses
+      → AllByRecursion (Contains all) cells → ⊥

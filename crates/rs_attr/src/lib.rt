@@ -9,10 +9,13 @@ pub mod defining;
 mod entry;
 mod equal;
 pub mod laws;
+mod meant;
 pub mod opening;
 pub mod table;
+pub mod told;
 
 pub use attr_index::AttrIndex;
 pub use defining::define;
 pub use opening::open;
 pub use table::{add, clear, kill, vacuum};
+pub use told::ToldTable;

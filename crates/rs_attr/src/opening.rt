@@ -1,66 +1,77 @@
 //! This module checks a table with its indexes, which lies in a file already, against what the file says of it.
 //!
 //! The trees are checked first: their pages are marked and the entries of the indexes counted. Then the cells of the table are
-//! read part by part, so that no more than one part is in memory at a time: a part ends where the next of the given routes
-//! begins. Where each cell has its entry in an index, and there are as many entries as cells, the index is that of just these
-//! cells.
+//! read part by part, so that no more than one part is in memory at a time: a part ends where the next of the routes begins, so
+//! that events of one route alone may be in it. Where each cell has its entry in an index, and there are as many entries as cells,
+//! the index is that of just these cells.
 
-ghost use Rattle.std.specs.Prelude.{◌≡◌, ◌⊎◌, ◌≤◌, ◌+◌, ◌*◌, Err, IfErr, IfOk, IsOkUnless, OnErr, OnOk, length};
-ghost use Rattle.std.specs.List.{AllByRecursion};
+ghost use Rattle.std.specs.Prelude.{◌≡◌, ◌⊎◌, ◌<◌, ◌≤◌, ◌+◌, ◌*◌, ◌^◌, Err, IfErr, IfOk, OnOk, length};
+ghost use Rattle.std.specs.Int.{w32, to_be_bytes};
 ghost use Rattle.rs_attr.specs.Calls.{IsOpened, Opens};
+ghost use Rattle.rs_attr.specs.Meant.{SayMeant};
 ghost use Rattle.rs_attr.specs.Opening.{AreNoPart, ArePart, HasEntries, LacksEntries, ReachesIndexes, ReachesNoIndexes};
 ghost use Rattle.rs_attr.specs.Tables.{AreOn};
 ghost use Rattle.rs_pages.specs.Calls.{OnlyReads};
 ghost use Rattle.rs_page_marks.specs.Marks.{taken};
 ghost use Rattle.rs_records.specs.Listed.{listed, record_width};
-ghost use Rattle.rs_versioned.specs.Events.{Event, SaysEvent, event_width};
+ghost use Rattle.rs_versioned.specs.Events.{event_width};
+ghost use Rattle.rs_versioned.specs.Meant.{AreRising};
 
 use crate::attr_index::AttrIndex;
+use crate::meant::check_events;
+use crate::told::ToldTable;
 use rs_cell_versions::Opening;
 use rs_interval::GreatestEnd;
 use rs_page_marks::Reached;
 use rs_pages::Pages;
 use rs_records::Cells;
 use rs_refusal::Refusal;
-use rs_value::{Schema, row_width};
-use rs_versioned::event::{EVENT_BYTES, says_event};
-use rs_versioned::{EventTable, ToldRecords};
+use rs_value::row_width;
+use rs_versioned::event::EVENT_BYTES;
+use rs_versioned::{EventTable, RouteSpan, ToldRecords};
 use std::alloc::Global;
 
-/// The table that lies in a file already, with rows of these columns, beside its indexes; their pages are marked. Ok exactly
-/// where it lies there as it was told, with the indexes of its cells, in pages none of which was reached before; 94 where no
-/// such table does; 90 and 91. Whatever routes are given, each cell is looked at. No page changes. Which pages are marked
-/// after a refusal is unspecified.
+/// The table that lies in a file already, beside its indexes; their pages are marked. Ok exactly where it lies there as it was
+/// told, with the indexes of its cells, in pages none of which was reached before, and the version that was accepted last has just
+/// the maximal runs of its facts, on the routes that are given; 94 where no such table does; 90 and 91. The routes are given by
+/// rising numbers. No page changes. Which pages are marked after a refusal is unspecified.
 pub fn open<P: Pages>(
     alloc: Global,
     pages: &mut P,
-    schema: Schema,
-    told: ToldRecords,
+    told: ToldTable,
     indexes: &[AttrIndex],
-    routes: &[u32],
+    routes: &[RouteSpan],
     reached: &mut Reached,
 ) -> Result<EventTable, Refusal>
-    requires fits { 3 * (8 + event_width schema.items) ≤ 4080 }
-    requires indexes { AreOn schema.items indexes.now }
+    requires fits { 3 * (8 + event_width told.schema.items) ≤ 4080 }
+    requires indexes { AreOn told.schema.items indexes.now }
+    requires rising { AreRising routes.now }
     ensures rests { OnlyReads P.Pages result pages.old pages.new }
     ensures size { length reached.new ≡ length reached.old }
-    ensures table { IfOk result (IsOpened schema.items told) }
-    ensures opens { Opens P.Pages schema.items told indexes.now (taken reached.old) (taken reached.new) result pages.old }
+    ensures table { IfOk result (IsOpened told.schema.items told.records) }
+    ensures opens { Opens P.Pages told indexes.now routes.now (taken reached.old) (taken reached.new) result pages.old }
     ensures refused { IfErr result (λ why. (why ≡ Refusal.OutOfMemory) ⊎ (why ≡ Refusal.Disk) ⊎ (why ≡ Refusal.DamagedFile)) }
 {
-    let width = row_width(&schema) + EVENT_BYTES;
-    let mut opening = Opening::<GreatestEnd>::begin(alloc, pages, width, &told, reached)?;
-    reach_indexes(pages, indexes, told, reached)?;
-    for route in routes {
-        let high = route.to_be_bytes();
-        if !opening.is_past(&high) {
-            let cells = opening.part(alloc, pages, &high)?;
-            check_part(alloc, pages, &schema, indexes, &cells)?;
-        }
+    let width = row_width(&told.schema) + EVENT_BYTES;
+    let mut opening = Opening::<GreatestEnd>::begin(alloc, pages, width, &told.records, reached)?;
+    reach_indexes(pages, indexes, told.records, reached)?;
+    let mut route = None;
+    for next in routes {
+        let cells = opening.part(alloc, pages, &beginning(*next))?;
+        check_part(alloc, pages, &told, indexes, route, &cells)?;
+        route = Some(*next);
     }
     let (versions, left) = opening.finish(alloc, pages)?;
-    check_part(alloc, pages, &schema, indexes, &left)?;
-    Ok(EventTable::with(schema, versions))
+    check_part(alloc, pages, &told, indexes, route, &left)?;
+    Ok(EventTable::with(told.schema, versions))
+}
+
+/// The bytes with which the cells of events on the route begin.
+fn beginning(route: RouteSpan) -> [u8; 4]
+    ensures bytes { result ≡ to_be_bytes w32 route.number }
+    ensures fits { route.number < 2 ^ 32 }
+{
+    route.number.to_be_bytes()
 }
 
 /// Checks the trees of the indexes, marks their pages, and counts their entries: as many as there are living and dead records.
@@ -88,44 +99,30 @@ fn reach_indexes<P: Pages>(
     Ok(())
 }
 
-/// Ok where each of the cells says an event with a row of these columns and has its entry in each index. It is refused with 90,
-/// with 91, and with 94 only where one doesn't. No page changes.
+/// Ok where each of the cells says an event and has its entry in each index, and those that the accepted version sees are on this
+/// route, where there is one, and are the maximal runs of their facts. It is refused with 90, with 91, and with 94 only where this
+/// isn't so. No page changes.
 fn check_part<P: Pages>(
     alloc: Global,
     pages: &mut P,
-    schema: &Schema,
+    told: &ToldTable,
     indexes: &[AttrIndex],
+    route: Option<RouteSpan>,
     cells: &Cells,
 ) -> Result<(), Refusal>
-    requires width { record_width cells.now ≡ event_width schema.now.items }
-    requires indexes { AreOn schema.now.items indexes.now }
+    requires width { record_width cells.now ≡ event_width told.now.schema.items }
+    requires indexes { AreOn told.now.schema.items indexes.now }
     ensures rests { OnlyReads P.Pages result pages.old pages.new }
-    ensures part { P.is_tied pages.old → OnOk result (ArePart schema.now.items (P.store pages.old).map indexes.now
+    ensures part { P.is_tied pages.old → OnOk result (ArePart told.now.schema.items (P.store pages.old).map indexes.now
         (listed cells.now)) }
+    ensures meant { OnOk result (SayMeant told.now route (listed cells.now)) }
     ensures refused { IfErr result (λ why. (why ≡ Refusal.OutOfMemory) ⊎ (why ≡ Refusal.Disk) ⊎ (why ≡ Refusal.DamagedFile)) }
-    ensures damaged { P.is_tied pages.old → result ≡ Err Refusal.DamagedFile → AreNoPart schema.now.items
+    ensures damaged { P.is_tied pages.old → result ≡ Err Refusal.DamagedFile → AreNoPart told.now route
         (P.store pages.old).map indexes.now (listed cells.now) }
 {
-    check_events(schema, cells)?;
+    check_events(alloc, told, route, cells)?;
     for index in indexes {
         index.check_entries(alloc, pages, cells)?;
-    }
-    Ok(())
-}
-
-/// Ok where each of the cells says an event with a row of these columns; 94 where one doesn't.
-fn check_events(schema: &Schema, cells: &Cells) -> Result<(), Refusal>
-    requires width { record_width cells.now ≡ event_width schema.now.items }
-    ensures say { OnOk result (AllByRecursion (λ cell. (event : Event) × SaysEvent schema.now.items cell event)
-        (listed cells.now)) }
-    ensures none { OnErr result (AllByRecursion (λ cell. (event : Event) × SaysEvent schema.now.items cell event)
-        (listed cells.now) → ⊥) }
-    ensures refused { IsOkUnless result Refusal.DamagedFile }
-{
-    for place in 0..cells.len() {
-        if !says_event(schema, cells.get(place)) {
-            return Err(Refusal::DamagedFile);
-        }
     }
     Ok(())
 }

@@ -3,7 +3,6 @@ mod Fitting
 mod IndexLaws
 mod LawfulStates
 mod NameOrder
-mod NameText
 mod PlaceLaws
 mod RouteLaws
 mod StateLaws

@@ -2,6 +2,7 @@
 use Rattle.std.specs.Prelude.{◌≡◌, ◌≤◌, ◌==◌, ◌&&◌, ℕ, nat_lt, false, List, [], ◌∷◌, length, map, if◌then◌else◌}
 use Rattle.std.specs.FinMap as names
 use Rattle.std.specs.List.{AllByRecursion}
+pub use Rattle.rs_catalog_pages.specs.Items.{kind_of}
 use Rattle.rs_catalog_pages.specs.Items.{AlignmentItem, CatalogueItems, IndexItem, PieceItem, RouteItem, TableItem}
 use Rattle.rs_facts.specs.Fact.{Name, Names, no_facts}
 use Rattle.rs_facts.specs.Query.{Piece, Table}
@@ -9,8 +10,6 @@ use Rattle.rs_machine.specs.declared.limits.TheConstants.{VIEWS}
 use Rattle.rs_machine.specs.State.{State, has, no_cursors, no_referents}
 use Rattle.rs_planning.specs.Basis.{IndexedColumn}
 use Rattle.rs_syntax.specs.Sound.{IsName}
-use Rattle.rs_value.specs.declared.column.Kind.{Kind}
-use Rattle.rs_value.specs.declared.column.Kind.TheVariants.{Line, Point}
 use Rattle.rs_catalog_meaning.specs.Meaning.{AreInOrder, columns_of, named_piece, route_numbers, routes_of}
 use Rattle.rs_catalog_meaning.specs.Places.{AreGivenOnce}
 
@@ -27,9 +26,6 @@ named_alignment routes alignment = (alignment.name, map (piece_of routes) alignm
 
 abbrev pub alignments_of : List RouteItem → List AlignmentItem → Names (List Piece)
 alignments_of routes alignments = names.from_sorted (map (named_alignment routes) alignments)
-
-abbrev pub kind_of : ℕ → Kind
-kind_of code = if code == 0 then Point else Line
 
 abbrev pub named_table : TableItem → Name × Table
 named_table table = (table.name, record { kind = kind_of table.kind; columns = columns_of table.columns; facts = no_facts })

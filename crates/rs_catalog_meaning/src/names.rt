@@ -1,4 +1,4 @@
-//! Checks names: whether a text is one, whether the names of a list rise, and whether a list has a name.
+//! Checks names: whether the names of a list rise, and whether a list has a name.
 //!
 //! Names are in the order of their bytes, and two are the same where their bytes are.
 
@@ -6,13 +6,11 @@ ghost use Rattle.std.specs.Prelude.{◌≡◌, ◌≢◌, ◌↔◌, ℕ, List, 
 ghost use Rattle.std.specs.List.{AllByRecursion};
 ghost use Rattle.std.specs.Ordering.{is_lt};
 ghost use Rattle.rs_facts.specs.Fact.{name_cmp};
-ghost use Rattle.rs_syntax.specs.Sound.{IsName};
 ghost use Rattle.rs_catalog_meaning.specs.Meaning.{AreInOrder};
 
 use rs_catalog_pages::{
     StoredAlignment, StoredColumn, StoredIndex, StoredRoute, StoredTable, StoredView,
 };
-use rs_lexer::{TokenKind, front_token};
 
 /// What has a name.
 pub trait Named {
@@ -68,16 +66,6 @@ impl Named for StoredAlignment {
 
     fn name(&self) -> &str {
         self.name.as_str()
-    }
-}
-
-/// Whether the text is a name: a word that is neither too long nor reserved.
-pub fn is_name(text: &str) -> bool
-    ensures { IsTrue result ↔ IsName text.now }
-{
-    match front_token(text.as_bytes()) {
-        Some((kind, count)) => kind == TokenKind::Name && count == text.len(),
-        None => false,
     }
 }
 

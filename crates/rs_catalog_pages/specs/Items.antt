@@ -1,6 +1,8 @@
 -- Which bytes say the definitions of a file: five lists, each in the order of names.
-use Rattle.std.specs.Prelude.{ℕ, List}
+use Rattle.std.specs.Prelude.{◌==◌, ℕ, List, if◌then◌else◌}
 use Rattle.rs_bytes.specs.Codes.{Code, SaysBoth, SaysCounted, SaysEach, SaysNumber, SaysUtf8}
+use Rattle.rs_value.specs.declared.column.Kind.{Kind}
+use Rattle.rs_value.specs.declared.column.Kind.TheVariants.{Line, Point}
 
 pub record RouteItem : Type 0 where
   pub name : List ℕ
@@ -18,6 +20,10 @@ pub record TableItem : Type 0 where
   pub number : ℕ
   pub kind : ℕ  -- 0: points, 1: lines
   pub columns : List ColumnItem
+
+-- the kind that the code of a table says
+abbrev pub kind_of : ℕ → Kind
+kind_of code = if code == 0 then Point else Line
 
 pub record IndexItem : Type 0 where
   pub name : List ℕ

@@ -1,5 +1,6 @@
 pub mod Created
 pub mod Loaded
+pub mod Meant
 pub mod Numbered
 pub mod Numbering
 pub mod One

@@ -2,7 +2,9 @@
 use Rattle.std.proofs.Common.{◌≡◌, ◌≤◌, ◌<◌, ◌^◌, ℕ, Bool, false, true, List, [], ◌∷◌, map, replicate, refl, sym, ap, subst, ◌∙◌, inl, inr, arith}
 use Rattle.std.proofs.lemmas.Bool.{cases_lt}
 use Rattle.std.proofs.lemmas.List.{length-replicate, get_or-replicate}
+use Rattle.std.proofs.lemmas.List.Sorted.{IsPermutation-sym}
 use Rattle.std.specs.List.{AllByRecursion, AllZip}
+use Rattle.std.specs.List.Sorted.{IsPermutation}
 use Rattle.rs_attr.specs.Tables.{all_of}
 use Rattle.rs_attr.proofs.Placing.{all_of-cons}
 use Rattle.rs_catalog_pages.specs.Directory.{DirectoryItems, HasDirectory, HasNoDirectory, TreeItem}
@@ -12,8 +14,10 @@ use Rattle.rs_catalog_pages.proofs.Chains.{holds_bytes, holds_pages, says_one}
 use Rattle.rs_catalog_pages.proofs.Directories.{directory_is_one}
 use Rattle.rs_contents.specs.Contents.{AreNumbered, Contents, HoldsAll, IsTable, LiesTable, SameTable, TableContents, owned, table_pages}
 use Rattle.rs_contents.specs.FreePages.{HasNoFreshFreeList}
+use Rattle.rs_contents.specs.Meant.{AreRecordsMeant, IsTableMeant, route_spans}
 use Rattle.rs_contents.specs.Opening.{AreSound, HoldsNothing, IsOpened, LoadsNothingSaid, LoadsSaid, OpensNoParts, OpensNoTables, OpensParts, OpensTables, told_of}
 use Rattle.rs_contents.specs.declared.opened.OpenedTable.{OpenedTable}
+use Rattle.rs_contents.proofs.Meant.{once_permuted, once_rising, records_meant}
 use Rattle.rs_contents.proofs.One.{records_pages, tables_one}
 use Rattle.rs_page_owners.specs.Counts.{◌&◌, one_at, times}
 use Rattle.rs_page_owners.specs.Owners.{Shares}
@@ -22,6 +26,8 @@ use Rattle.rs_pages.specs.PageMap.{PageMap, SamePages}
 use Rattle.rs_pages.proofs.FreeLists.{free_list_is_one}
 use Rattle.rs_page_marks.specs.Marks.{taken, unmarked}
 use Rattle.rs_page_marks.proofs.Marking.{each_once, none_left, taken_at, taken_past}
+use Rattle.rs_versioned.specs.Meant.{AreReferentsMeant, AreRising}
+use Rattle.rs_versioned.specs.declared.route_span.RouteSpan.{RouteSpan}
 use Rattle.rs_versioned.specs.Opening.{OpensNone, OpensRecords, StandsAs}
 use Rattle.rs_versioned.specs.Records.{HoldsRecords}
 use Rattle.rs_versioned.specs.Referents.{kept_referents}
@@ -89,11 +95,11 @@ module _ (file : PageMap) where
   -- ---- the definitions and the directory
 
   pub no_directory_said : (before : ℕ → ℕ) → HasNoDirectory file → LoadsNothingSaid file before
-  no_directory_said before lacks = record { none = λ contents fresh holds. lacks.none contents.directory holds.directory }
+  no_directory_said before lacks = record { none = λ contents fresh holds meant. lacks.none contents.directory holds.directory }
 
   pub no_catalogue_said : (before : ℕ → ℕ) → HasNoFreshCatalogue file before → LoadsNothingSaid file before
   no_catalogue_said before lacks = record {
-    none = λ contents fresh holds.
+    none = λ contents fresh holds meant.
         lacks.none contents.pages holds.parts.definitions.bytes contents.definitions holds.parts.definitions.holds holds.parts.definitions.says fresh;
   }
 
@@ -113,7 +119,7 @@ module _ (file : PageMap) where
   pub no_numbers_said : (pages : List ℕ) (definitions : CatalogueItems) (directory : DirectoryItems) (before after : ℕ → ℕ) → HasDirectory file directory
       → LoadsCatalogue file before after pages definitions → (AreNumbered definitions directory → ⊥) → LoadsNothingSaid file before
   no_numbers_said pages definitions directory before after has loads none = record {
-    none = λ contents fresh holds.
+    none = λ contents fresh holds meant.
         none (subst (λ (d : DirectoryItems). AreNumbered definitions d) (directory_is_one file contents.directory directory holds.directory has)
         (subst (λ (d : CatalogueItems). AreNumbered d contents.directory) (definitions_same pages definitions before after loads contents holds) holds.said.numbered));
   }
@@ -122,7 +128,7 @@ module _ (file : PageMap) where
       → LoadsCatalogue file before after pages definitions
       → (directory.accepted < 2 ^ 63 → AllByRecursion (λ route. route.born ≤ directory.accepted) definitions.routes → ⊥) → LoadsNothingSaid file before
   no_versions_said pages definitions directory before after has loads none = record {
-    none = λ contents fresh holds.
+    none = λ contents fresh holds meant.
         let same = directory_is_one file contents.directory directory holds.directory has in
         none (subst (λ (d : DirectoryItems). d.accepted < 2 ^ 63) same holds.limit)
         (subst (λ (d : CatalogueItems). AllByRecursion (λ route. route.born ≤ directory.accepted) d.routes) (definitions_same pages definitions before after loads contents holds)
@@ -131,9 +137,9 @@ module _ (file : PageMap) where
 
   -- ---- the parts
 
-  module _ (definitions : CatalogueItems) (directory : DirectoryItems) (before : ℕ → ℕ) where
+  module _ (routes : List RouteSpan) (definitions : CatalogueItems) (directory : DirectoryItems) (before : ℕ → ℕ) where
     -- the tables of contents with these definitions and this directory are those that were opened
-    tables_same : (opened : List OpenedTable) (after : ℕ → ℕ) (opens : OpensTables file directory definitions definitions.tables opened before after) (contents : Contents)
+    tables_same : (opened : List OpenedTable) (after : ℕ → ℕ) (opens : OpensTables routes file directory definitions definitions.tables opened before after) (contents : Contents)
         → contents.directory ≡ directory → contents.definitions ≡ definitions → HoldsAll file contents → (n : ℕ) → all_of (map table_pages contents.tables) n ≡ all_of (map table_pages opens.tables) n
     tables_same opened after opens contents same are holds =
         let said = subst (λ (d : CatalogueItems). AllZip (IsTable directory d.indexes) d.tables contents.tables) are
@@ -143,7 +149,7 @@ module _ (file : PageMap) where
         (tables_one file directory.accepted directory definitions.indexes definitions.tables contents.tables opens.tables said opens.are lie opens.lie)
 
     -- those of the referents too
-    referents_same : (standing : Standing) (with_tables after : ℕ → ℕ) (opens : OpensRecords kept_referents file (told_of directory.referents directory.accepted) standing with_tables after)
+    referents_same : (standing : Standing) (with_tables after : ℕ → ℕ) (opens : OpensRecords kept_referents file (told_of directory.referents directory.accepted) (AreReferentsMeant routes directory.accepted) standing with_tables after)
         (contents : Contents) → contents.directory ≡ directory → HoldsAll file contents → (n : ℕ) → contents.referents.used n ≡ opens.used n
     referents_same standing with_tables after opens contents same holds =
         let said : contents.referents.standing.root ≡ directory.referents.root = ap (λ (i : TreeItem). i.root) (sym holds.said.referents ∙ ap (λ (d : DirectoryItems). d.referents) same) in
@@ -152,32 +158,35 @@ module _ (file : PageMap) where
         (subst (λ (d : DirectoryItems). HoldsRecords kept_referents file contents.referents.standing d.accepted contents.referents.referents contents.referents.used) same holds.parts.referents)
         opens.holds
 
-    pub no_tables : OpensNoTables file directory definitions before → OpensNoParts file directory definitions before
+    pub no_tables : OpensNoTables routes file directory definitions before → OpensNoParts routes file directory definitions before
     no_tables lacks = record {
-      none = λ contents same are first holds.
+      none = λ contents same are first holds meant.
           lacks.none contents.tables
           (subst (λ (d : CatalogueItems). AllZip (IsTable directory d.indexes) d.tables contents.tables) are
           (subst (λ (d : DirectoryItems). AllZip (IsTable d contents.definitions.indexes) contents.definitions.tables contents.tables) same holds.said.tables))
           (subst (λ (d : DirectoryItems). AllByRecursion (LiesTable file d.accepted) contents.tables) same holds.parts.tables)
+          (subst (λ (d : CatalogueItems). AllZip (IsTableMeant routes directory.accepted) d.tables contents.tables) are
+          (subst (λ (d : DirectoryItems). AllZip (IsTableMeant routes d.accepted) contents.definitions.tables contents.tables) same meant.tables))
           (λ n. omega (arith, first n, taken_once contents holds.parts.shares n));
     }
 
-    pub no_referents : (opened : List OpenedTable) (with_tables : ℕ → ℕ) → OpensTables file directory definitions definitions.tables opened before with_tables
-        → OpensNone kept_referents file (told_of directory.referents directory.accepted) with_tables → OpensNoParts file directory definitions before
+    pub no_referents : (opened : List OpenedTable) (with_tables : ℕ → ℕ) → OpensTables routes file directory definitions definitions.tables opened before with_tables
+        → OpensNone kept_referents file (told_of directory.referents directory.accepted) (AreReferentsMeant routes directory.accepted) with_tables → OpensNoParts routes file directory definitions before
     no_referents opened with_tables opens lacks = record {
-      none = λ contents same are first holds.
+      none = λ contents same are first holds meant.
           let said = sym holds.said.referents ∙ ap (λ (d : DirectoryItems). d.referents) same in
           lacks.none contents.referents.standing contents.referents.referents contents.referents.used
           (record { root = ap (λ (i : TreeItem). i.root) said; living = ap (λ (i : TreeItem). i.living) said; garbage = ap (λ (i : TreeItem). i.garbage) said })
           (subst (λ (d : DirectoryItems). HoldsRecords kept_referents file contents.referents.standing d.accepted contents.referents.referents contents.referents.used) same holds.parts.referents)
+          (subst (λ (d : DirectoryItems). AreReferentsMeant routes d.accepted contents.referents.referents) same meant.referents)
           (λ n. omega (arith, first n, opens.reached n, tables_same opened with_tables opens contents same are holds n, taken_once contents holds.parts.shares n));
     }
 
-    pub no_free : (opened : List OpenedTable) (standing : Standing) (with_tables with_referents : ℕ → ℕ) → OpensTables file directory definitions definitions.tables opened before with_tables
-        → OpensRecords kept_referents file (told_of directory.referents directory.accepted) standing with_tables with_referents → HasNoFreshFreeList file with_referents
-        → OpensNoParts file directory definitions before
+    pub no_free : (opened : List OpenedTable) (standing : Standing) (with_tables with_referents : ℕ → ℕ) → OpensTables routes file directory definitions definitions.tables opened before with_tables
+        → OpensRecords kept_referents file (told_of directory.referents directory.accepted) (AreReferentsMeant routes directory.accepted) standing with_tables with_referents → HasNoFreshFreeList file with_referents
+        → OpensNoParts routes file directory definitions before
     no_free opened standing with_tables with_referents opens referents lacks = record {
-      none = λ contents same are first holds.
+      none = λ contents same are first holds meant.
           lacks.none holds.parts.shares.free holds.parts.shares.list
           (λ n. omega (
             arith,
@@ -190,10 +199,10 @@ module _ (file : PageMap) where
           ));
     }
 
-    pub some_left : (opened : List OpenedTable) (state : ReferentTableState) (marks : List Bool) → OpensParts file directory definitions opened state before (taken marks)
-        → (unmarked marks ≡ 0 → ⊥) → OpensNoParts file directory definitions before
+    pub some_left : (opened : List OpenedTable) (state : ReferentTableState) (marks : List Bool) → OpensParts routes file directory definitions opened state before (taken marks)
+        → (unmarked marks ≡ 0 → ⊥) → OpensNoParts routes file directory definitions before
     some_left opened state marks parts some = record {
-      none = λ contents same are first holds.
+      none = λ contents same are first holds meant.
           let shares = holds.parts.shares in
           let free : (n : ℕ) → times parts.free.free n ≡ times shares.free n =
           λ n. ap (λ l. times l n) (free_list_is_one file parts.free.free shares.free parts.free.list shares.list) in
@@ -215,32 +224,49 @@ module _ (file : PageMap) where
 
   -- none where nothing was reached before but page 0 and the directory
   pub nothing_said : (before : ℕ → ℕ) → ((n : ℕ) → before n ≡ (unreached file.fields.pages & (one_at 0 & one_at 1)) n) → LoadsNothingSaid file before → HoldsNothing file
-  nothing_said before first lacks = record { none = λ contents holds. lacks.none contents (λ n. omega (arith, first n, taken_once contents holds.parts.shares n)) holds }
+  nothing_said before first lacks = record { none = λ contents holds meant. lacks.none contents (λ n. omega (arith, first n, taken_once contents holds.parts.shares n)) holds meant }
 
-  pub no_parts : (pages : List ℕ) (definitions : CatalogueItems) (directory : DirectoryItems) (before mid : ℕ → ℕ) → ((n : ℕ) → before n ≡ (unreached file.fields.pages & (one_at 0 & one_at 1)) n)
-      → LoadsSaid file pages definitions directory before mid → OpensNoParts file directory definitions mid → HoldsNothing file
-  no_parts pages definitions directory before mid first said lacks = record {
-    none = λ contents holds.
+  pub no_parts : (routes : List RouteSpan) (pages : List ℕ) (definitions : CatalogueItems) (directory : DirectoryItems) (before mid : ℕ → ℕ)
+      → ((n : ℕ) → before n ≡ (unreached file.fields.pages & (one_at 0 & one_at 1)) n) → IsPermutation (route_spans definitions) routes
+      → LoadsSaid file pages definitions directory before mid → OpensNoParts routes file directory definitions mid → HoldsNothing file
+  no_parts routes pages definitions directory before mid first permuted said lacks = record {
+    none = λ contents holds meant.
         let same : contents.pages ≡ pages = pages_same pages definitions before mid said.loads contents holds in
-        lacks.none contents (directory_is_one file contents.directory directory holds.directory said.has) (definitions_same pages definitions before mid said.loads contents holds)
-        (λ n. omega (arith, first n, said.loads.reached n, ap (λ l. times l n) same)) holds;
+        let are : contents.definitions ≡ definitions = definitions_same pages definitions before mid said.loads contents holds in
+        lacks.none contents (directory_is_one file contents.directory directory holds.directory said.has) are
+        (λ n. omega (arith, first n, said.loads.reached n, ap (λ l. times l n) same)) holds
+        (records_meant (route_spans contents.definitions) routes (subst (λ (d : CatalogueItems). IsPermutation (route_spans d) routes) (sym are) permuted) contents meant.on_routes);
+  }
+
+  -- none where two routes have one number
+  pub not_once : (pages : List ℕ) (definitions : CatalogueItems) (directory : DirectoryItems) (before mid : ℕ → ℕ) → LoadsSaid file pages definitions directory before mid
+      → (((number : ℕ) → times (map (λ route. route.number) definitions.routes) number ≤ 1) → ⊥) → HoldsNothing file
+  not_once pages definitions directory before mid said twice = record {
+    none = λ contents holds meant.
+        twice (subst (λ (d : CatalogueItems). (number : ℕ) → times (map (λ route. route.number) d.routes) number ≤ 1)
+        (definitions_same pages definitions before mid said.loads contents holds) meant.routes_once);
   }
 
   -- the contents, where all was reached
   pub record AreThere (numbers : List ℕ) (items : CatalogueItems) (said : DirectoryItems) (opened : List OpenedTable) (state : ReferentTableState) : Type 0 where
     pub contents : Contents
     pub holds : HoldsAll file contents
+    pub meant : AreRecordsMeant contents
     pub pages : contents.pages ≡ numbers
     pub definitions : contents.definitions ≡ items
     pub directory : contents.directory ≡ said
     pub tables : AllZip IsOpened opened contents.tables
     pub referents : contents.referents.standing ≡ state.working
 
-  pub are_there : (numbers : List ℕ) (items : CatalogueItems) (directory : DirectoryItems) (opened : List OpenedTable) (state : ReferentTableState) (before mid : ℕ → ℕ) (marks : List Bool)
+  pub are_there : (routes : List RouteSpan) (numbers : List ℕ) (items : CatalogueItems) (directory : DirectoryItems) (opened : List OpenedTable) (state : ReferentTableState) (before mid : ℕ → ℕ) (marks : List Bool)
       → ((n : ℕ) → before n ≡ (unreached file.fields.pages & (one_at 0 & one_at 1)) n) → LoadsSaid file numbers items directory before mid → AreSound items directory
-      → OpensParts file directory items opened state mid (taken marks) → unmarked marks ≡ 0 → AreThere numbers items directory opened state
-  are_there numbers items directory opened state before mid marks first said sound parts none = record {
+      → IsPermutation (route_spans items) routes → AreRising routes → OpensParts routes file directory items opened state mid (taken marks) → unmarked marks ≡ 0 → AreThere numbers items directory opened state
+  are_there routes numbers items directory opened state before mid marks first said sound permuted rising parts none = record {
     contents = contents;
+    meant = record {
+      routes_once = λ number. omega (arith, once_rising routes rising number, once_permuted items.routes routes permuted number);
+      on_routes = records_meant routes (route_spans items) (IsPermutation-sym (route_spans items) routes permuted) contents (record { tables = parts.tables.meant; referents = parts.referents.so });
+    };
     holds = record {
       directory = said.has;
       said = record { numbered = sound.numbered; tables = parts.tables.are; referents = λ i. record { root = sym told.root i; living = sym told.living i; garbage = sym told.garbage i } };

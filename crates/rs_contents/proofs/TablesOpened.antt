@@ -7,12 +7,14 @@ use Rattle.rs_attr.proofs.Placing.{all_of-append, all_of-cons}
 use Rattle.rs_catalog_pages.specs.Directory.{DirectoryItems}
 use Rattle.rs_catalog_pages.specs.Items.{CatalogueItems, TableItem}
 use Rattle.rs_contents.specs.Contents.{IsTable, LiesTable, SameTable, TableContents, table_pages}
+use Rattle.rs_contents.specs.Meant.{IsTableMeant}
 use Rattle.rs_contents.specs.Opening.{IsOpened, OpensNoTables, OpensNotOne, OpensOne, OpensTables}
 use Rattle.rs_contents.specs.declared.opened.OpenedTable.{OpenedTable}
 use Rattle.rs_contents.proofs.One.{tables_one}
 use Rattle.rs_contents.proofs.Selected.{each_push, zip_push}
 use Rattle.rs_pages.specs.PageMap.{PageMap}
 use Rattle.rs_tree.proofs.Lists.{all_at, has_inside, inside_has, map_at, sum_upto, take_next, zip_at, zip_lengths}
+use Rattle.rs_versioned.specs.declared.route_span.RouteSpan.{RouteSpan}
 use Rattle.rs_tree_whole.proofs.Joins.{all_take, map_take, zip_take}
 
 -- the first pairs and the next one
@@ -40,29 +42,31 @@ pages_push tables table n =
       all_of-cons (table_pages table) [] n,
     )
 
-module _ (file : PageMap) (directory : DirectoryItems) (definitions : CatalogueItems) (k : ℕ) (item : TableItem) (there : slice_get definitions.tables k ≡ Some item) (opened : List OpenedTable)
-    (before between : ℕ → ℕ) (so_far : OpensTables file directory definitions (take k definitions.tables) opened before between) where
+module _ (routes : List RouteSpan) (file : PageMap) (directory : DirectoryItems) (definitions : CatalogueItems) (k : ℕ) (item : TableItem) (there : slice_get definitions.tables k ≡ Some item) (opened : List OpenedTable)
+    (before between : ℕ → ℕ) (so_far : OpensTables routes file directory definitions (take k definitions.tables) opened before between) where
   -- one table more
-  pub opens_next : (one : OpenedTable) (after : ℕ → ℕ) → OpensOne file directory definitions item one between after
-      → OpensTables file directory definitions (take (k + 1) definitions.tables) (opened ++ one ∷ []) before after
+  pub opens_next : (one : OpenedTable) (after : ℕ → ℕ) → OpensOne routes file directory definitions item one between after
+      → OpensTables routes file directory definitions (take (k + 1) definitions.tables) (opened ++ one ∷ []) before after
   opens_next one after opens = record {
     tables = so_far.tables ++ opens.table ∷ [];
     are = zip_next (IsTable directory definitions.indexes) definitions.tables k item so_far.tables opens.table there so_far.are opens.is;
     lie = each_push (LiesTable file directory.accepted) so_far.tables opens.table so_far.lie opens.lies;
+    meant = zip_next (IsTableMeant routes directory.accepted) definitions.tables k item so_far.tables opens.table there so_far.meant opens.meant;
     as_opened = zip_push IsOpened opened so_far.tables one opens.table so_far.as_opened opens.as_opened;
     reached = λ n. omega (arith, opens.reached n, so_far.reached n, pages_push so_far.tables opens.table n);
   }
 
   -- where the next one isn't there, not all are
-  pub opens_missing : OpensNotOne file directory definitions item between → OpensNoTables file directory definitions before
+  pub opens_missing : OpensNotOne routes file directory definitions item between → OpensNoTables routes file directory definitions before
   opens_missing missing = record {
-    none = λ tables are lie fresh.
+    none = λ tables are lie meant fresh.
         let is = IsTable directory definitions.indexes in
         let within : k < length tables = omega (arith, has_inside definitions.tables k item there, zip_lengths is definitions.tables tables are) in
         let one = inside_has tables k within in
         let first = tables_one file directory.accepted directory definitions.indexes (take k definitions.tables) so_far.tables (take k tables) so_far.are (zip_take is definitions.tables tables k are)
         so_far.lie (all_take (LiesTable file directory.accepted) tables k lie) in
         missing.none one.0 (zip_at is definitions.tables tables k item one.0 are there one.1) (all_at (LiesTable file directory.accepted) tables k one.0 lie one.1)
+        (zip_at (IsTableMeant routes directory.accepted) definitions.tables tables k item one.0 meant there one.1)
         (λ n. omega (
           arith,
           fresh n,

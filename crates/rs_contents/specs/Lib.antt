@@ -2,5 +2,6 @@ pub mod Calls
 pub mod Contents
 pub mod Creating
 pub mod FreePages
+pub mod Meant
 pub mod Opening
 pub mod Slots

@@ -9,6 +9,7 @@ use Rattle.rs_catalog_pages.specs.Loading.{LoadsCatalogue}
 use Rattle.rs_catalog_pages.specs.Said.{said_catalogue}
 use Rattle.rs_contents.specs.Contents.{AreNumbered, Contents, HoldsAll, IsIndex, IsTable, LiesTable, TableContents, table_pages, type_of}
 use Rattle.rs_contents.specs.FreePages.{ReachesFree}
+use Rattle.rs_contents.specs.Meant.{AreRecordsMeant, AreRecordsMeantOn, IsTableMeant}
 use Rattle.rs_contents.specs.declared.opened.OpenedFile.{OpenedFile}
 use Rattle.rs_contents.specs.declared.opened.OpenedTable.{OpenedTable}
 use Rattle.rs_page_owners.specs.Counts.{◌&◌, one_at, times}
@@ -17,6 +18,8 @@ use Rattle.rs_page_marks.specs.Marks.{taken}
 use Rattle.rs_value.specs.declared.column.TheConstants.{COLUMNS}
 use Rattle.rs_cell_versions.specs.declared.told.ToldRecords.{ToldRecords}
 use Rattle.rs_versioned.specs.Events.{event_width}
+use Rattle.rs_versioned.specs.Meant.{AreReferentsMeant}
+use Rattle.rs_versioned.specs.declared.route_span.RouteSpan.{RouteSpan}
 use Rattle.rs_versioned.specs.Opening.{OpensRecords}
 use Rattle.rs_versioned.specs.Referents.{kept_referents}
 use Rattle.rs_versioned.specs.Tables.{ReferentTableState}
@@ -43,49 +46,53 @@ pub record IsTableOf (directory : DirectoryItems) (definitions : CatalogueItems)
   pub indexes_committed : AllByRecursion (λ index. index.committed ≡ index.working) opened.indexes.items
   pub order : AllByRecursion (λ dead. died_of dead ≤ directory.accepted) opened.records.working.dead
 
--- the table lies there as its item and the directory say, and each of its pages and of its indexes' was reached once more
-pub record OpensOne (map : PageMap) (directory : DirectoryItems) (definitions : CatalogueItems) (item : TableItem) (opened : OpenedTable) (before after : ℕ → ℕ) : Type 0 where
+-- the table lies there as its item and the directory say, it is meant beside these routes, and each of its pages and of its
+-- indexes' was reached once more
+pub record OpensOne (routes : List RouteSpan) (map : PageMap) (directory : DirectoryItems) (definitions : CatalogueItems) (item : TableItem) (opened : OpenedTable) (before after : ℕ → ℕ) : Type 0 where
   pub table : TableContents
   pub is : IsTable directory definitions.indexes item table
   pub lies : LiesTable map directory.accepted table
+  pub meant : IsTableMeant routes directory.accepted item table
   pub as_opened : IsOpened opened table
   pub reached : (number : ℕ) → after number ≡ (before & table_pages table) number
 
--- no table lies there as the item and the directory say, in pages that weren't reached before
-pub record OpensNotOne (map : PageMap) (directory : DirectoryItems) (definitions : CatalogueItems) (item : TableItem) (before : ℕ → ℕ) : Type 0 where
+-- no table that is meant lies there as the item and the directory say, in pages that weren't reached before
+pub record OpensNotOne (routes : List RouteSpan) (map : PageMap) (directory : DirectoryItems) (definitions : CatalogueItems) (item : TableItem) (before : ℕ → ℕ) : Type 0 where
   pub none : (table : TableContents) → IsTable directory definitions.indexes item table → LiesTable map directory.accepted table
-      → ((number : ℕ) → (before & table_pages table) number ≤ 1) → ⊥
+      → IsTableMeant routes directory.accepted item table → ((number : ℕ) → (before & table_pages table) number ≤ 1) → ⊥
 
--- the tables lie there as these items and the directory say, and each of their pages was reached once more
-pub record OpensTables (file : PageMap) (directory : DirectoryItems) (definitions : CatalogueItems) (items : List TableItem) (opened : List OpenedTable) (before after : ℕ → ℕ) : Type 0 where
+-- the tables lie there as these items and the directory say, they are meant, and each of their pages was reached once more
+pub record OpensTables (routes : List RouteSpan) (file : PageMap) (directory : DirectoryItems) (definitions : CatalogueItems) (items : List TableItem) (opened : List OpenedTable) (before after : ℕ → ℕ) : Type 0 where
   pub tables : List TableContents
   pub are : AllZip (IsTable directory definitions.indexes) items tables
   pub lie : AllByRecursion (LiesTable file directory.accepted) tables
+  pub meant : AllZip (IsTableMeant routes directory.accepted) items tables
   pub as_opened : AllZip IsOpened opened tables
   pub reached : (number : ℕ) → after number ≡ (before & all_of (map table_pages tables)) number
 
--- no tables lie there as the definitions and the directory say, in pages that weren't reached before
-pub record OpensNoTables (file : PageMap) (directory : DirectoryItems) (definitions : CatalogueItems) (before : ℕ → ℕ) : Type 0 where
+-- no tables that are meant lie there as the definitions and the directory say, in pages that weren't reached before
+pub record OpensNoTables (routes : List RouteSpan) (file : PageMap) (directory : DirectoryItems) (definitions : CatalogueItems) (before : ℕ → ℕ) : Type 0 where
   pub none : (tables : List TableContents) → AllZip (IsTable directory definitions.indexes) definitions.tables tables
-      → AllByRecursion (LiesTable file directory.accepted) tables → ((number : ℕ) → (before & all_of (map table_pages tables)) number ≤ 1) → ⊥
+      → AllByRecursion (LiesTable file directory.accepted) tables → AllZip (IsTableMeant routes directory.accepted) definitions.tables tables
+      → ((number : ℕ) → (before & all_of (map table_pages tables)) number ≤ 1) → ⊥
 
 -- the tables, the referents and the free pages lie there as the definitions and the directory say, and each of their pages was
 -- reached once more
-pub record OpensParts (map : PageMap) (directory : DirectoryItems) (definitions : CatalogueItems) (opened : List OpenedTable) (state : ReferentTableState) (before after : ℕ → ℕ) : Type 0 where
+pub record OpensParts (routes : List RouteSpan) (map : PageMap) (directory : DirectoryItems) (definitions : CatalogueItems) (opened : List OpenedTable) (state : ReferentTableState) (before after : ℕ → ℕ) : Type 0 where
   pub with_tables : ℕ → ℕ
   pub with_referents : ℕ → ℕ
-  pub tables : OpensTables map directory definitions definitions.tables opened before with_tables
-  pub referents : OpensRecords kept_referents map (told_of directory.referents directory.accepted) state.working with_tables with_referents
+  pub tables : OpensTables routes map directory definitions definitions.tables opened before with_tables
+  pub referents : OpensRecords kept_referents map (told_of directory.referents directory.accepted) (AreReferentsMeant routes directory.accepted) state.working with_tables with_referents
   pub free : ReachesFree map with_referents after
 
 -- the numbers past the last page, page 0, the directory, and these pages
 abbrev pub reached_first : PageMap → List ℕ → ℕ → ℕ
 reached_first map pages = taken (replicate map.fields.pages false) & (one_at 0 & (one_at 1 & times pages))
 
--- no contents with these definitions and this directory are there, where just the pages of the definitions were reached before
-pub record OpensNoParts (map : PageMap) (directory : DirectoryItems) (definitions : CatalogueItems) (before : ℕ → ℕ) : Type 0 where
+-- no contents with these definitions and this directory are there whose records are meant, where just the pages of the definitions were reached before
+pub record OpensNoParts (routes : List RouteSpan) (map : PageMap) (directory : DirectoryItems) (definitions : CatalogueItems) (before : ℕ → ℕ) : Type 0 where
   pub none : (contents : Contents) → contents.directory ≡ directory → contents.definitions ≡ definitions
-      → ((number : ℕ) → before number ≡ reached_first map contents.pages number) → HoldsAll map contents → ⊥
+      → ((number : ℕ) → before number ≡ reached_first map contents.pages number) → HoldsAll map contents → AreRecordsMeantOn routes contents → ⊥
 
 -- whatever the pages are: the definitions and the directory fit one another
 pub record AreSound (definitions : CatalogueItems) (directory : DirectoryItems) : Type 0 where
@@ -99,14 +106,15 @@ pub record LoadsSaid (map : PageMap) (pages : List ℕ) (definitions : Catalogue
   pub has : HasDirectory map directory
   pub loads : LoadsCatalogue map before after pages definitions
 
--- no contents are there whose definitions lie in pages that weren't reached before
+-- no contents whose records are meant are there, whose definitions lie in pages that weren't reached before
 pub record LoadsNothingSaid (map : PageMap) (before : ℕ → ℕ) : Type 0 where
-  pub none : (contents : Contents) → ((number : ℕ) → (before & times contents.pages) number ≤ 1) → HoldsAll map contents → ⊥
+  pub none : (contents : Contents) → ((number : ℕ) → (before & times contents.pages) number ≤ 1) → HoldsAll map contents → AreRecordsMeant contents → ⊥
 
--- the file holds these contents, opened
+-- the file holds these contents, opened, whose records are meant
 pub record LoadsContents (map : PageMap) (file : OpenedFile) : Type 0 where
   pub contents : Contents
   pub holds : HoldsAll map contents
+  pub meant : AreRecordsMeant contents
   pub definitions : contents.definitions ≡ said_catalogue file.definitions
   pub pages : contents.pages ≡ file.pages.items
   pub tables : AllZip IsOpened file.tables.items contents.tables
@@ -123,6 +131,6 @@ pub record IsFile (file : OpenedFile) : Type 0 where
   pub committed : file.referents.committed ≡ file.referents.working
   pub order : AllByRecursion (λ dead. died_of dead ≤ file.accepted) file.referents.working.dead
 
--- the file holds no contents
+-- the file holds no contents whose records are meant
 pub record HoldsNothing (map : PageMap) : Type 0 where
-  pub none : (contents : Contents) → HoldsAll map contents → ⊥
+  pub none : (contents : Contents) → HoldsAll map contents → AreRecordsMeant contents → ⊥

@@ -1,12 +1,15 @@
 //! This module reads a file and checks it as a whole.
 
-ghost use Rattle.std.specs.Prelude.{◌≡◌, ◌≤◌, ◌<◌, ◌^◌, Err, IfOk, IsOkUnless, IsPermutation, OnErr, OnOk, ℕ, false, map, replicate};
+ghost use Rattle.std.specs.Prelude.{◌≡◌, ◌≤◌, ◌<◌, ◌^◌, ◌↔◌, ◌⊎◌, Err, IfErr, IfOk, IsOkUnless, IsTrue, IsPermutation, OnErr, OnOk, ℕ, false, map, replicate};
 ghost use Rattle.std.specs.List.{AllByRecursion};
 ghost use Rattle.std.specs.List.Sorted.{IsNonDecreasing};
 ghost use Rattle.rs_catalog_pages.specs.Said.{said_catalogue, said_directory};
+ghost use Rattle.rs_catalog_pages.specs.Said.{said_route};
 ghost use Rattle.rs_contents.specs.Calls.{Loads, RefusesToLoad};
+ghost use Rattle.rs_contents.specs.Meant.{span_of_route};
 ghost use Rattle.rs_contents.specs.Opening.{AreSound, IsFile, LoadsNothingSaid, LoadsSaid};
-ghost use Rattle.rs_page_owners.specs.Counts.{◌&◌, one_at};
+ghost use Rattle.rs_page_owners.specs.Counts.{◌&◌, one_at, times};
+ghost use Rattle.rs_versioned.specs.Meant.{AreRising};
 ghost use Rattle.rs_pages.specs.Calls.{OnlyReads};
 ghost use Rattle.rs_page_marks.specs.Marks.{taken};
 
@@ -18,13 +21,14 @@ use rs_page::PageNumber;
 use rs_page_marks::Reached;
 use rs_pages::Pages;
 use rs_refusal::Refusal;
+use rs_versioned::RouteSpan;
 use std::alloc::{AllocError, Global};
 
 /// The versions of a file are below this.
 const VERSIONS: u64 = 0x8000_0000_0000_0000;
 
-/// Opens all that a file holds, and checks that each page has one owner. Ok only where the file holds contents, which are then
-/// those that are answered; 94 only where it holds none. It may be refused with 90 or 91 instead. No page changes.
+/// Opens all that a file holds, and checks that each page has one owner. Ok only where the file holds contents whose records are
+/// meant in the version that was accepted last, which are then those that are answered; 94 only where it holds none. It may be refused with 90 or 91 instead. No page changes.
 pub fn load<P: Pages>(alloc: Global, pages: &mut P) -> Result<OpenedFile, Refusal>
     ensures rests { OnlyReads P.Pages result pages.old pages.new }
     ensures loads { Loads P.Pages result pages.old }
@@ -33,7 +37,7 @@ pub fn load<P: Pages>(alloc: Global, pages: &mut P) -> Result<OpenedFile, Refusa
 {
     let mut reached = first_two(alloc, pages.count())?;
     let (numbers, definitions, directory) = load_said(alloc, pages, &mut reached)?;
-    let routes = route_numbers(alloc, definitions.routes.as_slice())?;
+    let routes = rising_routes(alloc, definitions.routes.as_slice())?;
     let (tables, referents) = open_parts(
         alloc,
         pages,
@@ -64,8 +68,8 @@ fn first_two(alloc: Global, count: u32) -> Result<Reached, AllocError>
 }
 
 /// Reads the definitions and the directory, and checks the numbers and the versions in them; the pages of the definitions are
-/// marked. It is refused with 90, with 91, and with 94 only where no contents are there whose definitions lie in pages that
-/// weren't reached before. No page changes. Which pages are marked after a refusal is unspecified.
+/// marked. It is refused with 90, with 91, and with 94 only where no contents whose records are meant are there, whose definitions
+/// lie in pages that weren't reached before. No page changes. Which pages are marked after a refusal is unspecified.
 fn load_said<P: Pages>(
     alloc: Global,
     pages: &mut P,
@@ -99,15 +103,41 @@ fn check_versions(routes: &[StoredRoute], accepted: u64) -> Result<(), Refusal>
     }
 }
 
-/// The numbers of the routes, the least first.
-fn route_numbers(alloc: Global, routes: &[StoredRoute]) -> Result<Vec<u32>, AllocError>
-    ensures all { IfOk result (λ numbers. IsPermutation (map (λ route. route.number) routes.now) numbers.items) }
-    ensures rising { IfOk result (λ numbers. IsNonDecreasing numbers.items) }
+/// The routes by rising numbers. It is refused with 90, and with 94 where two have one number.
+fn rising_routes(alloc: Global, routes: &[StoredRoute]) -> Result<Vec<RouteSpan>, Refusal>
+    ensures all { IfOk result (λ spans. IsPermutation (map span_of_route (map said_route routes.now)) spans.items) }
+    ensures rising { IfOk result (λ spans. AreRising spans.items) }
+    ensures twice { result ≡ Err Refusal.DamagedFile
+        → ((number : ℕ) → times (map (λ route. route.number) (map said_route routes.now)) number ≤ 1) → ⊥ }
+    ensures refused { IfErr result (λ why. (why ≡ Refusal.OutOfMemory) ⊎ (why ≡ Refusal.DamagedFile)) }
 {
-    let mut numbers = Vec::with_capacity(alloc, routes.len())?;
-    for route in routes {
-        numbers.push(route.number)?;
+    let spans = spans_by_number(alloc, routes)?;
+    if !are_rising(&spans) {
+        return Err(Refusal::DamagedFile);
     }
-    numbers.sort_unstable();
-    Ok(numbers)
+    Ok(spans)
+}
+
+/// The routes by their numbers, the least first.
+fn spans_by_number(alloc: Global, routes: &[StoredRoute]) -> Result<Vec<RouteSpan>, AllocError>
+    ensures all { IfOk result (λ spans. IsPermutation (map span_of_route (map said_route routes.now)) spans.items) }
+    ensures sorted { IfOk result (λ spans. IsNonDecreasing (map (λ span. span.number) spans.items)) }
+{
+    let mut spans = Vec::with_capacity(alloc, routes.len())?;
+    for route in routes {
+        spans.push(RouteSpan {
+            number: route.number,
+            start: route.start,
+            finish: route.finish,
+        })?;
+    }
+    spans.sort_unstable_by_key(|span| span.number);
+    Ok(spans)
+}
+
+/// Whether each number is below those after it.
+fn are_rising(spans: &[RouteSpan]) -> bool
+    ensures { IsTrue result ↔ AreRising spans.now }
+{
+    spans.is_sorted_by(|one, next| one.number < next.number)
 }

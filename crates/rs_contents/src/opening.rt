@@ -2,10 +2,12 @@
 
 ghost use Rattle.std.specs.Prelude.{◌≡◌, ◌≤◌, ◌↔◌, Err, IfOk, IsTrue, OnOk, length};
 ghost use Rattle.std.specs.List.{AllByRecursion, AllZip};
+ghost use Rattle.rs_catalog_pages.specs.Items.{kind_of};
 ghost use Rattle.rs_catalog_pages.specs.Said.{said_catalogue, said_directory, said_table, said_tree};
 ghost use Rattle.rs_contents.specs.Calls.{RefusesToLoad};
 ghost use Rattle.rs_contents.specs.Opening.{IsTableOf, OpensNoParts, OpensNoTables, OpensNotOne, OpensOne, OpensParts, OpensTables, told_of};
 ghost use Rattle.rs_pages.specs.Calls.{OnlyReads};
+ghost use Rattle.rs_versioned.specs.Meant.{AreRising};
 ghost use Rattle.rs_page_marks.specs.Marks.{taken, unmarked};
 ghost use Rattle.rs_cell_versions.specs.Version.{died_of};
 
@@ -16,22 +18,25 @@ use rs_catalog_pages::{StoredCatalogue, StoredDirectory, StoredTable, StoredTree
 use rs_page_marks::Reached;
 use rs_pages::Pages;
 use rs_refusal::Refusal;
-use rs_versioned::{ReferentTable, ToldRecords};
+use rs_attr::ToldTable;
+use rs_value::Kind;
+use rs_versioned::{ReferentTable, RouteSpan, ToldRecords};
 use std::alloc::Global;
 
 /// The tables with their indexes, and the referents; their pages and the free ones are marked, and no page is left. It is
-/// refused with 90, with 91, and with 94 only where no contents with these definitions and this directory are there, of which
-/// just the pages of the definitions were reached before. No page changes. Which pages are marked after a refusal is unspecified.
+/// refused with 90, with 91, and with 94 only where no contents with these definitions and this directory are there whose records
+/// are meant, of which just the pages of the definitions were reached before. The routes are given by rising numbers. No page changes. Which pages are marked after a refusal is unspecified.
 pub(crate) fn open_parts<P: Pages>(
     alloc: Global,
     pages: &mut P,
     definitions: &StoredCatalogue,
     directory: &StoredDirectory,
-    routes: &[u32],
+    routes: &[RouteSpan],
     reached: &mut Reached,
 ) -> Result<(Vec<OpenedTable>, ReferentTable), Refusal>
+    requires rising { AreRising routes.now }
     ensures rests { OnlyReads P.Pages result pages.old pages.new }
-    ensures opens { P.is_tied pages.old → IfOk result (λ parts. OpensParts (P.store pages.old).map (said_directory directory.now)
+    ensures opens { P.is_tied pages.old → IfOk result (λ parts. OpensParts routes.now (P.store pages.old).map (said_directory directory.now)
         (said_catalogue definitions.now) parts.0.items parts.1 (taken reached.old) (taken reached.new)) }
     ensures tables { IfOk result (λ parts. AllZip (IsTableOf (said_directory directory.now) (said_catalogue definitions.now))
         (said_catalogue definitions.now).tables parts.0.items) }
@@ -39,7 +44,7 @@ pub(crate) fn open_parts<P: Pages>(
     ensures committed { IfOk result (λ parts. parts.1.committed ≡ parts.1.working) }
     ensures order { IfOk result (λ parts. AllByRecursion (λ dead. died_of dead ≤ directory.now.accepted) parts.1.working.dead) }
     ensures refused { RefusesToLoad result }
-    ensures damaged { P.is_tied pages.old → result ≡ Err Refusal.DamagedFile → OpensNoParts (P.store pages.old).map
+    ensures damaged { P.is_tied pages.old → result ≡ Err Refusal.DamagedFile → OpensNoParts routes.now (P.store pages.old).map
         (said_directory directory.now) (said_catalogue definitions.now) (taken reached.old) }
 {
     let tables = open_tables(alloc, pages, definitions, directory, routes, reached)?;
@@ -72,24 +77,25 @@ fn told_of(tree: &StoredTree, accepted: u64) -> ToldRecords
 }
 
 /// The tables with their indexes; their pages are marked. Ok only where they lie there as the definitions and the directory
-/// say, in pages none of which was reached before; 94 only where no such tables do; 90 and 91. No page changes. Which pages are
+/// say, and are meant, in pages none of which was reached before; 94 only where no such tables do; 90 and 91. No page changes. Which pages are
 /// marked after a refusal is unspecified.
 fn open_tables<P: Pages>(
     alloc: Global,
     pages: &mut P,
     definitions: &StoredCatalogue,
     directory: &StoredDirectory,
-    routes: &[u32],
+    routes: &[RouteSpan],
     reached: &mut Reached,
 ) -> Result<Vec<OpenedTable>, Refusal>
+    requires rising { AreRising routes.now }
     ensures rests { OnlyReads P.Pages result pages.old pages.new }
     ensures size { length reached.new ≡ length reached.old }
-    ensures opens { P.is_tied pages.old → IfOk result (λ tables. OpensTables (P.store pages.old).map (said_directory directory.now)
+    ensures opens { P.is_tied pages.old → IfOk result (λ tables. OpensTables routes.now (P.store pages.old).map (said_directory directory.now)
         (said_catalogue definitions.now) (said_catalogue definitions.now).tables tables.items (taken reached.old) (taken reached.new)) }
     ensures tables { IfOk result (λ tables. AllZip (IsTableOf (said_directory directory.now) (said_catalogue definitions.now))
         (said_catalogue definitions.now).tables tables.items) }
     ensures refused { RefusesToLoad result }
-    ensures damaged { P.is_tied pages.old → result ≡ Err Refusal.DamagedFile → OpensNoTables (P.store pages.old).map
+    ensures damaged { P.is_tied pages.old → result ≡ Err Refusal.DamagedFile → OpensNoTables routes.now (P.store pages.old).map
         (said_directory directory.now) (said_catalogue definitions.now) (taken reached.old) }
 {
     let mut tables = Vec::new(alloc);
@@ -101,7 +107,7 @@ fn open_tables<P: Pages>(
 }
 
 /// The table of an item with its indexes; their pages are marked. Ok only where it lies there as the item and the directory
-/// say, in pages none of which was reached before; 94 only where no such table does; 90 and 91. No page changes. Which pages are
+/// say, and is meant, in pages none of which was reached before; 94 only where no such table does; 90 and 91. No page changes. Which pages are
 /// marked after a refusal is unspecified.
 fn open_table<P: Pages>(
     alloc: Global,
@@ -109,16 +115,17 @@ fn open_table<P: Pages>(
     definitions: &StoredCatalogue,
     directory: &StoredDirectory,
     item: &StoredTable,
-    routes: &[u32],
+    routes: &[RouteSpan],
     reached: &mut Reached,
 ) -> Result<OpenedTable, Refusal>
+    requires rising { AreRising routes.now }
     ensures rests { OnlyReads P.Pages result pages.old pages.new }
     ensures size { length reached.new ≡ length reached.old }
-    ensures opens { P.is_tied pages.old → IfOk result (λ table. OpensOne (P.store pages.old).map (said_directory directory.now)
+    ensures opens { P.is_tied pages.old → IfOk result (λ table. OpensOne routes.now (P.store pages.old).map (said_directory directory.now)
         (said_catalogue definitions.now) (said_table item.now) table (taken reached.old) (taken reached.new)) }
     ensures table { IfOk result (IsTableOf (said_directory directory.now) (said_catalogue definitions.now) (said_table item.now)) }
     ensures refused { RefusesToLoad result }
-    ensures damaged { P.is_tied pages.old → result ≡ Err Refusal.DamagedFile → OpensNotOne (P.store pages.old).map
+    ensures damaged { P.is_tied pages.old → result ≡ Err Refusal.DamagedFile → OpensNotOne routes.now (P.store pages.old).map
         (said_directory directory.now) (said_catalogue definitions.now) (said_table item.now) (taken reached.old) }
 {
     let Some(schema) = schema_of(item) else {
@@ -129,15 +136,25 @@ fn open_table<P: Pages>(
     };
     let items = definitions.indexes.as_slice();
     let indexes = indexes_of(alloc, &schema, item.number, items, directory)?;
-    let told = told_of(tree, directory.accepted);
+    let told = ToldTable {
+        kind: kind_of(item.kind),
+        schema,
+        records: told_of(tree, directory.accepted),
+    };
     let records = rs_attr::open(
         alloc,
         pages,
-        schema,
         told,
         indexes.as_slice(),
         routes,
         reached,
     )?;
     Ok(OpenedTable { records, indexes })
+}
+
+/// The kind that a table's item says: points where its code is 0, else lines.
+fn kind_of(code: u8) -> Kind
+    ensures { result ≡ kind_of code }
+{
+    if code == 0 { Kind::Point } else { Kind::Line }
 }

@@ -1,5 +1,6 @@
 pub mod Cuts
 pub mod MovedTexts
 pub mod MovedQueries
+pub mod NameTexts
 pub mod ViewTexts
 mod Selected

@@ -11,6 +11,10 @@ pub mod KeptReferents
 pub mod KeptRecords
 pub mod Lifting
 pub mod ReferentCells
+pub mod MeantLists
+pub mod MeantOpened
+pub mod MeantParts
+pub mod MeantRoutes
 pub mod NameOrder
 pub mod Numbers
 pub mod OnRoutes
@@ -18,6 +22,7 @@ pub mod Opened
 pub mod Overlapping
 pub mod Present
 pub mod PrintingOrder
+pub mod RisingNames
 pub mod RunsByVersion
 pub mod RunsPrinted
 pub mod SameRuns

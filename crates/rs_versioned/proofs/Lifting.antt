@@ -42,7 +42,7 @@ module _ {R : Type 0} (says : List ℕ → R → Type 0) where
       let p = zip_parts xs ys rs all.1 in
       record { first = r ∷ p.first; rest = p.rest; joined = ap (λ (l : List R). r ∷ l) p.joined; say_first = (all.0, p.say_first); say_rest = p.say_rest }
 
-  zip_join : (xs ys : List (List ℕ)) (rs ss : List R) → AllZip says xs rs → AllZip says ys ss → AllZip says (xs ++ ys) (rs ++ ss)
+  pub zip_join : (xs ys : List (List ℕ)) (rs ss : List R) → AllZip says xs rs → AllZip says ys ss → AllZip says (xs ++ ys) (rs ++ ss)
   zip_join [] ys [] ss first last = last
   zip_join [] ys (r ∷ rs) ss first last = absurd first
   zip_join (x ∷ xs) ys [] ss first last = absurd first

@@ -84,7 +84,7 @@ module _ (version route : ℕ) where
     by_test true is others = (not_before cell c one e says all.0 (on ∙ sym (on_route e is)) above.0, others)
     by_test false is others = others
 
-  in_order : (cells : List (List ℕ)) (referents : List ReferentRecord) → AllZip SaysReferent cells referents → Ascends cells → AreInNameOrder (referents_at version route referents)
+  pub in_order : (cells : List (List ℕ)) (referents : List ReferentRecord) → AllZip SaysReferent cells referents → Ascends cells → AreInNameOrder (referents_at version route referents)
   in_order [] [] all up = tt
   in_order [] (e ∷ es) all up = absurd all
   in_order (c ∷ cs) [] all up = absurd all

@@ -70,6 +70,10 @@ none_lt : (xs : List ℕ) → is_lt (slice_cmp nat_cmp xs []) ≡ false
 none_lt [] = refl
 none_lt (x ∷ xs) = refl
 
+pub below_none : (xs : List ℕ) → is_below xs [] ≡ false
+unfolding is_below
+below_none xs = none_lt xs
+
 -- what begins with a number is below another of as many bytes where the number is
 begins_lt : (k x y : ℕ) (xs : List ℕ) → is_lt (slice_cmp nat_cmp (bytes_high_first k x ++ xs) (bytes_high_first k y)) ≡ nat_lt (x % 256 ^ k) (y % 256 ^ k)
 begins_lt zero x y xs = let same : nat_lt (x % 1) (y % 1) ≡ false = le-ltb (x % 1) (y % 1) (omega arith) in none_lt xs ∙ sym same
@@ -79,7 +83,7 @@ begins_lt (suc k) x y xs =
     ∙ digits_lt (byte_at k x) (byte_at k y) (256 ^ k) (x % 256 ^ k) (y % 256 ^ k) (x % 256 ^ suc k) (y % 256 ^ suc k)
     (mod-lt x (above_none k)) (mod-lt y (above_none k)) (digit_more k x) (digit_more k y)
 
-below_word : (x y : ℕ) (xs : List ℕ) → x < 2 ^ 32 → y < 2 ^ 32 → is_below (to_be_bytes w32 x ++ xs) (to_be_bytes w32 y) ≡ nat_lt x y
+pub below_word : (x y : ℕ) (xs : List ℕ) → x < 2 ^ 32 → y < 2 ^ 32 → is_below (to_be_bytes w32 x ++ xs) (to_be_bytes w32 y) ≡ nat_lt x y
 unfolding is_below
 below_word x y xs few small =
     begins_lt 4 x y xs ∙ ap (λ (n : ℕ). nat_lt n (y % 2 ^ 32)) (mod-eq_of_lt few) ∙ ap (λ (n : ℕ). nat_lt x n) (mod-eq_of_lt small)
@@ -115,7 +119,7 @@ referent_within route cell referent known says =
     ap (λ (t : Bool). not t && is_below cell (to_be_bytes w32 (route + 1))) low ∙ ap (λ (t : Bool). not (nat_lt referent.route route) && t) high ∙ between_is referent.route route
 
 -- two tests, one after the other
-filter_both : {A : Type 0} (p q : A → Bool) (xs : List A) → filter q (filter p xs) ≡ filter (λ x. p x && q x) xs
+pub filter_both : {A : Type 0} (p q : A → Bool) (xs : List A) → filter q (filter p xs) ≡ filter (λ x. p x && q x) xs
 filter_both p q [] = refl
 filter_both p q (x ∷ xs) = by_test (p x) (filter_both p q xs) where
   by_test : (b : Bool) → filter q (filter p xs) ≡ filter (λ y. p y && q y) xs

@@ -14,7 +14,7 @@ use Rattle.rs_versioned.specs.Opening.{OpensNone, OpensRecords, StandsAs}
 use Rattle.rs_versioned.specs.Records.{Kept}
 use Rattle.rs_cell_versions.specs.Opening.{StandsOtherwise, StandsTold, Told, told_of}
 use Rattle.rs_cell_versions.specs.Versioned.{Standing}
-use Rattle.rs_cell_versions.proofs.Dated.{all_both, all_kept}
+use Rattle.rs_cell_versions.proofs.Dated.{all_both}
 use Rattle.rs_cell_versions.proofs.Looks.{FindsWithin, below_parted, cells_from, none_below_nothing}
 use Rattle.rs_cell_versions.proofs.Staying.{tree_same}
 
@@ -87,18 +87,18 @@ stands_back form old new same told dead stands cells used tree =
     let here = stands cells used (tree_same form old new same told.root cells used tree) in
     record { holds = record { tree = tree; living = here.holds.living; dead = here.holds.dead }; garbage = here.garbage; dated = here.dated }
 
-module _ {R : Type 0} (kept : Kept R) (pages : PageMap) (told : ToldRecords) where
+module _ {R : Type 0} (kept : Kept R) (pages : PageMap) (told : ToldRecords) (IsSo : List R → Type 0) where
   -- where no tree stands in pages of its own, no records do
-  pub none_fresh : (before : ℕ → ℕ) → HasNoFreshTree kept.form pages told.root before → OpensNone kept pages told before
+  pub none_fresh : (before : ℕ → ℕ) → HasNoFreshTree kept.form pages told.root before → OpensNone kept pages told IsSo before
   none_fresh before none = record {
-    none = λ standing records used as_told holds fresh.
+    none = λ standing records used as_told holds so fresh.
         none.none holds.cells used (subst (λ (root : ℕ). IsTree kept.form pages root holds.cells used) as_told.root holds.holds.tree) fresh;
   }
 
   -- nor where its cells are not as they were told
-  pub none_otherwise : (before : ℕ → ℕ) (width : ℕ) → StandsOtherwise kept.form pages (told_of width told) → OpensNone kept pages told before
+  pub none_otherwise : (before : ℕ → ℕ) (width : ℕ) → StandsOtherwise kept.form pages (told_of width told) → OpensNone kept pages told IsSo before
   none_otherwise before width other = record {
-    none = λ standing records used as_told holds fresh.
+    none = λ standing records used as_told holds so fresh.
         other.none standing.dead holds.cells used (record {
           holds = record {
             tree = subst (λ (root : ℕ). IsTree kept.form pages root holds.cells used) as_told.root holds.holds.tree;
@@ -110,25 +110,25 @@ module _ {R : Type 0} (kept : Kept R) (pages : PageMap) (told : ToldRecords) whe
         });
   }
 
-  -- nor where some of its cells don't say records
-  pub none_unsaid : (before : ℕ → ℕ) (test : List ℕ → Bool) (found : List (List ℕ)) → FindsWhere kept.form pages told.root test found → (SayEach kept.says found → ⊥) → OpensNone kept pages told before
-  none_unsaid before test found finds unsaid = record {
-    none = λ standing records used as_told holds fresh.
-        let tree = subst (λ (root : ℕ). IsTree kept.form pages root holds.cells used) as_told.root holds.holds.tree in
-        unsaid (subst (SayEach kept.says) (sym (finds holds.cells used tree))
-        (all_kept (λ cell. (one : R) × kept.says cell one) test holds.cells (each_of_listed kept.says holds.cells records holds.say)));
+  -- nor where, whatever tree stands there, its cells say no such records
+  pub none_so : (before : ℕ → ℕ) → ((cells : List (List ℕ)) (used : ℕ → ℕ) (records : List R) → IsTree kept.form pages told.root cells used → AllZip kept.says cells records → IsSo records → ⊥)
+      → OpensNone kept pages told IsSo before
+  none_so before none = record {
+    none = λ standing records used as_told holds so fresh.
+        none holds.cells used records (subst (λ (root : ℕ). IsTree kept.form pages root holds.cells used) as_told.root holds.holds.tree) holds.say so;
   }
 
-  -- where the cells below a bound say records, and those that are left too, the records lie there
+  -- where the cells below a bound say records, and those that are left too, and such records are so, they lie there
   pub opens_records : (standing : Standing) (before after : ℕ → ℕ) (width : ℕ) (low : List ℕ) (left : List (List ℕ)) → Validates kept.form pages told.root before after → StandsAs told standing
       → ((cells : List (List ℕ)) (used : ℕ → ℕ) → IsTree kept.form pages told.root cells used → StandsTold kept.form pages (told_of width told) standing.dead cells used)
       → SaysBelow kept.says kept.form pages told.root low → FindsWhere kept.form pages told.root (λ cell. not (is_below cell low)) left → SayEach kept.says left
-      → OpensRecords kept pages told standing before after
-  opens_records standing before after width low left valid as_told stands so finds say =
+      → ((cells : List (List ℕ)) (used : ℕ → ℕ) (records : List R) → IsTree kept.form pages told.root cells used → AllZip kept.says cells records → IsSo records)
+      → OpensRecords kept pages told IsSo standing before after
+  opens_records standing before after width low left valid as_told stands says finds say so =
       let cells : List (List ℕ) = valid.cells in
       let here = stands cells valid.used valid.tree in
       let rest : SayEach kept.says (cells_from low cells) = subst (SayEach kept.says) (finds cells valid.used valid.tree) say in
-      let all = all_of_parts (λ cell. (one : R) × kept.says cell one) (λ cell. is_below cell low) cells (so.each cells valid.used valid.tree) rest in
+      let all = all_of_parts (λ cell. (one : R) × kept.says cell one) (λ cell. is_below cell low) cells (says.each cells valid.used valid.tree) rest in
       let said = listed_records kept.says cells all in
       record {
         as_told = as_told;
@@ -144,5 +144,6 @@ module _ {R : Type 0} (kept : Kept R) (pages : PageMap) (told : ToldRecords) whe
           say = said.1;
           dated = here.dated;
         };
+        so = so cells valid.used said.0 valid.tree said.1;
         reached = valid.reached;
       }

@@ -1,6 +1,8 @@
 pub mod Calls
 pub mod EventCalls
 pub mod Events
+pub mod Meant
+pub mod MeantParts
 pub mod Opening
 pub mod ReferentCalls
 pub mod Referents

@@ -12,15 +12,16 @@ pub record StandsAs (told : ToldRecords) (standing : Standing) : Type 0 where
   pub living : standing.living ≡ told.living
   pub garbage : length standing.dead ≡ told.garbage
 
--- records lie there as they were told, and each of their pages was reached once more
-pub record OpensRecords {R : Type 0} (kept : Kept R) (pages : PageMap) (told : ToldRecords) (standing : Standing) (before after : ℕ → ℕ) : Type 0 where
+-- records of which this is so lie there as they were told, and each of their pages was reached once more
+pub record OpensRecords {R : Type 0} (kept : Kept R) (pages : PageMap) (told : ToldRecords) (IsSo : List R → Type 0) (standing : Standing) (before after : ℕ → ℕ) : Type 0 where
   pub as_told : StandsAs told standing
   pub records : List R
   pub used : ℕ → ℕ
   pub holds : HoldsRecords kept pages standing told.accepted records used
+  pub so : IsSo records
   pub reached : (number : ℕ) → after number ≡ (before & used) number
 
--- no records lie there as they were told, in pages that weren't reached before
-pub record OpensNone {R : Type 0} (kept : Kept R) (pages : PageMap) (told : ToldRecords) (before : ℕ → ℕ) : Type 0 where
+-- no records of which this is so lie there as they were told, in pages that weren't reached before
+pub record OpensNone {R : Type 0} (kept : Kept R) (pages : PageMap) (told : ToldRecords) (IsSo : List R → Type 0) (before : ℕ → ℕ) : Type 0 where
   pub none : (standing : Standing) (records : List R) (used : ℕ → ℕ) → StandsAs told standing → HoldsRecords kept pages standing told.accepted records used
-      → ((number : ℕ) → (before & used) number ≤ 1) → ⊥
+      → IsSo records → ((number : ℕ) → (before & used) number ≤ 1) → ⊥

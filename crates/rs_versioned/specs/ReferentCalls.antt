@@ -1,19 +1,25 @@
 -- What the calls of the referents leave of the pages, do, and answer.
-use Rattle.std.specs.Prelude.{◌≡◌, ℕ, Bool, List, Result, IfOk, OnOk, OnErr, filter}
+use Rattle.std.specs.Prelude.{◌≡◌, ◌⊎◌, ℕ, Bool, Err, List, Result, IfErr, IfOk, OnOk, OnErr, filter}
 use Rattle.std.specs.List.{AllZip}
 use Rattle.rs_methods.specs.declared.referents.Referent.{Referent}
 use Rattle.rs_refusal.specs.declared.refusal.Refusal.{Refusal}
+use Rattle.rs_refusal.specs.declared.refusal.Refusal.TheVariants as refusal
 use Rattle.rs_pages.specs.declared.pages.Pages.{Ghosts}
 use Rattle.rs_page_owners.specs.Calls as owners
 use Rattle.rs_records.specs.Listed.{listed}
 use Rattle.rs_records.specs.declared.cells.Cells.{Cells}
 use Rattle.rs_tree.specs.Calls as tree
+use Rattle.rs_cell_versions.specs.Version.{HaveDiedBy}
 use Rattle.rs_cell_versions.specs.Versioned.{HoldsNone}
 use Rattle.rs_cell_versions.specs.declared.cell.TheConstants.{LIVING}
+use Rattle.rs_cell_versions.specs.declared.told.ToldRecords.{ToldRecords}
 use Rattle.rs_versioned.specs.Calls.{IsAdded, IsCleared, IsEnded, IsVacuumed}
+use Rattle.rs_versioned.specs.Meant.{AreReferentsMeant}
+use Rattle.rs_versioned.specs.Opening.{OpensNone, OpensRecords}
 use Rattle.rs_versioned.specs.Records.{HoldsRecords}
 use Rattle.rs_versioned.specs.Referents.{ReferentRecord, SaysReferent, is_referent_of, kept_referents, referent_form}
 use Rattle.rs_versioned.specs.Tables.{ReferentTableState}
+use Rattle.rs_versioned.specs.declared.route_span.RouteSpan.{RouteSpan}
 
 -- the referent, as versions from this one on see it
 abbrev pub record_of : Referent → ℕ → ReferentRecord
@@ -54,3 +60,23 @@ module _ {P : Type 0} (pages : Ghosts P) (was : ReferentTableState) where
   abbrev pub Clears : ReferentTableState → Result (Unit {0}) Refusal → P → P → Type 0
   Clears is result old new = pages.is_tied old
       → OnOk result (IsCleared kept_referents (pages.store old).map (pages.store new).map was.working is.working)
+
+-- what a table that was opened is, whatever the pages are: nothing has changed since the commit, and none died later
+pub record IsOpened (told : ToldRecords) (table : ReferentTableState) : Type 0 where
+  pub committed : table.committed ≡ table.working
+  pub order : HaveDiedBy told.accepted table.working.dead
+
+module _ {P : Type 0} (pages : Ghosts P) (told : ToldRecords) (routes : List RouteSpan) (before : ℕ → ℕ) where
+  -- those that the last version sees are meant beside these routes
+  abbrev pub AreMeantAsTold : List ReferentRecord → Type 0
+  AreMeantAsTold = AreReferentsMeant routes told.accepted
+
+  -- on the pages of an honest disk the referents lie there as they were told, and are meant
+  abbrev pub Opens : (ℕ → ℕ) → Result ReferentTableState Refusal → P → Type 0
+  Opens after result old = pages.is_tied old
+      → IfOk result (λ table. OpensRecords kept_referents (pages.store old).map told AreMeantAsTold table.working before after)
+
+  -- why it is refused: 94, on such pages, only where no such referents lie there
+  pub record RefusesToOpen (result : Result ReferentTableState Refusal) (old : P) : Type 0 where
+    pub cause : IfErr result (λ why. (why ≡ refusal.OutOfMemory) ⊎ (why ≡ refusal.Disk) ⊎ (why ≡ refusal.DamagedFile))
+    pub damaged : pages.is_tied old → result ≡ Err refusal.DamagedFile → OpensNone kept_referents (pages.store old).map told AreMeantAsTold before

@@ -6,12 +6,15 @@
 pub mod event;
 pub mod event_table;
 pub mod laws;
+mod meant;
 pub mod opening;
 pub mod referent;
 pub mod referent_table;
+pub mod route_span;
 pub mod run_laws;
 mod seeing;
 
 pub use event_table::EventTable;
 pub use referent_table::ReferentTable;
+pub use route_span::RouteSpan;
 pub use rs_cell_versions::ToldRecords;

@@ -1,48 +1,44 @@
-//! This module checks referents that lie in a file already against what the file says of them.
+//! This module checks referents that lie in a file already against what the file says of them, and against its routes.
 //!
 //! The cells are read part by part, so that no more than one part is in memory at a time: a part ends where the next of the
-//! given routes begins. Whatever routes are given, each cell is in one part.
+//! routes begins, and so the referents of one route are in one part.
 
-ghost use Rattle.std.specs.Prelude.{◌≡◌, ◌⊎◌, ◌≤◌, Err, IfOk, IfErr, IsOkUnless, OnErr, OnOk, length};
-ghost use Rattle.std.specs.List.{AllByRecursion};
+ghost use Rattle.std.specs.Prelude.{◌≡◌, ◌<◌, ◌^◌, IfOk, length};
+ghost use Rattle.std.specs.Int.{w32, to_be_bytes};
 ghost use Rattle.rs_page_marks.specs.Marks.{taken};
-ghost use Rattle.rs_records.specs.Listed.{listed, record_width};
-ghost use Rattle.rs_versioned.specs.Opening.{OpensNone, OpensRecords};
-ghost use Rattle.rs_versioned.specs.Referents.{ReferentRecord, SaysReferent, kept_referents, referent_width};
-ghost use Rattle.rs_cell_versions.specs.Version.{HaveDiedBy};
 ghost use Rattle.rs_pages.specs.Calls.{OnlyReads};
+ghost use Rattle.rs_versioned.specs.Meant.{AreRising};
+ghost use Rattle.rs_versioned.specs.ReferentCalls.{IsOpened, Opens, RefusesToOpen};
 
-use crate::referent::{REFERENT_BYTES, says_referent};
+use crate::meant::are_part_meant;
+use crate::referent::{REFERENT_BYTES, beginning};
 use crate::referent_table::ReferentTable;
+use crate::route_span::RouteSpan;
 use rs_cell_versions::{Opening, ToldRecords};
 use rs_page_marks::Reached;
 use rs_pages::Pages;
-use rs_records::Cells;
 use rs_refusal::Refusal;
 use rs_tree::NoSummary;
 use std::alloc::Global;
 
 impl ReferentTable {
-    /// The referents that lie in a file already, whose pages it marks. Ok exactly where they lie there as they were told, in
-    /// pages none of which was reached before; 94 where none do; 90 and 91. No page changes. Which pages are marked after a
+    /// The referents that lie in a file already, whose pages it marks. The routes of the last version rise by their numbers. Ok
+    /// exactly where the referents lie there as they were told, in pages none of which was reached before, and those that the
+    /// last version sees are meant beside these routes; 94 where not; 90 and 91. No page changes. Which pages are marked after a
     /// refusal is unspecified.
     pub fn open<P: Pages>(
         alloc: Global,
         pages: &mut P,
         told: ToldRecords,
-        routes: &[u32],
+        routes: &[RouteSpan],
         reached: &mut Reached,
     ) -> Result<ReferentTable, Refusal>
+        requires rising { AreRising routes.now }
         ensures rests { OnlyReads P.Pages result pages.old pages.new }
         ensures size { length reached.new ≡ length reached.old }
-        ensures committed { IfOk result (λ table. table.committed ≡ table.working) }
-        ensures order { IfOk result (λ table. HaveDiedBy told.accepted table.working.dead) }
-        ensures opens { P.is_tied pages.old → IfOk result (λ table. OpensRecords kept_referents (P.store pages.old).map told
-            table.working (taken reached.old) (taken reached.new)) }
-        ensures refused { IfErr result (λ why. (why ≡ Refusal.OutOfMemory) ⊎ (why ≡ Refusal.Disk) ⊎
-            (why ≡ Refusal.DamagedFile)) }
-        ensures damaged { P.is_tied pages.old → result ≡ Err Refusal.DamagedFile → OpensNone kept_referents
-            (P.store pages.old).map told (taken reached.old) }
+        ensures table { IfOk result (IsOpened told) }
+        ensures opens { Opens P.Pages told routes.now (taken reached.old) (taken reached.new) result pages.old }
+        ensures refused { RefusesToOpen P.Pages told routes.now (taken reached.old) result pages.old }
     {
         let mut opening = Opening::<NoSummary>::begin(
             alloc,
@@ -51,32 +47,26 @@ impl ReferentTable {
             &told,
             reached,
         )?;
+        let mut on = None;
         for route in routes {
-            let high = route.to_be_bytes();
-            if !opening.is_past(&high) {
-                let cells = opening.part(alloc, pages, &high)?;
-                check_referents(&cells)?;
+            let cells = opening.part(alloc, pages, &start_of(route.number))?;
+            if !are_part_meant(&cells, on, told.accepted) {
+                return Err(Refusal::DamagedFile);
             }
+            on = Some(*route);
         }
         let (versions, left) = opening.finish(alloc, pages)?;
-        check_referents(&left)?;
+        if !are_part_meant(&left, on, told.accepted) {
+            return Err(Refusal::DamagedFile);
+        }
         Ok(ReferentTable::with(versions))
     }
 }
 
-/// Ok where each of the cells says a referent; 94 where one says none.
-fn check_referents(cells: &Cells) -> Result<(), Refusal>
-    requires width { record_width cells.now ≡ referent_width }
-    ensures say { OnOk result (AllByRecursion (λ cell. (referent : ReferentRecord) × SaysReferent cell referent)
-        (listed cells.now)) }
-    ensures none { OnErr result (AllByRecursion (λ cell. (referent : ReferentRecord) × SaysReferent cell referent)
-        (listed cells.now) → ⊥) }
-    ensures refused { IsOkUnless result Refusal.DamagedFile }
+/// The bytes that no cell is below whose referent is on the route of this number or on a later one.
+fn start_of(number: u32) -> [u8; 4]
+    ensures bytes { result ≡ to_be_bytes w32 number }
+    ensures fits { number < 2 ^ 32 }
 {
-    for place in 0..cells.len() {
-        if !says_referent(cells.get(place)) {
-            return Err(Refusal::DamagedFile);
-        }
-    }
-    Ok(())
+    beginning(number)
 }

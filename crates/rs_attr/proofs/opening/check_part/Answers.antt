@@ -9,6 +9,8 @@ use Rattle.rs_attr.proofs.PartsChecked.{entered_next, no_part_at}
 use Rattle.rs_refusal.specs.declared.refusal.Refusal.TheVariants as refusal
 use Rattle.rs_records.specs.Listed.{listed}
 use Rattle.rs_pages.proofs.Resting.{rests_none, rests_then}
+use Rattle.rs_versioned.specs.Events.{SaysEvent}
+use Rattle.rs_versioned.proofs.Opened.{each_of_listed}
 use Rattle.rs_attr.proofs.opening.check_part.Goals as goal
 
 pub loop-index-init : goal.loop-index-init
@@ -31,7 +33,7 @@ returns-in_err-check_entries-clause-damaged g c = λ tied is.
     let why : c.in_err-check_entries.field-0.0 ≡ refusal.DamagedFile = cc (p.1, p.2, is) in
     no_part_at (g.P.Pages.store c.args.pages.now).map (g.P.Pages.store c.loop-index.pages).map same c.args.indexes.now c.loop-index.index-index c.index-item.result
     (slice_get_read c.args.indexes.now (length c.args.indexes.now) c.loop-index.index-index c.index-item.result refl c.loop-index-test.true c.index-item.is) (listed c.args.cells.now)
-    c.args.schema.now.items (c.in_err-check_entries.ensures.damaged later (ap Err why))
+    c.args.told.now c.args.route (c.in_err-check_entries.ensures.damaged later (ap Err why))
 
 pub loop-index-preserved : goal.loop-index-preserved
 loop-index-preserved g c = record {
@@ -52,7 +54,7 @@ returns-clause-rests g c = c.loop-index.invariant.rests
 
 pub returns-clause-part : goal.returns-clause-part
 returns-clause-part g c = λ tied. record {
-  say = c.in_ok-check_events.ensures.say;
+  say = each_of_listed (SaysEvent c.args.told.now.schema.items) (listed c.args.cells.now) c.in_ok-check_events.ensures.meant.events c.in_ok-check_events.ensures.meant.say;
   entered = subst (λ (xs : List IndexState). HaveAllEntries (g.P.Pages.store c.args.pages.now).map xs (listed c.args.cells.now))
       (take_all c.loop-index.index-index c.args.indexes.now (omega arith)) (c.loop-index.invariant.entered tied);
 }

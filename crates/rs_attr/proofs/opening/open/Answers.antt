@@ -1,12 +1,15 @@
 -- The trees, then the cells route by route, and at last those that are left.
-use Rattle.std.proofs.Common.{◌≡◌, ◌≤◌, ◌∙◌, ◌+◌, ℕ, Result, Ok, Err, List, not, sym, ap, subst}
+use Rattle.std.proofs.Common.{◌≡◌, ◌<◌, ◌≤◌, ◌∙◌, ◌+◌, ◌^◌, ℕ, get_or, Result, Ok, Err, List, length, not, refl, sym, ap, subst, arith}
 use Rattle.std.proofs.lemmas.Result.{err_from_is_err_and}
 use Rattle.std.specs.List.{AllByRecursion}
 use Rattle.rs_attr.specs.Calls.{IsFound}
 use Rattle.rs_attr.specs.Opening.{OpensNoTable, OpensTable}
 use Rattle.rs_attr.specs.Tables.{IndexState}
-use Rattle.rs_attr.proofs.Opened.{below_all, below_next, below_none, found_back, no_fresh_table, no_indexes_table, no_part_table, no_told_table, opens_table, otherwise_as, passed_as, passed_then, stands_back, told_so}
+use Rattle.rs_attr.proofs.Opened.{below_all, below_next, below_none, found_back, meant_all, meant_next, meant_none, no_fresh_table, no_indexes_table, no_part_table, no_told_table, opens_table, otherwise_as, passed_as, passed_then, stands_back, told_so}
 use Rattle.rs_attr.proofs.PartsChecked.{no_part_back, part_back}
+use Rattle.rs_attr.proofs.Routes.{order_at, part_left, part_within, read_at}
+use Rattle.rs_attr.specs.declared.told.ToldTable.{ToldTable}
+use Rattle.rs_versioned.specs.declared.route_span.RouteSpan.{RouteSpan}
 use Rattle.rs_interval.specs.Finding.{event_form}
 use Rattle.rs_refusal.specs.declared.refusal.Refusal.{Refusal}
 use Rattle.rs_refusal.specs.declared.refusal.Refusal.TheVariants as refusal
@@ -26,225 +29,251 @@ use Rattle.rs_cell_versions.specs.Version.{died_of}
 use Rattle.rs_cell_versions.specs.Versioned.{Standing}
 use Rattle.rs_cell_versions.proofs.Looks.{cells_from, passed_same}
 use Rattle.rs_cell_versions.proofs.Refusing.{rests_err, rests_ok}
-use Rattle.rs_attr.proofs.opening.open.Goals.{then-not-is_past+in_ok-cells+in_ok-check_part, else-not-is_past}
 use Rattle.rs_attr.proofs.opening.open.Goals as goal
 
+-- no route is read in place of it
+abbrev none : RouteSpan
+none = record { number = 0; start = 0; finish = 0 }
+
 -- a refusal opens no table
-refused_open : {types : List ColumnType} {pages : PageMap} {told : ToldRecords} {indexes : List IndexState} {before after : ℕ → ℕ} (result : Result EventTableState Refusal) (why : Refusal)
-    → result ≡ Err why → (result ≡ Err refusal.DamagedFile → OpensNoTable types pages told indexes before) → IsFound types pages told indexes before after result
+refused_open : {pages : PageMap} {told : ToldTable} {indexes : List IndexState} {routes : List RouteSpan} {before after : ℕ → ℕ} (result : Result EventTableState Refusal) (why : Refusal)
+    → result ≡ Err why → (result ≡ Err refusal.DamagedFile → OpensNoTable pages told indexes routes before) → IsFound pages told indexes routes before after result
 refused_open (Ok table) why same damaged = let clash : Ok table ≡ Err why = same in absurd (cc)
 refused_open (Err other) why same damaged = record { opens = tt; damaged = damaged }
 
 pub returns-in_err-opening-clause-opens : goal.returns-in_err-opening-clause-opens
 returns-in_err-opening-clause-opens g c = λ tied.
     let old = (g.P.Pages.store c.args.pages.now).map in
-    let width : c.row_width-width.result + 28 ≡ event_width c.args.schema.items = ap (λ (n : ℕ). n + 28) c.row_width-width.ensures in
+    let width : c.row_width-width.result + 28 ≡ event_width c.args.told.schema.items = ap (λ (n : ℕ). n + 28) c.row_width-width.ensures in
     let p = err_from_is_err_and c.from_residual.result c.from_residual.ensures.1 in
     refused_open c.from_residual.result p.0 p.1 (λ is.
     let why : c.in_err-opening.field-0.0 ≡ refusal.DamagedFile = cc (p.1, p.2, is) in
-    no_fresh_table c.args.schema.items old c.args.indexes.now c.args.told (taken c.args.reached.now)
-    (subst (λ (w : ℕ). HasNoFreshTree (event_form w) old c.args.told.root (taken c.args.reached.now)) width (c.in_err-opening.ensures.damaged tied (ap Err why))))
+    no_fresh_table old c.args.indexes.now c.args.told c.args.routes.now (taken c.args.reached.now)
+    (subst (λ (w : ℕ). HasNoFreshTree (event_form w) old c.args.told.records.root (taken c.args.reached.now)) width (c.in_err-opening.ensures.damaged tied (ap Err why))))
 
 pub returns-in_err-reach_indexes-clause-opens : goal.returns-in_err-reach_indexes-clause-opens
 returns-in_err-reach_indexes-clause-opens g c = λ tied.
     let old = (g.P.Pages.store c.args.pages.now).map in
     let mid = (g.P.Pages.store c.begin.new.pages).map in
-    let width : c.row_width-width.result + 28 ≡ event_width c.args.schema.items = ap (λ (n : ℕ). n + 28) c.row_width-width.ensures in
+    let width : c.row_width-width.result + 28 ≡ event_width c.args.told.schema.items = ap (λ (n : ℕ). n + 28) c.row_width-width.ensures in
     let later = g.met.P.Pages.keeps_tied c.args.pages.now c.begin.new.pages c.in_ok-opening.ensures.rests.below tied in
     let same = c.in_ok-opening.ensures.rests.rests.keeps.pages tied in
     let p = err_from_is_err_and c.from_residual-in_err-reach_indexes.result c.from_residual-in_err-reach_indexes.ensures.1 in
     refused_open c.from_residual-in_err-reach_indexes.result p.0 p.1 (λ is.
     let why : c.in_err-reach_indexes.field-0.0 ≡ refusal.DamagedFile = cc (p.1, p.2, is) in
-    no_indexes_table c.args.schema.items old c.args.indexes.now c.args.told (taken c.args.reached.now) mid same (taken c.begin.new.reached)
-    (subst (λ (w : ℕ). Validates (event_form w) old c.args.told.root (taken c.args.reached.now) (taken c.begin.new.reached)) width (c.in_ok-opening.ensures.validates tied))
+    no_indexes_table old c.args.indexes.now c.args.told c.args.routes.now (taken c.args.reached.now) mid same (taken c.begin.new.reached)
+    (subst (λ (w : ℕ). Validates (event_form w) old c.args.told.records.root (taken c.args.reached.now) (taken c.begin.new.reached)) width (c.in_ok-opening.ensures.validates tied))
     (c.in_err-reach_indexes.ensures.damaged later (ap Err why)))
 
-pub loop-route-init : goal.loop-route-init
-loop-route-init g c =
+pub loop-next-init : goal.loop-next-init
+loop-next-init g c =
     let old = (g.P.Pages.store c.args.pages.now).map in
     record {
       rests = rests_then g.P.Pages.is_tied g.P.Pages.store g.P.Pages.keeps c.in_ok-opening.opening (Ok tt) c.args.pages.now c.begin.new.pages c.reach_indexes.new.pages g.met.P.Pages.keeps_trans g.met.P.Pages.keeps_tied
           c.in_ok-opening.ensures.rests c.in_ok-reach_indexes.ensures.rests;
-      told = told_so c.args.schema.items c.args.told (c.row_width-width.result + 28) c.in_ok-opening.opening.told c.in_ok-opening.ensures.told (ap (λ (n : ℕ). n + 28) c.row_width-width.ensures);
-      passed = λ tied. passed_as old (record (told_of (event_width c.args.schema.items) c.args.told) { width = c.row_width-width.result + 28 }) c.in_ok-opening.opening c.in_ok-opening.ensures.told (c.in_ok-opening.ensures.passed old);
-      below = λ tied. below_none c.args.schema.items old c.args.indexes.now c.args.told c.in_ok-opening.opening.low c.in_ok-opening.ensures.low;
+      told = told_so c.args.told.schema.items c.args.told.records (c.row_width-width.result + 28) c.in_ok-opening.opening.told c.in_ok-opening.ensures.told (ap (λ (n : ℕ). n + 28) c.row_width-width.ensures);
+      passed = λ tied. passed_as old (record (told_of (event_width c.args.told.schema.items) c.args.told.records) { width = c.row_width-width.result + 28 }) c.in_ok-opening.opening c.in_ok-opening.ensures.told (c.in_ok-opening.ensures.passed old);
+      below = λ tied. below_none old c.args.indexes.now c.args.told c.args.routes.now c.in_ok-opening.opening.low c.in_ok-opening.ensures.low;
+      at = (refl, c.in_ok-opening.ensures.low);
+      meant = λ tied. meant_none c.args.told c.args.routes.now old c.in_ok-opening.opening.low c.in_ok-opening.ensures.low;
     }
 
 pub returns-in_err-cells-clause-rests : goal.returns-in_err-cells-clause-rests
 returns-in_err-cells-clause-rests g c =
     let p = err_from_is_err_and c.from_residual-in_err-cells.result c.from_residual-in_err-cells.ensures.1 in
     rw (p.1, p.2) (rests_err g.P.Pages.is_tied g.P.Pages.store g.P.Pages.keeps c.in_err-cells.field-0.0 c.args.pages.now c.part.new.pages
-    (rests_then g.P.Pages.is_tied g.P.Pages.store g.P.Pages.keeps tt (Err c.in_err-cells.field-0.0) c.args.pages.now c.loop-route.pages c.part.new.pages g.met.P.Pages.keeps_trans g.met.P.Pages.keeps_tied
-    c.loop-route.invariant.rests c.in_err-cells.ensures.rests))
+    (rests_then g.P.Pages.is_tied g.P.Pages.store g.P.Pages.keeps tt (Err c.in_err-cells.field-0.0) c.args.pages.now c.loop-next.pages c.part.new.pages g.met.P.Pages.keeps_trans g.met.P.Pages.keeps_tied
+    c.loop-next.invariant.rests c.in_err-cells.ensures.rests))
 
 pub returns-in_err-cells-clause-opens : goal.returns-in_err-cells-clause-opens
 returns-in_err-cells-clause-opens g c = λ tied.
     let old = (g.P.Pages.store c.args.pages.now).map in
-    let mid = (g.P.Pages.store c.loop-route.pages).map in
-    let opening = c.loop-route.opening in
-    let later = g.met.P.Pages.keeps_tied c.args.pages.now c.loop-route.pages c.loop-route.invariant.rests.below tied in
-    let same = c.loop-route.invariant.rests.rests.keeps.pages tied in
+    let mid = (g.P.Pages.store c.loop-next.pages).map in
+    let opening = c.loop-next.opening in
+    let later = g.met.P.Pages.keeps_tied c.args.pages.now c.loop-next.pages c.loop-next.invariant.rests.below tied in
+    let same = c.loop-next.invariant.rests.rests.keeps.pages tied in
     let p = err_from_is_err_and c.from_residual-in_err-cells.result c.from_residual-in_err-cells.ensures.1 in
     refused_open c.from_residual-in_err-cells.result p.0 p.1 (λ is.
     let why : c.in_err-cells.field-0.0 ≡ refusal.DamagedFile = cc (p.1, p.2, is) in
-    no_told_table c.args.schema.items old c.args.indexes.now c.args.told (taken c.args.reached.now)
-    (otherwise_as old mid same opening.told (told_of (event_width c.args.schema.items) c.args.told) c.loop-route.invariant.told
-    (c.in_err-cells.ensures.damaged later (ap Err why) (passed_same (event_form opening.told.width) old mid same opening (c.loop-route.invariant.passed tied)))))
+    no_told_table old c.args.indexes.now c.args.told c.args.routes.now (taken c.args.reached.now)
+    (otherwise_as old mid same opening.told (told_of (event_width c.args.told.schema.items) c.args.told.records) c.loop-next.invariant.told
+    (c.in_err-cells.ensures.damaged later (ap Err why) (passed_same (event_form opening.told.width) old mid same opening (c.loop-next.invariant.passed tied)))))
 
 pub check_part-requires-clause-width : goal.check_part-requires-clause-width
-check_part-requires-clause-width g c = c.in_ok-cells.ensures.width ∙ ap (λ (t : Told). t.width) c.loop-route.invariant.told
+check_part-requires-clause-width g c = c.in_ok-cells.ensures.width ∙ ap (λ (t : Told). t.width) c.loop-next.invariant.told
 
 pub returns-in_err-check_part-clause-rests : goal.returns-in_err-check_part-clause-rests
 returns-in_err-check_part-clause-rests g c =
     let p = err_from_is_err_and c.from_residual-in_err-check_part.result c.from_residual-in_err-check_part.ensures.1 in
     rw (p.1, p.2) (rests_err g.P.Pages.is_tied g.P.Pages.store g.P.Pages.keeps c.in_err-check_part.field-0.0 c.args.pages.now c.check_part.new.pages
-    (rests_then g.P.Pages.is_tied g.P.Pages.store g.P.Pages.keeps tt (Err c.in_err-check_part.field-0.0) c.args.pages.now c.loop-route.pages c.check_part.new.pages g.met.P.Pages.keeps_trans g.met.P.Pages.keeps_tied
-    c.loop-route.invariant.rests
-    (rests_then g.P.Pages.is_tied g.P.Pages.store g.P.Pages.keeps c.in_ok-cells.cells (Err c.in_err-check_part.field-0.0) c.loop-route.pages c.part.new.pages c.check_part.new.pages g.met.P.Pages.keeps_trans
+    (rests_then g.P.Pages.is_tied g.P.Pages.store g.P.Pages.keeps tt (Err c.in_err-check_part.field-0.0) c.args.pages.now c.loop-next.pages c.check_part.new.pages g.met.P.Pages.keeps_trans g.met.P.Pages.keeps_tied
+    c.loop-next.invariant.rests
+    (rests_then g.P.Pages.is_tied g.P.Pages.store g.P.Pages.keeps c.in_ok-cells.cells (Err c.in_err-check_part.field-0.0) c.loop-next.pages c.part.new.pages c.check_part.new.pages g.met.P.Pages.keeps_trans
     g.met.P.Pages.keeps_tied c.in_ok-cells.ensures.rests c.in_err-check_part.ensures.rests)))
 
 pub returns-in_err-check_part-clause-opens : goal.returns-in_err-check_part-clause-opens
 returns-in_err-check_part-clause-opens g c = λ tied.
     let old = (g.P.Pages.store c.args.pages.now).map in
-    let mid = (g.P.Pages.store c.loop-route.pages).map in
+    let mid = (g.P.Pages.store c.loop-next.pages).map in
     let last = (g.P.Pages.store c.part.new.pages).map in
-    let opening = c.loop-route.opening in
-    let later = g.met.P.Pages.keeps_tied c.args.pages.now c.loop-route.pages c.loop-route.invariant.rests.below tied in
-    let same = c.loop-route.invariant.rests.rests.keeps.pages tied in
-    let upto = rests_then g.P.Pages.is_tied g.P.Pages.store g.P.Pages.keeps tt (Ok c.in_ok-cells.cells) c.args.pages.now c.loop-route.pages c.part.new.pages g.met.P.Pages.keeps_trans g.met.P.Pages.keeps_tied
-    c.loop-route.invariant.rests c.in_ok-cells.ensures.rests in
+    let opening = c.loop-next.opening in
+    let later = g.met.P.Pages.keeps_tied c.args.pages.now c.loop-next.pages c.loop-next.invariant.rests.below tied in
+    let same = c.loop-next.invariant.rests.rests.keeps.pages tied in
+    let upto = rests_then g.P.Pages.is_tied g.P.Pages.store g.P.Pages.keeps tt (Ok c.in_ok-cells.cells) c.args.pages.now c.loop-next.pages c.part.new.pages g.met.P.Pages.keeps_trans g.met.P.Pages.keeps_tied
+    c.loop-next.invariant.rests c.in_ok-cells.ensures.rests in
     let p = err_from_is_err_and c.from_residual-in_err-check_part.result c.from_residual-in_err-check_part.ensures.1 in
-    let high : List ℕ = c.to_be_bytes-high.result in
+    let high : List ℕ = c.beginning.result in
+    let next = get_or c.args.routes.now c.loop-next.next-index none in
+    let there = read_at c.args.routes.now c.loop-next.next-index none c.loop-next-test.true in
     refused_open c.from_residual-in_err-check_part.result p.0 p.1 (λ is.
     let why : c.in_err-check_part.field-0.0 ≡ refusal.DamagedFile = cc (p.1, p.2, is) in
-    no_part_table c.args.schema.items old c.args.indexes.now c.args.told (taken c.args.reached.now) (is_within opening.low high) (listed c.in_ok-cells.cells)
-    (found_back old mid same opening.told (told_of (event_width c.args.schema.items) c.args.told) c.loop-route.invariant.told (cells_within opening.low high) (listed c.in_ok-cells.cells) (c.in_ok-cells.ensures.found later))
-    (no_part_back old last (upto.rests.keeps.pages tied) c.args.schema.items c.args.indexes.now (listed c.in_ok-cells.cells)
+    no_part_table old c.args.indexes.now c.args.told c.args.routes.now (taken c.args.reached.now) c.loop-next.route (is_within opening.low high) (listed c.in_ok-cells.cells)
+    (part_within c.args.told.schema.items c.args.routes.now c.requires.rising c.loop-next.next-index next there c.beginning.ensures.fits high c.beginning.ensures.bytes c.loop-next.route opening.low c.loop-next.invariant.at)
+    (found_back old mid same opening.told (told_of (event_width c.args.told.schema.items) c.args.told.records) c.loop-next.invariant.told (cells_within opening.low high) (listed c.in_ok-cells.cells) (c.in_ok-cells.ensures.found later))
+    (no_part_back old last (upto.rests.keeps.pages tied) c.args.told c.loop-next.route c.args.indexes.now (listed c.in_ok-cells.cells)
     (c.in_err-check_part.ensures.damaged (g.met.P.Pages.keeps_tied c.args.pages.now c.part.new.pages upto.below tied) (ap Err why))))
 
-pub loop-route-preserved : goal.loop-route-preserved
-loop-route-preserved g c =
+pub part-requires : goal.part-requires
+part-requires g c =
+    let next = get_or c.args.routes.now c.loop-next.next-index none in
+    let there = read_at c.args.routes.now c.loop-next.next-index none c.loop-next-test.true in
+    record {
+      order = order_at c.args.told.schema.items c.args.routes.now c.requires.rising c.loop-next.next-index next there c.beginning.ensures.fits c.beginning.result c.beginning.ensures.bytes c.loop-next.route c.loop-next.opening.low c.loop-next.invariant.at;
+    }
+
+pub loop-next-preserved : goal.loop-next-preserved
+loop-next-preserved g c =
     let old = (g.P.Pages.store c.args.pages.now).map in
-    let mid = (g.P.Pages.store c.loop-route.pages).map in
-    let opening = c.loop-route.opening in
-    let high : List ℕ = c.to_be_bytes-high.result in
-    elim c.if-not-is_past.branch [
-      | then-not-is_past+in_ok-cells+in_ok-check_part w ↦
-          let upto = rests_then g.P.Pages.is_tied g.P.Pages.store g.P.Pages.keeps tt (Ok w.in_ok-cells.cells) c.args.pages.now c.loop-route.pages w.part.new.pages g.met.P.Pages.keeps_trans g.met.P.Pages.keeps_tied
-          c.loop-route.invariant.rests w.in_ok-cells.ensures.rests in
-          rw (w.pages-is, w.opening-is) (record {
-            rests = rests_then g.P.Pages.is_tied g.P.Pages.store g.P.Pages.keeps w.in_ok-cells.cells (Ok tt) c.args.pages.now w.part.new.pages w.check_part.new.pages g.met.P.Pages.keeps_trans g.met.P.Pages.keeps_tied
-                upto w.in_ok-check_part.ensures.rests;
-            told = w.in_ok-cells.ensures.told ∙ c.loop-route.invariant.told;
-            passed = λ tied.
-                let later = g.met.P.Pages.keeps_tied c.args.pages.now c.loop-route.pages c.loop-route.invariant.rests.below tied in
-                let same = c.loop-route.invariant.rests.rests.keeps.pages tied in
-                passed_then old mid same opening.told w.part.new.self w.in_ok-cells.ensures.told
-                (w.in_ok-cells.ensures.passed later (passed_same (event_form opening.told.width) old mid same opening (c.loop-route.invariant.passed tied)));
-            below = λ tied.
-                let later = g.met.P.Pages.keeps_tied c.args.pages.now c.loop-route.pages c.loop-route.invariant.rests.below tied in
-                let same = c.loop-route.invariant.rests.rests.keeps.pages tied in
-                below_next c.args.schema.items old c.args.indexes.now c.args.told opening.low high w.part.new.self.low (listed w.in_ok-cells.cells) (sym c.is_past.ensures ∙ w.if-not-is_past.true)
-                (c.loop-route.invariant.below tied)
-                (found_back old mid same opening.told (told_of (event_width c.args.schema.items) c.args.told) c.loop-route.invariant.told (cells_within opening.low high) (listed w.in_ok-cells.cells) (w.in_ok-cells.ensures.found later))
-                (part_back old (g.P.Pages.store w.part.new.pages).map (upto.rests.keeps.pages tied) c.args.schema.items c.args.indexes.now (listed w.in_ok-cells.cells)
-                (w.in_ok-check_part.ensures.part (g.met.P.Pages.keeps_tied c.args.pages.now w.part.new.pages upto.below tied)))
-                w.in_ok-cells.ensures.low;
-          })
-      | else-not-is_past w ↦ rw (w.pages-is, w.opening-is) c.loop-route.invariant
-    ]
+    let mid = (g.P.Pages.store c.loop-next.pages).map in
+    let opening = c.loop-next.opening in
+    let high : List ℕ = c.beginning.result in
+    let told = c.args.told in
+    let routes = c.args.routes.now in
+    let next = get_or routes c.loop-next.next-index none in
+    let there = read_at routes c.loop-next.next-index none c.loop-next-test.true in
+    let order = order_at told.schema.items routes c.requires.rising c.loop-next.next-index next there c.beginning.ensures.fits high c.beginning.ensures.bytes c.loop-next.route opening.low c.loop-next.invariant.at in
+    let upto = rests_then g.P.Pages.is_tied g.P.Pages.store g.P.Pages.keeps tt (Ok c.in_ok-cells.cells) c.args.pages.now c.loop-next.pages c.part.new.pages g.met.P.Pages.keeps_trans g.met.P.Pages.keeps_tied
+    c.loop-next.invariant.rests c.in_ok-cells.ensures.rests in
+    record {
+      rests = rests_then g.P.Pages.is_tied g.P.Pages.store g.P.Pages.keeps c.in_ok-cells.cells (Ok tt) c.args.pages.now c.part.new.pages c.check_part.new.pages g.met.P.Pages.keeps_trans g.met.P.Pages.keeps_tied
+          upto c.in_ok-check_part.ensures.rests;
+      told = c.in_ok-cells.ensures.told ∙ c.loop-next.invariant.told;
+      passed = λ tied.
+          let later = g.met.P.Pages.keeps_tied c.args.pages.now c.loop-next.pages c.loop-next.invariant.rests.below tied in
+          let same = c.loop-next.invariant.rests.rests.keeps.pages tied in
+          passed_then old mid same opening.told c.part.new.self c.in_ok-cells.ensures.told
+          (c.in_ok-cells.ensures.passed later (passed_same (event_form opening.told.width) old mid same opening (c.loop-next.invariant.passed tied)));
+      at = record { before = c.loop-next.next-index; next = omega arith; there = there; fits = c.beginning.ensures.fits; bytes = c.in_ok-cells.ensures.low ∙ c.beginning.ensures.bytes };
+      below = λ tied.
+          let later = g.met.P.Pages.keeps_tied c.args.pages.now c.loop-next.pages c.loop-next.invariant.rests.below tied in
+          let same = c.loop-next.invariant.rests.rests.keeps.pages tied in
+          below_next old c.args.indexes.now told routes opening.low high c.part.new.self.low (listed c.in_ok-cells.cells) order
+          (c.loop-next.invariant.below tied)
+          (found_back old mid same opening.told (told_of (event_width told.schema.items) told.records) c.loop-next.invariant.told (cells_within opening.low high) (listed c.in_ok-cells.cells) (c.in_ok-cells.ensures.found later))
+          (part_back old (g.P.Pages.store c.part.new.pages).map (upto.rests.keeps.pages tied) told.schema.items c.args.indexes.now (listed c.in_ok-cells.cells)
+          (c.in_ok-check_part.ensures.part (g.met.P.Pages.keeps_tied c.args.pages.now c.part.new.pages upto.below tied)))
+          c.in_ok-cells.ensures.low;
+      meant = λ tied.
+          let later = g.met.P.Pages.keeps_tied c.args.pages.now c.loop-next.pages c.loop-next.invariant.rests.below tied in
+          let same = c.loop-next.invariant.rests.rests.keeps.pages tied in
+          meant_next told routes old c.loop-next.next-index c.loop-next.route opening.low c.loop-next.invariant.at (c.loop-next.invariant.meant tied) high c.part.new.self.low (listed c.in_ok-cells.cells) order
+          (found_back old mid same opening.told (told_of (event_width told.schema.items) told.records) c.loop-next.invariant.told (cells_within opening.low high) (listed c.in_ok-cells.cells) (c.in_ok-cells.ensures.found later))
+          c.in_ok-check_part.ensures.meant c.in_ok-cells.ensures.low;
+    }
 
 pub returns-in_err-versions-clause-rests : goal.returns-in_err-versions-clause-rests
 returns-in_err-versions-clause-rests g c =
     let p = err_from_is_err_and c.from_residual-in_err-versions.result c.from_residual-in_err-versions.ensures.1 in
     rw (p.1, p.2) (rests_err g.P.Pages.is_tied g.P.Pages.store g.P.Pages.keeps c.in_err-versions.field-0.0 c.args.pages.now c.finish.new.pages
-    (rests_then g.P.Pages.is_tied g.P.Pages.store g.P.Pages.keeps tt (Err c.in_err-versions.field-0.0) c.args.pages.now c.loop-route.pages c.finish.new.pages g.met.P.Pages.keeps_trans g.met.P.Pages.keeps_tied
-    c.loop-route.invariant.rests c.in_err-versions.ensures.rests))
+    (rests_then g.P.Pages.is_tied g.P.Pages.store g.P.Pages.keeps tt (Err c.in_err-versions.field-0.0) c.args.pages.now c.loop-next.pages c.finish.new.pages g.met.P.Pages.keeps_trans g.met.P.Pages.keeps_tied
+    c.loop-next.invariant.rests c.in_err-versions.ensures.rests))
 
 pub returns-in_err-versions-clause-opens : goal.returns-in_err-versions-clause-opens
 returns-in_err-versions-clause-opens g c = λ tied.
     let old = (g.P.Pages.store c.args.pages.now).map in
-    let mid = (g.P.Pages.store c.loop-route.pages).map in
-    let opening = c.loop-route.opening in
-    let later = g.met.P.Pages.keeps_tied c.args.pages.now c.loop-route.pages c.loop-route.invariant.rests.below tied in
-    let same = c.loop-route.invariant.rests.rests.keeps.pages tied in
+    let mid = (g.P.Pages.store c.loop-next.pages).map in
+    let opening = c.loop-next.opening in
+    let later = g.met.P.Pages.keeps_tied c.args.pages.now c.loop-next.pages c.loop-next.invariant.rests.below tied in
+    let same = c.loop-next.invariant.rests.rests.keeps.pages tied in
     let p = err_from_is_err_and c.from_residual-in_err-versions.result c.from_residual-in_err-versions.ensures.1 in
     refused_open c.from_residual-in_err-versions.result p.0 p.1 (λ is.
     let why : c.in_err-versions.field-0.0 ≡ refusal.DamagedFile = cc (p.1, p.2, is) in
-    no_told_table c.args.schema.items old c.args.indexes.now c.args.told (taken c.args.reached.now)
-    (otherwise_as old mid same opening.told (told_of (event_width c.args.schema.items) c.args.told) c.loop-route.invariant.told
-    (c.in_err-versions.ensures.damaged later (ap Err why) (passed_same (event_form opening.told.width) old mid same opening (c.loop-route.invariant.passed tied)))))
+    no_told_table old c.args.indexes.now c.args.told c.args.routes.now (taken c.args.reached.now)
+    (otherwise_as old mid same opening.told (told_of (event_width c.args.told.schema.items) c.args.told.records) c.loop-next.invariant.told
+    (c.in_err-versions.ensures.damaged later (ap Err why) (passed_same (event_form opening.told.width) old mid same opening (c.loop-next.invariant.passed tied)))))
 
 pub check_part-requires-2-clause-width : goal.check_part-requires-2-clause-width
-check_part-requires-2-clause-width g c = c.in_ok-versions.ensures.left_width ∙ ap (λ (t : Told). t.width) c.loop-route.invariant.told
+check_part-requires-2-clause-width g c = c.in_ok-versions.ensures.left_width ∙ ap (λ (t : Told). t.width) c.loop-next.invariant.told
 
 pub returns-in_err-check_part-2-clause-rests : goal.returns-in_err-check_part-2-clause-rests
 returns-in_err-check_part-2-clause-rests g c =
     let p = err_from_is_err_and c.from_residual-in_err-check_part-2.result c.from_residual-in_err-check_part-2.ensures.1 in
     rw (p.1, p.2) (rests_err g.P.Pages.is_tied g.P.Pages.store g.P.Pages.keeps c.in_err-check_part-2.field-0.0 c.args.pages.now c.check_part-2.new.pages
-    (rests_then g.P.Pages.is_tied g.P.Pages.store g.P.Pages.keeps tt (Err c.in_err-check_part-2.field-0.0) c.args.pages.now c.loop-route.pages c.check_part-2.new.pages g.met.P.Pages.keeps_trans g.met.P.Pages.keeps_tied
-    c.loop-route.invariant.rests
-    (rests_then g.P.Pages.is_tied g.P.Pages.store g.P.Pages.keeps (c.in_ok-versions.versions, c.in_ok-versions.left) (Err c.in_err-check_part-2.field-0.0) c.loop-route.pages c.finish.new.pages c.check_part-2.new.pages
+    (rests_then g.P.Pages.is_tied g.P.Pages.store g.P.Pages.keeps tt (Err c.in_err-check_part-2.field-0.0) c.args.pages.now c.loop-next.pages c.check_part-2.new.pages g.met.P.Pages.keeps_trans g.met.P.Pages.keeps_tied
+    c.loop-next.invariant.rests
+    (rests_then g.P.Pages.is_tied g.P.Pages.store g.P.Pages.keeps (c.in_ok-versions.versions, c.in_ok-versions.left) (Err c.in_err-check_part-2.field-0.0) c.loop-next.pages c.finish.new.pages c.check_part-2.new.pages
     g.met.P.Pages.keeps_trans g.met.P.Pages.keeps_tied c.in_ok-versions.ensures.rests c.in_err-check_part-2.ensures.rests)))
 
 pub returns-in_err-check_part-2-clause-opens : goal.returns-in_err-check_part-2-clause-opens
 returns-in_err-check_part-2-clause-opens g c = λ tied.
     let old = (g.P.Pages.store c.args.pages.now).map in
-    let mid = (g.P.Pages.store c.loop-route.pages).map in
+    let mid = (g.P.Pages.store c.loop-next.pages).map in
     let last = (g.P.Pages.store c.finish.new.pages).map in
-    let opening = c.loop-route.opening in
-    let later = g.met.P.Pages.keeps_tied c.args.pages.now c.loop-route.pages c.loop-route.invariant.rests.below tied in
-    let same = c.loop-route.invariant.rests.rests.keeps.pages tied in
-    let upto = rests_then g.P.Pages.is_tied g.P.Pages.store g.P.Pages.keeps tt (Ok (c.in_ok-versions.versions, c.in_ok-versions.left)) c.args.pages.now c.loop-route.pages c.finish.new.pages g.met.P.Pages.keeps_trans
-    g.met.P.Pages.keeps_tied c.loop-route.invariant.rests c.in_ok-versions.ensures.rests in
+    let opening = c.loop-next.opening in
+    let later = g.met.P.Pages.keeps_tied c.args.pages.now c.loop-next.pages c.loop-next.invariant.rests.below tied in
+    let same = c.loop-next.invariant.rests.rests.keeps.pages tied in
+    let upto = rests_then g.P.Pages.is_tied g.P.Pages.store g.P.Pages.keeps tt (Ok (c.in_ok-versions.versions, c.in_ok-versions.left)) c.args.pages.now c.loop-next.pages c.finish.new.pages g.met.P.Pages.keeps_trans
+    g.met.P.Pages.keeps_tied c.loop-next.invariant.rests c.in_ok-versions.ensures.rests in
     let p = err_from_is_err_and c.from_residual-in_err-check_part-2.result c.from_residual-in_err-check_part-2.ensures.1 in
     refused_open c.from_residual-in_err-check_part-2.result p.0 p.1 (λ is.
     let why : c.in_err-check_part-2.field-0.0 ≡ refusal.DamagedFile = cc (p.1, p.2, is) in
-    no_part_table c.args.schema.items old c.args.indexes.now c.args.told (taken c.args.reached.now) (λ (cell : List ℕ). not (is_below cell opening.low)) (listed c.in_ok-versions.left)
-    (found_back old mid same opening.told (told_of (event_width c.args.schema.items) c.args.told) c.loop-route.invariant.told (cells_from opening.low) (listed c.in_ok-versions.left) (c.in_ok-versions.ensures.left later))
-    (no_part_back old last (upto.rests.keeps.pages tied) c.args.schema.items c.args.indexes.now (listed c.in_ok-versions.left)
+    no_part_table old c.args.indexes.now c.args.told c.args.routes.now (taken c.args.reached.now) c.loop-next.route (λ (cell : List ℕ). not (is_below cell opening.low)) (listed c.in_ok-versions.left)
+    (part_left c.args.told.schema.items c.args.routes.now c.requires.rising c.loop-next.next-index c.loop-next.route opening.low (omega arith) c.loop-next.invariant.at)
+    (found_back old mid same opening.told (told_of (event_width c.args.told.schema.items) c.args.told.records) c.loop-next.invariant.told (cells_from opening.low) (listed c.in_ok-versions.left) (c.in_ok-versions.ensures.left later))
+    (no_part_back old last (upto.rests.keeps.pages tied) c.args.told c.loop-next.route c.args.indexes.now (listed c.in_ok-versions.left)
     (c.in_err-check_part-2.ensures.damaged (g.met.P.Pages.keeps_tied c.args.pages.now c.finish.new.pages upto.below tied) (ap Err why))))
 
 pub with-requires : goal.with-requires
-with-requires g c = record { width = c.in_ok-versions.ensures.width ∙ ap (λ (t : Told). t.width) c.loop-route.invariant.told }
+with-requires g c = record { width = c.in_ok-versions.ensures.width ∙ ap (λ (t : Told). t.width) c.loop-next.invariant.told }
 
 pub returns-clause-rests : goal.returns-clause-rests
 returns-clause-rests g c =
     rests_ok g.P.Pages.is_tied g.P.Pages.store g.P.Pages.keeps tt c.with.result c.args.pages.now c.check_part-2.new.pages
-    (rests_then g.P.Pages.is_tied g.P.Pages.store g.P.Pages.keeps tt (Ok tt) c.args.pages.now c.loop-route.pages c.check_part-2.new.pages g.met.P.Pages.keeps_trans g.met.P.Pages.keeps_tied
-    c.loop-route.invariant.rests
-    (rests_then g.P.Pages.is_tied g.P.Pages.store g.P.Pages.keeps (c.in_ok-versions.versions, c.in_ok-versions.left) (Ok tt) c.loop-route.pages c.finish.new.pages c.check_part-2.new.pages
+    (rests_then g.P.Pages.is_tied g.P.Pages.store g.P.Pages.keeps tt (Ok tt) c.args.pages.now c.loop-next.pages c.check_part-2.new.pages g.met.P.Pages.keeps_trans g.met.P.Pages.keeps_tied
+    c.loop-next.invariant.rests
+    (rests_then g.P.Pages.is_tied g.P.Pages.store g.P.Pages.keeps (c.in_ok-versions.versions, c.in_ok-versions.left) (Ok tt) c.loop-next.pages c.finish.new.pages c.check_part-2.new.pages
     g.met.P.Pages.keeps_trans g.met.P.Pages.keeps_tied c.in_ok-versions.ensures.rests c.in_ok-check_part-2.ensures.rests))
 
 pub returns-clause-table : goal.returns-clause-table
 returns-clause-table g c = record {
   types = c.with.ensures.types;
   committed = c.with.ensures.committed ∙ c.in_ok-versions.ensures.committed ∙ sym c.with.ensures.working;
-  order = subst (λ (s : Standing). AllByRecursion (λ dead. died_of dead ≤ c.args.told.accepted) s.dead) (sym c.with.ensures.working)
-      (subst (λ (t : Told). AllByRecursion (λ dead. died_of dead ≤ t.accepted) c.in_ok-versions.versions.working.dead) c.loop-route.invariant.told c.in_ok-versions.ensures.order);
+  order = subst (λ (s : Standing). AllByRecursion (λ dead. died_of dead ≤ c.args.told.records.accepted) s.dead) (sym c.with.ensures.working)
+      (subst (λ (t : Told). AllByRecursion (λ dead. died_of dead ≤ t.accepted) c.in_ok-versions.versions.working.dead) c.loop-next.invariant.told c.in_ok-versions.ensures.order);
 }
 
 pub returns-clause-opens : goal.returns-clause-opens
 returns-clause-opens g c = λ tied.
     let old = (g.P.Pages.store c.args.pages.now).map in
     let first = (g.P.Pages.store c.begin.new.pages).map in
-    let mid = (g.P.Pages.store c.loop-route.pages).map in
+    let mid = (g.P.Pages.store c.loop-next.pages).map in
     let last = (g.P.Pages.store c.finish.new.pages).map in
-    let types = c.args.schema.items in
+    let types = c.args.told.schema.items in
     let told = c.args.told in
-    let opening = c.loop-route.opening in
-    let said = c.loop-route.invariant.told in
+    let opening = c.loop-next.opening in
+    let said = c.loop-next.invariant.told in
     let width : c.row_width-width.result + 28 ≡ event_width types = ap (λ (n : ℕ). n + 28) c.row_width-width.ensures in
     let begun = g.met.P.Pages.keeps_tied c.args.pages.now c.begin.new.pages c.in_ok-opening.ensures.rests.below tied in
-    let later = g.met.P.Pages.keeps_tied c.args.pages.now c.loop-route.pages c.loop-route.invariant.rests.below tied in
-    let same = c.loop-route.invariant.rests.rests.keeps.pages tied in
-    let upto = rests_then g.P.Pages.is_tied g.P.Pages.store g.P.Pages.keeps tt (Ok (c.in_ok-versions.versions, c.in_ok-versions.left)) c.args.pages.now c.loop-route.pages c.finish.new.pages g.met.P.Pages.keeps_trans
-    g.met.P.Pages.keeps_tied c.loop-route.invariant.rests c.in_ok-versions.ensures.rests in
+    let later = g.met.P.Pages.keeps_tied c.args.pages.now c.loop-next.pages c.loop-next.invariant.rests.below tied in
+    let same = c.loop-next.invariant.rests.rests.keeps.pages tied in
+    let upto = rests_then g.P.Pages.is_tied g.P.Pages.store g.P.Pages.keeps tt (Ok (c.in_ok-versions.versions, c.in_ok-versions.left)) c.args.pages.now c.loop-next.pages c.finish.new.pages g.met.P.Pages.keeps_trans
+    g.met.P.Pages.keeps_tied c.loop-next.invariant.rests c.in_ok-versions.ensures.rests in
     let versions = c.in_ok-versions.versions in
+    let finds = found_back old mid same opening.told (told_of (event_width types) told.records) said (cells_from opening.low) (listed c.in_ok-versions.left) (c.in_ok-versions.ensures.left later) in
     record {
-      opens = subst (λ (s : Standing). OpensTable types old told s c.args.indexes.now (taken c.args.reached.now) (taken c.reach_indexes.new.reached)) (sym c.with.ensures.working)
-          (opens_table types old c.args.indexes.now told (taken c.args.reached.now) first (c.in_ok-opening.ensures.rests.rests.keeps.pages tied) (taken c.begin.new.reached)
-          (subst (λ (w : ℕ). Validates (event_form w) old told.root (taken c.args.reached.now) (taken c.begin.new.reached)) width (c.in_ok-opening.ensures.validates tied))
+      opens = subst (λ (s : Standing). OpensTable old told s c.args.indexes.now c.args.routes.now (taken c.args.reached.now) (taken c.reach_indexes.new.reached)) (sym c.with.ensures.working)
+          (opens_table old c.args.indexes.now told c.args.routes.now (taken c.args.reached.now) first (c.in_ok-opening.ensures.rests.rests.keeps.pages tied) (taken c.begin.new.reached)
+          (subst (λ (w : ℕ). Validates (event_form w) old told.records.root (taken c.args.reached.now) (taken c.begin.new.reached)) width (c.in_ok-opening.ensures.validates tied))
           versions.working (taken c.reach_indexes.new.reached) c.requires.indexes
           (record {
             root = c.in_ok-versions.ensures.root ∙ ap (λ (t : Told). t.root) said;
@@ -252,11 +281,12 @@ returns-clause-opens g c = λ tied.
             garbage = c.in_ok-versions.ensures.garbage ∙ ap (λ (t : Told). t.garbage) said;
           })
           (c.in_ok-reach_indexes.ensures.reaches begun)
-          (stands_back old mid same opening.told (told_of (event_width types) told) said versions.working.dead
-          (c.in_ok-versions.ensures.stands later (passed_same (event_form opening.told.width) old mid same opening (c.loop-route.invariant.passed tied))))
-          (below_all types old c.args.indexes.now told opening.low (listed c.in_ok-versions.left) (c.loop-route.invariant.below tied)
-          (found_back old mid same opening.told (told_of (event_width types) told) said (cells_from opening.low) (listed c.in_ok-versions.left) (c.in_ok-versions.ensures.left later))
+          (stands_back old mid same opening.told (told_of (event_width types) told.records) said versions.working.dead
+          (c.in_ok-versions.ensures.stands later (passed_same (event_form opening.told.width) old mid same opening (c.loop-next.invariant.passed tied))))
+          (below_all old c.args.indexes.now told c.args.routes.now opening.low (listed c.in_ok-versions.left) (c.loop-next.invariant.below tied) finds
           (part_back old last (upto.rests.keeps.pages tied) types c.args.indexes.now (listed c.in_ok-versions.left)
-          (c.in_ok-check_part-2.ensures.part (g.met.P.Pages.keeps_tied c.args.pages.now c.finish.new.pages upto.below tied)))));
+          (c.in_ok-check_part-2.ensures.part (g.met.P.Pages.keeps_tied c.args.pages.now c.finish.new.pages upto.below tied))))
+          (meant_all told c.args.routes.now old c.loop-next.next-index c.loop-next.route opening.low c.loop-next.invariant.at (c.loop-next.invariant.meant tied) (listed c.in_ok-versions.left) finds
+          c.in_ok-check_part-2.ensures.meant));
       damaged = λ is. absurd (cc);
     }

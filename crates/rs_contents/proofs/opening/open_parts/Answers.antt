@@ -10,6 +10,7 @@ use Rattle.rs_refusal.specs.declared.refusal.Refusal.TheVariants as refusal
 use Rattle.rs_page_marks.specs.Marks.{taken}
 use Rattle.rs_pages.proofs.Resting.{rests_then}
 use Rattle.rs_cell_versions.specs.declared.told.ToldRecords.{ToldRecords}
+use Rattle.rs_versioned.specs.Meant.{AreReferentsMeant}
 use Rattle.rs_versioned.specs.Opening.{OpensNone, OpensRecords}
 use Rattle.rs_versioned.specs.Referents.{kept_referents}
 use Rattle.rs_cell_versions.specs.Version.{died_of}
@@ -20,7 +21,7 @@ pub returns-in_err-tables-clause-damaged : goal.returns-in_err-tables-clause-dam
 returns-in_err-tables-clause-damaged g c = λ tied is.
     let p = err_from_is_err_and c.from_residual.result c.from_residual.ensures.1 in
     let why : c.in_err-tables.field-0.0 ≡ refusal.DamagedFile = cc (p.1, p.2, is) in
-    no_tables (g.P.Pages.store c.args.pages.now).map (said_catalogue c.args.definitions.now) (said_directory c.args.directory.now) (taken c.args.reached.now) (c.in_err-tables.ensures.damaged tied (ap Err why))
+    no_tables (g.P.Pages.store c.args.pages.now).map c.args.routes.now (said_catalogue c.args.definitions.now) (said_directory c.args.directory.now) (taken c.args.reached.now) (c.in_err-tables.ensures.damaged tied (ap Err why))
 
 pub returns-in_err-referents-clause-damaged : goal.returns-in_err-referents-clause-damaged
 returns-in_err-referents-clause-damaged g c = λ tied is.
@@ -30,10 +31,10 @@ returns-in_err-referents-clause-damaged g c = λ tied is.
     let same = same_map mid old (c.in_ok-tables.ensures.rests.rests.keeps.pages tied) in
     let p = err_from_is_err_and c.from_residual-in_err-referents.result c.from_residual-in_err-referents.ensures.1 in
     let why : c.in_err-referents.field-0.0 ≡ refusal.DamagedFile = cc (p.1, p.2, is) in
-    no_referents old (said_catalogue c.args.definitions.now) (said_directory c.args.directory.now) (taken c.args.reached.now) c.in_ok-tables.tables.items (taken c.open_tables.new.reached)
+    no_referents old c.args.routes.now (said_catalogue c.args.definitions.now) (said_directory c.args.directory.now) (taken c.args.reached.now) c.in_ok-tables.tables.items (taken c.open_tables.new.reached)
     (c.in_ok-tables.ensures.opens tied)
-    (subst (λ (t : ToldRecords). OpensNone kept_referents old t (taken c.open_tables.new.reached)) c.told_of-told.ensures
-    (subst (λ m. OpensNone kept_referents m c.told_of-told.result (taken c.open_tables.new.reached)) same (c.in_err-referents.ensures.damaged later (ap Err why))))
+    (subst (λ (t : ToldRecords). OpensNone kept_referents old t (AreReferentsMeant c.args.routes.now t.accepted) (taken c.open_tables.new.reached)) c.told_of-told.ensures
+    (subst (λ m. OpensNone kept_referents m c.told_of-told.result (AreReferentsMeant c.args.routes.now c.told_of-told.result.accepted) (taken c.open_tables.new.reached)) same (c.in_err-referents.ensures.refused.damaged later (ap Err why))))
 
 pub returns-in_err-reach_free-clause-rests : goal.returns-in_err-reach_free-clause-rests
 returns-in_err-reach_free-clause-rests g c =
@@ -55,10 +56,10 @@ returns-in_err-reach_free-clause-damaged g c = λ tied is.
     let last_tied = g.met.P.Pages.keeps_tied c.open_tables.new.pages c.open.new.pages c.in_ok-referents.ensures.rests.below later in
     let p = err_from_is_err_and c.from_residual-in_err-reach_free.result c.from_residual-in_err-reach_free.ensures.1 in
     let why : c.in_err-reach_free.field-0.0 ≡ refusal.DamagedFile = cc (p.1, p.2, is) in
-    no_free old (said_catalogue c.args.definitions.now) (said_directory c.args.directory.now) (taken c.args.reached.now) c.in_ok-tables.tables.items c.in_ok-referents.referents.working (taken c.open_tables.new.reached)
+    no_free old c.args.routes.now (said_catalogue c.args.definitions.now) (said_directory c.args.directory.now) (taken c.args.reached.now) c.in_ok-tables.tables.items c.in_ok-referents.referents.working (taken c.open_tables.new.reached)
     (taken c.open.new.reached) (c.in_ok-tables.ensures.opens tied)
-    (subst (λ (t : ToldRecords). OpensRecords kept_referents old t c.in_ok-referents.referents.working (taken c.open_tables.new.reached) (taken c.open.new.reached)) c.told_of-told.ensures
-    (subst (λ m. OpensRecords kept_referents m c.told_of-told.result c.in_ok-referents.referents.working (taken c.open_tables.new.reached) (taken c.open.new.reached)) same (c.in_ok-referents.ensures.opens later)))
+    (subst (λ (t : ToldRecords). OpensRecords kept_referents old t (AreReferentsMeant c.args.routes.now t.accepted) c.in_ok-referents.referents.working (taken c.open_tables.new.reached) (taken c.open.new.reached)) c.told_of-told.ensures
+    (subst (λ m. OpensRecords kept_referents m c.told_of-told.result (AreReferentsMeant c.args.routes.now c.told_of-told.result.accepted) c.in_ok-referents.referents.working (taken c.open_tables.new.reached) (taken c.open.new.reached)) same (c.in_ok-referents.ensures.opens later)))
     (subst (λ m. HasNoFreshFreeList m (taken c.open.new.reached)) (same_last ∙ same) ((c.in_err-reach_free.ensures.reaches last_tied).damaged (ap Err why)))
 
 pub returns-then-not-is_whole-clause-rests : goal.returns-then-not-is_whole-clause-rests
@@ -79,13 +80,13 @@ returns-then-not-is_whole-clause-damaged g c = λ tied is.
     let same = same_map mid old (c.in_ok-tables.ensures.rests.rests.keeps.pages tied) in
     let same_last = same_map last mid (c.in_ok-referents.ensures.rests.rests.keeps.pages later) in
     let last_tied = g.met.P.Pages.keeps_tied c.open_tables.new.pages c.open.new.pages c.in_ok-referents.ensures.rests.below later in
-    some_left old (said_catalogue c.args.definitions.now) (said_directory c.args.directory.now) (taken c.args.reached.now) c.in_ok-tables.tables.items c.in_ok-referents.referents c.reach_free.new.reached
+    some_left old c.args.routes.now (said_catalogue c.args.definitions.now) (said_directory c.args.directory.now) (taken c.args.reached.now) c.in_ok-tables.tables.items c.in_ok-referents.referents c.reach_free.new.reached
     (record {
       with_tables = taken c.open_tables.new.reached;
       with_referents = taken c.open.new.reached;
       tables = c.in_ok-tables.ensures.opens tied;
-      referents = subst (λ (t : ToldRecords). OpensRecords kept_referents old t c.in_ok-referents.referents.working (taken c.open_tables.new.reached) (taken c.open.new.reached)) c.told_of-told.ensures
-          (subst (λ m. OpensRecords kept_referents m c.told_of-told.result c.in_ok-referents.referents.working (taken c.open_tables.new.reached) (taken c.open.new.reached)) same (c.in_ok-referents.ensures.opens later));
+      referents = subst (λ (t : ToldRecords). OpensRecords kept_referents old t (AreReferentsMeant c.args.routes.now t.accepted) c.in_ok-referents.referents.working (taken c.open_tables.new.reached) (taken c.open.new.reached)) c.told_of-told.ensures
+          (subst (λ m. OpensRecords kept_referents m c.told_of-told.result (AreReferentsMeant c.args.routes.now c.told_of-told.result.accepted) c.in_ok-referents.referents.working (taken c.open_tables.new.reached) (taken c.open.new.reached)) same (c.in_ok-referents.ensures.opens later));
       free = subst (λ m. ReachesFree m (taken c.open.new.reached) (taken c.reach_free.new.reached)) (same_last ∙ same) (c.in_ok-reach_free.ensures.reaches last_tied).reaches;
     })
     (λ none. false≢true (sym c.if-not-is_whole.true ∙ c.is_whole.ensures.1 none))
@@ -103,11 +104,11 @@ returns-clause-opens g c = λ tied.
       with_tables = taken c.open_tables.new.reached;
       with_referents = taken c.open.new.reached;
       tables = c.in_ok-tables.ensures.opens tied;
-      referents = subst (λ (t : ToldRecords). OpensRecords kept_referents old t c.in_ok-referents.referents.working (taken c.open_tables.new.reached) (taken c.open.new.reached)) c.told_of-told.ensures
-          (subst (λ m. OpensRecords kept_referents m c.told_of-told.result c.in_ok-referents.referents.working (taken c.open_tables.new.reached) (taken c.open.new.reached)) same (c.in_ok-referents.ensures.opens later));
+      referents = subst (λ (t : ToldRecords). OpensRecords kept_referents old t (AreReferentsMeant c.args.routes.now t.accepted) c.in_ok-referents.referents.working (taken c.open_tables.new.reached) (taken c.open.new.reached)) c.told_of-told.ensures
+          (subst (λ m. OpensRecords kept_referents m c.told_of-told.result (AreReferentsMeant c.args.routes.now c.told_of-told.result.accepted) c.in_ok-referents.referents.working (taken c.open_tables.new.reached) (taken c.open.new.reached)) same (c.in_ok-referents.ensures.opens later));
       free = subst (λ m. ReachesFree m (taken c.open.new.reached) (taken c.reach_free.new.reached)) (same_last ∙ same) (c.in_ok-reach_free.ensures.reaches last_tied).reaches;
     }
 
 pub returns-clause-order : goal.returns-clause-order
 returns-clause-order g c =
-    subst (λ (t : ToldRecords). AllByRecursion (λ dead. died_of dead ≤ t.accepted) c.in_ok-referents.referents.working.dead) c.told_of-told.ensures c.in_ok-referents.ensures.order
+    subst (λ (t : ToldRecords). AllByRecursion (λ dead. died_of dead ≤ t.accepted) c.in_ok-referents.referents.working.dead) c.told_of-told.ensures c.in_ok-referents.ensures.table.order

@@ -25,7 +25,7 @@ returns-in_err-indexes-clause-damaged g c = λ tied is.
     let why : c.in_err-indexes.field-0.0 ≡ refusal.DamagedFile = cc (p.1, p.2, is) in
     let items = c.as_slice-items.result.now in
     let directory = said_directory c.args.directory.now in
-    none_of_indexes (g.P.Pages.store c.args.pages.now).map directory (said_catalogue c.args.definitions.now) (said_table c.args.item.now) (taken c.args.reached.now)
+    none_of_indexes c.args.routes.now (g.P.Pages.store c.args.pages.now).map directory (said_catalogue c.args.definitions.now) (said_table c.args.item.now) (taken c.args.reached.now)
     c.in-Some.schema.items c.in-Some.ensures.columns
     (λ states all. c.in_err-indexes.ensures.none (ap Err why) states
     (subst (λ xs. AllZip (IsIndex c.in-Some.schema.items directory) (filter (λ (index : IndexItem). index.table == c.args.item.now.number) (map said_index xs)) states) (sym c.as_slice-items.ensures.value) all))
@@ -48,11 +48,11 @@ returns-in_err-records-clause-damaged g c = λ tied is.
     let slot = subst (λ (xs : List StoredTree). slice_get (map said_tree xs) c.args.item.now.number ≡ Some (said_tree tree)) c.as_slice.ensures.value
     (said_at said_tree c.as_slice.result.now c.args.item.now.number tree c.in-Some-get.ensures.lookup.3.0 c.in-Some-get.ensures.lookup.1) in
     let missing = (c.in_err-records.ensures.opens tied).damaged (ap Err why) in
-    none_of_pages file directory (said_catalogue c.args.definitions.now) (said_table c.args.item.now) before types c.in-Some.ensures.columns (said_tree tree) c.in_ok-indexes.indexes.items slot
+    none_of_pages c.args.routes.now file directory (said_catalogue c.args.definitions.now) (said_table c.args.item.now) before types c.in-Some.ensures.columns (said_tree tree) (told_in g c) c.in_ok-indexes.indexes.items slot
+    refl c.kind_of.ensures c.told_of.ensures
     (subst (λ xs. AllZip (IsIndex types directory) (filter (λ (index : IndexItem). index.table == c.args.item.now.number) (map said_index xs)) c.in_ok-indexes.indexes.items)
     c.as_slice-items.ensures.value c.in_ok-indexes.ensures.indexes)
-    (subst (λ (told : ToldRecords). OpensNoTable types file told c.in_ok-indexes.indexes.items before) c.told_of-told.ensures
-    (subst (λ (indexes : List IndexState). OpensNoTable types file c.told_of-told.result indexes before) c.as_slice-2.ensures.value missing))
+    (subst (λ (indexes : List IndexState). OpensNoTable file (told_in g c) indexes c.args.routes.now before) c.as_slice-2.ensures.value missing)
 
 pub returns-clause-table : goal.returns-clause-table
 returns-clause-table g c =
@@ -68,7 +68,7 @@ returns-clause-table g c =
           c.as_slice-items.ensures.value c.in_ok-indexes.ensures.indexes);
       committed = c.in_ok-records.ensures.table.committed;
       indexes_committed = c.in_ok-indexes.ensures.committed;
-      order = subst (λ (told : ToldRecords). AllByRecursion (λ dead. died_of dead ≤ told.accepted) c.in_ok-records.records.working.dead) c.told_of-told.ensures c.in_ok-records.ensures.table.order;
+      order = subst (λ (told : ToldRecords). AllByRecursion (λ dead. died_of dead ≤ told.accepted) c.in_ok-records.records.working.dead) c.told_of.ensures c.in_ok-records.ensures.table.order;
     }
 
 pub returns-clause-opens : goal.returns-clause-opens
@@ -82,9 +82,6 @@ returns-clause-opens g c = λ tied.
     let tree = c.in-Some-get.tree.now in
     let slot = subst (λ (xs : List StoredTree). slice_get (map said_tree xs) c.args.item.now.number ≡ Some (said_tree tree)) c.as_slice.ensures.value
     (said_at said_tree c.as_slice.result.now c.args.item.now.number tree c.in-Some-get.ensures.lookup.3.0 c.in-Some-get.ensures.lookup.1) in
-    let told = told_of (said_tree tree) c.args.directory.now.accepted in
-    one_of_pages file (said_directory c.args.directory.now) (said_catalogue c.args.definitions.now) (said_table c.args.item.now) before (said_tree tree) slot
-    (record { records = records; indexes = c.in_ok-indexes.indexes }) after (returns-clause-table g c)
-    (subst (λ (types : List ColumnType). OpensTable types file told records.working indexes before after) (sym same)
-    (subst (λ (t : ToldRecords). OpensTable c.in-Some.schema.items file t records.working indexes before after) c.told_of-told.ensures
-    (subst (λ (is : List IndexState). OpensTable c.in-Some.schema.items file c.told_of-told.result records.working is before after) c.as_slice-2.ensures.value (c.in_ok-records.ensures.opens tied).opens)))
+    one_of_pages c.args.routes.now file (said_directory c.args.directory.now) (said_catalogue c.args.definitions.now) (said_table c.args.item.now) before (said_tree tree) (told_in g c) slot
+    (record { records = records; indexes = c.in_ok-indexes.indexes }) after (returns-clause-table g c) same c.kind_of.ensures c.told_of.ensures
+    (subst (λ (is : List IndexState). OpensTable file (told_in g c) records.working is c.args.routes.now before after) c.as_slice-2.ensures.value (c.in_ok-records.ensures.opens tied).opens)

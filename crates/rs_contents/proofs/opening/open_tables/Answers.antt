@@ -37,8 +37,8 @@ returns-in_err-table-clause-damaged g c = λ tied is.
     let why : c.in_err-table.field-0.0 ≡ refusal.DamagedFile = cc (p.1, p.2, is) in
     let there = subst (λ (xs : List StoredTable). slice_get (map said_table xs) k ≡ Some item) c.as_slice-item-items.ensures.value
     (said_at said_table c.as_slice-item-items.result.now k c.item-item.result c.loop-item-test.true c.item-item.is) in
-    opens_missing old directory definitions k item there c.loop-item.tables.items (taken c.args.reached.now) between (c.loop-item.invariant.opens tied)
-    (subst (λ (file : PageMap). OpensNotOne file directory definitions item between) (same_map mid old same) (c.in_err-table.ensures.damaged later (ap Err why)))
+    opens_missing c.args.routes.now old directory definitions k item there c.loop-item.tables.items (taken c.args.reached.now) between (c.loop-item.invariant.opens tied)
+    (subst (λ (file : PageMap). OpensNotOne c.args.routes.now file directory definitions item between) (same_map mid old same) (c.in_err-table.ensures.damaged later (ap Err why)))
 
 pub returns-in_err-push-clause-rests : goal.returns-in_err-push-clause-rests
 returns-in_err-push-clause-rests g c =
@@ -70,9 +70,9 @@ loop-item-preserved g c =
       opens = λ tied.
           let later = g.met.P.Pages.keeps_tied c.args.pages.now c.loop-item.pages c.loop-item.invariant.rests.below tied in
           let same = c.loop-item.invariant.rests.rests.keeps.pages tied in
-          subst (λ (opened : List OpenedTable). OpensTables old directory definitions (take (k + 1) definitions.tables) opened (taken c.args.reached.now) after) (sym more)
-          (opens_next old directory definitions k item there found (taken c.args.reached.now) between (c.loop-item.invariant.opens tied) table after
-          (subst (λ (file : PageMap). OpensOne file directory definitions item table between after) (same_map mid old same) (c.in_ok-table.ensures.opens later)));
+          subst (λ (opened : List OpenedTable). OpensTables c.args.routes.now old directory definitions (take (k + 1) definitions.tables) opened (taken c.args.reached.now) after) (sym more)
+          (opens_next c.args.routes.now old directory definitions k item there found (taken c.args.reached.now) between (c.loop-item.invariant.opens tied) table after
+          (subst (λ (file : PageMap). OpensOne c.args.routes.now file directory definitions item table between after) (same_map mid old same) (c.in_ok-table.ensures.opens later)));
       are = subst (λ (opened : List OpenedTable). AllZip (IsTableOf directory definitions) (take (k + 1) definitions.tables) opened) (sym more)
           (zip_next (IsTableOf directory definitions) definitions.tables k item found table there c.loop-item.invariant.are c.in_ok-table.ensures.table);
     }

@@ -11,7 +11,7 @@ abbrev pub invariant-loop-item : goal.invariant-loop-item
 invariant-loop-item g l = record {
   rests : RestsAfter {T = Unit {0}} g.P.Pages.is_tied g.P.Pages.store g.P.Pages.keeps (Ok tt) l.fn.pages l.pages;
   size : length l.reached ≡ length l.fn.reached;
-  opens : g.P.Pages.is_tied l.fn.pages → OpensTables (g.P.Pages.store l.fn.pages).map (said_directory l.directory) (said_catalogue l.definitions)
+  opens : g.P.Pages.is_tied l.fn.pages → OpensTables l.routes (g.P.Pages.store l.fn.pages).map (said_directory l.directory) (said_catalogue l.definitions)
       (take l.item-index (said_catalogue l.definitions).tables) l.tables.items (taken l.fn.reached) (taken l.reached);
   are : AllZip (IsTableOf (said_directory l.directory) (said_catalogue l.definitions)) (take l.item-index (said_catalogue l.definitions).tables) l.tables.items;
 }
