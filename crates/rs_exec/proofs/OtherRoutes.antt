@@ -110,13 +110,6 @@ over-minus left right = ap windows_over (sym (variants.rolls-Minus left right)) 
 pub over-overlay : (back : Vec ℕ Global) (operands : Vec Plan Global) → windows_over (variants.Overlay back operands) ≡ windows_of_first (map windows_over operands.items)
 over-overlay back operands = ap windows_over (sym (variants.rolls-Overlay back operands)) ∙ fold-roll-Plan (List PlannedWindow) windows_step (Plan-F.Overlay back operands)
 
-pub over-window : (windows : Vec PlannedWindow Global) (plan : Box Plan Global) → windows_over (variants.Window windows plan) ≡ windows.items
-over-window windows plan = ap windows_over (sym (variants.rolls-Window windows plan)) ∙ fold-roll-Plan (List PlannedWindow) windows_step (Plan-F.Window windows plan)
-
--- where none are told, each thousandth will do
-pub on-none : (route : ℕ) → AreOn [] route
-on-none route = record { at = 0; all = λ rows. refl }
-
 -- windows that leave some part of a route leave something of it
 pub something-left : (part : Option Part) (is_none : Bool) (windows : List PlannedWindow) (route : ℕ) → is_some part ≡ not is_none → is_none ≡ false → IfSome part (λ some. AreOn windows route) → AreOn windows route
 something-left None is_none windows route is so on = absurd (let wrong : false ≡ true = is ∙ ap not so in cc)

@@ -1,6 +1,6 @@
 //! Leaves: the rows of a table inside all windows that meet all conditions, as a source gives them.
 
-ghost use Rattle.std.specs.Prelude.{◌≡◌, true, map, IfOk, IfErr, IfSome};
+ghost use Rattle.std.specs.Prelude.{◌≡◌, true, map, IfOk, IfSome};
 ghost use Rattle.rs_value.specs.Row.{Row};
 ghost use Rattle.rs_value.specs.View.{literal_datum};
 ghost use Rattle.rs_facts.specs.Condition.{meets};
@@ -11,7 +11,6 @@ ghost use Rattle.rs_exec.specs.Given.{has_datum, has_value};
 ghost use Rattle.rs_exec.specs.Found.{AreFound};
 ghost use Rattle.rs_exec.specs.Leaving.{EndsWith};
 ghost use Rattle.rs_exec.specs.Meaning.{leaf_meaning};
-ghost use Rattle.rs_exec.specs.Routes.{numbers_of, list_of};
 ghost use Rattle.rs_exec.specs.Held.{HoldsRows, AreHeld, AreEvaluated};
 
 use crate::changes::select_each;

@@ -2,7 +2,7 @@ use Rattle.std.proofs.Common.{sym, ap, ◌∙◌, map, subst}
 use Rattle.std.specs.Prelude.{IfNone, IfSome}
 use Rattle.rs_exec.specs.Windows.{AreOff, AreOn}
 use Rattle.rs_exec.specs.Elsewhere.{HasNothingOn, BeginsWithNothingOn, windows_over, windows_of_first}
-use Rattle.rs_exec.proofs.OtherRoutes.{leaf-nothing, operand-nothing, overlay-nothing, first-nothing, nothing-left, over-leaf, over-overlay, over-window, on-none, something-left, operand-something}
+use Rattle.rs_exec.proofs.OtherRoutes.{leaf-nothing, operand-nothing, overlay-nothing, first-nothing, nothing-left, over-leaf, over-overlay, something-left, operand-something}
 use Rattle.rs_exec.proofs.elsewhere.+elsewhere.Goals as goal
 
 pub begins_elsewhere-returns-in-Some-clause-nothing : goal.begins_elsewhere-returns-in-Some-clause-nothing
