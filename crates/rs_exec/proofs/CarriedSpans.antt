@@ -23,7 +23,8 @@ use Rattle.rs_facts.proofs.RowSets.{contains-merged, contains-windowed}
 use Rattle.rs_facts.proofs.RunLaws.{each-at}
 use Rattle.rs_facts.proofs.StretchOrder.{stretch_cmp-less}
 use Rattle.rs_sweep.specs.Lists.{AreSorted, AreWide}
-use Rattle.rs_exec.specs.Carried.{meets}
+use Rattle.rs_exec.specs.Carried.{meets, meets_part}
+use Rattle.rs_exec.specs.declared.source.Part.TheVariants as parts
 
 -- ---- spans that meet a piece
 
@@ -90,6 +91,11 @@ every-met P test (x ∷ xs) all =
       | true ↦ (all.0, rest)
       | false ↦ rest
     ]
+
+-- each lies in a whole route
+pub every-whole : (xs : List Stretch) → filter (meets_part parts.Whole) xs ≡ xs
+every-whole [] = refl
+every-whole (x ∷ xs) = ap (λ zs. x ∷ zs) (every-whole xs)
 
 -- one more span at the end
 pub filter-last : (test : Stretch → Bool) (xs : List Stretch) (x : Stretch) → filter test (xs ++ x ∷ []) ≡ filter test xs ++ cond (test x) (x ∷ []) []

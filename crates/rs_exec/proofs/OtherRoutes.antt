@@ -1,8 +1,8 @@
 -- Plans that have no rows on a route, by what their windows leave of it and by what their operands have there.
-use Rattle.std.proofs.Common.{◌≡◌, ℕ, Bool, true, false, ◌&&◌, not, ◌⊎◌, inl, inr, List, ◌∷◌, map, Option, Some, None, Box, Vec, Global, refl, sym, ap, subst, ◌∙◌}
+use Rattle.std.proofs.Common.{◌≡◌, ℕ, Bool, true, false, ◌&&◌, not, ◌⊎◌, inl, inr, List, [], ◌∷◌, map, Option, Some, None, Box, Vec, Global, refl, sym, ap, subst, ◌∙◌}
 use Rattle.std.specs.List.{list_any}
 use Rattle.std.specs.Option.{is_some}
-use Rattle.std.specs.Prelude.{IfNone}
+use Rattle.std.specs.Prelude.{IfNone, IfSome}
 use Rattle.rs_value.specs.Row.{Row}
 use Rattle.rs_facts.specs.Fact.{RowSet, none, contains, items}
 use Rattle.rs_facts.specs.Operators.{mapped, chosen, dissolved, overlaid, without}
@@ -17,10 +17,10 @@ use Rattle.rs_plan.specs.declared.plan.Plan.TheOpen.{Plan-F}
 use Rattle.rs_plan.specs.declared.plan.Plan.TheVariants as variants
 use Rattle.rs_plan.specs.declared.plan.PlannedWindow.{PlannedWindow}
 use Rattle.rs_plan.specs.PlanView.{conditions_of}
-use Rattle.rs_exec.specs.Elsewhere.{HasNothingOn, BeginsWithNothingOn}
+use Rattle.rs_exec.specs.Elsewhere.{HasNothingOn, BeginsWithNothingOn, windows_step, windows_over, windows_of_first}
 use Rattle.rs_exec.specs.Meaning.{PlanMeaning, meaning_of, meaning_step, rows_together, table_of}
 use Rattle.rs_exec.specs.declared.source.Part.{Part}
-use Rattle.rs_exec.specs.Windows.{AreOff}
+use Rattle.rs_exec.specs.Windows.{AreOff, AreOn}
 use Rattle.rs_exec.proofs.RowLaws.{met-nothing, overlaid-nothing}
 use Rattle.rs_exec.proofs.TableAlone.{leaf-means}
 
@@ -92,3 +92,32 @@ pub operand-nothing : (plan : Plan) (operand : Box Plan Global) (route : ℕ)
 operand-nothing plan operand route (inl one) off = subst (HasNothingOn route) (sym one.1) (where-nothing one.0 operand route off)
 operand-nothing plan operand route (inr (inl one)) off = subst (HasNothingOn route) (sym one.1) (dissolve-nothing one.0 operand route off)
 operand-nothing plan operand route (inr (inr one)) off = subst (HasNothingOn route) (sym one.1) (minus-nothing operand one.0 route off)
+
+-- ---- the windows that all rows of a plan are inside of
+
+pub over-leaf : (leaf : Leaf) → windows_over (variants.Leaf leaf) ≡ leaf.windows.items
+over-leaf leaf = ap windows_over (sym (variants.rolls-Leaf leaf)) ∙ fold-roll-Plan (List PlannedWindow) windows_step (Plan-F.Leaf leaf)
+
+over-where : (conditions : Vec Condition Global) (plan : Box Plan Global) → windows_over (variants.Where conditions plan) ≡ windows_over plan.value
+over-where conditions plan = ap windows_over (sym (variants.rolls-Where conditions plan)) ∙ fold-roll-Plan (List PlannedWindow) windows_step (Plan-F.Where conditions plan)
+
+over-dissolve : (columns : Vec ℕ Global) (plan : Box Plan Global) → windows_over (variants.Dissolve columns plan) ≡ windows_over plan.value
+over-dissolve columns plan = ap windows_over (sym (variants.rolls-Dissolve columns plan)) ∙ fold-roll-Plan (List PlannedWindow) windows_step (Plan-F.Dissolve columns plan)
+
+over-minus : (left right : Box Plan Global) → windows_over (variants.Minus left right) ≡ windows_over left.value
+over-minus left right = ap windows_over (sym (variants.rolls-Minus left right)) ∙ fold-roll-Plan (List PlannedWindow) windows_step (Plan-F.Minus left right)
+
+pub over-overlay : (back : Vec ℕ Global) (operands : Vec Plan Global) → windows_over (variants.Overlay back operands) ≡ windows_of_first (map windows_over operands.items)
+over-overlay back operands = ap windows_over (sym (variants.rolls-Overlay back operands)) ∙ fold-roll-Plan (List PlannedWindow) windows_step (Plan-F.Overlay back operands)
+
+-- windows that leave some part of a route leave something of it
+pub something-left : (part : Option Part) (is_none : Bool) (windows : List PlannedWindow) (route : ℕ) → is_some part ≡ not is_none → is_none ≡ false → IfSome part (λ some. AreOn windows route) → AreOn windows route
+something-left None is_none windows route is so on = absurd (let wrong : false ≡ true = is ∙ ap not so in cc)
+something-left (Some part) is_none windows route is so on = on
+
+pub operand-something : (plan : Plan) (operand : Box Plan Global) (route : ℕ)
+    → ((x : Vec Condition Global) × plan ≡ variants.Where x operand) ⊎ (((x : Vec ℕ Global) × plan ≡ variants.Dissolve x operand) ⊎ ((x : Box Plan Global) × plan ≡ variants.Minus operand x))
+    → AreOn (windows_over operand.value) route → AreOn (windows_over plan) route
+operand-something plan operand route (inl one) on = subst (λ windows. AreOn windows route) (sym (ap windows_over one.1 ∙ over-where one.0 operand)) on
+operand-something plan operand route (inr (inl one)) on = subst (λ windows. AreOn windows route) (sym (ap windows_over one.1 ∙ over-dissolve one.0 operand)) on
+operand-something plan operand route (inr (inr one)) on = subst (λ windows. AreOn windows route) (sym (ap windows_over one.1 ∙ over-minus operand one.0)) on

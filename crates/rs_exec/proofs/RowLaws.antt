@@ -94,6 +94,10 @@ windowed-empty from to k rows empty = same_rows _ _ (λ row. contains-windowed f
       | false ↦ λ e. refl
     ] refl
 
+-- all rows at the first thousandth of a part are inside it
+pub windowed-first : (from to : ℕ) (rows : RowSet) → from < to → windowed from to from rows ≡ rows
+windowed-first from to rows some = same_rows _ _ (λ row. contains-windowed from to from rows row ∙ ap (λ t. t && contains rows row) (within-true from to from (omega arith) some))
+
 -- ---- OVERLAY
 
 pub overlaid-nothing : (rows : RowSet) → overlaid none rows ≡ none

@@ -1,5 +1,5 @@
 -- From what an operator says of spans to what they are of a plan, on one route.
-use Rattle.std.proofs.Common.{◌≡◌, ◌≤◌, ℕ, ◌+◌, true, false, ◌&&◌, List, [], ◌∷◌, map, length, refl, sym, ap, ◌∙◌, subst, arith}
+use Rattle.std.proofs.Common.{◌≡◌, ◌≤◌, ◌<◌, ℕ, ◌+◌, true, false, ◌&&◌, List, [], ◌∷◌, map, length, refl, sym, ap, ◌∙◌, subst, arith}
 use Rattle.std.proofs.lemmas.Bool.{and_parts}
 use Rattle.std.proofs.lemmas.Bool.Decides.{nat_tests}
 use Rattle.std.specs.Prelude.{◌==◌, nat_le, Vec, IsPermutation}
@@ -60,6 +60,9 @@ wide-moved width xs ys moved all = every_moved (λ span. length span.row ≡ wid
 
 pub at-most : (a b : ℕ) → nat_le a b ≡ true → a ≤ b
 at-most a b e = grind (arith, nat_tests)
+
+pub more-than : (a b : ℕ) → nat_le a b ≡ false → b < a
+more-than a b e = grind (arith, nat_tests)
 
 is_same : (a b : ℕ) → (a == b) ≡ true → a ≡ b
 is_same a b e = grind (arith, nat_tests)

@@ -6,7 +6,7 @@ use Rattle.rs_facts.specs.Fact.{RowSet, none}
 use Rattle.rs_plan.specs.declared.plan.PlannedWindow.{PlannedWindow}
 use Rattle.rs_exec.specs.Given.{inside}
 use Rattle.rs_exec.specs.Meaning.{route_number, seen_on_its_route, seen_through, seen_through_each}
-use Rattle.rs_exec.specs.Windows.{IsInsideEach, AreOff}
+use Rattle.rs_exec.specs.Windows.{IsInsideEach, AreOff, AreOn, HasRoom}
 use Rattle.rs_exec.specs.declared.source.Part.{Part}
 use Rattle.rs_exec.specs.declared.source.Part.TheVariants as parts
 use Rattle.rs_exec.proofs.Lists.{none_first, none_second}
@@ -58,6 +58,12 @@ module _ (route : ℕ) where
   pub narrows-empty : (windows rest : List PlannedWindow) (part : Part) → Narrows windows rest part → rest ≡ [] → ((k : ℕ) (rows : RowSet) → inside part k rows ≡ none) → AreOff windows route
   narrows-empty windows rest part so_far none_left empty = record {
     nothing = λ k rows. sym (so_far.same k rows) ∙ empty k (seen_through_each rest route k rows);
+  }
+
+  pub narrows-room : (windows rest : List PlannedWindow) (part : Part) → Narrows windows rest part → rest ≡ [] → HasRoom part → AreOn windows route
+  narrows-room windows rest part so_far none_left room = record {
+    at = room.at;
+    all = λ rows. sym (so_far.same room.at rows) ∙ ap (λ each. inside part room.at (seen_through_each each route room.at rows)) none_left ∙ room.all rows;
   }
 
 -- ---- the route of the first window

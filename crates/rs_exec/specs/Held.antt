@@ -11,7 +11,10 @@ use Rattle.rs_facts.specs.Runs.{Stretch}
 use Rattle.rs_facts.specs.Spans.{seen, places_of}
 use Rattle.rs_exec.specs.Snapshot.{Snapshots}
 use Rattle.rs_exec.specs.Meaning.{PlanMeaning, rows_together, kinds_together, widths_together}
-use Rattle.rs_exec.specs.Routes.{AreShaped, IsShaped}
+use Rattle.rs_exec.specs.Routes.{numbers_of, list_of, AreShaped, IsShaped}
+use Rattle.rs_exec.specs.declared.routes.Routes.{Routes}
+use Rattle.rs_exec.specs.declared.routes.RowsOn.{RowsOn}
+use Rattle.rs_exec.specs.declared.source.Source.{Ghosts}
 
 -- In each of the snapshots the spans mean the plan's rows on the route. Whatever the snapshots, they are sorted, of the
 -- plan's kind, and as wide as its columns.
@@ -25,6 +28,16 @@ HoldsRows stands version plan route rows = AreRowsOf stands version plan route (
 -- the same on each of several routes, in turn
 abbrev pub AreHeld : (Snapshots → Type 0) → ℕ → PlanMeaning → List ℕ → List (Vec Span Global) → Type 0
 AreHeld stands version plan numbers rows = AllZip (HoldsRows stands version plan) numbers rows
+
+-- ---- what an evaluation makes, of what the source stood for before it
+
+-- the plan's rows on each of the routes
+abbrev pub AreEvaluated : {S : Type 0} → Ghosts S → S → Routes → PlanMeaning → RowsOn → Type 0
+AreEvaluated source old routes plan = λ rows. AreHeld (source.is old) routes.version plan (numbers_of routes) (list_of rows)
+
+-- the plan's rows on the first of them
+abbrev pub AreEvaluatedAlone : {S : Type 0} → Ghosts S → S → Routes → PlanMeaning → Vec Span Global → Type 0
+AreEvaluatedAlone source old routes plan = λ rows. HoldsRows (source.is old) routes.version plan routes.first rows
 
 -- ---- operands of an OVERLAY one after another
 

@@ -18,6 +18,16 @@ pub record IsInsideEach (windows : List PlannedWindow) (route : ℕ) (part : Par
 pub record AreOff (windows : List PlannedWindow) (route : ℕ) : Type 0 where
   pub nothing : (k : ℕ) (rows : RowSet) → seen_through_each windows route k rows ≡ none
 
+-- at some thousandth of the route, all rows are seen through all windows
+pub record AreOn (windows : List PlannedWindow) (route : ℕ) : Type 0 where
+  pub at : ℕ
+  pub all : (rows : RowSet) → seen_through_each windows route at rows ≡ rows
+
+-- some thousandth is inside the part
+pub record HasRoom (part : Part) : Type 0 where
+  pub at : ℕ
+  pub all : (rows : RowSet) → inside part at rows ≡ rows
+
 -- of the route the part is inside all windows, and nothing of any other
 pub record IsSeenOn (windows : List PlannedWindow) (route : ℕ) (part : Part) : Type 0 where
   pub here : IsInsideEach windows route part

@@ -1,7 +1,8 @@
 //! Plans whose windows leave nothing of a route.
 
-ghost use Rattle.std.specs.Prelude.{◌≡◌, true};
-ghost use Rattle.rs_exec.specs.Elsewhere.{HasNothingOn, BeginsWithNothingOn};
+ghost use Rattle.std.specs.Prelude.{◌≡◌, true, false, map};
+ghost use Rattle.rs_exec.specs.Windows.{AreOn};
+ghost use Rattle.rs_exec.specs.Elsewhere.{HasNothingOn, BeginsWithNothingOn, windows_over, windows_of_first};
 
 use crate::windows::part_inside;
 use rs_plan::Plan;
@@ -9,7 +10,8 @@ use rs_plan::Plan;
 /// Whether a plan's windows leave nothing of the route of this number. No row is looked at.
 #[cycle(elsewhere)]
 pub fn is_elsewhere(plan: &Plan, route: u32) -> bool
-    ensures { result ≡ true → HasNothingOn route plan.now }
+    ensures nothing { result ≡ true → HasNothingOn route plan.now }
+    ensures something { result ≡ false → AreOn (windows_over plan.now) route }
 {
     match plan {
         Plan::Leaf(leaf) => part_inside(leaf.windows.as_slice(), route).is_none(),
@@ -25,7 +27,8 @@ pub fn is_elsewhere(plan: &Plan, route: u32) -> bool
 /// Whether the windows of the first of an OVERLAY's operands leave nothing of the route.
 #[cycle(elsewhere)]
 fn begins_elsewhere(operands: &[Plan], route: u32) -> bool
-    ensures { result ≡ true → BeginsWithNothingOn route operands.now }
+    ensures nothing { result ≡ true → BeginsWithNothingOn route operands.now }
+    ensures something { result ≡ false → AreOn (windows_of_first (map windows_over operands.now)) route }
 {
     match operands.split_first() {
         Some((first, _)) => is_elsewhere(first, route),

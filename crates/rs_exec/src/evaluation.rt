@@ -11,9 +11,9 @@ ghost use Rattle.rs_facts.specs.Spans.{seen, ArePlaced};
 ghost use Rattle.rs_sweep.specs.Lists.{AreWide};
 ghost use Rattle.rs_exec.specs.Snapshot.{Snapshots};
 ghost use Rattle.rs_exec.specs.Meaning.{rows_in, kind_in, width_in, is_well_formed, overlay_meaning, cover_meaning, merge_meaning, minus_meaning, transform_meaning, window_meaning};
-ghost use Rattle.rs_exec.specs.Leaving.{LeavesBehind};
+ghost use Rattle.rs_exec.specs.Leaving.{EndsWith};
 ghost use Rattle.rs_exec.specs.Operand.{operand_meaning, operands_meaning, beside_meaning, together_meaning, changed_meaning, paired_meaning};
-ghost use Rattle.rs_exec.specs.Held.{HoldsRows, AreHeld, AreLaidOver, IsBeside, AreBeside, CanOverlay};
+ghost use Rattle.rs_exec.specs.Held.{AreEvaluated, AreEvaluatedAlone, AreLaidOver, IsBeside, AreBeside, CanOverlay};
 ghost use Rattle.rs_exec.specs.Sides.{CanRead, IsSideOf};
 ghost use Rattle.rs_exec.specs.Routes.{numbers_of, list_of};
 
@@ -70,10 +70,8 @@ fn rows_on<S: Source>(
     operand: Operand<'_>,
 ) -> Result<RowsOn, Refusal>
     requires well_formed { (operand_meaning operand).is_well_formed ≡ true }
-    ensures held { IfOk result (λ rows. AreHeld (S.is source.old) routes.entry.version (operand_meaning operand.entry)
-        (numbers_of routes.entry) (list_of rows)) }
-    ensures leaves { LeavesBehind S.Source source.old source.new }
-    ensures wants { IfErr result (λ why. S.wants why source.old source.new) }
+    ensures held { IfOk result (AreEvaluated S.Source source.old routes.entry (operand_meaning operand.entry)) }
+    ensures ends { EndsWith S.Source source.old source.new result }
 {
     match operand.node() {
         Node::Leaf(leaf) => leaf_on(alloc, source, routes, leaf),
@@ -97,10 +95,9 @@ fn changed_rows<S: Source>(
     operand: Operand<'_>,
 ) -> Result<RowsOn, Refusal>
     requires well_formed { (changed_meaning change (operand_meaning operand)).is_well_formed ≡ true }
-    ensures held { IfOk result (λ rows. AreHeld (S.is source.old) routes.entry.version
-        (changed_meaning change.entry (operand_meaning operand.entry)) (numbers_of routes.entry) (list_of rows)) }
-    ensures leaves { LeavesBehind S.Source source.old source.new }
-    ensures wants { IfErr result (λ why. S.wants why source.old source.new) }
+    ensures held { IfOk result (AreEvaluated S.Source source.old routes.entry
+        (changed_meaning change.entry (operand_meaning operand.entry))) }
+    ensures ends { EndsWith S.Source source.old source.new result }
 {
     let rows = rows_on(alloc, source, routes, operand)?;
     let changed = changed_on(alloc, change, rows)?;
@@ -118,10 +115,9 @@ fn paired_rows<S: Source>(
     right: Operand<'_>,
 ) -> Result<RowsOn, Refusal>
     requires well_formed { (paired_meaning pairing (operand_meaning left) (operand_meaning right)).is_well_formed ≡ true }
-    ensures held { IfOk result (λ rows. AreHeld (S.is source.old) routes.entry.version
-        (paired_meaning pairing (operand_meaning left.entry) (operand_meaning right.entry)) (numbers_of routes.entry) (list_of rows)) }
-    ensures leaves { LeavesBehind S.Source source.old source.new }
-    ensures wants { IfErr result (λ why. S.wants why source.old source.new) }
+    ensures held { IfOk result (AreEvaluated S.Source source.old routes.entry
+        (paired_meaning pairing (operand_meaning left.entry) (operand_meaning right.entry))) }
+    ensures ends { EndsWith S.Source source.old source.new result }
 {
     if routes.others.is_empty() {
         let first = paired_alone(alloc, source, routes, pairing, left, right)?;
@@ -148,10 +144,9 @@ fn paired_alone<S: Source>(
     right: Operand<'_>,
 ) -> Result<Vec<Span>, Refusal>
     requires well_formed { (paired_meaning pairing (operand_meaning left) (operand_meaning right)).is_well_formed ≡ true }
-    ensures held { IfOk result (HoldsRows (S.is source.old) routes.entry.version
-        (paired_meaning pairing (operand_meaning left.entry) (operand_meaning right.entry)) routes.entry.first) }
-    ensures leaves { LeavesBehind S.Source source.old source.new }
-    ensures wants { IfErr result (λ why. S.wants why source.old source.new) }
+    ensures held { IfOk result (AreEvaluatedAlone S.Source source.old routes.entry
+        (paired_meaning pairing (operand_meaning left.entry) (operand_meaning right.entry))) }
+    ensures ends { EndsWith S.Source source.old source.new result }
 {
     match pairing {
         Pairing::Overlay => beside_rows(alloc, source, routes, left, right),
@@ -181,10 +176,9 @@ fn beside_rows<S: Source>(
     right: Operand<'_>,
 ) -> Result<Vec<Span>, Refusal>
     requires well_formed { (beside_meaning (operand_meaning left) (operand_meaning right)).is_well_formed ≡ true }
-    ensures held { IfOk result (HoldsRows (S.is source.old) routes.entry.version
-        (beside_meaning (operand_meaning left.entry) (operand_meaning right.entry)) routes.entry.first) }
-    ensures leaves { LeavesBehind S.Source source.old source.new }
-    ensures wants { IfErr result (λ why. S.wants why source.old source.new) }
+    ensures held { IfOk result (AreEvaluatedAlone S.Source source.old routes.entry
+        (beside_meaning (operand_meaning left.entry) (operand_meaning right.entry))) }
+    ensures ends { EndsWith S.Source source.old source.new result }
 {
     let left_side = side_on(alloc, source, routes, left)?;
     if is_bare(&*source, &left_side) {
@@ -209,10 +203,9 @@ fn covered_rows<S: Source>(
 ) -> Result<Vec<Span>, Refusal>
     requires well_formed { (cover_meaning widths.0 widths.1 (operand_meaning left) (operand_meaning right)).is_well_formed
         ≡ true }
-    ensures held { IfOk result (HoldsRows (S.is source.old) routes.entry.version
-        (cover_meaning widths.0 widths.1 (operand_meaning left.entry) (operand_meaning right.entry)) routes.entry.first) }
-    ensures leaves { LeavesBehind S.Source source.old source.new }
-    ensures wants { IfErr result (λ why. S.wants why source.old source.new) }
+    ensures held { IfOk result (AreEvaluatedAlone S.Source source.old routes.entry
+        (cover_meaning widths.0 widths.1 (operand_meaning left.entry) (operand_meaning right.entry))) }
+    ensures ends { EndsWith S.Source source.old source.new result }
 {
     let left_side = side_on(alloc, source, routes, left)?;
     let right_side = side_on(alloc, source, routes, right)?;
@@ -232,10 +225,9 @@ fn merged_rows<S: Source>(
     right: Operand<'_>,
 ) -> Result<Vec<Span>, Refusal>
     requires well_formed { (merge_meaning (operand_meaning left) (operand_meaning right)).is_well_formed ≡ true }
-    ensures held { IfOk result (HoldsRows (S.is source.old) routes.entry.version
-        (merge_meaning (operand_meaning left.entry) (operand_meaning right.entry)) routes.entry.first) }
-    ensures leaves { LeavesBehind S.Source source.old source.new }
-    ensures wants { IfErr result (λ why. S.wants why source.old source.new) }
+    ensures held { IfOk result (AreEvaluatedAlone S.Source source.old routes.entry
+        (merge_meaning (operand_meaning left.entry) (operand_meaning right.entry))) }
+    ensures ends { EndsWith S.Source source.old source.new result }
 {
     let left_rows = rows_alone(alloc, source, routes, left)?;
     let right_rows = rows_alone(alloc, source, routes, right)?;
@@ -253,10 +245,9 @@ fn rows_without<S: Source>(
     right: Operand<'_>,
 ) -> Result<Vec<Span>, Refusal>
     requires well_formed { (minus_meaning (operand_meaning left) (operand_meaning right)).is_well_formed ≡ true }
-    ensures held { IfOk result (HoldsRows (S.is source.old) routes.entry.version
-        (minus_meaning (operand_meaning left.entry) (operand_meaning right.entry)) routes.entry.first) }
-    ensures leaves { LeavesBehind S.Source source.old source.new }
-    ensures wants { IfErr result (λ why. S.wants why source.old source.new) }
+    ensures held { IfOk result (AreEvaluatedAlone S.Source source.old routes.entry
+        (minus_meaning (operand_meaning left.entry) (operand_meaning right.entry))) }
+    ensures ends { EndsWith S.Source source.old source.new result }
 {
     let left_rows = rows_alone(alloc, source, routes, left)?;
     let right_side = side_on(alloc, source, routes, right)?;
@@ -274,10 +265,8 @@ fn rows_alone<S: Source>(
     operand: Operand<'_>,
 ) -> Result<Vec<Span>, Refusal>
     requires well_formed { (operand_meaning operand).is_well_formed ≡ true }
-    ensures held { IfOk result (HoldsRows (S.is source.old) routes.entry.version (operand_meaning operand.entry)
-        routes.entry.first) }
-    ensures leaves { LeavesBehind S.Source source.old source.new }
-    ensures wants { IfErr result (λ why. S.wants why source.old source.new) }
+    ensures held { IfOk result (AreEvaluatedAlone S.Source source.old routes.entry (operand_meaning operand.entry)) }
+    ensures ends { EndsWith S.Source source.old source.new result }
 {
     let alone = Routes {
         version: routes.version,
@@ -300,8 +289,7 @@ fn side_on<S: Source>(
     ensures side { IfOk result (IsSideOf (S.is source.old) routes.entry.version (operand_meaning operand.entry)
         routes.entry.first) }
     ensures readable { IfOk result (CanRead S.lends) }
-    ensures leaves { LeavesBehind S.Source source.old source.new }
-    ensures wants { IfErr result (λ why. S.wants why source.old source.new) }
+    ensures ends { EndsWith S.Source source.old source.new result }
 {
     if let Some(asked) = table_lent(&*source, routes, &operand) {
         return Ok(Side::Table(asked));
@@ -320,10 +308,9 @@ fn overlaid_rows<S: Source>(
     operands: Operands<'_>,
 ) -> Result<RowsOn, Refusal>
     requires well_formed { (overlay_meaning back.now (operands_meaning operands)).is_well_formed ≡ true }
-    ensures held { IfOk result (λ rows. AreHeld (S.is source.old) routes.entry.version
-        (overlay_meaning back.now (operands_meaning operands.entry)) (numbers_of routes.entry) (list_of rows)) }
-    ensures leaves { LeavesBehind S.Source source.old source.new }
-    ensures wants { IfErr result (λ why. S.wants why source.old source.new) }
+    ensures held { IfOk result (AreEvaluated S.Source source.old routes.entry
+        (overlay_meaning back.now (operands_meaning operands.entry))) }
+    ensures ends { EndsWith S.Source source.old source.new result }
 {
     let Some((first, others)) = operands.next() else {
         let none = none_on(alloc, routes)?;
@@ -347,11 +334,9 @@ fn rows_together<S: Source>(
     others: Operands<'_>,
 ) -> Result<RowsOn, Refusal>
     requires well_formed { (together_meaning (operand_meaning first ∷ operands_meaning others)).is_well_formed ≡ true }
-    ensures held { IfOk result (λ rows. AreHeld (S.is source.old) routes.entry.version
-        (together_meaning (operand_meaning first.entry ∷ operands_meaning others.entry)) (numbers_of routes.entry)
-        (list_of rows)) }
-    ensures leaves { LeavesBehind S.Source source.old source.new }
-    ensures wants { IfErr result (λ why. S.wants why source.old source.new) }
+    ensures held { IfOk result (AreEvaluated S.Source source.old routes.entry
+        (together_meaning (operand_meaning first.entry ∷ operands_meaning others.entry))) }
+    ensures ends { EndsWith S.Source source.old source.new result }
 {
     if routes.others.is_empty() {
         return together_alone(alloc, source, routes, first, others);
@@ -371,11 +356,9 @@ fn together_alone<S: Source>(
 ) -> Result<RowsOn, Refusal>
     requires alone { routes.others.now ≡ [] }
     requires well_formed { (together_meaning (operand_meaning first ∷ operands_meaning others)).is_well_formed ≡ true }
-    ensures held { IfOk result (λ rows. AreHeld (S.is source.old) routes.entry.version
-        (together_meaning (operand_meaning first.entry ∷ operands_meaning others.entry)) (numbers_of routes.entry)
-        (list_of rows)) }
-    ensures leaves { LeavesBehind S.Source source.old source.new }
-    ensures wants { IfErr result (λ why. S.wants why source.old source.new) }
+    ensures held { IfOk result (AreEvaluated S.Source source.old routes.entry
+        (together_meaning (operand_meaning first.entry ∷ operands_meaning others.entry))) }
+    ensures ends { EndsWith S.Source source.old source.new result }
 {
     let Some((second, others)) = others.next() else {
         return rows_on(alloc, source, routes, first);
@@ -401,8 +384,7 @@ fn overlaid_with<S: Source>(
     requires can { CanOverlay (operands_meaning operands) (numbers_of routes) (list_of rows) }
     ensures laid { IfOk result (λ overlaid. AreLaidOver (S.is source.old) routes.entry.version (operands_meaning operands.entry)
         (numbers_of routes.entry) (list_of rows) (list_of overlaid)) }
-    ensures leaves { LeavesBehind S.Source source.old source.new }
-    ensures wants { IfErr result (λ why. S.wants why source.old source.new) }
+    ensures ends { EndsWith S.Source source.old source.new result }
 {
     if are_none(&rows) {
         return Ok(rows);
@@ -426,8 +408,7 @@ fn laid_with<S: Source>(
     requires can { CanOverlay (operand_meaning next ∷ []) (numbers_of routes) (list_of rows) }
     ensures beside { IfOk result (λ laid. AreBeside (S.is source.old) routes.entry.version (operand_meaning next.entry)
         (numbers_of routes.entry) (list_of rows) (list_of laid)) }
-    ensures leaves { LeavesBehind S.Source source.old source.new }
-    ensures wants { IfErr result (λ why. S.wants why source.old source.new) }
+    ensures ends { EndsWith S.Source source.old source.new result }
 {
     if routes.others.is_empty() {
         let first = laid_alone(alloc, source, routes, rows.first, next)?;
@@ -453,8 +434,7 @@ fn laid_alone<S: Source>(
     requires can { CanOverlay (operand_meaning next ∷ []) (routes.first ∷ []) (rows ∷ []) }
     ensures beside { IfOk result (IsBeside (S.is source.old) routes.entry.version (operand_meaning next.entry)
         (routes.entry.first, rows)) }
-    ensures leaves { LeavesBehind S.Source source.old source.new }
-    ensures wants { IfErr result (λ why. S.wants why source.old source.new) }
+    ensures ends { EndsWith S.Source source.old source.new result }
 {
     let side = side_on(alloc, source, routes, next)?;
     let lower = lent(alloc, &rows)?;
@@ -474,10 +454,9 @@ fn seen_rows<S: Source>(
     operand: Operand<'_>,
 ) -> Result<RowsOn, Refusal>
     requires well_formed { (window_meaning windows.now (operand_meaning operand)).is_well_formed ≡ true }
-    ensures held { IfOk result (λ rows. AreHeld (S.is source.old) routes.entry.version
-        (window_meaning windows.now (operand_meaning operand.entry)) (numbers_of routes.entry) (list_of rows)) }
-    ensures leaves { LeavesBehind S.Source source.old source.new }
-    ensures wants { IfErr result (λ why. S.wants why source.old source.new) }
+    ensures held { IfOk result (AreEvaluated S.Source source.old routes.entry
+        (window_meaning windows.now (operand_meaning operand.entry))) }
+    ensures ends { EndsWith S.Source source.old source.new result }
 {
     let Some((route, part)) = part_seen(windows, routes) else {
         let none = none_on(alloc, routes)?;
@@ -506,10 +485,9 @@ fn carried_rows<S: Source>(
     operand: Operand<'_>,
 ) -> Result<RowsOn, Refusal>
     requires well_formed { (transform_meaning pieces.now (operand_meaning operand)).is_well_formed ≡ true }
-    ensures held { IfOk result (λ rows. AreHeld (S.is source.old) routes.entry.version
-        (transform_meaning pieces.now (operand_meaning operand.entry)) (numbers_of routes.entry) (list_of rows)) }
-    ensures leaves { LeavesBehind S.Source source.old source.new }
-    ensures wants { IfErr result (λ why. S.wants why source.old source.new) }
+    ensures held { IfOk result (AreEvaluated S.Source source.old routes.entry
+        (transform_meaning pieces.now (operand_meaning operand.entry))) }
+    ensures ends { EndsWith S.Source source.old source.new result }
 {
     let numbers = sources_of(alloc, pieces, routes)?;
     let Some((first, others)) = numbers.split_first() else {

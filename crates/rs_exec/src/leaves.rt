@@ -1,6 +1,6 @@
 //! Leaves: the rows of a table inside all windows that meet all conditions, as a source gives them.
 
-ghost use Rattle.std.specs.Prelude.{◌≡◌, true, map, IfOk, IfErr, IfSome};
+ghost use Rattle.std.specs.Prelude.{◌≡◌, true, map, IfOk, IfSome};
 ghost use Rattle.rs_value.specs.Row.{Row};
 ghost use Rattle.rs_value.specs.View.{literal_datum};
 ghost use Rattle.rs_facts.specs.Condition.{meets};
@@ -9,10 +9,9 @@ ghost use Rattle.rs_facts.specs.Spans.{seen};
 ghost use Rattle.rs_planning.specs.Conjuncts.{meets_each};
 ghost use Rattle.rs_exec.specs.Given.{has_datum, has_value};
 ghost use Rattle.rs_exec.specs.Found.{AreFound};
-ghost use Rattle.rs_exec.specs.Leaving.{LeavesBehind};
+ghost use Rattle.rs_exec.specs.Leaving.{EndsWith};
 ghost use Rattle.rs_exec.specs.Meaning.{leaf_meaning};
-ghost use Rattle.rs_exec.specs.Routes.{numbers_of, list_of};
-ghost use Rattle.rs_exec.specs.Held.{HoldsRows, AreHeld};
+ghost use Rattle.rs_exec.specs.Held.{HoldsRows, AreHeld, AreEvaluated};
 
 use crate::changes::select_each;
 use crate::routes::{Routes, RowsOn};
@@ -32,10 +31,8 @@ pub(crate) fn leaf_on<S: Source>(
     routes: Routes<'_>,
     leaf: &Leaf,
 ) -> Result<RowsOn, Refusal>
-    ensures held { IfOk result (λ rows. AreHeld (S.is source.old) routes.entry.version (leaf_meaning leaf.now)
-        (numbers_of routes.entry) (list_of rows)) }
-    ensures leaves { LeavesBehind S.Source source.old source.new }
-    ensures wants { IfErr result (λ why. S.wants why source.old source.new) }
+    ensures held { IfOk result (AreEvaluated S.Source source.old routes.entry (leaf_meaning leaf.now)) }
+    ensures ends { EndsWith S.Source source.old source.new result }
 {
     let first = leaf_rows(alloc, source, routes.version, routes.first, leaf)?;
     let others = leaf_each(alloc, source, routes.version, routes.others, leaf)?;
@@ -51,8 +48,7 @@ fn leaf_each<S: Source>(
     leaf: &Leaf,
 ) -> Result<Vec<Vec<Span>>, Refusal>
     ensures held { IfOk result (λ rows. AreHeld (S.is source.old) version (leaf_meaning leaf.now) numbers.now rows.items) }
-    ensures leaves { LeavesBehind S.Source source.old source.new }
-    ensures wants { IfErr result (λ why. S.wants why source.old source.new) }
+    ensures ends { EndsWith S.Source source.old source.new result }
 {
     let mut rows = Vec::new(alloc);
     for number in numbers {
@@ -71,8 +67,7 @@ fn leaf_rows<S: Source>(
     leaf: &Leaf,
 ) -> Result<Vec<Span>, Refusal>
     ensures held { IfOk result (HoldsRows (S.is source.old) version (leaf_meaning leaf.now) route) }
-    ensures leaves { LeavesBehind S.Source source.old source.new }
-    ensures wants { IfErr result (λ why. S.wants why source.old source.new) }
+    ensures ends { EndsWith S.Source source.old source.new result }
 {
     let Some(part) = part_inside(leaf.windows.as_slice(), route) else {
         return Ok(Vec::new(alloc));
@@ -101,8 +96,7 @@ fn found_spans<S: Source>(
 ) -> Result<Vec<Span>, Refusal>
     ensures found { IfOk result (λ spans. AreFound (S.is source.old) asked.now part
         (map condition_of leaf.now.conditions.items) (map seen spans.items)) }
-    ensures leaves { LeavesBehind S.Source source.old source.new }
-    ensures wants { IfErr result (λ why. S.wants why source.old source.new) }
+    ensures ends { EndsWith S.Source source.old source.new result }
 {
     match sought_value(source, leaf) {
         Some(sought) => source.spans_of_value(alloc, asked, part, sought),

@@ -3,7 +3,8 @@
 //! It is given by value and can't be copied: an operand that was evaluated is gone, so that none is evaluated twice.
 
 ghost use Rattle.std.specs.Prelude.{◌≡◌, [], ◌∷◌, IfSome, IfNone};
-ghost use Rattle.rs_exec.specs.Alone.{IsTableAlone};
+ghost use Rattle.rs_plan.specs.declared.plan.Leaf.{Leaf};
+ghost use Rattle.rs_exec.specs.Alone.{IsTableAlone, IsBareLeaf};
 ghost use Rattle.rs_exec.specs.Meaning.{meaning_of, kind_in};
 ghost use Rattle.rs_exec.specs.Operand.{node_meaning, node_size, size_of};
 
@@ -60,7 +61,8 @@ impl<'a> Operand<'a> {
 
     /// The table, where it is a table alone.
     pub(crate) fn table(&self) -> Option<PlannedTable>
-        ensures { IfSome result (IsTableAlone self.now.plan.now) }
+        ensures alone { IfSome result (IsTableAlone self.now.plan.now) }
+        ensures none { IfNone result ((leaf : Leaf) → ¬ IsBareLeaf self.now.plan.now leaf) }
     {
         table_alone(self.plan)
     }

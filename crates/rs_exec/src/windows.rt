@@ -1,6 +1,6 @@
 //! Windows: what several of them leave of a route, and what is seen there.
 
-ghost use Rattle.std.specs.Prelude.{◌≡◌, ◌≤◌, ℕ, true, length, map, IfSome, IfNone, IfOk};
+ghost use Rattle.std.specs.Prelude.{◌≡◌, ◌≤◌, ℕ, true, false, length, map, IfSome, IfNone, IfOk};
 ghost use Rattle.std.specs.List.{AllZip, AllByRecursion};
 ghost use Rattle.rs_value.specs.declared.column.Kind.{Kind};
 ghost use Rattle.rs_facts.specs.Fact.{RowSet, none};
@@ -9,7 +9,7 @@ ghost use Rattle.rs_sweep.specs.Lists.{AreSorted, AreWide};
 ghost use Rattle.rs_exec.specs.Given.{inside};
 ghost use Rattle.rs_exec.specs.Meaning.{route_number, seen_on_its_route};
 ghost use Rattle.rs_exec.specs.Routes.{numbers_of, list_of};
-ghost use Rattle.rs_exec.specs.Windows.{AreOff, IsInsideEach, IsSeenOn, IsSpread};
+ghost use Rattle.rs_exec.specs.Windows.{AreOff, AreOn, HasRoom, IsInsideEach, IsSeenOn, IsSpread};
 
 use crate::routes::{Routes, RowsOn, is_among};
 use crate::source::Part;
@@ -32,6 +32,7 @@ pub(crate) fn route_of(window: PlannedWindow) -> u32
 /// The part of a route that is inside all windows; none where nothing of it is.
 pub(crate) fn part_inside(windows: &[PlannedWindow], route: u32) -> Option<Part>
     ensures part { IfSome result (λ part. IsInsideEach windows.now route part) }
+    ensures some { IfSome result (λ part. AreOn windows.now route) }
     ensures none { IfNone result (AreOff windows.now route) }
 {
     let mut part = Part::Whole;
@@ -90,7 +91,8 @@ fn between(part: Part, from: u32, to: u32) -> Part
 
 /// Whether nothing is inside the part.
 fn is_empty(part: Part) -> bool
-    ensures { result ≡ true → (k : ℕ) (rows : RowSet) → inside part k rows ≡ none }
+    ensures empty { result ≡ true → (k : ℕ) (rows : RowSet) → inside part k rows ≡ none }
+    ensures room { result ≡ false → HasRoom part }
 {
     match part {
         Part::Whole => false,

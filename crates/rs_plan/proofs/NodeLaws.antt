@@ -10,13 +10,14 @@ use Rattle.rs_planning.specs.Plan as plans
 use Rattle.rs_planning.specs.Rule.{weight, together, under_where, overlay_under_where}
 use Rattle.rs_checker.specs.CheckedView as checked
 use Rattle.rs_checker.specs.declared.checked.LocatedPiece.{LocatedPiece}
+use Rattle.rs_plan.specs.declared.nodes.OfRows.{OfRows}
 use Rattle.rs_plan.specs.declared.operand.Operand.{Operand}
 use Rattle.rs_plan.specs.declared.plan.PlannedPiece.{PlannedPiece}
 use Rattle.rs_plan.specs.declared.plan.Plan.{Plan}
 use Rattle.rs_plan.specs.declared.plan.Plan.TheVariants as variants
-use Rattle.rs_plan.specs.Operands.{operand_tree, operand_names, AreAmong, IsWeighed, IsTogether, IsOver, IsAlone, IsOverlaid}
+use Rattle.rs_plan.specs.Operands.{operand_tree, operand_names, rows_node, AreAmong, IsWeighed, IsTogether, IsOver, IsAlone, IsOverlaid}
 use Rattle.rs_plan.specs.PlanView.{plan_tree, named_in, piece_of, named_by_piece}
-use Rattle.rs_plan.proofs.PlanLaws.{dissolve-tree, dissolve-names, merge-tree, merge-names, minus-tree, minus-names, cover-tree, cover-names, transform-tree, transform-names}
+use Rattle.rs_plan.proofs.PlanLaws.{dissolve-tree, dissolve-names, cover-tree, cover-names, transform-tree, transform-names}
 use Rattle.rs_plan.proofs.Walks.{append-end}
 
 pub alone-over : (operands : List Operand) (one : Operand) (tree : plans.Plan) (weight width : ℕ) (named : List Numbered) → operands ≡ one ∷ [] → IsOver one tree weight width named → IsAlone operands tree weight width named
@@ -51,20 +52,13 @@ module _ (plan : Plan) (below : Box Plan Global) (same : below.value ≡ plan) (
   }
 
 module _ (left right : Plan) (first second : Box Plan Global) (is_left : first.value ≡ left) (is_right : second.value ≡ right) (heavy width w n : ℕ) (weight_is : heavy ≡ w) (width_is : width ≡ n) where
-  pub merge-over : IsOver (record { plan = variants.Merge first second; weight = heavy; width = width }) (plans.merge_node (plan_tree left) (plan_tree right)) w n (named_in left ++ named_in right)
-  merge-over = record {
-    tree_is = merge-tree first second ∙ (λ i. plans.merge_node (plan_tree (is_left i)) (plan_tree (is_right i)));
+  pub rows-over : (operator : OfRows) (plan : Plan) → plan_tree plan ≡ rows_node operator (plan_tree first.value) (plan_tree second.value) → named_in plan ≡ named_in first.value ++ named_in second.value
+      → IsOver (record { plan = plan; weight = heavy; width = width }) (rows_node operator (plan_tree left) (plan_tree right)) w n (named_in left ++ named_in right)
+  rows-over operator plan tree names = record {
+    tree_is = tree ∙ (λ i. rows_node operator (plan_tree (is_left i)) (plan_tree (is_right i)));
     weight_is = weight_is;
     width_is = width_is;
-    names = merge-names first second ∙ (λ i. named_in (is_left i) ++ named_in (is_right i));
-  }
-
-  pub minus-over : IsOver (record { plan = variants.Minus first second; weight = heavy; width = width }) (plans.minus_node (plan_tree left) (plan_tree right)) w n (named_in left ++ named_in right)
-  minus-over = record {
-    tree_is = minus-tree first second ∙ (λ i. plans.minus_node (plan_tree (is_left i)) (plan_tree (is_right i)));
-    weight_is = weight_is;
-    width_is = width_is;
-    names = minus-names first second ∙ (λ i. named_in (is_left i) ++ named_in (is_right i));
+    names = names ∙ (λ i. named_in (is_left i) ++ named_in (is_right i));
   }
 
   pub cover-over : (a b : ℕ) → IsOver (record { plan = variants.Cover a b first second; weight = heavy; width = width }) (plans.cover_node a b (plan_tree left) (plan_tree right)) w n (named_in left ++ named_in right)

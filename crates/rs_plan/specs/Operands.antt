@@ -9,6 +9,8 @@ use Rattle.rs_planning.specs.Numbered.{Numbered}
 use Rattle.rs_planning.specs.Plan as plans
 use Rattle.rs_planning.specs.Plan.{plan_width}
 use Rattle.rs_planning.specs.Rule.{weight, in_written_order, lightest_first, overlay_of, together, overlay_under_where, place}
+use Rattle.rs_plan.specs.declared.nodes.OfRows.{OfRows}
+use Rattle.rs_plan.specs.declared.nodes.OfRows.TheVariants as of_rows
 use Rattle.rs_plan.specs.declared.operand.Operand.{Operand}
 use Rattle.rs_plan.specs.declared.overlays.Written.{Written}
 use Rattle.rs_plan.specs.declared.plan.PlannedWindow.{PlannedWindow}
@@ -68,6 +70,11 @@ abbrev pub place_among : List ℕ → ℕ → ℕ
 place_among columns column = min (position_or_len (λ other. other == column) columns) (2 ^ 8 - 1)
 
 -- ---- nodes
+
+-- the node of MERGE or of MINUS over two plans
+abbrev pub rows_node : OfRows → plans.Plan → plans.Plan → plans.Plan
+rows_node of_rows.Merge left right = plans.merge_node left right
+rows_node of_rows.Minus left right = plans.minus_node left right
 
 -- an operand of this plan, weight and width, which names these
 pub record IsOver (one : Operand) (tree : plans.Plan) (weight width : ℕ) (named : List Numbered) : Type 0 where

@@ -4,8 +4,8 @@ ghost use Rattle.std.specs.Prelude.{◌≡◌, ◌+◌, ◌-◌, ◌^◌, [], �
 ghost use Rattle.rs_planning.specs.Plan as plans;
 ghost use Rattle.rs_planning.specs.Rule as rule;
 ghost use Rattle.rs_checker.specs.CheckedView as checked;
-ghost use Rattle.rs_plan.specs.Operands.{operand_tree, operand_names, IsAlone, IsOver, IsOverlaid};
-ghost use Rattle.rs_plan.specs.PlanView.{conditions_of, windows_of, named_by_window};
+ghost use Rattle.rs_plan.specs.Operands.{operand_tree, operand_names, rows_node, IsAlone, IsOver, IsOverlaid};
+ghost use Rattle.rs_plan.specs.PlanView.{plan_tree, named_in, conditions_of, windows_of, named_by_window};
 
 use crate::leaves::planned_pieces;
 use crate::operand::Operand;
@@ -36,46 +36,47 @@ pub(crate) fn dissolve(
     )
 }
 
-/// MERGE of two operands.
-pub(crate) fn merge(
+/// An operator of two operands that are as wide.
+#[derive(Clone, Copy)]
+pub(crate) enum OfRows {
+    /// The rows of either.
+    Merge,
+    /// The rows of the first that the second does not have.
+    Minus,
+}
+
+/// MERGE or MINUS of two operands.
+pub(crate) fn of_rows(
     alloc: Global,
+    operator: OfRows,
     left: Operand,
     right: Operand,
 ) -> Result<Vec<Operand>, AllocError>
-    ensures { IfOk result (λ made. IsAlone made.items (plans.merge_node (operand_tree left) (operand_tree right)) (min (left.weight + right.weight) (2 ^ 128 - 1)) left.width (operand_names left ++ operand_names right)) }
+    ensures { IfOk result (λ made. IsAlone made.items (rows_node operator (operand_tree left) (operand_tree right)) (min (left.weight + right.weight) (2 ^ 128 - 1)) left.width (operand_names left ++ operand_names right)) }
 {
     let weight = left.weight.saturating_add(right.weight);
     let width = left.width;
-    let plan = Plan::Merge(Box::new(alloc, left.plan)?, Box::new(alloc, right.plan)?);
+    let first = Box::new(alloc, left.plan)?;
+    let second = Box::new(alloc, right.plan)?;
     alone(
         alloc,
         Operand {
-            plan,
+            plan: plan_of_rows(operator, first, second),
             weight,
             width,
         },
     )
 }
 
-/// MINUS of two operands.
-pub(crate) fn minus(
-    alloc: Global,
-    left: Operand,
-    right: Operand,
-) -> Result<Vec<Operand>, AllocError>
-    ensures { IfOk result (λ made. IsAlone made.items (plans.minus_node (operand_tree left) (operand_tree right)) (min (left.weight + right.weight) (2 ^ 128 - 1)) left.width (operand_names left ++ operand_names right)) }
+/// MERGE or MINUS of two plans.
+fn plan_of_rows(operator: OfRows, first: Box<Plan>, second: Box<Plan>) -> Plan
+    ensures tree { plan_tree result ≡ rows_node operator (plan_tree first.value) (plan_tree second.value) }
+    ensures names { named_in result ≡ named_in first.value ++ named_in second.value }
 {
-    let weight = left.weight.saturating_add(right.weight);
-    let width = left.width;
-    let plan = Plan::Minus(Box::new(alloc, left.plan)?, Box::new(alloc, right.plan)?);
-    alone(
-        alloc,
-        Operand {
-            plan,
-            weight,
-            width,
-        },
-    )
+    match operator {
+        OfRows::Merge => Plan::Merge(first, second),
+        OfRows::Minus => Plan::Minus(first, second),
+    }
 }
 
 /// COVER of two operands of these widths, under a WHERE where there are conditions.

@@ -10,7 +10,9 @@ ghost use Rattle.rs_plan.specs.PlanView.{conditions_of};
 use crate::asking::{Asked, for_dissolve, same, shares_of, with_condition, with_window};
 use crate::counts::Counts;
 use crate::leaves::{leaf, planned_window};
-use crate::nodes::{cover, dissolve, merge, minus, overlay_under_where, side_by_side, transform};
+use crate::nodes::{
+    OfRows, cover, dissolve, of_rows, overlay_under_where, side_by_side, transform,
+};
 use crate::operand::Operand;
 use crate::overlays::together;
 use crate::widths::width_of;
@@ -53,13 +55,13 @@ pub(crate) fn place<C: Counts>(
             let other = same(alloc, &asked)?;
             let left = place_alone(alloc, Box::into_inner(first), other, counts)?;
             let right = place_alone(alloc, Box::into_inner(second), asked, counts)?;
-            merge(alloc, left, right)
+            of_rows(alloc, OfRows::Merge, left, right)
         }
         CheckedQuery::Minus(first, second) => {
             let other = same(alloc, &asked)?;
             let left = place_alone(alloc, Box::into_inner(first), other, counts)?;
             let right = place_alone(alloc, Box::into_inner(second), asked, counts)?;
-            minus(alloc, left, right)
+            of_rows(alloc, OfRows::Minus, left, right)
         }
         CheckedQuery::Overlay(first, second) => {
             let shares = shares_of(alloc, asked, width_of(&first))?;

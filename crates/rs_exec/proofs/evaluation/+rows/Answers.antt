@@ -47,63 +47,66 @@ paired_rows-returns-clause-held g t c =
     let numbers = numbers_of c.args.routes in
     paired-held (g.S.Source.is c.args.source.now) c.args.routes.version c.args.pairing a b numbers (list_of c.in_ok-left_rows.left_rows) (list_of c.in_ok-right_rows.right_rows) (list_of c.in_ok-paired.paired)
     c.requires.well_formed c.in_ok-paired.ensures c.in_ok-left_rows.ensures.held
-    (earlier (g.S.Source.is c.args.source.now) (g.S.Source.is c.rows_on.new.source) c.args.routes.version b numbers (list_of c.in_ok-right_rows.right_rows) c.in_ok-left_rows.ensures.leaves.stands c.in_ok-right_rows.ensures.held)
+    (earlier (g.S.Source.is c.args.source.now) (g.S.Source.is c.rows_on.new.source) c.args.routes.version b numbers (list_of c.in_ok-right_rows.right_rows) c.in_ok-left_rows.ensures.ends.leaves.stands c.in_ok-right_rows.ensures.held)
 
-pub paired_rows-returns-clause-leaves : goal.paired_rows-returns-clause-leaves
-paired_rows-returns-clause-leaves g t c =
-    leaves-then g.S.Source g.met.S.Source.passes_trans c.args.source.now c.rows_on.new.source c.rows_on-2.new.source c.in_ok-left_rows.ensures.leaves c.in_ok-right_rows.ensures.leaves
+pub paired_rows-returns-clause-ends : goal.paired_rows-returns-clause-ends
+paired_rows-returns-clause-ends g t c = record {
+  leaves = leaves-then g.S.Source g.met.S.Source.passes_trans c.args.source.now c.rows_on.new.source c.rows_on-2.new.source c.in_ok-left_rows.ensures.ends.leaves c.in_ok-right_rows.ensures.ends.leaves;
+  wants = tt;
+}
 
 -- ---- operands that are only read
 
 pub beside_rows-returns-then-is_bare-clause-held : goal.beside_rows-returns-then-is_bare-clause-held
 beside_rows-returns-then-is_bare-clause-held g t c =
-    bare-beside (g.S.Source.is c.args.source.now) (g.S.Source.is c.side_on.new.source) c.args.routes.version (operand_meaning c.args.left) (operand_meaning c.args.right) c.args.routes.first c.in_ok-left_side.left_side c.new.result c.in_ok-left_side.ensures.leaves.stands c.in_ok-left_side.ensures.side (c.is_bare.ensures c.if-is_bare.true) c.new.ensures.items
+    bare-beside (g.S.Source.is c.args.source.now) (g.S.Source.is c.side_on.new.source) c.args.routes.version (operand_meaning c.args.left) (operand_meaning c.args.right) c.args.routes.first c.in_ok-left_side.left_side c.new.result c.in_ok-left_side.ensures.ends.leaves.stands c.in_ok-left_side.ensures.side (c.is_bare.ensures c.if-is_bare.true) c.new.ensures.items
 
 pub beside_rows-overlaid-requires : goal.beside_rows-overlaid-requires
 beside_rows-overlaid-requires g t c =
     can-pair-one (g.S.Source.is c.args.source.now) c.args.routes.version c.args.routes.first pairings.Overlay (operand_meaning c.args.left) (operand_meaning c.args.right) (map seen_lent c.deref.result.now) (map seen_lent c.deref-2.result.now) c.requires.well_formed
-    (read-lent (g.S.Source.is c.args.source.now) (g.S.Source.is c.args.source.now) (g.S.Source.is c.side_on-2.new.source) c.args.routes.version (operand_meaning c.args.left) c.args.routes.first c.in_ok-left_side.left_side c.deref.result.now c.in_ok-lower.lower (λ snapshots there. there) (λ snapshots there. c.in_ok-right_side.ensures.leaves.stands snapshots (c.in_ok-left_side.ensures.leaves.stands snapshots there)) c.deref.ensures.value c.in_ok-left_side.ensures.side c.in_ok-lower.ensures)
-    (read-lent (g.S.Source.is c.args.source.now) (g.S.Source.is c.side_on.new.source) (g.S.Source.is c.side_on-2.new.source) c.args.routes.version (operand_meaning c.args.right) c.args.routes.first c.in_ok-right_side.right_side c.deref-2.result.now c.in_ok-upper.upper c.in_ok-left_side.ensures.leaves.stands c.in_ok-right_side.ensures.leaves.stands c.deref-2.ensures.value c.in_ok-right_side.ensures.side c.in_ok-upper.ensures)
+    (read-lent (g.S.Source.is c.args.source.now) (g.S.Source.is c.args.source.now) (g.S.Source.is c.side_on-2.new.source) c.args.routes.version (operand_meaning c.args.left) c.args.routes.first c.in_ok-left_side.left_side c.deref.result.now c.in_ok-lower.lower (λ snapshots there. there) (λ snapshots there. c.in_ok-right_side.ensures.ends.leaves.stands snapshots (c.in_ok-left_side.ensures.ends.leaves.stands snapshots there)) c.deref.ensures.value c.in_ok-left_side.ensures.side c.in_ok-lower.ensures)
+    (read-lent (g.S.Source.is c.args.source.now) (g.S.Source.is c.side_on.new.source) (g.S.Source.is c.side_on-2.new.source) c.args.routes.version (operand_meaning c.args.right) c.args.routes.first c.in_ok-right_side.right_side c.deref-2.result.now c.in_ok-upper.upper c.in_ok-left_side.ensures.ends.leaves.stands c.in_ok-right_side.ensures.ends.leaves.stands c.deref-2.ensures.value c.in_ok-right_side.ensures.side c.in_ok-upper.ensures)
 
 pub beside_rows-returns-clause-held : goal.beside_rows-returns-clause-held
 beside_rows-returns-clause-held g t c =
     paired-step (g.S.Source.is c.args.source.now) c.args.routes.version c.args.routes.first pairings.Overlay (operand_meaning c.args.left) (operand_meaning c.args.right) (map seen_lent c.deref.result.now) (map seen_lent c.deref-2.result.now) (map seen c.in_ok-spans.spans.items) c.requires.well_formed
-    (read-lent (g.S.Source.is c.args.source.now) (g.S.Source.is c.args.source.now) (g.S.Source.is c.side_on-2.new.source) c.args.routes.version (operand_meaning c.args.left) c.args.routes.first c.in_ok-left_side.left_side c.deref.result.now c.in_ok-lower.lower (λ snapshots there. there) (λ snapshots there. c.in_ok-right_side.ensures.leaves.stands snapshots (c.in_ok-left_side.ensures.leaves.stands snapshots there)) c.deref.ensures.value c.in_ok-left_side.ensures.side c.in_ok-lower.ensures)
-    (read-lent (g.S.Source.is c.args.source.now) (g.S.Source.is c.side_on.new.source) (g.S.Source.is c.side_on-2.new.source) c.args.routes.version (operand_meaning c.args.right) c.args.routes.first c.in_ok-right_side.right_side c.deref-2.result.now c.in_ok-upper.upper c.in_ok-left_side.ensures.leaves.stands c.in_ok-right_side.ensures.leaves.stands c.deref-2.ensures.value c.in_ok-right_side.ensures.side c.in_ok-upper.ensures)
+    (read-lent (g.S.Source.is c.args.source.now) (g.S.Source.is c.args.source.now) (g.S.Source.is c.side_on-2.new.source) c.args.routes.version (operand_meaning c.args.left) c.args.routes.first c.in_ok-left_side.left_side c.deref.result.now c.in_ok-lower.lower (λ snapshots there. there) (λ snapshots there. c.in_ok-right_side.ensures.ends.leaves.stands snapshots (c.in_ok-left_side.ensures.ends.leaves.stands snapshots there)) c.deref.ensures.value c.in_ok-left_side.ensures.side c.in_ok-lower.ensures)
+    (read-lent (g.S.Source.is c.args.source.now) (g.S.Source.is c.side_on.new.source) (g.S.Source.is c.side_on-2.new.source) c.args.routes.version (operand_meaning c.args.right) c.args.routes.first c.in_ok-right_side.right_side c.deref-2.result.now c.in_ok-upper.upper c.in_ok-left_side.ensures.ends.leaves.stands c.in_ok-right_side.ensures.ends.leaves.stands c.deref-2.ensures.value c.in_ok-right_side.ensures.side c.in_ok-upper.ensures)
     c.in_ok-spans.ensures
 
-pub covered_rows-returns-in_err-spans-clause-wants : goal.covered_rows-returns-in_err-spans-clause-wants
-covered_rows-returns-in_err-spans-clause-wants g t c =
-    let wanted = g.met.S.Source.wants_memory c.args.source.now c.side_on-2.new.source (g.met.S.Source.passes_trans c.args.source.now c.side_on.new.source c.side_on-2.new.source c.in_ok-left_side.ensures.leaves.passes c.in_ok-right_side.ensures.leaves.passes) in
-    search rules
+pub covered_rows-returns-in_err-spans-clause-ends : goal.covered_rows-returns-in_err-spans-clause-ends
+covered_rows-returns-in_err-spans-clause-ends g t c =
+    let both = leaves-then g.S.Source g.met.S.Source.passes_trans c.args.source.now c.side_on.new.source c.side_on-2.new.source c.in_ok-left_side.ensures.ends.leaves c.in_ok-right_side.ensures.ends.leaves in
+    let wanted = g.met.S.Source.wants_memory c.args.source.now c.side_on-2.new.source both.passes in
+    record { leaves = both; wants = search rules }
 
 pub covered_rows-covered-requires : goal.covered_rows-covered-requires
 covered_rows-covered-requires g t c =
     can-pair-one (g.S.Source.is c.args.source.now) c.args.routes.version c.args.routes.first (pairings.Cover c.args.widths.0 c.args.widths.1) (operand_meaning c.args.left) (operand_meaning c.args.right) (map seen_lent c.deref.result.now) (map seen_lent c.deref-2.result.now) c.requires.well_formed
-    (read-lent (g.S.Source.is c.args.source.now) (g.S.Source.is c.args.source.now) (g.S.Source.is c.side_on-2.new.source) c.args.routes.version (operand_meaning c.args.left) c.args.routes.first c.in_ok-left_side.left_side c.deref.result.now c.in_ok-lower.lower (λ snapshots there. there) (λ snapshots there. c.in_ok-right_side.ensures.leaves.stands snapshots (c.in_ok-left_side.ensures.leaves.stands snapshots there)) c.deref.ensures.value c.in_ok-left_side.ensures.side c.in_ok-lower.ensures)
-    (read-lent (g.S.Source.is c.args.source.now) (g.S.Source.is c.side_on.new.source) (g.S.Source.is c.side_on-2.new.source) c.args.routes.version (operand_meaning c.args.right) c.args.routes.first c.in_ok-right_side.right_side c.deref-2.result.now c.in_ok-upper.upper c.in_ok-left_side.ensures.leaves.stands c.in_ok-right_side.ensures.leaves.stands c.deref-2.ensures.value c.in_ok-right_side.ensures.side c.in_ok-upper.ensures)
+    (read-lent (g.S.Source.is c.args.source.now) (g.S.Source.is c.args.source.now) (g.S.Source.is c.side_on-2.new.source) c.args.routes.version (operand_meaning c.args.left) c.args.routes.first c.in_ok-left_side.left_side c.deref.result.now c.in_ok-lower.lower (λ snapshots there. there) (λ snapshots there. c.in_ok-right_side.ensures.ends.leaves.stands snapshots (c.in_ok-left_side.ensures.ends.leaves.stands snapshots there)) c.deref.ensures.value c.in_ok-left_side.ensures.side c.in_ok-lower.ensures)
+    (read-lent (g.S.Source.is c.args.source.now) (g.S.Source.is c.side_on.new.source) (g.S.Source.is c.side_on-2.new.source) c.args.routes.version (operand_meaning c.args.right) c.args.routes.first c.in_ok-right_side.right_side c.deref-2.result.now c.in_ok-upper.upper c.in_ok-left_side.ensures.ends.leaves.stands c.in_ok-right_side.ensures.ends.leaves.stands c.deref-2.ensures.value c.in_ok-right_side.ensures.side c.in_ok-upper.ensures)
 
 pub covered_rows-returns-clause-held : goal.covered_rows-returns-clause-held
 covered_rows-returns-clause-held g t c =
     paired-step (g.S.Source.is c.args.source.now) c.args.routes.version c.args.routes.first (pairings.Cover c.args.widths.0 c.args.widths.1) (operand_meaning c.args.left) (operand_meaning c.args.right) (map seen_lent c.deref.result.now) (map seen_lent c.deref-2.result.now) (map seen c.in_ok-spans.spans.items) c.requires.well_formed
-    (read-lent (g.S.Source.is c.args.source.now) (g.S.Source.is c.args.source.now) (g.S.Source.is c.side_on-2.new.source) c.args.routes.version (operand_meaning c.args.left) c.args.routes.first c.in_ok-left_side.left_side c.deref.result.now c.in_ok-lower.lower (λ snapshots there. there) (λ snapshots there. c.in_ok-right_side.ensures.leaves.stands snapshots (c.in_ok-left_side.ensures.leaves.stands snapshots there)) c.deref.ensures.value c.in_ok-left_side.ensures.side c.in_ok-lower.ensures)
-    (read-lent (g.S.Source.is c.args.source.now) (g.S.Source.is c.side_on.new.source) (g.S.Source.is c.side_on-2.new.source) c.args.routes.version (operand_meaning c.args.right) c.args.routes.first c.in_ok-right_side.right_side c.deref-2.result.now c.in_ok-upper.upper c.in_ok-left_side.ensures.leaves.stands c.in_ok-right_side.ensures.leaves.stands c.deref-2.ensures.value c.in_ok-right_side.ensures.side c.in_ok-upper.ensures)
+    (read-lent (g.S.Source.is c.args.source.now) (g.S.Source.is c.args.source.now) (g.S.Source.is c.side_on-2.new.source) c.args.routes.version (operand_meaning c.args.left) c.args.routes.first c.in_ok-left_side.left_side c.deref.result.now c.in_ok-lower.lower (λ snapshots there. there) (λ snapshots there. c.in_ok-right_side.ensures.ends.leaves.stands snapshots (c.in_ok-left_side.ensures.ends.leaves.stands snapshots there)) c.deref.ensures.value c.in_ok-left_side.ensures.side c.in_ok-lower.ensures)
+    (read-lent (g.S.Source.is c.args.source.now) (g.S.Source.is c.side_on.new.source) (g.S.Source.is c.side_on-2.new.source) c.args.routes.version (operand_meaning c.args.right) c.args.routes.first c.in_ok-right_side.right_side c.deref-2.result.now c.in_ok-upper.upper c.in_ok-left_side.ensures.ends.leaves.stands c.in_ok-right_side.ensures.ends.leaves.stands c.deref-2.ensures.value c.in_ok-right_side.ensures.side c.in_ok-upper.ensures)
     c.in_ok-spans.ensures
 
 pub merged_rows-returns-clause-held : goal.merged_rows-returns-clause-held
 merged_rows-returns-clause-held g t c =
     paired-step (g.S.Source.is c.args.source.now) c.args.routes.version c.args.routes.first pairings.Merge (operand_meaning c.args.left) (operand_meaning c.args.right) (map seen c.in_ok-left_rows.left_rows.items) (map seen c.in_ok-right_rows.right_rows.items) (map seen c.in_ok-spans.spans.items) c.requires.well_formed c.in_ok-left_rows.ensures.held
-    (earlier-one (g.S.Source.is c.args.source.now) (g.S.Source.is c.rows_alone.new.source) c.args.routes.version c.args.routes.first (operand_meaning c.args.right) c.in_ok-right_rows.right_rows c.in_ok-left_rows.ensures.leaves.stands c.in_ok-right_rows.ensures.held) c.in_ok-spans.ensures
+    (earlier-one (g.S.Source.is c.args.source.now) (g.S.Source.is c.rows_alone.new.source) c.args.routes.version c.args.routes.first (operand_meaning c.args.right) c.in_ok-right_rows.right_rows c.in_ok-left_rows.ensures.ends.leaves.stands c.in_ok-right_rows.ensures.held) c.in_ok-spans.ensures
 
 pub rows_without-without-requires : goal.rows_without-without-requires
 rows_without-without-requires g t c =
     can-pair-one (g.S.Source.is c.args.source.now) c.args.routes.version c.args.routes.first pairings.Minus (operand_meaning c.args.left) (operand_meaning c.args.right) (map seen c.in_ok-left_rows.left_rows.items) (map seen_lent c.deref.result.now) c.requires.well_formed c.in_ok-left_rows.ensures.held
-    (read-lent (g.S.Source.is c.args.source.now) (g.S.Source.is c.rows_alone.new.source) (g.S.Source.is c.side_on.new.source) c.args.routes.version (operand_meaning c.args.right) c.args.routes.first c.in_ok-right_side.right_side c.deref.result.now c.in_ok-upper.upper c.in_ok-left_rows.ensures.leaves.stands c.in_ok-right_side.ensures.leaves.stands c.deref.ensures.value c.in_ok-right_side.ensures.side c.in_ok-upper.ensures)
+    (read-lent (g.S.Source.is c.args.source.now) (g.S.Source.is c.rows_alone.new.source) (g.S.Source.is c.side_on.new.source) c.args.routes.version (operand_meaning c.args.right) c.args.routes.first c.in_ok-right_side.right_side c.deref.result.now c.in_ok-upper.upper c.in_ok-left_rows.ensures.ends.leaves.stands c.in_ok-right_side.ensures.ends.leaves.stands c.deref.ensures.value c.in_ok-right_side.ensures.side c.in_ok-upper.ensures)
 
 pub rows_without-returns-clause-held : goal.rows_without-returns-clause-held
 rows_without-returns-clause-held g t c =
     paired-step (g.S.Source.is c.args.source.now) c.args.routes.version c.args.routes.first pairings.Minus (operand_meaning c.args.left) (operand_meaning c.args.right) (map seen c.in_ok-left_rows.left_rows.items) (map seen_lent c.deref.result.now) (map seen c.in_ok-spans.spans.items) c.requires.well_formed c.in_ok-left_rows.ensures.held
-    (read-lent (g.S.Source.is c.args.source.now) (g.S.Source.is c.rows_alone.new.source) (g.S.Source.is c.side_on.new.source) c.args.routes.version (operand_meaning c.args.right) c.args.routes.first c.in_ok-right_side.right_side c.deref.result.now c.in_ok-upper.upper c.in_ok-left_rows.ensures.leaves.stands c.in_ok-right_side.ensures.leaves.stands c.deref.ensures.value c.in_ok-right_side.ensures.side c.in_ok-upper.ensures)
+    (read-lent (g.S.Source.is c.args.source.now) (g.S.Source.is c.rows_alone.new.source) (g.S.Source.is c.side_on.new.source) c.args.routes.version (operand_meaning c.args.right) c.args.routes.first c.in_ok-right_side.right_side c.deref.result.now c.in_ok-upper.upper c.in_ok-left_rows.ensures.ends.leaves.stands c.in_ok-right_side.ensures.ends.leaves.stands c.deref.ensures.value c.in_ok-right_side.ensures.side c.in_ok-upper.ensures)
     c.in_ok-spans.ensures
 
 -- ---- operands of an OVERLAY
@@ -140,7 +143,7 @@ pub rows_together-returns-clause-held : goal.rows_together-returns-clause-held
 rows_together-returns-clause-held g t c =
     IfOk-weaker c.overlaid_with.result _ _ (λ rows laid.
     together-laid (g.S.Source.is c.args.source.now) c.args.routes.version (operand_meaning c.args.first) (operands_meaning c.args.others) (numbers_of c.args.routes) (list_of c.in_ok-rows.rows) (list_of rows) c.in_ok-rows.ensures.held
-    (laid-earlier (g.S.Source.is c.args.source.now) (g.S.Source.is c.rows_on.new.source) c.args.routes.version (operands_meaning c.args.others) (numbers_of c.args.routes) (list_of c.in_ok-rows.rows) (list_of rows) c.in_ok-rows.ensures.leaves.stands laid)) c.overlaid_with.ensures.laid
+    (laid-earlier (g.S.Source.is c.args.source.now) (g.S.Source.is c.rows_on.new.source) c.args.routes.version (operands_meaning c.args.others) (numbers_of c.args.routes) (list_of c.in_ok-rows.rows) (list_of rows) c.in_ok-rows.ensures.ends.leaves.stands laid)) c.overlaid_with.ensures.laid
 
 pub together_alone-returns-in_default-clause-held : goal.together_alone-returns-in_default-clause-held
 together_alone-returns-in_default-clause-held g t c =
@@ -164,7 +167,7 @@ together_alone-returns-clause-held g t c =
     (together-two (g.S.Source.is c.args.source.now) c.args.routes.version (operand_meaning c.args.first) (operand_meaning c.in-Some.second) (operands_meaning c.in-Some.others) (numbers_of c.args.routes) (list_of rows)
     (together-laid (g.S.Source.is c.args.source.now) c.args.routes.version (beside_meaning (operand_meaning c.args.first) (operand_meaning c.in-Some.second)) (operands_meaning c.in-Some.others) (numbers_of c.args.routes) (c.in_ok-spans.spans ∷ c.new.result.items) (list_of rows)
     (held-alone (g.S.Source.is c.args.source.now) c.args.routes.version (beside_meaning (operand_meaning c.args.first) (operand_meaning c.in-Some.second)) c.args.routes.first c.args.routes.others.now c.in_ok-spans.spans c.new.result.items c.requires.alone c.new.ensures.items c.in_ok-spans.ensures.held)
-    (laid-earlier (g.S.Source.is c.args.source.now) (g.S.Source.is c.beside_rows.new.source) c.args.routes.version (operands_meaning c.in-Some.others) (numbers_of c.args.routes) (c.in_ok-spans.spans ∷ c.new.result.items) (list_of rows) c.in_ok-spans.ensures.leaves.stands laid)))) c.overlaid_with.ensures.laid
+    (laid-earlier (g.S.Source.is c.args.source.now) (g.S.Source.is c.beside_rows.new.source) c.args.routes.version (operands_meaning c.in-Some.others) (numbers_of c.args.routes) (c.in_ok-spans.spans ∷ c.new.result.items) (list_of rows) c.in_ok-spans.ensures.ends.leaves.stands laid)))) c.overlaid_with.ensures.laid
 
 pub overlaid_with-returns-then-are_none-clause-laid : goal.overlaid_with-returns-then-are_none-clause-laid
 overlaid_with-returns-then-are_none-clause-laid g t c =
@@ -195,7 +198,7 @@ overlaid_with-returns-clause-laid g t c =
     IfOk-weaker c.overlaid_with.result _ _ (λ overlaid laid.
     subst (λ (plans : List PlanMeaning). AreLaidOver (g.S.Source.is c.args.source.now) c.args.routes.version plans (numbers_of c.args.routes) (list_of c.args.rows) (list_of overlaid)) (sym (ap (map meaning_of) c.in-Some.ensures.first))
     (laid-next (g.S.Source.is c.args.source.now) c.args.routes.version (operand_meaning c.in-Some.next) (operands_meaning c.in-Some.others) can.kind can.width (numbers_of c.args.routes) (list_of c.args.rows) (list_of c.in_ok-laid.laid) (list_of overlaid) can.shaped c.in_ok-laid.ensures.beside
-    (laid-earlier (g.S.Source.is c.args.source.now) (g.S.Source.is c.laid_with.new.source) c.args.routes.version (operands_meaning c.in-Some.others) (numbers_of c.args.routes) (list_of c.in_ok-laid.laid) (list_of overlaid) c.in_ok-laid.ensures.leaves.stands laid))) c.overlaid_with.ensures.laid
+    (laid-earlier (g.S.Source.is c.args.source.now) (g.S.Source.is c.laid_with.new.source) c.args.routes.version (operands_meaning c.in-Some.others) (numbers_of c.args.routes) (list_of c.in_ok-laid.laid) (list_of overlaid) c.in_ok-laid.ensures.ends.leaves.stands laid))) c.overlaid_with.ensures.laid
 
 pub laid_with-paired_on-requires : goal.laid_with-paired_on-requires
 laid_with-paired_on-requires g t c =
@@ -209,12 +212,12 @@ laid_with-returns-clause-beside g t c =
 pub laid_alone-overlaid-requires : goal.laid_alone-overlaid-requires
 laid_alone-overlaid-requires g t c =
     can-lay-one (g.S.Source.is c.args.source.now) c.args.routes.version c.args.routes.first (operand_meaning c.args.next) c.args.rows (map seen_lent c.deref-2.result.now) (map seen_lent c.deref-3.result.now) (ap (map seen_lent) c.deref-2.ensures.value ∙ c.in_ok-lower.ensures ∙ ap (map seen) c.deref.ensures.value) c.requires.can
-    (read-lent (g.S.Source.is c.args.source.now) (g.S.Source.is c.args.source.now) (g.S.Source.is c.side_on.new.source) c.args.routes.version (operand_meaning c.args.next) c.args.routes.first c.in_ok-side.side c.deref-3.result.now c.in_ok-upper.upper (λ snapshots there. there) c.in_ok-side.ensures.leaves.stands c.deref-3.ensures.value c.in_ok-side.ensures.side c.in_ok-upper.ensures)
+    (read-lent (g.S.Source.is c.args.source.now) (g.S.Source.is c.args.source.now) (g.S.Source.is c.side_on.new.source) c.args.routes.version (operand_meaning c.args.next) c.args.routes.first c.in_ok-side.side c.deref-3.result.now c.in_ok-upper.upper (λ snapshots there. there) c.in_ok-side.ensures.ends.leaves.stands c.deref-3.ensures.value c.in_ok-side.ensures.side c.in_ok-upper.ensures)
 
 pub laid_alone-returns-clause-beside : goal.laid_alone-returns-clause-beside
 laid_alone-returns-clause-beside g t c =
     beside-one (g.S.Source.is c.args.source.now) c.args.routes.version (operand_meaning c.args.next) c.args.routes.first c.args.rows (map seen_lent c.deref-3.result.now) c.in_ok-spans.spans
-    (read-lent (g.S.Source.is c.args.source.now) (g.S.Source.is c.args.source.now) (g.S.Source.is c.side_on.new.source) c.args.routes.version (operand_meaning c.args.next) c.args.routes.first c.in_ok-side.side c.deref-3.result.now c.in_ok-upper.upper (λ snapshots there. there) c.in_ok-side.ensures.leaves.stands c.deref-3.ensures.value c.in_ok-side.ensures.side c.in_ok-upper.ensures)
+    (read-lent (g.S.Source.is c.args.source.now) (g.S.Source.is c.args.source.now) (g.S.Source.is c.side_on.new.source) c.args.routes.version (operand_meaning c.args.next) c.args.routes.first c.in_ok-side.side c.deref-3.result.now c.in_ok-upper.upper (λ snapshots there. there) c.in_ok-side.ensures.ends.leaves.stands c.deref-3.ensures.value c.in_ok-side.ensures.side c.in_ok-upper.ensures)
     (subst (λ lower. ArePaired pairings.Overlay (lower, (map seen_lent c.deref-3.result.now)) (map seen c.in_ok-spans.spans.items)) (ap (map seen_lent) c.deref-2.ensures.value ∙ c.in_ok-lower.ensures ∙ ap (map seen) c.deref.ensures.value) c.in_ok-spans.ensures)
 
 -- ---- by the topmost node

@@ -18,7 +18,7 @@ loop-number-preserved g c = record {
       (more-numbers c.args.numbers.now c.loop-number.number-index c.loop-number-test.true) c.in_ok-push.ensures.items
       (earlier-one (g.S.Source.is c.args.source.now) (g.S.Source.is c.loop-number.source) c.args.version (get_or c.args.numbers.now c.loop-number.number-index 0) (leaf_meaning c.args.leaf.now) c.in_ok-on_route.on_route
       c.loop-number.invariant.leaves.stands c.in_ok-on_route.ensures.held);
-  leaves = leaves-then g.S.Source g.met.S.Source.passes_trans c.args.source.now c.loop-number.source c.leaf_rows.new.source c.loop-number.invariant.leaves c.in_ok-on_route.ensures.leaves;
+  leaves = leaves-then g.S.Source g.met.S.Source.passes_trans c.args.source.now c.loop-number.source c.leaf_rows.new.source c.loop-number.invariant.leaves c.in_ok-on_route.ensures.ends.leaves;
 }
 
 pub returns-clause-held : goal.returns-clause-held

@@ -1,6 +1,6 @@
 use Rattle.std.proofs.Common.{sym, ◌∙◌}
 use Rattle.rs_exec.proofs.Lists.{more, end}
-use Rattle.rs_exec.proofs.WindowLaws.{narrows-none, narrows-more, narrows-off, narrows-all, narrows-empty}
+use Rattle.rs_exec.proofs.WindowLaws.{narrows-none, narrows-more, narrows-off, narrows-all, narrows-empty, narrows-room}
 use Rattle.rs_exec.proofs.windows.part_inside.Goals as goal
 
 pub loop-window-init : goal.loop-window-init
@@ -18,8 +18,12 @@ loop-window-preserved c =
 
 pub returns-then-is_empty-clause-none : goal.returns-then-is_empty-clause-none
 returns-then-is_empty-clause-none c =
-    narrows-empty c.args.route c.args.windows.now _ c.loop-window.part c.loop-window.invariant (end c.args.windows.now c.loop-window.window-index c.loop-window-test.false) (c.is_empty.ensures c.if-is_empty.true)
+    narrows-empty c.args.route c.args.windows.now _ c.loop-window.part c.loop-window.invariant (end c.args.windows.now c.loop-window.window-index c.loop-window-test.false) (c.is_empty.ensures.empty c.if-is_empty.true)
 
 pub returns-clause-part : goal.returns-clause-part
 returns-clause-part c =
     narrows-all c.args.route c.args.windows.now _ c.loop-window.part c.loop-window.invariant (end c.args.windows.now c.loop-window.window-index c.loop-window-test.false)
+
+pub returns-clause-some : goal.returns-clause-some
+returns-clause-some c =
+    narrows-room c.args.route c.args.windows.now _ c.loop-window.part c.loop-window.invariant (end c.args.windows.now c.loop-window.window-index c.loop-window-test.false) (c.is_empty.ensures.room c.if-is_empty.false)

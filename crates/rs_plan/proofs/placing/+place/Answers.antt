@@ -49,17 +49,17 @@ place-returns-in_ok-one-in-Transform g t c =
 
 pub place-returns-in_ok-right-in-Merge : goal.place-returns-in_ok-right-in-Merge
 place-returns-in_ok-right-in-Merge g t c =
-    IfOk-weaker c.merge.result _ _ (λ made alone. merge-arm (g.C.Counts.counted c.args.counts.now) c.args.query c.args.asked.windows.items (conditions_of c.args.asked.conditions) made.items
+    IfOk-weaker c.of_rows.result _ _ (λ made alone. merge-arm (g.C.Counts.counted c.args.counts.now) c.args.query c.args.asked.windows.items (conditions_of c.args.asked.conditions) made.items
     c.into_inner-in-Merge.result c.into_inner-in-Merge-2.result c.in-Merge.first c.in-Merge.second c.into_inner-in-Merge.ensures c.into_inner-in-Merge-2.ensures
     c.in_ok-other-in-Merge.other.windows.items c.args.asked.windows.items (conditions_of c.in_ok-other-in-Merge.other.conditions) (conditions_of c.args.asked.conditions)
-    c.in_ok-left-in-Merge.left c.in_ok-right-in-Merge.right c.in_ok-left-in-Merge.ensures c.in_ok-right-in-Merge.ensures c.in_ok-other-in-Merge.ensures.windows refl c.in-Merge.is c.in_ok-other-in-Merge.ensures.conditions refl alone) c.merge.ensures
+    c.in_ok-left-in-Merge.left c.in_ok-right-in-Merge.right c.in_ok-left-in-Merge.ensures c.in_ok-right-in-Merge.ensures c.in_ok-other-in-Merge.ensures.windows refl c.in-Merge.is c.in_ok-other-in-Merge.ensures.conditions refl alone) c.of_rows.ensures
 
 pub place-returns-in_ok-right-in-Minus : goal.place-returns-in_ok-right-in-Minus
 place-returns-in_ok-right-in-Minus g t c =
-    IfOk-weaker c.minus.result _ _ (λ made alone. minus-arm (g.C.Counts.counted c.args.counts.now) c.args.query c.args.asked.windows.items (conditions_of c.args.asked.conditions) made.items
+    IfOk-weaker c.of_rows-in-Minus.result _ _ (λ made alone. minus-arm (g.C.Counts.counted c.args.counts.now) c.args.query c.args.asked.windows.items (conditions_of c.args.asked.conditions) made.items
     c.into_inner-in-Minus.result c.into_inner-in-Minus-2.result c.in-Minus.first c.in-Minus.second c.into_inner-in-Minus.ensures c.into_inner-in-Minus-2.ensures
     c.in_ok-other-in-Minus.other.windows.items c.args.asked.windows.items (conditions_of c.in_ok-other-in-Minus.other.conditions) (conditions_of c.args.asked.conditions)
-    c.in_ok-left-in-Minus.left c.in_ok-right-in-Minus.right c.in_ok-left-in-Minus.ensures c.in_ok-right-in-Minus.ensures c.in_ok-other-in-Minus.ensures.windows refl c.in-Minus.is c.in_ok-other-in-Minus.ensures.conditions refl alone) c.minus.ensures
+    c.in_ok-left-in-Minus.left c.in_ok-right-in-Minus.right c.in_ok-left-in-Minus.ensures c.in_ok-right-in-Minus.ensures c.in_ok-other-in-Minus.ensures.windows refl c.in-Minus.is c.in_ok-other-in-Minus.ensures.conditions refl alone) c.of_rows-in-Minus.ensures
 
 pub place-returns-in_ok-right-in-Cover : goal.place-returns-in_ok-right-in-Cover
 place-returns-in_ok-right-in-Cover g t c =

@@ -19,7 +19,7 @@ returns-in-Some c =
     let kind = kind_of (world_of (state_of c.args.self.now)) query in
     let runs = subst (λ (spans : List (Bor Span)). AreRunsOf kind (rows_at (world_of (state_of c.args.self.now)) query c.args.name.now.bytes) (map seen_lent spans)) (sym c.as_slice.ensures.value)
     (runs-planned c.args.self.now query c.args.plan.now for kind (sym for.kind) c.args.name.now.bytes c.args.route c.requires.there _
-    (runs-alone c.args.self.now c.args.plan.now c.in-Some.table c.in-Some.ensures c.args.route.number _ c.in_ok-runs.ensures)) in
+    (runs-alone c.args.self.now c.args.plan.now c.in-Some.table c.in-Some.ensures.alone c.args.route.number _ c.in_ok-runs.ensures)) in
     adds kind by column done (along_route (state_of c.args.self.now) query c.args.name.now.bytes c.args.route.ends) few are
     (runs_along c.args.self.now query is c.args.name.now.bytes c.args.route c.requires.there for.query_formed (map seen_lent c.as_slice.result.now) runs)) c.add_route.ensures
 

@@ -13,7 +13,7 @@ returns-then-is_elsewhere c =
     let now = present c.args.self.now.events in
     subst (λ (number : ℕ). AreRunsOf (kind_in c.args.plan.now) (rows_in c.args.plan.now now number) (map seen c.new.result.items)) c.number-number.ensures
     (subst (λ (spans : List Span). AreRunsOf (kind_in c.args.plan.now) (rows_in c.args.plan.now now c.number-number.result) (map seen spans)) (sym c.new.ensures.items)
-    (no_runs (kind_in c.args.plan.now) (rows_in c.args.plan.now now c.number-number.result) (fun_ext (λ k. c.is_elsewhere.ensures c.if-is_elsewhere.true now k))))
+    (no_runs (kind_in c.args.plan.now) (rows_in c.args.plan.now now c.number-number.result) (fun_ext (λ k. c.is_elsewhere.ensures.nothing c.if-is_elsewhere.true now k))))
 
 pub returns-in-Ok : goal.returns-in-Ok
 returns-in-Ok c =

@@ -21,7 +21,7 @@ push_lent_lines-requires c =
     let for = c.requires.planned.is in
     let runs = subst (λ (spans : List (Bor Span)). AreRunsOf c.args.kind (rows_at (world_of (state_of c.args.self.now)) query c.args.printer.now.name.now.bytes) (map seen_lent spans)) (sym c.as_slice.ensures.value)
     (runs-planned c.args.self.now query c.args.plan.now for c.args.kind c.requires.kind c.args.printer.now.name.now.bytes c.args.printer.now.route c.requires.there _
-    (runs-alone c.args.self.now c.args.plan.now c.in-Some.table c.in-Some.ensures c.args.printer.now.route.number _ c.in_ok-runs.ensures)) in
+    (runs-alone c.args.self.now c.args.plan.now c.in-Some.table c.in-Some.ensures.alone c.args.printer.now.route.number _ c.in_ok-runs.ensures)) in
     query_printable c.args.self.now is c.args.printer.now.name.now.bytes c.args.printer.now.route c.requires.there query for.query_formed c.args.kind (c.requires.kind ∙ for.kind) (map seen_lent c.as_slice.result.now) runs
 
 pub returns-in-Some : goal.returns-in-Some
@@ -30,7 +30,7 @@ returns-in-Some c =
     on_ok_weaker c.push_lent_lines.result (λ pushed query for.
     let runs = subst (λ (spans : List (Bor Span)). AreRunsOf c.args.kind (rows_at (world_of (state_of c.args.self.now)) query c.args.printer.now.name.now.bytes) (map seen_lent spans)) (sym c.as_slice.ensures.value)
     (runs-planned c.args.self.now query c.args.plan.now for c.args.kind c.requires.kind c.args.printer.now.name.now.bytes c.args.printer.now.route c.requires.there _
-    (runs-alone c.args.self.now c.args.plan.now c.in-Some.table c.in-Some.ensures c.args.printer.now.route.number _ c.in_ok-runs.ensures)) in
+    (runs-alone c.args.self.now c.args.plan.now c.in-Some.table c.in-Some.ensures.alone c.args.printer.now.route.number _ c.in_ok-runs.ensures)) in
     pushed
     ∙ ap (λ lines. rows_of c.args.rows.now.items ++ lines)
     (query_lines c.args.self.now is c.args.printer.now.name.now.bytes c.args.printer.now.route c.requires.there query for.query_formed c.args.kind (c.requires.kind ∙ for.kind) (map seen_lent c.as_slice.result.now) runs c.args.printer.now.referents.now c.args.printer.now.method c.requires.referents)) c.push_lent_lines.ensures
