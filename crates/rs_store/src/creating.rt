@@ -1,8 +1,8 @@
 //! This module makes a file in which nothing is defined.
 
-ghost use Rattle.std.specs.Prelude.{◌≡◌, ◌≢◌, ◌≤◌, ◌⊎◌, true, IsTrue, IfErr, IfOk, MatchResult, OnErr, OnOk, Err, false};
+ghost use Rattle.std.specs.Prelude.{◌≡◌, ◌≢◌, ◌≤◌, [], true, false, Err, IfErr, IfOk, IsTrue, MatchResult, OnOk};
 ghost use Rattle.rs_machine.specs.State.{fresh};
-ghost use Rattle.rs_pager.specs.Opened.{CountsFault, IsCreated, IsFresh};
+ghost use Rattle.rs_pager.specs.Opened.{IsCreated};
 ghost use Rattle.rs_standing.specs.Standing.{Stands};
 
 use rs_disk::Disk;
