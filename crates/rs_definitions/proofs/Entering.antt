@@ -7,7 +7,7 @@ use Rattle.std.specs.FinMap as names
 use Rattle.std.specs.FinMap.{find, get-empty, get-insert, is_sorted, same_map}
 use Rattle.std.specs.FinMap.Entries.{below_all, find-append}
 use Rattle.std.proofs.lemmas.Bool.{and_parts, and_from}
-use Rattle.std.proofs.lemmas.List.{get_or-map, get_or-take, length-map, map-append, take_all}
+use Rattle.std.proofs.lemmas.List.{get_or-map, get_or-take, get_or_default, length-map, map-append, take_all}
 use Rattle.std.proofs.lemmas.List.Elements.{All-contains, All-from_recursion}
 use Rattle.std.proofs.lemmas.Option.{none-some}
 use Rattle.rs_catalog.proofs.NameOrder.{name_cmp-antisymmetric, name_cmp-total}
@@ -29,6 +29,15 @@ each_said said IsSo xs i x inside is all =
     let at = said_at said xs i x inside is in
     All-contains IsSo (map said xs) (said x) (All-from_recursion IsSo (map said xs) all) (i, at.0, at.1)
 
+-- of an item where it stands
+pub each_at : {X Y : Type 0} (said : X → Y) (IsSo : Y → Type 0) (xs : List X) (i : ℕ) (d : X) → i < length xs → AllByRecursion IsSo (map said xs) → IsSo (said (get_or xs i d))
+each_at said IsSo xs i d inside all = each_said said IsSo xs i (get_or xs i d) inside (get_or_default xs i d (get_or xs i d) inside) all
+
+pub said_there : {X Y : Type 0} (said : X → Y) (xs : List X) (x : X) → Contains xs x → Contains (map said xs) (said x)
+said_there said xs x there =
+    let at = said_at said xs there.0 x there.1 (sym there.2) in
+    (there.0, at.0, at.1)
+
 -- one more of a list
 taken-more : {X : Type 0} (xs : List X) (i : ℕ) (x : X) → i < length xs → get_or xs i x ≡ x → take (suc i) xs ≡ take i xs ++ x ∷ []
 taken-more [] i x inside is = absurd (omega (arith, inside))
@@ -46,6 +55,22 @@ length-take-below [] zero = omega arith
 length-take-below [] (suc i) = omega arith
 length-take-below (x ∷ xs) zero = omega arith
 length-take-below (x ∷ xs) (suc i) = omega (arith, length-take-below xs i)
+
+-- one more of a list that is seen by two functions
+pub mapped-more : {A B C : Type 0} (f : A → C) (g : B → C) (made : List A) (one : A) (xs : List B) (i : ℕ) (x : B) → i < length xs → x ≡ get_or xs i x
+    → map f made ≡ map g (take i xs) → f one ≡ g x → map f (made ++ one ∷ []) ≡ map g (take (i + 1) xs)
+mapped-more f g made one xs i x inside is same of =
+    let next : suc i ≡ i + 1 = omega arith in
+    map-append f made (one ∷ [])
+    ∙ ap (λ l. l ++ f one ∷ []) same
+    ∙ ap (λ y. map g (take i xs) ++ y ∷ []) of
+    ∙ sym (map-append g (take i xs) (x ∷ []))
+    ∙ ap (map g) (sym (taken-more xs i x inside (sym is)))
+    ∙ ap (λ n. map g (take n xs)) next
+
+pub mapped-at : {A B C : Type 0} (f : A → C) (g : B → C) (made : List A) (one : A) (xs : List B) (i : ℕ) (d : B) → i < length xs
+    → map f made ≡ map g (take i xs) → f one ≡ g (get_or xs i d) → map f (made ++ one ∷ []) ≡ map g (take (i + 1) xs)
+mapped-at f g made one xs i d inside same of = mapped-more f g made one xs i (get_or xs i d) inside (get_or_default xs i d (get_or xs i d) inside) same of
 
 -- what was taken is there
 taken-there : {X : Type 0} (xs : List X) (i : ℕ) (x : X) → Contains (take i xs) x → Contains xs x
@@ -110,8 +135,10 @@ module _ {X Y : Type 0} (name_of : X → Name) (value : X → Y) where
         ∙ sym (get-insert name_cmp-total (so_far xs i) (name_of x) (value x) q))
 
     -- the step of a loop
-    pub step : (key : Name) (item : Y) → key ≡ name_of x → item ≡ value x → names.insert (so_far xs i) key item ≡ so_far xs (suc i)
-    step key item named valued = ap (λ k. names.insert (so_far xs i) k item) named ∙ ap (names.insert (so_far xs i) (name_of x)) valued ∙ sym next-more
+    pub step : (key : Name) (item : Y) → key ≡ name_of x → item ≡ value x → names.insert (so_far xs i) key item ≡ so_far xs (i + 1)
+    step key item named valued =
+        let next : suc i ≡ i + 1 = omega arith in
+        ap (λ k. names.insert (so_far xs i) k item) named ∙ ap (names.insert (so_far xs i) (name_of x)) valued ∙ sym next-more ∙ ap (so_far xs) next
 
   -- none of them
   pub nothing : (xs : List X) → so_far xs 0 ≡ names.empty

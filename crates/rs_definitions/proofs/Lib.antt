@@ -1,2 +1,3 @@
 mod Entering
+mod Found
 mod Seen

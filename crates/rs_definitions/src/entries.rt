@@ -2,7 +2,7 @@
 //!
 //! Names are those of the items, since a file says routes and tables by number.
 
-ghost use Rattle.std.specs.Prelude.{◌≡◌, ◌≤◌, IfOk, length, map, string_bytes};
+ghost use Rattle.std.specs.Prelude.{◌≡◌, ◌≤◌, ◌==◌, ◌&&◌, IfOk, length, map, nat_lt, string_bytes};
 ghost use Rattle.std.specs.List.{AllByRecursion};
 ghost use Rattle.rs_catalog.specs.Definitions.{pieces_of};
 ghost use Rattle.rs_catalog_meaning.specs.Meaning.{AreRoutes, IsPiece, IsTable, column_of, columns_of, ends_of};
@@ -56,7 +56,7 @@ pub(crate) fn table_entry(alloc: Global, table: &StoredTable) -> Result<TableEnt
     } else {
         Kind::Line
     };
-    let columns = columns(alloc, table.columns.list.as_slice())?;
+    let columns = columns(alloc, &table.columns.list)?;
     Ok(TableEntry::new(table.number, kind, columns))
 }
 
@@ -103,11 +103,18 @@ fn table_name(tables: &[StoredTable], number: u32, column: u8) -> Name
     ensures { result.bytes ≡ table_with (map said_table tables.now) number column }
 {
     for table in tables {
-        if table.number == number && usize::from(column) < table.columns.list.len() {
+        if has_column(table, number, column) {
             return name_of(table.name.as_str());
         }
     }
     Name::new()
+}
+
+// Whether it has this number, and a column at this place.
+fn has_column(table: &StoredTable, number: u32, column: u8) -> bool
+    ensures { let said = said_table table.now in result ≡ ((said.number == number) && nat_lt column (length said.columns)) }
+{
+    table.number == number && usize::from(column) < table.columns.list.len()
 }
 
 /// The pieces of an alignment of these routes.
@@ -115,15 +122,15 @@ pub(crate) fn pieces(
     alloc: Global,
     routes: &[StoredRoute],
     places: &Places,
-    pieces: &[StoredPiece],
+    stored: &[StoredPiece],
 ) -> Result<Vec<Piece>, AllocError>
     requires routes { AreRoutes (map said_route routes.now) }
     requires places { ArePlaces (map (λ route. route.number) routes.now) places.now }
-    requires pieces { AllByRecursion (IsPiece (map said_route routes.now)) (map said_piece pieces.now) }
-    ensures { IfOk result (λ made. pieces_of made.items ≡ map (stating.piece_of (map said_route routes.now)) (map said_piece pieces.now)) }
+    requires pieces { AllByRecursion (IsPiece (map said_route routes.now)) (map said_piece stored.now) }
+    ensures { IfOk result (λ made. pieces_of made.items ≡ map (stating.piece_of (map said_route routes.now)) (map said_piece stored.now)) }
 {
-    let mut made = Vec::with_capacity(alloc, pieces.len())?;
-    for piece in pieces {
+    let mut made = Vec::with_capacity(alloc, stored.len())?;
+    for piece in stored {
         made.push(piece_between(routes, places, piece))?;
     }
     Ok(made)

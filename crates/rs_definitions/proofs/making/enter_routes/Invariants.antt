@@ -7,4 +7,4 @@ use Rattle.rs_definitions.proofs.making.enter_routes.Given as goal
 
 -- the routes so far
 abbrev pub invariant-loop-route : goal.invariant-loop-route
-invariant-loop-route l = l.catalog ≡ record l.fn.catalog { routes = so_far (λ (r : RouteItem). r.name) (λ r. (named_route r).1) (map said_route l.stored.routes.items) l.route-index }
+invariant-loop-route l = l.catalog ≡ record l.fn.catalog { routes = so_far (λ (x : RouteItem). x.name) (λ x. (named_route x).1) (map said_route l.routes) l.route-index }
