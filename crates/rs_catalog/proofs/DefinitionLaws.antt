@@ -66,6 +66,11 @@ module _ {X : Type 0} (IsSo : X → Type 0) where
       → (name : Name) (item : X) → names.get (names.remove items key) name ≡ Some item → IsSo item
   each-remove items key all name item there = all name item (before_remove items key name item there)
 
+-- what is so of a map before and after holds whether there was memory or not
+pub tried : {E X : Type 0} (IsSo : X → Type 0) (result : Result (Unit {0}) E) (was next now : X) → IsSo was → IsSo next → OnOk result (now ≡ next) → OnErr result (now ≡ was) → IsSo now
+tried IsSo (Ok u) was next now before after ok err = subst IsSo (sym ok) after
+tried IsSo (Err e) was next now before after ok err = subst IsSo (sym err) before
+
 -- ---- routes by their ends
 
 no_ends : (definitions : Definitions) (name : Name) → has definitions.routes name ≡ false → has (routes_of definitions) name ≡ false
@@ -208,10 +213,9 @@ are_definitions-alignment definitions name pieces are lie = are_definitions-othe
 pub are_definitions-tried : {E : Type 0} (result : Result (Unit {0}) E) (definitions : Definitions) (name : Name) (pieces : List Piece) (alignments : Names (List Piece))
     → AreDefinitions definitions → ArePiecesOn (routes_of definitions) pieces
     → OnOk result (alignments ≡ names.insert definitions.alignments name pieces) → OnErr result (alignments ≡ definitions.alignments) → AreDefinitions (record definitions { alignments = alignments })
-are_definitions-tried (Ok u) definitions name pieces alignments are lie ok err =
-    subst (λ (alignments : Names (List Piece)). AreDefinitions (record definitions { alignments = alignments })) (sym ok) (are_definitions-alignment definitions name pieces are lie)
-are_definitions-tried (Err e) definitions name pieces alignments are lie ok err =
-    subst (λ (alignments : Names (List Piece)). AreDefinitions (record definitions { alignments = alignments })) (sym err) are
+are_definitions-tried result definitions name pieces alignments are lie =
+    tried (λ (alignments : Names (List Piece)). AreDefinitions (record definitions { alignments = alignments })) result definitions.alignments (names.insert definitions.alignments name pieces) alignments are
+    (are_definitions-alignment definitions name pieces are lie)
 
 pub are_definitions-without_alignment : (definitions : Definitions) (name : Name) → AreDefinitions definitions → AreDefinitions (without_alignment definitions name)
 are_definitions-without_alignment definitions name are = are_definitions-others definitions (names.remove definitions.alignments name) are

@@ -25,7 +25,8 @@ abbrev pub route_ends_code : Coded RouteEnds
 route_ends_code = code_by (ℕ × ℕ) (coded× coded_ℕ coded_ℕ) (λ e. (e.start, e.finish)) (λ p. record { start = p.0; finish = p.1 }) (λ _. refl)
 
 abbrev pub route_code : Coded RouteItem
-route_code = code_by (ℕ × RouteEnds) (coded× coded_ℕ route_ends_code) (λ r. (r.number, r.ends)) (λ p. record { number = p.0; ends = p.1 }) (λ _. refl)
+route_code = code_by (ℕ × (ℕ × RouteEnds)) (coded× coded_ℕ (coded× coded_ℕ route_ends_code)) (λ r. (r.number, (r.born, r.ends)))
+    (λ p. record { number = p.0; born = p.1.0; ends = p.1.1 }) (λ _. refl)
 
 abbrev pub line_or_not : Kind → Bool
 line_or_not Line = true

@@ -25,8 +25,10 @@ use Rattle.rs_catalog.specs.Names.{map_values}
 abbrev pub Numbered : Type 0 → Type 0
 Numbered X = names.FinMap nat_cmp X
 
+-- a route: its number, the version from which on it is seen, and its ends
 pub record RouteItem : Type 0 where
   pub number : ℕ
+  pub born : ℕ
   pub ends : RouteEnds
 
 pub record TableItem : Type 0 where

@@ -3,7 +3,7 @@
 //! It promises the finite maps that its definitions say, for each new route, table and index the least free number, and
 //! that a table's indexes go with it.
 
-ghost use Rattle.std.specs.Prelude.{◌≡◌, ◌<◌, ◌≤◌, ◌||◌, false, map, string_bytes, vec_len, IfOk, OnOk, OnErr};
+ghost use Rattle.std.specs.Prelude.{◌≡◌, ◌<◌, ◌≤◌, ◌||◌, false, length, map, string_bytes, vec_len, IfOk, OnOk, OnErr};
 ghost use Rattle.std.specs.Option.{option_copied};
 ghost use Rattle.std.specs.Result.{result_map_both};
 ghost use Rattle.std.specs.FinMap as names;
@@ -12,7 +12,7 @@ ghost use Rattle.rs_machine.specs.Checks.{found};
 ghost use Rattle.rs_machine.specs.State.{has};
 ghost use Rattle.rs_catalog.specs.Names.{entries_by_bytes};
 ghost use Rattle.rs_facts.specs.WellFormed.{ArePiecesOn};
-ghost use Rattle.rs_catalog.specs.Definitions.{AreDefinitions, IsColumnOf, IsLeastFree, no_definitions, routes_of, pieces_of};
+ghost use Rattle.rs_catalog.specs.Definitions.{AreDefinitions, IsColumnOf, IsFree, IsLeastFree, no_definitions, routes_of, pieces_of};
 ghost use Rattle.rs_catalog.specs.Uses.{some_piece_on};
 ghost use Rattle.rs_catalog.specs.Changes.{with_route, with_table, with_index, with_view, with_alignment, without_route, without_table, without_index, without_view, without_alignment};
 
@@ -208,11 +208,12 @@ impl Catalog {
         self.alignments.iter()
     }
 
-    /// Defines a route under the least number that no route has, which is the answer. For want of memory it changes
-    /// nothing.
+    /// Defines a route, seen from this version on, under the least number that no route has, which is the answer. For want
+    /// of memory it changes nothing.
     pub fn define_route(
         &mut self,
         name: Name,
+        born: u64,
         start: Measure,
         finish: Measure,
     ) -> Result<u32, AllocError>
@@ -220,13 +221,27 @@ impl Catalog {
         requires ordered { start < finish }
         requires room { names.len self.old.routes < ROUTES }
         ensures least { IfOk result (λ number. IsLeastFree (λ item. item.number) self.old.routes number) }
-        ensures ok { IfOk result (λ number. self.new ≡ with_route self.old name.bytes (record { number = number; ends = record { start = start; finish = finish } })) }
+        ensures ok { IfOk result (λ number. self.new ≡ with_route self.old name.bytes (record { number = number; born = born; ends = record { start = start; finish = finish } })) }
         ensures err { OnErr result (self.new ≡ self.old) }
     {
         let number = self.free_route_number();
-        let entry = RouteEntry::new(number, Ends::new(start, finish));
-        self.routes.define(name, entry)?;
+        self.enter_route(
+            name,
+            RouteEntry::new(number, born, Ends::new(start, finish)),
+        )?;
         Ok(number)
+    }
+
+    /// Enters a route under its own number, which no route has. For want of memory it changes nothing.
+    pub fn enter_route(&mut self, name: Name, route: RouteEntry) -> Result<(), AllocError>
+        requires new { has self.old.routes name.bytes ≡ false }
+        requires free { IsFree (λ item. item.number) self.old.routes route.number }
+        requires below { route.number < ROUTES }
+        ensures ok { OnOk result (self.new ≡ with_route self.old name.bytes route) }
+        ensures err { OnErr result (self.new ≡ self.old) }
+    {
+        route.ends().stand();
+        self.routes.define(name, route)
     }
 
     /// Defines a table under the least number that no table has, which is the answer. For want of memory it changes
@@ -245,9 +260,20 @@ impl Catalog {
         ensures err { OnErr result (self.new ≡ self.old) }
     {
         let number = self.free_table_number();
-        let entry = TableEntry::new(number, kind, columns);
-        self.tables.define(name, entry)?;
+        self.enter_table(name, TableEntry::new(number, kind, columns))?;
         Ok(number)
+    }
+
+    /// Enters a table under its own number, which no table has. For want of memory it changes nothing.
+    pub fn enter_table(&mut self, name: Name, table: TableEntry) -> Result<(), AllocError>
+        requires new { has self.old.tables name.bytes ≡ false }
+        requires free { IsFree (λ item. item.number) self.old.tables table.number }
+        requires below { table.number < TABLES }
+        requires columns { length table.columns ≤ COLUMNS }
+        ensures ok { OnOk result (self.new ≡ with_table self.old name.bytes table) }
+        ensures err { OnErr result (self.new ≡ self.old) }
+    {
+        self.tables.define(name, table)
     }
 
     /// Defines an index of a column of a table, by its name and its number, under the least number that no index has,
@@ -266,9 +292,19 @@ impl Catalog {
         ensures err { OnErr result (self.new ≡ self.old) }
     {
         let number = self.free_index_number();
-        let entry = IndexEntry::new(number, table, table_number, column);
-        self.indexes.define(name, entry)?;
+        self.enter_index(name, IndexEntry::new(number, table, table_number, column))?;
         Ok(number)
+    }
+
+    /// Enters an index under its own number, which no index has. For want of memory it changes nothing.
+    pub fn enter_index(&mut self, name: Name, index: IndexEntry) -> Result<(), AllocError>
+        requires of { IsColumnOf self.old.tables index.table index.table_number index.column }
+        requires free { IsFree (λ item. item.number) self.old.indexes index.number }
+        requires below { index.number < INDEXES }
+        ensures ok { OnOk result (self.new ≡ with_index self.old name.bytes index) }
+        ensures err { OnErr result (self.new ≡ self.old) }
+    {
+        self.indexes.define(name, index)
     }
 
     /// Defines a view by its query and the query's text. For want of memory it changes nothing.

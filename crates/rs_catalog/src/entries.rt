@@ -1,4 +1,4 @@
-//! What the catalogue keeps under a name: a route's number and ends, a table's number, kind and columns, an index's number
+//! What the catalogue keeps under a name: a route's number, birth and ends, a table's number, kind and columns, an index's number
 //! and its table's column, a view's query and text, and an alignment's pieces.
 //!
 //! It promises that a route starts below its finish.
@@ -62,6 +62,14 @@ impl Ends {
         self.finish
     }
 
+    /// The start is below the finish, which is a measure.
+    pub fn stand(self)
+        ensures ordered { self.start < self.finish }
+        ensures measured { self.finish ≤ GREATEST_MEASURE }
+    {
+        let _in_range = self.finish.thousandths();
+    }
+
     /// The route from one end to the other as positions see it, under a number.
     pub fn as_route(self, number: u32) -> Route
         ensures number { result.number ≡ number }
@@ -76,10 +84,11 @@ impl Ends {
     }
 }
 
-/// A route: its number and its ends.
+/// A route: its number, the version from which on it is seen, and its ends.
 #[derive(Clone, Copy)]
 pub struct RouteEntry {
     number: u32,
+    born: u64,
     ends: Ends,
 }
 
@@ -91,9 +100,9 @@ impl Model for RouteEntry {
 
     ghost coded = { route_code };
 
-    ghost view = { λ r. record { number = r.number; ends = r.ends } };
+    ghost view = { λ r. record { number = r.number; born = r.born; ends = r.ends } };
 
-    ghost inverse = { λ item. record { number = item.number; ends = item.ends } };
+    ghost inverse = { λ item. record { number = item.number; born = item.born; ends = item.ends } };
 }
 
 impl Numbered for RouteEntry {
@@ -105,11 +114,11 @@ impl Numbered for RouteEntry {
 }
 
 impl RouteEntry {
-    /// A route of this number from one end to the other.
-    pub fn new(number: u32, ends: Ends) -> Self
-        ensures { result ≡ record { number = number; ends = ends } }
+    /// A route of this number, seen from this version on, from one end to the other.
+    pub fn new(number: u32, born: u64, ends: Ends) -> Self
+        ensures { result ≡ record { number = number; born = born; ends = ends } }
     {
-        RouteEntry { number, ends }
+        RouteEntry { number, born, ends }
     }
 
     /// The route's number.
@@ -117,6 +126,13 @@ impl RouteEntry {
         ensures { result ≡ self.number }
     {
         self.number
+    }
+
+    /// The version from which on it is seen: how many changes were accepted with the one that defined it.
+    pub fn born(self) -> u64
+        ensures { result ≡ self.born }
+    {
+        self.born
     }
 
     /// The route's ends.

@@ -2,7 +2,7 @@
 #![tactic(auto)]
 
 mod alignments;
-mod by_number;
+pub mod by_number;
 pub mod checking;
 pub mod laws;
 mod names;

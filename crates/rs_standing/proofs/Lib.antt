@@ -1,10 +1,10 @@
 mod Lists
 mod Same
 mod One
-mod Named
-mod Picked
+pub mod Named
+pub mod Picked
 mod Lawful
-mod Kept
+pub mod Kept
 mod Fresh
 mod Staying
 mod Worlds

@@ -35,7 +35,7 @@ pub later_there : {X : Type 0} (x y : X) (xs : List X) → Contains xs y → Con
 later_there x y xs there = (suc there.0, omega (arith, there.1), there.2)
 
 -- a later name is another
-above : (a b : Name) → is_lt (name_cmp a b) ≡ true → eq_by_cmp name_cmp b a ≡ false
+pub above : (a b : Name) → is_lt (name_cmp a b) ≡ true → eq_by_cmp name_cmp b a ≡ false
 above a b less = (eq_by_cmp_equiv name_cmp-total).symm b a ∙ not_equal (name_cmp a b) less
   where
     not_equal : (order : Ordering) → is_lt order ≡ true → is_eq order ≡ false
@@ -85,7 +85,7 @@ module _ {X Y : Type 0} (name_of : X → Name) (value : X → Y) where
   item_of xs name y order there = found_item xs name y (sym (get_by xs name order) ∙ there)
 
   -- an item of a list of names that are above another
-  above_there : (name : Name) (xs : List X) (k : ℕ) (x : X) → below_all name_cmp name (named_by name_of xs) ≡ true → k < length xs → get_or xs k x ≡ x
+  pub above_there : (name : Name) (xs : List X) (k : ℕ) (x : X) → below_all name_cmp name (named_by name_of xs) ≡ true → k < length xs → get_or xs k x ≡ x
       → is_lt (name_cmp name (name_of x)) ≡ true
   above_there name [] k x below inside is = absurd (omega (arith, inside))
   above_there name (y ∷ xs) zero x below inside is =

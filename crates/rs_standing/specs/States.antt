@@ -23,7 +23,7 @@ use Rattle.rs_standing.specs.Seen.{born_by, referents_seen, spans_seen}
 -- ---- definitions by their names
 
 abbrev pub named_route : RouteItem → Name × catalog.RouteItem
-named_route route = (route.name, record { number = route.number; ends = ends_of route })
+named_route route = (route.name, record { number = route.number; born = route.born; ends = ends_of route })
 
 abbrev pub routes_named : List RouteItem → Names catalog.RouteItem
 routes_named routes = names.from_sorted (map named_route routes)

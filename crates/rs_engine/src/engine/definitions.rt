@@ -69,7 +69,8 @@ impl Engine {
         ensures ok { OnOk result (state_of self.new ≡ with_route (state_of self.old) name.bytes start finish) }
         ensures err { OnErr result (self.new ≡ self.old) }
     {
-        self.catalog.define_route(name, start, finish)?;
+        self.catalog
+            .define_route(name, self.changes + 1, start, finish)?;
         self.catalog.stand();
         self.changes += 1;
         Ok(())
