@@ -4,6 +4,7 @@
 #![tactic(auto)]
 
 pub mod changes;
+pub mod live;
 pub mod standing;
 pub mod versions;
 pub mod views;

@@ -1,4 +1,4 @@
-use Rattle.rs_standing.proofs.Redefined.{meant_with_routes, meant_with_table, meant_without_route, meant_without_table}
+use Rattle.rs_standing.proofs.Changed.{meant_with_routes, meant_with_table, meant_without_route, meant_without_table}
 use Rattle.rs_standing.proofs.changes.changed_definitions_leave_records_meant.Goals as goal
 
 pub returns-clause-routes_come : goal.returns-clause-routes_come
