@@ -1,8 +1,9 @@
 -- What stays meant, and what is seen, where one part of a file's contents changes.
-use Rattle.std.proofs.Common.{◌≡◌, ◌≤◌, ◌==◌, ◌⊎◌, ◌∙◌, inl, inr, ℕ, true, false, List, [], ◌∷◌, ◌++◌, length, map, filter, refl, sym, ap, subst, arith}
+use Rattle.std.proofs.Common.{◌≡◌, ◌≢◌, ◌≤◌, ◌==◌, ◌⊎◌, ◌∙◌, inl, inr, ℕ, true, false, List, [], ◌∷◌, ◌++◌, length, map, filter, refl, sym, ap, subst, arith}
 use Rattle.std.specs.Prelude.{Contains, if◌then◌else◌}
 use Rattle.std.specs.List.{AllByRecursion, AllZip}
 use Rattle.std.proofs.lemmas.Bool.{eqb-false, eqb-true}
+use Rattle.std.proofs.lemmas.List.Elements.{All-contains_itself, recursion_from_All}
 use Rattle.std.proofs.lemmas.List.{get_or_at, length-append}
 use Rattle.rs_catalog_meaning.specs.Meaning.{AreMeant}
 use Rattle.rs_catalog_meaning.specs.Stating.{kind_of}
@@ -15,11 +16,11 @@ use Rattle.rs_versioned.specs.Meant.{AreEventsMeant, AreReferentsMeant, HasRoute
 use Rattle.rs_versioned.specs.Records.{is_seen}
 use Rattle.rs_versioned.specs.Referents.{ReferentRecord, kept_referents}
 use Rattle.rs_versioned.specs.declared.route_span.RouteSpan.{RouteSpan}
-use Rattle.rs_standing.specs.Changed.{HasTableBetween, HaveOwnNumbers, IsUnused, TableComes, with_table}
+use Rattle.rs_standing.specs.Changed.{HasTableBetween, HaveOwnNumbers, IsUnusedFrom, TableComes, with_table}
 use Rattle.rs_standing.specs.Meant.{AreRecordsMeant, IsMeant, IsTableMeant}
 use Rattle.rs_standing.specs.Seen.{born_by, events_of, events_with, is_born, routes_at, span_of_route}
 use Rattle.rs_standing.proofs.KeptMeaning.{none_meant}
-use Rattle.rs_standing.proofs.Lists.{each_both, zip_held, zip_less, zip_more, zip_put}
+use Rattle.rs_standing.proofs.Lists.{each_among, each_at, zip_held, zip_less, zip_more, zip_put}
 use Rattle.rs_standing.proofs.Picked.{first_too, kept_in, kept_passes, kept_there, shown_there, source_of}
 
 -- ---- one table
@@ -107,84 +108,66 @@ meant_referents oldest contents now meant each = record {
 
 -- ---- routes
 
-pub each_of : {X : Type 0} (P : X → Type 0) → ((x : X) → P x) → (xs : List X) → AllByRecursion P xs
-each_of P gives [] = tt
-each_of P gives (x ∷ xs) = (gives x, each_of P gives xs)
+-- each route is there still, or no version that is looked at sees a record on it
+module _ (oldest : ℕ) (contents : Contents) (definitions : CatalogueItems) (stay : (route : RouteItem) → Contains contents.definitions.routes route
+    → Contains definitions.routes route ⊎ IsUnusedFrom oldest route.number contents) (version : ℕ) (low : oldest ≤ version) (high : version ≤ contents.directory.accepted) where
+  abbrev old : List RouteSpan
+  old = routes_at version contents.definitions.routes
 
--- the version sees no event and no referent on a route whose number is so
-record SeesNoneOn (Gone : ℕ → Type 0) (version : ℕ) (contents : Contents) : Type 0 where
-  events : AllByRecursion (λ table. AllByRecursion (λ event. Gone event.route → ⊥) (filter (sees_event version) table.events)) contents.tables
-  referents : AllByRecursion (λ referent. Gone referent.route → ⊥) (filter (is_seen kept_referents version) contents.referents.referents)
+  abbrev now : List RouteSpan
+  now = routes_at version definitions.routes
 
--- the routes are there still, but for those with such numbers
-module _ (Gone : ℕ → Type 0) (oldest : ℕ) (contents : Contents) (definitions : CatalogueItems) (tables : definitions.tables ≡ contents.definitions.tables)
-    (stay : (route : RouteItem) → Contains contents.definitions.routes route → Contains definitions.routes route ⊎ Gone route.number) where
-  abbrev old : ℕ → List RouteSpan
-  old version = routes_at version contents.definitions.routes
-
-  abbrev now : ℕ → List RouteSpan
-  now version = routes_at version definitions.routes
-
-  on_other : (version number : ℕ) (IsSo : RouteSpan → Type 0) → (Gone number → ⊥) → HasRoute (old version) number IsSo → HasRoute (now version) number IsSo
-  on_other version number IsSo other on =
+  -- where a route that isn't unused had the number
+  on_used : (number : ℕ) (IsSo : RouteSpan → Type 0) → (IsUnusedFrom oldest number contents → ⊥) → HasRoute old number IsSo → HasRoute now number IsSo
+  on_used number IsSo used on =
       let from = source_of span_of_route (born_by version contents.definitions.routes) on.route on.there in
       elim (stay from.source (kept_there (is_born version) contents.definitions.routes from.source from.there)) [
         | inl there ↦ record {
-          route = on.route;
-          there = subst (Contains (now version)) from.is
-              (shown_there span_of_route (born_by version definitions.routes) from.source
-              (kept_in (is_born version) definitions.routes from.source there (kept_passes (is_born version) contents.definitions.routes from.source from.there)));
-          numbered = on.numbered;
-          is_so = on.is_so;
-        }
-        | inr gone ↦ absurd (other (subst Gone (ap (λ (span : RouteSpan). span.number) from.is ∙ on.numbered) gone))
+            route = on.route;
+            there = subst (Contains now) from.is
+                (shown_there span_of_route (born_by version definitions.routes) from.source
+                (kept_in (is_born version) definitions.routes from.source there (kept_passes (is_born version) contents.definitions.routes from.source from.there)));
+            numbered = on.numbered;
+            is_so = on.is_so;
+          }
+        | inr unused ↦ absurd (used (subst (λ (n : ℕ). IsUnusedFrom oldest n contents) (ap (λ (span : RouteSpan). span.number) from.is ∙ on.numbered) unused))
       ]
 
-  table_stays : (version : ℕ) (item : TableItem) (table : TableContents) → IsTableMeant contents.definitions.routes version item table
-      → AllByRecursion (λ event. Gone event.route → ⊥) (filter (sees_event version) table.events) → IsTableMeant definitions.routes version item table
-  table_stays version item table is unused = record {
+  table_stays : (item : TableItem) (table : TableContents) → Contains contents.tables table → IsTableMeant contents.definitions.routes version item table → IsTableMeant definitions.routes version item table
+  table_stays item table among is = record {
     runs = is.runs;
-    lie = each_both (λ event. HasRoute (old version) event.route (IsSpanOf (kind_of item.kind) (span_of event))) (λ event. Gone event.route → ⊥)
-        (λ event. HasRoute (now version) event.route (IsSpanOf (kind_of item.kind) (span_of event)))
-        (λ event on other. on_other version event.route (IsSpanOf (kind_of item.kind) (span_of event)) other on) (filter (sees_event version) table.events) is.lie unused;
+    lie = each_among (λ event. HasRoute old event.route (IsSpanOf (kind_of item.kind) (span_of event))) (λ event. HasRoute now event.route (IsSpanOf (kind_of item.kind) (span_of event)))
+        (filter (sees_event version) table.events) is.lie
+        (λ event there. on_used event.route (IsSpanOf (kind_of item.kind) (span_of event)) (λ unused.
+            each_at (λ other. other.route ≢ event.route) (filter (sees_event version) table.events) event
+            (each_at (λ (table : TableContents). AllByRecursion (λ other. other.route ≢ event.route) (filter (sees_event version) table.events)) contents.tables table (unused.events version low high) among) there refl));
   }
 
-  meant_beside : IsMeant oldest contents → AreMeant definitions → ((version : ℕ) → oldest ≤ version → version ≤ contents.directory.accepted → SeesNoneOn Gone version contents)
-      → IsMeant oldest (record contents { definitions = definitions })
-  meant_beside meant means none = record {
-    definitions = means;
-    records = λ version low high.
-        let is = meant.records version low high in
-        let unused = none version low high in
-        record {
-          tables = subst (λ (items : List TableItem). AllZip (IsTableMeant definitions.routes version) items contents.tables) (sym tables)
-              (zip_held (IsTableMeant contents.definitions.routes version) (IsTableMeant definitions.routes version)
-              (λ table. AllByRecursion (λ event. Gone event.route → ⊥) (filter (sees_event version) table.events)) contents.definitions.tables contents.tables is.tables unused.events (table_stays version));
-          referents = record {
-            each = each_both (IsReferentMeant (old version)) (λ referent. Gone referent.route → ⊥) (IsReferentMeant (now version))
-                (λ referent one other. record { named = one.named; not_start = one.not_start; lies = on_other version referent.route (IsPlaceOf referent.measure) other one.lies })
-                (filter (is_seen kept_referents version) contents.referents.referents) is.referents.each unused.referents;
-            once = is.referents.once;
-            few = is.referents.few;
-          };
-        };
+  referents_stay : AreReferentsMeant old version contents.referents.referents → AreReferentsMeant now version contents.referents.referents
+  referents_stay is = record {
+    each = each_among (IsReferentMeant old) (IsReferentMeant now) (filter (is_seen kept_referents version) contents.referents.referents) is.each (λ referent there one. record {
+      named = one.named;
+      not_start = one.not_start;
+      lies = on_used referent.route (IsPlaceOf referent.measure)
+          (λ unused. each_at (λ other. other.route ≢ referent.route) (filter (is_seen kept_referents version) contents.referents.referents) referent (unused.referents version low high) there refl) one.lies;
+    });
+    once = is.once;
+    few = is.few;
   }
-
-pub meant_without_route : (oldest gone : ℕ) (contents : Contents) (definitions : CatalogueItems) → IsMeant oldest contents → AreMeant definitions → definitions.tables ≡ contents.definitions.tables
-    → ((route : RouteItem) → Contains contents.definitions.routes route → Contains definitions.routes route ⊎ (route.number ≡ gone))
-    → ((version : ℕ) → oldest ≤ version → version ≤ contents.directory.accepted → IsUnused version gone contents) → IsMeant oldest (record contents { definitions = definitions })
-meant_without_route oldest gone contents definitions meant means tables stay unused =
-    meant_beside (λ number. number ≡ gone) oldest contents definitions tables stay meant means
-    (λ version low high. let none = unused version low high in record { events = none.events; referents = none.referents })
 
 pub meant_with_routes : (oldest : ℕ) (contents : Contents) (definitions : CatalogueItems) → IsMeant oldest contents → AreMeant definitions → definitions.tables ≡ contents.definitions.tables
-    → ((route : RouteItem) → Contains contents.definitions.routes route → Contains definitions.routes route) → IsMeant oldest (record contents { definitions = definitions })
-meant_with_routes oldest contents definitions meant means tables still =
-    meant_beside (λ number. ⊥) oldest contents definitions tables (λ route there. inl (still route there)) meant means (λ version low high. record {
-      events = each_of (λ (table : TableContents). AllByRecursion (λ event. ⊥ → ⊥) (filter (sees_event version) table.events))
-          (λ table. each_of (λ (event : Event). ⊥ → ⊥) (λ event no. no) (filter (sees_event version) table.events)) contents.tables;
-      referents = each_of (λ (referent : ReferentRecord). ⊥ → ⊥) (λ referent no. no) (filter (is_seen kept_referents version) contents.referents.referents);
-    })
+    → ((route : RouteItem) → Contains contents.definitions.routes route → Contains definitions.routes route ⊎ IsUnusedFrom oldest route.number contents)
+    → IsMeant oldest (record contents { definitions = definitions })
+meant_with_routes oldest contents definitions meant means tables stay = record {
+  definitions = means;
+  records = λ version low high. let is = meant.records version low high in record {
+    tables = subst (λ (items : List TableItem). AllZip (IsTableMeant definitions.routes version) items contents.tables) (sym tables)
+        (zip_held (IsTableMeant contents.definitions.routes version) (IsTableMeant definitions.routes version) (Contains contents.tables) contents.definitions.tables contents.tables is.tables
+        (recursion_from_All (Contains contents.tables) contents.tables (All-contains_itself contents.tables))
+        (λ item table one among. table_stays oldest contents definitions stay version low high item table among one));
+    referents = referents_stay oldest contents definitions stay version low high is.referents;
+  };
+}
 
 -- ---- tables
 

@@ -3,7 +3,7 @@ use Rattle.std.proofs.Common.{List, [], ◌∷◌, ◌++◌, length, map, arith}
 use Rattle.std.specs.Prelude.{◌≡◌, Contains}
 use Rattle.std.specs.List.{AllByRecursion, AllZip}
 use Rattle.std.specs.List.Sorted.{IsPermutation}
-use Rattle.std.proofs.lemmas.List.Elements.{All-from_recursion, recursion_from_All}
+use Rattle.std.proofs.lemmas.List.Elements.{All-contains, All-from_recursion, recursion_from_All}
 use Rattle.std.proofs.lemmas.List.Sorted.{All-permutation}
 use Rattle.rs_standing.proofs.Named.{first_there, later_there}
 
@@ -11,9 +11,12 @@ pub each_weaker : {X : Type 0} (P Q : X → Type 0) → ((x : X) → P x → Q x
 each_weaker P Q gives [] all = tt
 each_weaker P Q gives (x ∷ xs) all = (gives x all.0, each_weaker P Q gives xs all.1)
 
-pub each_both : {X : Type 0} (P Q R : X → Type 0) → ((x : X) → P x → Q x → R x) → (xs : List X) → AllByRecursion P xs → AllByRecursion Q xs → AllByRecursion R xs
-each_both P Q R gives [] one other = tt
-each_both P Q R gives (x ∷ xs) one other = (gives x one.0 other.0, each_both P Q R gives xs one.1 other.1)
+pub each_among : {X : Type 0} (P Q : X → Type 0) (xs : List X) → AllByRecursion P xs → ((x : X) → Contains xs x → P x → Q x) → AllByRecursion Q xs
+each_among P Q [] all gives = tt
+each_among P Q (x ∷ xs) all gives = (gives x (first_there x xs) all.0, each_among P Q xs all.1 (λ y there. gives y (later_there x y xs there)))
+
+pub each_at : {X : Type 0} (P : X → Type 0) (xs : List X) (x : X) → AllByRecursion P xs → Contains xs x → P x
+each_at P xs x all there = All-contains P xs x (All-from_recursion P xs all) there
 
 pub each_shown : {X Y : Type 0} (show : X → Y) (P : Y → Type 0) (xs : List X) → AllByRecursion (λ x. P (show x)) xs → AllByRecursion P (map show xs)
 each_shown show P [] all = tt

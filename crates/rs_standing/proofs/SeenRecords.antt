@@ -3,7 +3,6 @@ use Rattle.std.proofs.Common.{◌≡◌, ◌<◌, ◌≤◌, ℕ, List, [], ◌�
 use Rattle.std.specs.Prelude.{◌≢◌, Contains}
 use Rattle.std.specs.List.{AllByRecursion}
 use Rattle.std.specs.List.Sorted.{IsPermutation}
-use Rattle.std.proofs.lemmas.List.Elements.{All-contains, All-from_recursion}
 use Rattle.std.proofs.lemmas.List.Sorted.{IsPermutation-refl, IsPermutation-sym, IsPermutation-trans, length_permutation}
 use Rattle.rs_cell_versions.specs.declared.cell.TheConstants.{LIVING}
 use Rattle.rs_facts.specs.Fact.{Name}
@@ -24,12 +23,9 @@ use Rattle.rs_versioned.proofs.SameRuns.{once_shuffled, runs_shuffled}
 use Rattle.rs_versioned.proofs.SeenAfter.{EndsAs}
 use Rattle.rs_standing.specs.Live.{HaveOwnNames, KeepsEvents, KeepsReferents, SeesSameEvents, SeesSameReferents}
 use Rattle.rs_standing.specs.Seen.{seen_event, seen_events, seen_referent, seen_referents}
-use Rattle.rs_standing.proofs.Lists.{each_moved, each_shown, each_weaker, shown_each}
+use Rattle.rs_standing.proofs.Lists.{each_at, each_moved, each_shown, each_weaker, shown_each}
 use Rattle.rs_standing.proofs.OnRoute.{on, on_moved, on_seen, seen_cleared, seen_come, seen_ended}
 use Rattle.rs_standing.proofs.SameNames.{distinct_moved}
-
-none_such : {X : Type 0} (P : X → Type 0) (xs : List X) (x : X) → AllByRecursion P xs → Contains xs x → P x
-none_such P xs x all there = All-contains P xs x (All-from_recursion P xs all) there
 
 -- ---- events
 
@@ -80,7 +76,7 @@ module _ (oldest accepted : ℕ) where
   event_ends kind types at one old now runs ended living late below = record {
     each = λ version low high.
         seen_ended (kept_events types) event_route span_of (events_end types) version at one old now ended (omega (arith, high, late)) (subst (λ (n : ℕ). version < n) (sym living) (omega (arith, high, late, below)))
-        (λ span rest moved there. none_such (λ other. span ≢ other) rest span
+        (λ span rest moved there. each_at (λ other. span ≢ other) rest span
         (once_shuffled (on one.route (seen_events version old)) (span ∷ rest) moved
         (subst (λ spans. AreOnce spans) (sym (spans_on version one.route old)) (runs.each version one.route low high).once)).0 there refl);
   }
@@ -142,7 +138,7 @@ module _ (oldest accepted : ℕ) where
   referent_ends at one old now names ended living late below = record {
     each = λ version low high.
         seen_ended kept_referents referent_route referent_shown referents_end version at one old now ended (omega (arith, high, late)) (subst (λ (n : ℕ). version < n) (sym living) (omega (arith, high, late, below)))
-        (λ mark rest moved there. none_such (λ (other : Name × ℕ). mark.0 ≢ other.0) rest mark
+        (λ mark rest moved there. each_at (λ (other : Name × ℕ). mark.0 ≢ other.0) rest mark
         (shown_each (λ (other : Name × ℕ). other.0) (λ other. mark.0 ≢ other) rest
         (distinct_moved (on one.route (seen_referents version old)) (mark ∷ rest) moved
         (subst (λ (marks : List (Name × ℕ)). AreDistinct (map (λ m. m.0) marks)) (sym (referents_on version one.route old)) (names.each version one.route low high))).0) there refl);

@@ -40,10 +40,12 @@ pub record RoutesComeAfter (version : ℕ) (old now : List RouteItem) : Type 0 w
   pub still : (route : RouteItem) → Contains old route → Contains now route
   pub others : (route : RouteItem) → Contains now route → Contains old route ⊎ (version < route.born)
 
--- the version sees no event and no referent on the route with this number
-pub record IsUnused (version number : ℕ) (contents : Contents) : Type 0 where
-  pub events : AllByRecursion (λ table. AllByRecursion (λ event. event.route ≢ number) (filter (sees_event version) table.events)) contents.tables
-  pub referents : AllByRecursion (λ referent. referent.route ≢ number) (filter (is_seen kept_referents version) contents.referents.referents)
+-- no version from the oldest up to the one that was accepted last sees an event or a referent on the route with this number
+pub record IsUnusedFrom (oldest number : ℕ) (contents : Contents) : Type 0 where
+  pub events : (version : ℕ) → oldest ≤ version → version ≤ contents.directory.accepted
+      → AllByRecursion (λ table. AllByRecursion (λ event. event.route ≢ number) (filter (sees_event version) table.events)) contents.tables
+  pub referents : (version : ℕ) → oldest ≤ version → version ≤ contents.directory.accepted
+      → AllByRecursion (λ referent. referent.route ≢ number) (filter (is_seen kept_referents version) contents.referents.referents)
 
 -- the tables are those that were there but for one, which has come between these, and has no events
 pub record TableComes (contents : Contents) (definitions : CatalogueItems) (before : List TableContents) (table : TableContents) (after : List TableContents) : Type 0 where

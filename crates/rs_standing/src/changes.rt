@@ -4,7 +4,7 @@ ghost use Rattle.std.specs.Prelude.{◌≡◌, ◌≤◌, ◌⊎◌, ◌++◌, �
 ghost use Rattle.rs_catalog_pages.specs.Items.{CatalogueItems, RouteItem, TableItem};
 ghost use Rattle.rs_catalog_meaning.specs.Meaning.{AreMeant};
 ghost use Rattle.rs_contents.specs.Contents.{Contents, ReferentContents, SameContents, TableContents};
-ghost use Rattle.rs_standing.specs.Changed.{HasTableBetween, HaveOwnNumbers, IsUnused, SaysTheSame, TableComes, with_table};
+ghost use Rattle.rs_standing.specs.Changed.{HasTableBetween, HaveOwnNumbers, IsUnusedFrom, SaysTheSame, TableComes, with_table};
 ghost use Rattle.rs_standing.specs.Meant.{IsMeant, IsTableMeant};
 ghost use Rattle.rs_standing.specs.Seen.{events_of, routes_at};
 ghost use Rattle.rs_versioned.specs.Meant.{AreReferentsMeant};
@@ -41,17 +41,12 @@ pub fn changed_referents_leave_all_else_meant()
         → IsMeant oldest (record contents { referents = now }) }
 {}
 
-/// Where the definitions are others, which are meant, the records stay so: where routes come and tables stay, where a route goes on
-/// which no version from the oldest on sees a record, where a table without events comes, and where a table goes.
+/// Where the definitions are others, which are meant, the records stay so: where routes come and where those go on which no version
+/// from the oldest on sees a record, where a table without events comes, and where a table goes.
 pub fn changed_definitions_leave_records_meant()
-    ensures routes_come { (oldest : ℕ) (contents : Contents) (definitions : CatalogueItems)
+    ensures routes { (oldest : ℕ) (contents : Contents) (definitions : CatalogueItems)
         → IsMeant oldest contents → AreMeant definitions → definitions.tables ≡ contents.definitions.tables
-        → ((route : RouteItem) → Contains contents.definitions.routes route → Contains definitions.routes route)
-        → IsMeant oldest (record contents { definitions = definitions }) }
-    ensures route_goes { (oldest gone : ℕ) (contents : Contents) (definitions : CatalogueItems)
-        → IsMeant oldest contents → AreMeant definitions → definitions.tables ≡ contents.definitions.tables
-        → ((route : RouteItem) → Contains contents.definitions.routes route → Contains definitions.routes route ⊎ (route.number ≡ gone))
-        → ((version : ℕ) → oldest ≤ version → version ≤ contents.directory.accepted → IsUnused version gone contents)
+        → ((route : RouteItem) → Contains contents.definitions.routes route → Contains definitions.routes route ⊎ IsUnusedFrom oldest route.number contents)
         → IsMeant oldest (record contents { definitions = definitions }) }
     ensures table_comes { (oldest : ℕ) (contents : Contents) (definitions : CatalogueItems) (before : List TableContents) (table : TableContents) (after : List TableContents)
         → IsMeant oldest contents → AreMeant definitions → definitions.routes ≡ contents.definitions.routes
