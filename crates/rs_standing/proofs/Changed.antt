@@ -14,33 +14,43 @@ use Rattle.rs_page_owners.specs.Counts.{times}
 use Rattle.rs_versioned.specs.Events.{Event, sees_event, span_of}
 use Rattle.rs_versioned.specs.Meant.{AreEventsMeant, AreReferentsMeant, HasRoute, IsPlaceOf, IsReferentMeant, IsSpanOf}
 use Rattle.rs_versioned.specs.Records.{is_seen}
+use Rattle.rs_versioned.specs.Runs.{AreRunsFrom}
 use Rattle.rs_versioned.specs.Referents.{ReferentRecord, kept_referents}
 use Rattle.rs_versioned.specs.declared.route_span.RouteSpan.{RouteSpan}
 use Rattle.rs_standing.specs.Changed.{HasTableBetween, HaveOwnNumbers, IsUnusedFrom, TableComes, with_table}
 use Rattle.rs_standing.specs.Meant.{AreRecordsMeant, IsMeant, IsTableMeant}
 use Rattle.rs_standing.specs.Seen.{born_by, events_of, events_with, is_born, routes_at, span_of_route}
 use Rattle.rs_standing.proofs.KeptMeaning.{none_meant}
-use Rattle.rs_standing.proofs.Lists.{each_among, each_at, zip_held, zip_less, zip_more, zip_put}
+use Rattle.rs_standing.proofs.Lists.{each_among, each_at, zip_at, zip_held, zip_less, zip_more, zip_put}
 use Rattle.rs_standing.proofs.Picked.{first_too, kept_in, kept_passes, kept_there, shown_there, source_of}
 
 -- ---- one table
 
-pub meant_put : (oldest : ℕ) (contents : Contents) (item : TableItem) (before : List TableContents) (table now : TableContents) (after : List TableContents)
-    → HasTableBetween contents item before table after → IsMeant oldest contents
-    → ((version : ℕ) → oldest ≤ version → version ≤ contents.directory.accepted → IsTableMeant contents.definitions.routes version item now) → IsMeant oldest (with_table contents before now after)
-meant_put oldest contents item before table now after has meant is = record {
-  definitions = meant.definitions;
-  records = λ version low high.
-      let Meant = IsTableMeant contents.definitions.routes version in
-      let records = meant.records version low high in
-      let all = subst (λ (ts : List TableContents). AllZip Meant (has.first ++ item ∷ has.last) ts) has.tables
-      (subst (λ (is : List TableItem). AllZip Meant is contents.tables) has.items records.tables) in
-      record {
-        tables = subst (λ (is : List TableItem). AllZip Meant is (before ++ now ∷ after)) (sym has.items)
-            (zip_put Meant has.first item has.last before table now after has.long all (is version low high));
-        referents = records.referents;
-      };
-}
+module _ (oldest : ℕ) (contents : Contents) (item : TableItem) (before : List TableContents) (table : TableContents) (after : List TableContents) (has : HasTableBetween contents item before table after)
+    (meant : IsMeant oldest contents) where
+  abbrev Meant : ℕ → TableItem → TableContents → Type 0
+  Meant version = IsTableMeant contents.definitions.routes version
+
+  all_meant : (version : ℕ) → oldest ≤ version → version ≤ contents.directory.accepted → AllZip (Meant version) (has.first ++ item ∷ has.last) (before ++ table ∷ after)
+  all_meant version low high =
+      subst (λ (ts : List TableContents). AllZip (Meant version) (has.first ++ item ∷ has.last) ts) has.tables
+      (subst (λ (is : List TableItem). AllZip (Meant version) is contents.tables) has.items (meant.records version low high).tables)
+
+  pub table_meant : (version : ℕ) → oldest ≤ version → version ≤ contents.directory.accepted → Meant version item table
+  table_meant version low high = zip_at (Meant version) has.first item has.last before table after has.long (all_meant version low high)
+
+  pub table_runs : AreRunsFrom (kind_of item.kind) oldest contents.directory.accepted table.events
+  table_runs = record { each = λ version route low high. (table_meant version low high).runs route }
+
+  pub meant_put : (now : TableContents) → ((version : ℕ) → oldest ≤ version → version ≤ contents.directory.accepted → Meant version item now) → IsMeant oldest (with_table contents before now after)
+  meant_put now is = record {
+    definitions = meant.definitions;
+    records = λ version low high. record {
+      tables = subst (λ (is : List TableItem). AllZip (Meant version) is (before ++ now ∷ after)) (sym has.items)
+          (zip_put (Meant version) has.first item has.last before table now after has.long (all_meant version low high) (is version low high));
+      referents = (meant.records version low high).referents;
+    };
+  }
 
 abbrev number_of : TableItem → ℕ
 number_of table = table.number
@@ -123,13 +133,13 @@ module _ (oldest : ℕ) (contents : Contents) (definitions : CatalogueItems) (st
       let from = source_of span_of_route (born_by version contents.definitions.routes) on.route on.there in
       elim (stay from.source (kept_there (is_born version) contents.definitions.routes from.source from.there)) [
         | inl there ↦ record {
-            route = on.route;
-            there = subst (Contains now) from.is
-                (shown_there span_of_route (born_by version definitions.routes) from.source
-                (kept_in (is_born version) definitions.routes from.source there (kept_passes (is_born version) contents.definitions.routes from.source from.there)));
-            numbered = on.numbered;
-            is_so = on.is_so;
-          }
+          route = on.route;
+          there = subst (Contains now) from.is
+              (shown_there span_of_route (born_by version definitions.routes) from.source
+              (kept_in (is_born version) definitions.routes from.source there (kept_passes (is_born version) contents.definitions.routes from.source from.there)));
+          numbered = on.numbered;
+          is_so = on.is_so;
+        }
         | inr unused ↦ absurd (used (subst (λ (n : ℕ). IsUnusedFrom oldest n contents) (ap (λ (span : RouteSpan). span.number) from.is ∙ on.numbered) unused))
       ]
 
@@ -139,8 +149,8 @@ module _ (oldest : ℕ) (contents : Contents) (definitions : CatalogueItems) (st
     lie = each_among (λ event. HasRoute old event.route (IsSpanOf (kind_of item.kind) (span_of event))) (λ event. HasRoute now event.route (IsSpanOf (kind_of item.kind) (span_of event)))
         (filter (sees_event version) table.events) is.lie
         (λ event there. on_used event.route (IsSpanOf (kind_of item.kind) (span_of event)) (λ unused.
-            each_at (λ other. other.route ≢ event.route) (filter (sees_event version) table.events) event
-            (each_at (λ (table : TableContents). AllByRecursion (λ other. other.route ≢ event.route) (filter (sees_event version) table.events)) contents.tables table (unused.events version low high) among) there refl));
+        each_at (λ other. other.route ≢ event.route) (filter (sees_event version) table.events) event
+        (each_at (λ (table : TableContents). AllByRecursion (λ other. other.route ≢ event.route) (filter (sees_event version) table.events)) contents.tables table (unused.events version low high) among) there refl));
   }
 
   referents_stay : AreReferentsMeant old version contents.referents.referents → AreReferentsMeant now version contents.referents.referents

@@ -19,12 +19,16 @@ use Rattle.rs_contents.specs.Contents.{Contents, ReferentContents, TableContents
 use Rattle.rs_facts.specs.Fact.{Name, Names, name_cmp}
 use Rattle.rs_versioned.specs.Events.{Event}
 use Rattle.rs_standing.specs.Changed.{HasTableBetween, HaveOwnNumbers, RoutesComeAfter, TableComes, with_table}
-use Rattle.rs_standing.specs.Live.{KeepsEvents, KeepsLive, KeepsRecords, KeepsReferents, SeesSameEvents, SeesTheSame}
+use Rattle.rs_standing.specs.Live.{KeepsEvents, KeepsLive, KeepsRecords, KeepsReferents, SeesTheSame}
 use Rattle.rs_standing.specs.Seen.{born_by, events_of, events_with, is_born, seen_events, seen_referents}
 use Rattle.rs_standing.proofs.Lists.{zip_between, zip_each, zip_itself}
 use Rattle.rs_standing.proofs.Named.{get_there, item_of, later_there, order_kept, to_T}
 use Rattle.rs_standing.proofs.Picked.{first_too, kept_in, kept_passes, kept_there}
-use Rattle.rs_standing.proofs.SeenRecords.{events_unchanged, referents_unchanged}
+use Rattle.rs_standing.proofs.OnRoute.{keeps_same}
+
+-- the version sees of a table what it saw
+abbrev SeesSame : ℕ → List Event → List Event → Type 0
+SeesSame version old now = IsPermutation (seen_events version now) (seen_events version old)
 
 -- ---- one version
 
@@ -82,9 +86,9 @@ live_records oldest old now keeps = record {
   each = λ version low high. record {
     routes = ap (λ (d : CatalogueItems). born_by version d.routes) keeps.definitions;
     tables = λ item there. subst (λ (d : CatalogueItems). Contains d.tables item) (sym keeps.definitions) there;
-    events = λ table. subst (λ (d : CatalogueItems). SeesSameEvents version (events_of old table) (events_with d.tables now.tables table)) (sym keeps.definitions)
-        (events_beside (SeesSameEvents version) (IsPermutation-refl []) old.definitions.tables old.tables now.tables
-        (zip_each (λ was is. KeepsEvents oldest old.directory.accepted was.events is.events) (λ was is. SeesSameEvents version was.events is.events) old.tables now.tables keeps.tables
+    events = λ table. subst (λ (d : CatalogueItems). SeesSame version (events_of old table) (events_with d.tables now.tables table)) (sym keeps.definitions)
+        (events_beside (SeesSame version) (IsPermutation-refl []) old.definitions.tables old.tables now.tables
+        (zip_each (λ was is. KeepsEvents oldest old.directory.accepted was.events is.events) (λ was is. SeesSame version was.events is.events) old.tables now.tables keeps.tables
         (λ was is kept. kept.each version low high)) table);
     referents = keeps.referents.each version low high;
   };
@@ -95,8 +99,8 @@ pub records_table : (oldest : ℕ) (contents : Contents) (item : TableItem) (bef
 records_table oldest contents item before table now after has keeps = record {
   definitions = refl;
   tables = subst (λ (ts : List TableContents). AllZip Kept ts (before ++ now ∷ after)) (sym has.tables)
-      (zip_between Kept (λ t. events_unchanged oldest accepted t.events) before table now after keeps);
-  referents = referents_unchanged oldest accepted contents.referents.referents;
+      (zip_between Kept (λ t. keeps_same seen_events oldest accepted t.events) before table now after keeps);
+  referents = keeps_same seen_referents oldest accepted contents.referents.referents;
 }
   where
     accepted : ℕ
@@ -109,7 +113,7 @@ pub records_referents : (oldest : ℕ) (contents : Contents) (now : ReferentCont
     → KeepsRecords oldest contents (record contents { referents = now })
 records_referents oldest contents now keeps = record {
   definitions = refl;
-  tables = zip_itself (λ was is. KeepsEvents oldest contents.directory.accepted was.events is.events) (λ t. events_unchanged oldest contents.directory.accepted t.events) contents.tables;
+  tables = zip_itself (λ was is. KeepsEvents oldest contents.directory.accepted was.events is.events) (λ t. keeps_same seen_events oldest contents.directory.accepted t.events) contents.tables;
   referents = keeps;
 }
 
@@ -180,7 +184,7 @@ live_routes oldest contents definitions meant means tables come = record {
     routes = born_same version contents.definitions.routes definitions.routes meant.routes.in_order means.routes.in_order
         (earlier version contents.directory.accepted contents.definitions.routes definitions.routes high come);
     tables = λ item there. subst (λ (items : List TableItem). Contains items item) (sym tables) there;
-    events = λ table. subst (λ (items : List TableItem). SeesSameEvents version (events_of contents table) (events_with items contents.tables table)) (sym tables)
+    events = λ table. subst (λ (items : List TableItem). SeesSame version (events_of contents table) (events_with items contents.tables table)) (sym tables)
         (IsPermutation-refl (seen_events version (events_of contents table)));
     referents = IsPermutation-refl (seen_referents version contents.referents.referents);
   };
@@ -227,7 +231,7 @@ live_table oldest contents definitions before table after routes own comes = rec
     routes = ap (born_by version) routes;
     tables = λ item there. subst (λ (items : List TableItem). Contains items item) (sym comes.are)
         (still_between comes.first comes.last comes.item item (subst (λ (items : List TableItem). Contains items item) comes.were there));
-    events = λ number. subst (λ (events : List Event). SeesSameEvents version (events_of contents number) events) (sym (same number)) (IsPermutation-refl (seen_events version (events_of contents number)));
+    events = λ number. subst (λ (events : List Event). SeesSame version (events_of contents number) events) (sym (same number)) (IsPermutation-refl (seen_events version (events_of contents number)));
     referents = IsPermutation-refl (seen_referents version contents.referents.referents);
   };
 }

@@ -68,6 +68,13 @@ pub zip_between : {X : Type 0} (R : X → X → Type 0) → ((x : X) → R x x) 
 zip_between R same [] x y others is = (is, zip_itself R same others)
 zip_between R same (z ∷ xs) x y others is = (same z, zip_between R same xs x y others is)
 
+pub zip_at : {X Y : Type 0} (R : X → Y → Type 0) (xs : List X) (x : X) (others : List X) (ys : List Y) (y : Y) (more : List Y) → length xs ≡ length ys
+    → AllZip R (xs ++ x ∷ others) (ys ++ y ∷ more) → R x y
+zip_at R [] x others [] y more long all = all.0
+zip_at R [] x others (w ∷ ys) y more long all = absurd (omega (arith, long))
+zip_at R (v ∷ xs) x others [] y more long all = absurd (omega (arith, long))
+zip_at R (v ∷ xs) x others (w ∷ ys) y more long all = zip_at R xs x others ys y more (omega (arith, long)) all.1
+
 pub zip_put : {X Y : Type 0} (R : X → Y → Type 0) (xs : List X) (x : X) (others : List X) (ys : List Y) (y z : Y) (more : List Y) → length xs ≡ length ys
     → AllZip R (xs ++ x ∷ others) (ys ++ y ∷ more) → R x z → AllZip R (xs ++ x ∷ others) (ys ++ z ∷ more)
 zip_put R [] x others [] y z more long all is = (is, all.1)

@@ -1,12 +1,14 @@
 -- What is seen on one route, and what versions see of records that change after them.
 use Rattle.std.proofs.Common.{◌≡◌, ◌<◌, ◌≤◌, ◌&&◌, ◌==◌, ◌⊎◌, inl, inr, ℕ, zero, suc, Bool, true, false, cond, List, [], ◌∷◌, length, map, filter, get_or, refl, sym, ap, subst, arith}
 use Rattle.std.proofs.lemmas.Bool.Decides.{nat_tests}
-use Rattle.std.proofs.lemmas.List.Sorted.{IsPermutation-map}
+use Rattle.std.proofs.lemmas.List.Sorted.{IsPermutation-map, IsPermutation-refl, IsPermutation-trans}
 use Rattle.std.specs.List.{Contains}
 use Rattle.std.specs.List.Sorted.{IsPermutation}
+use Rattle.rs_cell_versions.specs.declared.cell.TheConstants.{LIVING}
 use Rattle.rs_versioned.specs.Records.{HasCleared, HasEnded, HasOneMore, Kept, is_seen}
 use Rattle.rs_versioned.proofs.SeenAfter.{EndsAs, WasTwice, before_birth, before_end_or_twice, unseen_cleared}
 use Rattle.rs_versioned.proofs.Shuffles.{IsPermutation-filter}
+use Rattle.rs_standing.specs.Live.{Keeps}
 use Rattle.rs_standing.proofs.Named.{first_there, later_there}
 
 same_number : (n : ℕ) → (n == n) ≡ true
@@ -68,22 +70,42 @@ module _ {R Y : Type 0} (kept : Kept R) (route_of : R → ℕ) (show : R → Y) 
     by_seen true later = by_route (route_of x == route) later
     by_seen false later = unseen (route_of x == route) later
 
-  module _ (ends : EndsAs kept (λ one. 0) look) (version : ℕ) where
-    pub seen_come : (one : R) (old now : List R) → HasOneMore one old now → version < kept.born one → IsPermutation (seen version now) (seen version old)
-    seen_come = before_birth kept (λ one. 0) look version 0
+  module _ (ends : EndsAs kept (λ one. 0) look) (oldest accepted : ℕ) where
+    abbrev Stays : List R → List R → Type 0
+    Stays = Keeps seen oldest accepted
 
-    pub seen_cleared : (oldest : ℕ) (cells : List (List ℕ)) (old now : List R) → HasCleared kept oldest cells old now → oldest ≤ version → IsPermutation (seen version now) (seen version old)
-    seen_cleared = unseen_cleared kept (λ one. 0) look version 0
+    pub keeps_come : (one : R) (old now : List R) → HasOneMore one old now → accepted < kept.born one → Stays old now
+    keeps_come one old now more late = record { each = λ version low high. before_birth kept (λ one. 0) look version 0 one old now more (omega (arith, high, late)) }
+
+    pub keeps_cleared : (cells : List (List ℕ)) (old now : List R) → HasCleared kept oldest cells old now → Stays old now
+    keeps_cleared cells old now cleared = record { each = λ version low high. unseen_cleared kept (λ one. 0) look version 0 oldest cells old now cleared low }
 
     -- where no two of a route look the same
-    pub seen_ended : (at : ℕ) (one : R) (old now : List R) → HasEnded kept at one old now → version < at → version < kept.died one
-        → ((y : Y) (rest : List Y) → IsPermutation (on (route_of one) (seen version old)) (y ∷ rest) → Contains rest y → ⊥) → IsPermutation (seen version now) (seen version old)
-    seen_ended at one old now ended before lives once = elim (before_end_or_twice kept (λ one. 0) look ends at version 0 one old now ended before lives) [
-      | inl same ↦ same
-      | inr twice ↦
-          let route = route_of one in
-          let rest = on route (seen version now) in
-          absurd (once (show one) rest
-          (subst (IsPermutation (on route (seen version old))) (first_on route (show one) (seen version now)) (on_moved route (seen version old) (look one ∷ seen version now) twice.more))
-          (on_there route (show one) (seen version now) twice.there))
-    ]
+    pub keeps_ended : (at : ℕ) (one : R) (old now : List R) → HasEnded kept at one old now → kept.died one ≡ LIVING → accepted < at → at < LIVING
+        → ((version : ℕ) → oldest ≤ version → version ≤ accepted → (y : Y) (rest : List Y) → IsPermutation (on (route_of one) (seen version old)) (y ∷ rest) → Contains rest y → ⊥) → Stays old now
+    keeps_ended at one old now ended living late below once = record {
+      each = λ version low high.
+          elim (before_end_or_twice kept (λ one. 0) look ends at version 0 one old now ended (omega (arith, high, late)) (subst (λ (n : ℕ). version < n) (sym living) (omega (arith, high, late, below)))) [
+            | inl same ↦ same
+            | inr twice ↦
+                let route = route_of one in
+                let rest = on route (seen version now) in
+                absurd (once version low high (show one) rest
+                (subst (IsPermutation (on route (seen version old))) (first_on route (show one) (seen version now)) (on_moved route (seen version old) (look one ∷ seen version now) twice.more))
+                (on_there route (show one) (seen version now) twice.there))
+          ];
+    }
+
+-- ---- whatever is shown
+
+module _ {R Y : Type 0} (shown : ℕ → List R → List Y) (oldest accepted : ℕ) where
+  pub keeps_same : (records : List R) → Keeps shown oldest accepted records records
+  keeps_same records = record { each = λ version low high. IsPermutation-refl (shown version records) }
+
+  pub keeps_joined : (old next now : List R) → Keeps shown oldest accepted old next → Keeps shown oldest accepted next now → Keeps shown oldest accepted old now
+  keeps_joined old next now first last = record {
+    each = λ version low high. IsPermutation-trans (shown version now) (shown version next) (shown version old) (last.each version low high) (first.each version low high);
+  }
+
+  pub keeps_fewer : (from : ℕ) (old now : List R) → oldest ≤ from → Keeps shown oldest accepted old now → Keeps shown from accepted old now
+  keeps_fewer from old now later keeps = record { each = λ version low high. keeps.each version (omega (arith, later, low)) high }

@@ -21,10 +21,10 @@ use Rattle.rs_versioned.specs.declared.route_span.RouteSpan.{RouteSpan}
 use Rattle.rs_versioned.proofs.EventsSeen.{event_route, referent_route, referent_shown}
 use Rattle.rs_versioned.proofs.SameRuns.{once_shuffled, runs_shuffled}
 use Rattle.rs_versioned.proofs.SeenAfter.{EndsAs}
-use Rattle.rs_standing.specs.Live.{HaveOwnNames, KeepsEvents, KeepsReferents, SeesSameEvents, SeesSameReferents}
+use Rattle.rs_standing.specs.Live.{HaveOwnNames, KeepsEvents, KeepsReferents}
 use Rattle.rs_standing.specs.Seen.{seen_event, seen_events, seen_referent, seen_referents}
 use Rattle.rs_standing.proofs.Lists.{each_at, each_moved, each_shown, each_weaker, shown_each}
-use Rattle.rs_standing.proofs.OnRoute.{on, on_moved, on_seen, seen_cleared, seen_come, seen_ended}
+use Rattle.rs_standing.proofs.OnRoute.{keeps_cleared, keeps_come, keeps_ended, on, on_moved, on_seen}
 use Rattle.rs_standing.proofs.SameNames.{distinct_moved}
 
 -- ---- events
@@ -57,35 +57,22 @@ events_alike routes kind from to one other same meant = record {
     Lies : ℕ × Stretch → Type 0
     Lies seen = HasRoute routes seen.0 (IsSpanOf kind seen.1)
 
-module _ (oldest accepted : ℕ) where
-  pub events_unchanged : (events : List Event) → KeepsEvents oldest accepted events events
-  events_unchanged events = record { each = λ version low high. IsPermutation-refl (seen_events version events) }
+pub event_comes : (oldest accepted : ℕ) (one : Event) (old now : List Event) → HasOneMore one old now → accepted < one.born → KeepsEvents oldest accepted old now
+event_comes = keeps_come (kept_events []) event_route span_of (events_end [])
 
-  pub events_joined : (old next now : List Event) → KeepsEvents oldest accepted old next → KeepsEvents oldest accepted next now → KeepsEvents oldest accepted old now
-  events_joined old next now first last = record {
-    each = λ version low high. IsPermutation-trans (seen_events version now) (seen_events version next) (seen_events version old) (last.each version low high) (first.each version low high);
-  }
+pub events_cleared : (oldest accepted : ℕ) (types : List ColumnType) (cells : List (List ℕ)) (old now : List Event) → HasCleared (kept_events types) oldest cells old now → KeepsEvents oldest accepted old now
+events_cleared oldest accepted types = keeps_cleared (kept_events types) event_route span_of (events_end types) oldest accepted
 
-  pub event_comes : (one : Event) (old now : List Event) → HasOneMore one old now → accepted < one.born → KeepsEvents oldest accepted old now
-  event_comes one old now more late = record {
-    each = λ version low high. seen_come (kept_events []) event_route span_of (events_end []) version one old now more (omega (arith, high, late));
-  }
+pub event_ends : (kind : Kind) (oldest accepted : ℕ) (types : List ColumnType) (at : ℕ) (one : Event) (old now : List Event) → AreRunsFrom kind oldest accepted old → HasEnded (kept_events types) at one old now
+    → one.died ≡ LIVING → accepted < at → at < LIVING → KeepsEvents oldest accepted old now
+event_ends kind oldest accepted types at one old now runs ended living late below =
+    keeps_ended (kept_events types) event_route span_of (events_end types) oldest accepted at one old now ended living late below
+    (λ version low high span rest moved there. each_at (λ other. span ≢ other) rest span
+    (once_shuffled (on one.route (seen_events version old)) (span ∷ rest) moved
+    (subst (λ spans. AreOnce spans) (sym (spans_on version one.route old)) (runs.each version one.route low high).once)).0 there refl)
 
-  pub event_ends : (kind : Kind) (types : List ColumnType) (at : ℕ) (one : Event) (old now : List Event) → AreRunsFrom kind oldest accepted old → HasEnded (kept_events types) at one old now
-      → one.died ≡ LIVING → accepted < at → at < LIVING → KeepsEvents oldest accepted old now
-  event_ends kind types at one old now runs ended living late below = record {
-    each = λ version low high.
-        seen_ended (kept_events types) event_route span_of (events_end types) version at one old now ended (omega (arith, high, late)) (subst (λ (n : ℕ). version < n) (sym living) (omega (arith, high, late, below)))
-        (λ span rest moved there. each_at (λ other. span ≢ other) rest span
-        (once_shuffled (on one.route (seen_events version old)) (span ∷ rest) moved
-        (subst (λ spans. AreOnce spans) (sym (spans_on version one.route old)) (runs.each version one.route low high).once)).0 there refl);
-  }
-
-  pub events_cleared : (types : List ColumnType) (cells : List (List ℕ)) (old now : List Event) → HasCleared (kept_events types) oldest cells old now → KeepsEvents oldest accepted old now
-  events_cleared types cells old now cleared = record { each = λ version low high. seen_cleared (kept_events types) event_route span_of (events_end types) version oldest cells old now cleared low }
-
-  pub runs_kept : (kind : Kind) (old now : List Event) → KeepsEvents oldest accepted old now → AreRunsFrom kind oldest accepted old → AreRunsFrom kind oldest accepted now
-  runs_kept kind old now keeps runs = record { each = λ version route low high. runs_alike kind version version route old now (keeps.each version low high) (runs.each version route low high) }
+pub runs_kept : (kind : Kind) (oldest accepted : ℕ) (old now : List Event) → KeepsEvents oldest accepted old now → AreRunsFrom kind oldest accepted old → AreRunsFrom kind oldest accepted now
+runs_kept kind oldest accepted old now keeps runs = record { each = λ version route low high. runs_alike kind version version route old now (keeps.each version low high) (runs.each version route low high) }
 
 -- ---- referents
 
@@ -118,37 +105,23 @@ referents_alike routes from to one other same meant = record {
     Lies : ℕ × (Name × ℕ) → Type 0
     Lies seen = IsReferentMeant routes (record { route = seen.0; name = seen.1.0; measure = seen.1.1; born = 0; died = 0 })
 
-module _ (oldest accepted : ℕ) where
-  pub referents_unchanged : (referents : List ReferentRecord) → KeepsReferents oldest accepted referents referents
-  referents_unchanged referents = record { each = λ version low high. IsPermutation-refl (seen_referents version referents) }
+pub referent_comes : (oldest accepted : ℕ) (one : ReferentRecord) (old now : List ReferentRecord) → HasOneMore one old now → accepted < one.born → KeepsReferents oldest accepted old now
+referent_comes = keeps_come kept_referents referent_route referent_shown referents_end
 
-  pub referents_joined : (old next now : List ReferentRecord) → KeepsReferents oldest accepted old next → KeepsReferents oldest accepted next now → KeepsReferents oldest accepted old now
-  referents_joined old next now first last = record {
-    each = λ version low high.
-        IsPermutation-trans (seen_referents version now) (seen_referents version next) (seen_referents version old) (last.each version low high) (first.each version low high);
-  }
+pub referents_cleared : (oldest accepted : ℕ) (cells : List (List ℕ)) (old now : List ReferentRecord) → HasCleared kept_referents oldest cells old now → KeepsReferents oldest accepted old now
+referents_cleared = keeps_cleared kept_referents referent_route referent_shown referents_end
 
-  pub referent_comes : (one : ReferentRecord) (old now : List ReferentRecord) → HasOneMore one old now → accepted < one.born → KeepsReferents oldest accepted old now
-  referent_comes one old now more late = record {
-    each = λ version low high. seen_come kept_referents referent_route referent_shown referents_end version one old now more (omega (arith, high, late));
-  }
+pub referent_ends : (oldest accepted at : ℕ) (one : ReferentRecord) (old now : List ReferentRecord) → HaveOwnNames oldest accepted old → HasEnded kept_referents at one old now
+    → one.died ≡ LIVING → accepted < at → at < LIVING → KeepsReferents oldest accepted old now
+referent_ends oldest accepted at one old now names ended living late below =
+    keeps_ended kept_referents referent_route referent_shown referents_end oldest accepted at one old now ended living late below
+    (λ version low high mark rest moved there. each_at (λ (other : Name × ℕ). mark.0 ≢ other.0) rest mark
+    (shown_each (λ (other : Name × ℕ). other.0) (λ other. mark.0 ≢ other) rest
+    (distinct_moved (on one.route (seen_referents version old)) (mark ∷ rest) moved
+    (subst (λ (marks : List (Name × ℕ)). AreDistinct (map (λ m. m.0) marks)) (sym (referents_on version one.route old)) (names.each version one.route low high))).0) there refl)
 
-  pub referent_ends : (at : ℕ) (one : ReferentRecord) (old now : List ReferentRecord) → HaveOwnNames oldest accepted old → HasEnded kept_referents at one old now
-      → one.died ≡ LIVING → accepted < at → at < LIVING → KeepsReferents oldest accepted old now
-  referent_ends at one old now names ended living late below = record {
-    each = λ version low high.
-        seen_ended kept_referents referent_route referent_shown referents_end version at one old now ended (omega (arith, high, late)) (subst (λ (n : ℕ). version < n) (sym living) (omega (arith, high, late, below)))
-        (λ mark rest moved there. each_at (λ (other : Name × ℕ). mark.0 ≢ other.0) rest mark
-        (shown_each (λ (other : Name × ℕ). other.0) (λ other. mark.0 ≢ other) rest
-        (distinct_moved (on one.route (seen_referents version old)) (mark ∷ rest) moved
-        (subst (λ (marks : List (Name × ℕ)). AreDistinct (map (λ m. m.0) marks)) (sym (referents_on version one.route old)) (names.each version one.route low high))).0) there refl);
-  }
-
-  pub referents_cleared : (cells : List (List ℕ)) (old now : List ReferentRecord) → HasCleared kept_referents oldest cells old now → KeepsReferents oldest accepted old now
-  referents_cleared cells old now cleared = record { each = λ version low high. seen_cleared kept_referents referent_route referent_shown referents_end version oldest cells old now cleared low }
-
-  pub names_kept : (old now : List ReferentRecord) → KeepsReferents oldest accepted old now → HaveOwnNames oldest accepted old → HaveOwnNames oldest accepted now
-  names_kept old now keeps names = record {
-    each = λ version route low high.
-        distinct_moved (referents_at version route old) (referents_at version route now) (marks_alike version version route old now (keeps.each version low high)) (names.each version route low high);
-  }
+pub names_kept : (oldest accepted : ℕ) (old now : List ReferentRecord) → KeepsReferents oldest accepted old now → HaveOwnNames oldest accepted old → HaveOwnNames oldest accepted now
+names_kept oldest accepted old now keeps names = record {
+  each = λ version route low high.
+      distinct_moved (referents_at version route old) (referents_at version route now) (marks_alike version version route old now (keeps.each version low high)) (names.each version route low high);
+}

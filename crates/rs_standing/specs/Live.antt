@@ -14,19 +14,15 @@ use Rattle.rs_standing.specs.States.{world_at}
 
 -- ---- records
 
--- the version sees the events that it saw, in whatever order
-abbrev pub SeesSameEvents : ℕ → List Event → List Event → Type 0
-SeesSameEvents version old now = IsPermutation (seen_events version now) (seen_events version old)
+-- each version from the oldest up to the one that was accepted last is shown what it was shown, in whatever order
+pub record Keeps {R Y : Type 0} (shown : ℕ → List R → List Y) (oldest accepted : ℕ) (old now : List R) : Type 0 where
+  pub each : (version : ℕ) → oldest ≤ version → version ≤ accepted → IsPermutation (shown version now) (shown version old)
 
-abbrev pub SeesSameReferents : ℕ → List ReferentRecord → List ReferentRecord → Type 0
-SeesSameReferents version old now = IsPermutation (seen_referents version now) (seen_referents version old)
+abbrev pub KeepsEvents : (oldest accepted : ℕ) → List Event → List Event → Type 0
+KeepsEvents = Keeps seen_events
 
--- so does each version from the oldest up to the one that was accepted last
-pub record KeepsEvents (oldest accepted : ℕ) (old now : List Event) : Type 0 where
-  pub each : (version : ℕ) → oldest ≤ version → version ≤ accepted → SeesSameEvents version old now
-
-pub record KeepsReferents (oldest accepted : ℕ) (old now : List ReferentRecord) : Type 0 where
-  pub each : (version : ℕ) → oldest ≤ version → version ≤ accepted → SeesSameReferents version old now
+abbrev pub KeepsReferents : (oldest accepted : ℕ) → List ReferentRecord → List ReferentRecord → Type 0
+KeepsReferents = Keeps seen_referents
 
 -- in each version from the oldest up to the one that was accepted last, the referents of a route have names of their own
 pub record HaveOwnNames (oldest accepted : ℕ) (referents : List ReferentRecord) : Type 0 where
@@ -34,13 +30,14 @@ pub record HaveOwnNames (oldest accepted : ℕ) (referents : List ReferentRecord
 
 -- ---- contents
 
--- The version sees what it saw: its routes, the events of each table by the table's number, and the referents. Each table that was
+-- The version sees what it saw: its routes, and in whatever order the events of each table, by the table's number,
+-- and the referents. Each table that was
 -- there is there.
 pub record SeesTheSame (version : ℕ) (old now : Contents) : Type 0 where
   pub routes : born_by version now.definitions.routes ≡ born_by version old.definitions.routes
   pub tables : (item : TableItem) → Contains old.definitions.tables item → Contains now.definitions.tables item
-  pub events : (table : ℕ) → SeesSameEvents version (events_of old table) (events_of now table)
-  pub referents : SeesSameReferents version old.referents.referents now.referents.referents
+  pub events : (table : ℕ) → IsPermutation (seen_events version (events_of now table)) (seen_events version (events_of old table))
+  pub referents : IsPermutation (seen_referents version now.referents.referents) (seen_referents version old.referents.referents)
 
 -- each version from the oldest up to the one that had been accepted sees what it saw
 pub record KeepsLive (oldest : ℕ) (old now : Contents) : Type 0 where

@@ -3,11 +3,13 @@
 ghost use Rattle.std.specs.Prelude.{◌≡◌, ◌≤◌, ◌⊎◌, ◌++◌, ◌∷◌, ℕ, Contains, List};
 ghost use Rattle.rs_catalog_pages.specs.Items.{CatalogueItems, RouteItem, TableItem};
 ghost use Rattle.rs_catalog_meaning.specs.Meaning.{AreMeant};
+ghost use Rattle.rs_catalog_meaning.specs.Stating.{kind_of};
 ghost use Rattle.rs_contents.specs.Contents.{Contents, ReferentContents, SameContents, TableContents};
 ghost use Rattle.rs_standing.specs.Changed.{HasTableBetween, HaveOwnNumbers, IsUnusedFrom, SaysTheSame, TableComes, with_table};
 ghost use Rattle.rs_standing.specs.Meant.{IsMeant, IsTableMeant};
 ghost use Rattle.rs_standing.specs.Seen.{events_of, routes_at};
 ghost use Rattle.rs_versioned.specs.Meant.{AreReferentsMeant};
+ghost use Rattle.rs_versioned.specs.Runs.{AreRunsFrom};
 
 /// Contents that are meant from a version on are meant from a later one on, and contents that say the same are meant alike.
 pub fn meant_contents_stay_meant()
@@ -16,8 +18,15 @@ pub fn meant_contents_stay_meant()
     ensures says { (one other : Contents) → SameContents one other → SaysTheSame one other }
 {}
 
-/// Where a table is another one, what is asked of it alone keeps the contents meant, and no other table is seen otherwise.
+/// Each table of contents that are meant has its runs. Where a table is another one, what is asked of it alone keeps the contents
+/// meant, and no other table is seen otherwise.
 pub fn changed_table_leaves_the_others_meant()
+    ensures table { (oldest version : ℕ) (contents : Contents) (item : TableItem) (before : List TableContents) (table : TableContents) (after : List TableContents)
+        → HasTableBetween contents item before table after → IsMeant oldest contents → oldest ≤ version → version ≤ contents.directory.accepted
+        → IsTableMeant contents.definitions.routes version item table }
+    ensures runs { (oldest : ℕ) (contents : Contents) (item : TableItem) (before : List TableContents) (table : TableContents) (after : List TableContents)
+        → HasTableBetween contents item before table after → IsMeant oldest contents
+        → AreRunsFrom (kind_of item.kind) oldest contents.directory.accepted table.events }
     ensures meant { (oldest : ℕ) (contents : Contents) (item : TableItem) (before : List TableContents) (table now : TableContents) (after : List TableContents)
         → HasTableBetween contents item before table after → IsMeant oldest contents
         → ((version : ℕ) → oldest ≤ version → version ≤ contents.directory.accepted → IsTableMeant contents.definitions.routes version item now)

@@ -28,6 +28,8 @@ pub fn live_versions_see_their_events()
     ensures unchanged { (oldest accepted : ℕ) (events : List Event) → KeepsEvents oldest accepted events events }
     ensures joined { (oldest accepted : ℕ) (old next now : List Event)
         → KeepsEvents oldest accepted old next → KeepsEvents oldest accepted next now → KeepsEvents oldest accepted old now }
+    ensures fewer { (oldest accepted from : ℕ) (old now : List Event)
+        → oldest ≤ from → KeepsEvents oldest accepted old now → KeepsEvents from accepted old now }
     ensures come { (oldest accepted : ℕ) (one : Event) (old now : List Event)
         → HasOneMore one old now → accepted < one.born → KeepsEvents oldest accepted old now }
     ensures ended { (kind : Kind) (oldest accepted : ℕ) (types : List ColumnType) (version : ℕ) (one : Event) (old now : List Event)
@@ -45,6 +47,8 @@ pub fn live_versions_see_their_referents()
     ensures unchanged { (oldest accepted : ℕ) (referents : List ReferentRecord) → KeepsReferents oldest accepted referents referents }
     ensures joined { (oldest accepted : ℕ) (old next now : List ReferentRecord)
         → KeepsReferents oldest accepted old next → KeepsReferents oldest accepted next now → KeepsReferents oldest accepted old now }
+    ensures fewer { (oldest accepted from : ℕ) (old now : List ReferentRecord)
+        → oldest ≤ from → KeepsReferents oldest accepted old now → KeepsReferents from accepted old now }
     ensures come { (oldest accepted : ℕ) (one : ReferentRecord) (old now : List ReferentRecord)
         → HasOneMore one old now → accepted < one.born → KeepsReferents oldest accepted old now }
     ensures ended { (oldest accepted version : ℕ) (one : ReferentRecord) (old now : List ReferentRecord)

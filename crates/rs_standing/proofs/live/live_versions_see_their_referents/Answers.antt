@@ -1,11 +1,16 @@
-use Rattle.rs_standing.proofs.SeenRecords.{names_kept, referent_comes, referent_ends, referents_cleared, referents_joined, referents_unchanged}
+use Rattle.rs_standing.specs.Seen.{seen_referents}
+use Rattle.rs_standing.proofs.OnRoute.{keeps_fewer, keeps_joined, keeps_same}
+use Rattle.rs_standing.proofs.SeenRecords.{names_kept, referent_comes, referent_ends, referents_cleared}
 use Rattle.rs_standing.proofs.live.live_versions_see_their_referents.Goals as goal
 
 pub returns-clause-unchanged : goal.returns-clause-unchanged
-returns-clause-unchanged c = referents_unchanged
+returns-clause-unchanged c = keeps_same seen_referents
 
 pub returns-clause-joined : goal.returns-clause-joined
-returns-clause-joined c = referents_joined
+returns-clause-joined c = keeps_joined seen_referents
+
+pub returns-clause-fewer : goal.returns-clause-fewer
+returns-clause-fewer c = keeps_fewer seen_referents
 
 pub returns-clause-come : goal.returns-clause-come
 returns-clause-come c = referent_comes
