@@ -15,10 +15,10 @@ use Rattle.rs_versioned.specs.Events.{Event, sees_event, span_of}
 use Rattle.rs_versioned.specs.Meant.{AreEventsMeant, AreReferentsMeant, HasRoute, IsPlaceOf, IsReferentMeant, IsSpanOf}
 use Rattle.rs_versioned.specs.Records.{is_seen}
 use Rattle.rs_versioned.specs.Runs.{AreRunsFrom}
-use Rattle.rs_versioned.specs.Referents.{ReferentRecord, kept_referents}
+use Rattle.rs_versioned.specs.Referents.{kept_referents}
 use Rattle.rs_versioned.specs.declared.route_span.RouteSpan.{RouteSpan}
 use Rattle.rs_standing.specs.Changed.{HasTableBetween, HaveOwnNumbers, IsUnusedFrom, TableComes, with_table}
-use Rattle.rs_standing.specs.Meant.{AreRecordsMeant, IsMeant, IsTableMeant}
+use Rattle.rs_standing.specs.Meant.{IsMeant, IsTableMeant}
 use Rattle.rs_standing.specs.Seen.{born_by, events_of, events_with, is_born, routes_at, span_of_route}
 use Rattle.rs_standing.proofs.KeptMeaning.{none_meant}
 use Rattle.rs_standing.proofs.Lists.{each_among, each_at, zip_at, zip_held, zip_less, zip_more, zip_put}

@@ -1,5 +1,5 @@
 -- What versions mean they mean where they see the same.
-use Rattle.std.proofs.Common.{◌≡◌, ◌<◌, ◌≤◌, ◌+◌, ◌==◌, ◌⊎◌, ◌∙◌, inl, inr, ℕ, true, false, List, [], ◌∷◌, map, filter, refl, sym, ap, subst, arith}
+use Rattle.std.proofs.Common.{◌≡◌, ◌<◌, ◌≤◌, ◌+◌, ◌==◌, ◌⊎◌, ◌∙◌, inl, inr, ℕ, true, false, List, [], ◌∷◌, map, refl, sym, ap, subst, arith}
 use Rattle.std.specs.Prelude.{Contains, if◌then◌else◌}
 use Rattle.std.specs.List.{AllByRecursion, AllZip}
 use Rattle.std.specs.List.Sorted.{IsPermutation}
@@ -24,7 +24,7 @@ use Rattle.rs_versioned.proofs.RunsByVersion.{runs_none}
 use Rattle.rs_standing.specs.Changed.{HaveOwnNumbers, SaysTheSame}
 use Rattle.rs_standing.specs.Live.{KeepsEvents, KeepsLive, KeepsRecords, SeesTheSame}
 use Rattle.rs_standing.specs.Meant.{AreRecordsMeant, IsMeant, IsTableMeant}
-use Rattle.rs_standing.specs.Seen.{born_by, events_of, events_with, routes_at, seen_event, seen_events, seen_referent, seen_referents, span_of_route}
+use Rattle.rs_standing.specs.Seen.{events_of, events_with, routes_at, seen_event, seen_events, seen_referent, seen_referents, span_of_route}
 use Rattle.rs_standing.proofs.Lists.{zip_among, zip_each, zip_held, zip_then}
 use Rattle.rs_standing.proofs.Named.{first_there, later_there}
 use Rattle.rs_standing.proofs.Next.{born_later, filter_alike}

@@ -1,12 +1,12 @@
 -- What is seen on one route, and what versions see of records that change after them.
-use Rattle.std.proofs.Common.{◌≡◌, ◌<◌, ◌≤◌, ◌&&◌, ◌==◌, ◌⊎◌, inl, inr, ℕ, zero, suc, Bool, true, false, cond, List, [], ◌∷◌, length, map, filter, get_or, refl, sym, ap, subst, arith}
+use Rattle.std.proofs.Common.{◌≡◌, ◌<◌, ◌≤◌, ◌&&◌, ◌==◌, inl, inr, ℕ, zero, suc, Bool, true, false, cond, List, [], ◌∷◌, length, map, filter, get_or, refl, sym, ap, subst, arith}
 use Rattle.std.proofs.lemmas.Bool.Decides.{nat_tests}
 use Rattle.std.proofs.lemmas.List.Sorted.{IsPermutation-map, IsPermutation-refl, IsPermutation-trans}
 use Rattle.std.specs.List.{Contains}
 use Rattle.std.specs.List.Sorted.{IsPermutation}
 use Rattle.rs_cell_versions.specs.declared.cell.TheConstants.{LIVING}
 use Rattle.rs_versioned.specs.Records.{HasCleared, HasEnded, HasOneMore, Kept, is_seen}
-use Rattle.rs_versioned.proofs.SeenAfter.{EndsAs, WasTwice, before_birth, before_end_or_twice, unseen_cleared}
+use Rattle.rs_versioned.proofs.SeenAfter.{EndsAs, before_birth, before_end_or_twice, unseen_cleared}
 use Rattle.rs_versioned.proofs.Shuffles.{IsPermutation-filter}
 use Rattle.rs_standing.specs.Live.{Keeps}
 use Rattle.rs_standing.proofs.Named.{first_there, later_there}

@@ -1,15 +1,13 @@
 -- Where a version sees the same, facts, runs, referents and its world are the same.
-use Rattle.std.proofs.Common.{◌≡◌, ◌≤◌, ◌==◌, ◌∙◌, ℕ, Some, List, [], ◌∷◌, map, refl, sym, ap, subst}
-use Rattle.std.specs.Prelude.{if◌then◌else◌}
+use Rattle.std.proofs.Common.{◌≡◌, ◌∙◌, ℕ, Some, List, map, refl, ap, subst}
 use Rattle.std.proofs.Math.Path.{fun_ext}
 use Rattle.std.specs.FinMap as names
-use Rattle.std.specs.List.{AllZip}
 use Rattle.rs_catalog.specs.Definitions as catalog
 use Rattle.rs_catalog.specs.Definitions.{facts_from, no_places, on_numbered, table_from}
 use Rattle.rs_catalog.specs.Names.{map_values}
 use Rattle.rs_catalog_meaning.specs.Meaning.{AreInOrder, AreMeant}
 use Rattle.rs_catalog_pages.specs.Items.{CatalogueItems, RouteItem, TableItem}
-use Rattle.rs_contents.specs.Contents.{Contents, TableContents}
+use Rattle.rs_contents.specs.Contents.{Contents}
 use Rattle.rs_facts.specs.Fact.{Facts, Name, Names, Places}
 use Rattle.rs_facts.specs.Query.{Table, World}
 use Rattle.rs_facts.specs.Runs.{Stretch}

@@ -1,19 +1,17 @@
 -- What versions see of events and referents that change, and what follows where they see the same.
-use Rattle.std.proofs.Common.{◌≡◌, ◌<◌, ◌≤◌, ℕ, List, [], ◌∷◌, length, map, filter, refl, sym, subst, arith}
-use Rattle.std.specs.Prelude.{◌≢◌, Contains}
-use Rattle.std.specs.List.{AllByRecursion}
+use Rattle.std.proofs.Common.{◌≡◌, ◌<◌, ℕ, List, [], ◌∷◌, map, filter, refl, sym, subst, arith}
+use Rattle.std.specs.Prelude.{◌≢◌}
 use Rattle.std.specs.List.Sorted.{IsPermutation}
-use Rattle.std.proofs.lemmas.List.Sorted.{IsPermutation-refl, IsPermutation-sym, IsPermutation-trans, length_permutation}
+use Rattle.std.proofs.lemmas.List.Sorted.{IsPermutation-sym, length_permutation}
 use Rattle.rs_cell_versions.specs.declared.cell.TheConstants.{LIVING}
 use Rattle.rs_facts.specs.Fact.{Name}
 use Rattle.rs_facts.specs.Runs.{Stretch}
 use Rattle.rs_facts.specs.Spans.{AreOnce}
 use Rattle.rs_machine.specs.Lawful.{AreDistinct}
-use Rattle.rs_machine.specs.declared.limits.TheConstants.{REFERENTS}
 use Rattle.rs_value.specs.declared.column.ColumnType.{ColumnType}
 use Rattle.rs_value.specs.declared.column.Kind.{Kind}
 use Rattle.rs_versioned.specs.Events.{Event, kept_events, sees_event, span_of, spans_at}
-use Rattle.rs_versioned.specs.Meant.{AreEventsMeant, AreReferentsMeant, HasRoute, IsPlaceOf, IsReferentMeant, IsSpanOf}
+use Rattle.rs_versioned.specs.Meant.{AreEventsMeant, AreReferentsMeant, HasRoute, IsReferentMeant, IsSpanOf}
 use Rattle.rs_versioned.specs.Records.{HasCleared, HasEnded, HasOneMore, is_seen}
 use Rattle.rs_versioned.specs.Referents.{ReferentRecord, kept_referents, referents_at}
 use Rattle.rs_versioned.specs.Runs.{AreRunsAt, AreRunsFrom}
