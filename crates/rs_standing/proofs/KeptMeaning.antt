@@ -29,6 +29,7 @@ use Rattle.rs_standing.proofs.Lists.{zip_among, zip_each, zip_held, zip_then}
 use Rattle.rs_standing.proofs.Named.{first_there, later_there}
 use Rattle.rs_standing.proofs.Next.{born_later, filter_alike}
 use Rattle.rs_standing.proofs.Picked.{born_all, first_too, same_numbered, table_of}
+use Rattle.rs_standing.proofs.SameWorld.{events_meant, referents_meant}
 use Rattle.rs_standing.proofs.SeenRecords.{events_alike, referents_alike}
 
 pub fewer : (oldest from : ℕ) (contents : Contents) → oldest ≤ from → IsMeant oldest contents → IsMeant from contents
@@ -189,14 +190,8 @@ nothing (t ∷ tables) = (tt, nothing tables)
 
 module _ (version : ℕ) (old now : Contents) (sees : SeesTheSame version old now) (given : HaveOwnNumbers old.definitions.tables) (gives : HaveOwnNumbers now.definitions.tables)
     (lists : AllZip (λ (item : TableItem) (table : TableContents). Unit {0}) now.definitions.tables now.tables) (meant : AreRecordsMeant version old) where
-  abbrev was : List RouteSpan
-  was = routes_at version old.definitions.routes
-
-  born_seen : routes_at version now.definitions.routes ≡ was
-  born_seen = ap (map span_of_route) sees.routes
-
   abbrev Meant : TableItem → List Event → Type 0
-  Meant item events = AreEventsMeant was (kind_of item.kind) version events
+  Meant item events = AreEventsMeant (routes_at version old.definitions.routes) (kind_of item.kind) version events
 
   abbrev MeantThen : TableItem → TableContents → Type 0
   MeantThen item table = Meant item table.events
@@ -209,17 +204,16 @@ module _ (version : ℕ) (old now : Contents) (sees : SeesTheSame version old no
             let has = table_of MeantThen MeantThen (λ table. Unit {0}) one old.definitions.tables old.tables there meant.tables meant.tables (nothing old.tables) (given one.number) in
             let same = same_numbered (λ (table : TableItem). table.number) now.definitions.tables one item (sees.tables one there) inside number (gives one.number) in
             subst (λ (t : TableItem). Meant t (events_of old t.number)) same (subst (Meant one) (sym has.events) has.one)
-        | inr none ↦ subst (Meant item) (sym (none old.tables)) (none_meant was version item)
+        | inr none ↦ subst (Meant item) (sym (none old.tables)) (none_meant (routes_at version old.definitions.routes) version item)
       ]
 
   pub records_seen : AreRecordsMeant version now
   records_seen = record {
     tables = zip_among (HasEvents now.definitions.tables now.tables) (IsTableMeant now.definitions.routes version) now.definitions.tables now.tables
         (events_zipped (λ item table. Unit {0}) now.definitions.tables now.tables lists gives)
-        (λ item table inside is. subst (λ (spans : List RouteSpan). AreEventsMeant spans (kind_of item.kind) version table.events) (sym born_seen)
-        (subst (Meant item) is (events_alike was (kind_of item.kind) version version (events_of old item.number) (events_of now item.number) (sees.events item.number) (events_then item inside))));
-    referents = subst (λ (spans : List RouteSpan). AreReferentsMeant spans version now.referents.referents) (sym born_seen)
-        (referents_alike was version version old.referents.referents now.referents.referents sees.referents meant.referents);
+        (λ item table inside is. subst (λ (events : List Event). AreEventsMeant (routes_at version now.definitions.routes) (kind_of item.kind) version events) is
+        (events_meant version old now sees (kind_of item.kind) item.number (events_then item inside)));
+    referents = referents_meant version old now sees meant.referents;
   }
 
 pub meant_after : (oldest : ℕ) (old now : Contents) → IsMeant oldest old → KeepsLive oldest old now → IsMeant now.directory.accepted now

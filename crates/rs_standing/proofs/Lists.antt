@@ -75,13 +75,6 @@ zip_at R [] x others (w ∷ ys) y more long all = absurd (omega (arith, long))
 zip_at R (v ∷ xs) x others [] y more long all = absurd (omega (arith, long))
 zip_at R (v ∷ xs) x others (w ∷ ys) y more long all = zip_at R xs x others ys y more (omega (arith, long)) all.1
 
-pub zip_put : {X Y : Type 0} (R : X → Y → Type 0) (xs : List X) (x : X) (others : List X) (ys : List Y) (y z : Y) (more : List Y) → length xs ≡ length ys
-    → AllZip R (xs ++ x ∷ others) (ys ++ y ∷ more) → R x z → AllZip R (xs ++ x ∷ others) (ys ++ z ∷ more)
-zip_put R [] x others [] y z more long all is = (is, all.1)
-zip_put R [] x others (w ∷ ys) y z more long all is = absurd (omega (arith, long))
-zip_put R (v ∷ xs) x others [] y z more long all is = absurd (omega (arith, long))
-zip_put R (v ∷ xs) x others (w ∷ ys) y z more long all is = (all.0, zip_put R xs x others ys y z more (omega (arith, long)) all.1 is)
-
 pub zip_more : {X Y : Type 0} (R : X → Y → Type 0) (xs : List X) (x : X) (others : List X) (ys : List Y) (y : Y) (more : List Y) → length xs ≡ length ys
     → AllZip R (xs ++ others) (ys ++ more) → R x y → AllZip R (xs ++ x ∷ others) (ys ++ y ∷ more)
 zip_more R [] x others [] y more long all is = (is, all)
@@ -95,3 +88,8 @@ zip_less R [] x others [] y more long all = all.1
 zip_less R [] x others (w ∷ ys) y more long all = absurd (omega (arith, long))
 zip_less R (v ∷ xs) x others [] y more long all = absurd (omega (arith, long))
 zip_less R (v ∷ xs) x others (w ∷ ys) y more long all = (all.0, zip_less R xs x others ys y more (omega (arith, long)) all.1)
+
+-- another in place of the one between
+pub zip_put : {X Y : Type 0} (R : X → Y → Type 0) (xs : List X) (x : X) (others : List X) (ys : List Y) (y z : Y) (more : List Y) → length xs ≡ length ys
+    → AllZip R (xs ++ x ∷ others) (ys ++ y ∷ more) → R x z → AllZip R (xs ++ x ∷ others) (ys ++ z ∷ more)
+zip_put R xs x others ys y z more long all is = zip_more R xs x others ys z more long (zip_less R xs x others ys y more long all) is

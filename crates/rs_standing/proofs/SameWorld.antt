@@ -1,5 +1,5 @@
 -- Where a version sees the same, facts, runs, referents and its world are the same.
-use Rattle.std.proofs.Common.{◌≡◌, ◌∙◌, ℕ, Some, List, map, refl, ap, subst}
+use Rattle.std.proofs.Common.{◌≡◌, ◌∙◌, ℕ, Some, List, map, refl, sym, ap, subst}
 use Rattle.std.proofs.Math.Path.{fun_ext}
 use Rattle.std.specs.FinMap as names
 use Rattle.rs_catalog.specs.Definitions as catalog
@@ -16,16 +16,17 @@ use Rattle.rs_facts.proofs.SpanLaws.{places_of-permutation}
 use Rattle.rs_value.specs.declared.column.Kind.{Kind}
 use Rattle.rs_versioned.specs.Events.{Event, spans_at}
 use Rattle.rs_versioned.specs.Referents.{ReferentRecord, referents_at}
-use Rattle.rs_versioned.specs.Runs.{AreRunsAt}
+use Rattle.rs_versioned.specs.Meant.{AreEventsMeant, AreReferentsMeant}
+use Rattle.rs_versioned.specs.declared.route_span.RouteSpan.{RouteSpan}
+use Rattle.rs_machine.specs.Lawful.{AreDistinct}
 use Rattle.rs_standing.specs.Changed.{SaysTheSame}
 use Rattle.rs_standing.specs.Live.{HasTheSameWorld, SeesTheSame}
-use Rattle.rs_standing.specs.Meant.{AreRecordsMeant}
-use Rattle.rs_standing.specs.Seen.{born_by, events_of, events_with, referents_seen, spans_seen}
+use Rattle.rs_standing.specs.Seen.{born_by, events_of, events_with, referents_seen, routes_at, span_of_route, spans_seen}
 use Rattle.rs_standing.specs.States.{named_table, routes_named, tables_named, world_at}
 use Rattle.rs_standing.proofs.KeptLive.{events_beside}
 use Rattle.rs_standing.proofs.Named.{get_there, item_of, values_changed}
 use Rattle.rs_standing.proofs.SameNames.{entries_moved}
-use Rattle.rs_standing.proofs.SeenRecords.{marks_alike, runs_alike, spans_alike}
+use Rattle.rs_standing.proofs.SeenRecords.{events_alike, marks_alike, referents_alike, spans_alike}
 
 -- ---- contents that say the same
 
@@ -64,13 +65,25 @@ module _ (version : ℕ) (old now : Contents) (sees : SeesTheSame version old no
       places_of-permutation (spans_seen now version table route) (spans_seen old version table route)
       (spans_alike version version route (events_of old table) (events_of now table) (sees.events table))
 
-  pub runs_seen : (kind : Kind) (table route : ℕ) → AreRunsAt kind version route (events_of old table) → AreRunsAt kind version route (events_of now table)
-  runs_seen kind table route = runs_alike kind version version route (events_of old table) (events_of now table) (sees.events table)
+  routes_seen : routes_at version now.definitions.routes ≡ routes_at version old.definitions.routes
+  routes_seen = ap (map span_of_route) sees.routes
 
-  pub names_seen : (route : ℕ) → AreRecordsMeant version old → referents_seen now version route ≡ referents_seen old version route
-  names_seen route meant =
+  pub events_meant : (kind : Kind) (table : ℕ) → AreEventsMeant (routes_at version old.definitions.routes) kind version (events_of old table)
+      → AreEventsMeant (routes_at version now.definitions.routes) kind version (events_of now table)
+  events_meant kind table meant =
+      subst (λ (spans : List RouteSpan). AreEventsMeant spans kind version (events_of now table)) (sym routes_seen)
+      (events_alike (routes_at version old.definitions.routes) kind version version (events_of old table) (events_of now table) (sees.events table) meant)
+
+  pub referents_meant : AreReferentsMeant (routes_at version old.definitions.routes) version old.referents.referents
+      → AreReferentsMeant (routes_at version now.definitions.routes) version now.referents.referents
+  referents_meant meant =
+      subst (λ (spans : List RouteSpan). AreReferentsMeant spans version now.referents.referents) (sym routes_seen)
+      (referents_alike (routes_at version old.definitions.routes) version version old.referents.referents now.referents.referents sees.referents meant)
+
+  pub names_seen : (route : ℕ) → AreDistinct (map (λ one. one.0) (referents_at version route old.referents.referents)) → referents_seen now version route ≡ referents_seen old version route
+  names_seen route once =
       entries_moved (referents_at version route old.referents.referents) (referents_at version route now.referents.referents)
-      (marks_alike version version route old.referents.referents now.referents.referents sees.referents) (meant.referents.once route)
+      (marks_alike version version route old.referents.referents now.referents.referents sees.referents) once
 
   facts_by : (routes : Names catalog.RouteItem) (one other : ℕ → List Stretch) → ((route : ℕ) → places_of (one route) ≡ places_of (other route)) → facts_from routes one ≡ facts_from routes other
   unfolding facts_from

@@ -3,24 +3,25 @@
 //! Each change of records is one that a call of `rs_versioned` states. Changes join, so a command keeps what live versions see
 //! where each of its changes does.
 
-ghost use Rattle.std.specs.Prelude.{◌≡◌, ◌≤◌, ◌<◌, ◌++◌, ◌∷◌, ℕ, List};
+ghost use Rattle.std.specs.Prelude.{◌≡◌, ◌≤◌, ◌<◌, ◌++◌, ◌∷◌, ℕ, List, map};
 ghost use Rattle.rs_catalog_meaning.specs.Meaning.{AreMeant};
 ghost use Rattle.rs_catalog_pages.specs.Directory.{DirectoryItems};
 ghost use Rattle.rs_catalog_pages.specs.Items.{CatalogueItems, TableItem};
 ghost use Rattle.rs_cell_versions.specs.declared.cell.TheConstants.{LIVING};
 ghost use Rattle.rs_contents.specs.Contents.{Contents, ReferentContents, TableContents};
 ghost use Rattle.rs_facts.specs.Spans.{places_of};
+ghost use Rattle.rs_machine.specs.Lawful.{AreDistinct};
 ghost use Rattle.rs_standing.specs.Changed.{HasTableBetween, HaveOwnNumbers, RoutesComeAfter, TableComes, with_table};
 ghost use Rattle.rs_standing.specs.Live.{HasTheSameWorld, HaveOwnNames, KeepsEvents, KeepsLive, KeepsRecords, KeepsReferents, SeesTheSame};
-ghost use Rattle.rs_standing.specs.Meant.{AreRecordsMeant};
-ghost use Rattle.rs_standing.specs.Seen.{events_of, referents_seen, spans_seen};
+ghost use Rattle.rs_standing.specs.Seen.{events_of, referents_seen, routes_at, spans_seen};
 ghost use Rattle.rs_standing.specs.States.{world_at};
 ghost use Rattle.rs_value.specs.declared.column.ColumnType.{ColumnType};
 ghost use Rattle.rs_value.specs.declared.column.Kind.{Kind};
 ghost use Rattle.rs_versioned.specs.Events.{Event, kept_events};
 ghost use Rattle.rs_versioned.specs.Records.{HasCleared, HasEnded, HasOneMore};
-ghost use Rattle.rs_versioned.specs.Referents.{ReferentRecord, kept_referents};
-ghost use Rattle.rs_versioned.specs.Runs.{AreRunsAt, AreRunsFrom};
+ghost use Rattle.rs_versioned.specs.Meant.{AreEventsMeant, AreReferentsMeant};
+ghost use Rattle.rs_versioned.specs.Referents.{ReferentRecord, kept_referents, referents_at};
+ghost use Rattle.rs_versioned.specs.Runs.{AreRunsFrom};
 
 /// Live versions see the events that they saw where one comes that is born after them, where a living one ends after them, and where
 /// events are cleared that none of them sees; so they do after several such changes. Where they had their runs, they have them still.
@@ -91,17 +92,22 @@ pub fn live_versions_see_the_same_beside_new_definitions()
         → KeepsLive oldest contents (record contents { definitions = definitions; tables = before ++ table ∷ after }) }
 {}
 
-/// A version that sees what it saw has the same facts of each table on each route, its runs where it had them, the same referents,
-/// and the same world: all of it where the tables are those that were there, else each table that was there.
+/// A version that sees what it saw has the same facts of each table on each route, the same referents under their names, and the same
+/// world: all of it where the tables are those that were there, else each table that was there. Its records mean what they meant.
 pub fn version_that_sees_the_same_has_the_same_world()
     ensures unchanged { (version : ℕ) (contents : Contents) → SeesTheSame version contents contents }
     ensures joined { (version : ℕ) (old next now : Contents)
         → SeesTheSame version old next → SeesTheSame version next now → SeesTheSame version old now }
     ensures facts { (version table route : ℕ) (old now : Contents) → SeesTheSame version old now
         → places_of (spans_seen now version table route) ≡ places_of (spans_seen old version table route) }
-    ensures runs { (kind : Kind) (version table route : ℕ) (old now : Contents) → SeesTheSame version old now
-        → AreRunsAt kind version route (events_of old table) → AreRunsAt kind version route (events_of now table) }
-    ensures referents { (version route : ℕ) (old now : Contents) → SeesTheSame version old now → AreRecordsMeant version old
+    ensures events { (kind : Kind) (version table : ℕ) (old now : Contents) → SeesTheSame version old now
+        → AreEventsMeant (routes_at version old.definitions.routes) kind version (events_of old table)
+        → AreEventsMeant (routes_at version now.definitions.routes) kind version (events_of now table) }
+    ensures referents { (version : ℕ) (old now : Contents) → SeesTheSame version old now
+        → AreReferentsMeant (routes_at version old.definitions.routes) version old.referents.referents
+        → AreReferentsMeant (routes_at version now.definitions.routes) version now.referents.referents }
+    ensures names { (version route : ℕ) (old now : Contents) → SeesTheSame version old now
+        → AreDistinct (map (λ one. one.0) (referents_at version route old.referents.referents))
         → referents_seen now version route ≡ referents_seen old version route }
     ensures world { (version : ℕ) (old now : Contents) → SeesTheSame version old now → now.definitions.tables ≡ old.definitions.tables
         → world_at now version ≡ world_at old version }
