@@ -7,6 +7,7 @@ use Rattle.std.proofs.lemmas.List.Elements.{All-contains_itself, recursion_from_
 use Rattle.std.proofs.lemmas.List.{get_or_at, length-append}
 use Rattle.rs_catalog_meaning.specs.Meaning.{AreMeant}
 use Rattle.rs_catalog_meaning.specs.Stating.{kind_of}
+use Rattle.rs_catalog_pages.specs.Directory.{DirectoryItems}
 use Rattle.rs_catalog_pages.specs.Items.{CatalogueItems, RouteItem, TableItem}
 use Rattle.rs_catalog_pages.proofs.Counting.{times-cons}
 use Rattle.rs_contents.specs.Contents.{Contents, ReferentContents, TableContents}
@@ -51,6 +52,10 @@ module _ (oldest : ℕ) (contents : Contents) (item : TableItem) (before : List 
       referents = (meant.records version low high).referents;
     };
   }
+
+pub still_between : (contents : Contents) (item : TableItem) (before : List TableContents) (table now : TableContents) (after : List TableContents) (directory : DirectoryItems)
+    → HasTableBetween contents item before table after → HasTableBetween (record (with_table contents before now after) { directory = directory }) item before now after
+still_between contents item before table now after directory has = record { first = has.first; last = has.last; items = has.items; long = has.long; tables = refl }
 
 abbrev number_of : TableItem → ℕ
 number_of table = table.number

@@ -8,7 +8,7 @@ use Rattle.rs_cell_versions.specs.declared.cell.TheConstants.{LIVING}
 use Rattle.rs_versioned.specs.Records.{HasCleared, HasEnded, HasOneMore, Kept, is_seen}
 use Rattle.rs_versioned.proofs.SeenAfter.{EndsAs, before_birth, before_end_or_twice, unseen_cleared}
 use Rattle.rs_versioned.proofs.Shuffles.{IsPermutation-filter}
-use Rattle.rs_standing.specs.Live.{Keeps}
+use Rattle.rs_standing.specs.Live.{KeepsShown}
 use Rattle.rs_standing.proofs.Named.{first_there, later_there}
 
 same_number : (n : ℕ) → (n == n) ≡ true
@@ -72,7 +72,7 @@ module _ {R Y : Type 0} (kept : Kept R) (route_of : R → ℕ) (show : R → Y) 
 
   module _ (ends : EndsAs kept (λ one. 0) look) (oldest accepted : ℕ) where
     abbrev Stays : List R → List R → Type 0
-    Stays = Keeps seen oldest accepted
+    Stays = KeepsShown seen oldest accepted
 
     pub keeps_come : (one : R) (old now : List R) → HasOneMore one old now → accepted < kept.born one → Stays old now
     keeps_come one old now more late = record { each = λ version low high. before_birth kept (λ one. 0) look version 0 one old now more (omega (arith, high, late)) }
@@ -99,13 +99,13 @@ module _ {R Y : Type 0} (kept : Kept R) (route_of : R → ℕ) (show : R → Y) 
 -- ---- whatever is shown
 
 module _ {R Y : Type 0} (shown : ℕ → List R → List Y) (oldest accepted : ℕ) where
-  pub keeps_same : (records : List R) → Keeps shown oldest accepted records records
+  pub keeps_same : (records : List R) → KeepsShown shown oldest accepted records records
   keeps_same records = record { each = λ version low high. IsPermutation-refl (shown version records) }
 
-  pub keeps_joined : (old next now : List R) → Keeps shown oldest accepted old next → Keeps shown oldest accepted next now → Keeps shown oldest accepted old now
+  pub keeps_joined : (old next now : List R) → KeepsShown shown oldest accepted old next → KeepsShown shown oldest accepted next now → KeepsShown shown oldest accepted old now
   keeps_joined old next now first last = record {
     each = λ version low high. IsPermutation-trans (shown version now) (shown version next) (shown version old) (last.each version low high) (first.each version low high);
   }
 
-  pub keeps_fewer : (from : ℕ) (old now : List R) → oldest ≤ from → Keeps shown oldest accepted old now → Keeps shown from accepted old now
+  pub keeps_fewer : (from : ℕ) (old now : List R) → oldest ≤ from → KeepsShown shown oldest accepted old now → KeepsShown shown from accepted old now
   keeps_fewer from old now later keeps = record { each = λ version low high. keeps.each version (omega (arith, later, low)) high }

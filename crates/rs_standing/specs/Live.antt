@@ -15,14 +15,14 @@ use Rattle.rs_standing.specs.States.{world_at}
 -- ---- records
 
 -- each version from the oldest up to the one that was accepted last is shown what it was shown, in whatever order
-pub record Keeps {R Y : Type 0} (shown : ℕ → List R → List Y) (oldest accepted : ℕ) (old now : List R) : Type 0 where
+pub record KeepsShown {R Y : Type 0} (shown : ℕ → List R → List Y) (oldest accepted : ℕ) (old now : List R) : Type 0 where
   pub each : (version : ℕ) → oldest ≤ version → version ≤ accepted → IsPermutation (shown version now) (shown version old)
 
 abbrev pub KeepsEvents : (oldest accepted : ℕ) → List Event → List Event → Type 0
-KeepsEvents = Keeps seen_events
+KeepsEvents = KeepsShown seen_events
 
 abbrev pub KeepsReferents : (oldest accepted : ℕ) → List ReferentRecord → List ReferentRecord → Type 0
-KeepsReferents = Keeps seen_referents
+KeepsReferents = KeepsShown seen_referents
 
 -- in each version from the oldest up to the one that was accepted last, the referents of a route have names of their own
 pub record HaveOwnNames (oldest accepted : ℕ) (referents : List ReferentRecord) : Type 0 where
@@ -30,9 +30,8 @@ pub record HaveOwnNames (oldest accepted : ℕ) (referents : List ReferentRecord
 
 -- ---- contents
 
--- The version sees what it saw: its routes, and in whatever order the events of each table, by the table's number,
--- and the referents. Each table that was
--- there is there.
+-- The version sees what it saw: its routes, and in whatever order the events of each table, by the table's number, and the
+-- referents. Each table that was there is there.
 pub record SeesTheSame (version : ℕ) (old now : Contents) : Type 0 where
   pub routes : born_by version now.definitions.routes ≡ born_by version old.definitions.routes
   pub tables : (item : TableItem) → Contains old.definitions.tables item → Contains now.definitions.tables item

@@ -1,6 +1,7 @@
 //! These laws say what stays meant where one part of a file's contents changes, or fewer versions are looked at.
 
 ghost use Rattle.std.specs.Prelude.{◌≡◌, ◌≤◌, ◌⊎◌, ◌++◌, ◌∷◌, ℕ, Contains, List};
+ghost use Rattle.rs_catalog_pages.specs.Directory.{DirectoryItems};
 ghost use Rattle.rs_catalog_pages.specs.Items.{CatalogueItems, RouteItem, TableItem};
 ghost use Rattle.rs_catalog_meaning.specs.Meaning.{AreMeant};
 ghost use Rattle.rs_catalog_meaning.specs.Stating.{kind_of};
@@ -31,6 +32,9 @@ pub fn changed_table_leaves_the_others_meant()
         → HasTableBetween contents item before table after → IsMeant oldest contents
         → ((version : ℕ) → oldest ≤ version → version ≤ contents.directory.accepted → IsTableMeant contents.definitions.routes version item now)
         → IsMeant oldest (with_table contents before now after) }
+    ensures between { (contents : Contents) (item : TableItem) (before : List TableContents) (table now : TableContents) (after : List TableContents) (directory : DirectoryItems)
+        → HasTableBetween contents item before table after
+        → HasTableBetween (record (with_table contents before now after) { directory = directory }) item before now after }
     ensures was { (contents : Contents) (item : TableItem) (before : List TableContents) (table : TableContents) (after : List TableContents)
         → HasTableBetween contents item before table after → HaveOwnNumbers contents.definitions.tables
         → events_of contents item.number ≡ table.events }
