@@ -10,7 +10,6 @@ mod One
 mod Lawful
 mod Kept
 mod Fresh
-mod Worlds
 mod Next
 mod KeptMeaning
 mod Changed

@@ -3,7 +3,7 @@ use Rattle.std.proofs.Common.{◌≡◌, ◌∙◌, ℕ, Some, List, map, refl, 
 use Rattle.std.proofs.Math.Path.{fun_ext}
 use Rattle.std.specs.FinMap as names
 use Rattle.rs_catalog.specs.Definitions as catalog
-use Rattle.rs_catalog.specs.Definitions.{facts_from, no_places, on_numbered, table_from}
+use Rattle.rs_catalog.specs.Definitions.{facts_from, no_places, on_numbered, table_from, tables_from}
 use Rattle.rs_catalog.specs.Names.{map_values}
 use Rattle.rs_catalog_meaning.specs.Meaning.{AreInOrder, AreMeant}
 use Rattle.rs_catalog_pages.specs.Items.{CatalogueItems, RouteItem, TableItem}
@@ -19,10 +19,11 @@ use Rattle.rs_versioned.specs.Referents.{ReferentRecord, referents_at}
 use Rattle.rs_versioned.specs.Meant.{AreEventsMeant, AreReferentsMeant}
 use Rattle.rs_versioned.specs.declared.route_span.RouteSpan.{RouteSpan}
 use Rattle.rs_machine.specs.Lawful.{AreDistinct}
+use Rattle.rs_machine.specs.State.{State, world_of}
 use Rattle.rs_standing.specs.Changed.{SaysTheSame}
 use Rattle.rs_standing.specs.Live.{HasTheSameWorld, SeesTheSame}
 use Rattle.rs_standing.specs.Seen.{born_by, events_of, events_with, referents_seen, routes_at, span_of_route, spans_seen}
-use Rattle.rs_standing.specs.States.{named_table, routes_named, tables_named, world_at}
+use Rattle.rs_standing.specs.States.{IsStateAt, named_table, routes_named, tables_named, world_at}
 use Rattle.rs_standing.proofs.KeptLive.{events_beside}
 use Rattle.rs_standing.proofs.Named.{get_there, item_of, values_changed}
 use Rattle.rs_standing.proofs.SameNames.{entries_moved}
@@ -43,19 +44,25 @@ pub same_referents : (one other : Contents) → SaysTheSame one other → (versi
 same_referents one other same version =
     ap (λ (referents : List ReferentRecord). λ (route : ℕ). names.from_entries (referents_at version route referents)) same.referents
 
--- the world of these routes and tables, with these facts of each table
-world_by : List RouteItem → List TableItem → (catalog.TableItem → Table) → World
-world_by routes tables see = record {
-  routes = map_values (λ (item : catalog.RouteItem). item.ends) (routes_named routes);
-  tables = map_values see (tables_named tables);
-}
+-- the world of these routes and tables, as the tables are seen
+world_by : Names catalog.RouteItem → Names catalog.TableItem → (catalog.TableItem → Table) → World
+world_by routes tables see = record { routes = map_values (λ (item : catalog.RouteItem). item.ends) routes; tables = map_values see tables }
 
 pub same_world : (version : ℕ) (one other : Contents) → SaysTheSame one other → world_at one version ≡ world_at other version
 unfolding world_by
 same_world version one other same =
-    ap (λ (d : CatalogueItems). world_by (born_by version d.routes) d.tables (table_from (routes_named (born_by version d.routes)) (spans_seen one version))) same.definitions
-    ∙ ap (λ (spans : ℕ → ℕ → List Stretch). world_by (born_by version other.definitions.routes) other.definitions.tables (table_from (routes_named (born_by version other.definitions.routes)) spans))
+    ap (λ (d : CatalogueItems). let routes = routes_named (born_by version d.routes) in world_by routes (tables_named d.tables) (table_from routes (spans_seen one version))) same.definitions
+    ∙ ap (λ (spans : ℕ → ℕ → List Stretch). let routes = routes_named (born_by version other.definitions.routes) in world_by routes (tables_named other.definitions.tables) (table_from routes spans))
     (same_spans one other same version)
+
+-- the world of a state is that of its version
+pub world_is : (version : ℕ) (contents : Contents) (state : State) → IsStateAt version contents state → world_of state ≡ world_at contents version
+unfolding world_by tables_from
+world_is version contents state is =
+    let kept = routes_named (born_by version contents.definitions.routes) in
+    ap world_of is.is
+    ∙ ap (λ (routes : Names catalog.RouteItem). world_by routes is.definitions.tables (table_from routes (spans_seen contents version))) is.are.routes
+    ∙ ap (λ (tables : Names catalog.TableItem). world_by kept tables (table_from kept (spans_seen contents version))) is.are.tables
 
 -- ---- what a version sees
 
@@ -89,31 +96,34 @@ module _ (version : ℕ) (old now : Contents) (sees : SeesTheSame version old no
   unfolding facts_from
   facts_by routes one other same = fun_ext (λ route. ap (λ (places : ℕ → Places). on_numbered no_places places (names.get routes route)) (fun_ext same))
 
-  -- a table of the routes that were there, as it is seen in these contents
+  abbrev routes : Names catalog.RouteItem
+  routes = routes_named (born_by version old.definitions.routes)
+
+  -- a table on the routes that were there, as it is seen in these contents
   seen_in : Contents → catalog.TableItem → Table
-  seen_in contents = table_from (routes_named (born_by version old.definitions.routes)) (spans_seen contents version)
+  seen_in contents = table_from routes (spans_seen contents version)
 
   tables_seen : seen_in now ≡ seen_in old
   unfolding seen_in
   tables_seen = fun_ext (λ (item : catalog.TableItem). ap (λ (facts : Facts). record { kind = item.kind; columns = item.columns; facts = facts })
-      (facts_by (routes_named (born_by version old.definitions.routes)) (spans_seen now version item.number) (spans_seen old version item.number) (facts_seen item.number)))
+      (facts_by routes (spans_seen now version item.number) (spans_seen old version item.number) (facts_seen item.number)))
 
   -- the world now, by the routes that were there
-  world_now : world_at now version ≡ world_by (born_by version old.definitions.routes) now.definitions.tables (seen_in old)
+  world_now : world_at now version ≡ world_by routes (tables_named now.definitions.tables) (seen_in old)
   unfolding world_by seen_in
   world_now =
-      ap (λ (routes : List RouteItem). world_by routes now.definitions.tables (table_from (routes_named routes) (spans_seen now version))) sees.routes
-      ∙ ap (world_by (born_by version old.definitions.routes) now.definitions.tables) tables_seen
+      ap (λ (born : List RouteItem). world_by (routes_named born) (tables_named now.definitions.tables) (table_from (routes_named born) (spans_seen now version))) sees.routes
+      ∙ ap (world_by routes (tables_named now.definitions.tables)) tables_seen
 
   pub world_seen : now.definitions.tables ≡ old.definitions.tables → world_at now version ≡ world_at old version
   unfolding world_by seen_in
-  world_seen tables = world_now ∙ ap (λ (items : List TableItem). world_by (born_by version old.definitions.routes) items (seen_in old)) tables
+  world_seen tables = world_now ∙ ap (λ (items : List TableItem). world_by routes (tables_named items) (seen_in old)) tables
 
   full : TableItem → Table
   full table = seen_in old (named_table table).1
 
   tables_full : (items : List TableItem) → AreInOrder (λ (table : TableItem). table.name) items
-      → (world_by (born_by version old.definitions.routes) items (seen_in old)).tables ≡ names.from_sorted (map (λ (table : TableItem). (table.name, full table)) items)
+      → (world_by routes (tables_named items) (seen_in old)).tables ≡ names.from_sorted (map (λ (table : TableItem). (table.name, full table)) items)
   unfolding full world_by
   tables_full items order = values_changed (λ (table : TableItem). table.name) (λ table. (named_table table).1) (seen_in old) items order
 
