@@ -1,107 +1,61 @@
 -- What stays meant, and what is seen, where one part of a file's contents changes.
-use Rattle.std.proofs.Common.{◌≡◌, ◌<◌, ◌≤◌, ◌==◌, ℕ, true, false, List, [], ◌∷◌, ◌++◌, length, map, filter, refl, sym, ap, subst, ◌∙◌, inl, inr, arith}
-use Rattle.std.specs.Prelude.{if◌then◌else◌}
+use Rattle.std.proofs.Common.{◌≡◌, ◌≢◌, ◌≤◌, ◌==◌, ◌⊎◌, ◌∙◌, inl, inr, ℕ, true, false, List, [], ◌∷◌, ◌++◌, length, map, filter, refl, sym, ap, subst, arith}
+use Rattle.std.specs.Prelude.{Contains, if◌then◌else◌}
 use Rattle.std.specs.List.{AllByRecursion, AllZip}
-use Rattle.std.proofs.lemmas.Bool.{cases_lt, eqb-false, eqb-true}
+use Rattle.std.proofs.lemmas.Bool.{eqb-false, eqb-true}
+use Rattle.std.proofs.lemmas.List.Elements.{All-contains_itself, recursion_from_All}
 use Rattle.std.proofs.lemmas.List.{get_or_at, length-append}
+use Rattle.rs_catalog_meaning.specs.Meaning.{AreMeant}
 use Rattle.rs_catalog_meaning.specs.Stating.{kind_of}
-use Rattle.rs_catalog_pages.specs.Items.{RouteItem, TableItem}
+use Rattle.rs_catalog_pages.specs.Directory.{DirectoryItems}
+use Rattle.rs_catalog_pages.specs.Items.{CatalogueItems, RouteItem, TableItem}
 use Rattle.rs_catalog_pages.proofs.Counting.{times-cons}
-use Rattle.rs_cell_versions.specs.declared.cell.TheConstants.{LIVING}
-use Rattle.rs_contents.specs.Contents.{Contents, HoldsAll, LiesTable, ReferentContents, TableContents, table_numbers}
-use Rattle.rs_machine.specs.declared.limits.TheConstants.{REFERENTS}
-use Rattle.rs_machine.specs.Lawful.{AreDistinct}
+use Rattle.rs_contents.specs.Contents.{Contents, ReferentContents, TableContents}
 use Rattle.rs_page_owners.specs.Counts.{times}
-use Rattle.rs_pages.specs.PageMap.{PageMap}
-use Rattle.rs_versioned.specs.Events.{Event, kept_events, sees_event}
+use Rattle.rs_versioned.specs.Events.{Event, sees_event, span_of}
+use Rattle.rs_versioned.specs.Meant.{AreEventsMeant, AreReferentsMeant, HasRoute, IsPlaceOf, IsReferentMeant, IsSpanOf}
 use Rattle.rs_versioned.specs.Records.{is_seen}
-use Rattle.rs_versioned.specs.Referents.{ReferentRecord, is_referent_of, kept_referents, referents_at}
-use Rattle.rs_versioned.proofs.KeptRecords.{events_are_kept}
-use Rattle.rs_versioned.proofs.KeptReferents.{referents_are_kept}
-use Rattle.rs_versioned.proofs.Present.{held_level}
-use Rattle.rs_versioned.proofs.RunsByVersion.{runs_level}
-use Rattle.rs_standing.specs.Changed.{HasTableBetween, with_table}
-use Rattle.rs_standing.specs.Meant.{AreReferentsMeant, IsEventOn, IsMeant, IsReferentOn, IsTableMeant, LieOnRoutes}
-use Rattle.rs_standing.specs.Seen.{born_by, events_of, events_with}
-use Rattle.rs_standing.proofs.Lists.{zip_held}
-use Rattle.rs_standing.proofs.Next.{born_later, filter_alike, on_alike}
-use Rattle.rs_standing.proofs.Picked.{born_all, first_too}
-
--- ---- a version without changes
-
-module _ (pages : PageMap) (contents : Contents) (oldest version : ℕ) (holds : HoldsAll pages contents) (meant : IsMeant oldest contents) (from : oldest ≤ contents.directory.accepted)
-    (later : contents.directory.accepted ≤ version) (below : version < LIVING) where
-  abbrev accepted : ℕ
-  accepted = contents.directory.accepted
-
-  abbrev routes : List RouteItem
-  routes = contents.definitions.routes
-
-  -- later versions see the same routes
-  born_same : (at : ℕ) → accepted ≤ at → born_by accepted routes ≡ born_by at routes
-  born_same at past = born_all accepted routes holds.routes ∙ sym (born_all at routes (born_later accepted at past routes holds.routes))
-
-  lie_next : (item : TableItem) (table : TableContents) → LiesTable pages accepted table → LieOnRoutes routes (kind_of item.kind) accepted table.events
-      → (at : ℕ) → accepted ≤ at → at ≤ version → LieOnRoutes routes (kind_of item.kind) at table.events
-  lie_next item table lies lie at past upto =
-      let level = held_level (kept_events table.types) (events_are_kept table.types) pages table.standing accepted at table.events table.used lies.records past (omega (arith, upto, below)) in
-      subst (λ (events : List Event). AllByRecursion (IsEventOn (born_by at routes) (kind_of item.kind)) events) (sym (filter_alike (sees_event at) (sees_event accepted) table.events level))
-      (subst (λ (born : List RouteItem). AllByRecursion (IsEventOn born (kind_of item.kind)) (filter (sees_event accepted) table.events)) (born_same at past) lie)
-
-  table_next : (item : TableItem) (table : TableContents) → IsTableMeant routes oldest accepted item table → LiesTable pages accepted table → IsTableMeant routes oldest version item table
-  table_next item table is lies = record {
-    runs = runs_level table.types pages table.standing accepted table.events table.used lies.records (kind_of item.kind) oldest version is.runs from below;
-    lie = λ at low high. elim (cases_lt accepted at) [
-      | inl past ↦ lie_next item table lies (is.lie accepted from (omega arith)) at (omega (arith, past)) high
-      | inr upto ↦ is.lie at low upto
-    ];
-  }
-
-  referents_next : (at : ℕ) → accepted ≤ at → at ≤ version → AreReferentsMeant routes at contents.referents.referents
-  referents_next at past upto =
-      let all = contents.referents.referents in
-      let is = meant.referents accepted from (omega arith) in
-      let level = held_level kept_referents referents_are_kept pages contents.referents.standing accepted at all contents.referents.used holds.parts.referents past (omega (arith, upto, below)) in
-      let on : (route : ℕ) → referents_at at route all ≡ referents_at accepted route all =
-      λ route. ap (λ (referents : List ReferentRecord). map (λ one. (one.name, one.measure)) referents) (filter_alike (is_referent_of at route) (is_referent_of accepted route) all (on_alike accepted at route all level)) in
-      record {
-        each = subst (λ (referents : List ReferentRecord). AllByRecursion (IsReferentOn (born_by at routes)) referents) (sym (filter_alike (is_seen kept_referents at) (is_seen kept_referents accepted) all level))
-            (subst (λ (born : List RouteItem). AllByRecursion (IsReferentOn born) (filter (is_seen kept_referents accepted) all)) (born_same at past) is.each);
-        once = λ route. subst (λ (marks : List (List ℕ × ℕ)). AreDistinct (map (λ one. one.0) marks)) (sym (on route)) (is.once route);
-        few = λ route. subst (λ (marks : List (List ℕ × ℕ)). length marks ≤ REFERENTS) (sym (on route)) (is.few route);
-      }
-
-  pub meant_next : IsMeant oldest (record contents { directory = record contents.directory { accepted = version } })
-  meant_next = record {
-    definitions = meant.definitions;
-    tables = zip_held (IsTableMeant routes oldest accepted) (IsTableMeant routes oldest version) (LiesTable pages accepted) contents.definitions.tables contents.tables meant.tables holds.parts.tables table_next;
-    referents = λ at low high. elim (cases_lt accepted at) [
-      | inl past ↦ referents_next at (omega (arith, past)) high
-      | inr upto ↦ meant.referents at low upto
-    ];
-  }
+use Rattle.rs_versioned.specs.Runs.{AreRunsFrom}
+use Rattle.rs_versioned.specs.Referents.{kept_referents}
+use Rattle.rs_versioned.specs.declared.route_span.RouteSpan.{RouteSpan}
+use Rattle.rs_standing.specs.Changed.{HasTableBetween, HaveOwnNumbers, IsUnusedFrom, TableComes, with_table}
+use Rattle.rs_standing.specs.Meant.{IsMeant, IsTableMeant}
+use Rattle.rs_standing.specs.Seen.{born_by, events_of, events_with, is_born, routes_at, span_of_route}
+use Rattle.rs_standing.proofs.KeptMeaning.{none_meant}
+use Rattle.rs_standing.proofs.Lists.{each_among, each_at, zip_at, zip_held, zip_less, zip_more, zip_put}
+use Rattle.rs_standing.proofs.Picked.{first_too, kept_in, kept_passes, kept_there, shown_there, source_of}
 
 -- ---- one table
 
-zip_put : {X Y : Type 0} (R : X → Y → Type 0) (xs : List X) (x : X) (others : List X) (ys : List Y) (y z : Y) (more : List Y) → length xs ≡ length ys
-    → AllZip R (xs ++ x ∷ others) (ys ++ y ∷ more) → R x z → AllZip R (xs ++ x ∷ others) (ys ++ z ∷ more)
-zip_put R [] x others [] y z more long all is = (is, all.1)
-zip_put R [] x others (w ∷ ys) y z more long all is = absurd (omega (arith, long))
-zip_put R (v ∷ xs) x others [] y z more long all is = absurd (omega (arith, long))
-zip_put R (v ∷ xs) x others (w ∷ ys) y z more long all is = (all.0, zip_put R xs x others ys y z more (omega (arith, long)) all.1 is)
+module _ (oldest : ℕ) (contents : Contents) (item : TableItem) (before : List TableContents) (table : TableContents) (after : List TableContents) (has : HasTableBetween contents item before table after)
+    (meant : IsMeant oldest contents) where
+  abbrev Meant : ℕ → TableItem → TableContents → Type 0
+  Meant version = IsTableMeant contents.definitions.routes version
 
-pub meant_put : (oldest : ℕ) (contents : Contents) (item : TableItem) (before : List TableContents) (table now : TableContents) (after : List TableContents)
-    → HasTableBetween contents item before table after → IsMeant oldest contents → IsTableMeant contents.definitions.routes oldest contents.directory.accepted item now
-    → IsMeant oldest (with_table contents before now after)
-meant_put oldest contents item before table now after has meant is =
-    let Meant = IsTableMeant contents.definitions.routes oldest contents.directory.accepted in
-    let all = subst (λ (ts : List TableContents). AllZip Meant (has.first ++ item ∷ has.last) ts) has.tables
-    (subst (λ (is : List TableItem). AllZip Meant is contents.tables) has.items meant.tables) in
-    record {
-      definitions = meant.definitions;
-      tables = subst (λ (is : List TableItem). AllZip Meant is (before ++ now ∷ after)) (sym has.items) (zip_put Meant has.first item has.last before table now after has.long all is);
-      referents = meant.referents;
-    }
+  all_meant : (version : ℕ) → oldest ≤ version → version ≤ contents.directory.accepted → AllZip (Meant version) (has.first ++ item ∷ has.last) (before ++ table ∷ after)
+  all_meant version low high =
+      subst (λ (ts : List TableContents). AllZip (Meant version) (has.first ++ item ∷ has.last) ts) has.tables
+      (subst (λ (is : List TableItem). AllZip (Meant version) is contents.tables) has.items (meant.records version low high).tables)
+
+  pub table_meant : (version : ℕ) → oldest ≤ version → version ≤ contents.directory.accepted → Meant version item table
+  table_meant version low high = zip_at (Meant version) has.first item has.last before table after has.long (all_meant version low high)
+
+  pub table_runs : AreRunsFrom (kind_of item.kind) oldest contents.directory.accepted table.events
+  table_runs = record { each = λ version route low high. (table_meant version low high).runs route }
+
+  pub meant_put : (now : TableContents) → ((version : ℕ) → oldest ≤ version → version ≤ contents.directory.accepted → Meant version item now) → IsMeant oldest (with_table contents before now after)
+  meant_put now is = record {
+    definitions = meant.definitions;
+    records = λ version low high. record {
+      tables = subst (λ (is : List TableItem). AllZip (Meant version) is (before ++ now ∷ after)) (sym has.items)
+          (zip_put (Meant version) has.first item has.last before table now after has.long (all_meant version low high) (is version low high));
+      referents = (meant.records version low high).referents;
+    };
+  }
+
+pub still_between : (contents : Contents) (item : TableItem) (before : List TableContents) (table now : TableContents) (after : List TableContents) (directory : DirectoryItems)
+    → HasTableBetween contents item before table after → HasTableBetween (record (with_table contents before now after) { directory = directory }) item before now after
+still_between contents item before table now after directory has = record { first = has.first; last = has.last; items = has.items; long = has.long; tables = refl }
 
 abbrev number_of : TableItem → ℕ
 number_of table = table.number
@@ -140,13 +94,13 @@ module _ (contents : Contents) (item : TableItem) (before : List TableContents) 
   events_by : (ts : List TableContents) (number : ℕ) → events_with contents.definitions.tables ts number ≡ events_with (has.first ++ item ∷ has.last) ts number
   events_by ts number = ap (λ (is : List TableItem). events_with is ts number) has.items
 
-  once_by : ((number : ℕ) → times (table_numbers contents.definitions) number ≤ 1) → times (map number_of (has.first ++ item ∷ has.last)) item.number ≤ 1
+  once_by : HaveOwnNumbers contents.definitions.tables → times (map number_of (has.first ++ item ∷ has.last)) item.number ≤ 1
   once_by once = subst (λ (is : List TableItem). times (map number_of is) item.number ≤ 1) has.items (once item.number)
 
-  pub seen_put : (now : TableContents) → ((number : ℕ) → times (table_numbers contents.definitions) number ≤ 1) → events_of (with_table contents before now after) item.number ≡ now.events
+  pub seen_put : (now : TableContents) → HaveOwnNumbers contents.definitions.tables → events_of (with_table contents before now after) item.number ≡ now.events
   seen_put now once = events_by (before ++ now ∷ after) item.number ∙ own_events has.first item has.last before after now has.long (once_by once)
 
-  pub seen_there : ((number : ℕ) → times (table_numbers contents.definitions) number ≤ 1) → events_of contents item.number ≡ table.events
+  pub seen_there : HaveOwnNumbers contents.definitions.tables → events_of contents item.number ≡ table.events
   seen_there once =
       ap (λ (ts : List TableContents). events_with contents.definitions.tables ts item.number) has.tables ∙ seen_put table once
 
@@ -160,6 +114,107 @@ module _ (contents : Contents) (item : TableItem) (before : List TableContents) 
 -- ---- the referents
 
 pub meant_referents : (oldest : ℕ) (contents : Contents) (now : ReferentContents) → IsMeant oldest contents
-    → ((version : ℕ) → oldest ≤ version → version ≤ contents.directory.accepted → AreReferentsMeant contents.definitions.routes version now.referents)
+    → ((version : ℕ) → oldest ≤ version → version ≤ contents.directory.accepted → AreReferentsMeant (routes_at version contents.definitions.routes) version now.referents)
     → IsMeant oldest (record contents { referents = now })
-meant_referents oldest contents now meant each = record { definitions = meant.definitions; tables = meant.tables; referents = each }
+meant_referents oldest contents now meant each = record {
+  definitions = meant.definitions;
+  records = λ version low high. record { tables = (meant.records version low high).tables; referents = each version low high };
+}
+
+-- ---- routes
+
+-- each route is there still, or no version that is looked at sees a record on it
+module _ (oldest : ℕ) (contents : Contents) (definitions : CatalogueItems) (stay : (route : RouteItem) → Contains contents.definitions.routes route
+    → Contains definitions.routes route ⊎ IsUnusedFrom oldest route.number contents) (version : ℕ) (low : oldest ≤ version) (high : version ≤ contents.directory.accepted) where
+  abbrev old : List RouteSpan
+  old = routes_at version contents.definitions.routes
+
+  abbrev now : List RouteSpan
+  now = routes_at version definitions.routes
+
+  -- where a route that isn't unused had the number
+  on_used : (number : ℕ) (IsSo : RouteSpan → Type 0) → (IsUnusedFrom oldest number contents → ⊥) → HasRoute old number IsSo → HasRoute now number IsSo
+  on_used number IsSo used on =
+      let from = source_of span_of_route (born_by version contents.definitions.routes) on.route on.there in
+      elim (stay from.source (kept_there (is_born version) contents.definitions.routes from.source from.there)) [
+        | inl there ↦ record {
+          route = on.route;
+          there = subst (Contains now) from.is
+              (shown_there span_of_route (born_by version definitions.routes) from.source
+              (kept_in (is_born version) definitions.routes from.source there (kept_passes (is_born version) contents.definitions.routes from.source from.there)));
+          numbered = on.numbered;
+          is_so = on.is_so;
+        }
+        | inr unused ↦ absurd (used (subst (λ (n : ℕ). IsUnusedFrom oldest n contents) (ap (λ (span : RouteSpan). span.number) from.is ∙ on.numbered) unused))
+      ]
+
+  table_stays : (item : TableItem) (table : TableContents) → Contains contents.tables table → IsTableMeant contents.definitions.routes version item table → IsTableMeant definitions.routes version item table
+  table_stays item table among is = record {
+    runs = is.runs;
+    lie = each_among (λ event. HasRoute old event.route (IsSpanOf (kind_of item.kind) (span_of event))) (λ event. HasRoute now event.route (IsSpanOf (kind_of item.kind) (span_of event)))
+        (filter (sees_event version) table.events) is.lie
+        (λ event there. on_used event.route (IsSpanOf (kind_of item.kind) (span_of event)) (λ unused.
+        each_at (λ other. other.route ≢ event.route) (filter (sees_event version) table.events) event
+        (each_at (λ (table : TableContents). AllByRecursion (λ other. other.route ≢ event.route) (filter (sees_event version) table.events)) contents.tables table (unused.events version low high) among) there refl));
+  }
+
+  referents_stay : AreReferentsMeant old version contents.referents.referents → AreReferentsMeant now version contents.referents.referents
+  referents_stay is = record {
+    each = each_among (IsReferentMeant old) (IsReferentMeant now) (filter (is_seen kept_referents version) contents.referents.referents) is.each (λ referent there one. record {
+      named = one.named;
+      not_start = one.not_start;
+      lies = on_used referent.route (IsPlaceOf referent.measure)
+          (λ unused. each_at (λ other. other.route ≢ referent.route) (filter (is_seen kept_referents version) contents.referents.referents) referent (unused.referents version low high) there refl) one.lies;
+    });
+    once = is.once;
+    few = is.few;
+  }
+
+pub meant_with_routes : (oldest : ℕ) (contents : Contents) (definitions : CatalogueItems) → IsMeant oldest contents → AreMeant definitions → definitions.tables ≡ contents.definitions.tables
+    → ((route : RouteItem) → Contains contents.definitions.routes route → Contains definitions.routes route ⊎ IsUnusedFrom oldest route.number contents)
+    → IsMeant oldest (record contents { definitions = definitions })
+meant_with_routes oldest contents definitions meant means tables stay = record {
+  definitions = means;
+  records = λ version low high. let is = meant.records version low high in record {
+    tables = subst (λ (items : List TableItem). AllZip (IsTableMeant definitions.routes version) items contents.tables) (sym tables)
+        (zip_held (IsTableMeant contents.definitions.routes version) (IsTableMeant definitions.routes version) (Contains contents.tables) contents.definitions.tables contents.tables is.tables
+        (recursion_from_All (Contains contents.tables) contents.tables (All-contains_itself contents.tables))
+        (λ item table one among. table_stays oldest contents definitions stay version low high item table among one));
+    referents = referents_stay oldest contents definitions stay version low high is.referents;
+  };
+}
+
+-- ---- tables
+
+-- other tables beside the same routes, where what is so of those that were there is so of those that are
+meant_tables : (oldest : ℕ) (contents : Contents) (definitions : CatalogueItems) (tables : List TableContents) → IsMeant oldest contents → AreMeant definitions → definitions.routes ≡ contents.definitions.routes
+    → ((version : ℕ) → AllZip (IsTableMeant contents.definitions.routes version) contents.definitions.tables contents.tables → AllZip (IsTableMeant contents.definitions.routes version) definitions.tables tables)
+    → IsMeant oldest (record contents { definitions = definitions; tables = tables })
+meant_tables oldest contents definitions tables meant means routes each = record {
+  definitions = means;
+  records = λ version low high. let is = meant.records version low high in record {
+    tables = subst (λ (rs : List RouteItem). AllZip (IsTableMeant rs version) definitions.tables tables) (sym routes) (each version is.tables);
+    referents = subst (λ (rs : List RouteItem). AreReferentsMeant (routes_at version rs) version contents.referents.referents) (sym routes) is.referents;
+  };
+}
+
+pub meant_with_table : (oldest : ℕ) (contents : Contents) (definitions : CatalogueItems) (before : List TableContents) (table : TableContents) (after : List TableContents)
+    → IsMeant oldest contents → AreMeant definitions → definitions.routes ≡ contents.definitions.routes → TableComes contents definitions before table after
+    → IsMeant oldest (record contents { definitions = definitions; tables = before ++ table ∷ after })
+meant_with_table oldest contents definitions before table after meant means routes comes =
+    meant_tables oldest contents definitions (before ++ table ∷ after) meant means routes (λ version were.
+    let Meant = IsTableMeant contents.definitions.routes version in
+    let all = subst (λ (ts : List TableContents). AllZip Meant (comes.first ++ comes.last) ts) comes.tables (subst (λ (is : List TableItem). AllZip Meant is contents.tables) comes.were were) in
+    subst (λ (is : List TableItem). AllZip Meant is (before ++ table ∷ after)) (sym comes.are)
+    (zip_more Meant comes.first comes.item comes.last before table after comes.long all
+    (subst (λ (events : List Event). AreEventsMeant (routes_at version contents.definitions.routes) (kind_of comes.item.kind) version events) (sym comes.no_events)
+    (none_meant (routes_at version contents.definitions.routes) version comes.item))))
+
+pub meant_without_table : (oldest : ℕ) (contents : Contents) (definitions : CatalogueItems) (item : TableItem) (before : List TableContents) (table : TableContents) (after : List TableContents)
+    → IsMeant oldest contents → AreMeant definitions → definitions.routes ≡ contents.definitions.routes → (has : HasTableBetween contents item before table after) → definitions.tables ≡ has.first ++ has.last
+    → IsMeant oldest (record contents { definitions = definitions; tables = before ++ after })
+meant_without_table oldest contents definitions item before table after meant means routes has tables =
+    meant_tables oldest contents definitions (before ++ after) meant means routes (λ version were.
+    let Meant = IsTableMeant contents.definitions.routes version in
+    let all = subst (λ (ts : List TableContents). AllZip Meant (has.first ++ item ∷ has.last) ts) has.tables (subst (λ (is : List TableItem). AllZip Meant is contents.tables) has.items were) in
+    subst (λ (is : List TableItem). AllZip Meant is (before ++ after)) (sym tables) (zip_less Meant has.first item has.last before table after has.long all))

@@ -80,8 +80,7 @@ created_stands meant map pages holds = record {
   holds = holds;
   meant = record {
     definitions = meant;
-    tables = tt;
-    referents = λ version low high. record { each = tt; once = λ route. tt; few = λ route. omega arith };
+    records = λ version low high. record { tables = tt; referents = record { each = tt; once = λ route. tt; few = λ route. omega arith } };
   };
   is = record {
     definitions = no_definitions;

@@ -4,7 +4,6 @@ use Rattle.std.specs.Prelude.{Contains}
 use Rattle.std.specs.FinMap as names
 use Rattle.std.specs.List.{AllByRecursion}
 use Rattle.std.proofs.lemmas.List.{length-map}
-use Rattle.std.proofs.lemmas.List.Elements.{All-contains, All-from_recursion}
 use Rattle.std.proofs.lemmas.Option.{same_Some}
 use Rattle.rs_catalog.specs.Definitions as catalog
 use Rattle.rs_catalog.specs.Definitions.{AreDefinitions, Definitions, IsColumnOf, routes_of}
@@ -26,6 +25,7 @@ use Rattle.rs_planning.specs.Basis.{IndexedColumn}
 use Rattle.rs_value.specs.declared.column.TheConstants.{COLUMNS}
 use Rattle.rs_standing.specs.States.{AreDefinitionsAt, named_index, named_route, named_table, routes_named}
 use Rattle.rs_standing.proofs.Lawful.{MeantAreLawful}
+use Rattle.rs_standing.proofs.Lists.{each_at}
 use Rattle.rs_standing.proofs.Named.{HasItem, get_there, item_of, values_changed}
 use Rattle.rs_standing.proofs.Picked.{born_all, same_numbered}
 
@@ -45,9 +45,6 @@ numbered name_of value number_of number_in is xs order once a b x y one other sa
     let q = item_of name_of value xs b y order other in
     let numbers : number_of p.item ≡ number_of q.item = sym (is p.item) ∙ ap number_in p.is ∙ same ∙ sym (ap number_in q.is) ∙ is q.item in
     sym p.named ∙ ap name_of (same_numbered number_of xs p.item q.item p.there q.there numbers (once (number_of p.item))) ∙ q.named
-
-each_at : {X : Type 0} (P : X → Type 0) (xs : List X) (x : X) → AllByRecursion P xs → Contains xs x → P x
-each_at P xs x all there = All-contains P xs x (All-from_recursion P xs all) there
 
 module _ (make : MeantAreLawful) (stand : IndexesStand) (version : ℕ) (catalogue : CatalogueItems) (definitions : Definitions) (meant : AreMeant catalogue) (given : AreGivenOnce catalogue)
     (born : AllByRecursion (λ (route : RouteItem). route.born ≤ version) catalogue.routes) (are : AreDefinitionsAt version catalogue definitions) where

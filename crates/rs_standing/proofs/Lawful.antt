@@ -41,8 +41,11 @@ use Rattle.rs_value.specs.Values.{IsRowOf}
 use Rattle.rs_versioned.specs.Events.{Event, SaysEvent, is_on, sees_event, span_of}
 use Rattle.rs_versioned.specs.Referents.{ReferentRecord, is_referent_of, kept_referents, referents_at}
 use Rattle.rs_versioned.specs.Records.{is_seen}
-use Rattle.rs_standing.specs.Meant.{AreReferentsMeant, IsEventOn, IsMeant, IsReferentOn, IsSpanOf, IsTableMeant, OnRoute}
-use Rattle.rs_standing.specs.Seen.{born_by, events_of, referents_seen, spans_seen}
+use Rattle.rs_versioned.specs.Meant as versioned
+use Rattle.rs_versioned.specs.Meant.{AreReferentsMeant, HasRoute, IsReferentMeant, IsSpanOf}
+use Rattle.rs_versioned.specs.declared.route_span.RouteSpan.{RouteSpan}
+use Rattle.rs_standing.specs.Meant.{AreRecordsMeant, IsMeant, IsTableMeant}
+use Rattle.rs_standing.specs.Seen.{born_by, events_of, is_born, referents_seen, routes_at, span_of_route, spans_seen}
 use Rattle.rs_standing.specs.Standing.{StandsFor}
 use Rattle.rs_standing.specs.States.{AreDefinitionsAt, IsViewOf, named_index, named_route, named_table, routes_named}
 use Rattle.rs_standing.proofs.Named.{HasItem, found_item, get_there, item_of, len_by, values_changed}
@@ -58,9 +61,9 @@ RowsFit = (types : List ColumnType) (bytes : List ℕ) (row : Row) → SaysRow t
 -- ---- small parts
 
 -- where a span along which a row holds lies on a route, the row may hold
-may_hold : (kind : Kind) (span : Stretch) (ends : RouteEnds) (k : ℕ) → IsSpanOf kind span ends → span.lo ≤ k → k < span.hi → MayHoldAt kind k ends
-may_hold Line span ends k lies from below = (omega (arith, lies.0, from), omega (arith, lies.1, below))
-may_hold Point span ends k lies from below = (omega (arith, lies.0, from), omega (arith, lies.1, below))
+may_hold : (kind : Kind) (span : Stretch) (route : RouteItem) (k : ℕ) → IsSpanOf kind span (span_of_route route) → span.lo ≤ k → k < span.hi → MayHoldAt kind k (ends_of route)
+may_hold Line span route k lies from below = (omega (arith, lies.0, from), omega (arith, lies.1, below))
+may_hold Point span route k lies from below = (omega (arith, lies.0, from), omega (arith, lies.1, below))
 
 types_of : (columns : List ColumnItem) → column_types (columns_of columns) ≡ map type_of columns
 types_of [] = refl
@@ -123,19 +126,21 @@ module _ (pages : PageMap) (contents : Contents) (definitions : Definitions) (ho
 
   -- ---- routes by their numbers
 
-  -- what lies on the route of a number lies on the route of its name
-  on_named : (route : RouteItem) (number : ℕ) (IsSo : RouteEnds → Type 0) → Contains catalogue.routes route → number ≡ route.number
-      → OnRoute (born_by accepted catalogue.routes) number IsSo → lawful.OnRoute state.routes route.name IsSo
-  on_named route number IsSo there same on =
-      let among : Contains catalogue.routes on.route = subst (λ routes. Contains routes on.route) born on.there in
-      let one : on.route ≡ route =
-      same_numbered (λ (r : RouteItem). r.number) catalogue.routes on.route route among there (on.numbered ∙ same) (meant.definitions.routes.numbers_once on.route.number) in
-      record {
-        ends = ends_of route;
-        there = subst (λ (routes : Names RouteEnds). names.get routes route.name ≡ Some (ends_of route)) (sym routes_are)
-            (get_there (λ (r : RouteItem). r.name) ends_of catalogue.routes route meant.definitions.routes.in_order there);
-        is_so = subst (λ (r : RouteItem). IsSo (ends_of r)) one on.is_so;
-      }
+  named_there : (route : RouteItem) → Contains catalogue.routes route → names.get state.routes route.name ≡ Some (ends_of route)
+  named_there route there =
+      subst (λ (routes : Names RouteEnds). names.get routes route.name ≡ Some (ends_of route)) (sym routes_are)
+      (get_there (λ (r : RouteItem). r.name) ends_of catalogue.routes route meant.definitions.routes.in_order there)
+
+  -- what is so of the route with its number is so of the route
+  so_numbered : (route : RouteItem) (number : ℕ) (IsSo : RouteSpan → Type 0) → Contains catalogue.routes route → number ≡ route.number
+      → HasRoute (routes_at accepted catalogue.routes) number IsSo → IsSo (span_of_route route)
+  so_numbered route number IsSo there same on =
+      let from = source_of span_of_route (born_by accepted catalogue.routes) on.route on.there in
+      let among = kept_there (is_born accepted) catalogue.routes from.source from.there in
+      let one : from.source ≡ route =
+      same_numbered (λ (r : RouteItem). r.number) catalogue.routes from.source route among there (ap (λ (span : RouteSpan). span.number) from.is ∙ on.numbered ∙ same)
+      (meant.definitions.routes.numbers_once from.source.number) in
+      subst (λ (r : RouteItem). IsSo (span_of_route r)) one (subst IsSo (sym from.is) on.is_so)
 
   -- a route that is found by its name
   route_of : (name : Name) (kept : catalog.RouteItem) → names.get definitions.routes name ≡ Some kept
@@ -147,14 +152,17 @@ module _ (pages : PageMap) (contents : Contents) (definitions : Definitions) (ho
   -- ---- tables
 
   abbrev Meant : TableItem → TableContents → Type 0
-  Meant = IsTableMeant catalogue.routes accepted accepted
+  Meant = IsTableMeant catalogue.routes accepted
+
+  records : AreRecordsMeant accepted contents
+  records = meant.records accepted (omega arith) (omega arith)
 
   abbrev Said : TableItem → TableContents → Type 0
   Said = IsTable contents.directory catalogue.indexes
 
   table_for : (item : TableItem) → Contains catalogue.tables item → HasTable Meant Said (LiesTable pages accepted) catalogue.tables contents.tables item
   table_for item there =
-      table_of Meant Said (LiesTable pages accepted) item catalogue.tables contents.tables there meant.tables holds.said.tables holds.parts.tables
+      table_of Meant Said (LiesTable pages accepted) item catalogue.tables contents.tables there records.tables holds.said.tables holds.parts.tables
       (holds.said.numbered.given.tables_once item.number)
 
   -- an event of the table has a row of its columns
@@ -174,19 +182,15 @@ module _ (pages : PageMap) (contents : Contents) (definitions : Definitions) (ho
       let among = kept_there (is_on accepted route.number) (events_of contents item.number) from.source from.there in
       let parts = and_parts (from.source.route == route.number) (sees_event accepted from.source) (kept_passes (is_on accepted route.number) (events_of contents item.number) from.source from.there) in
       let event : Contains has.table.events from.source = subst (λ events. Contains events from.source) has.events among in
-      let lies = each_kept (sees_event accepted) (IsEventOn (born_by accepted catalogue.routes) (stating.kind_of item.kind)) has.table.events from.source
-      (has.one.lie accepted (omega arith) (omega arith)) event parts.1 in
+      let kind = stating.kind_of item.kind in
+      let lies = each_kept (sees_event accepted) (λ event. HasRoute (routes_at accepted catalogue.routes) event.route (IsSpanOf kind (span_of event))) has.table.events from.source has.one.lie event parts.1 in
       let low : from.source.lo ≤ k = subst (λ (span : Stretch). span.lo ≤ k) (sym from.is) covers.is.from in
       let high : k < from.source.hi = subst (λ (span : Stretch). k < span.hi) (sym from.is) covers.is.below in
       let same : from.source.row ≡ row = ap (λ (span : Stretch). span.row) from.is ∙ covers.is.same in
-      let named = on_named route from.source.route (IsSpanOf (stating.kind_of item.kind) (span_of from.source)) on (eqb-true from.source.route route.number parts.0) lies in
+      let is_so = so_numbered route from.source.route (IsSpanOf kind (span_of from.source)) on (eqb-true from.source.route route.number parts.0) lies in
       record {
         fits = subst (IsRowOf (column_types (columns_of item.columns))) same (row_fits fit item has.table from.source has.other has.third event);
-        lies = record {
-          ends = named.ends;
-          there = named.there;
-          is_so = may_hold (stating.kind_of item.kind) (span_of from.source) named.ends k named.is_so low high;
-        };
+        lies = record { ends = ends_of route; there = named_there route on; is_so = may_hold kind (span_of from.source) route k is_so low high };
       }
 
   facts_lie : RowsFit → (item : TableItem) → Contains catalogue.tables item → (route : Name) (k : ℕ) (row : Row)
@@ -236,12 +240,12 @@ module _ (pages : PageMap) (contents : Contents) (definitions : Definitions) (ho
   abbrev listed : ℕ → List (Name × ℕ)
   listed number = referents_at accepted number contents.referents.referents
 
-  referents_meant : AreReferentsMeant catalogue.routes accepted contents.referents.referents
-  referents_meant = meant.referents accepted (omega arith) (omega arith)
+  referents_meant : AreReferentsMeant (routes_at accepted catalogue.routes) accepted contents.referents.referents
+  referents_meant = records.referents
 
   -- a referent of a route
   record HasReferent (route : RouteItem) (name : Name) (measure : ℕ) : Type 0 where
-    is : IsReferentOn (born_by accepted catalogue.routes) (record { route = route.number; name = name; measure = measure; born = 0; died = 0 })
+    is : IsReferentMeant (routes_at accepted catalogue.routes) (record { route = route.number; name = name; measure = measure; born = 0; died = 0 })
 
   referent_of : (route : RouteItem) (name : Name) (measure : ℕ) → names.get (refs route.number) name ≡ Some measure → HasReferent route name measure
   referent_of route name measure there =
@@ -249,14 +253,14 @@ module _ (pages : PageMap) (contents : Contents) (definitions : Definitions) (ho
       let has = found_item (λ (r : ReferentRecord). r.name) (λ r. r.measure) (filter (is_referent_of accepted route.number) all) name measure
       (sym (get-from_entries name_cmp-total (listed route.number) name) ∙ there) in
       let parts = and_parts (has.item.route == route.number) (nat_le has.item.born accepted && nat_lt accepted has.item.died) (kept_passes (is_referent_of accepted route.number) all has.item has.there) in
-      let is = each_kept (is_seen kept_referents accepted) (IsReferentOn (born_by accepted catalogue.routes)) all has.item referents_meant.each
+      let is = each_kept (is_seen kept_referents accepted) (IsReferentMeant (routes_at accepted catalogue.routes)) all has.item referents_meant.each
       (kept_there (is_referent_of accepted route.number) all has.item has.there) parts.1 in
       record {
         is = record {
           named = subst IsName has.named is.named;
           not_start = subst (λ (n : Name). n ≢ start_name) has.named is.not_start;
-          lies = subst (λ (n : ℕ). OnRoute (born_by accepted catalogue.routes) n (IsPlaceOf measure)) (eqb-true has.item.route route.number parts.0)
-              (subst (λ (m : ℕ). OnRoute (born_by accepted catalogue.routes) has.item.route (IsPlaceOf m)) has.is is.lies);
+          lies = subst (λ (n : ℕ). HasRoute (routes_at accepted catalogue.routes) n (versioned.IsPlaceOf measure)) (eqb-true has.item.route route.number parts.0)
+              (subst (λ (m : ℕ). HasRoute (routes_at accepted catalogue.routes) has.item.route (versioned.IsPlaceOf m)) has.is is.lies);
         };
       }
 
@@ -271,7 +275,11 @@ module _ (pages : PageMap) (contents : Contents) (definitions : Definitions) (ho
             let referent = referent_of has.item name measure (subst (λ (r : catalog.RouteItem). names.get (refs r.number) name ≡ Some measure) (sym has.is) is) in
             record {
               not_start = referent.is.not_start;
-              lies = subst (λ (n : Name). lawful.OnRoute state.routes n (IsPlaceOf measure)) has.named (on_named has.item has.item.number (IsPlaceOf measure) has.there refl referent.is.lies);
+              lies = subst (λ (n : Name). lawful.OnRoute state.routes n (IsPlaceOf measure)) has.named (record {
+                ends = ends_of has.item;
+                there = named_there has.item has.there;
+                is_so = so_numbered has.item has.item.number (versioned.IsPlaceOf measure) has.there refl referent.is.lies;
+              });
             }
       ] refl there
 

@@ -1,17 +1,15 @@
-mod Lists
-mod Same
-mod One
 pub mod Named
+mod Lists
 pub mod Picked
+mod SameNames
+mod OnRoute
+mod SeenRecords
+mod KeptLive
+mod SameWorld
+mod One
 mod Lawful
 pub mod Kept
 mod Fresh
-mod Staying
-mod Worlds
-mod LaterRecords
-mod LaterContents
-mod Carried
 mod Next
+mod KeptMeaning
 mod Changed
-mod OneLater
-mod Redefined

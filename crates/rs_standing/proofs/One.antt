@@ -19,10 +19,12 @@ use Rattle.rs_syntax.specs.QueryView.{query_tree}
 use Rattle.rs_syntax.specs.Tree.{QueryTree, define_view}
 use Rattle.rs_syntax.specs.Verdict.{Reads}
 use Rattle.rs_syntax_laws.specs.ViewTexts.{TextSaysQuery}
+use Rattle.rs_standing.specs.Changed.{SaysTheSame}
 use Rattle.rs_standing.specs.Seen.{referents_seen, spans_seen}
 use Rattle.rs_standing.specs.Standing.{IsFileOf}
 use Rattle.rs_standing.specs.States.{AreDefinitionsAt, HasLine, IsStateAt, IsViewOf}
-use Rattle.rs_standing.proofs.Same.{same_referents, same_spans}
+use Rattle.rs_standing.proofs.KeptMeaning.{says_same}
+use Rattle.rs_standing.proofs.SameWorld.{same_referents, same_spans}
 
 -- what is said of the texts of views
 abbrev pub LineSaysText : Type 0
@@ -98,7 +100,7 @@ module _ (says : LineSaysText) (alone : TextSaysOne) where
       is.is ∙ states_one version contents.definitions is.definitions are.definitions (referents_seen contents version) (spans_seen contents version) is.are are.are ∙ sym are.is
 
 -- the same contents have the same states
-pub same_state : (version : ℕ) (one other : Contents) (state : State) → SameContents one other → IsStateAt version one state → IsStateAt version other state
+pub same_state : (version : ℕ) (one other : Contents) (state : State) → SaysTheSame one other → IsStateAt version one state → IsStateAt version other state
 same_state version one other state same is = record {
   definitions = is.definitions;
   are = subst (λ (c : CatalogueItems). AreDefinitionsAt version c is.definitions) same.definitions is.are;
@@ -126,5 +128,5 @@ module _ (says : LineSaysText) (alone : TextSaysOne) (one_map : DiskHasOneMap) (
       let same = one_thing are.pages is.contents are.contents (subst (λ (p : PageMap). HoldsAll p is.contents) pages is.stands.holds) are.stands.holds in
       let accepted : is.contents.directory.accepted ≡ are.contents.directory.accepted = ap (λ d. d.accepted) same.directory in
       contents_one says alone are.contents.directory.accepted are.contents one other
-      (subst (λ (version : ℕ). IsStateAt version are.contents one) accepted (same_state is.contents.directory.accepted is.contents are.contents one same is.stands.is))
+      (subst (λ (version : ℕ). IsStateAt version are.contents one) accepted (same_state is.contents.directory.accepted is.contents are.contents one (says_same is.contents are.contents same) is.stands.is))
       are.stands.is

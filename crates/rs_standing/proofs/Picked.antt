@@ -3,13 +3,14 @@ use Rattle.std.proofs.Common.{◌≡◌, ◌<◌, ◌≤◌, ◌==◌, ℕ, zero
 use Rattle.std.specs.Prelude.{Contains, if◌then◌else◌}
 use Rattle.std.specs.List.{AllByRecursion, AllZip}
 use Rattle.std.proofs.lemmas.Bool.{eqb-false, eqb-true, le-leb}
-use Rattle.std.proofs.lemmas.List.Elements.{All-contains, All-contains_itself, All-filter, filter_passes}
+use Rattle.std.proofs.lemmas.List.Elements.{All-contains, All-contains_itself, All-filter, All-from_recursion, filter_passes, recursion_from_All}
 use Rattle.rs_catalog_pages.specs.Items.{RouteItem, TableItem}
 use Rattle.rs_contents.specs.Contents.{TableContents}
 use Rattle.rs_page_owners.specs.Counts.{one_at, times}
 use Rattle.rs_page_owners.proofs.Moving.{one_at-same}
 use Rattle.rs_catalog_pages.proofs.Counting.{times-cons}
 use Rattle.rs_standing.specs.Seen.{born_by, events_with}
+use Rattle.rs_standing.proofs.Lists.{shown_each}
 use Rattle.rs_standing.proofs.Named.{first_there, later_there}
 
 -- ---- by a test
@@ -36,6 +37,9 @@ module _ {X : Type 0} (test : X → Bool) where
           | false ↦ λ all. all
         ] all)
 
+  pub kept_in : (xs : List X) (x : X) → Contains xs x → test x ≡ true → Contains (filter test xs) x
+  kept_in xs x there passes = each_kept (Contains (filter test xs)) xs x (recursion_from_All (Contains (filter test xs)) (filter test xs) (All-contains_itself (filter test xs))) there passes
+
 pub born_all : (version : ℕ) (routes : List RouteItem) → AllByRecursion (λ route. route.born ≤ version) routes → born_by version routes ≡ routes
 born_all version [] all = refl
 born_all version (route ∷ routes) all =
@@ -57,6 +61,11 @@ source_of {X} {Y} seen xs y there = at xs there.0 there.1 there.2 where
   at (x ∷ xs) (suc k) inside is =
       let rest = at xs k (omega (arith, inside)) is in
       record { source = rest.source; there = later_there x rest.source xs rest.there; is = rest.is }
+
+pub shown_there : {X Y : Type 0} (seen : X → Y) (xs : List X) (x : X) → Contains xs x → Contains (map seen xs) (seen x)
+shown_there seen xs x there =
+    All-contains (λ y. Contains (map seen xs) (seen y)) xs x (All-from_recursion (λ y. Contains (map seen xs) (seen y)) xs
+    (shown_each seen (Contains (map seen xs)) xs (recursion_from_All (Contains (map seen xs)) (map seen xs) (All-contains_itself (map seen xs))))) there
 
 -- ---- by a number
 

@@ -1,5 +1,5 @@
 pub mod Changed
-pub mod Later
+pub mod Live
 pub mod Meant
 pub mod Seen
 pub mod Standing

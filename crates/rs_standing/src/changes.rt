@@ -1,37 +1,45 @@
-//! What stays meant where one part of a file's contents changes, or fewer versions are looked at.
+//! These laws say what stays meant where one part of a file's contents changes, or fewer versions are looked at.
 
 ghost use Rattle.std.specs.Prelude.{◌≡◌, ◌≤◌, ◌⊎◌, ◌++◌, ◌∷◌, ℕ, Contains, List};
+ghost use Rattle.rs_catalog_pages.specs.Directory.{DirectoryItems};
 ghost use Rattle.rs_catalog_pages.specs.Items.{CatalogueItems, RouteItem, TableItem};
 ghost use Rattle.rs_catalog_meaning.specs.Meaning.{AreMeant};
-ghost use Rattle.rs_catalog_pages.specs.Directory.{DirectoryItems};
-ghost use Rattle.rs_contents.specs.Contents.{Contents, ReferentContents, SameContents, TableContents, table_numbers};
-ghost use Rattle.rs_page_owners.specs.Counts.{times};
-ghost use Rattle.rs_standing.specs.Changed.{HasTableBetween, IsUnusedFrom, TableComes, with_table};
-ghost use Rattle.rs_standing.specs.Later.{ChangesAfter, IsLater};
-ghost use Rattle.rs_standing.specs.Meant.{AreReferentsMeant, IsMeant, IsTableMeant};
-ghost use Rattle.rs_standing.specs.Seen.{events_of};
-ghost use Rattle.rs_value.specs.declared.column.ColumnType.{ColumnType};
-ghost use Rattle.rs_versioned.specs.Events.{kept_events};
-ghost use Rattle.rs_versioned.specs.Referents.{kept_referents};
+ghost use Rattle.rs_catalog_meaning.specs.Stating.{kind_of};
+ghost use Rattle.rs_contents.specs.Contents.{Contents, ReferentContents, SameContents, TableContents};
+ghost use Rattle.rs_standing.specs.Changed.{HasTableBetween, HaveOwnNumbers, IsUnusedFrom, SaysTheSame, TableComes, with_table};
+ghost use Rattle.rs_standing.specs.Meant.{IsMeant, IsTableMeant};
+ghost use Rattle.rs_standing.specs.Seen.{events_of, routes_at};
+ghost use Rattle.rs_versioned.specs.Meant.{AreReferentsMeant};
+ghost use Rattle.rs_versioned.specs.Runs.{AreRunsFrom};
 
-/// Contents that are meant from a version on are meant from a later one on, and the same contents are meant alike.
+/// Contents that are meant from a version on are meant from a later one on, and contents that say the same are meant alike.
 pub fn meant_contents_stay_meant()
     ensures fewer { (oldest from : ℕ) (contents : Contents) → oldest ≤ from → IsMeant oldest contents → IsMeant from contents }
-    ensures same { (oldest : ℕ) (one other : Contents) → SameContents one other → IsMeant oldest one → IsMeant oldest other }
+    ensures same { (oldest : ℕ) (one other : Contents) → SaysTheSame one other → IsMeant oldest one → IsMeant oldest other }
+    ensures says { (one other : Contents) → SameContents one other → SaysTheSame one other }
 {}
 
-/// Where a table is another one, what is asked of it alone keeps the contents meant, and no other table is seen otherwise.
+/// Each table of contents that are meant has its runs. Where a table is another one, what is asked of it alone keeps the contents
+/// meant, and no other table is seen otherwise.
 pub fn changed_table_leaves_the_others_meant()
+    ensures table { (oldest version : ℕ) (contents : Contents) (item : TableItem) (before : List TableContents) (table : TableContents) (after : List TableContents)
+        → HasTableBetween contents item before table after → IsMeant oldest contents → oldest ≤ version → version ≤ contents.directory.accepted
+        → IsTableMeant contents.definitions.routes version item table }
+    ensures runs { (oldest : ℕ) (contents : Contents) (item : TableItem) (before : List TableContents) (table : TableContents) (after : List TableContents)
+        → HasTableBetween contents item before table after → IsMeant oldest contents
+        → AreRunsFrom (kind_of item.kind) oldest contents.directory.accepted table.events }
     ensures meant { (oldest : ℕ) (contents : Contents) (item : TableItem) (before : List TableContents) (table now : TableContents) (after : List TableContents)
         → HasTableBetween contents item before table after → IsMeant oldest contents
-        → IsTableMeant contents.definitions.routes oldest contents.directory.accepted item now
+        → ((version : ℕ) → oldest ≤ version → version ≤ contents.directory.accepted → IsTableMeant contents.definitions.routes version item now)
         → IsMeant oldest (with_table contents before now after) }
+    ensures between { (contents : Contents) (item : TableItem) (before : List TableContents) (table now : TableContents) (after : List TableContents) (directory : DirectoryItems)
+        → HasTableBetween contents item before table after
+        → HasTableBetween (record (with_table contents before now after) { directory = directory }) item before now after }
     ensures was { (contents : Contents) (item : TableItem) (before : List TableContents) (table : TableContents) (after : List TableContents)
-        → HasTableBetween contents item before table after → ((number : ℕ) → times (table_numbers contents.definitions) number ≤ 1)
+        → HasTableBetween contents item before table after → HaveOwnNumbers contents.definitions.tables
         → events_of contents item.number ≡ table.events }
     ensures is { (contents : Contents) (item : TableItem) (before : List TableContents) (table : TableContents) (after : List TableContents)
-        → HasTableBetween contents item before table after → (now : TableContents)
-        → ((number : ℕ) → times (table_numbers contents.definitions) number ≤ 1)
+        → HasTableBetween contents item before table after → (now : TableContents) → HaveOwnNumbers contents.definitions.tables
         → events_of (with_table contents before now after) item.number ≡ now.events }
     ensures others { (contents : Contents) (item : TableItem) (before : List TableContents) (table : TableContents) (after : List TableContents)
         → HasTableBetween contents item before table after → (now : TableContents) (number : ℕ) → (number ≡ item.number → ⊥)
@@ -42,32 +50,17 @@ pub fn changed_table_leaves_the_others_meant()
 pub fn changed_referents_leave_all_else_meant()
     ensures { (oldest : ℕ) (contents : Contents) (now : ReferentContents) → IsMeant oldest contents
         → ((version : ℕ) → oldest ≤ version → version ≤ contents.directory.accepted
-        → AreReferentsMeant contents.definitions.routes version now.referents)
+        → AreReferentsMeant (routes_at version contents.definitions.routes) version now.referents)
         → IsMeant oldest (record contents { referents = now }) }
 {}
 
-/// Where the events of one table, or the referents, change after a version, that version sees nothing of it.
-pub fn change_of_one_part_is_later()
-    ensures table { (version : ℕ) (contents : Contents) (item : TableItem) (before : List TableContents) (table now : TableContents) (after : List TableContents) (directory : DirectoryItems)
-        → HasTableBetween contents item before table after → ((number : ℕ) → times (table_numbers contents.definitions) number ≤ 1)
-        → (types : List ColumnType) → ChangesAfter (kept_events types) version table.events now.events
-        → IsLater version contents (record (with_table contents before now after) { directory = directory }) }
-    ensures referents { (version : ℕ) (contents : Contents) (now : ReferentContents) (directory : DirectoryItems)
-        → ChangesAfter kept_referents version contents.referents.referents now.referents
-        → IsLater version contents (record contents { referents = now; directory = directory }) }
-{}
-
-/// Where the definitions are others, which are meant, the records stay so: where routes come and tables stay, where a route goes on
-/// which no version from the oldest on sees a record, where a table without events comes, and where a table goes.
+/// Where the definitions are others, which are meant, the records stay so: where routes come and where those go on which no version
+/// from the oldest on sees a record, where a table without events comes, and where a table goes.
 pub fn changed_definitions_leave_records_meant()
-    ensures routes_come { (oldest : ℕ) (contents : Contents) (definitions : CatalogueItems)
+    ensures routes { (oldest : ℕ) (contents : Contents) (definitions : CatalogueItems)
         → IsMeant oldest contents → AreMeant definitions → definitions.tables ≡ contents.definitions.tables
-        → ((route : RouteItem) → Contains contents.definitions.routes route → Contains definitions.routes route)
+        → ((route : RouteItem) → Contains contents.definitions.routes route → Contains definitions.routes route ⊎ IsUnusedFrom oldest route.number contents)
         → IsMeant oldest (record contents { definitions = definitions }) }
-    ensures route_goes { (oldest gone : ℕ) (contents : Contents) (definitions : CatalogueItems)
-        → IsMeant oldest contents → AreMeant definitions → definitions.tables ≡ contents.definitions.tables
-        → ((route : RouteItem) → Contains contents.definitions.routes route → Contains definitions.routes route ⊎ (route.number ≡ gone))
-        → IsUnusedFrom oldest gone contents → IsMeant oldest (record contents { definitions = definitions }) }
     ensures table_comes { (oldest : ℕ) (contents : Contents) (definitions : CatalogueItems) (before : List TableContents) (table : TableContents) (after : List TableContents)
         → IsMeant oldest contents → AreMeant definitions → definitions.routes ≡ contents.definitions.routes
         → TableComes contents definitions before table after

@@ -4,5 +4,6 @@
 #![tactic(auto)]
 
 pub mod changes;
+pub mod live;
 pub mod standing;
 pub mod versions;

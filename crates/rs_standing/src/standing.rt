@@ -5,12 +5,13 @@ ghost use Rattle.std.specs.Prelude.{◌≡◌, ◌≤◌, ℕ, List};
 ghost use Rattle.rs_catalog.specs.Definitions.{AreDefinitions, Definitions};
 ghost use Rattle.rs_catalog_meaning.specs.Meaning.{AreMeant};
 ghost use Rattle.rs_catalog_pages.specs.Items.{CatalogueItems};
-ghost use Rattle.rs_contents.specs.Contents.{AreGivenOnce, Contents, HoldsAll, SameContents};
+ghost use Rattle.rs_contents.specs.Contents.{AreGivenOnce, Contents, HoldsAll};
 ghost use Rattle.rs_contents.specs.Creating.{no_contents};
 ghost use Rattle.rs_disk.specs.Content.{Content};
 ghost use Rattle.rs_machine.specs.Lawful.{IsLawful};
 ghost use Rattle.rs_machine.specs.State.{State, fresh, world_of};
 ghost use Rattle.rs_pages.specs.PageMap.{PageMap};
+ghost use Rattle.rs_standing.specs.Changed.{SaysTheSame};
 ghost use Rattle.rs_standing.specs.Standing.{IsFileOf, Stands, StandsFor};
 ghost use Rattle.rs_standing.specs.States.{AreDefinitionsAt, IsStateAt, world_at};
 
@@ -49,20 +50,20 @@ pub fn created_file_stands_for_the_fresh_state()
     empty_catalogue_is_meant();
 }
 
-/// Contents have one state at each version at the most, and the same contents have the same states.
+/// Contents have one state at each version at the most, and contents that say the same have the same states.
 pub fn contents_have_one_state()
     ensures one { (version : ℕ) (contents : Contents) (one other : State)
         → IsStateAt version contents one → IsStateAt version contents other → one ≡ other }
     ensures same { (version : ℕ) (one other : Contents) (state : State)
-        → SameContents one other → IsStateAt version one state → IsStateAt version other state }
+        → SaysTheSame one other → IsStateAt version one state → IsStateAt version other state }
 {
     text_of_a_view_says_its_query();
     text_says_one_query();
 }
 
-/// The same contents have the same world at each version.
+/// Contents that say the same have the same world at each version.
 pub fn same_contents_have_one_world()
-    ensures { (version : ℕ) (one other : Contents) → SameContents one other → world_at one version ≡ world_at other version }
+    ensures { (version : ℕ) (one other : Contents) → SaysTheSame one other → world_at one version ≡ world_at other version }
 {}
 
 /// The world of the state of a version is the world at that version.

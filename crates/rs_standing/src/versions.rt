@@ -1,32 +1,24 @@
-//! What a version sees and means depends on nothing that comes after it, and the next version begins as the present one.
+//! These laws say that a change keeps what versions before it mean, and that the next version begins as the present one.
 
 ghost use Rattle.std.specs.Prelude.{◌≡◌, ◌≤◌, ◌<◌, ◌+◌, ℕ};
-ghost use Rattle.rs_catalog_meaning.specs.Meaning.{AreMeant};
 ghost use Rattle.rs_cell_versions.specs.declared.cell.TheConstants.{LIVING};
-ghost use Rattle.rs_contents.specs.Contents.{AreGivenOnce, Contents, HoldsAll};
+ghost use Rattle.rs_contents.specs.Contents.{Contents, HoldsAll};
 ghost use Rattle.rs_machine.specs.State.{State};
 ghost use Rattle.rs_pages.specs.PageMap.{PageMap};
-ghost use Rattle.rs_standing.specs.Later.{IsLater, SeesTheSame};
+ghost use Rattle.rs_standing.specs.Changed.{HaveOwnNumbers};
+ghost use Rattle.rs_standing.specs.Live.{KeepsLive, KeepsRecords};
 ghost use Rattle.rs_standing.specs.Meant.{IsMeant};
 ghost use Rattle.rs_standing.specs.Seen.{referents_seen, spans_seen};
 ghost use Rattle.rs_standing.specs.States.{IsState, IsStateAt, world_at};
 
-/// A version sees nothing of what comes after it: routes and tables that are defined, records that come and end, and dead ones that
-/// are cleared.
-pub fn version_sees_nothing_of_what_comes_after_it()
-    ensures sees { (version oldest : ℕ) (old now : Contents) → IsLater version old now
-        → IsMeant oldest old → AreMeant now.definitions → oldest ≤ version → version ≤ old.directory.accepted → SeesTheSame version old now }
-    ensures world { (version : ℕ) (old now : Contents) → IsLater version old now
-        → AreMeant old.definitions → AreMeant now.definitions → now.definitions.tables ≡ old.definitions.tables
-        → world_at now version ≡ world_at old version }
-{}
-
-/// A change keeps what earlier versions mean: where each version from the oldest on up to the last one sees nothing of it, and the
-/// new version is meant, the contents are meant from the oldest version on.
+/// A change keeps what live versions mean: where they see the same and the new version is meant, the contents are meant from the
+/// oldest version on. Where no version is new and definitions stay, as where records are cleared, this needs no more.
 pub fn change_keeps_the_meaning_of_earlier_versions()
-    ensures { (oldest : ℕ) (old now : Contents) → IsMeant oldest old → IsMeant now.directory.accepted now
-        → now.directory.accepted ≡ old.directory.accepted + 1 → AreGivenOnce old.definitions → AreGivenOnce now.definitions
-        → ((version : ℕ) → oldest ≤ version → version ≤ old.directory.accepted → IsLater version old now) → IsMeant oldest now }
+    ensures next { (oldest : ℕ) (old now : Contents) → IsMeant oldest old → KeepsLive oldest old now → IsMeant now.directory.accepted now
+        → now.directory.accepted ≤ old.directory.accepted + 1 → HaveOwnNumbers old.definitions.tables → HaveOwnNumbers now.definitions.tables
+        → IsMeant oldest now }
+    ensures records { (oldest : ℕ) (old now : Contents) → IsMeant oldest old → KeepsRecords oldest old now
+        → now.directory.accepted ≡ old.directory.accepted → IsMeant oldest now }
 {}
 
 /// Until something changes, the next version sees what the present one sees, and its state differs in the count of changes alone.

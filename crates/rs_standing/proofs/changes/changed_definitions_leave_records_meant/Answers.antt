@@ -1,11 +1,8 @@
-use Rattle.rs_standing.proofs.Redefined.{meant_with_routes, meant_with_table, meant_without_route, meant_without_table}
+use Rattle.rs_standing.proofs.Changed.{meant_with_routes, meant_with_table, meant_without_table}
 use Rattle.rs_standing.proofs.changes.changed_definitions_leave_records_meant.Goals as goal
 
-pub returns-clause-routes_come : goal.returns-clause-routes_come
-returns-clause-routes_come c = meant_with_routes
-
-pub returns-clause-route_goes : goal.returns-clause-route_goes
-returns-clause-route_goes c = meant_without_route
+pub returns-clause-routes : goal.returns-clause-routes
+returns-clause-routes c = meant_with_routes
 
 pub returns-clause-table_comes : goal.returns-clause-table_comes
 returns-clause-table_comes c = meant_with_table

@@ -1,4 +1,4 @@
-use Rattle.rs_standing.proofs.Staying.{fewer, same_meant}
+use Rattle.rs_standing.proofs.KeptMeaning.{fewer, same_meant, says_same}
 use Rattle.rs_standing.proofs.changes.meant_contents_stay_meant.Goals as goal
 
 pub returns-clause-fewer : goal.returns-clause-fewer
@@ -6,3 +6,6 @@ returns-clause-fewer c = fewer
 
 pub returns-clause-same : goal.returns-clause-same
 returns-clause-same c = same_meant
+
+pub returns-clause-says : goal.returns-clause-says
+returns-clause-says c = says_same

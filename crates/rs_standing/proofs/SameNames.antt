@@ -1,43 +1,18 @@
--- What a version sees of records that change after it.
-use Rattle.std.proofs.Common.{◌≡◌, ◌<◌, ◌&&◌, ◌==◌, inl, inr, ℕ, true, false, cond, Some, List, [], ◌∷◌, map, filter, refl, sym, ap, subst, ◌∙◌, arith}
+-- The same entries in another order have the same names, and the same is found under each.
+use Rattle.std.proofs.Common.{◌≡◌, true, false, cond, Some, List, ◌∷◌, map, refl, sym, ap, ◌∙◌, arith}
 use Rattle.std.specs.Prelude.{◌≢◌}
 use Rattle.std.specs.List.{AllByRecursion}
 use Rattle.std.specs.List.Sorted.{IsPermutation}
 use Rattle.std.specs.Ordering.{eq_by_cmp}
 use Rattle.std.specs.FinMap as names
 use Rattle.std.specs.FinMap.{find, get-from_entries, same_map}
-use Rattle.std.proofs.lemmas.List.Elements.{All-from_recursion, recursion_from_All}
-use Rattle.std.proofs.lemmas.List.Sorted.{All-permutation, IsPermutation-cons, IsPermutation-map, IsPermutation-refl, IsPermutation-swap, IsPermutation-trans}
+use Rattle.std.proofs.lemmas.List.Sorted.{IsPermutation-cons, IsPermutation-map, IsPermutation-refl, IsPermutation-swap, IsPermutation-trans}
 use Rattle.rs_catalog.proofs.NameOrder.{name_cmp-antisymmetric, name_cmp-total}
 use Rattle.rs_facts.specs.Fact.{Name, name_cmp}
 use Rattle.rs_machine.specs.Lawful.{AreDistinct}
-use Rattle.rs_versioned.specs.Records.{Kept, is_seen}
-use Rattle.rs_versioned.proofs.SeenAfter.{EndsAs, before_birth, before_end, unseen_cleared}
 use Rattle.rs_versioned.proofs.Shuffles.{shuffled}
-use Rattle.rs_standing.specs.Later.{ChangesAfter, ChangesAll, ChangesOnce}
+use Rattle.rs_standing.proofs.Lists.{each_moved}
 use Rattle.rs_standing.proofs.Named.{same_name}
-
--- ---- what is seen on a route
-
-module _ {R Y : Type 0} (kept : Kept R) (route_of : R → ℕ) (show : R → Y) (ends : EndsAs kept route_of show) (version route : ℕ) where
-  abbrev shown : List R → List Y
-  shown records = map show (filter (λ one. route_of one == route && is_seen kept version one) records)
-
-  once_changed : (old now : List R) → ChangesOnce kept version old now → IsPermutation (shown now) (shown old)
-  once_changed old now (inl come) = before_birth kept route_of show version route come.one old now come.come come.born
-  once_changed old now (inr (inl end)) =
-      before_end kept route_of show ends end.at version route end.one old now end.ended end.fresh end.later (subst (λ (n : ℕ). version < n) (sym end.living) (omega (arith, end.below, end.later)))
-  once_changed old now (inr (inr clear)) = unseen_cleared kept route_of show version route clear.oldest clear.cells old now clear.cleared clear.before
-
-  all_changed : (steps : List (List R)) (old now : List R) → ChangesAll kept version old steps now → IsPermutation (shown now) (shown old)
-  all_changed [] old now same = subst (λ (l : List R). IsPermutation (shown l) (shown old)) (sym same) (IsPermutation-refl (shown old))
-  all_changed (next ∷ steps) old now changes =
-      IsPermutation-trans (shown now) (shown next) (shown old) (all_changed steps next now changes.1) (once_changed old next changes.0)
-
-  pub seen_as_before : (old now : List R) → ChangesAfter kept version old now → IsPermutation (shown now) (shown old)
-  seen_as_before old now after = all_changed after.steps old now after.changes
-
--- ---- under names
 
 module _ {X : Type 0} where
   abbrev pub Distinct : List (Name × X) → Type 0
@@ -50,9 +25,7 @@ module _ {X : Type 0} where
     found : Distinct xs → (q : Name) → find name_cmp q xs ≡ find name_cmp q ys
 
   others_moved : (name : Name) (xs ys : List (Name × X)) → IsPermutation xs ys → AllByRecursion (λ other. name ≢ other) (map (λ e. e.0) xs) → AllByRecursion (λ other. name ≢ other) (map (λ e. e.0) ys)
-  others_moved name xs ys p all =
-      recursion_from_All (λ other. name ≢ other) (map (λ e. e.0) ys)
-      (All-permutation (λ other. name ≢ other) (map (λ e. e.0) xs) (map (λ e. e.0) ys) (IsPermutation-map (λ e. e.0) xs ys p) (All-from_recursion (λ other. name ≢ other) (map (λ e. e.0) xs) all))
+  others_moved name xs ys p all = each_moved (λ other. name ≢ other) (map (λ e. e.0) xs) (map (λ e. e.0) ys) (IsPermutation-map (λ e. e.0) xs ys p) all
 
   flipped : (a b : Name × X) (rest : List (Name × X)) (q : Name) → a.0 ≢ b.0 → find name_cmp q (a ∷ b ∷ rest) ≡ find name_cmp q (b ∷ a ∷ rest)
   flipped a b rest q apart =
