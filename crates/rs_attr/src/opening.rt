@@ -9,7 +9,7 @@ ghost use Rattle.std.specs.Prelude.{◌≡◌, ◌⊎◌, ◌<◌, ◌≤◌, �
 ghost use Rattle.std.specs.Int.{w32, to_be_bytes};
 ghost use Rattle.rs_attr.specs.Calls.{IsOpened, Opens};
 ghost use Rattle.rs_attr.specs.Meant.{SayMeant};
-ghost use Rattle.rs_attr.specs.Opening.{AreNoPart, ArePart, HasEntries, LacksEntries, ReachesIndexes, ReachesNoIndexes};
+ghost use Rattle.rs_attr.specs.Opening.{AreNoPart, HasEntries, HaveAllEntries, LacksEntries, ReachesIndexes, ReachesNoIndexes};
 ghost use Rattle.rs_attr.specs.Tables.{AreOn};
 ghost use Rattle.rs_pages.specs.Calls.{OnlyReads};
 ghost use Rattle.rs_page_marks.specs.Marks.{taken};
@@ -113,8 +113,7 @@ fn check_part<P: Pages>(
     requires width { record_width cells.now ≡ event_width told.now.schema.items }
     requires indexes { AreOn told.now.schema.items indexes.now }
     ensures rests { OnlyReads P.Pages result pages.old pages.new }
-    ensures part { P.is_tied pages.old → OnOk result (ArePart told.now.schema.items (P.store pages.old).map indexes.now
-        (listed cells.now)) }
+    ensures entered { P.is_tied pages.old → OnOk result (HaveAllEntries (P.store pages.old).map indexes.now (listed cells.now)) }
     ensures meant { OnOk result (SayMeant told.now route (listed cells.now)) }
     ensures refused { IfErr result (λ why. (why ≡ Refusal.OutOfMemory) ⊎ (why ≡ Refusal.Disk) ⊎ (why ≡ Refusal.DamagedFile)) }
     ensures damaged { P.is_tied pages.old → result ≡ Err Refusal.DamagedFile → AreNoPart told.now route

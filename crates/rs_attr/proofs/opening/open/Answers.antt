@@ -6,7 +6,7 @@ use Rattle.rs_attr.specs.Calls.{IsFound}
 use Rattle.rs_attr.specs.Opening.{OpensNoTable, OpensTable}
 use Rattle.rs_attr.specs.Tables.{IndexState}
 use Rattle.rs_attr.proofs.Opened.{below_all, below_next, below_none, found_back, meant_all, meant_next, meant_none, no_fresh_table, no_indexes_table, no_part_table, no_told_table, opens_table, otherwise_as, passed_as, passed_then, stands_back, told_so}
-use Rattle.rs_attr.proofs.PartsChecked.{no_part_back, part_back}
+use Rattle.rs_attr.proofs.PartsChecked.{all_entries_back, no_part_back}
 use Rattle.rs_attr.proofs.Routes.{order_at, part_left, part_within, read_at}
 use Rattle.rs_attr.specs.declared.told.ToldTable.{ToldTable}
 use Rattle.rs_versioned.specs.declared.route_span.RouteSpan.{RouteSpan}
@@ -170,8 +170,8 @@ loop-next-preserved g c =
           below_next old c.args.indexes.now told routes opening.low high c.part.new.self.low (listed c.in_ok-cells.cells) order
           (c.loop-next.invariant.below tied)
           (found_back old mid same opening.told (told_of (event_width told.schema.items) told.records) c.loop-next.invariant.told (cells_within opening.low high) (listed c.in_ok-cells.cells) (c.in_ok-cells.ensures.found later))
-          (part_back old (g.P.Pages.store c.part.new.pages).map (upto.rests.keeps.pages tied) told.schema.items c.args.indexes.now (listed c.in_ok-cells.cells)
-          (c.in_ok-check_part.ensures.part (g.met.P.Pages.keeps_tied c.args.pages.now c.part.new.pages upto.below tied)))
+          (all_entries_back old (g.P.Pages.store c.part.new.pages).map (upto.rests.keeps.pages tied) c.args.indexes.now (listed c.in_ok-cells.cells)
+          (c.in_ok-check_part.ensures.entered (g.met.P.Pages.keeps_tied c.args.pages.now c.part.new.pages upto.below tied)))
           c.in_ok-cells.ensures.low;
       meant = λ tied.
           let later = g.met.P.Pages.keeps_tied c.args.pages.now c.loop-next.pages c.loop-next.invariant.rests.below tied in
@@ -284,8 +284,8 @@ returns-clause-opens g c = λ tied.
           (stands_back old mid same opening.told (told_of (event_width types) told.records) said versions.working.dead
           (c.in_ok-versions.ensures.stands later (passed_same (event_form opening.told.width) old mid same opening (c.loop-next.invariant.passed tied))))
           (below_all old c.args.indexes.now told c.args.routes.now opening.low (listed c.in_ok-versions.left) (c.loop-next.invariant.below tied) finds
-          (part_back old last (upto.rests.keeps.pages tied) types c.args.indexes.now (listed c.in_ok-versions.left)
-          (c.in_ok-check_part-2.ensures.part (g.met.P.Pages.keeps_tied c.args.pages.now c.finish.new.pages upto.below tied))))
+          (all_entries_back old last (upto.rests.keeps.pages tied) c.args.indexes.now (listed c.in_ok-versions.left)
+          (c.in_ok-check_part-2.ensures.entered (g.met.P.Pages.keeps_tied c.args.pages.now c.finish.new.pages upto.below tied))))
           (meant_all told c.args.routes.now old c.loop-next.next-index c.loop-next.route opening.low c.loop-next.invariant.at (c.loop-next.invariant.meant tied) (listed c.in_ok-versions.left) finds
           c.in_ok-check_part-2.ensures.meant));
       damaged = λ is. absurd (cc);
