@@ -10,8 +10,6 @@ use Rattle.rs_attr.specs.declared.told.ToldTable.{ToldTable}
 use Rattle.rs_pages.specs.PageMap.{PageMap, SamePages}
 use Rattle.rs_tree.proofs.Lists.{has_inside, inside_has, take_next, zip_at, zip_lengths}
 use Rattle.rs_tree_whole.proofs.Joins.{all_push}
-use Rattle.rs_value.specs.declared.column.ColumnType.{ColumnType}
-use Rattle.rs_versioned.specs.Events.{Event, SaysEvent}
 use Rattle.rs_versioned.specs.declared.route_span.RouteSpan.{RouteSpan}
 use Rattle.rs_versioned.proofs.Opened.{all_of_parts}
 use Rattle.rs_cell_versions.proofs.Among.{first_or_rest}

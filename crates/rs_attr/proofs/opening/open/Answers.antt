@@ -1,5 +1,5 @@
 -- The trees, then the cells route by route, and at last those that are left.
-use Rattle.std.proofs.Common.{◌≡◌, ◌<◌, ◌≤◌, ◌∙◌, ◌+◌, ◌^◌, ℕ, get_or, Result, Ok, Err, List, length, not, refl, sym, ap, subst, arith}
+use Rattle.std.proofs.Common.{◌≡◌, ◌≤◌, ◌∙◌, ◌+◌, ℕ, get_or, Result, Ok, Err, List, not, refl, sym, ap, subst, arith}
 use Rattle.std.proofs.lemmas.Result.{err_from_is_err_and}
 use Rattle.std.specs.List.{AllByRecursion}
 use Rattle.rs_attr.specs.Calls.{IsFound}
@@ -14,14 +14,12 @@ use Rattle.rs_interval.specs.Finding.{event_form}
 use Rattle.rs_refusal.specs.declared.refusal.Refusal.{Refusal}
 use Rattle.rs_refusal.specs.declared.refusal.Refusal.TheVariants as refusal
 use Rattle.rs_pages.specs.PageMap.{PageMap}
-use Rattle.rs_value.specs.declared.column.ColumnType.{ColumnType}
 use Rattle.rs_page_marks.specs.Marks.{taken}
 use Rattle.rs_records.specs.Listed.{listed}
 use Rattle.rs_records.specs.Order.{is_below}
 use Rattle.rs_tree.specs.Cells.{cells_within, is_within}
 use Rattle.rs_tree_whole.specs.Validating.{HasNoFreshTree, Validates}
 use Rattle.rs_pages.proofs.Resting.{rests_then}
-use Rattle.rs_cell_versions.specs.declared.told.ToldRecords.{ToldRecords}
 use Rattle.rs_versioned.specs.Tables.{EventTableState}
 use Rattle.rs_versioned.specs.Events.{event_width}
 use Rattle.rs_cell_versions.specs.Opening.{Told, told_of}
