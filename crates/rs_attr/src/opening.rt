@@ -127,9 +127,28 @@ fn check_part<P: Pages>(
 }
 
 impl AttrIndex {
-    /// Ok where each of the cells has its entry in the index. It is refused with 90, with 91, and with 94 only where one has
-    /// none. No page changes.
+    /// Ok where each of the cells has its entry in the index. They are searched for in the index's order. It is refused with 90,
+    /// with 91, and with 94 only where one has none. No page changes.
     pub fn check_entries<P: Pages>(
+        &self,
+        alloc: Global,
+        pages: &mut P,
+        cells: &Cells,
+    ) -> Result<(), Refusal>
+        requires width { record_width cells.now ≡ self.now.field.cell_width }
+        ensures rests { OnlyReads P.Pages result pages.old pages.new }
+        ensures entered { P.is_tied pages.old → OnOk result (HasEntries self.now.field (P.store pages.old).map self.now.working
+            (listed cells.now)) }
+        ensures refused { IfErr result (λ why. (why ≡ Refusal.OutOfMemory) ⊎ (why ≡ Refusal.Disk) ⊎ (why ≡ Refusal.DamagedFile)) }
+        ensures damaged { P.is_tied pages.old → result ≡ Err Refusal.DamagedFile → LacksEntries self.now.field
+            (P.store pages.old).map self.now.working (listed cells.now) }
+    {
+        let ordered = self.in_order(alloc, cells)?;
+        self.check_each(alloc, pages, &ordered)
+    }
+
+    /// Ok where each of the cells has its entry in the index. It is refused as `check_entries` is.
+    fn check_each<P: Pages>(
         &self,
         alloc: Global,
         pages: &mut P,
