@@ -1,5 +1,5 @@
 -- One place after the other.
-use Rattle.std.proofs.Common.{◌≡◌, ◌∙◌, ◌++◌, [], ◌∷◌, ℕ, List, length, refl, sym, ap}
+use Rattle.std.proofs.Common.{◌∙◌, ◌++◌, [], ◌∷◌, ℕ, List, length, refl, sym, ap}
 use Rattle.std.proofs.lemmas.Option.{slice_get_read}
 use Rattle.rs_attr.proofs.Reordered.{ordered_more}
 use Rattle.rs_records.specs.Listed.{listed}

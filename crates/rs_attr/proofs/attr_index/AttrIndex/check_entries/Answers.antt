@@ -1,5 +1,4 @@
 -- The cells in the index's order have the same entries.
-use Rattle.std.proofs.Common.{◌≡◌}
 use Rattle.rs_attr.proofs.Reordered.{moved_have, moved_lack, ok_so}
 use Rattle.rs_records.specs.Listed.{listed}
 use Rattle.rs_attr.proofs.attr_index.AttrIndex.check_entries.Goals as goal
