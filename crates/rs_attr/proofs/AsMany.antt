@@ -1,5 +1,5 @@
 -- Spans are all the maximal runs of what they mean exactly where there are as many runs.
-use Rattle.std.proofs.Common.{◌≡◌, ◌<◌, ◌≤◌, ◌+◌, ℕ, zero, suc, true, List, [], ◌∷◌, length, map, inl, inr, refl, sym, ap, ◌∙◌, subst, arith}
+use Rattle.std.proofs.Common.{◌≡◌, ◌<◌, ◌≤◌, ℕ, zero, suc, List, [], ◌∷◌, length, map, inl, inr, refl, sym, ap, ◌∙◌, subst, arith}
 use Rattle.std.proofs.lemmas.Bool.{cases_lt, false≢true}
 use Rattle.std.proofs.lemmas.List.{length-map}
 use Rattle.std.proofs.lemmas.List.Elements.{Contains-append_right}
@@ -8,12 +8,11 @@ use Rattle.std.specs.List.{AllByRecursion, Contains, remove}
 use Rattle.std.specs.List.Sorted.{IsPermutation}
 use Rattle.std.specs.declared.cmp.Ordering.TheVariants.{Less}
 use Rattle.rs_facts.proofs.RunLaws.{cases_cons, each-at, every-from_each, line_runs-same}
-use Rattle.rs_facts.proofs.SpanLaws.{Covers, Covers-from_contains, contains-from_Holds}
+use Rattle.rs_facts.proofs.SpanLaws.{Covers-from_contains, contains-from_Holds}
 use Rattle.rs_facts.proofs.StretchOrder.{stretch_cmp-less_apart}
-use Rattle.rs_facts.specs.Fact.{Places, contains}
+use Rattle.rs_facts.specs.Fact.{Places}
 use Rattle.rs_facts.specs.Runs.{AreOrdered, AreRunsOf, IsLineRun, IsMaximalRun, Stretch, stretch, stretch_cmp}
 use Rattle.rs_facts.specs.Spans.{AreAllRunsOf, AreOnce, ArePlaced, IsPlaced, places_of}
-use Rattle.rs_value.specs.Row.{Row}
 use Rattle.rs_value.specs.declared.column.Kind.{Kind}
 use Rattle.rs_value.specs.declared.column.Kind.TheVariants.{Line, Point}
 use Rattle.rs_versioned.proofs.SameRuns.{once_shuffled}

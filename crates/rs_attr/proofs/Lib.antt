@@ -11,6 +11,7 @@ pub mod Parts
 pub mod PartsChecked
 pub mod Placed
 pub mod Placing
+pub mod Reordered
 pub mod Roots
 pub mod Routes
 pub mod Tabled

@@ -9,7 +9,6 @@ use Rattle.rs_attr.specs.Meant.{IsOn, SayMeant}
 use Rattle.rs_attr.specs.declared.told.ToldTable.{ToldTable}
 use Rattle.rs_attr.proofs.Routes.{IsPart}
 use Rattle.rs_facts.proofs.RunLaws.{apart-complete}
-use Rattle.rs_facts.specs.Runs.{Stretch}
 use Rattle.rs_facts.specs.Spans.{AreAllRunsOf, places_of}
 use Rattle.rs_value.specs.declared.column.Kind.{Kind}
 use Rattle.rs_versioned.specs.Events.{Event, SaysEvent, is_on, sees_event, span_of, spans_at}

@@ -6,7 +6,7 @@ use Rattle.std.proofs.lemmas.List.Sorted.{length_permutation}
 use Rattle.std.proofs.lemmas.List.Sums.{length-filter}
 use Rattle.std.specs.List.{AllByRecursion, AllZip, Contains}
 use Rattle.rs_attr.specs.Entries.{AreCells, entry_of, index_form}
-use Rattle.rs_attr.specs.Opening.{AreNoPart, ArePart, HasSoMany, HaveAllEntries, IsCountedTree, OpensNoTable, OpensTable, ReachesIndexes, ReachesNoIndexes}
+use Rattle.rs_attr.specs.Opening.{AreNoPart, HasSoMany, HaveAllEntries, IsCountedTree, OpensNoTable, OpensTable, ReachesIndexes, ReachesNoIndexes}
 use Rattle.rs_attr.specs.Meant.{SayMeant}
 use Rattle.rs_attr.specs.Tables.{AreOn, HoldIndexes, IndexState}
 use Rattle.rs_attr.specs.declared.told.ToldTable.{ToldTable}
@@ -14,7 +14,7 @@ use Rattle.rs_attr.proofs.Checked.{index_of_as_many}
 use Rattle.rs_attr.proofs.Counted.{counted_same}
 use Rattle.rs_attr.proofs.MeantParts.{meant_both, meant_part, none_meant}
 use Rattle.rs_attr.proofs.Parts.{tree_wide}
-use Rattle.rs_attr.proofs.PartsChecked.{part_both, part_either, part_none}
+use Rattle.rs_attr.proofs.PartsChecked.{both_entered, either_entered, none_entered}
 use Rattle.rs_attr.proofs.Routes.{IsAt, IsPart, is_there, routes_before}
 use Rattle.rs_interval.specs.Finding.{event_form}
 use Rattle.rs_pages.specs.PageMap.{PageMap, SamePages}
@@ -49,9 +49,9 @@ told_so types told wide is say same = say ∙ ap (λ (n : ℕ). record (told_of 
 abbrev pub Finds : PageMap → Told → (List (List ℕ) → List (List ℕ)) → List (List ℕ) → Type 0
 Finds pages told part found = (cells : List (List ℕ)) (used : ℕ → ℕ) → IsTree (event_form told.width) pages told.root cells used → found ≡ part cells
 
--- whatever tree stands there, its cells below the bound are part of the table
-pub record IsPartBelow (types : List ColumnType) (pages : PageMap) (indexes : List IndexState) (root : ℕ) (low : List ℕ) : Type 0 where
-  pub each : (cells : List (List ℕ)) (used : ℕ → ℕ) → IsTree (event_form (event_width types)) pages root cells used → ArePart types pages indexes (cells_below low cells)
+-- whatever tree stands there, its cells below the bound have their entries in the indexes
+pub record AreEnteredBelow (types : List ColumnType) (pages : PageMap) (indexes : List IndexState) (root : ℕ) (low : List ℕ) : Type 0 where
+  pub each : (cells : List (List ℕ)) (used : ℕ → ℕ) → IsTree (event_form (event_width types)) pages root cells used → HaveAllEntries pages indexes (cells_below low cells)
 
 -- the same of what is told in the same way, on the same pages
 pub found_back : (old mid : PageMap) → SamePages mid old → (told is : Told) → told ≡ is → (part : List (List ℕ) → List (List ℕ)) (found : List (List ℕ)) → Finds mid told part found → Finds old is part found
@@ -189,26 +189,26 @@ module _ (old : PageMap) (indexes : List IndexState) (told : ToldTable) (routes 
   types = told.schema.items
 
   -- nothing was looked at yet
-  pub below_none : (low : List ℕ) → low ≡ [] → IsPartBelow types old indexes told.records.root low
+  pub below_none : (low : List ℕ) → low ≡ [] → AreEnteredBelow types old indexes told.records.root low
   below_none low none = record {
     each = λ cells used tree.
-        subst (ArePart types old indexes) (sym (ap (λ (l : List ℕ). cells_below l cells) none ∙ none_below_nothing cells)) (part_none types old indexes);
+        subst (HaveAllEntries old indexes) (sym (ap (λ (l : List ℕ). cells_below l cells) none ∙ none_below_nothing cells)) (none_entered old indexes);
   }
 
   -- one part more
-  pub below_next : (low high now : List ℕ) (found : List (List ℕ)) → is_below high low ≡ false → IsPartBelow types old indexes told.records.root low → Finds old (told_of (event_width types) told.records) (cells_within low high) found
-      → ArePart types old indexes found → now ≡ high → IsPartBelow types old indexes told.records.root now
-  below_next low high now found order below finds part is = subst (IsPartBelow types old indexes told.records.root) (sym is) (record {
+  pub below_next : (low high now : List ℕ) (found : List (List ℕ)) → is_below high low ≡ false → AreEnteredBelow types old indexes told.records.root low → Finds old (told_of (event_width types) told.records) (cells_within low high) found
+      → HaveAllEntries old indexes found → now ≡ high → AreEnteredBelow types old indexes told.records.root now
+  below_next low high now found order below finds part is = subst (AreEnteredBelow types old indexes told.records.root) (sym is) (record {
     each = λ cells used tree.
-        subst (ArePart types old indexes) (ap (λ (cs : List (List ℕ)). cells_below low cells ++ cs) (finds cells used tree) ∙ sym (below_parted low high cells tree.ascends order))
-        (part_both types old indexes (cells_below low cells) found (below.each cells used tree) part);
+        subst (HaveAllEntries old indexes) (ap (λ (cs : List (List ℕ)). cells_below low cells ++ cs) (finds cells used tree) ∙ sym (below_parted low high cells tree.ascends order))
+        (both_entered old indexes (cells_below low cells) found (below.each cells used tree) part);
   })
 
   -- and the last
-  pub below_all : (low : List ℕ) (left : List (List ℕ)) → IsPartBelow types old indexes told.records.root low → Finds old (told_of (event_width types) told.records) (cells_from low) left → ArePart types old indexes left
-      → (cells : List (List ℕ)) (used : ℕ → ℕ) → IsTree (event_form (event_width types)) old told.records.root cells used → ArePart types old indexes cells
+  pub below_all : (low : List ℕ) (left : List (List ℕ)) → AreEnteredBelow types old indexes told.records.root low → Finds old (told_of (event_width types) told.records) (cells_from low) left → HaveAllEntries old indexes left
+      → (cells : List (List ℕ)) (used : ℕ → ℕ) → IsTree (event_form (event_width types)) old told.records.root cells used → HaveAllEntries old indexes cells
   below_all low left below finds part cells used tree =
-      part_either types old indexes (λ cell. is_below cell low) cells (below.each cells used tree) (subst (ArePart types old indexes) (finds cells used tree) part)
+      either_entered old (λ cell. is_below cell low) indexes cells (below.each cells used tree) (subst (HaveAllEntries old indexes) (finds cells used tree) part)
 
   -- a table that stands as it was told
   table_stands : (standing : Standing) (events : List Event) (used : ℕ → ℕ) → StandsAs told.records standing → (records : HoldsRecords (kept_events types) old standing told.records.accepted events used)
@@ -265,7 +265,7 @@ module _ (old : PageMap) (indexes : List IndexState) (told : ToldTable) (routes 
       -- all of it stands there
       pub opens_table : (standing : Standing) (after : ℕ → ℕ) → AreOn types indexes → StandsAs told.records standing → ReachesIndexes mid indexes (told.records.living + told.records.garbage) between after
           → ((cells : List (List ℕ)) (used : ℕ → ℕ) → IsTree (event_form (event_width types)) old told.records.root cells used → StandsTold (event_form (event_width types)) old (told_of (event_width types) told.records) standing.dead cells used)
-          → ((cells : List (List ℕ)) (used : ℕ → ℕ) → IsTree (event_form (event_width types)) old told.records.root cells used → ArePart types old indexes cells)
+          → ((cells : List (List ℕ)) (used : ℕ → ℕ) → IsTree (event_form (event_width types)) old told.records.root cells used → HaveAllEntries old indexes cells)
           → ((cells : List (List ℕ)) (used : ℕ → ℕ) → IsTree (event_form (event_width types)) old told.records.root cells used → SayEventsMeant told routes cells)
           → OpensTable old told standing indexes routes before after
       opens_table standing after on as_told reaches stands_so part_so meant_so =
@@ -291,7 +291,7 @@ module _ (old : PageMap) (indexes : List IndexState) (told : ToldTable) (routes 
               };
               entries = indexes_of types old cells (told.records.living + told.records.garbage) (record { wide = tree_wide (event_form (event_width types)) old told.records.root cells validates.used validates.tree; ascend = validates.tree.ascends })
                   (told_many standing.dead cells validates.used stands) indexes reaches.uses on
-                  (counted_same mid old (same_back mid old same) (told.records.living + told.records.garbage) indexes reaches.uses reaches.trees) part.entered;
+                  (counted_same mid old (same_back mid old same) (told.records.living + told.records.garbage) indexes reaches.uses reaches.trees) part;
             };
             meant = so.meant;
             reached = λ n. omega (arith, reaches.reached n, validates.reached n);

@@ -4,14 +4,12 @@ use Rattle.std.proofs.lemmas.List.Sorted.{Contains-permutation, IsPermutation-sy
 use Rattle.std.specs.List.{AllByRecursion, Contains}
 use Rattle.std.specs.List.Sorted.{IsPermutation}
 use Rattle.rs_attr.specs.Entries.{Field, HoldsIndex, entry_of, index_form}
-use Rattle.rs_attr.specs.Opening.{AreNoPart, ArePart, HasEntries, HaveAllEntries, HaveEntries, LacksEntries}
+use Rattle.rs_attr.specs.Opening.{AreNoPart, HasEntries, HaveAllEntries, HaveEntries, LacksEntries}
 use Rattle.rs_attr.specs.Tables.{HoldIndexes, IndexState}
 use Rattle.rs_attr.specs.declared.told.ToldTable.{ToldTable}
 use Rattle.rs_pages.specs.PageMap.{PageMap, SamePages}
 use Rattle.rs_tree.proofs.Lists.{has_inside, inside_has, take_next, zip_at, zip_lengths}
 use Rattle.rs_tree_whole.proofs.Joins.{all_push}
-use Rattle.rs_value.specs.declared.column.ColumnType.{ColumnType}
-use Rattle.rs_versioned.specs.Events.{Event, SaysEvent}
 use Rattle.rs_versioned.specs.declared.route_span.RouteSpan.{RouteSpan}
 use Rattle.rs_versioned.proofs.Opened.{all_of_parts}
 use Rattle.rs_cell_versions.proofs.Among.{first_or_rest}
@@ -38,7 +36,7 @@ module _ (old mid : PageMap) (same : SamePages mid old) where
   entries_back : (field : Field) (root : ℕ) (cells : List (List ℕ)) → HasEntries field mid root cells → HasEntries field old root cells
   entries_back field root cells have = record { each = λ entries used tree. have.each entries used (tree_same (index_form field) old mid same root entries used tree) }
 
-  all_entries_back : (indexes : List IndexState) (cells : List (List ℕ)) → HaveAllEntries mid indexes cells → HaveAllEntries old indexes cells
+  pub all_entries_back : (indexes : List IndexState) (cells : List (List ℕ)) → HaveAllEntries mid indexes cells → HaveAllEntries old indexes cells
   all_entries_back [] cells have = tt
   all_entries_back (x ∷ xs) cells have = (entries_back x.field x.working cells have.0, all_entries_back xs cells have.1)
 
@@ -50,9 +48,6 @@ module _ (old mid : PageMap) (same : SamePages mid old) where
     record { entries = hold.0.entries; tree = tree_same (index_form x.field) old mid same x.working hold.0.entries u hold.0.tree; are = hold.0.are },
     hold_same xs cells us hold.1,
   )
-
-  pub part_back : (types : List ColumnType) (indexes : List IndexState) (cells : List (List ℕ)) → ArePart types mid indexes cells → ArePart types old indexes cells
-  part_back types indexes cells part = record { say = part.say; entered = all_entries_back indexes cells part.entered }
 
   pub no_part_back : (told : ToldTable) (route : Option RouteSpan) (indexes : List IndexState) (cells : List (List ℕ)) → AreNoPart told route mid indexes cells → AreNoPart told route old indexes cells
   no_part_back told route indexes cells missing = record { none = λ uses all say hold have. missing.none uses all say (hold_same indexes all uses hold) have }
@@ -76,41 +71,24 @@ module _ (old mid : PageMap) (same : SamePages mid old) where
           lacks.none holds.entries one.0 (tree_same (index_form index.field) old mid same index.working holds.entries one.0 holds.tree) (each_among index.field holds.entries all cells holds.are have);
     }
 
--- no cells are part of any table
-none_entered : (pages : PageMap) (indexes : List IndexState) → HaveAllEntries pages indexes []
+-- no cells have their entries in any index
+pub none_entered : (pages : PageMap) (indexes : List IndexState) → HaveAllEntries pages indexes []
 none_entered pages [] = tt
 none_entered pages (x ∷ xs) = (record { each = λ entries used tree. tt }, none_entered pages xs)
 
-pub part_none : (types : List ColumnType) (pages : PageMap) (indexes : List IndexState) → ArePart types pages indexes []
-part_none types pages indexes = record { say = tt; entered = none_entered pages indexes }
-
 -- two parts are one
-both_entered : (pages : PageMap) (indexes : List IndexState) (xs ys : List (List ℕ)) → HaveAllEntries pages indexes xs → HaveAllEntries pages indexes ys → HaveAllEntries pages indexes (xs ++ ys)
+pub both_entered : (pages : PageMap) (indexes : List IndexState) (xs ys : List (List ℕ)) → HaveAllEntries pages indexes xs → HaveAllEntries pages indexes ys → HaveAllEntries pages indexes (xs ++ ys)
 both_entered pages [] xs ys one other = tt
 both_entered pages (i ∷ is) xs ys one other = (
   record { each = λ entries used tree. all_both (λ (cell : List ℕ). Contains entries (entry_of i.field cell)) xs ys (one.0.each entries used tree) (other.0.each entries used tree) },
   both_entered pages is xs ys one.1 other.1,
 )
 
-pub part_both : (types : List ColumnType) (pages : PageMap) (indexes : List IndexState) (xs ys : List (List ℕ)) → ArePart types pages indexes xs → ArePart types pages indexes ys
-    → ArePart types pages indexes (xs ++ ys)
-part_both types pages indexes xs ys one other = record {
-  say = all_both (λ (cell : List ℕ). (event : Event) × SaysEvent types cell event) xs ys one.say other.say;
-  entered = both_entered pages indexes xs ys one.entered other.entered;
-}
-
 -- what passes a test, and what doesn't
-either_entered : (pages : PageMap) (test : List ℕ → Bool) (indexes : List IndexState) (xs : List (List ℕ)) → HaveAllEntries pages indexes (filter test xs)
+pub either_entered : (pages : PageMap) (test : List ℕ → Bool) (indexes : List IndexState) (xs : List (List ℕ)) → HaveAllEntries pages indexes (filter test xs)
     → HaveAllEntries pages indexes (filter (λ x. not (test x)) xs) → HaveAllEntries pages indexes xs
 either_entered pages test [] xs one other = tt
 either_entered pages test (i ∷ is) xs one other = (
   record { each = λ entries used tree. all_of_parts (λ (cell : List ℕ). Contains entries (entry_of i.field cell)) test xs (one.0.each entries used tree) (other.0.each entries used tree) },
   either_entered pages test is xs one.1 other.1,
 )
-
-pub part_either : (types : List ColumnType) (pages : PageMap) (indexes : List IndexState) (test : List ℕ → Bool) (xs : List (List ℕ)) → ArePart types pages indexes (filter test xs)
-    → ArePart types pages indexes (filter (λ x. not (test x)) xs) → ArePart types pages indexes xs
-part_either types pages indexes test xs one other = record {
-  say = all_of_parts (λ (cell : List ℕ). (event : Event) × SaysEvent types cell event) test xs one.say other.say;
-  entered = either_entered pages test indexes xs one.entered other.entered;
-}

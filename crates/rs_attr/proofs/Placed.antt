@@ -1,5 +1,5 @@
 -- What one cell after the other tells of the events of a part.
-use Rattle.std.proofs.Common.{◌≡◌, ◌+◌, ℕ, zero, suc, Bool, true, false, cond, Some, Option, List, [], ◌∷◌, ◌++◌, map, filter, take, slice_get, refl, sym, ap, ◌∙◌, subst, arith}
+use Rattle.std.proofs.Common.{◌≡◌, ◌+◌, ℕ, zero, suc, Bool, true, false, cond, Some, Option, List, [], ◌∷◌, ◌++◌, map, take, slice_get, refl, sym, ap, ◌∙◌, subst, arith}
 use Rattle.std.proofs.lemmas.List.{map-append}
 use Rattle.std.proofs.lemmas.List.Elements.{filter-append}
 use Rattle.std.specs.List.{AllByRecursion, AllZip}
@@ -7,7 +7,7 @@ use Rattle.rs_attr.specs.Meant.{IsOn, IsPlacedOn, SayMeant, SayPlaced, seen_even
 use Rattle.rs_attr.specs.declared.told.ToldTable.{ToldTable}
 use Rattle.rs_cell_versions.specs.Version.{sees}
 use Rattle.rs_facts.specs.Runs.{IsMaximalRun, Stretch}
-use Rattle.rs_facts.specs.Spans.{AreAllRunsOf, ArePlaced, IsPlaced, places_of}
+use Rattle.rs_facts.specs.Spans.{AreAllRunsOf, ArePlaced, places_of}
 use Rattle.rs_tree.proofs.Lists.{take_next}
 use Rattle.rs_value.specs.declared.column.Kind.{Kind}
 use Rattle.rs_value.specs.declared.column.Kind.TheVariants.{Line, Point}

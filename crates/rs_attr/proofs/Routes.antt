@@ -82,10 +82,10 @@ pub record IsPart (types : List ColumnType) (routes : List RouteSpan) (route : O
   pub only : (other : RouteSpan) → Contains routes other → between other.number ≡ true → route ≡ Some other
 
 lt_of : (n m : ℕ) → nat_lt n m ≡ true → n < m
-lt_of n m is = elim (cases_lt n m) [ | inl below ↦ below | inr above ↦ absurd (false≢true (sym (le-ltb n m above) ∙ is)) ]
+lt_of n m is = elim (cases_lt n m) [ inl below ↦ below | inr above ↦ absurd (false≢true (sym (le-ltb n m above) ∙ is)) ]
 
 le_of : (n m : ℕ) → not (nat_lt n m) ≡ true → m ≤ n
-le_of n m is = elim (cases_lt n m) [ | inl below ↦ absurd (false≢true (sym (ap not (lt-ltb n m below)) ∙ is)) | inr above ↦ above ]
+le_of n m is = elim (cases_lt n m) [ inl below ↦ absurd (false≢true (sym (ap not (lt-ltb n m below)) ∙ is)) | inr above ↦ above ]
 
 first_true : (a b : Bool) → (a && b) ≡ true → a ≡ true
 first_true true b is = refl

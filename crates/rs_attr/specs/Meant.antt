@@ -1,5 +1,5 @@
 -- What the cells of a part of a table say and mean: a part has events of one route alone that the accepted version sees.
-use Rattle.std.specs.Prelude.{◌≡◌, ◌≤◌, ℕ, List, [], ◌∷◌, Option, Some, None, filter, map}
+use Rattle.std.specs.Prelude.{◌≡◌, ℕ, List, [], ◌∷◌, Option, Some, None, filter, map}
 use Rattle.std.specs.List.{AllByRecursion, AllZip}
 use Rattle.rs_attr.specs.declared.told.ToldTable.{ToldTable}
 use Rattle.rs_facts.specs.Runs.{Stretch}
@@ -7,7 +7,7 @@ use Rattle.rs_facts.specs.Spans.{AreAllRunsOf, IsPlaced, places_of, seen}
 use Rattle.rs_facts.specs.declared.fact.Span.{Span}
 use Rattle.rs_value.specs.declared.column.Kind.{Kind}
 use Rattle.rs_versioned.specs.Events.{Event, SaysEvent, sees_event, span_of}
-use Rattle.rs_versioned.specs.Meant.{AreEventsMeant, IsSpanOf}
+use Rattle.rs_versioned.specs.Meant.{IsSpanOf}
 use Rattle.rs_versioned.specs.declared.route_span.RouteSpan.{RouteSpan}
 
 -- the events that the accepted version sees, and their spans

@@ -8,8 +8,7 @@ use Rattle.rs_attr.specs.declared.told.ToldTable.{ToldTable}
 use Rattle.rs_page_owners.specs.Counts.{◌&◌}
 use Rattle.rs_pages.specs.PageMap.{PageMap}
 use Rattle.rs_tree.specs.Tree.{IsTree}
-use Rattle.rs_value.specs.declared.column.ColumnType.{ColumnType}
-use Rattle.rs_versioned.specs.Events.{Event, SaysEvent}
+use Rattle.rs_versioned.specs.Events.{Event}
 use Rattle.rs_versioned.specs.Meant.{AreEventsMeant}
 use Rattle.rs_versioned.specs.Opening.{StandsAs}
 use Rattle.rs_versioned.specs.declared.route_span.RouteSpan.{RouteSpan}
@@ -68,11 +67,6 @@ pub record ReachesNoIndexes (pages : PageMap) (indexes : List IndexState) (count
 -- whatever trees stand there for the indexes, each of the cells has its entry in each
 abbrev pub HaveAllEntries : PageMap → List IndexState → List (List ℕ) → Type 0
 HaveAllEntries pages indexes cells = AllByRecursion (λ index. HasEntries index.field pages index.working cells) indexes
-
--- each of the cells says an event, and has its entry in each index
-pub record ArePart (types : List ColumnType) (pages : PageMap) (indexes : List IndexState) (cells : List (List ℕ)) : Type 0 where
-  pub say : AllByRecursion (λ cell. (event : Event) × SaysEvent types cell event) cells
-  pub entered : HaveAllEntries pages indexes cells
 
 -- where the cells say events that are meant on the route, the indexes have no entries of cells that these are among
 pub record AreNoPart (told : ToldTable) (route : Option RouteSpan) (pages : PageMap) (indexes : List IndexState) (cells : List (List ℕ)) : Type 0 where

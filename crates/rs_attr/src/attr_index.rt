@@ -3,13 +3,13 @@
 //! Changes are made together or not at all: `commit` keeps them, `abandon` takes them back, and neither takes memory. The
 //! pages are to be committed or abandoned with them.
 
-ghost use Rattle.std.specs.Prelude.{◌≡◌, ◌≢◌, ◌↔◌, ◌<◌, ◌≤◌, ℕ, List, [], Contains, Err, IfOk, IsTrue, OnOk, length, true};
+ghost use Rattle.std.specs.Prelude.{◌≡◌, ◌≢◌, ◌↔◌, ◌<◌, ◌≤◌, ℕ, List, [], Contains, Err, IfOk, IsPermutation, IsTrue, OnOk, length, true};
 ghost use Rattle.rs_attr.specs.Entries.{FitsPages, IsColumn, entry_of, index_form};
 ghost use Rattle.rs_attr.specs.Inner.{changed};
 ghost use Rattle.rs_attr.specs.IndexCalls.{Checks, Edits, Equals, KeepsIndex, Leaves, RefusesReading};
 ghost use Rattle.rs_pages.specs.Calls.{OnlyReads};
 ghost use Rattle.rs_page_marks.specs.Marks.{taken};
-ghost use Rattle.rs_records.specs.Listed.{record_width};
+ghost use Rattle.rs_records.specs.Listed.{listed, record_width};
 ghost use Rattle.rs_tree.specs.Cells.{with_cell, without_cell};
 ghost use Rattle.rs_tree.specs.Tree.{IsTree};
 ghost use Rattle.rs_tree_whole.specs.Calls.{RefusesToCheck};
@@ -19,6 +19,7 @@ ghost use Rattle.rs_value.specs.View.{datum_of};
 
 use crate::entry::{entry_of, is_of_type, value_bytes, write_entry_and_zero};
 use crate::equal::{entries_with, seen_cells};
+use crate::ordered::by_value;
 use rs_btree::Tree;
 use rs_page::PageNumber;
 use rs_page_marks::Reached;
@@ -28,7 +29,7 @@ use rs_refusal::Refusal;
 use rs_tree::NoSummary;
 use rs_value::{ColumnType, Schema, Value, column_width};
 use rs_versioned::event::EVENT_BYTES;
-use std::alloc::Global;
+use std::alloc::{AllocError, Global};
 use std::marker::Model;
 
 /// The bytes of an event's cell before its row.
@@ -138,6 +139,15 @@ impl AttrIndex {
         ensures refused { RefusesToCheck result }
     {
         self.tree.validate(pages, reached)
+    }
+
+    /// The cells in the order of their entries.
+    pub(crate) fn in_order(&self, alloc: Global, cells: &Cells) -> Result<Cells, AllocError>
+        requires width { record_width cells.now ≡ self.now.field.cell_width }
+        ensures moved { IfOk result (λ ordered. IsPermutation (listed cells.now) (listed ordered)) }
+        ensures width { IfOk result (λ ordered. record_width ordered ≡ record_width cells.now) }
+    {
+        by_value(alloc, cells, self.start, column_width(self.column))
     }
 
     /// Whether the entry of a cell is in the index. It is refused with 90, with 91, and with 94 only where no tree stands there.

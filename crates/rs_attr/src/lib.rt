@@ -11,6 +11,7 @@ mod equal;
 pub mod laws;
 mod meant;
 pub mod opening;
+mod ordered;
 pub mod table;
 pub mod told;
 

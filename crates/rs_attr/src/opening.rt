@@ -9,7 +9,7 @@ ghost use Rattle.std.specs.Prelude.{◌≡◌, ◌⊎◌, ◌<◌, ◌≤◌, �
 ghost use Rattle.std.specs.Int.{w32, to_be_bytes};
 ghost use Rattle.rs_attr.specs.Calls.{IsOpened, Opens};
 ghost use Rattle.rs_attr.specs.Meant.{SayMeant};
-ghost use Rattle.rs_attr.specs.Opening.{AreNoPart, ArePart, HasEntries, LacksEntries, ReachesIndexes, ReachesNoIndexes};
+ghost use Rattle.rs_attr.specs.Opening.{AreNoPart, HasEntries, HaveAllEntries, LacksEntries, ReachesIndexes, ReachesNoIndexes};
 ghost use Rattle.rs_attr.specs.Tables.{AreOn};
 ghost use Rattle.rs_pages.specs.Calls.{OnlyReads};
 ghost use Rattle.rs_page_marks.specs.Marks.{taken};
@@ -113,8 +113,7 @@ fn check_part<P: Pages>(
     requires width { record_width cells.now ≡ event_width told.now.schema.items }
     requires indexes { AreOn told.now.schema.items indexes.now }
     ensures rests { OnlyReads P.Pages result pages.old pages.new }
-    ensures part { P.is_tied pages.old → OnOk result (ArePart told.now.schema.items (P.store pages.old).map indexes.now
-        (listed cells.now)) }
+    ensures entered { P.is_tied pages.old → OnOk result (HaveAllEntries (P.store pages.old).map indexes.now (listed cells.now)) }
     ensures meant { OnOk result (SayMeant told.now route (listed cells.now)) }
     ensures refused { IfErr result (λ why. (why ≡ Refusal.OutOfMemory) ⊎ (why ≡ Refusal.Disk) ⊎ (why ≡ Refusal.DamagedFile)) }
     ensures damaged { P.is_tied pages.old → result ≡ Err Refusal.DamagedFile → AreNoPart told.now route
@@ -128,9 +127,28 @@ fn check_part<P: Pages>(
 }
 
 impl AttrIndex {
-    /// Ok where each of the cells has its entry in the index. It is refused with 90, with 91, and with 94 only where one has
-    /// none. No page changes.
+    /// Ok where each of the cells has its entry in the index. They are searched for in the index's order. It is refused with 90,
+    /// with 91, and with 94 only where one has none. No page changes.
     pub fn check_entries<P: Pages>(
+        &self,
+        alloc: Global,
+        pages: &mut P,
+        cells: &Cells,
+    ) -> Result<(), Refusal>
+        requires width { record_width cells.now ≡ self.now.field.cell_width }
+        ensures rests { OnlyReads P.Pages result pages.old pages.new }
+        ensures entered { P.is_tied pages.old → OnOk result (HasEntries self.now.field (P.store pages.old).map self.now.working
+            (listed cells.now)) }
+        ensures refused { IfErr result (λ why. (why ≡ Refusal.OutOfMemory) ⊎ (why ≡ Refusal.Disk) ⊎ (why ≡ Refusal.DamagedFile)) }
+        ensures damaged { P.is_tied pages.old → result ≡ Err Refusal.DamagedFile → LacksEntries self.now.field
+            (P.store pages.old).map self.now.working (listed cells.now) }
+    {
+        let ordered = self.in_order(alloc, cells)?;
+        self.check_each(alloc, pages, &ordered)
+    }
+
+    /// Ok where each of the cells has its entry in the index. It is refused as `check_entries` is.
+    fn check_each<P: Pages>(
         &self,
         alloc: Global,
         pages: &mut P,

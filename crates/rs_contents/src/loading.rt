@@ -2,7 +2,7 @@
 
 ghost use Rattle.std.specs.Prelude.{◌≡◌, ◌≤◌, ◌<◌, ◌^◌, ◌↔◌, ◌⊎◌, Err, IfErr, IfOk, IsOkUnless, IsTrue, IsPermutation, OnErr, OnOk, ℕ, false, map, replicate};
 ghost use Rattle.std.specs.List.{AllByRecursion};
-ghost use Rattle.std.specs.List.Sorted.{IsNonDecreasing};
+ghost use Rattle.std.specs.List.Sorted.{IsNonDecreasingBy};
 ghost use Rattle.rs_catalog_pages.specs.Said.{said_catalogue, said_directory};
 ghost use Rattle.rs_catalog_pages.specs.Said.{said_route};
 ghost use Rattle.rs_contents.specs.Calls.{Loads, RefusesToLoad};
@@ -121,7 +121,7 @@ fn rising_routes(alloc: Global, routes: &[StoredRoute]) -> Result<Vec<RouteSpan>
 /// The routes by their numbers, the least first.
 fn spans_by_number(alloc: Global, routes: &[StoredRoute]) -> Result<Vec<RouteSpan>, AllocError>
     ensures all { IfOk result (λ spans. IsPermutation (map span_of_route (map said_route routes.now)) spans.items) }
-    ensures sorted { IfOk result (λ spans. IsNonDecreasing (map (λ span. span.number) spans.items)) }
+    ensures sorted { IfOk result (λ spans. IsNonDecreasingBy (λ span. span.number) spans.items) }
 {
     let mut spans = Vec::with_capacity(alloc, routes.len())?;
     for route in routes {

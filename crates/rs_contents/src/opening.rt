@@ -19,7 +19,7 @@ use rs_page_marks::Reached;
 use rs_pages::Pages;
 use rs_refusal::Refusal;
 use rs_attr::ToldTable;
-use rs_value::Kind;
+use rs_value::{Kind, Schema};
 use rs_versioned::{ReferentTable, RouteSpan, ToldRecords};
 use std::alloc::Global;
 
@@ -136,11 +136,7 @@ fn open_table<P: Pages>(
     };
     let items = definitions.indexes.as_slice();
     let indexes = indexes_of(alloc, &schema, item.number, items, directory)?;
-    let told = ToldTable {
-        kind: kind_of(item.kind),
-        schema,
-        records: told_of(tree, directory.accepted),
-    };
+    let told = told_table(item, schema, told_of(tree, directory.accepted));
     let records = rs_attr::open(
         alloc,
         pages,
@@ -150,6 +146,20 @@ fn open_table<P: Pages>(
         reached,
     )?;
     Ok(OpenedTable { records, indexes })
+}
+
+/// What the item and the directory say of a table, with the columns of its item.
+fn told_table(item: &StoredTable, schema: Schema, records: ToldRecords) -> ToldTable
+    ensures kind { result.kind ≡ kind_of item.now.kind }
+    ensures columns { result.schema.items ≡ schema.items }
+    ensures records { result.records ≡ records }
+{
+    let kind = kind_of(item.kind);
+    ToldTable {
+        kind,
+        schema,
+        records,
+    }
 }
 
 /// The kind that a table's item says: points where its code is 0, else lines.

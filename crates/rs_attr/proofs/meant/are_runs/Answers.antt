@@ -9,8 +9,7 @@ use Rattle.rs_attr.proofs.meant.are_runs.Goals as goal
 pub returns : goal.returns
 returns c =
     let spans = c.args.spans.items in
-    let runs = c.runs.result.items in
-    (
+    let runs = c.runs.result.items in (
       λ yes.
           let same : c.len.result ≡ c.len-before.result = grind (arith, nat_tests) in
           let many : length (map seen runs) ≡ length (map seen spans) =

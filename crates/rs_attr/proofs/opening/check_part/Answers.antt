@@ -9,8 +9,6 @@ use Rattle.rs_attr.proofs.PartsChecked.{entered_next, no_part_at}
 use Rattle.rs_refusal.specs.declared.refusal.Refusal.TheVariants as refusal
 use Rattle.rs_records.specs.Listed.{listed}
 use Rattle.rs_pages.proofs.Resting.{rests_none, rests_then}
-use Rattle.rs_versioned.specs.Events.{SaysEvent}
-use Rattle.rs_versioned.proofs.Opened.{each_of_listed}
 use Rattle.rs_attr.proofs.opening.check_part.Goals as goal
 
 pub loop-index-init : goal.loop-index-init
@@ -52,9 +50,7 @@ loop-index-preserved g c = record {
 pub returns-clause-rests : goal.returns-clause-rests
 returns-clause-rests g c = c.loop-index.invariant.rests
 
-pub returns-clause-part : goal.returns-clause-part
-returns-clause-part g c = λ tied. record {
-  say = each_of_listed (SaysEvent c.args.told.now.schema.items) (listed c.args.cells.now) c.in_ok-check_events.ensures.meant.events c.in_ok-check_events.ensures.meant.say;
-  entered = subst (λ (xs : List IndexState). HaveAllEntries (g.P.Pages.store c.args.pages.now).map xs (listed c.args.cells.now))
-      (take_all c.loop-index.index-index c.args.indexes.now (omega arith)) (c.loop-index.invariant.entered tied);
-}
+pub returns-clause-entered : goal.returns-clause-entered
+returns-clause-entered g c = λ tied.
+    subst (λ (xs : List IndexState). HaveAllEntries (g.P.Pages.store c.args.pages.now).map xs (listed c.args.cells.now)) (take_all c.loop-index.index-index c.args.indexes.now (omega arith))
+    (c.loop-index.invariant.entered tied)

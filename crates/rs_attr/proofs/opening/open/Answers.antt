@@ -1,12 +1,12 @@
 -- The trees, then the cells route by route, and at last those that are left.
-use Rattle.std.proofs.Common.{◌≡◌, ◌<◌, ◌≤◌, ◌∙◌, ◌+◌, ◌^◌, ℕ, get_or, Result, Ok, Err, List, length, not, refl, sym, ap, subst, arith}
+use Rattle.std.proofs.Common.{◌≡◌, ◌≤◌, ◌∙◌, ◌+◌, ℕ, get_or, Result, Ok, Err, List, not, refl, sym, ap, subst, arith}
 use Rattle.std.proofs.lemmas.Result.{err_from_is_err_and}
 use Rattle.std.specs.List.{AllByRecursion}
 use Rattle.rs_attr.specs.Calls.{IsFound}
 use Rattle.rs_attr.specs.Opening.{OpensNoTable, OpensTable}
 use Rattle.rs_attr.specs.Tables.{IndexState}
 use Rattle.rs_attr.proofs.Opened.{below_all, below_next, below_none, found_back, meant_all, meant_next, meant_none, no_fresh_table, no_indexes_table, no_part_table, no_told_table, opens_table, otherwise_as, passed_as, passed_then, stands_back, told_so}
-use Rattle.rs_attr.proofs.PartsChecked.{no_part_back, part_back}
+use Rattle.rs_attr.proofs.PartsChecked.{all_entries_back, no_part_back}
 use Rattle.rs_attr.proofs.Routes.{order_at, part_left, part_within, read_at}
 use Rattle.rs_attr.specs.declared.told.ToldTable.{ToldTable}
 use Rattle.rs_versioned.specs.declared.route_span.RouteSpan.{RouteSpan}
@@ -14,14 +14,12 @@ use Rattle.rs_interval.specs.Finding.{event_form}
 use Rattle.rs_refusal.specs.declared.refusal.Refusal.{Refusal}
 use Rattle.rs_refusal.specs.declared.refusal.Refusal.TheVariants as refusal
 use Rattle.rs_pages.specs.PageMap.{PageMap}
-use Rattle.rs_value.specs.declared.column.ColumnType.{ColumnType}
 use Rattle.rs_page_marks.specs.Marks.{taken}
 use Rattle.rs_records.specs.Listed.{listed}
 use Rattle.rs_records.specs.Order.{is_below}
 use Rattle.rs_tree.specs.Cells.{cells_within, is_within}
 use Rattle.rs_tree_whole.specs.Validating.{HasNoFreshTree, Validates}
 use Rattle.rs_pages.proofs.Resting.{rests_then}
-use Rattle.rs_cell_versions.specs.declared.told.ToldRecords.{ToldRecords}
 use Rattle.rs_versioned.specs.Tables.{EventTableState}
 use Rattle.rs_versioned.specs.Events.{event_width}
 use Rattle.rs_cell_versions.specs.Opening.{Told, told_of}
@@ -170,8 +168,8 @@ loop-next-preserved g c =
           below_next old c.args.indexes.now told routes opening.low high c.part.new.self.low (listed c.in_ok-cells.cells) order
           (c.loop-next.invariant.below tied)
           (found_back old mid same opening.told (told_of (event_width told.schema.items) told.records) c.loop-next.invariant.told (cells_within opening.low high) (listed c.in_ok-cells.cells) (c.in_ok-cells.ensures.found later))
-          (part_back old (g.P.Pages.store c.part.new.pages).map (upto.rests.keeps.pages tied) told.schema.items c.args.indexes.now (listed c.in_ok-cells.cells)
-          (c.in_ok-check_part.ensures.part (g.met.P.Pages.keeps_tied c.args.pages.now c.part.new.pages upto.below tied)))
+          (all_entries_back old (g.P.Pages.store c.part.new.pages).map (upto.rests.keeps.pages tied) c.args.indexes.now (listed c.in_ok-cells.cells)
+          (c.in_ok-check_part.ensures.entered (g.met.P.Pages.keeps_tied c.args.pages.now c.part.new.pages upto.below tied)))
           c.in_ok-cells.ensures.low;
       meant = λ tied.
           let later = g.met.P.Pages.keeps_tied c.args.pages.now c.loop-next.pages c.loop-next.invariant.rests.below tied in
@@ -284,8 +282,8 @@ returns-clause-opens g c = λ tied.
           (stands_back old mid same opening.told (told_of (event_width types) told.records) said versions.working.dead
           (c.in_ok-versions.ensures.stands later (passed_same (event_form opening.told.width) old mid same opening (c.loop-next.invariant.passed tied))))
           (below_all old c.args.indexes.now told c.args.routes.now opening.low (listed c.in_ok-versions.left) (c.loop-next.invariant.below tied) finds
-          (part_back old last (upto.rests.keeps.pages tied) types c.args.indexes.now (listed c.in_ok-versions.left)
-          (c.in_ok-check_part-2.ensures.part (g.met.P.Pages.keeps_tied c.args.pages.now c.finish.new.pages upto.below tied))))
+          (all_entries_back old last (upto.rests.keeps.pages tied) c.args.indexes.now (listed c.in_ok-versions.left)
+          (c.in_ok-check_part-2.ensures.entered (g.met.P.Pages.keeps_tied c.args.pages.now c.finish.new.pages upto.below tied))))
           (meant_all told c.args.routes.now old c.loop-next.next-index c.loop-next.route opening.low c.loop-next.invariant.at (c.loop-next.invariant.meant tied) (listed c.in_ok-versions.left) finds
           c.in_ok-check_part-2.ensures.meant));
       damaged = λ is. absurd (cc);

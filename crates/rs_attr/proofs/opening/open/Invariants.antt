@@ -1,6 +1,6 @@
--- The cells below the bound are part of the table, and say events that are meant.
+-- The cells below the bound have their entries in the indexes, and say events that are meant.
 use Rattle.std.proofs.Common.{◌≡◌, Ok}
-use Rattle.rs_attr.proofs.Opened.{AreMeantBelow, IsPartBelow}
+use Rattle.rs_attr.proofs.Opened.{AreMeantBelow, AreEnteredBelow}
 use Rattle.rs_attr.proofs.Routes.{IsAt}
 use Rattle.rs_interval.specs.Finding.{event_form}
 use Rattle.rs_pages.specs.Lending.{RestsAfter}
@@ -14,6 +14,6 @@ invariant-loop-next g l = record {
   told : l.opening.told ≡ told_of (event_width l.told.schema.items) l.told.records;
   passed : g.P.Pages.is_tied l.fn.pages → HasPassed (event_form l.opening.told.width) (g.P.Pages.store l.fn.pages).map l.opening;
   at : IsAt l.routes l.next-index l.route l.opening.low;
-  below : g.P.Pages.is_tied l.fn.pages → IsPartBelow l.told.schema.items (g.P.Pages.store l.fn.pages).map l.indexes l.told.records.root l.opening.low;
+  below : g.P.Pages.is_tied l.fn.pages → AreEnteredBelow l.told.schema.items (g.P.Pages.store l.fn.pages).map l.indexes l.told.records.root l.opening.low;
   meant : g.P.Pages.is_tied l.fn.pages → AreMeantBelow l.told l.routes (g.P.Pages.store l.fn.pages).map l.opening.low;
 }

@@ -3,7 +3,7 @@ use Rattle.std.proofs.Common.{Ok, take}
 use Rattle.rs_attr.specs.Opening.{HasEntries}
 use Rattle.rs_pages.specs.Lending.{RestsAfter}
 use Rattle.rs_records.specs.Listed.{listed}
-use Rattle.rs_attr.proofs.attr_index.AttrIndex.check_entries.Given as goal
+use Rattle.rs_attr.proofs.attr_index.AttrIndex.check_each.Given as goal
 
 abbrev pub invariant-loop-place : goal.invariant-loop-place
 invariant-loop-place g l = record {
