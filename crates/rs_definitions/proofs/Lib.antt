@@ -1,0 +1,2 @@
+pub mod MeantReferents
+pub mod PutReferents
