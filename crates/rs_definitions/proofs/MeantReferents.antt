@@ -1,8 +1,8 @@
 -- Which referents are on a route, where those of a version are meant beside the routes.
-use Rattle.std.proofs.Common.{◌≡◌, ◌<◌, ◌≤◌, ◌==◌, ℕ, zero, suc, Bool, true, false, cond, List, [], ◌∷◌, filter, length, map, get_or, refl, ap, sym, subst, ◌∙◌, arith}
+use Rattle.std.proofs.Common.{◌≡◌, ◌<◌, ◌==◌, ℕ, zero, suc, Bool, true, false, cond, List, [], ◌∷◌, filter, map, get_or, refl, ap, sym, subst, ◌∙◌, arith}
 use Rattle.std.specs.List.{AllByRecursion, Contains, list_all, list_any}
-use Rattle.std.specs.Str.{IsAscii, IsUtf8}
-use Rattle.std.proofs.lemmas.Bool.{and_parts, cases_lt, false≢true}
+use Rattle.std.specs.Str.{IsUtf8}
+use Rattle.std.proofs.lemmas.Bool.{and_parts, false≢true}
 use Rattle.std.proofs.lemmas.Bool.Decides.{nat_tests}
 use Rattle.std.proofs.lemmas.List.Elements.{All-contains, All-from_recursion}
 use Rattle.std.proofs.lemmas.List.Folds.{list_any_at}
@@ -11,7 +11,7 @@ use Rattle.rs_definitions.specs.Referents.{IsReferent, IsSpan}
 use Rattle.rs_grammar.specs.Words.{is_word_byte}
 use Rattle.rs_methods.specs.PositionText.{IsWord}
 use Rattle.rs_syntax.specs.Sound.{IsName}
-use Rattle.rs_versioned.specs.Meant.{AreReferentsMeant, HasRoute, IsPlaceOf, IsReferentMeant}
+use Rattle.rs_versioned.specs.Meant.{AreReferentsMeant, IsReferentMeant}
 use Rattle.rs_versioned.specs.Records.{is_seen}
 use Rattle.rs_versioned.specs.Referents.{ReferentRecord, is_referent_of, kept_referents, referents_at}
 use Rattle.rs_versioned.specs.declared.route_span.RouteSpan.{RouteSpan}
@@ -32,9 +32,9 @@ passes_too : {X : Type 0} (Good Fine : X → Type 0) (test other : X → Bool) �
 passes_too Good Fine test other too [] all = tt
 passes_too {X = X} Good Fine test other too (x ∷ xs) all =
     by_test (other x) refl (passes_too Good Fine test other too xs (rest_of Good x (filter test xs) (test x) all)) where
-  by_test : (b : Bool) → other x ≡ b → AllByRecursion Fine (filter other xs) → AllByRecursion Fine (cond b (x ∷ filter other xs) (filter other xs))
-  by_test true is rest = ((too x is).1 (subst (λ (b : Bool). AllByRecursion Good (cond b (x ∷ filter test xs) (filter test xs))) (too x is).0 all).0, rest)
-  by_test false isnt rest = rest
+      by_test : (b : Bool) → other x ≡ b → AllByRecursion Fine (filter other xs) → AllByRecursion Fine (cond b (x ∷ filter other xs) (filter other xs))
+      by_test true is rest = ((too x is).1 (subst (λ (b : Bool). AllByRecursion Good (cond b (x ∷ filter test xs) (filter test xs))) (too x is).0 all).0, rest)
+      by_test false isnt rest = rest
 
 none_left : {X : Type 0} (xs : List X) → AllByRecursion (λ _. ⊥) xs → xs ≡ []
 none_left [] all = refl
@@ -84,8 +84,11 @@ module _ (routes : List RouteSpan) (version : ℕ) (referents : List ReferentRec
   -- each that is there has a name that is not START, at a measure
   pub all_referents : AllByRecursion IsSpan routes → AllByRecursion IsReferent (filter (is_referent_of version number) referents)
   all_referents spans = passes_too (IsReferentMeant routes) IsReferent (is_seen kept_referents version) (is_referent_of version number)
-      (λ one is. ((of_both one is).1, λ good. record {
-        named = good.named;
-        not_start = good.not_start;
-        measured = omega (arith, good.lies.is_so.1, (all_there IsSpan routes good.lies.route spans good.lies.there).measured);
-      })) referents meant.each
+      (λ one is. (
+        (of_both one is).1,
+        λ good. record {
+          named = good.named;
+          not_start = good.not_start;
+          measured = omega (arith, good.lies.is_so.1, (all_there IsSpan routes good.lies.route spans good.lies.there).measured);
+        },
+      )) referents meant.each

@@ -1,8 +1,7 @@
 -- The referents of routes as they are put one after another.
-use Rattle.std.proofs.Common.{◌≡◌, ◌≢◌, ◌<◌, ◌+◌, ◌==◌, ◌||◌, ℕ, zero, suc, Bool, true, false, cond, inl, inr, Option, Some, None, List, [], ◌∷◌, ◌++◌, length, map, nat_eq, slice_get, take, refl, ap, sym, subst, ◌∙◌, arith}
+use Rattle.std.proofs.Common.{◌≡◌, ◌≢◌, ◌+◌, ◌==◌, ◌||◌, ℕ, zero, suc, Bool, true, false, cond, inl, inr, Option, Some, None, List, [], ◌∷◌, ◌++◌, map, nat_eq, slice_get, take, refl, ap, sym, subst, ◌∙◌, arith}
 use Rattle.std.specs.FinMap as names
 use Rattle.std.specs.FinMap.Entries.{find-append}
-use Rattle.std.specs.List.{AllByRecursion, list_any}
 use Rattle.std.specs.Option.{option_or}
 use Rattle.std.specs.Ordering.{eq_by_cmp}
 use Rattle.std.proofs.lemmas.Bool.Decides.{nat_tests}
@@ -94,7 +93,7 @@ pub put_at : (route : ℕ) (referents : List ReferentRecord) (k : ℕ) (one : Re
 put_at route referents k one there distinct old mid now so_far name measure put named measured =
     let next : suc k ≡ k + 1 = omega arith in
     let as_one : now ≡ at_number route (names.insert (mid route) one.name one.measure) mid =
-      put ∙ ap (λ (n : Name). at_number route (names.insert (mid route) n measure) mid) named ∙ ap (λ (m : ℕ). at_number route (names.insert (mid route) one.name m) mid) measured in
+    put ∙ ap (λ (n : Name). at_number route (names.insert (mid route) n measure) mid) named ∙ ap (λ (m : ℕ). at_number route (names.insert (mid route) one.name m) mid) measured in
     subst (λ (entries : List (Name × ℕ)). HasMore route entries old now)
     (sym (map-append entry_of (take k referents) (one ∷ [])) ∙ ap entries_of (sym (take_next referents k one there) ∙ ap (λ (n : ℕ). take n referents) next))
     (put_next route (entries_of (take k referents)) one.name one.measure old mid now so_far (is_new referents k one there distinct) as_one)
@@ -113,15 +112,17 @@ either_way : (b : Bool) (entries : List (Name × ℕ)) (was is : Names ℕ) → 
     → ((q : Name) → names.get is q ≡ option_or (names.find name_cmp q entries) (names.get was q)) → is ≡ names.from_entries entries
 either_way b entries was is before after = names.same_map name_cmp-total name_cmp-antisymmetric is (names.from_entries entries) (λ q.
     after q ∙ ap (λ (m : Names ℕ). option_or (names.find name_cmp q entries) (names.get m q)) before ∙ by_turn b q ∙ sym (names.get-from_entries name_cmp-total entries q)) where
-  or_none : (o : Option ℕ) → option_or o None ≡ o
-  or_none None = refl
-  or_none (Some x) = refl
-  or_same : (o : Option ℕ) → option_or o o ≡ o
-  or_same None = refl
-  or_same (Some x) = refl
-  by_turn : (t : Bool) (q : Name) → option_or (names.find name_cmp q entries) (names.get (held t entries) q) ≡ names.find name_cmp q entries
-  by_turn true q = ap (option_or (names.find name_cmp q entries)) (names.get-from_entries name_cmp-total entries q) ∙ or_same (names.find name_cmp q entries)
-  by_turn false q = ap (option_or (names.find name_cmp q entries)) (names.get-empty name_cmp q) ∙ or_none (names.find name_cmp q entries)
+      or_none : (o : Option ℕ) → option_or o None ≡ o
+      or_none None = refl
+      or_none (Some x) = refl
+
+      or_same : (o : Option ℕ) → option_or o o ≡ o
+      or_same None = refl
+      or_same (Some x) = refl
+
+      by_turn : (t : Bool) (q : Name) → option_or (names.find name_cmp q entries) (names.get (held t entries) q) ≡ names.find name_cmp q entries
+      by_turn true q = ap (option_or (names.find name_cmp q entries)) (names.get-from_entries name_cmp-total entries q) ∙ or_same (names.find name_cmp q entries)
+      by_turn false q = ap (option_or (names.find name_cmp q entries)) (names.get-empty name_cmp q) ∙ or_none (names.find name_cmp q entries)
 
 module _ (routes : List RouteSpan) (k : ℕ) (route : RouteSpan) (there : slice_get routes k ≡ Some route) (version : ℕ) (referents : List ReferentRecord) (old now : ℕ → Names ℕ)
     (so_far : HaveThose (take k routes) version referents old) (more : HasMore route.number (referents_at version route.number referents) old now) where
@@ -130,9 +131,9 @@ module _ (routes : List RouteSpan) (k : ℕ) (route : RouteSpan) (there : slice_
       let next : suc k ≡ k + 1 = omega arith in
       ap (λ (n : ℕ). has_number number (take n routes)) (sym next) ∙ ap (has_number number) (take_next routes k route there)
       ∙ list_any-append (λ (one : RouteSpan). one.number == number) (take k routes) (route ∷ []) ∙ ap (λ (b : Bool). has_number number (take k routes) || b) (or_false (route.number == number)) where
-    or_false : (b : Bool) → (b || false) ≡ b
-    or_false true = refl
-    or_false false = refl
+        or_false : (b : Bool) → (b || false) ≡ b
+        or_false true = refl
+        or_false false = refl
 
   or_true : (b : Bool) → (b || true) ≡ true
   or_true true = refl

@@ -24,7 +24,7 @@ pub record IsReferent (referent : ReferentRecord) : Type 0 where
   pub not_start : referent.name ≢ start_name
   pub measured : IsMeasure referent.measure
 
--- one more number fits, and the route ends at a measure
+-- a number comes after its own, and it ends at a measure
 pub record IsSpan (route : RouteSpan) : Type 0 where
   pub numbered : suc route.number < 2 ^ 32
   pub measured : IsMeasure route.finish

@@ -26,7 +26,8 @@ use std::alloc::Global;
 use std::str;
 
 /// The referents that the version sees on these routes, by the routes' numbers. It is refused with 90, with 91, and with 94
-/// only where the table does not lie there or its referents are not meant beside these routes. No page changes.
+/// only where the table does not lie there, its referents are not meant beside these routes, or a route ends past the greatest
+/// measure or has the greatest number. No page changes.
 pub fn referents_of<P: Pages>(
     alloc: Global,
     pages: &mut P,
@@ -47,7 +48,7 @@ pub fn referents_of<P: Pages>(
 }
 
 // Brings the referents that the version sees on the route of this number. It is refused with 90, with 91, and with 94 only where
-// the table does not lie there, one of them is no referent, or no number follows that of the route.
+// the table does not lie there, one of them is no referent, or the number is the greatest.
 fn bring_route<P: Pages>(
     alloc: Global,
     pages: &mut P,

@@ -1,5 +1,5 @@
 -- One cell after the other.
-use Rattle.std.proofs.Common.{◌≡◌, ◌<◌, ◌≤◌, ◌∙◌, true, false, Result, Ok, Err, List, length, take, subst, sym, arith}
+use Rattle.std.proofs.Common.{◌≡◌, ◌<◌, ◌≤◌, ◌∙◌, false, Result, Ok, Err, List, length, subst, sym, arith}
 use Rattle.std.specs.Prelude.{OnOk, is_err}
 use Rattle.std.proofs.lemmas.Bool.{false≢true}
 use Rattle.std.proofs.lemmas.List.{take_all}
@@ -39,10 +39,10 @@ loop-index-preserved c = λ referents all distinct.
     let cell = c.get.result.now in
     let inside : k < length referents = omega (arith, has_inside cells k cell c.get.ensures, zip_lengths SaysReferent cells referents all) in
     let one = inside_has referents k inside in
-    let said = c.in-Some.ensures'.said one.0 (zip_at SaysReferent cells referents k cell one.0 all c.get.ensures one.1) in
+    let said = c.in-Some.ensures.said one.0 (zip_at SaysReferent cells referents k cell one.0 all c.get.ensures one.1) in
     put_at c.args.number referents k one.0 one.1 distinct (referents_on c.args.made.now) (referents_on c.loop-index.made) (referents_on c.put.new.self)
     (c.loop-index.invariant referents all distinct) _ _ (no_error c.put.result (sym c.is_err.ensures.value ∙ c.if-is_err.false) c.put.ensures.ok)
-    (cc (said.0, c.in-Some.name-is)) (cc (said.1, c.in-Some.measure-is))
+    said.0 said.1
 
 pub returns-clause-puts : goal.returns-clause-puts
 returns-clause-puts c = λ referents all distinct.

@@ -1,5 +1,5 @@
 -- One route after the other.
-use Rattle.std.proofs.Common.{◌≡◌, ◌<◌, ◌≤◌, ◌+◌, ◌∙◌, ℕ, Some, Ok, Err, List, length, get_or, slice_get, take, ap, subst, sym, arith}
+use Rattle.std.proofs.Common.{◌≡◌, ℕ, Ok, Err, List, get_or, ap, subst, sym}
 use Rattle.std.proofs.lemmas.List.{take_all}
 use Rattle.std.proofs.lemmas.Option.{slice_get-get_or}
 use Rattle.std.proofs.lemmas.Result.{err_from_is_err_and}
@@ -12,7 +12,7 @@ use Rattle.rs_pages.specs.PageMap.{PageMap, SamePages}
 use Rattle.rs_refusal.specs.declared.refusal.Refusal.TheVariants as refusal
 use Rattle.rs_tree.proofs.Lists.{all_at}
 use Rattle.rs_versioned.specs.Records.{HoldsRecords}
-use Rattle.rs_versioned.specs.Referents.{ReferentRecord, kept_referents, referents_at}
+use Rattle.rs_versioned.specs.Referents.{ReferentRecord, kept_referents}
 use Rattle.rs_versioned.specs.Tables.{ReferentTableState}
 use Rattle.rs_versioned.specs.declared.route_span.RouteSpan.{RouteSpan}
 use Rattle.rs_definitions.proofs.referents.referents_of.Goals as goal

@@ -1,5 +1,5 @@
 -- The routes so far.
-use Rattle.std.proofs.Common.{ℕ, List, Ok, map, take}
+use Rattle.std.proofs.Common.{ℕ, Ok, take}
 use Rattle.rs_catalog.specs.Referents.{referents_on}
 use Rattle.rs_definitions.specs.Referents.{OfThose}
 use Rattle.rs_definitions.proofs.PutReferents.{HaveThose, names_of}
