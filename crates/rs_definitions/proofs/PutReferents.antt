@@ -32,6 +32,7 @@ entries_of referents = map entry_of referents
 abbrev pub names_of : List (Name × ℕ) → List Name
 names_of entries = map (λ one. one.0) entries
 
+-- names that differ don't tie
 apart : (a b : Name) → b ≢ a → eq_by_cmp name_cmp a b ≡ false
 apart a b other = by_test (eq_by_cmp name_cmp a b) refl where
   by_test : (t : Bool) → eq_by_cmp name_cmp a b ≡ t → t ≡ false
@@ -39,7 +40,7 @@ apart a b other = by_test (eq_by_cmp name_cmp a b) refl where
   by_test false is = refl
 
 -- where each has a name of its own, the name of the next is none of those before it
-pub is_new : (referents : List ReferentRecord) (k : ℕ) (one : ReferentRecord) → slice_get referents k ≡ Some one → AreDistinct (names_of (entries_of referents))
+is_new : (referents : List ReferentRecord) (k : ℕ) (one : ReferentRecord) → slice_get referents k ≡ Some one → AreDistinct (names_of (entries_of referents))
     → names.find name_cmp one.name (entries_of (take k referents)) ≡ None
 is_new [] k one there distinct = absurd (cc)
 is_new (first ∷ more) zero one there distinct = refl
@@ -76,7 +77,7 @@ module _ (route : ℕ) (entries : List (Name × ℕ)) (name : Name) (measure : �
   chosen false found old_one = refl
 
   -- one referent more
-  pub put_next : HasMore route (entries ++ (name, measure) ∷ []) old now
+  put_next : HasMore route (entries ++ (name, measure) ∷ []) old now
   put_next = record {
     there = λ q.
         ap (λ (m : Names ℕ). names.get m q) here ∙ names.get-insert name_cmp-total (mid route) name measure q
@@ -108,6 +109,7 @@ held b entries = cond b (names.from_entries entries) names.empty
 abbrev pub HaveThose : List RouteSpan → ℕ → List ReferentRecord → (ℕ → Names ℕ) → Type 0
 HaveThose routes version referents now = (number : ℕ) → now number ≡ held (has_number number routes) (referents_at version number referents)
 
+-- whether they were there before or none was, they are there now
 either_way : (b : Bool) (entries : List (Name × ℕ)) (was is : Names ℕ) → was ≡ held b entries
     → ((q : Name) → names.get is q ≡ option_or (names.find name_cmp q entries) (names.get was q)) → is ≡ names.from_entries entries
 either_way b entries was is before after = names.same_map name_cmp-total name_cmp-antisymmetric is (names.from_entries entries) (λ q.
@@ -124,24 +126,21 @@ either_way b entries was is before after = names.same_map name_cmp-total name_cm
       by_turn true q = ap (option_or (names.find name_cmp q entries)) (names.get-from_entries name_cmp-total entries q) ∙ or_same (names.find name_cmp q entries)
       by_turn false q = ap (option_or (names.find name_cmp q entries)) (names.get-empty name_cmp q) ∙ or_none (names.find name_cmp q entries)
 
+or_true : (b : Bool) → (b || true) ≡ true
+or_true true = refl
+or_true false = refl
+
+or_false : (b : Bool) → (b || false) ≡ b
+or_false true = refl
+or_false false = refl
+
 module _ (routes : List RouteSpan) (k : ℕ) (route : RouteSpan) (there : slice_get routes k ≡ Some route) (version : ℕ) (referents : List ReferentRecord) (old now : ℕ → Names ℕ)
     (so_far : HaveThose (take k routes) version referents old) (more : HasMore route.number (referents_at version route.number referents) old now) where
   grows : (number : ℕ) → has_number number (take (k + 1) routes) ≡ (has_number number (take k routes) || (route.number == number))
   grows number =
       let next : suc k ≡ k + 1 = omega arith in
       ap (λ (n : ℕ). has_number number (take n routes)) (sym next) ∙ ap (has_number number) (take_next routes k route there)
-      ∙ list_any-append (λ (one : RouteSpan). one.number == number) (take k routes) (route ∷ []) ∙ ap (λ (b : Bool). has_number number (take k routes) || b) (or_false (route.number == number)) where
-        or_false : (b : Bool) → (b || false) ≡ b
-        or_false true = refl
-        or_false false = refl
-
-  or_true : (b : Bool) → (b || true) ≡ true
-  or_true true = refl
-  or_true false = refl
-
-  or_off : (b : Bool) → (b || false) ≡ b
-  or_off true = refl
-  or_off false = refl
+      ∙ list_any-append (λ (one : RouteSpan). one.number == number) (take k routes) (route ∷ []) ∙ ap (λ (b : Bool). has_number number (take k routes) || b) (or_false (route.number == number))
 
   on_it : now route.number ≡ held (has_number route.number (take (k + 1) routes)) (referents_at version route.number referents)
   on_it =
@@ -153,7 +152,7 @@ module _ (routes : List RouteSpan) (k : ℕ) (route : RouteSpan) (there : slice_
   off_it : (number : ℕ) → number ≢ route.number → now number ≡ held (has_number number (take (k + 1) routes)) (referents_at version number referents)
   off_it number other =
       let off : (route.number == number) ≡ false = grind (arith, nat_tests) in
-      let has : has_number number (take (k + 1) routes) ≡ has_number number (take k routes) = grows number ∙ ap (λ (b : Bool). has_number number (take k routes) || b) off ∙ or_off (has_number number (take k routes)) in
+      let has : has_number number (take (k + 1) routes) ≡ has_number number (take k routes) = grows number ∙ ap (λ (b : Bool). has_number number (take k routes) || b) off ∙ or_false (has_number number (take k routes)) in
       more.others number other ∙ so_far number
       ∙ ap (λ (b : Bool). held b (referents_at version number referents)) (sym has)
 

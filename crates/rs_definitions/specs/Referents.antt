@@ -1,5 +1,5 @@
 -- The referents that a version sees, as they are kept in memory, and what the calls that bring them there answer.
-use Rattle.std.specs.Prelude.{◌≡◌, ◌≢◌, ◌⊎◌, ◌<◌, ◌^◌, ℕ, suc, List, Result, Err, IfOk, IfErr}
+use Rattle.std.specs.Prelude.{◌≡◌, ◌≢◌, ◌<◌, ◌^◌, ℕ, suc, List, Result, Err, IfOk}
 use Rattle.std.specs.FinMap as names
 use Rattle.std.specs.List.{AllByRecursion}
 use Rattle.std.specs.Option.{option_or}
@@ -18,13 +18,13 @@ use Rattle.rs_versioned.specs.Referents.{ReferentRecord, kept_referents, referen
 use Rattle.rs_versioned.specs.Tables.{ReferentTableState}
 use Rattle.rs_versioned.specs.declared.route_span.RouteSpan.{RouteSpan}
 
--- a name that is not START, at a measure
+-- it has a name that a line can say, which is not START, and is at a measure
 pub record IsReferent (referent : ReferentRecord) : Type 0 where
   pub named : IsName referent.name
   pub not_start : referent.name ≢ start_name
   pub measured : IsMeasure referent.measure
 
--- a number comes after its own, and it ends at a measure
+-- the route is such as a file may have: a number comes after its own, and it ends at a measure
 pub record IsSpan (route : RouteSpan) : Type 0 where
   pub numbered : suc route.number < 2 ^ 32
   pub measured : IsMeasure route.finish
@@ -33,10 +33,6 @@ pub record IsSpan (route : RouteSpan) : Type 0 where
 pub record HasMore (route : ℕ) (referents : List (Name × ℕ)) (old now : ℕ → Names ℕ) : Type 0 where
   pub there : (name : Name) → names.get (now route) name ≡ option_or (names.find name_cmp name referents) (names.get (old route) name)
   pub others : (number : ℕ) → number ≢ route → now number ≡ old number
-
--- why a call is refused
-abbrev pub RefusesToBring : {T : Type 0} → Result T Refusal → Type 0
-RefusesToBring result = IfErr result (λ why. (why ≡ refusal.OutOfMemory) ⊎ (why ≡ refusal.Disk) ⊎ (why ≡ refusal.DamagedFile))
 
 -- this is so of the referents that lie there, whichever they are
 abbrev pub OfThose : PageMap → ReferentTableState → (List ReferentRecord → Type 0) → Type 0
@@ -49,7 +45,8 @@ module _ {P : Type 0} (pages : Ghosts P) (table : ReferentTableState) (routes : 
   Brings result old = pages.is_tied old → IfOk result (λ made. OfThose (pages.store old).map table (λ referents.
       AreReferentsMeant routes version referents → (number : ℕ) → referents_on made number ≡ names.from_entries (referents_at version number referents)))
 
-  -- on an honest disk it is found damaged only where no referents lie there, or they are not meant beside these routes
+  -- on an honest disk it is found damaged only where no referents lie there or they are not meant beside these routes, if these
+  -- are such as a file may have
   abbrev pub FindsDamaged : Result RouteReferents Refusal → P → Type 0
   FindsDamaged result old = pages.is_tied old → result ≡ Err refusal.DamagedFile → AllByRecursion IsSpan routes
       → OfThose (pages.store old).map table (λ referents. AreReferentsMeant routes version referents → ⊥)

@@ -5,7 +5,8 @@
 ghost use Rattle.std.specs.Prelude.{◌≡◌, ◌≢◌, ◌<◌, ◌≤◌, ◌⊎◌, ◌^◌, ℕ, suc, List, Err, IfErr, IfNone, IfSome, OnOk, filter, length, map};
 ghost use Rattle.std.specs.List.{AllByRecursion, AllZip};
 ghost use Rattle.rs_catalog.specs.Referents.{referents_on};
-ghost use Rattle.rs_definitions.specs.Referents.{Brings, FindsDamaged, HasMore, IsReferent, OfThose, RefusesToBring};
+ghost use Rattle.rs_contents.specs.Calls.{RefusesToLoad};
+ghost use Rattle.rs_definitions.specs.Referents.{Brings, FindsDamaged, HasMore, IsReferent, OfThose};
 ghost use Rattle.rs_grammar.specs.declared.kind.TheConstants.{NAME_BYTES};
 ghost use Rattle.rs_machine.specs.Lawful.{AreDistinct};
 ghost use Rattle.rs_methods.specs.Position.{start_name};
@@ -37,7 +38,7 @@ pub fn referents_of<P: Pages>(
 ) -> Result<RouteReferents, Refusal>
     ensures rests { OnlyReads P.Pages result pages.old pages.new }
     ensures brings { Brings P.Pages table.now routes.now version result pages.old }
-    ensures refused { RefusesToBring result }
+    ensures refused { RefusesToLoad result }
     ensures damaged { FindsDamaged P.Pages table.now routes.now version result pages.old }
 {
     let mut made = RouteReferents::new(alloc);
@@ -61,7 +62,7 @@ fn bring_route<P: Pages>(
     ensures brings { P.is_tied pages.old → OnOk result (OfThose (P.store pages.old).map table.now (λ referents.
         let seen = referents_at version number referents in
         AreDistinct (map (λ one. one.0) seen) → HasMore number seen (referents_on made.old) (referents_on made.new))) }
-    ensures refused { RefusesToBring result }
+    ensures refused { RefusesToLoad result }
     ensures damaged { P.is_tied pages.old → result ≡ Err Refusal.DamagedFile → suc number < 2 ^ 32
         → OfThose (P.store pages.old).map table.now (λ referents. AllByRecursion IsReferent (filter (is_referent_of version number) referents) → ⊥) }
 {
