@@ -1,2 +1,2 @@
-pub mod MeantReferents
-pub mod PutReferents
+mod MeantReferents
+mod PutReferents
