@@ -13,7 +13,8 @@ use rs_standing::standing::created_file_stands_for_the_fresh_state;
 use std::alloc::Global;
 
 /// Writes a file in which nothing is defined in place of all that the disk holds, and gives the disk back; the file is
-/// closed. `limit` is the greatest number of pages. A refusal (90, 91) hands the disk back, with any part of this done.
+/// closed. `limit` is the greatest number of pages. A refusal hands the disk back, with any part of this done; of an honest disk it
+/// is not 94.
 pub fn create<D: Disk>(alloc: Global, disk: D, limit: u32) -> Result<D, (D, Refusal)>
     requires least { LEAST_LIMIT ≤ limit }
     requires greatest { limit ≤ GREATEST_LIMIT }
@@ -34,7 +35,6 @@ pub fn create<D: Disk>(alloc: Global, disk: D, limit: u32) -> Result<D, (D, Refu
 fn write_nothing<D: Disk>(alloc: Global, pager: &mut Pager<D>) -> Result<(), Refusal>
     requires shut { pager.old.is_begun ≡ false }
     requires few { pager.old.changes ≡ [] }
-    requires limit { LEAST_LIMIT ≤ pager.old.limit }
     ensures stands { IsTrue (D.is_honest pager.old.disk) → IsCreated D.Disk pager.old
         → OnOk result (Stands pager.old.limit (D.seen pager.new.disk) fresh) }
     ensures synced { OnOk result (D.is_synced pager.new.disk ≡ true) }
