@@ -2,11 +2,11 @@
 
 use crate::expect::expect_at;
 use rs_catalog_pages::StoredIndex;
-use rs_contents::{create, free_index_number};
+use rs_contents::free_index_number;
 use rs_disk::{Disk, MemoryDisk};
-use rs_pager::Pager;
-use rs_pages::{LEAST_LIMIT, Pages};
+use rs_pages::LEAST_LIMIT;
 use rs_refusal::Refusal;
+use rs_store::create;
 use std::alloc::Global;
 use std::test::Fail;
 
@@ -26,18 +26,13 @@ static WRITTEN: [(usize, [u8; 8]); 8] = [
     (8_192, [4, 0, 0, 20, 0, 0, 0, 2]),
 ];
 
-/// The bytes of a file that may have three pages at the most, created and flushed.
+/// The bytes of a file that may have three pages at the most, created.
 fn created(alloc: Global) -> Result<Vec<u8>, Refusal> {
-    let mut pager = match Pager::create(alloc, MemoryDisk::new(alloc), LEAST_LIMIT) {
-        Ok(pager) => pager,
+    let mut disk = match create(alloc, MemoryDisk::new(alloc), LEAST_LIMIT) {
+        Ok(disk) => disk,
         Err((_, refusal)) => return Err(refusal),
     };
-    pager.begin()?;
-    let pages = create(alloc, &mut pager)?;
-    pager.commit();
-    pager.flush()?;
-    let mut disk = pager.into_disk();
-    if disk.pages() != LEAST_LIMIT || pages.len() != 1 {
+    if disk.pages() != LEAST_LIMIT {
         return Err(Refusal::WrongValues);
     }
     let mut bytes = vec![in alloc; 0u8; FILE_BYTES]?;
