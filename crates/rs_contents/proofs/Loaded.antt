@@ -14,7 +14,7 @@ use Rattle.rs_catalog_pages.proofs.Chains.{holds_bytes, holds_pages, says_one}
 use Rattle.rs_catalog_pages.proofs.Directories.{directory_is_one}
 use Rattle.rs_contents.specs.Contents.{AreNumbered, Contents, HoldsAll, IsTable, LiesTable, SameTable, TableContents, owned, table_pages}
 use Rattle.rs_contents.specs.FreePages.{HasNoFreshFreeList}
-use Rattle.rs_contents.specs.Meant.{AreRecordsMeant, IsTableMeant, route_spans}
+use Rattle.rs_contents.specs.Meant.{HasMeantRecords, IsTableMeant, route_spans}
 use Rattle.rs_contents.specs.Opening.{AreSound, HoldsNothing, IsOpened, LoadsNothingSaid, LoadsSaid, OpensNoParts, OpensNoTables, OpensParts, OpensTables, told_of}
 use Rattle.rs_contents.specs.declared.opened.OpenedTable.{OpenedTable}
 use Rattle.rs_contents.proofs.Meant.{once_permuted, once_rising, records_meant}
@@ -251,7 +251,7 @@ module _ (file : PageMap) where
   pub record AreThere (numbers : List ℕ) (items : CatalogueItems) (said : DirectoryItems) (opened : List OpenedTable) (state : ReferentTableState) : Type 0 where
     pub contents : Contents
     pub holds : HoldsAll file contents
-    pub meant : AreRecordsMeant contents
+    pub meant : HasMeantRecords contents
     pub pages : contents.pages ≡ numbers
     pub definitions : contents.definitions ≡ items
     pub directory : contents.directory ≡ said

@@ -1,17 +1,18 @@
 -- Records that are meant beside routes, in whatever order these are given.
-use Rattle.std.proofs.Common.{◌≡◌, ◌≤◌, ◌<◌, ◌+◌, ◌↔◌, ℕ, zero, suc, Bool, true, false, nat_lt, List, [], ◌∷◌, filter, get_or, length, map, refl, sym, ap, subst, ◌∙◌, inl, inr, arith, add-one}
-use Rattle.std.proofs.lemmas.Bool.{cases_lt, false≢true}
-use Rattle.std.proofs.lemmas.List.Sorted.{Contains-permutation, IsNonDecreasingBy-drop, IsPermutation-map, IsPermutation-sym, sum_by-IsPermutation}
+use Rattle.std.proofs.Common.{◌≡◌, ◌≤◌, ◌<◌, ◌+◌, ◌↔◌, ℕ, zero, suc, Bool, true, false, cond, eqb, nat_lt, List, [], ◌∷◌, filter, get_or, length, map, refl, sym, ap, subst, ◌∙◌, inl, inr, arith, add-one}
+use Rattle.std.proofs.lemmas.Bool.{cases_lt, false≢true, lt-ltb, ltb-true}
+use Rattle.std.proofs.lemmas.List.Sorted.{Contains-permutation, IsNonDecreasingBy-drop, IsPermutation-map, sum_by-IsPermutation}
 use Rattle.std.specs.List.{AllByRecursion, AllZip, IsAllAdjacentAnswer}
 use Rattle.std.specs.List.Sorted.{IsNonDecreasingBy, IsPermutation}
 use Rattle.rs_catalog_pages.specs.Items.{RouteItem, TableItem}
 use Rattle.rs_contents.specs.Contents.{Contents, TableContents}
 use Rattle.rs_contents.specs.Meant.{AreRecordsMeantOn, IsTableMeant, span_of_route}
 use Rattle.rs_page_owners.specs.Counts.{one_at, times}
-use Rattle.rs_page_owners.proofs.Moving.{one_at-le, one_at-other, one_at-same, times-cons, times-none}
+use Rattle.rs_catalog_pages.proofs.Counting.{times-cons, times-none}
+use Rattle.rs_page_owners.proofs.Moving.{one_at-other, one_at-same}
 use Rattle.rs_value.specs.declared.column.Kind.{Kind}
 use Rattle.rs_versioned.specs.Events.{Event, sees_event, span_of}
-use Rattle.rs_versioned.specs.Meant.{AreEventsMeant, AreReferentsMeant, AreRising, HasRoute, IsPlaceOf, IsReferentMeant, IsSpanOf, LieOnRoutes}
+use Rattle.rs_versioned.specs.Meant.{AreEventsMeant, AreReferentsMeant, AreRising, HasRoute, IsPlaceOf, IsReferentMeant, IsSpanOf}
 use Rattle.rs_versioned.specs.Records.{is_seen}
 use Rattle.rs_versioned.specs.Referents.{ReferentRecord, kept_referents}
 use Rattle.rs_versioned.specs.declared.route_span.RouteSpan.{RouteSpan}
@@ -114,6 +115,13 @@ past_all : (number : ℕ) (first : RouteSpan) → number ≤ first.number → (r
 past_all number first past [] all = tt
 past_all number first past (later ∷ rest) all = (omega (arith, past, all.0), past_all number first past rest all.1)
 
+one_at-most : (page number : ℕ) → one_at page number ≤ 1
+unfolding one_at
+one_at-most page number = at (eqb page number) where
+  at : (b : Bool) → cond b 1 0 ≤ 1
+  at true = omega arith
+  at false = omega arith
+
 -- rising numbers are each there once
 pub once_rising : (spans : List RouteSpan) → AreRising spans → (number : ℕ) → times (numbers spans) number ≤ 1
 once_rising [] rising number = omega (arith, none_above number [] tt)
@@ -121,7 +129,7 @@ once_rising (route ∷ spans) rising number =
     let counted = times-cons route.number (numbers spans) number in
     elim (cases_lt route.number number) [
       | inl below ↦ omega (arith, counted, once_rising spans rising.1 number, one_at-other route.number number (λ same. omega (arith, same, below)))
-      | inr past ↦ omega (arith, counted, none_above number spans (past_all number route past spans rising.0), one_at-le route.number number)
+      | inr past ↦ omega (arith, counted, none_above number spans (past_all number route past spans rising.0), one_at-most route.number number)
     ]
 
 -- ---- whether numbers rise
@@ -132,7 +140,7 @@ comes_before one next = nat_lt one.number next.number
 rises_at : (spans : List RouteSpan) → AreRising spans → (k : ℕ) (d : RouteSpan) → suc k < length spans → comes_before (get_or spans k d) (get_or spans (suc k) d) ≡ true
 rises_at [] rising k d inside = absurd (omega arith)
 rises_at (route ∷ []) rising k d inside = absurd (omega arith)
-rises_at (route ∷ next ∷ spans) rising zero d inside = lt_true rising.0.0
+rises_at (route ∷ next ∷ spans) rising zero d inside = lt-ltb route.number next.number rising.0.0
 rises_at (route ∷ next ∷ spans) rising (suc k) d inside = rises_at (next ∷ spans) rising.1 k d (omega (arith, inside))
 
 rising_from : (spans : List RouteSpan) → ((k : ℕ) (d : RouteSpan) → suc k < length spans → comes_before (get_or spans k d) (get_or spans (suc k) d) ≡ true) → AreRising spans
@@ -140,7 +148,7 @@ rising_from [] each = tt
 rising_from (route ∷ []) each = (tt, tt)
 rising_from (route ∷ next ∷ spans) each =
     let rest = rising_from (next ∷ spans) (λ k d inside. each (suc k) d (omega (arith, inside))) in
-    let first : route.number < next.number = true_lt (each 0 route (omega arith)) in
+    let first : route.number < next.number = ltb-true route.number next.number (each 0 route (omega arith)) in
     ((first, past_all route.number next (omega (arith, first)) spans rest.0), rest)
 
 -- the answer of `is_sorted_by`

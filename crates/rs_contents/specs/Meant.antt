@@ -24,6 +24,6 @@ pub record AreRecordsMeantOn (routes : List RouteSpan) (contents : Contents) : T
   pub referents : AreReferentsMeant routes contents.directory.accepted contents.referents.referents
 
 -- each route has a number of its own, and the records are meant beside the routes
-pub record AreRecordsMeant (contents : Contents) : Type 0 where
+pub record HasMeantRecords (contents : Contents) : Type 0 where
   pub routes_once : (number : ℕ) → times (map (λ route. route.number) contents.definitions.routes) number ≤ 1
   pub on_routes : AreRecordsMeantOn (route_spans contents.definitions) contents

@@ -9,7 +9,7 @@ use Rattle.rs_catalog_pages.specs.Loading.{LoadsCatalogue}
 use Rattle.rs_catalog_pages.specs.Said.{said_catalogue}
 use Rattle.rs_contents.specs.Contents.{AreNumbered, Contents, HoldsAll, IsIndex, IsTable, LiesTable, TableContents, table_pages, type_of}
 use Rattle.rs_contents.specs.FreePages.{ReachesFree}
-use Rattle.rs_contents.specs.Meant.{AreRecordsMeant, AreRecordsMeantOn, IsTableMeant}
+use Rattle.rs_contents.specs.Meant.{HasMeantRecords, AreRecordsMeantOn, IsTableMeant}
 use Rattle.rs_contents.specs.declared.opened.OpenedFile.{OpenedFile}
 use Rattle.rs_contents.specs.declared.opened.OpenedTable.{OpenedTable}
 use Rattle.rs_page_owners.specs.Counts.{◌&◌, one_at, times}
@@ -108,13 +108,13 @@ pub record LoadsSaid (map : PageMap) (pages : List ℕ) (definitions : Catalogue
 
 -- no contents whose records are meant are there, whose definitions lie in pages that weren't reached before
 pub record LoadsNothingSaid (map : PageMap) (before : ℕ → ℕ) : Type 0 where
-  pub none : (contents : Contents) → ((number : ℕ) → (before & times contents.pages) number ≤ 1) → HoldsAll map contents → AreRecordsMeant contents → ⊥
+  pub none : (contents : Contents) → ((number : ℕ) → (before & times contents.pages) number ≤ 1) → HoldsAll map contents → HasMeantRecords contents → ⊥
 
 -- the file holds these contents, opened, whose records are meant
 pub record LoadsContents (map : PageMap) (file : OpenedFile) : Type 0 where
   pub contents : Contents
   pub holds : HoldsAll map contents
-  pub meant : AreRecordsMeant contents
+  pub meant : HasMeantRecords contents
   pub definitions : contents.definitions ≡ said_catalogue file.definitions
   pub pages : contents.pages ≡ file.pages.items
   pub tables : AllZip IsOpened file.tables.items contents.tables
@@ -133,4 +133,4 @@ pub record IsFile (file : OpenedFile) : Type 0 where
 
 -- the file holds no contents whose records are meant
 pub record HoldsNothing (map : PageMap) : Type 0 where
-  pub none : (contents : Contents) → HoldsAll map contents → AreRecordsMeant contents → ⊥
+  pub none : (contents : Contents) → HoldsAll map contents → HasMeantRecords contents → ⊥

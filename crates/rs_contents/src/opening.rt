@@ -14,11 +14,11 @@ ghost use Rattle.rs_cell_versions.specs.Version.{died_of};
 use crate::definitions::{indexes_of, schema_of};
 use crate::free_pages::reach_free;
 use crate::opened::OpenedTable;
+use rs_attr::ToldTable;
 use rs_catalog_pages::{StoredCatalogue, StoredDirectory, StoredTable, StoredTree};
 use rs_page_marks::Reached;
 use rs_pages::Pages;
 use rs_refusal::Refusal;
-use rs_attr::ToldTable;
 use rs_value::{Kind, Schema};
 use rs_versioned::{ReferentTable, RouteSpan, ToldRecords};
 use std::alloc::Global;
@@ -137,14 +137,7 @@ fn open_table<P: Pages>(
     let items = definitions.indexes.as_slice();
     let indexes = indexes_of(alloc, &schema, item.number, items, directory)?;
     let told = told_table(item, schema, told_of(tree, directory.accepted));
-    let records = rs_attr::open(
-        alloc,
-        pages,
-        told,
-        indexes.as_slice(),
-        routes,
-        reached,
-    )?;
+    let records = rs_attr::open(alloc, pages, told, indexes.as_slice(), routes, reached)?;
     Ok(OpenedTable { records, indexes })
 }
 

@@ -1,5 +1,5 @@
 -- Names that are found by numbers, and measures that lie on routes.
-use Rattle.std.proofs.Common.{◌≡◌, ◌<◌, ◌≤◌, ◌+◌, ◌==◌, ◌&&◌, ℕ, zero, suc, Bool, true, false, cond, List, [], ◌∷◌, length, map, drop, get_or, refl, sym, ap, subst, ◌∙◌, arith}
+use Rattle.std.proofs.Common.{◌≡◌, ◌<◌, ◌≤◌, ◌+◌, ◌==◌, ◌&&◌, ℕ, zero, suc, true, false, cond, List, [], ◌∷◌, length, map, drop, get_or, refl, sym, ap, subst, ◌∙◌, arith}
 use Rattle.std.specs.Prelude.{Contains, ◌≢◌, nat_lt, string_bytes}
 use Rattle.std.specs.List.{AllByRecursion}
 use Rattle.std.proofs.lemmas.Bool.{eqb-false, eqb-true}
@@ -8,7 +8,7 @@ use Rattle.std.proofs.lemmas.List.{get_or_default}
 use Rattle.std.proofs.lemmas.Option.{same_Some}
 use Rattle.std.proofs.lemmas.Simd.{map-map}
 use Rattle.std.proofs.Math.Seq.{drop-cons}
-use Rattle.rs_catalog_meaning.specs.Meaning.{AreMeant, AreRoutes, IsPiece, columns_of, ends_of, routes_of}
+use Rattle.rs_catalog_meaning.specs.Meaning.{AreMeant, AreRoutes, IsPiece, columns_of, ends_of}
 use Rattle.rs_catalog_meaning.specs.Places.{AreGivenOnce}
 use Rattle.rs_catalog_meaning.specs.Stating.{name_with, named_alignment, table_with}
 use Rattle.rs_catalog_pages.specs.Items.{AlignmentItem, CatalogueItems, IndexItem, PieceItem, RouteItem}

@@ -1,3 +1,5 @@
 mod Entering
 mod Found
+mod MeantReferents
+mod PutReferents
 mod Seen

@@ -1,10 +1,13 @@
-//! The definitions of a file as the catalogue in memory.
+//! The definitions and the referents of a file, brought into memory.
 //!
-//! It promises that the catalogue has just what the file lists, under the numbers and births that stand there.
+//! It promises that the catalogue has just what the file lists, under the numbers and births that stand there, and each route
+//! the referents that a version sees on it.
 #![tactic(auto)]
 
 mod entries;
 pub mod laws;
 pub mod making;
+pub mod referents;
 
 pub use making::catalog_of;
+pub use referents::referents_of;

@@ -2,6 +2,7 @@
 use Rattle.std.specs.Prelude.{◌==◌, ℕ, Bool, nat_le, List, [], ◌∷◌, filter, if◌then◌else◌, map}
 use Rattle.std.specs.FinMap as names
 use Rattle.rs_catalog_pages.specs.Items.{RouteItem, TableItem}
+pub use Rattle.rs_contents.specs.Meant.{span_of_route}
 use Rattle.rs_contents.specs.Contents.{Contents, TableContents}
 use Rattle.rs_facts.specs.Fact.{Name, Names}
 use Rattle.rs_facts.specs.Runs.{Stretch}
@@ -19,9 +20,6 @@ is_born version route = nat_le route.born version
 -- the routes that the version sees, in their order
 abbrev pub born_by : ℕ → List RouteItem → List RouteItem
 born_by version routes = filter (is_born version) routes
-
-abbrev pub span_of_route : RouteItem → RouteSpan
-span_of_route route = record { number = route.number; start = route.start; finish = route.finish }
 
 -- the same by their numbers and measures
 abbrev pub routes_at : ℕ → List RouteItem → List RouteSpan

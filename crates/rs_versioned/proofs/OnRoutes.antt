@@ -119,7 +119,7 @@ referent_within route cell referent known says =
     ap (λ (t : Bool). not t && is_below cell (to_be_bytes w32 (route + 1))) low ∙ ap (λ (t : Bool). not (nat_lt referent.route route) && t) high ∙ between_is referent.route route
 
 -- two tests, one after the other
-filter_both : {A : Type 0} (p q : A → Bool) (xs : List A) → filter q (filter p xs) ≡ filter (λ x. p x && q x) xs
+pub filter_both : {A : Type 0} (p q : A → Bool) (xs : List A) → filter q (filter p xs) ≡ filter (λ x. p x && q x) xs
 filter_both p q [] = refl
 filter_both p q (x ∷ xs) = by_test (p x) (filter_both p q xs) where
   by_test : (b : Bool) → filter q (filter p xs) ≡ filter (λ y. p y && q y) xs

@@ -1,5 +1,5 @@
 -- The directory, the definitions, and whether they fit one another.
-use Rattle.std.proofs.Common.{◌≡◌, ◌≤◌, Ok, Err, List, sym, ap, subst}
+use Rattle.std.proofs.Common.{◌≡◌, ◌≤◌, Ok, List, sym, subst}
 use Rattle.std.proofs.lemmas.Result.{err_from_is_err_and}
 use Rattle.std.specs.List.{AllByRecursion}
 use Rattle.rs_catalog_pages.specs.Items.{RouteItem}

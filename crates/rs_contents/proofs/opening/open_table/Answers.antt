@@ -8,7 +8,6 @@ use Rattle.rs_catalog_pages.specs.Items.{IndexItem}
 use Rattle.rs_catalog_pages.specs.Said.{said_catalogue, said_directory, said_index, said_table, said_tree}
 use Rattle.rs_catalog_pages.specs.declared.directory_items.StoredTree.{StoredTree}
 use Rattle.rs_contents.specs.Contents.{IsIndex}
-use Rattle.rs_contents.specs.Opening.{told_of}
 use Rattle.rs_contents.proofs.Numbering.{said_at}
 use Rattle.rs_contents.proofs.OneOpened.{are_on, none_of_indexes, none_of_pages, one_of_pages}
 use Rattle.rs_refusal.specs.declared.refusal.Refusal.TheVariants as refusal
@@ -33,7 +32,7 @@ returns-in_err-indexes-clause-damaged g c = λ tied is.
 pub open-requires-clause-indexes : goal.open-requires-clause-indexes
 open-requires-clause-indexes g c =
     let items = filter (λ (index : IndexItem). index.table == c.args.item.now.number) (map said_index c.as_slice-items.result.now) in
-    subst (λ (ts : List ColumnType). AreOn ts c.as_slice-2.result.now) (sym c.told_table.ensures.columns)
+    subst (λ (ts : List ColumnType). AreOn ts c.as_slice-2.result.now) (sym c.told_table-told.ensures.columns)
     (subst (AreOn c.in-Some.schema.items) (sym c.as_slice-2.ensures.value)
     (are_on c.in-Some.schema.items (said_directory c.args.directory.now) items c.in_ok-indexes.indexes.items c.in_ok-indexes.ensures.indexes))
 
@@ -49,15 +48,15 @@ returns-in_err-records-clause-damaged g c = λ tied is.
     let slot = subst (λ (xs : List StoredTree). slice_get (map said_tree xs) c.args.item.now.number ≡ Some (said_tree tree)) c.as_slice.ensures.value
     (said_at said_tree c.as_slice.result.now c.args.item.now.number tree c.in-Some-get.ensures.lookup.3.0 c.in-Some-get.ensures.lookup.1) in
     let missing = (c.in_err-records.ensures.opens tied).damaged (ap Err why) in
-    none_of_pages c.args.routes.now file directory (said_catalogue c.args.definitions.now) (said_table c.args.item.now) before types c.in-Some.ensures.columns (said_tree tree) c.told_table.result c.in_ok-indexes.indexes.items slot
-    c.told_table.ensures.columns c.told_table.ensures.kind (c.told_table.ensures.records ∙ c.told_of.ensures)
+    none_of_pages c.args.routes.now file directory (said_catalogue c.args.definitions.now) (said_table c.args.item.now) before types c.in-Some.ensures.columns (said_tree tree) c.told_table-told.result c.in_ok-indexes.indexes.items slot
+    c.told_table-told.ensures.columns c.told_table-told.ensures.kind (c.told_table-told.ensures.records ∙ c.told_of.ensures)
     (subst (λ xs. AllZip (IsIndex types directory) (filter (λ (index : IndexItem). index.table == c.args.item.now.number) (map said_index xs)) c.in_ok-indexes.indexes.items)
     c.as_slice-items.ensures.value c.in_ok-indexes.ensures.indexes)
-    (subst (λ (indexes : List IndexState). OpensNoTable file c.told_table.result indexes c.args.routes.now before) c.as_slice-2.ensures.value missing)
+    (subst (λ (indexes : List IndexState). OpensNoTable file c.told_table-told.result indexes c.args.routes.now before) c.as_slice-2.ensures.value missing)
 
 pub returns-clause-table : goal.returns-clause-table
 returns-clause-table g c =
-    let same : c.in_ok-records.records.types ≡ c.in-Some.schema.items = c.in_ok-records.ensures.table.types ∙ c.told_table.ensures.columns in
+    let same : c.in_ok-records.records.types ≡ c.in-Some.schema.items = c.in_ok-records.ensures.table.types ∙ c.told_table-told.ensures.columns in
     let directory = said_directory c.args.directory.now in
     record {
       few = c.in-Some.ensures.fits.0;
@@ -69,7 +68,7 @@ returns-clause-table g c =
           c.as_slice-items.ensures.value c.in_ok-indexes.ensures.indexes);
       committed = c.in_ok-records.ensures.table.committed;
       indexes_committed = c.in_ok-indexes.ensures.committed;
-      order = subst (λ (told : ToldRecords). AllByRecursion (λ dead. died_of dead ≤ told.accepted) c.in_ok-records.records.working.dead) (c.told_table.ensures.records ∙ c.told_of.ensures) c.in_ok-records.ensures.table.order;
+      order = subst (λ (told : ToldRecords). AllByRecursion (λ dead. died_of dead ≤ told.accepted) c.in_ok-records.records.working.dead) (c.told_table-told.ensures.records ∙ c.told_of.ensures) c.in_ok-records.ensures.table.order;
     }
 
 pub returns-clause-opens : goal.returns-clause-opens
@@ -82,6 +81,6 @@ returns-clause-opens g c = λ tied.
     let tree = c.in-Some-get.tree.now in
     let slot = subst (λ (xs : List StoredTree). slice_get (map said_tree xs) c.args.item.now.number ≡ Some (said_tree tree)) c.as_slice.ensures.value
     (said_at said_tree c.as_slice.result.now c.args.item.now.number tree c.in-Some-get.ensures.lookup.3.0 c.in-Some-get.ensures.lookup.1) in
-    one_of_pages c.args.routes.now file (said_directory c.args.directory.now) (said_catalogue c.args.definitions.now) (said_table c.args.item.now) before (said_tree tree) c.told_table.result slot
-    (record { records = records; indexes = c.in_ok-indexes.indexes }) after (returns-clause-table g c) c.in_ok-records.ensures.table.types c.told_table.ensures.kind (c.told_table.ensures.records ∙ c.told_of.ensures)
-    (subst (λ (is : List IndexState). OpensTable file c.told_table.result records.working is c.args.routes.now before after) c.as_slice-2.ensures.value (c.in_ok-records.ensures.opens tied).opens)
+    one_of_pages c.args.routes.now file (said_directory c.args.directory.now) (said_catalogue c.args.definitions.now) (said_table c.args.item.now) before (said_tree tree) c.told_table-told.result slot
+    (record { records = records; indexes = c.in_ok-indexes.indexes }) after (returns-clause-table g c) c.in_ok-records.ensures.table.types c.told_table-told.ensures.kind (c.told_table-told.ensures.records ∙ c.told_of.ensures)
+    (subst (λ (is : List IndexState). OpensTable file c.told_table-told.result records.working is c.args.routes.now before after) c.as_slice-2.ensures.value (c.in_ok-records.ensures.opens tied).opens)

@@ -1,5 +1,4 @@
 use Rattle.std.proofs.Common.{◌≤◌, length, map, sym, ap, subst, ◌∙◌}
-use Rattle.std.specs.Prelude.{Contains}
 use Rattle.rs_catalog_meaning.specs.Meaning.{ends_of}
 use Rattle.rs_catalog_meaning.specs.Stating.{name_with}
 use Rattle.rs_catalog_pages.specs.Items.{RouteItem}

@@ -1,4 +1,4 @@
-use Rattle.std.proofs.Common.{◌≡◌, List, map, sym, ap, subst, ◌∙◌}
+use Rattle.std.proofs.Common.{List, map, sym, ap, subst, ◌∙◌}
 use Rattle.std.specs.List.{AllByRecursion}
 use Rattle.rs_catalog.specs.Definitions as catalog
 use Rattle.rs_catalog.specs.Definitions.{Definitions, IsColumnOf}

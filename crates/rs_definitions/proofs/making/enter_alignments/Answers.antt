@@ -1,4 +1,4 @@
-use Rattle.std.proofs.Common.{◌≡◌, ◌<◌, ◌≤◌, false, length, map, refl, sym, ap, subst, ◌∙◌, arith}
+use Rattle.std.proofs.Common.{◌≤◌, length, map, sym, ap, subst, ◌∙◌, arith}
 use Rattle.std.specs.List.{AllByRecursion}
 use Rattle.std.proofs.lemmas.List.{length-map}
 use Rattle.rs_catalog.specs.Definitions as catalog
@@ -10,9 +10,7 @@ use Rattle.rs_catalog_pages.specs.Items.{AlignmentItem}
 use Rattle.rs_catalog_pages.specs.Said.{said_alignment, said_piece, said_route}
 use Rattle.rs_facts.specs.Fact.{Name, Names}
 use Rattle.rs_grammar.specs.declared.kind.TheConstants.{NAME_BYTES}
-use Rattle.rs_machine.specs.Lawful.{IsRoute}
-use Rattle.rs_machine.specs.State.{has}
-use Rattle.rs_definitions.proofs.Entering.{each_said, next-free, next-new, nothing, said_at, so_far, step, whole}
+use Rattle.rs_definitions.proofs.Entering.{each_said, nothing, said_at, step, whole}
 use Rattle.std.specs.Prelude.{List}
 use Rattle.rs_catalog.specs.Changes.{with_alignment}
 use Rattle.rs_catalog.specs.Definitions.{pieces_of}

@@ -1,11 +1,8 @@
-use Rattle.std.proofs.Common.{◌≡◌, ◌<◌, ◌≤◌, false, length, map, refl, sym, ap, subst, ◌∙◌, arith}
-use Rattle.std.specs.List.{AllByRecursion}
+use Rattle.std.proofs.Common.{◌<◌, ◌≤◌, length, map, refl, sym, ap, subst, ◌∙◌, arith}
 use Rattle.std.proofs.lemmas.List.{length-map}
 use Rattle.rs_catalog.specs.Definitions as catalog
 use Rattle.rs_catalog.specs.Definitions.{Definitions, IsColumnOf, IsFree}
-use Rattle.rs_catalog_meaning.specs.Meaning as meaning
 use Rattle.rs_catalog_meaning.specs.Meaning.{ends_of}
-use Rattle.rs_catalog_meaning.specs.Stating.{table_with}
 use Rattle.rs_catalog_pages.specs.Items.{RouteItem}
 use Rattle.rs_catalog_pages.specs.Said.{said_route}
 use Rattle.rs_facts.specs.Fact.{Name, Names}

@@ -1,16 +1,13 @@
-use Rattle.std.proofs.Common.{◌≡◌, ◌<◌, ◌≤◌, false, length, map, refl, sym, ap, subst, ◌∙◌, arith}
-use Rattle.std.specs.List.{AllByRecursion}
+use Rattle.std.proofs.Common.{◌<◌, ◌≤◌, length, map, refl, sym, ap, subst, ◌∙◌, arith}
 use Rattle.std.proofs.lemmas.List.{length-map}
 use Rattle.rs_catalog.specs.Definitions as catalog
 use Rattle.rs_catalog.specs.Definitions.{Definitions, IsColumnOf, IsFree}
 use Rattle.rs_catalog_meaning.specs.Meaning as meaning
 use Rattle.rs_catalog_meaning.specs.Meaning.{ends_of}
-use Rattle.rs_catalog_meaning.specs.Stating.{table_with}
 use Rattle.rs_catalog_pages.specs.Items.{TableItem}
 use Rattle.rs_catalog_pages.specs.Said.{said_table}
 use Rattle.rs_facts.specs.Fact.{Name, Names}
 use Rattle.rs_grammar.specs.declared.kind.TheConstants.{NAME_BYTES}
-use Rattle.rs_machine.specs.Lawful.{IsRoute}
 use Rattle.rs_machine.specs.State.{has}
 use Rattle.rs_standing.specs.States.{named_table}
 use Rattle.rs_definitions.proofs.Entering.{each_said, next-free, next-new, nothing, said_at, so_far, step, whole}
