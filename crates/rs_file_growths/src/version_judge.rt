@@ -206,7 +206,10 @@ impl VersionJudge {
     fn new_low(&mut self) -> u32 {
         match self.choice {
             Choice::Any => self.below(1_000),
-            Choice::Apart => self.below(PLACES).saturating_mul(STEP).saturating_add(LEAST),
+            Choice::Apart => self
+                .below(PLACES)
+                .saturating_mul(STEP)
+                .saturating_add(LEAST),
         }
     }
 
