@@ -3,7 +3,7 @@
 
 use crate::expect::expect_at;
 use crate::plain_records::Kind;
-use crate::version_judge::{Change, VersionJudge};
+use crate::version_judge::{Change, Choice, VersionJudge};
 use crate::versions::keep;
 use std::alloc::Global;
 use std::test::Fail;
@@ -25,8 +25,8 @@ fn define(judge: &mut VersionJudge, is_kept: bool) -> Result<(), Fail> {
     judge.file.begin()?;
     judge.file.define(judge.alloc, &routes)?;
     if is_kept {
-        let record = judge.new_record(Kind::Events);
-        judge.make(Kind::Events, Change::Add(record))?;
+        let change = judge.new_change(Kind::Events);
+        judge.make(Kind::Events, change)?;
     }
     judge.file.end(is_kept);
     Ok(())
@@ -55,7 +55,8 @@ fn make_turns(judge: &mut VersionJudge) -> Result<u64, Fail> {
 fn look_anew(judge: &mut VersionJudge) -> Result<(), Fail> {
     judge.release_all();
     keep(judge, Kind::Events, Change::Vacuum(10_000))?;
-    judge.reopen(Kind::Events, (0, 0, 0))?;
+    judge.look(Kind::Events)?;
+    expect_at(judge.meant == 1, "events that are meant", 1)?;
     for _turn in 0..20u32 {
         judge.compare_indexes(2)?;
         judge.turn(true, 10)?;
@@ -74,6 +75,6 @@ fn judge_indexes(judge: &mut VersionJudge) -> Result<(), Fail> {
 }
 
 pub fn indexes_find_what_a_scan_finds(alloc: Global) -> Result<(), Fail> {
-    let mut judge = VersionJudge::new(alloc, 13)?;
+    let mut judge = VersionJudge::new(alloc, 13, Choice::Apart)?;
     judge_indexes(&mut judge)
 }

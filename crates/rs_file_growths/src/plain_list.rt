@@ -1,6 +1,7 @@
 //! The records of a table by version as plain lists, which are gone through from one end to the other.
 
-use crate::plain_records::{LIVES, PlainRecord};
+use crate::meant::{are_apart, are_meant};
+use crate::plain_records::{Kind, LIVES, PlainRecord};
 use crate::search::Search;
 use std::alloc::{AllocError, Global};
 
@@ -48,6 +49,21 @@ impl PlainList {
     /// The record that was added last, or another that lives.
     pub fn last(&self) -> Option<PlainRecord> {
         self.alive.last().copied()
+    }
+
+    /// A record that lives and isn't apart from this one.
+    pub fn rival(&self, kind: Kind, record: &PlainRecord) -> Option<PlainRecord> {
+        for one in &self.alive {
+            if !are_apart(kind, one, record) {
+                return Some(*one);
+            }
+        }
+        None
+    }
+
+    /// Whether the records that live are meant.
+    pub fn is_meant(&self, kind: Kind) -> bool {
+        are_meant(kind, &self.alive)
     }
 
     /// Adds a record, and answers whether it is new.

@@ -57,6 +57,11 @@ fn texts() -> &'static [[u8; 9]] {
     &TEXTS
 }
 
+/// The name that no line gives a referent, and the longest one.
+pub const START: u32 = 3;
+
+pub const LONGEST: u32 = 4;
+
 /// Names of referents, the least first.
 pub fn name_text(index: u32) -> &'static str
     ensures { AllByRecursion (λ byte. 0 < byte) result.now }
@@ -65,6 +70,7 @@ pub fn name_text(index: u32) -> &'static str
         0 => "A",
         1 => "A1",
         2 => "B",
+        START => "START",
         _ => "name_that_has_thirty_two_bytes_z",
     }
 }

@@ -6,13 +6,15 @@ ghost use Rattle.rs_attr.specs.Tables.{AreOn};
 ghost use Rattle.rs_value.specs.declared.column.ColumnType.TheVariants.{Int, Text};
 ghost use Rattle.rs_cell_versions.specs.Version.{died_of};
 
+use crate::meant::ROUTES;
 use crate::versioned_file::{TestDisk, columns};
-use rs_attr::{AttrIndex, open};
+use rs_attr::{AttrIndex, ToldTable, open};
 use rs_page::PageNumber;
 use rs_page_marks::Reached;
 use rs_pager::Pager;
 use rs_pages::Pages;
 use rs_refusal::Refusal;
+use rs_value::Kind;
 use rs_versioned::{EventTable, ReferentTable, ToldRecords};
 use std::alloc::Global;
 
@@ -23,9 +25,6 @@ pub struct Told {
     pub garbage: u64,
     pub version: u64,
 }
-
-/// The routes on which the parts begin that are read one after the other.
-static ROUTES: [u32; 2] = [1, 3];
 
 /// The events that lie in the tree with this root, with entries in their indexes, as they are told.
 pub fn reopened_events(
@@ -50,15 +49,12 @@ pub fn reopened_events(
         garbage: told.garbage,
         accepted: told.version,
     };
-    let table = open(
-        alloc,
-        pager,
-        columns(),
-        told,
-        indexes,
-        &ROUTES,
-        &mut reached,
-    )?;
+    let told = ToldTable {
+        kind: Kind::Line,
+        schema: columns(),
+        records: told,
+    };
+    let table = open(alloc, pager, told, indexes, &ROUTES, &mut reached)?;
     Ok(table)
 }
 

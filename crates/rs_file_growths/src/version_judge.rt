@@ -1,8 +1,9 @@
 //! Pseudo-random changes of a file's tables, each made beside plain lists, and what versions see compared with these.
 
 use crate::expect::expect_at;
+use crate::meant::LEAST;
 use crate::plain_list::{PlainList, ended};
-use crate::plain_records::{Kind, LIVES, PlainRecord};
+use crate::plain_records::{Kind, LIVES, LONGEST, PlainRecord, START};
 use crate::reopening::Told;
 use crate::search::{Search, are_cells_of, are_found};
 use crate::versioned_file::{VersionedFile, file_in_memory};
@@ -32,6 +33,20 @@ const SOME: u64 = 100;
 
 /// Where searches begin that find few events.
 static WINDOWS: [u32; 4] = [0, 3, 1_270, 1_295];
+
+/// How many places of a route events begin at that are apart, and how far it is from one to the next.
+const PLACES: u32 = 100;
+
+const STEP: u32 = 13;
+
+/// Which records are added.
+#[derive(Clone, Copy, PartialEq, Eq)]
+pub enum Choice {
+    /// Events that overlap too, and referents of any name.
+    Any,
+    /// Those beside which the living ones are meant.
+    Apart,
+}
 
 /// A change of a table.
 #[derive(Clone, Copy)]
@@ -80,6 +95,7 @@ pub struct VersionJudge {
     referents: PlainList,
     held: Vec<Held>,
     words: Pcg32,
+    choice: Choice,
     /// How many events lived at once, and how often more dead ones were to be cleared than could be at once.
     pub greatest: u64,
     pub full: u64,
@@ -87,6 +103,9 @@ pub struct VersionJudge {
     pub left: u64,
     /// How many ended records the versions that are held open saw in comparisons.
     pub ended: u64,
+    /// How often a table was looked at anew whose living records were meant, and how often one whose were not.
+    pub meant: u64,
+    pub unmeant: u64,
 }
 
 /// Expects that a version sees these records on each route, and within a window of each.
@@ -108,7 +127,7 @@ fn expect_seen(
 
 impl VersionJudge {
     /// Empty tables, and the changes of a seed.
-    pub fn new(alloc: Global, seed: u64) -> Result<VersionJudge, Refusal> {
+    pub fn new(alloc: Global, seed: u64, choice: Choice) -> Result<VersionJudge, Refusal> {
         Ok(VersionJudge {
             alloc,
             file: file_in_memory(alloc)?,
@@ -116,10 +135,13 @@ impl VersionJudge {
             referents: PlainList::new(alloc),
             held: Vec::new(alloc),
             words: Pcg32::new(seed, 54),
+            choice,
             greatest: 0,
             full: 0,
             left: 0,
             ended: 0,
+            meant: 0,
+            unmeant: 0,
         })
     }
 
@@ -130,6 +152,11 @@ impl VersionJudge {
         } else {
             &mut self.referents
         }
+    }
+
+    /// The record of a table that was added last, or another that lives.
+    pub fn last(&mut self, kind: Kind) -> Option<PlainRecord> {
+        self.list(kind).last()
     }
 
     /// A number below `n`; 0 where `n` is 0.
@@ -160,7 +187,7 @@ impl VersionJudge {
     }
 
     /// A record that is born now; now and then the same as one before it.
-    pub fn new_record(&mut self, kind: Kind) -> PlainRecord {
+    fn new_record(&mut self, kind: Kind) -> PlainRecord {
         let born = self.file.version();
         if let Some(last) = self.list(kind).last()
             && last.born == born
@@ -175,12 +202,32 @@ impl VersionJudge {
         }
     }
 
+    /// Where an event begins.
+    fn new_low(&mut self) -> u32 {
+        match self.choice {
+            Choice::Any => self.below(1_000),
+            Choice::Apart => self
+                .below(PLACES)
+                .saturating_mul(STEP)
+                .saturating_add(LEAST),
+        }
+    }
+
+    /// How long an event is.
+    fn new_length(&mut self) -> u32 {
+        let most = match self.choice {
+            Choice::Any => 300,
+            Choice::Apart => STEP - 1,
+        };
+        self.below(most).saturating_add(1)
+    }
+
     fn new_event(&mut self, born: u64) -> PlainRecord {
-        let low = self.below(1_000);
+        let low = self.new_low();
         let route = self.below(ROUTES);
         let number = self.below(5);
         let text = self.below(6);
-        let length = self.below(300).saturating_add(1);
+        let length = self.new_length();
         PlainRecord {
             route,
             low,
@@ -192,9 +239,18 @@ impl VersionJudge {
         }
     }
 
+    /// A referent's name.
+    fn new_name(&mut self) -> u32 {
+        let names = match self.choice {
+            Choice::Any => LONGEST + 1,
+            Choice::Apart => START,
+        };
+        self.below(names)
+    }
+
     fn new_referent(&mut self, born: u64) -> PlainRecord {
         let route = self.below(ROUTES);
-        let text = self.below(4);
+        let text = self.new_name();
         let value = self.below(300).saturating_add(1);
         PlainRecord {
             route,
@@ -207,6 +263,17 @@ impl VersionJudge {
         }
     }
 
+    /// The change that adds a new record, or ends the one that it is to be apart from and isn't.
+    pub fn new_change(&mut self, kind: Kind) -> Change {
+        let record = self.new_record(kind);
+        if self.choice == Choice::Apart
+            && let Some(rival) = self.list(kind).rival(kind, &record)
+        {
+            return Change::Kill(rival);
+        }
+        Change::Add(record)
+    }
+
     /// The next change; mostly one that adds, or one that ends a record.
     fn next_change(&mut self, kind: Kind, grows: bool) -> Change {
         let turn = self.below(32);
@@ -214,7 +281,7 @@ impl VersionJudge {
             return Change::Vacuum(CLEARED);
         }
         if (turn < 22) == grows {
-            return Change::Add(self.new_record(kind));
+            return self.new_change(kind);
         }
         let (alive, dead) = self.list(kind).counts();
         let many = u32::try_from(alive.saturating_add(dead)).unwrap_or(0);
@@ -322,6 +389,24 @@ impl VersionJudge {
             version: self.file.version().wrapping_add(added.2),
         };
         self.file.reopen(self.alloc, kind, told)
+    }
+
+    /// Looks at a table anew, told what is so. Expects that it is refused just where what lives in it isn't meant.
+    pub fn look(&mut self, kind: Kind) -> Result<(), Fail> {
+        let wanted = if self.list(kind).is_meant(kind) {
+            self.meant = self.meant.saturating_add(1);
+            Ok(())
+        } else {
+            self.unmeant = self.unmeant.saturating_add(1);
+            Err(Refusal::DamagedFile)
+        };
+        let version = self.file.version();
+        let answer = self.reopen(kind, (0, 0, 0));
+        expect_at(
+            answer == wanted,
+            "opened where it is meant, at version",
+            version as usize,
+        )
     }
 
     /// Closes all versions that are held open.

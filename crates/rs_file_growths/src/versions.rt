@@ -2,7 +2,8 @@
 
 use crate::expect::expect_at;
 use crate::plain_records::Kind;
-use crate::version_judge::{Change, VersionJudge};
+use crate::strays::look_beside_strays;
+use crate::version_judge::{Change, Choice, VersionJudge};
 use rs_refusal::Refusal;
 use std::alloc::Global;
 use std::test::Fail;
@@ -36,8 +37,8 @@ pub(crate) fn keep(judge: &mut VersionJudge, kind: Kind, change: Change) -> Resu
 /// Looks at a table anew: it is refused what is false, and is as it was with what is true.
 fn look_anew(judge: &mut VersionJudge, kind: Kind) -> Result<(), Fail> {
     judge.file.begin()?;
-    let record = judge.new_record(kind);
-    judge.make(kind, Change::Add(record))?;
+    let change = judge.new_change(kind);
+    judge.make(kind, change)?;
     judge.file.end(true);
     for (turn, added) in FALSE.iter().enumerate() {
         let answer = judge.reopen(kind, *added);
@@ -47,7 +48,7 @@ fn look_anew(judge: &mut VersionJudge, kind: Kind) -> Result<(), Fail> {
             turn,
         )?;
     }
-    judge.reopen(kind, (0, 0, 0))?;
+    judge.look(kind)?;
     judge.compare(kind)
 }
 
@@ -73,7 +74,7 @@ fn make_turns(judge: &mut VersionJudge) -> Result<(), Fail> {
 }
 
 pub fn versions_see_what_plain_lists_say(alloc: Global) -> Result<(), Fail> {
-    let mut judge = VersionJudge::new(alloc, 11)?;
+    let mut judge = VersionJudge::new(alloc, 11, Choice::Any)?;
     make_turns(&mut judge)
 }
 
@@ -93,6 +94,11 @@ fn look_often(judge: &mut VersionJudge) -> Result<(), Fail> {
 }
 
 pub fn tables_looked_at_anew_are_as_they_were(alloc: Global) -> Result<(), Fail> {
-    let mut judge = VersionJudge::new(alloc, 12)?;
-    look_often(&mut judge)
+    let mut judge = VersionJudge::new(alloc, 12, Choice::Any)?;
+    look_often(&mut judge)?;
+    expect_at(judge.unmeant > 0, "tables that aren't meant", 1)?;
+    let mut judge = VersionJudge::new(alloc, 14, Choice::Apart)?;
+    look_often(&mut judge)?;
+    expect_at(judge.meant == 8, "tables that are meant", 8)?;
+    look_beside_strays(&mut judge)
 }

@@ -126,14 +126,14 @@ static SIGNS: [Event; 3] = [
 static REFERENTS: [Referent; 4] = [
     Referent {
         route: 0,
-        name: b"START",
+        name: b"MOUTH",
         born: 2,
         measure: 500,
         died: LIVES,
     },
     Referent {
         route: 1,
-        name: b"START",
+        name: b"MOUTH",
         born: 1,
         measure: 0,
         died: LIVES,

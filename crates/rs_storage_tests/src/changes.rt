@@ -3,7 +3,7 @@
 use crate::damages::Change;
 
 /// Other versions, and other records of signs and referents.
-static RECORDS: [Change; 17] = [
+static RECORDS: [Change; 18] = [
     // other accepted versions
     &[(1, 2_859, &[8])],
     &[(1, 2_852, &[127, 255, 255, 255, 255, 255, 255, 255])],
@@ -27,10 +27,62 @@ static RECORDS: [Change; 17] = [
     &[(5, 24, &[0; 13])],
     &[(5, 38, &[0x80, 0, 0, 0xe8, 0xd4, 0xa5, 0x10, 0])],
     &[(10, 25, b"_of_what_has_32_bytes_in_it")],
-    // other bounds of records
-    &[(5, 23, &[0xff])],
-    &[(5, 54, &[255; 4])],
-    &[(10, 63, &[0])],
+    // a point that is elsewhere, and one at the end of its route
+    &[(5, 22, &[0x02, 0xff]), (5, 56, &[0x03, 0x00])],
+    &[(5, 122, &[0x27, 0x10]), (5, 156, &[0x27, 0x11])],
+    // a referent that is elsewhere, and one at the end of its route
+    &[(10, 63, &[0xf5])],
+    &[(10, 230, &[0x27, 0x10])],
+];
+
+/// Records that are meant, each a little away from what is not.
+static MEANT: [Change; 8] = [
+    // a route that ends where the last line on it does
+    &[(9, 31, &[0, 0, 0x17, 0x70])],
+    // two points of one row that live, one after the other
+    &[
+        (1, 27, &[3]),
+        (1, 35, &[0]),
+        (5, 70, &[0, 0, 0x02, 0xef]),
+        (5, 74, b"\x01STOP\0\0\0\0\0\0\0\0\x01\x80\0\0\0\0\0\0\x02"),
+        (
+            5,
+            106,
+            &[0x02, 0xf0, 255, 255, 255, 255, 255, 255, 255, 255],
+        ),
+    ],
+    // two lines of one row that live, with a thousandth between them
+    &[
+        (9, 127, &[1]),
+        (1, 27, &[3]),
+        (1, 35, &[0]),
+        (5, 70, &[0, 0, 0x02, 0xf0]),
+        (5, 74, b"\x01STOP\0\0\0\0\0\0\0\0\x01\x80\0\0\0\0\0\0\x02"),
+        (
+            5,
+            106,
+            &[0x02, 0xf1, 255, 255, 255, 255, 255, 255, 255, 255],
+        ),
+    ],
+    // two lines of two rows that live, one after the other
+    &[
+        (9, 127, &[1]),
+        (1, 27, &[3]),
+        (1, 35, &[0]),
+        (5, 70, &[0, 0, 0x02, 0xef]),
+        (
+            5,
+            106,
+            &[0x02, 0xf0, 255, 255, 255, 255, 255, 255, 255, 255],
+        ),
+    ],
+    // dead events past the end of their route, and of no length
+    &[(5, 70, &[0, 1, 0, 0]), (5, 104, &[0, 1, 0, 1])],
+    &[(5, 107, &[0x84])],
+    // a dead referent past the end of its route
+    &[(10, 172, &[0, 1, 0, 0])],
+    // two referents of two names that live
+    &[(1, 2_843, &[4]), (1, 2_851, &[0]), (10, 176, &[255; 8])],
 ];
 
 /// Other records of lanes, with their entries.
@@ -65,7 +117,7 @@ static LANES: [Change; 4] = [
 ];
 
 /// Other definitions.
-static DEFINITIONS: [Change; 9] = [
+static DEFINITIONS: [Change; 8] = [
     // other numbers of tables and of an index
     &[(9, 100, &[127])],
     &[
@@ -91,10 +143,9 @@ static DEFINITIONS: [Change; 9] = [
             &[0, 255, 0, 255, 0, 255, 0, 255, 0, 255, 0, 21, 0, 21],
         ),
     ],
-    // codes that mean nothing, a route that ends before it begins, and two of one number
+    // a code that means nothing, and points that are lines of a thousandth
     &[(9, 80, &[9])],
-    &[(9, 31, &[0; 4]), (9, 27, &[255; 4])],
-    &[(9, 26, &[0])],
+    &[(9, 127, &[1])],
     // a page of the definitions with no bytes of them
     &[
         (0, 35, &[14]),
@@ -203,8 +254,8 @@ static FREED: [(u8, Change, bool); 10] = [
 ];
 
 /// Changes that leave another file, in lists.
-pub fn others() -> [&'static [Change]; 3] {
-    [&RECORDS, &LANES, &DEFINITIONS]
+pub fn others() -> [&'static [Change]; 4] {
+    [&RECORDS, &MEANT, &LANES, &DEFINITIONS]
 }
 
 /// Changes that leave the same file.

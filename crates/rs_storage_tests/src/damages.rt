@@ -206,8 +206,73 @@ static DEFINITIONS: [Change; 14] = [
     &[(6, 11, &[3])],
 ];
 
+/// Events that the accepted version sees, and that are not meant.
+static UNMEANT_EVENTS: [Change; 12] = [
+    // two lines of one row, one after the other, and one upon the other
+    &[
+        (9, 127, &[1]),
+        (1, 27, &[3]),
+        (1, 35, &[0]),
+        (5, 70, &[0, 0, 0x02, 0xef]),
+        (5, 74, b"\x01STOP\0\0\0\0\0\0\0\0\x01\x80\0\0\0\0\0\0\x02"),
+        (
+            5,
+            106,
+            &[0x02, 0xf0, 255, 255, 255, 255, 255, 255, 255, 255],
+        ),
+    ],
+    &[
+        (9, 127, &[1]),
+        (1, 27, &[3]),
+        (1, 35, &[0]),
+        (5, 57, &[0xf1]),
+        (5, 70, &[0, 0, 0x02, 0xf0]),
+        (5, 74, b"\x01STOP\0\0\0\0\0\0\0\0\x01\x80\0\0\0\0\0\0\x02"),
+        (
+            5,
+            106,
+            &[0x02, 0xf1, 255, 255, 255, 255, 255, 255, 255, 255],
+        ),
+    ],
+    // points of two thousandths, of none, and that end before they begin; and lines of no length
+    &[(5, 57, &[0xf0])],
+    &[(5, 57, &[0xee])],
+    &[(5, 54, &[0; 4])],
+    &[(9, 127, &[1]), (5, 57, &[0xee])],
+    // a table of lines that says that they are points
+    &[(9, 80, &[0])],
+    // a route that ends before the last line on it does, and one that starts after the first one does
+    &[(9, 31, &[0, 0, 0x17, 0x6f])],
+    &[(9, 53, &[0xf5])],
+    // a point after the end of its route, and one on a route that isn't there
+    &[(5, 122, &[0x27, 0x11]), (5, 156, &[0x27, 0x12])],
+    &[(5, 119, &[2])],
+    // two routes of one number
+    &[(9, 26, &[0])],
+];
+
+/// Referents that the accepted version sees, and that are not meant.
+static UNMEANT_REFERENTS: [Change; 8] = [
+    // before the start of its route, after the end, and on a route that isn't there
+    &[(10, 62, &[0x01, 0xf3])],
+    &[(10, 230, &[0x27, 0x11])],
+    &[(10, 187, &[2])],
+    // two of one name on one route
+    &[
+        (1, 2_843, &[4]),
+        (1, 2_851, &[0]),
+        (10, 132, b"mill"),
+        (10, 176, &[255; 8]),
+    ],
+    // names that no line gives: START, a reserved word, one that begins with a digit, and one of no letter
+    &[(10, 20, b"START")],
+    &[(10, 20, b"TABLE")],
+    &[(10, 20, b"1OUTH")],
+    &[(10, 20, &[0; 5])],
+];
+
 /// The changes, in lists.
-pub fn damages() -> [&'static [Change]; 10] {
+pub fn damages() -> [&'static [Change]; 12] {
     [
         &COUNTS,
         &ROOTS,
@@ -219,5 +284,7 @@ pub fn damages() -> [&'static [Change]; 10] {
         &ENTRIES,
         &NUMBERS,
         &DEFINITIONS,
+        &UNMEANT_EVENTS,
+        &UNMEANT_REFERENTS,
     ]
 }

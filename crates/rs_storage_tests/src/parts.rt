@@ -49,58 +49,63 @@ static INNER: [Stretch; 2] = [(124, Part::Fixed), (3_972, Part::Loose)];
 /// An index of `lanes`.
 static INDEX: [Stretch; 2] = [(291, Part::Fixed), (3_805, Part::Loose)];
 
-/// The leaf of `signs`: of each cell the place, the row and the birth, the end, and the death.
+/// The leaf of `signs`: of each cell the place, the row and the birth, the end, and the death. One that lives lies on a route
+/// and is a thousandth long.
 static SIGNS: [Stretch; 11] = [
     (16, Part::Fixed),
     (38, Part::Mixed),
-    (4, Part::Number),
+    (4, Part::Fixed),
     (8, Part::Fixed),
     (38, Part::Mixed),
     (4, Part::Number),
     (8, Part::Mixed),
     (38, Part::Mixed),
-    (4, Part::Number),
+    (4, Part::Fixed),
     (8, Part::Fixed),
     (3_930, Part::Loose),
 ];
 
-/// The referents: of each the route, the name and the birth, the measure, and the death.
+/// The referents: of each the route, the name and the birth, the measure, and the death. One that lives lies on a route.
 static REFERENTS: [Stretch; 14] = [
     (16, Part::Fixed),
     (44, Part::Mixed),
-    (4, Part::Number),
+    (4, Part::Mixed),
     (8, Part::Fixed),
     (44, Part::Mixed),
-    (4, Part::Number),
+    (4, Part::Mixed),
     (8, Part::Fixed),
     (44, Part::Mixed),
     (4, Part::Number),
     (8, Part::Mixed),
     (44, Part::Mixed),
-    (4, Part::Number),
+    (4, Part::Mixed),
     (8, Part::Fixed),
     (3_856, Part::Loose),
 ];
 
 /// The first page of the definitions.
-static DEFINITIONS: [Stretch; 56] = [
+static DEFINITIONS: [Stretch; 60] = [
     (16, Part::Fixed),
-    // the routes: each its name, its number and bounds, and its birth
+    // the routes: each its name, its number, its start and its end, and its birth. Records lie on both
     (4, Part::Fixed),
     (1, Part::Fixed),
     (2, Part::Text),
-    (12, Part::Number),
+    (4, Part::Fixed),
+    (4, Part::Fixed),
+    (4, Part::Number),
     (8, Part::Mixed),
     (1, Part::Fixed),
     (2, Part::Text),
-    (12, Part::Number),
+    (4, Part::Fixed),
+    (4, Part::Mixed),
+    (4, Part::Number),
     (8, Part::Mixed),
     // lanes: its name, number and kind, and its columns
     (4, Part::Fixed),
     (1, Part::Fixed),
     (5, Part::Text),
     (4, Part::Fixed),
-    (1, Part::Number),
+    (1, Part::Fixed),
     (1, Part::Fixed),
     (1, Part::Fixed),
     (1, Part::Text),
@@ -168,12 +173,12 @@ pub fn pages() -> [(&'static [Stretch], Tally); 14] {
         (&SECOND_LEAF, (154, 0)),
         (&FREE, (4_096, 0)),
         (&INDEX, (291, 0)),
-        (&SIGNS, (125, 41)),
+        (&SIGNS, (142, 24)),
         (&MORE_DEFINITIONS, (26, 47)),
         (&INNER, (124, 0)),
         (&FIRST_LEAF, (108, 0)),
-        (&DEFINITIONS, (595, 3_501)),
-        (&REFERENTS, (199, 41)),
+        (&DEFINITIONS, (611, 3_485)),
+        (&REFERENTS, (224, 16)),
         (&FREE, (4_096, 0)),
         (&INDEX, (291, 0)),
         (&PAST, (0, 0)),
