@@ -56,7 +56,6 @@ fn look_anew(judge: &mut VersionJudge) -> Result<(), Fail> {
     judge.release_all();
     keep(judge, Kind::Events, Change::Vacuum(10_000))?;
     judge.look(Kind::Events)?;
-    expect_at(judge.meant == 1, "events that are meant", 1)?;
     for _turn in 0..20u32 {
         judge.compare_indexes(2)?;
         judge.turn(true, 10)?;
@@ -75,6 +74,11 @@ fn judge_indexes(judge: &mut VersionJudge) -> Result<(), Fail> {
 }
 
 pub fn indexes_find_what_a_scan_finds(alloc: Global) -> Result<(), Fail> {
-    let mut judge = VersionJudge::new(alloc, 13, Choice::Apart)?;
-    judge_indexes(&mut judge)
+    let mut judge = VersionJudge::new(alloc, 13, Choice::Any)?;
+    judge_indexes(&mut judge)?;
+    expect_at(judge.unmeant == 1, "events that aren't meant", 1)?;
+    let mut judge = VersionJudge::new(alloc, 15, Choice::Apart)?;
+    let _found = make_turns(&mut judge)?;
+    look_anew(&mut judge)?;
+    expect_at(judge.meant == 1, "events that are meant", 1)
 }

@@ -241,11 +241,11 @@ impl VersionJudge {
 
     /// A referent's name.
     fn new_name(&mut self) -> u32 {
-        let names = match self.choice {
-            Choice::Any => LONGEST + 1,
-            Choice::Apart => START,
+        let name = match self.choice {
+            Choice::Any => self.below(START + 1),
+            Choice::Apart => self.below(START),
         };
-        self.below(names)
+        if name == START { LONGEST } else { name }
     }
 
     fn new_referent(&mut self, born: u64) -> PlainRecord {
@@ -268,6 +268,7 @@ impl VersionJudge {
         let record = self.new_record(kind);
         if self.choice == Choice::Apart
             && let Some(rival) = self.list(kind).rival(kind, &record)
+            && rival != record
         {
             return Change::Kill(rival);
         }
