@@ -7,4 +7,4 @@ use Rattle.rs_file_growths.proofs.reopening.reopened_referents.Goals as goal
 
 pub returns-clause-kept : goal.returns-clause-kept
 returns-clause-kept c =
-    subst (λ (state : Standing). AllByRecursion (λ dead. died_of dead ≤ c.args.told.version) state.dead) (sym c.in_ok-table.ensures.committed) c.in_ok-table.ensures.order
+    subst (λ (state : Standing). AllByRecursion (λ dead. died_of dead ≤ c.args.told.version) state.dead) (sym c.in_ok-table.ensures.table.committed) c.in_ok-table.ensures.table.order
