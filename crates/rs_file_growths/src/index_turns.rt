@@ -73,12 +73,30 @@ fn judge_indexes(judge: &mut VersionJudge) -> Result<(), Fail> {
     look_anew(judge)
 }
 
-pub fn indexes_find_what_a_scan_finds(alloc: Global) -> Result<(), Fail> {
-    let mut judge = VersionJudge::new(alloc, 13, Choice::Any)?;
-    judge_indexes(&mut judge)?;
-    expect_at(judge.unmeant == 1, "events that aren't meant", 1)?;
-    let mut judge = VersionJudge::new(alloc, 15, Choice::Apart)?;
-    let _found = make_turns(&mut judge)?;
-    look_anew(&mut judge)?;
+/// Judges indexes of events that may overlap.
+fn judge_any(judge: &mut VersionJudge) -> Result<(), Fail> {
+    judge_indexes(judge)?;
+    expect_at(judge.unmeant == 1, "events that aren't meant", 1)
+}
+
+/// Judges indexes of events that are apart, which are opened when they are looked at anew.
+fn judge_apart(judge: &mut VersionJudge) -> Result<(), Fail> {
+    let _found = make_turns(judge)?;
+    look_anew(judge)?;
     expect_at(judge.meant == 1, "events that are meant", 1)
+}
+
+fn find_among_any(alloc: Global) -> Result<(), Fail> {
+    let mut judge = VersionJudge::new(alloc, 13, Choice::Any)?;
+    judge_any(&mut judge)
+}
+
+fn find_among_apart(alloc: Global) -> Result<(), Fail> {
+    let mut judge = VersionJudge::new(alloc, 15, Choice::Apart)?;
+    judge_apart(&mut judge)
+}
+
+pub fn indexes_find_what_a_scan_finds(alloc: Global) -> Result<(), Fail> {
+    find_among_any(alloc)?;
+    find_among_apart(alloc)
 }

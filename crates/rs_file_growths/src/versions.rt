@@ -93,12 +93,30 @@ fn look_often(judge: &mut VersionJudge) -> Result<(), Fail> {
     Ok(())
 }
 
-pub fn tables_looked_at_anew_are_as_they_were(alloc: Global) -> Result<(), Fail> {
-    let mut judge = VersionJudge::new(alloc, 12, Choice::Any)?;
-    look_often(&mut judge)?;
-    expect_at(judge.unmeant > 0, "tables that aren't meant", 1)?;
-    let mut judge = VersionJudge::new(alloc, 14, Choice::Apart)?;
-    look_often(&mut judge)?;
+/// Looks at tables of any records, which are refused where they aren't meant.
+fn look_at_any(judge: &mut VersionJudge) -> Result<(), Fail> {
+    look_often(judge)?;
+    expect_at(judge.unmeant > 0, "tables that aren't meant", 1)
+}
+
+/// Looks at tables of records that are meant, and at these beside stray ones.
+fn look_at_apart(judge: &mut VersionJudge) -> Result<(), Fail> {
+    look_often(judge)?;
     expect_at(judge.meant == 8, "tables that are meant", 8)?;
-    look_beside_strays(&mut judge)
+    look_beside_strays(judge)
+}
+
+fn tables_of_any_are_judged(alloc: Global) -> Result<(), Fail> {
+    let mut judge = VersionJudge::new(alloc, 12, Choice::Any)?;
+    look_at_any(&mut judge)
+}
+
+fn tables_of_apart_are_judged(alloc: Global) -> Result<(), Fail> {
+    let mut judge = VersionJudge::new(alloc, 14, Choice::Apart)?;
+    look_at_apart(&mut judge)
+}
+
+pub fn tables_looked_at_anew_are_as_they_were(alloc: Global) -> Result<(), Fail> {
+    tables_of_any_are_judged(alloc)?;
+    tables_of_apart_are_judged(alloc)
 }

@@ -1,9 +1,9 @@
 -- The file is sound when it is let go.
-use Rattle.rs_file_growths.proofs.index_turns.indexes_find_what_a_scan_finds.Goals as goal
+use Rattle.rs_file_growths.proofs.index_turns.find_among_any.Goals as goal
 
 pub invariant_of-judge : goal.invariant_of-judge
 invariant_of-judge c =
-    let file = c.judge_indexes.new.judge.file in
+    let file = c.judge_any.new.judge.file in
     record {
       begun = file.begun;
       columns = file.columns;

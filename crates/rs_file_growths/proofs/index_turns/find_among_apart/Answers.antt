@@ -1,9 +1,9 @@
 -- The file is sound when it is let go.
-use Rattle.rs_file_growths.proofs.versions.tables_looked_at_anew_are_as_they_were.Goals as goal
+use Rattle.rs_file_growths.proofs.index_turns.find_among_apart.Goals as goal
 
 pub invariant_of-judge : goal.invariant_of-judge
 invariant_of-judge c =
-    let file = c.look_often.new.judge.file in
+    let file = c.judge_apart.new.judge.file in
     record {
       begun = file.begun;
       columns = file.columns;
