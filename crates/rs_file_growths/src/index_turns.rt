@@ -60,6 +60,7 @@ fn look_anew(judge: &mut VersionJudge) -> Result<(), Fail> {
         judge.compare_indexes(2)?;
         judge.turn(true, 10)?;
     }
+    judge.release_all();
     keep(judge, Kind::Events, Change::Clear)?;
     judge.compare_indexes(2)?;
     Ok(())
