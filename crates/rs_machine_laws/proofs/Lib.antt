@@ -23,4 +23,5 @@ mod Tokens
 mod PositionTokens
 mod PrintedPositions
 mod ViewLines
+mod ViewLineLengths
 mod ShortestLines

@@ -31,6 +31,7 @@ use Rattle.rs_machine_laws.specs.ViewLines.{shortest_view_line}
 use Rattle.rs_machine_laws.proofs.Names.{either_false}
 use Rattle.rs_machine_laws.proofs.Checked.{not_true}
 use Rattle.rs_machine_laws.proofs.ViewLines.{shortest_says}
+use Rattle.rs_machine_laws.proofs.ViewLineLengths.{shortest_fits}
 
 -- ---- texts
 
@@ -153,9 +154,10 @@ asks_as_zero line tree few is digits number reads =
 
 -- the commands of lines are sound
 module _ (read_sound : (line : List ℕ) (from : ℕ) (tree : CommandTree) → IsTrue (is_text line) → Reads line from (Ok tree) → IsSound tree) where
-  pub shortest_asks : (line : List ℕ) (session : ℕ) (name : List ℕ) (query : QueryTree) (text : List ℕ) → Asks line (command session (define_view name query text)) → length (shortest_view_line name text) ≤ LINE_BYTES
+  pub shortest_asks : (line : List ℕ) (session : ℕ) (name : List ℕ) (query : QueryTree) (text : List ℕ) → Asks line (command session (define_view name query text))
       → Asks (shortest_view_line name text) (command 0 (define_view name query text))
-  shortest_asks line session name query text asks few =
+  shortest_asks line session name query text asks =
+      let few = shortest_fits line session name query text asks in
       let whole = without_return line in
       let clean = readable_text line asks.begins.is_readable in
       let sound : IsSound (define_view name query text) = read_sound whole asks.digits (define_view name query text) clean asks.reads in
