@@ -25,3 +25,5 @@ mod PrintedPositions
 mod ViewLines
 mod ViewLineLengths
 mod ShortestLines
+mod ViewHeights
+mod WideViews

@@ -1,5 +1,5 @@
 -- No line that defines a view is shorter than the shortest: words are apart, and so is the query.
-use Rattle.std.proofs.Common.{◌≡◌, ◌∙◌, ℕ, zero, suc, ◌+◌, ◌-◌, ◌<◌, ◌≤◌, Bool, true, false, ◌&&◌, List, [], ◌∷◌, ◌++◌, length, take, drop, map, Option, Some, None, is_some, Ok, refl, sym, ap, subst, eqb-true, length-append, length-drop, length-take-le, leb-true, arith}
+use Rattle.std.proofs.Common.{◌≡◌, ◌∙◌, ℕ, zero, suc, ◌+◌, ◌-◌, ◌≤◌, Bool, true, false, ◌&&◌, List, [], ◌∷◌, ◌++◌, length, take, drop, map, Option, Some, None, is_some, Ok, refl, sym, ap, subst, eqb-true, length-append, length-drop, length-take-le, leb-true, arith}
 use Rattle.std.specs.Prelude.{◌==◌, IfSome, codes, nat_le, nat_lt, unwrap_or, if◌then◌else◌}
 use Rattle.std.specs.Char.{is_ascii_alphabetic, is_ascii_digit}
 use Rattle.std.specs.List.{list_all}
