@@ -6,8 +6,10 @@
 
 mod entries;
 pub mod laws;
+pub mod listing;
 pub mod making;
 pub mod referents;
 
+pub use listing::stored_of;
 pub use making::catalog_of;
 pub use referents::referents_of;
