@@ -1,5 +1,9 @@
 mod Entering
 mod Found
+mod ListedBack
+mod ListedChanges
+mod ListedForth
+mod ListedMaps
 mod MeantReferents
 mod PutReferents
 mod Seen

@@ -1,3 +1,4 @@
 pub mod Listing
 pub mod Made
 pub mod Referents
+pub mod Relisting

@@ -1,12 +1,13 @@
-//! The definitions and the referents of a file, brought into memory.
+//! The definitions and the referents of a file, brought into memory, and the definitions listed again.
 //!
 //! It promises that the catalogue has just what the file lists, under the numbers and births that stand there, and each route
-//! the referents that a version sees on it.
+//! the referents that a version sees on it, and that what the catalogue lists is what a file keeps of it.
 #![tactic(auto)]
 
 mod entries;
 pub mod laws;
 pub mod listing;
+pub mod listing_laws;
 pub mod making;
 pub mod referents;
 

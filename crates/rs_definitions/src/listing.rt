@@ -4,9 +4,9 @@
 
 ghost use Rattle.std.specs.Prelude.{◌≡◌, IfOk, map, string_bytes};
 ghost use Rattle.std.specs.FinMap as names;
+ghost use Rattle.rs_catalog.specs.Definitions.{pieces_of};
 ghost use Rattle.rs_catalog_pages.specs.Said.{said_alignment, said_catalogue, said_column, said_index, said_piece, said_route, said_table, said_view};
 ghost use Rattle.rs_definitions.specs.Listing.{kind_code, listed_alignment, listed_column, listed_index, listed_piece, listed_route, listed_table, listed_view, listing_of, number_found, type_code};
-ghost use Rattle.rs_catalog.specs.Definitions.{pieces_of};
 ghost use Rattle.rs_machine.specs.Checks.{piece_of};
 ghost use Rattle.rs_syntax.specs.View.{column_tree, piece_tree};
 
@@ -184,10 +184,7 @@ fn stored_view(alloc: Global, name: &Name, view: &ViewEntry) -> Result<StoredVie
 
 // ---- alignments
 
-fn stored_alignments(
-    alloc: Global,
-    catalog: &Catalog,
-) -> Result<Vec<StoredAlignment>, AllocError>
+fn stored_alignments(alloc: Global, catalog: &Catalog) -> Result<Vec<StoredAlignment>, AllocError>
     ensures { IfOk result (λ stored. map said_alignment stored.items ≡ map (listed_alignment catalog.now.routes) (names.entries catalog.now.alignments)) }
 {
     let mut stored = Vec::with_capacity(alloc, catalog.alignments_len())?;
