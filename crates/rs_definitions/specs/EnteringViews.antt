@@ -3,15 +3,15 @@ use Rattle.std.specs.Prelude.{◌≡◌, ◌⊎◌, ℕ, true, List, Result, Ok,
 use Rattle.std.specs.FinMap as names
 use Rattle.std.specs.List.{AllByRecursion, AllZip, list_all}
 use Rattle.rs_catalog.specs.Definitions as catalog
-use Rattle.rs_catalog.specs.Definitions.{Definitions, Rest, state_from}
+use Rattle.rs_catalog.specs.Definitions.{Definitions}
 use Rattle.rs_catalog_meaning.specs.Meaning.{AreInOrder}
 use Rattle.rs_catalog_pages.specs.Items.{ViewItem}
 use Rattle.rs_facts.specs.Fact.{Name, Names}
 use Rattle.rs_facts.specs.Query.{Query}
-use Rattle.rs_facts.specs.Runs.{Stretch}
 use Rattle.rs_machine.specs.Checking.{checked}
 use Rattle.rs_machine.specs.Lawful.{widened}
 use Rattle.rs_machine.specs.Opening.{windows_in}
+use Rattle.rs_machine.specs.State.{State}
 use Rattle.rs_refusal.specs.declared.refusal.Refusal.{Refusal}
 use Rattle.rs_refusal.specs.declared.refusal.Refusal.TheVariants as refusal
 use Rattle.rs_standing.specs.States.{HasLine, IsViewOf}
@@ -57,15 +57,13 @@ pub record AreEntered (IsSo : ViewItem → Name × catalog.ViewItem → Type 0) 
 
 -- ---- checks
 
--- the query passes its checks in every state of these definitions and referents
-abbrev pub PassesChecks : Definitions → (ℕ → Names ℕ) → QueryTree → Type 0
-PassesChecks definitions referents_on query =
-    (spans_on : ℕ → ℕ → List Stretch) (rest : Rest) → (made : Query) × (checked (state_from definitions referents_on spans_on rest) query ≡ Ok made)
+-- the query passes its checks in this state
+abbrev pub PassesIn : State → QueryTree → Type 0
+PassesIn state query = (made : Query) × (checked state query ≡ Ok made)
 
 -- each view's query does
-abbrev pub AllPassChecks : Definitions → (ℕ → Names ℕ) → Type 0
-AllPassChecks definitions referents_on =
-    AllByRecursion (λ (entry : Name × catalog.ViewItem). PassesChecks definitions referents_on (query_tree entry.1.query)) (names.entries definitions.views)
+abbrev pub AllPassIn : State → Definitions → Type 0
+AllPassIn state definitions = AllByRecursion (λ (entry : Name × catalog.ViewItem). PassesIn state (query_tree entry.1.query)) (names.entries definitions.views)
 
 -- ---- refusals
 

@@ -9,7 +9,7 @@ ghost use Rattle.rs_catalog.specs.Definitions.{Definitions, Rest, state_from};
 ghost use Rattle.rs_catalog.specs.Referents.{referents_on};
 ghost use Rattle.rs_catalog_meaning.specs.Meaning.{AreMeant};
 ghost use Rattle.rs_catalog_pages.specs.Said.{said_catalogue, said_view};
-ghost use Rattle.rs_definitions.specs.EnteringViews.{AllPassChecks, AreEntered, AreListedViews, AreWindowsThere, IsQueryOf, IsWidenedOf, IsWrittenOf, PassesChecks, RefusesViews};
+ghost use Rattle.rs_definitions.specs.EnteringViews.{AllPassIn, AreEntered, AreListedViews, AreWindowsThere, IsQueryOf, IsWidenedOf, IsWrittenOf, PassesIn, RefusesViews};
 ghost use Rattle.rs_definitions.specs.Made.{without_views};
 ghost use Rattle.rs_definitions.specs.Views.{AreMeantIn, HasViews};
 ghost use Rattle.rs_facts.specs.Runs.{Stretch};
@@ -51,7 +51,8 @@ pub fn add_views(
     text_of_a_view_says_one_query();
     enter_widened(alloc, catalog, &stored.views)?;
     check_each(alloc, catalog, referents)?;
-    enter_written(alloc, catalog, referents, &stored.views)
+    enter_written(alloc, catalog, referents, &stored.views)?;
+    Ok(())
 }
 
 // Enters each view with every window as wide as its route. It is refused with 90, and with 94 only where no line defines a view.
@@ -80,8 +81,9 @@ fn check_each(
     catalog: &Catalog,
     referents: &RouteReferents,
 ) -> Result<(), Refusal>
-    ensures ok { OnOk result (AllPassChecks catalog.now (referents_on referents.now)) }
-    ensures none { result ≡ Err Refusal.DamagedFile → AllPassChecks catalog.now (referents_on referents.now) → ⊥ }
+    ensures ok { OnOk result ((spans_on : ℕ → ℕ → List Stretch) (rest : Rest) → AllPassIn (state_from catalog.now (referents_on referents.now) spans_on rest) catalog.now) }
+    ensures none { result ≡ Err Refusal.DamagedFile → (spans_on : ℕ → ℕ → List Stretch) (rest : Rest)
+        → AllPassIn (state_from catalog.now (referents_on referents.now) spans_on rest) catalog.now → ⊥ }
     ensures refused { RefusesViews result }
 {
     for (_, view) in catalog.views() {
@@ -97,8 +99,9 @@ fn check_query(
     referents: &RouteReferents,
     query: &Query,
 ) -> Result<(), Refusal>
-    ensures ok { OnOk result (PassesChecks catalog.now (referents_on referents.now) (query_tree query.now)) }
-    ensures none { result ≡ Err Refusal.DamagedFile → PassesChecks catalog.now (referents_on referents.now) (query_tree query.now) → ⊥ }
+    ensures ok { OnOk result ((spans_on : ℕ → ℕ → List Stretch) (rest : Rest) → PassesIn (state_from catalog.now (referents_on referents.now) spans_on rest) (query_tree query.now)) }
+    ensures none { result ≡ Err Refusal.DamagedFile → (spans_on : ℕ → ℕ → List Stretch) (rest : Rest)
+        → PassesIn (state_from catalog.now (referents_on referents.now) spans_on rest) (query_tree query.now) → ⊥ }
     ensures refused { RefusesViews result }
 {
     let Err(refusal) = check(alloc, catalog, referents, query) else {

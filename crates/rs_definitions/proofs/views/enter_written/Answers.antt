@@ -16,7 +16,7 @@ use Rattle.rs_syntax.specs.Sound.{IsName}
 use Rattle.rs_definitions.specs.EnteringViews.{AreWindowsThere, IsQueryOf, IsWrittenOf}
 use Rattle.rs_definitions.proofs.Entering.{each_said, said_at}
 use Rattle.rs_definitions.proofs.EnteredViews.{Entered, entered_all, entered_more, some_none, zip_found}
-use Rattle.rs_definitions.proofs.WindowsKept.{windows_kept}
+use Rattle.rs_definitions.proofs.WindowsKept.{windows_back, windows_kept}
 use Rattle.rs_definitions.proofs.views.enter_written.Goals as goal
 
 pub written_query-requires : goal.written_query-requires
@@ -39,7 +39,19 @@ name_of-requires c =
     subst (λ text. length text ≤ NAME_BYTES) (sym c.as_str.ensures.value) is.short
 
 pub loop-view-preserved : goal.loop-view-preserved
-loop-view-preserved c = ?
+loop-view-preserved c =
+    let on = referents_on c.args.referents.now in
+    let query = query_tree c.in_ok-query.query in
+    let at = said_at said_view c.args.views.now c.loop-view.view-index c.view-item.result c.loop-view-test.true c.view-item.is in
+    let there = windows_back c.args.catalog.now c.loop-view.catalog.views on query (subst (λ (d : Definitions). AreWindowsThere d on query) c.loop-view.invariant.others c.in_ok-query.ensures.windows) in
+    subst (λ (d : Definitions). Entered (IsWrittenOf c.args.catalog.now on) (λ view entry is. is.is.named) (map said_view c.args.views.now) (c.loop-view.view-index + 1) c.args.catalog.now d) (sym c.in_ok-define_view.ensures.ok)
+    (entered_more (IsWrittenOf c.args.catalog.now on) (λ view entry is. is.is.named) (map said_view c.args.views.now) c.requires.listed.in_order c.loop-view.view-index c.args.catalog.now c.loop-view.catalog c.loop-view.invariant
+    (said_view c.view-item.result) at.0 at.1 c.name_of.result.bytes (record { query = c.in_ok-query.query; text = string_bytes c.in_ok-text.text })
+    (record {
+      is = record { named = c.name_of.ensures ∙ c.as_str.ensures.value; text = c.in_ok-text.ensures.cases; defined = c.in_ok-query.ensures.ok };
+      sound = c.in_ok-query.ensures.sound;
+      windows = there;
+    }))
 
 pub returns-clause-entered : goal.returns-clause-entered
 returns-clause-entered c =
