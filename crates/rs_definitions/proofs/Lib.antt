@@ -1,3 +1,5 @@
+mod CheckedViews
+mod EnteredViews
 mod Entering
 mod Found
 mod ListedBack
@@ -5,5 +7,10 @@ mod ListedChanges
 mod ListedForth
 mod ListedMaps
 mod MeantReferents
+mod MeantViews
+mod PositionsThere
 mod PutReferents
+mod QueryTrees
 mod Seen
+mod ViewTexts
+mod WindowsKept

@@ -1,4 +1,7 @@
+pub mod EnteringViews
 pub mod Listing
 pub mod Made
 pub mod Referents
 pub mod Relisting
+pub mod Views
+pub mod Windows
