@@ -1,3 +1,5 @@
 pub mod Calls
+pub mod Chains
 pub mod Changes
 pub mod Inner
+pub mod Picked

@@ -15,7 +15,7 @@ ghost use Rattle.rs_value.specs.Values.{IsRowOf};
 ghost use Rattle.rs_value.specs.View.{row_of};
 
 use crate::changing::make;
-use crate::joining::joined;
+use crate::joining::join;
 use rs_contents::OpenedTable;
 use rs_facts::Span;
 use rs_pages::Pages;
@@ -53,7 +53,7 @@ pub fn insert<P: Pages>(
     let found = table
         .records
         .visible(alloc, pages, version, route, from, upto)?;
-    let joined = joined(alloc, table.records.schema(), &found, span)?;
+    let joined = join(alloc, table.records.schema(), &found, span)?;
     make(alloc, pages, table, version, route, &joined.edit)?;
     Ok(joined.count)
 }

@@ -1,8 +1,8 @@
 //! A span put beside the events of its row that it overlaps or touches.
 
-ghost use Rattle.std.specs.Prelude.{◌≡◌, ◌⊎◌, ◌×◌, ◌≤◌, IfErr, IfOk, IsTrue, map};
+ghost use Rattle.std.specs.Prelude.{◌≡◌, ◌-◌, ◌⊎◌, IfErr, IfOk, map};
 ghost use Rattle.std.specs.List.{AllByRecursion, list_any};
-ghost use Rattle.rs_event_changes.specs.Inner.{Joins, SayNone, covers, highest, lowest, shared_by, wide};
+ghost use Rattle.rs_event_changes.specs.Picked.{Joins, SayNone, covers, highest, lowest, shared_by, wide};
 ghost use Rattle.rs_facts.specs.Spans.{seen};
 ghost use Rattle.rs_records.specs.Listed.{listed, record_width};
 ghost use Rattle.rs_value.specs.Values.{IsRowOf};
@@ -28,7 +28,7 @@ pub(crate) struct Joined {
 /// What a span changes where the events of these cells overlap or touch it: those of its row end, and one comes that is as wide as they
 /// and the span together. Where one of them holds all along the span, nothing changes. It is refused with 90, and with 94 where a cell
 /// says no event.
-pub(crate) fn joined(
+pub(crate) fn join(
     alloc: Global,
     schema: &Schema,
     found: &Cells,
@@ -62,7 +62,7 @@ pub(crate) fn joined(
 
 /// Whether one of the spans holds all along this one.
 fn is_covered(spans: &[Span], span: &Span) -> bool
-    ensures { result ≡ list_any (covers (seen span.now)) (map seen spans.now) }
+    ensures { result ≡ list_any (λ other. covers (seen span.now) (seen other)) spans.now }
 {
     spans
         .iter()

@@ -1,9 +1,9 @@
 //! Spans that a stretch is taken out of.
 
-ghost use Rattle.std.specs.Prelude.{◌≡◌, ◌⊎◌, ◌×◌, ◌++◌, IfErr, IfOk, OnOk, map};
+ghost use Rattle.std.specs.Prelude.{◌≡◌, ◌⊎◌, ◌++◌, IfErr, IfOk, OnOk, map};
 ghost use Rattle.std.specs.List.{AllByRecursion};
 ghost use Rattle.std.specs.Option.{option_copied};
-ghost use Rattle.rs_event_changes.specs.Inner.{SayNone, Takes, outside_all, shared_by};
+ghost use Rattle.rs_event_changes.specs.Picked.{SayNone, Takes, outside_all, shared_by};
 ghost use Rattle.rs_event_lists.specs.Inner.{back_of, front_of};
 ghost use Rattle.rs_event_lists.specs.Removal.{goes_by};
 ghost use Rattle.rs_facts.proofs.Counting.{overlap};
@@ -29,7 +29,7 @@ pub(crate) struct Left {
 
 /// What a removal from `lo` on and below `hi` changes where the events of these cells overlap it: those whose rows go end, and what of
 /// them lies outside comes. It is refused with 90, and with 94 where a cell says no event.
-pub(crate) fn left(
+pub(crate) fn take_out(
     alloc: Global,
     schema: &Schema,
     found: &Cells,

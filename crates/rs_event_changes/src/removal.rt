@@ -12,7 +12,7 @@ ghost use Rattle.rs_event_changes.specs.Calls.{Leaves};
 ghost use Rattle.rs_event_changes.specs.Changes.{Removed};
 
 use crate::changing::make;
-use crate::leaving::left;
+use crate::leaving::take_out;
 use rs_contents::OpenedTable;
 use rs_facts::Condition;
 use rs_pages::Pages;
@@ -48,7 +48,7 @@ pub fn remove<P: Pages>(
         return Ok(0);
     }
     let found = table.records.visible(alloc, pages, version, route, lo, hi)?;
-    let left = left(alloc, table.records.schema(), &found, lo, hi, goes)?;
+    let left = take_out(alloc, table.records.schema(), &found, lo, hi, goes)?;
     make(alloc, pages, table, version, route, &left.edit)?;
     Ok(left.count)
 }
