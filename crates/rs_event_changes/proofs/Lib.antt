@@ -1,8 +1,12 @@
 mod Apart
 mod Cancelling
 mod GiveWay
+mod Inserting
+mod LeftSpans
 mod Outside
 mod PickLaws
 mod Pushed
+mod Removing
+mod Seeing
 mod Shown
 mod WideSpans

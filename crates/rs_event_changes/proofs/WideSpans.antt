@@ -190,10 +190,10 @@ module _ (kind : Kind) (span : Stretch) (placed : IsPlaced kind span) where
 -- ---- a span that another holds all along
 
 module _ (span : Stretch) (all : List Stretch) (one : Stretch) (among : Contains all one) (same : one.row ≡ span.row) (covered : IsTrue (covers span one)) where
-  low : one.lo ≤ span.lo
+  pub low : one.lo ≤ span.lo
   low = leb-true one.lo span.lo (and_parts (nat_le one.lo span.lo) (nat_le span.hi one.hi) covered).0
 
-  high : span.hi ≤ one.hi
+  pub high : span.hi ≤ one.hi
   high = leb-true span.hi one.hi (and_parts (nat_le one.lo span.lo) (nat_le span.hi one.hi) covered).1
 
   pub held_means : places_of all ≡ with_row span.lo span.hi span.row (places_of all)

@@ -28,7 +28,7 @@ pub record Inserts (kind : Kind) (accepted version route : ℕ) (span : Stretch)
   pub runs : AreRunsAt kind accepted route old → AreRunsAt kind version route now
   pub within : (start finish : ℕ) → AllLieWithin start finish (spans_at accepted route old) → start ≤ span.lo → span.hi ≤ finish
       → AllLieWithin start finish (spans_at version route now)
-  pub count : AreRunsAt kind accepted route old → count ≡ missing span.lo span.hi span.row (facts_at accepted route old)
+  pub counted : AreRunsAt kind accepted route old → count ≡ missing span.lo span.hi span.row (facts_at accepted route old)
 
 -- Removal, whatever the kind: where the accepted version has just the runs of its facts on the route, this version has these without the
 -- rows that go from one thousandth on and below another, and just their runs.
@@ -38,7 +38,7 @@ pub record Removes (accepted version route lo hi : ℕ) (goes : Option Condition
       → facts_at version route now ≡ without_rows lo hi (goes_by goes) (facts_at accepted route old)
   pub runs : (kind : Kind) → AreRunsAt kind accepted route old → AreRunsAt kind version route now
   pub within : (start finish : ℕ) → AllLieWithin start finish (spans_at accepted route old) → AllLieWithin start finish (spans_at version route now)
-  pub count : (kind : Kind) → AreRunsAt kind accepted route old → count ≡ going lo hi (goes_by goes) (facts_at accepted route old)
+  pub counted : (kind : Kind) → AreRunsAt kind accepted route old → count ≡ going lo hi (goes_by goes) (facts_at accepted route old)
 
 module _ (old new : PageMap) (was is : OpenedTable) where
   -- so the table in the pages has changed, whichever version before this one was accepted last
