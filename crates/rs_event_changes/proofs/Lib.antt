@@ -1,5 +1,6 @@
 mod Apart
 mod Cancelling
+mod Ending
 mod GiveWay
 mod Inserting
 mod LeftSpans
@@ -9,4 +10,5 @@ mod Pushed
 mod Removing
 mod Seeing
 mod Shown
+mod Tables
 mod WideSpans

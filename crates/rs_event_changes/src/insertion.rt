@@ -49,7 +49,7 @@ pub fn insert<P: Pages>(
     ensures table { KeepsTable table.old.records table.new.records table.old.indexes.items table.new.indexes.items }
     ensures order { HaveDiedBy version table.new.records.working.dead }
 {
-    let (from, upto) = reach(kind, span);
+    let (from, upto) = reach(kind, span.lo, span.hi);
     let found = table
         .records
         .visible(alloc, pages, version, route, from, upto)?;
@@ -58,13 +58,13 @@ pub fn insert<P: Pages>(
     Ok(joined.count)
 }
 
-/// Where events end and begin, in thousandths, that overlap the span or touch it: after the first, and before the second.
-fn reach(kind: Kind, span: &Span) -> (u32, u32)
-    ensures from { result.0 ≡ span.now.lo - gap_of kind }
-    ensures upto { result.1 ≡ min (span.now.hi + gap_of kind) (2 ^ 32 - 1) }
+/// Where events end and begin, in thousandths, that overlap a span or touch it: after the first, and before the second.
+fn reach(kind: Kind, lo: u32, hi: u32) -> (u32, u32)
+    ensures from { result.0 ≡ lo - gap_of kind }
+    ensures upto { result.1 ≡ min (hi + gap_of kind) (2 ^ 32 - 1) }
 {
     match kind {
-        Kind::Point => (span.lo, span.hi),
-        Kind::Line => (span.lo.saturating_sub(1), span.hi.saturating_add(1)),
+        Kind::Point => (lo, hi),
+        Kind::Line => (lo.saturating_sub(1), hi.saturating_add(1)),
     }
 }
