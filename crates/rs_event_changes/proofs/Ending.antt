@@ -1,10 +1,12 @@
 -- A cell that isn't living, or isn't there, is no event of a table.
-use Rattle.std.proofs.Common.{◌≡◌, ◌+◌, ◌<◌, ℕ, zero, suc, length, get_or, map, Bool, false, true, IsTrue, List, [], ◌∷◌, ◌++◌, refl, sym, ap, ◌∙◌, subst, arith}
+use Rattle.std.proofs.Common.{◌≡◌, ◌+◌, ◌<◌, ℕ, zero, suc, length, get_or, map, take, drop, Bool, false, true, IsTrue, List, [], ◌∷◌, ◌++◌, refl, sym, ap, ◌∙◌, subst, arith}
 use Rattle.std.proofs.lemmas.Bool.{eq-eqb, false≢true}
 use Rattle.std.proofs.lemmas.List.Sorted.{Contains-permutation, IsPermutation-sym}
 use Rattle.std.specs.List.{AllByRecursion, AllZip, Contains}
 use Rattle.std.specs.List.Sorted.{IsPermutation}
-use Rattle.rs_attr.specs.Tables.{IndexState, all_of}
+use Rattle.std.proofs.Math.Seq.{take-append_seam}
+use Rattle.std.proofs.lemmas.List.{length-map}
+use Rattle.rs_attr.specs.Tables.{IndexState, all_of, kept_parts}
 use Rattle.rs_cell_versions.specs.Version.{died_of, is_living}
 use Rattle.rs_cell_versions.specs.Versioned.{Standing}
 use Rattle.rs_cell_versions.specs.declared.cell.TheConstants.{LIVING}
@@ -63,3 +65,11 @@ pub row_at : (Q : Row → Type 0) (spans : List Span) (i : ℕ) (span : Span) �
 row_at Q [] i span all inside is = absurd (omega arith)
 row_at Q (s ∷ spans) zero span all inside is = subst (λ (x : Span). Q (row_of x.tuple.value)) (sym is) all.0
 row_at Q (s ∷ spans) (suc k) span all inside is = row_at Q spans k span all.1 (omega arith) is
+
+-- ---- what is written back to a list of indexes
+
+pub kept_length : (were are : List IndexState) → kept_parts are ≡ kept_parts were → length are ≡ length were
+kept_length were are same = sym (length-map are (λ (index : IndexState). (index.field, index.committed))) ∙ ap length same ∙ length-map were (λ (index : IndexState). (index.field, index.committed))
+
+pub written : (len : ℕ) (new old : List IndexState) → len ≡ length new → take len (new ++ drop (length new) old) ≡ new
+written len new old same = ap (λ n. take n (new ++ drop (length new) old)) same ∙ take-append_seam new (drop (length new) old)

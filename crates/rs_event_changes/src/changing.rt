@@ -47,7 +47,8 @@ pub(crate) fn make<P: Pages>(
     ensures order { HaveDiedBy version table.new.records.working.dead }
 {
     end_each(alloc, pages, table, version, &edit.gone)?;
-    add_each(alloc, pages, table, version, route, &edit.come)
+    add_each(alloc, pages, table, version, route, &edit.come)?;
+    Ok(())
 }
 
 /// Ends the events of the cells at the version. It is refused as `make` is.
