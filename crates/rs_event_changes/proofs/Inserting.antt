@@ -50,12 +50,23 @@ event_at P [] x all has = absurd (omega (arith, has.1))
 event_at P (y ∷ xs) x all (zero, inside, is) = subst P is all.0
 event_at P (y ∷ xs) x all (suc k, inside, is) = event_at P xs x all.1 (k, omega arith, is)
 
+-- the event is one of those of the row that are visible
+abbrev pub is_one_met : (version route from upto : ℕ) (row : Row) → Event → Bool
+is_one_met version route from upto row one = is_visible version route from upto one && same_row one.row row
+
+pub one_met_on : (version route from upto : ℕ) (row : Row) (one : Event) → is_one_met version route from upto row one ≡ true → is_on version route one ≡ true
+one_met_on version route from upto row one e =
+    let visible = (and_parts (is_visible version route from upto one) (same_row one.row row) e).0 in
+    let parts = and_parts (one.route == route && (nat_lt one.lo upto && nat_lt from one.hi)) (sees_event version one) visible in
+    let rest = and_parts (one.route == route) (nat_lt one.lo upto && nat_lt from one.hi) parts.0 in
+    and_from (one.route == route) (sees_event version one) rest.0 parts.1
+
 module _ (types : List ColumnType) (kind : Kind) (version route : ℕ) (below : version < LIVING) (accepted : ℕ) (before : accepted < version) (events now : List Event)
     (dated : AllByRecursion (IsDatedRecord (kept_events types) accepted) events) (fit : AllByRecursion (λ (one : Event). one.hi < 4294967296) events)
     (level : (other : ℕ) → spans_at version other events ≡ spans_at accepted other events)
     (span : Stretch) (placed : IsPlaced kind span) (from upto : ℕ) (reaches : from ≡ span.lo - gap_of kind) (ends : upto ≡ min (span.hi + gap_of kind) 4294967295) where
   abbrev pub is_met : Event → Bool
-  is_met one = is_visible version route from upto one && same_row one.row span.row
+  is_met = is_one_met version route from upto span.row
 
   abbrev pub met : List Event
   met = filter is_met events
@@ -64,11 +75,7 @@ module _ (types : List ColumnType) (kind : Kind) (version route : ℕ) (below : 
   seen_now = spans_at version route events
 
   met_on : (one : Event) → is_met one ≡ true → is_on version route one ≡ true
-  met_on one e =
-      let visible = (and_parts (is_visible version route from upto one) (same_row one.row span.row) e).0 in
-      let parts = and_parts (one.route == route && (nat_lt one.lo upto && nat_lt from one.hi)) (sees_event version one) visible in
-      let rest = and_parts (one.route == route) (nat_lt one.lo upto && nat_lt from one.hi) parts.0 in
-      and_from (one.route == route) (sees_event version one) rest.0 parts.1
+  met_on one e = one_met_on version route from upto span.row one e
 
   met_touches : (one : Event) → is_met one ≡ true → Touches kind span (span_of one)
   met_touches one e =
@@ -211,5 +218,5 @@ module _ (types : List ColumnType) (kind : Kind) (version route : ℕ) (below : 
 
 -- the events that are met are those of the row among those that are visible
 pub met_are : (version route from upto : ℕ) (row : Row) (events : List Event) → passing (λ other. same_row other row) (filter (is_visible version route from upto) events)
-    ≡ filter (λ one. is_visible version route from upto one && same_row one.row row) events
+    ≡ filter (is_one_met version route from upto row) events
 met_are version route from upto row events = filter_both (is_visible version route from upto) (λ (one : Event). same_row one.row row) events

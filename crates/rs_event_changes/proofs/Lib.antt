@@ -1,7 +1,9 @@
 mod Apart
 mod Cancelling
 mod Ending
+mod Finding
 mod GiveWay
+mod Inserted
 mod Inserting
 mod LeftSpans
 mod Outside
@@ -10,5 +12,6 @@ mod Pushed
 mod Removing
 mod Seeing
 mod Shown
+mod StillSeen
 mod Tables
 mod WideSpans

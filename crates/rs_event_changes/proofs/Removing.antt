@@ -35,6 +35,17 @@ pub record RemovesHere (accepted version route lo hi : ℕ) (goes : Row → Bool
   pub within : (start finish : ℕ) → AllLieWithin start finish (spans_at accepted route old) → AllLieWithin start finish (spans_at version route now)
   pub counted : (kind : Kind) → AreRunsAt kind accepted route old → count ≡ going lo hi goes (facts_at accepted route old)
 
+-- the event is one of those that are visible and whose rows go
+abbrev pub is_one_gone : (version route lo hi : ℕ) (goes : Row → Bool) → Event → Bool
+is_one_gone version route lo hi goes one = is_visible version route lo hi one && goes one.row
+
+pub one_gone_on : (version route lo hi : ℕ) (goes : Row → Bool) (one : Event) → is_one_gone version route lo hi goes one ≡ true → is_on version route one ≡ true
+one_gone_on version route lo hi goes one e =
+    let visible = (and_parts (is_visible version route lo hi one) (goes one.row) e).0 in
+    let parts = and_parts (one.route == route && (nat_lt one.lo hi && nat_lt lo one.hi)) (sees_event version one) visible in
+    let rest = and_parts (one.route == route) (nat_lt one.lo hi && nat_lt lo one.hi) parts.0 in
+    and_from (one.route == route) (sees_event version one) rest.0 parts.1
+
 module _ (types : List ColumnType) (version route : ℕ) (below : version < LIVING) (accepted : ℕ) (before : accepted < version) (events now : List Event)
     (dated : AllByRecursion (IsDatedRecord (kept_events types) accepted) events)
     (level : (other : ℕ) → spans_at version other events ≡ spans_at accepted other events)
@@ -50,17 +61,13 @@ module _ (types : List ColumnType) (version route : ℕ) (below : version < LIVI
   }
 
   abbrev pub is_gone : Event → Bool
-  is_gone one = is_visible version route lo hi one && goes one.row
+  is_gone = is_one_gone version route lo hi goes
 
   abbrev seen_now : List Stretch
   seen_now = spans_at version route events
 
   gone_on : (one : Event) → is_gone one ≡ true → is_on version route one ≡ true
-  gone_on one e =
-      let visible = (and_parts (is_visible version route lo hi one) (goes one.row) e).0 in
-      let parts = and_parts (one.route == route && (nat_lt one.lo hi && nat_lt lo one.hi)) (sees_event version one) visible in
-      let rest = and_parts (one.route == route) (nat_lt one.lo hi && nat_lt lo one.hi) parts.0 in
-      and_from (one.route == route) (sees_event version one) rest.0 parts.1
+  gone_on one e = one_gone_on version route lo hi goes one e
 
   gone_goes : (one : Event) → is_gone one ≡ true → goes one.row ≡ true
   gone_goes one e = (and_parts (is_visible version route lo hi one) (goes one.row) e).1
@@ -168,5 +175,5 @@ module _ (types : List ColumnType) (version route : ℕ) (below : version < LIVI
 
 -- the events that go are those whose rows go among those that are visible
 pub gone_are : (version route lo hi : ℕ) (goes : Row → Bool) (events : List Event) → passing goes (filter (is_visible version route lo hi) events)
-    ≡ filter (λ one. is_visible version route lo hi one && goes one.row) events
+    ≡ filter (is_one_gone version route lo hi goes) events
 gone_are version route lo hi goes events = filter_both (is_visible version route lo hi) (λ (one : Event). goes one.row) events

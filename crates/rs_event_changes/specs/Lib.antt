@@ -3,3 +3,4 @@ pub mod Chains
 pub mod Changes
 pub mod Inner
 pub mod Picked
+pub mod Seen

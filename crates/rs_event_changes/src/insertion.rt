@@ -16,6 +16,7 @@ ghost use Rattle.rs_value.specs.View.{row_of};
 
 use crate::changing::make;
 use crate::joining::join;
+use crate::laws::what_gave_way_is_still_seen;
 use rs_contents::OpenedTable;
 use rs_facts::Span;
 use rs_pages::Pages;
@@ -49,6 +50,7 @@ pub fn insert<P: Pages>(
     ensures table { KeepsTable table.old.records table.new.records table.old.indexes.items table.new.indexes.items }
     ensures order { HaveDiedBy version table.new.records.working.dead }
 {
+    what_gave_way_is_still_seen();
     let (from, upto) = reach(kind, span.lo, span.hi);
     let found = table
         .records

@@ -8,6 +8,7 @@ mod changing;
 mod edit;
 mod insertion;
 mod joining;
+mod laws;
 mod leaving;
 mod picking;
 mod removal;

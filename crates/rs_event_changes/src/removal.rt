@@ -12,6 +12,7 @@ ghost use Rattle.rs_event_changes.specs.Calls.{Leaves};
 ghost use Rattle.rs_event_changes.specs.Changes.{Removed};
 
 use crate::changing::make;
+use crate::laws::what_gave_way_is_still_seen;
 use crate::leaving::take_out;
 use rs_contents::OpenedTable;
 use rs_facts::Condition;
@@ -44,6 +45,7 @@ pub fn remove<P: Pages>(
     ensures table { KeepsTable table.old.records table.new.records table.old.indexes.items table.new.indexes.items }
     ensures order { HaveDiedBy version table.new.records.working.dead }
 {
+    what_gave_way_is_still_seen();
     if hi <= lo {
         return Ok(0);
     }
