@@ -9,6 +9,7 @@ mod LeftSpans
 mod Outside
 mod PickLaws
 mod Pushed
+mod Removed
 mod Removing
 mod Seeing
 mod Shown
