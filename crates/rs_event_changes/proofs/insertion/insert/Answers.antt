@@ -1,5 +1,5 @@
 -- What was found is joined, and the edit is made.
-use Rattle.std.proofs.Common.{◌≡◌, ◌∙◌, List, Ok, Err, map, sym, subst, inl, inr}
+use Rattle.std.proofs.Common.{◌≡◌, ◌∙◌, ℕ, List, Ok, Err, map, sym, subst, inl, inr}
 use Rattle.std.specs.List.{AllByRecursion}
 use Rattle.std.proofs.lemmas.Result.{err_from_is_err_and}
 use Rattle.rs_facts.specs.Runs.{Stretch}
@@ -55,7 +55,7 @@ returns-in_err-joined-clause-leaves g c =
       works = rw (p.1, p.2) (elim c.in_err-joined.ensures.refused [
         | inl memory ↦ works_memory (Unit {0}) none found why first mid memory read
         | inr damaged ↦
-            subst (λ (w : Refusal). WorksAfter none (Err w) first mid) (sym damaged.0)
+            subst (λ (w : Refusal). WorksAfter {T = ℕ} none (Err w) first mid) (sym damaged.0)
             (damaged_err none first mid read.works read.ends (λ tied.
             none_said was.records.types c.args.version first.map mid.map (rests.rests.keeps.pages tied) was.records.working was.indexes.items
             (is_visible c.args.version c.args.route c.reach-from.result.0 c.reach-from.result.1) (listed found) (c.in_ok-found.ensures.found tied)

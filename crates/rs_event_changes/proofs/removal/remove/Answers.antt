@@ -1,5 +1,5 @@
 -- What was found is taken out, and the edit is made.
-use Rattle.std.proofs.Common.{◌≡◌, ◌∙◌, List, Ok, Err, map, sym, subst, inl, inr, arith}
+use Rattle.std.proofs.Common.{◌≡◌, ◌∙◌, ℕ, List, Ok, Err, map, sym, subst, inl, inr, arith}
 use Rattle.std.specs.Option.{option_copied}
 use Rattle.rs_event_lists.specs.Removal.{goes_by}
 use Rattle.std.specs.List.{AllByRecursion}
@@ -57,7 +57,7 @@ returns-in_err-left-clause-leaves g c =
       works = rw (p.1, p.2) (elim c.in_err-left.ensures.refused [
         | inl memory ↦ works_memory (Unit {0}) none found why first mid memory read
         | inr damaged ↦
-            subst (λ (w : Refusal). WorksAfter none (Err w) first mid) (sym damaged.0)
+            subst (λ (w : Refusal). WorksAfter {T = ℕ} none (Err w) first mid) (sym damaged.0)
             (damaged_err none first mid read.works read.ends (λ tied.
             none_said was.records.types c.args.version first.map mid.map (rests.rests.keeps.pages tied) was.records.working was.indexes.items
             (is_visible c.args.version c.args.route c.args.lo c.args.hi) (listed found) (c.in_ok-found.ensures.found tied)
