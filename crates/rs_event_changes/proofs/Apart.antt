@@ -1,5 +1,5 @@
 -- Spans that are all the runs of what they mean are placed and lie apart, and the other way.
-use Rattle.std.proofs.Common.{◌≡◌, ◌+◌, ◌<◌, ◌≤◌, ◌≢◌, ◌⊎◌, ℕ, suc, true, false, inl, inr, List, [], ◌∷◌, ◌++◌, Less, Equal, Greater, refl, sym, ap, ◌∙◌, subst, arith}
+use Rattle.std.proofs.Common.{◌≡◌, ◌≢◌, ◌⊎◌, true, false, inl, inr, List, [], ◌∷◌, ◌++◌, Less, Equal, Greater, refl, sym, ap, subst, arith}
 use Rattle.std.proofs.lemmas.Bool.{cases_lt, cases_eq}
 use Rattle.std.proofs.lemmas.List.Elements.{All-from_recursion, recursion_from_All}
 use Rattle.std.proofs.lemmas.List.Sorted.{All-permutation, IsPermutation-cons, IsPermutation-refl, IsPermutation-sym, IsPermutation-swap, IsPermutation-trans}
@@ -10,7 +10,7 @@ use Rattle.rs_value.specs.declared.column.Kind.{Kind}
 use Rattle.rs_value.specs.declared.column.Kind.TheVariants.{Line, Point}
 use Rattle.rs_facts.specs.Fact.{Places, contains}
 use Rattle.rs_facts.specs.Runs.{IsLineRun, IsMaximalRun, Stretch, stretch}
-use Rattle.rs_facts.specs.Spans.{AreAllRunsOf, AreKept, AreOnce, ArePlaced, IsPlaced, Precedes, gap_of, places_of}
+use Rattle.rs_facts.specs.Spans.{AreAllRunsOf, AreKept, AreOnce, ArePlaced, IsPlaced, Precedes, places_of}
 use Rattle.rs_facts.proofs.Apart.{apart-permutation, kept-apart}
 use Rattle.rs_facts.proofs.KeptLaws.{placed-some, precedes-all}
 use Rattle.rs_facts.proofs.Rows.{row_cmp-antisymmetric, row_cmp-back}
@@ -159,7 +159,7 @@ others_of : (kind : Kind) (one : Stretch) (spans : List Stretch) → IsPlaced ki
 others_of kind one [] placed apart = tt
 others_of kind one (s ∷ spans) placed apart = (
   (λ same. let some = placed-some kind one placed in let lo = ap (λ (x : Stretch). x.lo) same in let hi = ap (λ (x : Stretch). x.hi) same in
-  elim (apart.0 (ap (λ (x : Stretch). x.row) same)) [ inl x ↦ omega (arith, x, some, lo) | inr y ↦ omega (arith, y, some, hi) ]),
+      elim (apart.0 (ap (λ (x : Stretch). x.row) same)) [ inl x ↦ omega (arith, x, some, lo) | inr y ↦ omega (arith, y, some, hi) ]),
   others_of kind one spans placed apart.1,
 )
 

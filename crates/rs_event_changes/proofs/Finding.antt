@@ -1,9 +1,9 @@
 -- What lies in the pages of a table, as far as a change looks at it.
-use Rattle.std.proofs.Common.{◌≡◌, ◌+◌, ◌<◌, ◌≤◌, ◌==◌, ◌&&◌, ℕ, Bool, true, false, not, nat_le, nat_lt, inl, inr, List, [], ◌∷◌, ◌++◌, filter, refl, sym, ap, subst, arith}
+use Rattle.std.proofs.Common.{◌≡◌, ◌<◌, ◌≤◌, ◌==◌, ◌&&◌, ℕ, Bool, true, not, nat_le, nat_lt, inl, inr, List, [], ◌∷◌, filter, refl, sym, subst, arith}
 use Rattle.std.proofs.lemmas.Bool.{and_parts, ltb-true}
 use Rattle.std.proofs.lemmas.List.Sorted.{IsPermutation-filter_both, IsPermutation-refl}
 use Rattle.std.specs.List.{AllByRecursion, AllZip}
-use Rattle.rs_attr.specs.Tables.{HoldsTable, IndexState, all_of}
+use Rattle.rs_attr.specs.Tables.{IndexState, all_of}
 use Rattle.rs_cell_versions.specs.Versioned.{Standing}
 use Rattle.rs_cell_versions.specs.declared.cell.TheConstants.{LIVING}
 use Rattle.rs_interval.specs.Finding.{event_form}
@@ -11,10 +11,9 @@ use Rattle.rs_page_owners.specs.Counts.{◌&◌}
 use Rattle.rs_pages.specs.PageMap.{PageMap, SamePages}
 use Rattle.rs_tree.specs.Tree.{IsNoTree}
 use Rattle.rs_value.specs.declared.column.ColumnType.{ColumnType}
-use Rattle.rs_versioned.specs.Events.{Event, SaysEvent, event_width, is_on, is_visible, kept_events}
+use Rattle.rs_versioned.specs.Events.{Event, SaysEvent, event_width, is_on, kept_events}
 use Rattle.rs_versioned.specs.Records.{HoldsRecords}
-use Rattle.rs_versioned.proofs.KeptRecords.{events_are_kept}
-use Rattle.rs_versioned.proofs.Present.{IsDatedRecord, held_dated}
+use Rattle.rs_versioned.proofs.Present.{IsDatedRecord}
 use Rattle.rs_event_changes.specs.Calls.{HoldsNoTableBy}
 use Rattle.rs_event_changes.specs.Inner.{HasThese, HoldsNoTableWith}
 use Rattle.rs_event_changes.specs.Picked.{SayNone}

@@ -1,5 +1,5 @@
 -- What versions see once some events have ended and others have come.
-use Rattle.std.proofs.Common.{◌≡◌, ◌≢◌, ◌+◌, ◌<◌, ◌≤◌, ◌⊎◌, ℕ, zero, suc, inl, inr, List, [], ◌∷◌, ◌++◌, map, append_assoc, append-nil, refl, sym, ap, ◌∙◌, subst, arith}
+use Rattle.std.proofs.Common.{◌≡◌, ◌≢◌, ◌<◌, ◌≤◌, ◌⊎◌, ℕ, inl, inr, List, [], ◌∷◌, ◌++◌, map, append_assoc, append-nil, refl, sym, ◌∙◌, subst, arith}
 use Rattle.std.proofs.lemmas.List.Elements.{Contains-append_right}
 use Rattle.std.proofs.lemmas.List.Sorted.{Contains-permutation, IsPermutation-append_right, IsPermutation-cons, IsPermutation-refl, IsPermutation-sym, IsPermutation-to_front, IsPermutation-trans}
 use Rattle.std.specs.List.{AllByRecursion, Contains}
@@ -10,11 +10,11 @@ use Rattle.rs_facts.specs.Spans.{AreOnce}
 use Rattle.rs_facts.proofs.RunLaws.{cases_cons}
 use Rattle.rs_value.specs.declared.column.ColumnType.{ColumnType}
 use Rattle.rs_versioned.specs.Events.{Event, kept_events, span_of, spans_at}
-use Rattle.rs_versioned.specs.Records.{HasEnded, HasOneMore, WasAdded, WasEnded}
+use Rattle.rs_versioned.specs.Records.{HasEnded, HasOneMore}
 use Rattle.rs_versioned.proofs.EventsSeen.{event_route, events_end}
 use Rattle.rs_versioned.proofs.SameRuns.{once_shuffled}
 use Rattle.rs_versioned.proofs.SeenAfter.{come_elsewhere, ended_elsewhere, from_birth, from_end}
-use Rattle.rs_event_changes.specs.Chains.{ComeAll, EndAll, GivesWay, living_event}
+use Rattle.rs_event_changes.specs.Chains.{ComeAll, EndAll, living_event}
 use Rattle.rs_event_changes.proofs.Cancelling.{cancel_first, middle}
 use Rattle.rs_event_changes.proofs.Shown.{same_shown, shown_there}
 

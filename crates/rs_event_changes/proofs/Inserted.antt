@@ -1,5 +1,5 @@
 -- Insertion into a table in pages.
-use Rattle.std.proofs.Common.{◌≡◌, ◌+◌, ◌-◌, ◌<◌, ◌≤◌, ◌&&◌, ◌∙◌, ◌⊎◌, ℕ, min, Bool, true, inl, inr, List, [], ◌∷◌, map, filter, refl, sym, ap, subst, arith}
+use Rattle.std.proofs.Common.{◌≡◌, ◌+◌, ◌-◌, ◌<◌, ◌≤◌, ◌∙◌, ℕ, min, inl, inr, List, [], filter, sym, subst, arith}
 use Rattle.std.specs.List.{AllByRecursion, AllZip}
 use Rattle.rs_attr.proofs.Placing.{later_table}
 use Rattle.rs_attr.specs.Tables.{BecomesTable, ChangesTable, HoldsTable, IndexState, all_of}
@@ -14,7 +14,7 @@ use Rattle.rs_page_owners.proofs.Moving.{moves_trans, same_pages-moves}
 use Rattle.rs_pages.specs.PageMap.{PageMap, SamePages}
 use Rattle.rs_value.specs.declared.column.ColumnType.{ColumnType}
 use Rattle.rs_value.specs.declared.column.Kind.{Kind}
-use Rattle.rs_versioned.specs.Events.{Event, SaysEvent, is_visible, kept_events, span_of, spans_at}
+use Rattle.rs_versioned.specs.Events.{Event, SaysEvent, is_visible, kept_events, spans_at}
 use Rattle.rs_versioned.specs.Records.{HoldsRecords}
 use Rattle.rs_versioned.proofs.KeptRecords.{events_are_kept}
 use Rattle.rs_versioned.proofs.Present.{IsDatedRecord, held_dated}
@@ -22,7 +22,7 @@ use Rattle.rs_versioned.proofs.RunsByVersion.{spans_level}
 use Rattle.rs_event_changes.specs.Chains.{ComeAll, GivesWay}
 use Rattle.rs_event_changes.specs.Changes.{Inserts}
 use Rattle.rs_event_changes.specs.Inner.{HasThese}
-use Rattle.rs_event_changes.specs.Picked.{IsHeld, IsWidened, Joins, passing, shared_by, wide}
+use Rattle.rs_event_changes.specs.Picked.{IsHeld, IsWidened, Joins, passing}
 use Rattle.rs_event_changes.specs.Seen.{GivenWayIsSeen}
 use Rattle.rs_event_changes.proofs.Finding.{Finds, has_none, has_passing, live_gone, small_each}
 use Rattle.rs_event_changes.proofs.Inserting.{InsertsHere, held_now, is_one_met, met_are, one_met_on, widened}

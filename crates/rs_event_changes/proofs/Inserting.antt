@@ -1,7 +1,7 @@
 -- Insertion, as a version sees it.
-use Rattle.std.proofs.Common.{◌≡◌, ◌≢◌, ◌+◌, ◌-◌, ◌<◌, ◌≤◌, ◌==◌, ◌&&◌, ◌⊎◌, ℕ, zero, suc, min, max, Bool, true, false, nat_le, nat_lt, inl, inr, List, [], ◌∷◌, ◌++◌, map, filter, refl, sym, ap, ◌∙◌, subst, arith}
-use Rattle.std.proofs.lemmas.Bool.{and_from, and_parts, cases_lt, leb-true, lt-ltb, ltb-true}
-use Rattle.std.proofs.lemmas.List.Sorted.{Contains-permutation, IsPermutation-refl, IsPermutation-sym}
+use Rattle.std.proofs.Common.{◌≡◌, ◌≢◌, ◌+◌, ◌-◌, ◌<◌, ◌≤◌, ◌==◌, ◌&&◌, ◌⊎◌, ℕ, zero, suc, min, max, Bool, true, nat_lt, inl, inr, List, [], ◌∷◌, ◌++◌, map, filter, sym, ap, ◌∙◌, subst, arith}
+use Rattle.std.proofs.lemmas.Bool.{and_from, and_parts, cases_lt, lt-ltb, ltb-true}
+use Rattle.std.proofs.lemmas.List.Sorted.{IsPermutation-refl, IsPermutation-sym}
 use Rattle.std.specs.List.{AllByRecursion, Contains}
 use Rattle.std.specs.List.Sorted.{IsPermutation}
 use Rattle.rs_cell_versions.specs.declared.cell.TheConstants.{LIVING}
@@ -23,7 +23,7 @@ use Rattle.rs_versioned.proofs.OnRoutes.{filter_both}
 use Rattle.rs_versioned.proofs.Present.{IsDatedRecord}
 use Rattle.rs_versioned.proofs.SameRuns.{runs_shuffled}
 use Rattle.rs_event_changes.specs.Chains.{GivesWay}
-use Rattle.rs_event_changes.specs.Picked.{IsHeld, covers, highest, lowest, passing, shared_by, wide}
+use Rattle.rs_event_changes.specs.Picked.{IsHeld, highest, lowest, passing, shared_by, wide}
 use Rattle.rs_event_changes.proofs.Apart.{AreApart, apart_of, once_of_apart}
 use Rattle.rs_event_changes.proofs.Seeing.{gone_there, now_here, now_only, now_there, rest_fails, rest_there, source, split}
 use Rattle.rs_event_changes.proofs.Shown.{kept_has}

@@ -1,7 +1,6 @@
 -- Removal from a table in pages.
-use Rattle.std.proofs.Common.{◌≡◌, ◌<◌, ◌≤◌, ◌∙◌, ℕ, List, [], map, filter, refl, sym, ap, subst, arith}
+use Rattle.std.proofs.Common.{◌≡◌, ◌<◌, ◌≤◌, ◌∙◌, ℕ, List, map, filter, ap, subst, arith}
 use Rattle.std.specs.List.{AllByRecursion, AllZip}
-use Rattle.std.specs.List.Sorted.{IsPermutation}
 use Rattle.std.specs.Prelude.{Option}
 use Rattle.std.proofs.lemmas.List.Sorted.{IsPermutation-refl}
 use Rattle.rs_attr.proofs.Placing.{later_table}
@@ -28,7 +27,7 @@ use Rattle.rs_event_changes.specs.Inner.{HasThese}
 use Rattle.rs_event_changes.specs.Picked.{Takes, outside_all, shared_by}
 use Rattle.rs_event_changes.specs.Seen.{GivenWayIsSeen}
 use Rattle.rs_event_changes.proofs.Finding.{Finds, has_passing, live_gone}
-use Rattle.rs_event_changes.proofs.Removing.{RemovesHere, gone_are, is_one_gone, nothing_removed, one_gone_on, removed}
+use Rattle.rs_event_changes.proofs.Removing.{gone_are, is_one_gone, nothing_removed, one_gone_on, removed}
 use Rattle.rs_event_changes.proofs.Tables.{same_shares, same_table}
 
 module _ (types : List ColumnType) (version route : ℕ) (below : version < LIVING) (lo hi : ℕ) (goes : Option Condition) (old : PageMap) (was : Standing) where
@@ -85,7 +84,7 @@ module _ (types : List ColumnType) (version route : ℕ) (below : version < LIVI
           let seen_now = finds events used accepted holds.records in
           let later = later_table types old was were accepted version events used uses (omega (arith, before)) holds in
           let step = (made these (say_going accepted events used holds.records)).each events used uses others (same_table types old mid same was were version events used uses others shares later)
-              (same_shares types old mid same was were (used & all_of uses) others shares) in
+          (same_shares types old mid same was were (used & all_of uses) others shares) in
           let left : come ≡ outside_all lo hi (map span_of these) = takes.is visible seen_now ∙ ap (λ l. outside_all lo hi (map span_of l)) (gone_are version route lo hi (goes_by goes) events) in
           let counted : count ≡ shared_by lo hi (map span_of these) = takes.counted visible seen_now ∙ ap (λ l. shared_by lo hi (map span_of l)) (gone_are version route lo hi (goes_by goes) events) in
           let way = subst (λ l. GivesWay types version route these l events step.events) left step.changed in

@@ -15,7 +15,7 @@ module _ (unchanged : (oldest accepted : ℕ) (events : List Event) → KeepsEve
     (joined : (oldest accepted : ℕ) (old next now : List Event) → KeepsEvents oldest accepted old next → KeepsEvents oldest accepted next now → KeepsEvents oldest accepted old now)
     (comes : (oldest accepted : ℕ) (one : Event) (old now : List Event) → HasOneMore one old now → accepted < one.born → KeepsEvents oldest accepted old now)
     (ends : (kind : Kind) (oldest accepted : ℕ) (types : List ColumnType) (version : ℕ) (one : Event) (old now : List Event)
-        → AreRunsFrom kind oldest accepted old → HasEnded (kept_events types) version one old now → one.died ≡ LIVING → accepted < version → version < LIVING → KeepsEvents oldest accepted old now)
+    → AreRunsFrom kind oldest accepted old → HasEnded (kept_events types) version one old now → one.died ≡ LIVING → accepted < version → version < LIVING → KeepsEvents oldest accepted old now)
     (runs : (kind : Kind) (oldest accepted : ℕ) (old now : List Event) → KeepsEvents oldest accepted old now → AreRunsFrom kind oldest accepted old → AreRunsFrom kind oldest accepted now) where
   come_seen : (version route oldest accepted : ℕ) → accepted < version → (come : List Stretch) (old now : List Event) → ComeAll route version come old now → KeepsEvents oldest accepted old now
   come_seen version route oldest accepted before [] old now e = subst (KeepsEvents oldest accepted old) (sym e) (unchanged oldest accepted old)

@@ -1,24 +1,23 @@
 -- Changes of a table in pages, one after another.
-use Rattle.std.proofs.Common.{◌≡◌, ◌+◌, ◌≤◌, ℕ, zero, suc, true, Some, IsTrue, List, [], ◌∷◌, ◌++◌, take, drop, slice_get, append_assoc, refl, sym, ap, ◌∙◌, subst, arith}
-use Rattle.std.specs.List.{AllByRecursion, AllZip, Contains}
+use Rattle.std.proofs.Common.{◌≡◌, ◌+◌, ℕ, zero, suc, Some, List, [], ◌∷◌, ◌++◌, take, slice_get, append_assoc, refl, sym, ap, ◌∙◌, subst, arith}
+use Rattle.std.specs.List.{AllByRecursion, AllZip}
 use Rattle.std.specs.List.Sorted.{IsPermutation}
-use Rattle.rs_attr.specs.Tables.{BecomesTable, ChangesTable, HoldsNoTable, HoldsTable, IndexState, all_of}
+use Rattle.rs_attr.specs.Tables.{ChangesTable, HoldsNoTable, HoldsTable, IndexState, all_of}
 use Rattle.rs_attr.proofs.Placing.{kept_table, later_table}
 use Rattle.rs_cell_versions.specs.Versioned.{Standing}
 use Rattle.rs_cell_versions.specs.declared.cell.TheConstants.{LIVING}
 use Rattle.rs_page_owners.specs.Counts.{◌&◌}
 use Rattle.rs_page_owners.specs.Owners.{KeepsPages, Shares}
-use Rattle.rs_page_owners.proofs.Moving.{moves_trans, same_pages-moves, shares_same}
+use Rattle.rs_page_owners.proofs.Moving.{moves_trans, same_pages-moves}
 use Rattle.rs_pages.specs.PageMap.{PageMap, SamePages}
-use Rattle.rs_facts.specs.Runs.{Stretch}
 use Rattle.rs_tree.proofs.Lists.{take_next}
 use Rattle.rs_value.specs.declared.column.ColumnType.{ColumnType}
 use Rattle.rs_versioned.specs.Events.{Event, SaysEvent, kept_events}
-use Rattle.rs_versioned.specs.Records.{HasEnded, HasOneMore}
+use Rattle.rs_versioned.specs.Records.{HasEnded}
 use Rattle.rs_event_changes.specs.Calls.{HoldsNoTableBy}
-use Rattle.rs_event_changes.specs.Chains.{ComeAll, EndAll, GivesWay, living_event}
-use Rattle.rs_event_changes.specs.Inner.{HasThese, HoldsNoTableWith}
-use Rattle.rs_event_changes.proofs.GiveWay.{all_ended, come_next, end_next}
+use Rattle.rs_event_changes.specs.Chains.{EndAll}
+use Rattle.rs_event_changes.specs.Inner.{HoldsNoTableWith}
+use Rattle.rs_event_changes.proofs.GiveWay.{all_ended, end_next}
 
 -- a list in which an element of another stands at its place
 pub record Parts {X Y : Type 0} (R : X → Y → Type 0) (xs : List X) (place : ℕ) (x : X) (ys : List Y) : Type 0 where
@@ -140,7 +139,7 @@ module _ (types : List ColumnType) (version : ℕ) (old mid new : PageMap) (was 
         let parts = parts_of (SaysEvent types) cells place cell these.these there these.say in
         let a = (so parts.front parts.say).each events used uses others (later_table types old was were accepted version events used uses upto holds) shares in
         let left = all_ended types version parts.front (parts.one ∷ (parts.back ++ these.others)) events a.events a.changed
-            (subst (IsPermutation events) (ap (λ l. l ++ these.others) parts.is ∙ append_assoc parts.front (parts.one ∷ parts.back) these.others) these.are) in
+        (subst (IsPermutation events) (ap (λ l. l ++ these.others) parts.is ∙ append_assoc parts.front (parts.one ∷ parts.back) these.others) these.are) in
         none.none version a.events a.after a.afters others (omega arith) a.holds (a.moves.beside others shares).shares (record {
           these = parts.one ∷ [];
           others = (parts.back ++ these.others) ++ left.others;

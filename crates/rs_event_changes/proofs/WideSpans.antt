@@ -1,8 +1,8 @@
 -- A span joined with the spans of its row that it overlaps or touches, beside all others.
-use Rattle.std.proofs.Common.{◌≡◌, ◌+◌, ◌-◌, ◌<◌, ◌≤◌, ◌≢◌, ◌⊎◌, ℕ, suc, min, max, Bool, true, false, IsTrue, inl, inr, List, [], ◌∷◌, ◌++◌, refl, sym, ap, ◌∙◌, subst, arith}
-use Rattle.std.proofs.lemmas.Bool.{and_parts, cases_lt, leb-true}
+use Rattle.std.proofs.Common.{◌≡◌, ◌+◌, ◌-◌, ◌<◌, ◌≤◌, ◌⊎◌, ℕ, suc, min, max, true, IsTrue, inl, inr, List, [], ◌∷◌, ◌++◌, refl, sym, ap, ◌∙◌, subst, arith}
+use Rattle.std.proofs.lemmas.Bool.{and_parts, leb-true}
 use Rattle.std.proofs.lemmas.List.Elements.{Contains-append_right}
-use Rattle.std.proofs.lemmas.List.Sorted.{Contains-permutation, IsPermutation-sym, IsPermutation-trans}
+use Rattle.std.proofs.lemmas.List.Sorted.{IsPermutation-sym, IsPermutation-trans}
 use Rattle.std.specs.List.{AllByRecursion, Contains}
 use Rattle.std.specs.List.Sorted.{IsPermutation}
 use Rattle.std.specs.Prelude.{nat_le}
@@ -11,17 +11,14 @@ use Rattle.rs_value.specs.declared.column.Kind.{Kind}
 use Rattle.rs_value.specs.declared.column.Kind.TheVariants.{Line, Point}
 use Rattle.rs_facts.specs.Insert.{missing, with_row}
 use Rattle.rs_facts.specs.Runs.{Stretch, stretch}
-use Rattle.rs_facts.specs.Spans.{AreAllRunsOf, AreKept, IsPlaced, gap_of, places_of}
-use Rattle.rs_facts.proofs.Counting.{overlap}
+use Rattle.rs_facts.specs.Spans.{AreAllRunsOf, IsPlaced, gap_of, places_of}
 use Rattle.rs_facts.proofs.KeptLaws.{known, missing-kept, placed-some, shared, shared-other, shared-outside, shared-same}
 use Rattle.rs_facts.proofs.Rows.{cases_row, same_row, same_row-equal}
 use Rattle.rs_facts.proofs.RunLaws.{IsApart, cases_cons}
-use Rattle.rs_facts.proofs.SpanLaws.{Covers, Holds, places_of-alike, places_of-permutation, with_row-absorb}
-use Rattle.rs_spans.specs.Within.{AllLieWithin, LiesWithin}
-use Rattle.rs_versioned.proofs.SameRuns.{once_shuffled}
+use Rattle.rs_facts.proofs.SpanLaws.{Holds, places_of-alike, places_of-permutation, with_row-absorb}
 use Rattle.rs_versioned.proofs.Shuffles.{shuffled}
 use Rattle.rs_event_changes.specs.Picked.{covers, highest, lowest, shared_by, wide}
-use Rattle.rs_event_changes.proofs.Apart.{AreApart, all_shuffled, apart_across, apart_first, apart_last, apart_of, apart_shuffled, in_form, runs_of_apart}
+use Rattle.rs_event_changes.proofs.Apart.{AreApart, apart_across, apart_first, apart_last, apart_of, apart_shuffled, in_form, runs_of_apart}
 
 -- the other is of the span's row, and they overlap or touch
 pub record Touches (kind : Kind) (span other : Stretch) : Type 0 where

@@ -15,7 +15,7 @@ use Rattle.rs_refusal.specs.declared.refusal.Refusal.{Refusal}
 use Rattle.rs_value.specs.declared.column.ColumnType.{ColumnType}
 use Rattle.rs_versioned.specs.Events.{Event, SaysEvent, kept_events}
 use Rattle.rs_versioned.specs.Records.{HasEnded}
-use Rattle.rs_event_changes.specs.Chains.{ComeAll, EndAll, GivesWay}
+use Rattle.rs_event_changes.specs.Chains.{EndAll, GivesWay}
 
 -- events of these cells are among those of the table
 pub record HasThese (types : List ColumnType) (cells : List (List ℕ)) (events : List Event) : Type 0 where

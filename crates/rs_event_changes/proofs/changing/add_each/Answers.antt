@@ -1,5 +1,5 @@
 -- One span after the other.
-use Rattle.std.proofs.Common.{◌≡◌, ◌+◌, ◌∙◌, ℕ, List, [], ◌∷◌, ◌++◌, length, map, take, drop, refl, sym, ap, subst, arith}
+use Rattle.std.proofs.Common.{◌≡◌, ◌+◌, ◌∙◌, List, [], ◌∷◌, ◌++◌, length, map, take, drop, refl, sym, ap, subst, arith}
 use Rattle.std.proofs.lemmas.List.{map_more, take_all}
 use Rattle.std.proofs.lemmas.Result.{err_from_is_err_and}
 use Rattle.rs_attr.proofs.Roots.{still_on}
@@ -12,7 +12,6 @@ use Rattle.rs_page_owners.proofs.Working.{CountsNothing-refl, CountsNothing-tran
 use Rattle.rs_pages.proofs.Stores.{SamePages-refl}
 use Rattle.rs_value.specs.Values.{IsRowOf}
 use Rattle.rs_value.specs.View.{row_of}
-use Rattle.rs_versioned.specs.Events.{Event}
 use Rattle.rs_versioned.specs.Records.{HasOneMore}
 use Rattle.rs_event_changes.specs.Calls.{HoldsNoTableBy}
 use Rattle.rs_event_changes.specs.Chains.{ComeAll, living_event}

@@ -1,5 +1,5 @@
 -- The events of the cells so far have ended.
-use Rattle.std.proofs.Common.{◌≡◌, take}
+use Rattle.std.proofs.Common.{take}
 use Rattle.rs_attr.specs.Calls.{KeepsTable}
 use Rattle.rs_cell_versions.specs.Version.{HaveDiedBy}
 use Rattle.rs_page_owners.specs.Changes.{Works, CountsNothing}

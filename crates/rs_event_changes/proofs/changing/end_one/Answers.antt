@@ -1,7 +1,7 @@
 -- An event that is there ends; where the cell is no living event that is there, no such table was there.
-use Rattle.std.proofs.Common.{◌≡◌, ◌∙◌, List, [], ◌∷◌, sym, subst}
+use Rattle.std.proofs.Common.{◌∙◌, [], ◌∷◌, sym, subst}
 use Rattle.std.proofs.lemmas.Result.{err_from_is_err_and}
-use Rattle.rs_attr.specs.Tables.{HoldsNoTable, IndexState}
+use Rattle.rs_attr.specs.Tables.{HoldsNoTable}
 use Rattle.rs_page_owners.proofs.Following.{damaged_err, works_err}
 use Rattle.rs_page_owners.proofs.Working.{CountsNothing-refl, Works-refl}
 use Rattle.rs_event_changes.specs.Inner.{HoldsNoTableWith}

@@ -1,5 +1,5 @@
 -- What was found is joined, and the edit is made.
-use Rattle.std.proofs.Common.{◌≡◌, ◌∙◌, ℕ, List, Ok, Err, map, sym, subst, inl, inr}
+use Rattle.std.proofs.Common.{ℕ, Ok, Err, map, sym, subst, inl, inr}
 use Rattle.std.specs.List.{AllByRecursion}
 use Rattle.std.proofs.lemmas.Result.{err_from_is_err_and}
 use Rattle.rs_facts.specs.Runs.{Stretch}
@@ -33,8 +33,11 @@ returns-in_err-found-clause-leaves g c =
             | inl memory ↦ inl memory
             | inr other ↦ elim other [
               | inl disk ↦ inr (inl disk)
-              | inr damaged ↦ inr (inr (damaged.0, λ tied.
-                  none_without_tree was.records.types c.args.version first.map first.map (SamePages-refl first.map) was.records.working was.indexes.items (damaged.1 tied)))
+              | inr damaged ↦ inr (inr (
+                damaged.0,
+                λ tied.
+                    none_without_tree was.records.types c.args.version first.map first.map (SamePages-refl first.map) was.records.working was.indexes.items (damaged.1 tied),
+              ))
             ]
           ])));
     }

@@ -1,9 +1,9 @@
 -- One part more.
-use Rattle.std.proofs.Common.{◌≡◌, ◌∙◌, ◌++◌, [], ◌∷◌, map, max, cond, sym, ap, true}
+use Rattle.std.proofs.Common.{◌∙◌, ◌++◌, [], ◌∷◌, map, max, cond, sym, ap}
 use Rattle.std.proofs.lemmas.Bool.{lt-ltb}
 use Rattle.std.proofs.lemmas.List.{map-append}
 use Rattle.std.proofs.lemmas.List.Elements.{same_from_all_zip}
-use Rattle.rs_facts.specs.Runs.{Stretch, stretch}
+use Rattle.rs_facts.specs.Runs.{stretch}
 use Rattle.rs_facts.specs.Spans.{seen}
 use Rattle.rs_event_changes.proofs.Pushed.{same_copy}
 use Rattle.rs_event_changes.proofs.leaving.push_back.Goals as goal

@@ -4,11 +4,9 @@ use Rattle.std.specs.List.{AllByRecursion}
 use Rattle.std.specs.Option.{option_copied}
 use Rattle.rs_event_changes.specs.Picked.{Picks}
 use Rattle.rs_event_lists.specs.Removal.{goes_by}
-use Rattle.rs_facts.proofs.Rows.{same_row}
 use Rattle.rs_facts.specs.Spans.{seen}
 use Rattle.rs_records.specs.Listed.{listed, record_width}
 use Rattle.rs_value.specs.Values.{IsRowOf}
-use Rattle.rs_value.specs.View.{row_of}
 use Rattle.rs_event_changes.proofs.picking.going.Given as goal
 
 abbrev pub invariant-loop-place : goal.invariant-loop-place

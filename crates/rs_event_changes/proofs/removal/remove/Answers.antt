@@ -1,5 +1,5 @@
 -- What was found is taken out, and the edit is made.
-use Rattle.std.proofs.Common.{◌≡◌, ◌∙◌, ℕ, List, Ok, Err, map, sym, subst, inl, inr, arith}
+use Rattle.std.proofs.Common.{ℕ, Ok, Err, map, sym, subst, inl, inr, arith}
 use Rattle.std.specs.Option.{option_copied}
 use Rattle.rs_event_lists.specs.Removal.{goes_by}
 use Rattle.std.specs.List.{AllByRecursion}
@@ -35,8 +35,11 @@ returns-in_err-found-clause-leaves g c =
             | inl memory ↦ inl memory
             | inr other ↦ elim other [
               | inl disk ↦ inr (inl disk)
-              | inr damaged ↦ inr (inr (damaged.0, λ tied.
-                  none_without_tree was.records.types c.args.version first.map first.map (SamePages-refl first.map) was.records.working was.indexes.items (damaged.1 tied)))
+              | inr damaged ↦ inr (inr (
+                damaged.0,
+                λ tied.
+                    none_without_tree was.records.types c.args.version first.map first.map (SamePages-refl first.map) was.records.working was.indexes.items (damaged.1 tied),
+              ))
             ]
           ])));
     }
