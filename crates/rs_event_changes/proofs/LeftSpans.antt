@@ -5,11 +5,11 @@ use Rattle.std.proofs.lemmas.List.Sorted.{IsPermutation-sym, IsPermutation-trans
 use Rattle.std.specs.List.{AllByRecursion}
 use Rattle.std.specs.List.Sorted.{IsPermutation}
 use Rattle.std.specs.Prelude.{nat_lt}
-use Rattle.rs_event_lists.specs.Inner.{back_of, front_of, gone_of, gone_of_all, left_of, left_of_all, outside}
+use Rattle.rs_event_lists.specs.Inner.{gone_of, gone_of_all, left_of, left_of_all}
 use Rattle.rs_event_lists.proofs.RemovedSpans.{going-spans, places_of-left}
 use Rattle.rs_facts.specs.Remove.{going, without_rows}
 use Rattle.rs_facts.specs.Runs.{Stretch, stretch}
-use Rattle.rs_facts.specs.Spans.{AreAllRunsOf, IsPlaced, gap_of, places_of}
+use Rattle.rs_facts.specs.Spans.{AreAllRunsOf, IsPlaced, places_of}
 use Rattle.rs_facts.proofs.Counting.{overlap}
 use Rattle.rs_facts.proofs.KeptLaws.{placed-some}
 use Rattle.rs_facts.proofs.RunLaws.{IsApart}
@@ -18,7 +18,9 @@ use Rattle.rs_value.specs.Row.{Row}
 use Rattle.rs_value.specs.declared.column.Kind.{Kind}
 use Rattle.rs_value.specs.declared.column.Kind.TheVariants.{Line, Point}
 use Rattle.rs_versioned.proofs.Shuffles.{shuffled}
-use Rattle.rs_event_changes.specs.Picked.{outside_all, shared_by}
+use Rattle.rs_event_changes.specs.Picked.{back_of, front_of, outside, outside_all, shared_by}
+use Rattle.rs_event_changes.proofs.WideSpans.{gap_small}
+use Rattle.rs_event_changes.proofs.Outside.{all_join}
 use Rattle.rs_event_changes.proofs.Apart.{AreApart, apart_both, apart_of, apart_shuffled, in_form, runs_of_apart}
 
 -- a part of a span
@@ -35,14 +37,6 @@ apart_parts kind a b p q one other apart same = elim (apart (sym one.row ∙ sam
   | inl x ↦ inl (omega (arith, x, one.upto, other.from))
   | inr y ↦ inr (omega (arith, y, other.upto, one.from))
 ]
-
-all_join : (P : Stretch → Type 0) (xs ys : List Stretch) → AllByRecursion P xs → AllByRecursion P ys → AllByRecursion P (xs ++ ys)
-all_join P [] ys a b = b
-all_join P (x ∷ xs) ys a b = (a.0, all_join P xs ys a.1 b)
-
-gap_small : (kind : Kind) → gap_of kind ≤ 1
-gap_small Line = omega arith
-gap_small Point = omega arith
 
 module _ (lo hi : ℕ) where
   each_front : (P : Stretch → Type 0) (span : Stretch) → ((part : Stretch) → IsPart span part → P part) → AllByRecursion P (front_of lo span)

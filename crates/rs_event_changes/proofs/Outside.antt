@@ -2,14 +2,13 @@
 use Rattle.std.proofs.Common.{◌≡◌, ℕ, suc, min, max, Bool, true, false, cond, ◌||◌, List, [], ◌∷◌, ◌++◌, map, refl, arith}
 use Rattle.std.specs.List.{AllByRecursion, Contains, list_any}
 use Rattle.std.specs.Prelude.{IsTrue, nat_lt}
-use Rattle.rs_event_lists.specs.Inner.{back_of, front_of, outside}
 use Rattle.rs_facts.specs.declared.fact.Span.{Span}
 use Rattle.rs_facts.specs.Runs.{Stretch, stretch}
 use Rattle.rs_facts.specs.Spans.{seen}
 use Rattle.rs_value.specs.Row.{Row}
-use Rattle.rs_event_changes.specs.Picked.{covers, outside_all}
+use Rattle.rs_event_changes.specs.Picked.{back_of, covers, front_of, outside, outside_all}
 
-all_join : (P : Stretch → Type 0) (xs ys : List Stretch) → AllByRecursion P xs → AllByRecursion P ys → AllByRecursion P (xs ++ ys)
+pub all_join : (P : Stretch → Type 0) (xs ys : List Stretch) → AllByRecursion P xs → AllByRecursion P ys → AllByRecursion P (xs ++ ys)
 all_join P [] ys a b = b
 all_join P (x ∷ xs) ys a b = (a.0, all_join P xs ys a.1 b)
 

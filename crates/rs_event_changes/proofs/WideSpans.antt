@@ -31,7 +31,7 @@ pub record StandsOff (kind : Kind) (span other : Stretch) : Type 0 where
   pub placed : IsPlaced kind other
   pub off : other.row ≡ span.row → (other.hi + gap_of kind ≤ span.lo) ⊎ (span.hi + gap_of kind ≤ other.lo)
 
-gap_small : (kind : Kind) → gap_of kind ≤ 1
+pub gap_small : (kind : Kind) → gap_of kind ≤ 1
 gap_small Line = omega arith
 gap_small Point = omega arith
 

@@ -17,7 +17,7 @@ use Rattle.rs_versioned.specs.Events.{Event, SaysEvent, kept_events}
 use Rattle.rs_versioned.specs.Records.{HasEnded}
 use Rattle.rs_event_changes.specs.Chains.{EndAll, GivesWay}
 
--- events of these cells are among those of the table
+-- living events of these cells are among those of the table
 pub record HasThese (types : List ColumnType) (cells : List (List ℕ)) (events : List Event) : Type 0 where
   pub these : List Event
   pub others : List Event

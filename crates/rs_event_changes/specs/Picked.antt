@@ -1,7 +1,6 @@
 -- What of the events that were found ends, and what comes.
-use Rattle.std.specs.Prelude.{◌≡◌, ◌⊎◌, ℕ, ◌+◌, ◌-◌, min, max, Bool, ◌&&◌, nat_le, IsTrue, List, [], ◌∷◌, ◌++◌, filter, map, Contains}
+use Rattle.std.specs.Prelude.{◌≡◌, ◌⊎◌, ℕ, ◌+◌, ◌-◌, min, max, Bool, ◌&&◌, nat_le, IsTrue, List, [], ◌∷◌, ◌++◌, filter, map, Contains, nat_lt, if◌then◌else◌}
 use Rattle.std.specs.List.{AllZip}
-use Rattle.rs_event_lists.specs.Inner.{outside}
 use Rattle.rs_facts.proofs.Counting.{overlap}
 use Rattle.rs_facts.proofs.Rows.{same_row}
 use Rattle.rs_facts.specs.Runs.{Stretch, stretch}
@@ -54,7 +53,7 @@ pub record IsHeld (span : Stretch) (met : List Event) (gone : List (List ℕ)) (
   pub none_come : come ≡ []
   pub no_new : count ≡ 0
 
--- the spans end, the wide one comes, and new is what the span had not in common with them
+-- the events end, the wide span comes, and what the span has not in common with them is new
 pub record IsWidened (types : List ColumnType) (span : Stretch) (met : List Event) (gone : List (List ℕ)) (come : List Stretch) (count : ℕ) : Type 0 where
   pub say : AllZip (SaysEvent types) gone met
   pub is : come ≡ wide span (map span_of met) ∷ []
@@ -68,12 +67,23 @@ pub record Joins (types : List ColumnType) (span : Stretch) (found gone : List (
 
 -- ---- spans that a stretch is taken out of
 
+-- what lies before a thousandth, and what from a thousandth on
+abbrev pub front_of : ℕ → Stretch → List Stretch
+front_of lo span = if nat_lt span.lo lo then stretch span.lo (min span.hi lo) span.row ∷ [] else []
+
+abbrev pub back_of : ℕ → Stretch → List Stretch
+back_of hi span = if nat_lt hi span.hi then stretch (max span.lo hi) span.hi span.row ∷ [] else []
+
+-- what lies outside a stretch
+abbrev pub outside : ℕ → ℕ → Stretch → List Stretch
+outside lo hi span = front_of lo span ++ back_of hi span
+
 -- what of the spans lies outside of it
 abbrev pub outside_all : ℕ → ℕ → List Stretch → List Stretch
 outside_all lo hi [] = []
 outside_all lo hi (span ∷ spans) = outside lo hi span ++ outside_all lo hi spans
 
--- where the cells say events, those whose rows go end, what of them lies outside comes, and the rest is counted
+-- where the cells say events, those whose rows go end, what of them lies outside comes, and what lies inside is counted
 pub record Takes (types : List ColumnType) (lo hi : ℕ) (goes : Row → Bool) (found gone : List (List ℕ)) (come : List Stretch) (count : ℕ) : Type 0 where
   pub say : (events : List Event) → AllZip (SaysEvent types) found events → AllZip (SaysEvent types) gone (passing goes events)
   pub is : (events : List Event) → AllZip (SaysEvent types) found events → come ≡ outside_all lo hi (map span_of (passing goes events))

@@ -3,7 +3,7 @@
 use rs_facts::Span;
 use rs_records::Cells;
 
-/// The cells of the events that end, the spans that come, and how many facts come or go.
+/// The cells of the events that end, and the spans that come.
 #[derive(Drop)]
 pub(crate) struct Edit {
     pub gone: Cells,
