@@ -1,0 +1,54 @@
+-- What the functions of this crate that change pages hand to one another. No clause of another crate speaks of it.
+use Rattle.std.specs.Prelude.{◌≡◌, ◌≤◌, ℕ, IsPermutation, List, ◌++◌, Result}
+use Rattle.std.specs.List.{AllByRecursion, AllZip}
+use Rattle.rs_attr.specs.Tables.{ChangesTable, HoldsTable, IndexState, all_of}
+use Rattle.rs_cell_versions.specs.Versioned.{Standing}
+use Rattle.rs_cell_versions.specs.declared.cell.TheConstants.{LIVING}
+use Rattle.rs_contents.specs.declared.opened.OpenedTable.{OpenedTable}
+use Rattle.rs_facts.specs.Runs.{Stretch}
+use Rattle.rs_page_owners.specs.Calls as owners
+use Rattle.rs_page_owners.specs.Counts.{◌&◌}
+use Rattle.rs_page_owners.specs.Owners.{Shares}
+use Rattle.rs_pages.specs.PageMap.{PageMap}
+use Rattle.rs_pages.specs.declared.pages.Pages.{Ghosts}
+use Rattle.rs_refusal.specs.declared.refusal.Refusal.{Refusal}
+use Rattle.rs_value.specs.declared.column.ColumnType.{ColumnType}
+use Rattle.rs_versioned.specs.Events.{Event, SaysEvent, kept_events}
+use Rattle.rs_versioned.specs.Records.{HasEnded}
+use Rattle.rs_event_changes.specs.Chains.{EndAll, GivesWay}
+
+-- living events of these cells are among those of the table
+pub record HasThese (types : List ColumnType) (cells : List (List ℕ)) (events : List Event) : Type 0 where
+  pub these : List Event
+  pub others : List Event
+  pub say : AllZip (SaysEvent types) cells these
+  pub live : AllByRecursion (λ one. one.died ≡ LIVING) these
+  pub are : IsPermutation events (these ++ others)
+
+-- no table with its indexes, dated up to the version at the latest, lies there so with living events of these cells
+pub record HoldsNoTableWith (version : ℕ) (cells : List (List ℕ)) (types : List ColumnType) (pages : PageMap) (standing : Standing) (indexes : List IndexState) : Type 0 where
+  pub none : (accepted : ℕ) (events : List Event) (used : ℕ → ℕ) (uses : List (ℕ → ℕ)) (others : ℕ → ℕ) → accepted ≤ version
+      → HoldsTable types pages standing indexes accepted events used uses → Shares pages (used & all_of uses & others) → HasThese types cells events → ⊥
+
+-- what the steps of a change leave on any disk
+abbrev pub LeavesWith : {P T : Type 0} → Ghosts P → OpenedTable → ℕ → List (List ℕ) → Result T Refusal → P → P → Type 0
+LeavesWith pages was version cells result old new =
+    owners.Leaves pages (HoldsNoTableWith version cells was.records.types (pages.store old).map was.records.working was.indexes.items) result old new
+
+module _ (old new : PageMap) (was is : OpenedTable) (version : ℕ) where
+  -- so the table in the pages has changed at the version
+  abbrev pub ChangesNow : (List Event → List Event → Type 0) → Type 0
+  ChangesNow = ChangesTable was.records.types old new was.records.working is.records.working was.indexes.items is.indexes.items version version
+
+  -- the event of the cell has ended
+  abbrev pub EndedOne : List ℕ → Type 0
+  EndedOne cell = (one : Event) → SaysEvent was.records.types cell one → ChangesNow (HasEnded (kept_events was.records.types) version one)
+
+  -- the events of the cells have ended
+  abbrev pub Ended : List (List ℕ) → Type 0
+  Ended cells = (gone : List Event) → AllZip (SaysEvent was.records.types) cells gone → ChangesNow (EndAll was.records.types version gone)
+
+  -- the events of the cells have ended, and the spans have come
+  abbrev pub Made : ℕ → List (List ℕ) → List Stretch → Type 0
+  Made route cells come = (gone : List Event) → AllZip (SaysEvent was.records.types) cells gone
+      → ChangesNow (GivesWay was.records.types version route gone come)

@@ -1,0 +1,6 @@
+pub mod Calls
+pub mod Chains
+pub mod Changes
+pub mod Inner
+pub mod Picked
+pub mod Seen

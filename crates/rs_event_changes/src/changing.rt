@@ -1,0 +1,146 @@
+//! The steps of a change: events end, and others come.
+
+ghost use Rattle.std.specs.Prelude.{◌≡◌, ◌<◌, ◌∷◌, [], OnOk, length, map, true};
+ghost use Rattle.std.specs.List.{AllByRecursion};
+ghost use Rattle.rs_attr.specs.Calls.{KeepsTable};
+ghost use Rattle.rs_attr.specs.Tables.{AreOn};
+ghost use Rattle.rs_cell_versions.specs.Version.{HaveDiedBy};
+ghost use Rattle.rs_cell_versions.specs.declared.cell.TheConstants.{LIVING};
+ghost use Rattle.rs_event_changes.specs.Calls.{Leaves};
+ghost use Rattle.rs_event_changes.specs.Chains.{ComeAll};
+ghost use Rattle.rs_event_changes.specs.Inner.{ChangesNow, Ended, EndedOne, LeavesWith, Made};
+ghost use Rattle.rs_facts.specs.Spans.{seen};
+ghost use Rattle.rs_records.specs.Listed.{listed, record_width};
+ghost use Rattle.rs_value.specs.Values.{IsRowOf};
+ghost use Rattle.rs_versioned.specs.Events.{event_width};
+
+use crate::edit::Edit;
+use rs_attr::{add, kill};
+use rs_cell_versions::is_living;
+use rs_contents::OpenedTable;
+use rs_facts::Span;
+use rs_pages::Pages;
+use rs_records::Cells;
+use rs_refusal::Refusal;
+use std::alloc::Global;
+
+/// Ends the events of an edit at the version, and puts its spans on the route from this version on. It is refused with 90, with 91,
+/// with 92 where the file is full, and with 94 only where no such table lies there, or not with these events.
+pub(crate) fn make<P: Pages>(
+    alloc: Global,
+    pages: &mut P,
+    table: &mut OpenedTable,
+    version: u64,
+    route: u32,
+    edit: &Edit,
+) -> Result<(), Refusal>
+    requires begun { (P.store pages.old).is_begun ≡ true }
+    requires width { record_width edit.now.gone ≡ event_width table.old.records.types }
+    requires rows { AllByRecursion (λ span. IsRowOf table.old.records.types span.row) (map seen edit.now.come.items) }
+    requires indexes { AreOn table.old.records.types table.old.indexes.items }
+    requires version { version < LIVING }
+    requires order { HaveDiedBy version table.old.records.working.dead }
+    ensures leaves { LeavesWith P.Pages table.old version (listed edit.now.gone) result pages.old pages.new }
+    ensures made { P.is_tied pages.old → OnOk result (Made (P.store pages.old).map (P.store pages.new).map table.old table.new version
+        route (listed edit.now.gone) (map seen edit.now.come.items)) }
+    ensures table { KeepsTable table.old.records table.new.records table.old.indexes.items table.new.indexes.items }
+    ensures order { HaveDiedBy version table.new.records.working.dead }
+{
+    end_each(alloc, pages, table, version, &edit.gone)?;
+    add_each(alloc, pages, table, version, route, &edit.come)?;
+    Ok(())
+}
+
+/// Ends the events of the cells at the version. It is refused as `make` is.
+fn end_each<P: Pages>(
+    alloc: Global,
+    pages: &mut P,
+    table: &mut OpenedTable,
+    version: u64,
+    cells: &Cells,
+) -> Result<(), Refusal>
+    requires begun { (P.store pages.old).is_begun ≡ true }
+    requires width { record_width cells.now ≡ event_width table.old.records.types }
+    requires indexes { AreOn table.old.records.types table.old.indexes.items }
+    requires version { version < LIVING }
+    requires order { HaveDiedBy version table.old.records.working.dead }
+    ensures leaves { LeavesWith P.Pages table.old version (listed cells.now) result pages.old pages.new }
+    ensures ended { P.is_tied pages.old → OnOk result (Ended (P.store pages.old).map (P.store pages.new).map table.old table.new version
+        (listed cells.now)) }
+    ensures table { KeepsTable table.old.records table.new.records table.old.indexes.items table.new.indexes.items }
+    ensures order { HaveDiedBy version table.new.records.working.dead }
+{
+    for place in 0..cells.len() {
+        end_one(alloc, pages, table, version, cells.get(place))?;
+    }
+    Ok(())
+}
+
+/// Ends the event of a cell at the version. It is refused as `make` is.
+fn end_one<P: Pages>(
+    alloc: Global,
+    pages: &mut P,
+    table: &mut OpenedTable,
+    version: u64,
+    cell: &[u8],
+) -> Result<(), Refusal>
+    requires begun { (P.store pages.old).is_begun ≡ true }
+    requires width { length cell.now ≡ event_width table.old.records.types }
+    requires indexes { AreOn table.old.records.types table.old.indexes.items }
+    requires version { version < LIVING }
+    requires order { HaveDiedBy version table.old.records.working.dead }
+    ensures leaves { LeavesWith P.Pages table.old version (cell.now ∷ []) result pages.old pages.new }
+    ensures ended { P.is_tied pages.old → OnOk result (EndedOne (P.store pages.old).map (P.store pages.new).map table.old table.new version
+        cell.now) }
+    ensures table { KeepsTable table.old.records table.new.records table.old.indexes.items table.new.indexes.items }
+    ensures order { HaveDiedBy version table.new.records.working.dead }
+{
+    if !is_living(cell) {
+        return Err(Refusal::DamagedFile);
+    }
+    let found = kill(
+        alloc,
+        pages,
+        &mut table.records,
+        &mut table.indexes,
+        version,
+        cell,
+    )?;
+    if !found {
+        return Err(Refusal::DamagedFile);
+    }
+    Ok(())
+}
+
+/// Puts the spans on the route, as versions from this one on see them. It is refused with 90, with 91, with 92 where the file is full,
+/// and with 94 only where no such table lies there.
+fn add_each<P: Pages>(
+    alloc: Global,
+    pages: &mut P,
+    table: &mut OpenedTable,
+    version: u64,
+    route: u32,
+    spans: &[Span],
+) -> Result<(), Refusal>
+    requires begun { (P.store pages.old).is_begun ≡ true }
+    requires rows { AllByRecursion (λ span. IsRowOf table.old.records.types span.row) (map seen spans.now) }
+    requires indexes { AreOn table.old.records.types table.old.indexes.items }
+    ensures leaves { Leaves P.Pages table.old version result pages.old pages.new }
+    ensures came { P.is_tied pages.old → OnOk result (ChangesNow (P.store pages.old).map (P.store pages.new).map table.old table.new version
+        (ComeAll route version (map seen spans.now))) }
+    ensures table { KeepsTable table.old.records table.new.records table.old.indexes.items table.new.indexes.items }
+    ensures dead { table.new.records.working.dead ≡ table.old.records.working.dead }
+{
+    for span in spans {
+        add(
+            alloc,
+            pages,
+            &mut table.records,
+            &mut table.indexes,
+            version,
+            route,
+            span,
+        )?;
+    }
+    Ok(())
+}

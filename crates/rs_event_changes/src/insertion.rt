@@ -1,0 +1,72 @@
+//! Insertion of a row along a span of a route.
+//!
+//! It reads the events that overlap or touch the span and no others. Those of the row end and one event takes their place, as wide as
+//! they and the span together.
+
+ghost use Rattle.std.specs.Prelude.{◌≡◌, ◌<◌, ◌+◌, ◌-◌, ◌^◌, IfOk, min, true};
+ghost use Rattle.rs_attr.specs.Calls.{KeepsTable};
+ghost use Rattle.rs_attr.specs.Tables.{AreOn};
+ghost use Rattle.rs_cell_versions.specs.Version.{HaveDiedBy};
+ghost use Rattle.rs_cell_versions.specs.declared.cell.TheConstants.{LIVING};
+ghost use Rattle.rs_event_changes.specs.Calls.{Leaves};
+ghost use Rattle.rs_event_changes.specs.Changes.{Inserted};
+ghost use Rattle.rs_facts.specs.Spans.{IsPlaced, gap_of, seen};
+ghost use Rattle.rs_value.specs.Values.{IsRowOf};
+ghost use Rattle.rs_value.specs.View.{row_of};
+
+use crate::changing::make;
+use crate::joining::join;
+use crate::laws::what_gave_way_is_still_seen;
+use rs_contents::OpenedTable;
+use rs_facts::Span;
+use rs_pages::Pages;
+use rs_refusal::Refusal;
+use rs_value::Kind;
+use std::alloc::Global;
+
+/// Puts the row along the span, in thousandths, on the route, as versions from this one on see it, and answers how many facts are
+/// new: at how many thousandths of the span the row did not hold. Where it held at all of them, nothing changes.
+///
+/// It is refused with 90, with 91, with 92 where the file is full, and with 94 only where no such table with its indexes, dated up to
+/// this version, lies there with pages of its own; the table, its indexes and the working pages are to be abandoned then.
+pub fn insert<P: Pages>(
+    alloc: Global,
+    pages: &mut P,
+    table: &mut OpenedTable,
+    kind: Kind,
+    version: u64,
+    route: u32,
+    span: &Span,
+) -> Result<u64, Refusal>
+    requires begun { (P.store pages.old).is_begun ≡ true }
+    requires row { IsRowOf table.old.records.types (row_of span.now.tuple.value) }
+    requires placed { IsPlaced kind (seen span.now) }
+    requires indexes { AreOn table.old.records.types table.old.indexes.items }
+    requires version { version < LIVING }
+    requires order { HaveDiedBy version table.old.records.working.dead }
+    ensures leaves { Leaves P.Pages table.old version result pages.old pages.new }
+    ensures inserts { P.is_tied pages.old → IfOk result (λ count. Inserted (P.store pages.old).map (P.store pages.new).map table.old table.new
+        kind version route (seen span.now) count) }
+    ensures table { KeepsTable table.old.records table.new.records table.old.indexes.items table.new.indexes.items }
+    ensures order { HaveDiedBy version table.new.records.working.dead }
+{
+    what_gave_way_is_still_seen();
+    let (from, upto) = reach(kind, span.lo, span.hi);
+    let found = table
+        .records
+        .visible(alloc, pages, version, route, from, upto)?;
+    let joined = join(alloc, table.records.schema(), &found, span)?;
+    make(alloc, pages, table, version, route, &joined.edit)?;
+    Ok(joined.count)
+}
+
+/// Where events end and begin, in thousandths, that overlap a span or touch it: after the first, and before the second.
+fn reach(kind: Kind, lo: u32, hi: u32) -> (u32, u32)
+    ensures from { result.0 ≡ lo - gap_of kind }
+    ensures upto { result.1 ≡ min (hi + gap_of kind) (2 ^ 32 - 1) }
+{
+    match kind {
+        Kind::Point => (lo, hi),
+        Kind::Line => (lo.saturating_sub(1), hi.saturating_add(1)),
+    }
+}

@@ -1,0 +1,56 @@
+//! Removal of rows between two thousandths of a route.
+//!
+//! It reads the events that lie between them and no others. Those whose rows go end, and what of them sticks out comes.
+
+ghost use Rattle.std.specs.Prelude.{◌≡◌, ◌<◌, IfOk, true};
+ghost use Rattle.std.specs.Option.{option_copied};
+ghost use Rattle.rs_attr.specs.Calls.{KeepsTable};
+ghost use Rattle.rs_attr.specs.Tables.{AreOn};
+ghost use Rattle.rs_cell_versions.specs.Version.{HaveDiedBy};
+ghost use Rattle.rs_cell_versions.specs.declared.cell.TheConstants.{LIVING};
+ghost use Rattle.rs_event_changes.specs.Calls.{Leaves};
+ghost use Rattle.rs_event_changes.specs.Changes.{Removed};
+
+use crate::changing::make;
+use crate::laws::what_gave_way_is_still_seen;
+use crate::leaving::take_out;
+use rs_contents::OpenedTable;
+use rs_facts::Condition;
+use rs_pages::Pages;
+use rs_refusal::Refusal;
+use std::alloc::Global;
+
+/// Takes the rows that meet the condition, or all rows where there is none, away from the route from thousandth `lo` on and below `hi`,
+/// as versions from this one on see it, and answers how many facts went. Where `hi` is not above `lo`, nothing does.
+///
+/// It is refused with 90, with 91, with 92 where the file is full, and with 94 only where no such table with its indexes, dated up to
+/// this version, lies there with pages of its own; the table, its indexes and the working pages are to be abandoned then.
+pub fn remove<P: Pages>(
+    alloc: Global,
+    pages: &mut P,
+    table: &mut OpenedTable,
+    version: u64,
+    route: u32,
+    lo: u32,
+    hi: u32,
+    goes: Option<&Condition>,
+) -> Result<u128, Refusal>
+    requires begun { (P.store pages.old).is_begun ≡ true }
+    requires indexes { AreOn table.old.records.types table.old.indexes.items }
+    requires version { version < LIVING }
+    requires order { HaveDiedBy version table.old.records.working.dead }
+    ensures leaves { Leaves P.Pages table.old version result pages.old pages.new }
+    ensures removes { P.is_tied pages.old → IfOk result (λ count. Removed (P.store pages.old).map (P.store pages.new).map table.old table.new
+        version route lo hi (option_copied goes.entry) count) }
+    ensures table { KeepsTable table.old.records table.new.records table.old.indexes.items table.new.indexes.items }
+    ensures order { HaveDiedBy version table.new.records.working.dead }
+{
+    what_gave_way_is_still_seen();
+    if hi <= lo {
+        return Ok(0);
+    }
+    let found = table.records.visible(alloc, pages, version, route, lo, hi)?;
+    let left = take_out(alloc, table.records.schema(), &found, lo, hi, goes)?;
+    make(alloc, pages, table, version, route, &left.edit)?;
+    Ok(left.count)
+}
