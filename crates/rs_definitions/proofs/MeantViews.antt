@@ -201,8 +201,7 @@ module _ (old : Definitions) (on : ℕ → Names ℕ) (spans_on : ℕ → ℕ �
       passing (view ∷ views) (w ∷ wide) (n ∷ made) meant are written pass =
           let query = query_tree n.1.query in
           let same = same_query view w n are.0 written.0.is in
-          let passes = subst (PassesIn (state_with ws)) same pass.0 in
-          (
+          let passes = subst (PassesIn (state_with ws)) same pass.0 in (
             record {
               named = subst IsName (sym written.0.is.named) meant.0.named;
               sound = written.0.sound;
@@ -211,7 +210,7 @@ module _ (old : Definitions) (on : ℕ → Names ℕ) (spans_on : ℕ → ℕ �
               made = passes.0;
               passes = passes.1;
             },
-            passing views wide made meant.1 are.1 written.1 pass.1
+            passing views wide made meant.1 are.1 written.1 pass.1,
           )
 
     -- ---- and the other way round
