@@ -10,6 +10,9 @@ use Rattle.std.proofs.lemmas.List.Sums.{sum_by-append, sum_by-cons}
 use Rattle.rs_cell_versions.specs.declared.cell.TheConstants.{LIVING}
 use Rattle.rs_attr.specs.Tables.{ChangesTable}
 use Rattle.rs_contents.specs.Contents.{Contents, ReferentContents, TableContents}
+use Rattle.rs_contents.specs.Opening.{IsOpened}
+use Rattle.rs_contents.specs.declared.opened.OpenedFile.{OpenedFile}
+use Rattle.rs_file_changes.specs.Parts.{Makes}
 use Rattle.rs_contents.specs.declared.opened.OpenedTable.{OpenedTable}
 use Rattle.rs_file_changes.specs.Calls.{ChangesReferents}
 use Rattle.rs_file_changes.specs.Clearing.{ClearsParts, ClearsReferents, ClearsTable, ClearsAsMany, clearable, clearable_events, clearable_referents}
@@ -20,7 +23,11 @@ use Rattle.rs_tree_edit.proofs.Pieces.{zip_append}
 use Rattle.rs_pages.specs.PageMap.{PageMap}
 use Rattle.rs_tree.proofs.Lists.{has_inside, zip_lengths}
 use Rattle.rs_versioned.specs.Events.{Event, kept_events}
-use Rattle.rs_versioned.specs.Records.{HasCleared, Kept}
+use Rattle.rs_records.specs.Listed.{listed}
+use Rattle.rs_records.specs.declared.cells.Cells.{Cells}
+use Rattle.rs_cell_versions.specs.Versioned.{Standing}
+use Rattle.rs_versioned.specs.Calls.{IsVacuumed}
+use Rattle.rs_versioned.specs.Records.{ChangesRecords, HasCleared, Kept}
 use Rattle.rs_versioned.specs.Referents.{ReferentRecord, kept_referents}
 use Rattle.rs_value.specs.declared.column.ColumnType.{ColumnType}
 
@@ -54,15 +61,20 @@ module _ {R : Type 0} (kept : Kept R) (oldest : ℕ) where
   all_may_go [] all = refl
   all_may_go (r ∷ rs) all =
       let one : nat_le (kept.died r) oldest ≡ true = le-leb (kept.died r) oldest all.0 in
-      omega (arith, sum_by-cons (λ (x : R). cond (nat_le (kept.died x) oldest) 1 0) r rs, ap (λ (b : Bool). cond b 1 0) one, all_may_go rs all.1)
+      omega (arith, sum_by-cons (λ (x : R). cond (nat_le (kept.died x) oldest) 1 0) r rs, ap (λ (b : Bool). cond {A = ℕ} b 1 0) one, all_may_go rs all.1)
 
   -- each that went could go
   pub fewer_may_go : (cells : List (List ℕ)) (old now : List R) → HasCleared kept oldest cells old now
       → length cells + count_by (λ r. nat_le (kept.died r) oldest) now ≡ count_by (λ r. nat_le (kept.died r) oldest) old
   fewer_may_go cells old now cleared =
       let weigh : R → ℕ = λ x. cond (nat_le (kept.died x) oldest) 1 0 in
-      omega (arith, zip_lengths kept.says cells cleared.gone cleared.say, all_may_go cleared.gone cleared.unseen, sum_by-append weigh cleared.gone now,
-      sum_by-IsPermutation weigh old (cleared.gone ++ now) cleared.rest)
+      omega (
+        arith,
+        zip_lengths kept.says cells cleared.gone cleared.say,
+        all_may_go cleared.gone cleared.unseen,
+        sum_by-append weigh cleared.gone now,
+        sum_by-IsPermutation weigh old (cleared.gone ++ now) cleared.rest,
+      )
 
 -- ---- contents
 
@@ -150,6 +162,10 @@ places_next oldest most one other from place few fewer old next now first second
     | inr past ↦ inr (past, high)
   ]
 
+-- fewer places
+pub places_below : (oldest most gone from mid to : ℕ) → to ≤ mid → (old now : Contents) → ClearsPlaces oldest most gone from mid old now → ClearsPlaces oldest most gone from to old now
+places_below oldest most gone from mid to below old now clears = record { some = clears.some; none = λ under less place low high. clears.none under less place low (omega arith) }
+
 -- ---- one table
 
 -- so many of a table's events are gone
@@ -165,7 +181,11 @@ opened_went old new was is oldest most gone clears accepted = record {
   each = λ events used uses others holds shares.
       let become = (clears.changes accepted).each events used uses others holds shares in
       record {
-        events = become.events; after = become.after; afters = become.afters; holds = become.holds; moves = become.moves;
+        events = become.events;
+        after = become.after;
+        afters = become.afters;
+        holds = become.holds;
+        moves = become.moves;
         changed = record { cells = clears.cells; many = clears.many; cleared = become.changed; as_many = λ below. clears.as_many events used accepted holds.records below };
       };
 }
@@ -212,7 +232,7 @@ clears_at types place oldest most gone old now at =
         none = λ table there.
             let where_it_is : other ≡ length at.before = omega (arith, at.long) in
             let found : slice_get (at.before ++ at.next ∷ at.after) (length at.before) ≡ Some table =
-                subst (λ n. slice_get (at.before ++ at.next ∷ at.after) n ≡ Some table) where_it_is (subst (λ (ts : List TableContents). slice_get ts other ≡ Some table) tables there) in
+            subst (λ n. slice_get (at.before ++ at.next ∷ at.after) n ≡ Some table) where_it_is (subst (λ (ts : List TableContents). slice_get ts other ≡ Some table) tables there) in
             let same : at.next ≡ table = let middle = at_middle at.before at.next at.after in cc in
             let zero_left : clearable_events oldest at.next.events ≡ 0 = omega (arith, fewer, went.many, went.as_many below) in
             subst (λ (t : TableContents). clearable_events oldest t.events ≡ 0) same zero_left;
@@ -228,6 +248,20 @@ pub record WentReferents (oldest most gone : ℕ) (old now : List ReferentRecord
   pub many : length cells ≡ gone
   pub cleared : HasCleared kept_referents oldest cells old now
   pub as_many : oldest < LIVING → gone ≡ min most (clearable_referents oldest old)
+
+pub referents_went : (old new : PageMap) (was is : Standing) (oldest most : ℕ) (taken : Cells) (gone : ℕ) → length (listed taken) ≡ gone → IsVacuumed kept_referents old new was is oldest most taken
+    → (accepted : ℕ) → ChangesRecords kept_referents old new was is accepted accepted (WentReferents oldest most gone)
+referents_went old new was is oldest most taken gone many vacuumed accepted = record {
+  each = λ records used others holds shares.
+      let become = (vacuumed.changes accepted).each records used others holds shares in
+      record {
+        records = become.records;
+        after = become.after;
+        holds = become.holds;
+        moves = become.moves;
+        changed = record { cells = listed taken; many = many; cleared = become.changed; as_many = λ below. sym many ∙ vacuumed.as_many records used accepted holds below };
+      };
+}
 
 pub clears_referents : (oldest most gone : ℕ) (old now : Contents) → ChangesReferents (WentReferents oldest most gone) old now → ClearsAllReferents oldest most gone old now
 clears_referents oldest most gone old now changes =
@@ -273,8 +307,8 @@ clears_all oldest most one other last start old next between now few fewer fewes
             let weigh : TableContents → ℕ = λ t. clearable_events oldest t.events in
             let long : length between.tables ≡ length old.tables = sym (zip_lengths (ClearsTable oldest) old.tables between.tables both.parts.tables) in
             let none : sum_by weigh between.tables ≡ 0 = all_none weigh between.tables (λ place table there.
-                (both_none oldest most one other start (length old.tables) 0 start old next between first second below (omega arith) place
-                (side start (length old.tables) place (omega (arith, has_inside between.tables place table there, long)))).none table there) in
+            (both_none oldest most one other start (length old.tables) 0 start old next between first second below (omega arith) place
+            (side start (length old.tables) place (omega (arith, has_inside between.tables place table there, long)))).none table there) in
             omega (arith, all.left below, none, ap (sum_by weigh) third.tables, third.none below (omega arith))
         | inr full ↦ omega (arith, all.left below)
       ];
@@ -284,3 +318,26 @@ clears_all oldest most one other last start old next between now few fewer fewes
         | inl less ↦ inr (omega arith, less)
         | inr past ↦ inl (past, high)
       ]
+
+-- as changes of what lies there
+pub all_cleared : (p0 p1 p2 p3 : PageMap) (f0 f1 f2 f3 : OpenedFile) (oldest most one other last start count : ℕ) → count ≡ length f0.tables.items
+    → one ≤ most → other ≤ most - one → last ≤ (most - one) - other
+    → ((accepted : ℕ) → Makes p0 p1 f0 f1 accepted accepted (ClearsPlaces oldest most one start count))
+    → ((accepted : ℕ) → Makes p1 p2 f1 f2 accepted accepted (ClearsPlaces oldest (most - one) other 0 start))
+    → ((accepted : ℕ) → Makes p2 p3 f2 f3 accepted accepted (ClearsAllReferents oldest ((most - one) - other) last))
+    → (accepted : ℕ) → Makes p0 p3 f0 f3 accepted accepted (ClearsAsMany oldest most ((one + other) + last))
+all_cleared p0 p1 p2 p3 f0 f1 f2 f3 oldest most one other last start count many few fewer fewest first second third accepted = record {
+  each = λ contents holds opened.
+      let m1 = (first accepted).each contents holds opened in
+      let m2 = (second accepted).each m1.contents m1.holds m1.opened in
+      let m3 = (third accepted).each m2.contents m2.holds m2.opened in
+      let as_many : count ≡ length contents.tables = many ∙ zip_lengths IsOpened f0.tables.items contents.tables opened.tables in
+      record {
+        contents = m3.contents;
+        holds = m3.holds;
+        opened = m3.opened;
+        directory = m3.directory ∙ m2.directory ∙ m1.directory;
+        changed = clears_all oldest most one other last start contents m1.contents m2.contents m3.contents few fewer fewest
+            (subst (λ n. ClearsPlaces oldest most one start n contents m1.contents) as_many m1.changed) m2.changed m3.changed;
+      };
+}

@@ -65,7 +65,10 @@ tables_kept map accepted (w ∷ ws) (i ∷ is) (t ∷ ts) kept opened lie =
     let goes : IsOpened i next = record { types = kept.0.types ∙ opened.0.types; stands = kept.0.working ∙ opened.0.stands; indexes = refl } in
     let one : SameTable t next = record { types = refl; events = refl; stands = refl; indexes = sym (kept_roots t.indexes i.indexes.items kept_indexes); pages = λ n. refl } in
     record {
-      now = next ∷ rest.now; lie = (there, rest.lie); opened = (goes, rest.opened); same = (one, rest.same);
+      now = next ∷ rest.now;
+      lie = (there, rest.lie);
+      opened = (goes, rest.opened);
+      same = (one, rest.same);
       pages = λ n. omega (arith, all_of-cons (table_pages next) (map_pages rest.now) n, all_of-cons (table_pages t) (map_pages ts) n, rest.pages n);
     }
 

@@ -4,4 +4,5 @@ pub mod Cleared
 pub mod Ready
 pub mod Ended
 pub mod Named
+pub mod Placed
 pub mod Written

@@ -1,5 +1,6 @@
 -- One element among others, and lists that change from the first element on.
-use Rattle.std.proofs.Common.{◌≡◌, ◌<◌, ◌≤◌, ℕ, zero, suc, Some, List, [], ◌∷◌, ◌++◌, length, set, slice_get, refl, sym, ap, ◌∙◌, subst, arith}
+use Rattle.std.proofs.Common.{◌≡◌, ◌<◌, ◌≤◌, ℕ, zero, suc, Some, List, [], ◌∷◌, ◌++◌, length, set, slice_get, take, refl, sym, ap, ◌∙◌, subst, arith}
+use Rattle.std.proofs.lemmas.List.{take-append-le, take_all}
 use Rattle.std.specs.List.{AllByRecursion, AllZip}
 
 -- the element at a place stands among the others, and another may stand there
@@ -119,3 +120,7 @@ partly_all R (suc n) [] [] partly below = tt
 partly_all R (suc n) [] (y ∷ ys) partly below = absurd partly
 partly_all R (suc n) (x ∷ xs) [] partly below = absurd partly
 partly_all R (suc n) (x ∷ xs) (y ∷ ys) partly below = (partly.0, partly_all R n xs ys partly.1 (omega arith))
+
+-- what is written over a whole list is the list
+pub refilled : {X : Type 0} (n : ℕ) (ws rest : List X) → length ws ≡ n → take n (ws ++ rest) ≡ ws
+refilled n ws rest same = take-append-le n ws rest (omega arith) ∙ take_all n ws (omega arith)

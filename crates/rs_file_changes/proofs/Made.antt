@@ -54,7 +54,10 @@ makes_of_as_many change old new was is from to makes = record {
   each = λ contents holds opened.
       let made = makes.each contents holds opened in
       record {
-        contents = made.contents; holds = made.holds; opened = made.opened; directory = made.directory;
+        contents = made.contents;
+        holds = made.holds;
+        opened = made.opened;
+        directory = made.directory;
         changed = (made.changed, zip_lengths IsOpened was.tables.items contents.tables opened.tables);
       };
 }
@@ -120,12 +123,17 @@ module _ (was : OpenedFile) (before after : List OpenedTable) (table : OpenedTab
         let at = beside IsOpened before table after contents.tables (subst (λ (ts : List OpenedTable). AllZip IsOpened ts contents.tables) were opened.tables) in
         let lies = all_one (LiesTable old from) at.first at.one at.last (subst (AllByRecursion (LiesTable old from)) at.are holds.tables) in
         let become = changes.each at.one.events at.one.used at.one.uses (beside_table contents (at.first ++ at.last)) (opened_lies old from table at.one at.goes lies)
-            (shares_table old from contents holds at.first at.last at.one at.are) in
+        (shares_table old from contents holds at.first at.last at.one at.are) in
         let next : TableContents = record {
-          types = at.one.types; standing = now.records.working; indexes = now.indexes.items; events = become.events; used = become.after; uses = become.afters;
+          types = at.one.types;
+          standing = now.records.working;
+          indexes = now.indexes.items;
+          events = become.events;
+          used = become.after;
+          uses = become.afters;
         } in
         let there : LiesTable new to next =
-            subst (λ (ts : List ColumnType). HoldsTable ts new now.records.working now.indexes.items to become.events become.after become.afters) at.goes.types become.holds in
+        subst (λ (ts : List ColumnType). HoldsTable ts new now.records.working now.indexes.items to become.events become.after become.afters) at.goes.types become.holds in
         let other : IsOpened now next = record { types = types ∙ at.goes.types; stands = refl; indexes = refl } in
         record {
           contents = record contents { tables = at.first ++ next ∷ at.last };
@@ -139,7 +147,16 @@ module _ (was : OpenedFile) (before after : List OpenedTable) (table : OpenedTab
           };
           directory = table_leaves_directory old from contents holds new at.first at.last at.one (table_pages next) at.are become.moves;
           changed = record {
-            before = at.first; table = at.one; next = next; after = at.last; long = at.long; were = at.are; are = refl; columns_are = sym at.goes.types; types = refl; changed = become.changed;
+            before = at.first;
+            table = at.one;
+            next = next;
+            after = at.last;
+            long = at.long;
+            were = at.are;
+            are = refl;
+            columns_are = sym at.goes.types;
+            types = refl;
+            changed = become.changed;
           };
         };
   }

@@ -1,5 +1,6 @@
 -- A referent of the file is found by its name, and ends.
 use Rattle.std.proofs.Common.{◌≡◌, ◌<◌, ◌≤◌, ◌⊎◌, ◌&&◌, ◌==◌, ℕ, zero, suc, Bool, true, false, cond, nat_le, nat_lt, Some, IsTrue, List, [], ◌∷◌, filter, length, slice_get, refl, sym, ap, ◌∙◌, subst, inl, inr, arith}
+use Rattle.std.proofs.lemmas.Bool.{false≢true}
 use Rattle.std.proofs.lemmas.Bool.Decides.{nat_tests}
 use Rattle.std.proofs.lemmas.List.Elements.{All-contains, All-contains_itself, All-filter, filter_passes}
 use Rattle.std.specs.List.{AllByRecursion, AllZip, Contains}
@@ -7,15 +8,24 @@ use Rattle.rs_cell_versions.specs.declared.cell.TheConstants.{LIVING}
 use Rattle.rs_cell_versions.specs.Version.{IsDated, born_of, died_of, is_living}
 use Rattle.rs_file_changes.specs.Calls.{EndsNamed, EndsNone, EndsOne}
 use Rattle.rs_file_changes.specs.Inner.{IsCellNamed, NoCellNamed}
-use Rattle.rs_page_owners.specs.Counts.{◌&◌}
-use Rattle.rs_page_owners.specs.Owners.{Shares}
+use Rattle.rs_contents.specs.Contents.{Contents, beside_referents}
+use Rattle.rs_contents.specs.declared.opened.OpenedFile.{OpenedFile}
+use Rattle.rs_contents.proofs.Loaded.{same_map}
+use Rattle.rs_contents.proofs.Parts.{shares_referents}
+use Rattle.rs_file_changes.specs.Parts.{HoldsNoParts}
 use Rattle.rs_page_owners.proofs.Moving.{same_pages-moves}
 use Rattle.rs_pages.specs.PageMap.{PageMap, SamePages}
+use Rattle.rs_pages.specs.Store.{Store}
+use Rattle.rs_refusal.specs.declared.refusal.Refusal.{Refusal}
+use Rattle.rs_refusal.specs.declared.refusal.Refusal.TheVariants as refusal
+use Rattle.rs_tree.specs.Calls.{RefusesToRead}
+use Rattle.rs_tree.specs.Tree.{IsNoTree}
+use Rattle.rs_versioned.proofs.Staying.{held_later}
 use Rattle.rs_cell_versions.specs.Versioned.{Standing}
 use Rattle.rs_tree.proofs.Lists.{all_at}
 use Rattle.rs_versioned.specs.Calls.{IsEnded}
 use Rattle.rs_versioned.specs.Records.{ChangesRecords, HoldsRecords}
-use Rattle.rs_versioned.specs.Referents.{ReferentRecord, SaysReferent, is_referent_of, kept_referents}
+use Rattle.rs_versioned.specs.Referents.{ReferentRecord, SaysReferent, is_referent_of, kept_referents, referent_form}
 use Rattle.rs_versioned.proofs.KeptReferents.{referents_are_kept}
 use Rattle.rs_versioned.proofs.Lifting.{said_by, saying}
 
@@ -77,7 +87,7 @@ all_born cells referents accepted say dated one has =
 
 module _ (map : PageMap) (standing : Standing) (version route : ℕ) (name : List ℕ) (found : List (List ℕ)) (below : version < LIVING)
     (sees : (referents : List ReferentRecord) (used : ℕ → ℕ) (accepted : ℕ) → HoldsRecords kept_referents map standing accepted referents used
-      → AllZip SaysReferent found (filter (is_referent_of version route) referents)) where
+    → AllZip SaysReferent found (filter (is_referent_of version route) referents)) where
   -- where no cell has the name, no living referent has
   pub none_named : NoCellNamed found name → (accepted : ℕ) → accepted ≤ version → (referents : List ReferentRecord) (used : ℕ → ℕ) → HoldsRecords kept_referents map standing accepted referents used
       → EndsNone route name referents referents
@@ -118,3 +128,71 @@ module _ (map : PageMap) (standing : Standing) (version route : ℕ) (name : Lis
         name_is = is.named said.one (subst (λ (c : List ℕ). SaysReferent c said.one) (sym same) said.said);
         living = sym died ∙ lives (died_of cell) alive;
       }
+
+  module _ (place : ℕ) (cell : List ℕ) (at : slice_get found place ≡ Some cell) (named : IsCellNamed found name place) (new : PageMap) (is : Standing) (told : Bool)
+      (ended : IsEnded kept_referents map new standing is version cell told) where
+    -- that referent ends
+    pub named_ends : (accepted : ℕ) → accepted ≤ version → ChangesRecords kept_referents map new standing is accepted version (EndsNamed version route name true)
+    named_ends accepted later = record {
+      each = λ records used others holds shares.
+          let it = one_named place cell at named accepted records used holds in
+          let become = (ended.changes accepted it.one later it.says).each records used others holds shares in
+          record {
+            records = become.records;
+            after = become.after;
+            holds = become.holds;
+            moves = become.moves;
+            changed = record {
+              one = λ yes. record { one = it.one; there = it.there; route_is = it.route_is; name_is = it.name_is; living = it.living; ended = become.changed };
+              none = λ no. absurd (cc);
+            };
+          };
+    }
+
+    -- where it was told that it isn't there, no such file is
+    pub named_missing : (file : OpenedFile) → file.referents.working ≡ standing → told ≡ false → HoldsNoParts map file
+    named_missing file stands missing = record {
+      none = λ accepted contents holds opened.
+          let there = subst (λ (s : Standing). HoldsRecords kept_referents map s accepted contents.referents.referents contents.referents.used) (opened.referents ∙ stands) holds.referents in
+          let it = one_named place cell at named accepted contents.referents.referents contents.referents.used there in
+          let has : told ≡ true = (ended.tells it.one it.says contents.referents.referents contents.referents.used (beside_referents contents) accepted there (shares_referents map accepted contents holds)).1 it.there in
+          false≢true (sym missing ∙ has);
+    }
+
+  -- where there is none, all stay
+  pub none_ends : (mid : PageMap) → SamePages mid map → NoCellNamed found name → (accepted : ℕ) → accepted ≤ version
+      → ChangesRecords kept_referents map mid standing standing accepted version (EndsNamed version route name false)
+  none_ends mid same none accepted later = record {
+    each = λ records used others holds shares.
+        record {
+          records = records;
+          after = used;
+          holds = subst (λ (m : PageMap). HoldsRecords kept_referents m standing version records used) (sym (same_map mid map same))
+              (held_later kept_referents map standing accepted version records used later holds);
+          moves = same_pages-moves map mid used same;
+          changed = record { one = λ yes. absurd (cc); none = λ no. none_named none accepted later records used holds };
+        };
+  }
+
+-- where no tree is there, no such file is
+pub no_tree : (map : PageMap) (file : OpenedFile) → IsNoTree referent_form map file.referents.working.root → HoldsNoParts map file
+no_tree map file none = record {
+  none = λ accepted contents holds opened.
+      let there = subst (λ (s : Standing). HoldsRecords kept_referents map s accepted contents.referents.referents contents.referents.used) opened.referents holds.referents in
+      none.none there.cells contents.referents.used there.holds.tree;
+}
+
+-- why what is read is refused
+pub read_refused : (tied : Type 0) (why : Refusal) (old new : Store) (file : OpenedFile) → RefusesToRead tied referent_form file.referents.working.root why old new
+    → (why ≡ refusal.OutOfMemory) ⊎ (why ≡ refusal.Disk) ⊎ ((why ≡ refusal.DamagedFile) × (tied → HoldsNoParts old.map file))
+read_refused tied why old new file refused = elim refused.cause [
+  | inl memory ↦ inl memory
+  | inr (inl disk) ↦ inr (inl disk)
+  | inr (inr wrong) ↦ inr (inr (wrong.0, λ honest. no_tree old.map file (wrong.1 honest)))
+]
+
+-- the cell that was found is the one that has the name
+pub cell_lives : (found : List (List ℕ)) (name : List ℕ) (place : ℕ) (cell : List ℕ) → slice_get found place ≡ Some cell → IsCellNamed found name place → IsTrue (is_living cell)
+cell_lives found name place cell at named =
+    let same : named.cell ≡ cell = let there = named.there in cc in
+    subst (λ (c : List ℕ). IsTrue (is_living c)) same named.living

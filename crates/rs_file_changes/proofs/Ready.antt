@@ -63,7 +63,7 @@ loaded_order file is =
 
 -- ---- a file whose parts change
 
-same_kept : (table : OpenedTable) → KeepsOpened table table
+pub same_kept : (table : OpenedTable) → KeepsOpened table table
 same_kept table = record { types = refl; committed = refl; kept = refl }
 
 pub kept_then : (was between is : OpenedTable) → KeepsOpened was between → KeepsOpened between is → KeepsOpened was is

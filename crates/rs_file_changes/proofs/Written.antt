@@ -1,11 +1,11 @@
 -- The directory is written beside contents that lie there, and other definitions are.
-use Rattle.std.proofs.Common.{◌≡◌, ◌<◌, ◌≤◌, ◌^◌, ℕ, true, false, Some, List, refl, sym, ap, ◌∙◌, subst, inl, inr, arith}
+use Rattle.std.proofs.Common.{◌≡◌, ◌<◌, ◌≤◌, ◌^◌, ℕ, true, false, Some, Err, List, ◌⊎◌, refl, sym, ap, ◌∙◌, subst, inl, inr, arith}
 use Rattle.std.proofs.lemmas.Bool.{cases_lt}
 use Rattle.std.specs.List.{AllByRecursion, AllZip}
 use Rattle.rs_catalog_pages.specs.Directory.{DirectoryItems, HasDirectory, StoresDirectory}
 use Rattle.rs_catalog_pages.specs.Items.{CatalogueItems}
 use Rattle.rs_catalog_pages.specs.Said.{said_catalogue, said_directory}
-use Rattle.rs_catalog_pages.specs.Storing.{HasNoOwnBytes, StoresCatalogue}
+use Rattle.rs_catalog_pages.specs.Storing.{HasNoOwnBytes, StoresAfter, StoresCatalogue}
 use Rattle.rs_catalog_pages.specs.declared.directory_items.StoredDirectory.{StoredDirectory}
 use Rattle.rs_catalog_pages.specs.declared.items.StoredCatalogue.{StoredCatalogue}
 use Rattle.rs_contents.specs.Contents.{AreSaid, Contents, HoldsAll, HoldsParts, beside_definitions}
@@ -18,8 +18,11 @@ use Rattle.rs_file_changes.specs.Parts.{HoldsNoParts, IsOpenedFile, Makes}
 use Rattle.rs_page.proofs.Headers.{free_by_its_header}
 use Rattle.rs_page.specs.PageBytes.{IsFit, empty_header, is_free}
 use Rattle.rs_page.specs.declared.header.PageKind.TheVariants.{Directory}
-use Rattle.rs_page_owners.specs.Counts.{one_at}
+use Rattle.rs_page_owners.specs.Changes.{EndsFull}
 use Rattle.rs_page_owners.proofs.Moving.{one_at-same}
+use Rattle.rs_pages.specs.Store.{Store}
+use Rattle.rs_refusal.specs.declared.refusal.Refusal.{Refusal}
+use Rattle.rs_refusal.specs.declared.refusal.Refusal.TheVariants as refusal
 use Rattle.rs_pages.specs.PageMap.{HasNoFit, PageMap, in_use}
 
 -- a directory beside contents is a page that fits
@@ -41,7 +44,7 @@ no_directory map none = record {
 -- what the directory of what is open says, the file holds
 pub directory_written : (old new : PageMap) (file : OpenedFile) (version : ℕ) (directory : StoredDirectory) → directory.accepted ≡ version
     → ((contents : Contents) → contents.definitions ≡ said_catalogue file.definitions → AllZip IsOpened file.tables.items contents.tables
-      → contents.referents.standing ≡ file.referents.working → AreSaid (record contents { directory = said_directory directory }))
+    → contents.referents.standing ≡ file.referents.working → AreSaid (record contents { directory = said_directory directory }))
     → StoresDirectory old new (said_directory directory) → WritesDirectory old new file version
 directory_written old new file version directory accepted said stores = record {
   directory = said_directory directory;
@@ -80,3 +83,17 @@ definitions_made old new was is from to later tables referents stores = record {
         changed = record { definitions_are = refl; rest = refl };
       };
 }
+
+-- a refusal says as much of another answer
+pub stores_err : {T U : Type 0} (later damaged : Type 0) (why : Refusal) (a b : Store) → (later → damaged) → StoresAfter {T = T} later (Err why) a b → StoresAfter {T = U} damaged (Err why) a b
+stores_err later damaged why a b then stores = record {
+  counts = stores.counts;
+  no_fewer = stores.no_fewer;
+  ends = record { cause = by_cause stores.ends.cause; count = stores.ends.count };
+} where
+  by_cause : (why ≡ refusal.OutOfMemory) ⊎ (why ≡ refusal.Disk) ⊎ ((why ≡ refusal.FileFull) × EndsFull a b) ⊎ ((why ≡ refusal.DamagedFile) × later)
+      → (why ≡ refusal.OutOfMemory) ⊎ (why ≡ refusal.Disk) ⊎ ((why ≡ refusal.FileFull) × EndsFull a b) ⊎ ((why ≡ refusal.DamagedFile) × damaged)
+  by_cause (inl memory) = inl memory
+  by_cause (inr (inl disk)) = inr (inl disk)
+  by_cause (inr (inr (inl full))) = inr (inr (inl full))
+  by_cause (inr (inr (inr wrong))) = inr (inr (inr (wrong.0, then wrong.1)))

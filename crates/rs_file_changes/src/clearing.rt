@@ -86,7 +86,8 @@ fn clear_tables<P: Pages>(
     let mut gone = 0;
     for place in from..to {
         let left = bounds.most - gone;
-        gone += clear_place(alloc, pages, file, place, bounds.oldest, left)?;
+        let went = clear_place(alloc, pages, file, place, bounds.oldest, left)?;
+        gone += went;
     }
     Ok(gone)
 }
@@ -159,8 +160,6 @@ fn clear_referents<P: Pages>(
     ensures order { (version : ℕ) → HaveAllDiedBy version file.old → HaveAllDiedBy version file.new }
     ensures room { result ≢ Err Refusal.FileFull }
 {
-    let taken = file
-        .referents
-        .vacuum(alloc, pages, oldest, most as usize)?;
+    let taken = file.referents.vacuum(alloc, pages, oldest, most as usize)?;
     Ok(taken.len() as u64)
 }

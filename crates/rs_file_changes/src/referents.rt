@@ -66,11 +66,11 @@ pub fn end_referent<P: Pages>(
     let Some(place) = place_of(&cells, name) else {
         return Ok(false);
     };
-    if file.referents.kill(pages, version, cells.get(place))? {
-        Ok(true)
-    } else {
-        Err(Refusal::DamagedFile)
+    let ended = file.referents.kill(pages, version, cells.get(place))?;
+    if !ended {
+        return Err(Refusal::DamagedFile);
     }
+    Ok(true)
 }
 
 /// Where the living cell with this name is; nothing where there is none.

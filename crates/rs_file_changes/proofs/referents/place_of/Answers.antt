@@ -1,0 +1,10 @@
+-- The width of a cell, and the cells so far.
+use Rattle.std.proofs.Common.{◌≡◌, ◌<◌, ◌≤◌, ℕ, IsTrue, List, Some, length, slice_get, subst, sym, ap, ◌∙◌, inl, inr, arith}
+use Rattle.rs_versioned.proofs.CellsWide.{cell_wide}
+use Rattle.rs_versioned.specs.Referents.{referent_width}
+use Rattle.rs_file_changes.proofs.referents.place_of.Goals as goal
+
+pub is_living-requires : goal.is_living-requires
+is_living-requires c =
+    let wide : length c.get-cell.result.now ≡ referent_width = cell_wide c.args.cells.now c.loop-place.place c.get-cell.result.now c.get-cell.ensures ∙ c.requires.width in
+    omega arith
