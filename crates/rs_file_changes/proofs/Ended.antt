@@ -142,8 +142,9 @@ indexes_as_before (w ∷ ws) [] is committed kept back = absurd (let wrong = kep
 indexes_as_before (w ∷ ws) (b ∷ bs) [] committed kept back = absurd back
 indexes_as_before (w ∷ ws) (b ∷ bs) (i ∷ is) committed kept back =
     let rest : is ≡ ws = indexes_as_before ws bs is committed.1 (let same = kept in cc) back.1 in
-    let field : i.field ≡ w.field = let same = kept in let one = back.0.field in cc in
-    let stood : b.committed ≡ w.committed = let same = kept in cc in
+    let pair : (b.field, b.committed) ≡ (w.field, w.committed) = let same = kept in cc in
+    let field : i.field ≡ w.field = back.0.field ∙ ap (λ (part : Field × ℕ). part.0) pair in
+    let stood : b.committed ≡ w.committed = ap (λ (part : Field × ℕ). part.1) pair in
     let kept_one : i.committed ≡ w.committed = back.0.committed ∙ stood in
     let working : i.working ≡ w.working = back.0.working ∙ stood ∙ committed.0 in
     λ k. record { field = field k; working = working k; committed = kept_one k } ∷ rest k
