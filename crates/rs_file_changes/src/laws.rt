@@ -1,8 +1,7 @@
 //! These laws say what is so of what is open while its parts change.
 
-ghost use Rattle.std.specs.Prelude.{◌≡◌, ℕ};
-ghost use Rattle.rs_attr.specs.Tables.{AreOn};
-ghost use Rattle.std.specs.List.{AllByRecursion};
+ghost use Rattle.std.specs.Prelude.{◌≡◌};
+ghost use Rattle.rs_catalog_pages.specs.Said.{said_catalogue};
 ghost use Rattle.rs_contents.specs.Opening.{IsFile};
 ghost use Rattle.rs_contents.specs.declared.opened.OpenedFile.{OpenedFile};
 ghost use Rattle.rs_file_changes.specs.Parts.{HaveAllDiedBy, IsCommitted, IsReady, KeepsCommitted};
@@ -14,9 +13,13 @@ pub fn loaded_file_can_be_changed()
     ensures order { (file : OpenedFile) → IsFile file → HaveAllDiedBy file.accepted file }
 {}
 
-/// A file whose parts changed since the last commit can be changed further; what several changes keep, all keep.
+/// A file whose parts changed since the last commit can be changed further; what several changes keep, all keep. So it can beside other
+/// definitions of the same tables and indexes.
 pub fn changed_file_can_be_changed()
     ensures ready { (was is : OpenedFile) → KeepsCommitted was is → IsReady was → IsReady is }
     ensures unchanged { (file : OpenedFile) → KeepsCommitted file file }
     ensures joined { (was between is : OpenedFile) → KeepsCommitted was between → KeepsCommitted between is → KeepsCommitted was is }
+    ensures defined { (was is : OpenedFile) → IsReady was → is.tables.items ≡ was.tables.items
+        → (said_catalogue is.definitions).tables ≡ (said_catalogue was.definitions).tables
+        → (said_catalogue is.definitions).indexes ≡ (said_catalogue was.definitions).indexes → IsReady is }
 {}

@@ -30,7 +30,11 @@ returns-in_err-taken-clause-leaves g c =
 
 pub returns-in_err-taken-clause-keeps : goal.returns-in_err-taken-clause-keeps
 returns-in_err-taken-clause-keeps g c = record {
-  definitions = refl; pages = refl; accepted = refl; tables = each_same KeepsOpened same_kept c.args.file.now.tables.items; referents = c.in_err-taken.ensures.table.committed;
+  definitions = refl;
+  pages = refl;
+  accepted = refl;
+  tables = each_same KeepsOpened same_kept c.args.file.now.tables.items;
+  referents = c.in_err-taken.ensures.table.committed;
 }
 
 pub returns-clause-clears : goal.returns-clause-clears
@@ -47,7 +51,11 @@ returns-clause-clears g c = λ tied accepted.
 
 pub returns-clause-keeps : goal.returns-clause-keeps
 returns-clause-keeps g c = record {
-  definitions = refl; pages = refl; accepted = refl; tables = each_same KeepsOpened same_kept c.args.file.now.tables.items; referents = c.in_ok-taken.ensures.table.committed;
+  definitions = refl;
+  pages = refl;
+  accepted = refl;
+  tables = each_same KeepsOpened same_kept c.args.file.now.tables.items;
+  referents = c.in_ok-taken.ensures.table.committed;
 }
 
 pub returns-clause-order : goal.returns-clause-order

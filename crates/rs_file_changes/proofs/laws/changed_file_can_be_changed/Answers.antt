@@ -1,4 +1,5 @@
 -- What changes keep.
+use Rattle.rs_file_changes.proofs.Defined.{ready_defined}
 use Rattle.rs_file_changes.proofs.Ready.{keeps_none, keeps_then, ready_after}
 use Rattle.rs_file_changes.proofs.laws.changed_file_can_be_changed.Goals as goal
 
@@ -10,3 +11,6 @@ returns-clause-unchanged c = keeps_none
 
 pub returns-clause-joined : goal.returns-clause-joined
 returns-clause-joined c = keeps_then
+
+pub returns-clause-defined : goal.returns-clause-defined
+returns-clause-defined c = ready_defined

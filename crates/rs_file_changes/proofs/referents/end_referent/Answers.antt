@@ -28,7 +28,7 @@ returns-in_err-cells-clause-leaves g c =
     let tied = g.P.Pages.is_tied c.args.pages.now in
     let p = err_from_is_err_and c.from_residual.result c.from_residual.ensures.1 in
     let worked = rests-work g.P.Pages.is_tied g.P.Pages.store g.P.Pages.keeps (tied → HoldsNoParts old.map was) c.visible.result c.args.pages.now c.visible.new.pages c.visible.ensures.rests
-        (rw c.in_err-cells.was (read_refused tied c.in_err-cells.field-0.0 old new was c.in_err-cells.ensures.refused)) in
+    (rw c.in_err-cells.was (read_refused tied c.in_err-cells.field-0.0 old new was c.in_err-cells.ensures.refused)) in
     record {
       keeps = c.in_err-cells.ensures.rests.below;
       works = rw (p.1, p.2) (works_err (tied → HoldsNoParts old.map was) (tied → HoldsNoParts old.map was) c.in_err-cells.field-0.0 old old new (Works-refl old) (CountsNothing-refl old) (λ none. none)
@@ -119,7 +119,7 @@ returns-clause-ends g c = λ tied accepted later.
     let rests = c.in_ok-cells.ensures.rests in
     let name = c.args.name.now.bytes in
     let ended = subst (λ (m : PageMap). IsEnded kept_referents m new was.referents.working is.referents.working c.args.version c.get.result.now c.in_ok-ended.ended)
-        (same_map mid old (rests.rests.keeps.pages tied)) (c.in_ok-ended.ensures.kills (g.met.P.Pages.keeps_tied c.args.pages.now c.visible.new.pages rests.below tied)) in
+    (same_map mid old (rests.rests.keeps.pages tied)) (c.in_ok-ended.ensures.kills (g.met.P.Pages.keeps_tied c.args.pages.now c.visible.new.pages rests.below tied)) in
     referents_made old new was is accepted c.args.version (EndsNamed c.args.version c.args.route name true) refl refl refl later
     (named_ends old was.referents.working c.args.version c.args.route name (listed c.in_ok-cells.cells) c.requires.version (c.in_ok-cells.ensures.found tied)
     c.in-Some.place c.get.result.now c.get.ensures c.in-Some.ensures.found new is.referents.working c.in_ok-ended.ended ended accepted later)

@@ -12,7 +12,7 @@ is_living-requires c =
     omega arith
 
 pub name_of-requires : goal.name_of-requires
-name_of-requires c = cell_wide c.args.cells.now c.loop-place.place c.get-cell.result.now c.get-cell.ensures ∙ c.requires.width
+name_of-requires c = record { width = cell_wide c.args.cells.now c.loop-place.place c.get-cell.result.now c.get-cell.ensures ∙ c.requires.width }
 
 pub returns-clause-none : goal.returns-clause-none
 returns-clause-none c = record {

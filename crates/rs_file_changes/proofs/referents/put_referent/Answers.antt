@@ -29,7 +29,11 @@ returns-in_err-add-clause-leaves g c =
 
 pub returns-in_err-add-clause-keeps : goal.returns-in_err-add-clause-keeps
 returns-in_err-add-clause-keeps g c = record {
-  definitions = refl; pages = refl; accepted = refl; tables = each_same KeepsOpened same_kept c.args.file.now.tables.items; referents = c.in_err-add.ensures.table.committed;
+  definitions = refl;
+  pages = refl;
+  accepted = refl;
+  tables = each_same KeepsOpened same_kept c.args.file.now.tables.items;
+  referents = c.in_err-add.ensures.table.committed;
 }
 
 pub returns-clause-puts : goal.returns-clause-puts
@@ -41,5 +45,9 @@ returns-clause-puts g c = λ tied accepted later.
 
 pub returns-clause-keeps : goal.returns-clause-keeps
 returns-clause-keeps g c = record {
-  definitions = refl; pages = refl; accepted = refl; tables = each_same KeepsOpened same_kept c.args.file.now.tables.items; referents = c.in_ok-add.ensures.table.committed;
+  definitions = refl;
+  pages = refl;
+  accepted = refl;
+  tables = each_same KeepsOpened same_kept c.args.file.now.tables.items;
+  referents = c.in_ok-add.ensures.table.committed;
 }
