@@ -1,5 +1,5 @@
 -- Definitions with the same tables and indexes leave what is open ready to be changed.
-use Rattle.std.proofs.Common.{◌≡◌, ◌<◌, ◌≤◌, ℕ, List, map, subst, sym}
+use Rattle.std.proofs.Common.{◌≡◌, ◌<◌, ◌≤◌, List, map, subst, sym}
 use Rattle.std.specs.List.{AllByRecursion, AllZip}
 use Rattle.rs_catalog_pages.specs.Items.{CatalogueItems, IndexItem, TableItem}
 use Rattle.rs_catalog_pages.specs.Said.{said_catalogue}

@@ -5,14 +5,14 @@ use Rattle.rs_attr.specs.Entries.{Field, HoldsIndex}
 use Rattle.rs_attr.specs.Tables.{HoldIndexes, IndexState, all_of, kept_parts}
 use Rattle.rs_attr.proofs.Placing.{all_of-cons}
 use Rattle.rs_catalog_pages.specs.Said.{said_catalogue}
-use Rattle.rs_contents.specs.Contents.{Contents, HoldsParts, LiesTable, SameContents, SameTable, TableContents, index_roots, owned, table_pages}
+use Rattle.rs_contents.specs.Contents.{Contents, LiesTable, SameTable, TableContents, index_roots, owned, table_pages}
 use Rattle.rs_contents.specs.Opening.{IsOpened}
 use Rattle.rs_contents.specs.declared.opened.OpenedFile.{OpenedFile}
 use Rattle.rs_contents.specs.declared.opened.OpenedTable.{OpenedTable}
 use Rattle.rs_file_changes.specs.Calls.{StaysOpened}
 use Rattle.rs_file_changes.specs.Inner.{IsIndexKept, IsIndexTakenBack, IsTableKept, IsTableTakenBack}
-use Rattle.rs_file_changes.specs.Parts.{HasMade, IsAsItWas, IsCommitted, IsOpenedFile, IsReady, IsTableCommitted, KeepsCommitted, KeepsOpened, Makes, SameOpened}
-use Rattle.rs_file_changes.proofs.Lists.{each_right, each_then}
+use Rattle.rs_file_changes.specs.Parts.{IsAsItWas, IsCommitted, IsReady, IsTableCommitted, KeepsCommitted, KeepsOpened, SameOpened}
+use Rattle.rs_file_changes.proofs.Lists.{each_right}
 use Rattle.rs_file_changes.proofs.Ready.{ready_of}
 use Rattle.rs_page_owners.proofs.Moving.{shares_same}
 use Rattle.rs_pages.specs.PageMap.{PageMap}

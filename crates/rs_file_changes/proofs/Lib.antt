@@ -2,6 +2,7 @@ pub mod Lists
 pub mod Made
 pub mod Cleared
 pub mod Ready
+pub mod AsItWas
 pub mod Defined
 pub mod Ended
 pub mod Named

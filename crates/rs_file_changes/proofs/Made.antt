@@ -1,22 +1,21 @@
 -- One change of contents after another, and a change of one part as a change of the contents.
-use Rattle.std.proofs.Common.{◌≡◌, ◌≤◌, ℕ, List, ◌∷◌, ◌++◌, length, refl, sym, ap, ◌∙◌, subst, arith}
+use Rattle.std.proofs.Common.{◌≡◌, ◌≤◌, ℕ, List, ◌∷◌, ◌++◌, length, refl, sym, ap, ◌∙◌, subst}
 use Rattle.std.specs.List.{AllByRecursion, AllZip}
-use Rattle.rs_attr.specs.Tables.{ChangesTable, HoldsNoTable, HoldsTable, IndexState, all_of}
+use Rattle.rs_attr.specs.Tables.{ChangesTable, HoldsNoTable, HoldsTable, IndexState}
 use Rattle.rs_catalog_pages.specs.Said.{said_catalogue}
 use Rattle.rs_cell_versions.specs.Versioned.{HoldsNone, Standing}
-use Rattle.rs_contents.specs.Contents.{Contents, HoldsParts, LiesTable, ReferentContents, TableContents, beside_referents, beside_table, table_pages}
+use Rattle.rs_contents.specs.Contents.{Contents, LiesTable, ReferentContents, TableContents, beside_referents, beside_table, table_pages}
 use Rattle.rs_contents.specs.Opening.{IsOpened}
 use Rattle.rs_contents.specs.declared.opened.OpenedFile.{OpenedFile}
 use Rattle.rs_contents.specs.declared.opened.OpenedTable.{OpenedTable}
 use Rattle.rs_contents.proofs.Parts.{referents_changed, referents_leave_directory, shares_referents, shares_table, table_changed, table_leaves_directory}
 use Rattle.rs_file_changes.specs.Calls.{ChangesReferents}
-use Rattle.rs_file_changes.specs.Parts.{HasMade, HoldsNoParts, IsOpenedFile, Makes}
+use Rattle.rs_file_changes.specs.Parts.{HoldsNoParts, Makes}
 use Rattle.rs_file_changes.proofs.Lists.{all_one, beside, together}
 use Rattle.rs_pages.specs.PageMap.{PageMap}
-use Rattle.rs_tree.proofs.Lists.{zip_lengths}
 use Rattle.rs_value.specs.declared.column.ColumnType.{ColumnType}
 use Rattle.rs_versioned.specs.Events.{Event}
-use Rattle.rs_versioned.specs.Records.{BecomesRecords, ChangesRecords, HoldsRecords}
+use Rattle.rs_versioned.specs.Records.{ChangesRecords, HoldsRecords}
 use Rattle.rs_versioned.specs.Referents.{ReferentRecord, kept_referents, referent_form}
 
 -- ---- changes in a row
@@ -45,21 +44,6 @@ makes_weaker one other weaker old new was is from to makes = record {
   each = λ contents holds opened.
       let made = makes.each contents holds opened in
       record { contents = made.contents; holds = made.holds; opened = made.opened; directory = made.directory; changed = weaker contents made.contents made.changed };
-}
-
--- there are as many tables as are open
-pub makes_of_as_many : (change : Contents → Contents → Type 0) (old new : PageMap) (was is : OpenedFile) (from to : ℕ) → Makes old new was is from to change
-    → Makes old new was is from to (λ before now. change before now × (length was.tables.items ≡ length before.tables))
-makes_of_as_many change old new was is from to makes = record {
-  each = λ contents holds opened.
-      let made = makes.each contents holds opened in
-      record {
-        contents = made.contents;
-        holds = made.holds;
-        opened = made.opened;
-        directory = made.directory;
-        changed = (made.changed, zip_lengths IsOpened was.tables.items contents.tables opened.tables);
-      };
 }
 
 -- no change

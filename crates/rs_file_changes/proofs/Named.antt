@@ -1,14 +1,14 @@
 -- A referent of the file is found by its name, and ends.
-use Rattle.std.proofs.Common.{◌≡◌, ◌<◌, ◌≤◌, ◌⊎◌, ◌&&◌, ◌==◌, ℕ, zero, suc, Bool, true, false, cond, nat_le, nat_lt, Some, IsTrue, List, [], ◌∷◌, filter, length, slice_get, refl, sym, ap, ◌∙◌, subst, inl, inr, arith}
+use Rattle.std.proofs.Common.{◌≡◌, ◌<◌, ◌≤◌, ◌⊎◌, ◌&&◌, ◌==◌, ℕ, zero, suc, Bool, true, false, cond, nat_le, nat_lt, Some, IsTrue, List, [], ◌∷◌, filter, slice_get, refl, sym, ap, ◌∙◌, subst, inl, inr, arith}
 use Rattle.std.proofs.lemmas.Bool.{false≢true}
 use Rattle.std.proofs.lemmas.Bool.Decides.{nat_tests}
 use Rattle.std.proofs.lemmas.List.Elements.{All-contains, All-contains_itself, All-filter, filter_passes}
 use Rattle.std.specs.List.{AllByRecursion, AllZip, Contains}
 use Rattle.rs_cell_versions.specs.declared.cell.TheConstants.{LIVING}
-use Rattle.rs_cell_versions.specs.Version.{IsDated, born_of, died_of, is_living}
-use Rattle.rs_file_changes.specs.Calls.{EndsNamed, EndsNone, EndsOne}
+use Rattle.rs_cell_versions.specs.Version.{IsDated, died_of, is_living}
+use Rattle.rs_file_changes.specs.Calls.{EndsNamed, EndsNone}
 use Rattle.rs_file_changes.specs.Inner.{IsCellNamed, NoCellNamed}
-use Rattle.rs_contents.specs.Contents.{Contents, beside_referents}
+use Rattle.rs_contents.specs.Contents.{beside_referents}
 use Rattle.rs_contents.specs.declared.opened.OpenedFile.{OpenedFile}
 use Rattle.rs_contents.proofs.Loaded.{same_map}
 use Rattle.rs_contents.proofs.Parts.{shares_referents}

@@ -1,9 +1,8 @@
 -- What is open can be changed, before a change and after it.
-use Rattle.std.proofs.Common.{◌≡◌, ℕ, List, [], ◌∷◌, refl, sym, ap, ◌∙◌, subst, map}
+use Rattle.std.proofs.Common.{◌≡◌, List, [], ◌∷◌, refl, sym, ap, ◌∙◌, subst, map}
 use Rattle.std.specs.List.{AllByRecursion, AllZip}
-use Rattle.rs_attr.specs.Calls.{KeepsTable}
 use Rattle.rs_attr.specs.Tables.{AreOn, IndexState, kept_parts}
-use Rattle.rs_catalog_pages.specs.Items.{CatalogueItems, IndexItem, TableItem}
+use Rattle.rs_catalog_pages.specs.Items.{CatalogueItems, TableItem}
 use Rattle.rs_catalog_pages.specs.Said.{said_catalogue}
 use Rattle.rs_cell_versions.specs.Version.{HaveDiedBy}
 use Rattle.rs_contents.specs.Contents.{AreGivenOnce}
@@ -14,8 +13,7 @@ use Rattle.rs_contents.specs.Slots.{IsIndexOf, IsOfItem, indexes_on}
 use Rattle.rs_contents.specs.declared.opened.OpenedFile.{OpenedFile}
 use Rattle.rs_contents.specs.declared.opened.OpenedTable.{OpenedTable}
 use Rattle.rs_file_changes.specs.Parts.{HaveAllDiedBy, IsCommitted, IsReady, IsTableCommitted, KeepsCommitted, KeepsOpened}
-use Rattle.rs_file_changes.proofs.Lists.{each_along, each_right, each_same, each_then}
-use Rattle.rs_value.specs.declared.column.ColumnType.{ColumnType}
+use Rattle.rs_file_changes.proofs.Lists.{each_right, each_same, each_then}
 
 fields_of : (indexes : List IndexState) → map (λ part. part.0) (kept_parts indexes) ≡ map (λ index. index.field) indexes
 fields_of [] = refl

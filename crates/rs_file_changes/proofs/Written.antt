@@ -2,21 +2,19 @@
 use Rattle.std.proofs.Common.{◌≡◌, ◌<◌, ◌≤◌, ◌^◌, ℕ, true, false, Some, Err, List, ◌⊎◌, refl, sym, ap, ◌∙◌, subst, inl, inr, arith}
 use Rattle.std.proofs.lemmas.Bool.{cases_lt}
 use Rattle.std.specs.List.{AllByRecursion, AllZip}
-use Rattle.rs_catalog_pages.specs.Directory.{DirectoryItems, HasDirectory, StoresDirectory}
-use Rattle.rs_catalog_pages.specs.Items.{CatalogueItems}
+use Rattle.rs_catalog_pages.specs.Directory.{StoresDirectory}
 use Rattle.rs_catalog_pages.specs.Said.{said_catalogue, said_directory}
 use Rattle.rs_catalog_pages.specs.Storing.{HasNoOwnBytes, StoresAfter, StoresCatalogue}
 use Rattle.rs_catalog_pages.specs.declared.directory_items.StoredDirectory.{StoredDirectory}
-use Rattle.rs_catalog_pages.specs.declared.items.StoredCatalogue.{StoredCatalogue}
-use Rattle.rs_contents.specs.Contents.{AreSaid, Contents, HoldsAll, HoldsParts, beside_definitions}
+use Rattle.rs_contents.specs.Contents.{AreSaid, Contents, beside_definitions}
 use Rattle.rs_contents.specs.Opening.{IsOpened}
 use Rattle.rs_contents.specs.declared.opened.OpenedFile.{OpenedFile}
 use Rattle.rs_contents.specs.declared.opened.OpenedTable.{OpenedTable}
 use Rattle.rs_contents.proofs.Parts.{definitions_changed, definitions_leave_directory, directory_stored, shares_definitions}
 use Rattle.rs_file_changes.specs.Calls.{ChangesDefinitions, HoldsNoDirectory, WritesDirectory}
-use Rattle.rs_file_changes.specs.Parts.{HoldsNoParts, IsOpenedFile, Makes}
+use Rattle.rs_file_changes.specs.Parts.{HoldsNoParts, Makes}
 use Rattle.rs_page.proofs.Headers.{free_by_its_header}
-use Rattle.rs_page.specs.PageBytes.{IsFit, empty_header, is_free}
+use Rattle.rs_page.specs.PageBytes.{empty_header, is_free}
 use Rattle.rs_page.specs.declared.header.PageKind.TheVariants.{Directory}
 use Rattle.rs_page_owners.specs.Changes.{EndsFull}
 use Rattle.rs_page_owners.proofs.Moving.{one_at-same}

@@ -1,5 +1,5 @@
 -- What is open of a file, the contents that lie there with it, and what a change of a part makes of them.
-use Rattle.std.specs.Prelude.{◌≡◌, ◌≤◌, ℕ, List}
+use Rattle.std.specs.Prelude.{◌≡◌, ℕ}
 use Rattle.std.specs.List.{AllByRecursion, AllZip}
 use Rattle.rs_attr.specs.Calls.{KeepsTable}
 use Rattle.rs_catalog_pages.specs.Said.{said_catalogue}
@@ -68,7 +68,7 @@ pub record IsCommitted (file : OpenedFile) : Type 0 where
   pub tables : AllByRecursion IsTableCommitted file.tables.items
   pub referents : file.referents.committed ≡ file.referents.working
 
--- a table is as another with the same columns stood at the last commit, or as it stands now
+-- a table with its indexes is the same as another
 pub record SameOpened (one other : OpenedTable) : Type 0 where
   pub records : other.records ≡ one.records
   pub indexes : other.indexes.items ≡ one.indexes.items

@@ -2,9 +2,10 @@
 
 ghost use Rattle.std.specs.Prelude.{◌≡◌};
 ghost use Rattle.rs_catalog_pages.specs.Said.{said_catalogue};
+ghost use Rattle.rs_contents.specs.Contents.{Contents};
 ghost use Rattle.rs_contents.specs.Opening.{IsFile};
 ghost use Rattle.rs_contents.specs.declared.opened.OpenedFile.{OpenedFile};
-ghost use Rattle.rs_file_changes.specs.Parts.{HaveAllDiedBy, IsCommitted, IsReady, KeepsCommitted};
+ghost use Rattle.rs_file_changes.specs.Parts.{HaveAllDiedBy, IsAsItWas, IsCommitted, IsOpenedFile, IsReady, KeepsCommitted};
 
 /// A file that was loaded can be changed, and nothing of it has changed since the last commit.
 pub fn loaded_file_can_be_changed()
@@ -22,4 +23,9 @@ pub fn changed_file_can_be_changed()
     ensures defined { (was is : OpenedFile) → IsReady was → is.tables.items ≡ was.tables.items
         → (said_catalogue is.definitions).tables ≡ (said_catalogue was.definitions).tables
         → (said_catalogue is.definitions).indexes ≡ (said_catalogue was.definitions).indexes → IsReady is }
+{}
+
+/// What is open is the same contents' where it is as it was.
+pub fn file_as_it_was_is_of_the_same_contents()
+    ensures { (was is : OpenedFile) (contents : Contents) → IsAsItWas was is → IsOpenedFile was contents → IsOpenedFile is contents }
 {}

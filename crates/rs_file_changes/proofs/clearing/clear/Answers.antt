@@ -1,5 +1,5 @@
 -- The tables from a place on, those before it, and the referents.
-use Rattle.std.proofs.Common.{◌≡◌, ◌≤◌, ◌+◌, ◌-◌, ℕ, length, arith}
+use Rattle.std.proofs.Common.{◌-◌, arith}
 use Rattle.std.proofs.lemmas.Result.{err_from_is_err_and}
 use Rattle.rs_file_changes.specs.Inner.{ClearsPlaces}
 use Rattle.rs_file_changes.specs.Parts.{HoldsNoParts, KeepsOpened}

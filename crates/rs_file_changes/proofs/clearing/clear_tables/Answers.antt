@@ -1,7 +1,6 @@
 -- One table after the other.
-use Rattle.std.proofs.Common.{◌≤◌, ◌+◌, ◌-◌, ℕ, sym, arith, length}
+use Rattle.std.proofs.Common.{◌≤◌, ◌+◌, ◌-◌, arith}
 use Rattle.std.proofs.lemmas.Result.{err_from_is_err_and}
-use Rattle.rs_contents.specs.Contents.{Contents}
 use Rattle.rs_file_changes.specs.Inner.{ClearsPlaces}
 use Rattle.rs_file_changes.specs.Parts.{HoldsNoParts, KeepsOpened}
 use Rattle.rs_file_changes.proofs.Cleared.{places_below, places_next, places_none}

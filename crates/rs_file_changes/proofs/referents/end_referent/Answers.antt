@@ -1,5 +1,5 @@
 -- The referent is found, and ends.
-use Rattle.std.proofs.Common.{◌≡◌, ◌≤◌, ◌∙◌, ℕ, false, true, Bool, List, refl, subst, sym, ap}
+use Rattle.std.proofs.Common.{◌∙◌, false, true, refl, subst}
 use Rattle.std.proofs.lemmas.Result.{err_from_is_err_and}
 use Rattle.rs_cell_versions.specs.Versioned.{HoldsNone}
 use Rattle.rs_contents.proofs.Loaded.{same_map}
@@ -8,13 +8,12 @@ use Rattle.rs_file_changes.specs.Calls.{EndsNamed}
 use Rattle.rs_file_changes.specs.Parts.{HoldsNoParts, KeepsOpened}
 use Rattle.rs_file_changes.proofs.Lists.{each_same}
 use Rattle.rs_file_changes.proofs.Made.{no_referents, referents_made}
-use Rattle.rs_file_changes.proofs.Named.{cell_lives, named_ends, named_missing, none_ends, read_refused}
+use Rattle.rs_file_changes.proofs.Named.{named_ends, named_missing, none_ends, read_refused}
 use Rattle.rs_file_changes.proofs.Ready.{keeps_none, same_kept}
 use Rattle.rs_page_owners.proofs.Following.{damaged_err, works_err}
 use Rattle.rs_page_owners.proofs.Working.{CountsNothing-refl, CountsNothing-trans, Rests-works, Works-refl, Works-trans, rests-work}
 use Rattle.rs_pages.specs.PageMap.{PageMap}
 use Rattle.rs_records.specs.Listed.{listed}
-use Rattle.rs_tree.proofs.Lists.{has_inside}
 use Rattle.rs_versioned.specs.Calls.{IsEnded}
 use Rattle.rs_versioned.specs.Referents.{kept_referents, referent_form}
 use Rattle.rs_versioned.proofs.CellsWide.{cell_wide}

@@ -1,5 +1,5 @@
 -- The width of a cell, and the cells so far.
-use Rattle.std.proofs.Common.{◌≡◌, ◌<◌, ◌≤◌, ℕ, IsTrue, List, Some, length, slice_get, subst, sym, ap, ◌∙◌, inl, inr, arith}
+use Rattle.std.proofs.Common.{◌≡◌, length, ◌∙◌, arith}
 use Rattle.rs_records.specs.Listed.{listed}
 use Rattle.rs_tree.proofs.Lists.{has_inside}
 use Rattle.rs_versioned.proofs.CellsWide.{cell_wide}

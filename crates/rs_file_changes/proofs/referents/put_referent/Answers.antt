@@ -1,5 +1,5 @@
 -- The referents change, and all else stays.
-use Rattle.std.proofs.Common.{◌≤◌, refl}
+use Rattle.std.proofs.Common.{refl}
 use Rattle.std.proofs.lemmas.Result.{err_from_is_err_and}
 use Rattle.rs_cell_versions.specs.Versioned.{HoldsNone}
 use Rattle.rs_contents.specs.declared.opened.OpenedFile.{OpenedFile}
