@@ -1,5 +1,5 @@
 -- What is open, as it was.
-use Rattle.std.proofs.Common.{◌≡◌, List, [], ◌∷◌, sym, ap, ◌∙◌}
+use Rattle.std.proofs.Common.{List, [], ◌∷◌, sym, ap, ◌∙◌}
 use Rattle.std.specs.List.{AllZip}
 use Rattle.rs_catalog_pages.specs.Said.{said_catalogue}
 use Rattle.rs_contents.specs.Contents.{Contents, TableContents}

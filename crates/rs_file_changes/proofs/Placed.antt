@@ -1,8 +1,8 @@
 -- One table of what is open, at its place.
-use Rattle.std.proofs.Common.{◌≡◌, ◌<◌, ◌+◌, ℕ, Some, List, ◌∷◌, ◌++◌, length, get_or, set, sym, ap, ◌∙◌, subst, arith}
+use Rattle.std.proofs.Common.{◌≡◌, ◌<◌, ◌≤◌, ◌+◌, ℕ, Some, List, ◌∷◌, ◌++◌, length, get_or, set, sym, ap, ◌∙◌, subst, arith}
 use Rattle.std.proofs.lemmas.Option.{slice_get-get_or}
 use Rattle.std.specs.List.{AllByRecursion, AllZip}
-use Rattle.rs_attr.specs.Tables.{AreOn, HoldsNoTable}
+use Rattle.rs_attr.specs.Tables.{AreOn, ChangesTable, HoldsNoTable}
 use Rattle.rs_contents.specs.declared.opened.OpenedFile.{OpenedFile}
 use Rattle.rs_contents.specs.declared.opened.OpenedTable.{OpenedTable}
 use Rattle.rs_file_changes.specs.Inner.{ClearsOpened, ClearsPlaces}
@@ -12,6 +12,7 @@ use Rattle.rs_file_changes.proofs.Lists.{Stands, all_one, all_other, each_same, 
 use Rattle.rs_file_changes.proofs.Made.{ChangesAt, makes_weaker, no_table, table_made}
 use Rattle.rs_file_changes.proofs.Ready.{all_on_cells, same_kept}
 use Rattle.rs_pages.specs.PageMap.{PageMap}
+use Rattle.rs_versioned.specs.Events.{Event}
 
 module _ (was : OpenedFile) (place : ℕ) (one : OpenedTable) (below : place < length was.tables.items) (is_there : one ≡ get_or was.tables.items place one) where
   stands : Stands was.tables.items place one
@@ -37,13 +38,19 @@ module _ (was : OpenedFile) (place : ℕ) (one : OpenedTable) (below : place < l
         let before = subst (AllByRecursion P) stands.are all in
         subst (AllByRecursion P) (sym (stands.changed now)) (all_other P stands.before one now stands.after before (becomes (all_one P stands.before one stands.after before)))
 
+    -- whatever the change of the table is
+    pub place_made : (old new : PageMap) (is : OpenedFile) (from to : ℕ) (change : List Event → List Event → Type 0) → is.tables.items ≡ set was.tables.items place now → is.definitions ≡ was.definitions
+        → is.pages ≡ was.pages → is.referents.working ≡ was.referents.working → from ≤ to
+        → ChangesTable one.records.types old new one.records.working now.records.working one.indexes.items now.indexes.items from to change
+        → Makes old new was is from to (ChangesAt one.records.types place change)
+    place_made old new is from to change tables definitions pages referents later changes =
+        subst (λ n. Makes old new was is from to (ChangesAt one.records.types n change)) stands.long
+        (table_made was stands.before stands.after one stands.are old new is now from to change (tables ∙ stands.changed now) definitions pages referents keeps.types later changes)
+
     pub place_cleared : (old new : PageMap) (is : OpenedFile) (oldest most gone : ℕ) → is.tables.items ≡ set was.tables.items place now → is.definitions ≡ was.definitions → is.pages ≡ was.pages
         → is.referents.working ≡ was.referents.working → ClearsOpened old new one now oldest most gone → (accepted : ℕ)
         → Makes old new was is accepted accepted (ClearsPlaces oldest most gone place (place + 1))
     place_cleared old new is oldest most gone tables definitions pages referents clears accepted =
-        makes_weaker (ChangesAt one.records.types (length stands.before) (Went one.records.types oldest most gone)) (ClearsPlaces oldest most gone place (place + 1))
-        (λ before after at. clears_at one.records.types place oldest most gone before after
-        (subst (λ n. ChangesAt one.records.types n (Went one.records.types oldest most gone) before after) stands.long at))
-        old new was is accepted accepted
-        (table_made was stands.before stands.after one stands.are old new is now accepted accepted (Went one.records.types oldest most gone) (tables ∙ stands.changed now) definitions pages referents
-        keeps.types (omega arith) (opened_went old new one now oldest most gone clears accepted))
+        let went = Went one.records.types oldest most gone in
+        makes_weaker (ChangesAt one.records.types place went) (ClearsPlaces oldest most gone place (place + 1)) (clears_at one.records.types place oldest most gone) old new was is accepted accepted
+        (place_made old new is accepted accepted went tables definitions pages referents (omega arith) (opened_went old new one now oldest most gone clears accepted))
