@@ -1,0 +1,10 @@
+pub mod Lists
+pub mod Made
+pub mod Cleared
+pub mod Ready
+pub mod AsItWas
+pub mod Defined
+pub mod Ended
+pub mod Named
+pub mod Placed
+pub mod Written

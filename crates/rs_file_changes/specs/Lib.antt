@@ -1,0 +1,4 @@
+pub mod Calls
+pub mod Clearing
+pub mod Inner
+pub mod Parts
