@@ -1,5 +1,5 @@
 -- Views that were entered, widened and then as they are written, are meant just where the widened ones pass.
-use Rattle.std.proofs.Common.{◌≡◌, ◌≢◌, ◌&&◌, ℕ, Bool, true, false, cond, Option, Some, None, is_some, List, [], ◌∷◌, map, refl, sym, ap, subst, ◌∙◌}
+use Rattle.std.proofs.Common.{◌≡◌, ◌≢◌, ◌&&◌, ℕ, true, false, cond, Option, Some, None, is_some, List, [], ◌∷◌, map, refl, sym, ap, subst, ◌∙◌}
 use Rattle.std.specs.List.{AllByRecursion, AllZip, list_all}
 use Rattle.std.specs.Option.{option_map}
 use Rattle.std.specs.Ordering.{eq_by_cmp}
@@ -14,7 +14,6 @@ use Rattle.rs_catalog_meaning.specs.Meaning as meaning
 use Rattle.rs_catalog_meaning.specs.Meaning.{AreInOrder}
 use Rattle.rs_catalog_pages.specs.Items.{TableItem, ViewItem}
 use Rattle.rs_facts.specs.Fact.{Name, Names, name_cmp}
-use Rattle.rs_facts.specs.Query.{RouteEnds, Table}
 use Rattle.rs_facts.specs.Runs.{Stretch}
 use Rattle.rs_machine.specs.Lawful.{AreViewsMeant, Each, HasItsReferent, IsWindowOf, widened}
 use Rattle.rs_machine.specs.Opening.{windows_in}
@@ -201,8 +200,7 @@ module _ (old : Definitions) (on : ℕ → Names ℕ) (spans_on : ℕ → ℕ �
       passing (view ∷ views) (w ∷ wide) (n ∷ made) meant are written pass =
           let query = query_tree n.1.query in
           let same = same_query view w n are.0 written.0.is in
-          let passes = subst (PassesIn (state_with ws)) same pass.0 in
-          (
+          let passes = subst (PassesIn (state_with ws)) same pass.0 in (
             record {
               named = subst IsName (sym written.0.is.named) meant.0.named;
               sound = written.0.sound;
@@ -211,7 +209,7 @@ module _ (old : Definitions) (on : ℕ → Names ℕ) (spans_on : ℕ → ℕ �
               made = passes.0;
               passes = passes.1;
             },
-            passing views wide made meant.1 are.1 written.1 pass.1
+            passing views wide made meant.1 are.1 written.1 pass.1,
           )
 
     -- ---- and the other way round

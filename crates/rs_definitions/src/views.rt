@@ -56,11 +56,7 @@ pub fn add_views(
 }
 
 // Enters each view with every window as wide as its route. It is refused with 90, and with 94 only where no line defines a view.
-fn enter_widened(
-    alloc: Global,
-    catalog: &mut Catalog,
-    views: &[StoredView],
-) -> Result<(), Refusal>
+fn enter_widened(alloc: Global, catalog: &mut Catalog, views: &[StoredView]) -> Result<(), Refusal>
     requires listed { AreListedViews (map said_view views.now) }
     requires none { catalog.old.views ≡ names.empty }
     ensures entered { OnOk result (AreEntered IsWidenedOf (map said_view views.now) catalog.old catalog.new) }
@@ -76,11 +72,7 @@ fn enter_widened(
 }
 
 // Checks each view's query. It is refused with 90, and with 94 only where one does not pass.
-fn check_each(
-    alloc: Global,
-    catalog: &Catalog,
-    referents: &RouteReferents,
-) -> Result<(), Refusal>
+fn check_each(alloc: Global, catalog: &Catalog, referents: &RouteReferents) -> Result<(), Refusal>
     ensures ok { OnOk result ((spans_on : ℕ → ℕ → List Stretch) (rest : Rest) → AllPassIn (state_from catalog.now (referents_on referents.now) spans_on rest) catalog.now) }
     ensures none { result ≡ Err Refusal.DamagedFile → (spans_on : ℕ → ℕ → List Stretch) (rest : Rest)
         → AllPassIn (state_from catalog.now (referents_on referents.now) spans_on rest) catalog.now → ⊥ }
