@@ -1,20 +1,20 @@
 -- Views that are entered one after another, in the place of those that had their names.
 use Rattle.std.proofs.Common.{◌≡◌, ◌<◌, ◌≤◌, ◌+◌, ℕ, zero, suc, Bool, true, false, ◌&&◌, cond, Option, Some, None, is_some, List, [], ◌∷◌, ◌++◌, length, map, take, get_or, refl, sym, ap, subst, ◌∙◌, arith}
-use Rattle.std.specs.Prelude.{Contains, IsTrue}
-use Rattle.std.specs.List.{AllByRecursion, AllZip}
+use Rattle.std.specs.Prelude.{Contains}
+use Rattle.std.specs.List.{AllZip}
 use Rattle.std.specs.Option.{option_or}
 use Rattle.std.specs.Ordering.{eq_by_cmp, is_lt}
 use Rattle.std.specs.FinMap as names
-use Rattle.std.specs.FinMap.{entries-from_sorted, find, get-entries, get-from_sorted, get-insert, is_sorted, same_map}
+use Rattle.std.specs.FinMap.{entries-from_sorted, find, get-from_sorted, get-insert, is_sorted, same_map}
 use Rattle.std.specs.FinMap.Entries.{below_all, find-append}
-use Rattle.std.proofs.lemmas.List.{length-map, take_all}
+use Rattle.std.proofs.lemmas.List.{take_all}
 use Rattle.rs_catalog.proofs.NameOrder.{name_cmp-antisymmetric, name_cmp-total}
 use Rattle.rs_catalog.specs.Changes.{with_view}
 use Rattle.rs_catalog.specs.Definitions as catalog
 use Rattle.rs_catalog.specs.Definitions.{Definitions}
 use Rattle.rs_catalog_meaning.specs.Meaning.{AreInOrder, named_by}
 use Rattle.rs_catalog_pages.specs.Items.{ViewItem}
-use Rattle.rs_facts.specs.Fact.{Name, Names, name_cmp}
+use Rattle.rs_facts.specs.Fact.{Name, name_cmp}
 use Rattle.rs_standing.proofs.Named.{first_there, later_there, to_T}
 use Rattle.rs_definitions.specs.EnteringViews.{AreEntered}
 use Rattle.rs_definitions.proofs.Entering.{not_found, taken-more}

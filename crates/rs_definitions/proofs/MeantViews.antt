@@ -1,5 +1,5 @@
 -- Views that were entered, widened and then as they are written, are meant just where the widened ones pass.
-use Rattle.std.proofs.Common.{◌≡◌, ◌≢◌, ◌&&◌, ℕ, Bool, true, false, cond, Option, Some, None, is_some, List, [], ◌∷◌, map, refl, sym, ap, subst, ◌∙◌}
+use Rattle.std.proofs.Common.{◌≡◌, ◌≢◌, ◌&&◌, ℕ, true, false, cond, Option, Some, None, is_some, List, [], ◌∷◌, map, refl, sym, ap, subst, ◌∙◌}
 use Rattle.std.specs.List.{AllByRecursion, AllZip, list_all}
 use Rattle.std.specs.Option.{option_map}
 use Rattle.std.specs.Ordering.{eq_by_cmp}
@@ -14,7 +14,6 @@ use Rattle.rs_catalog_meaning.specs.Meaning as meaning
 use Rattle.rs_catalog_meaning.specs.Meaning.{AreInOrder}
 use Rattle.rs_catalog_pages.specs.Items.{TableItem, ViewItem}
 use Rattle.rs_facts.specs.Fact.{Name, Names, name_cmp}
-use Rattle.rs_facts.specs.Query.{RouteEnds, Table}
 use Rattle.rs_facts.specs.Runs.{Stretch}
 use Rattle.rs_machine.specs.Lawful.{AreViewsMeant, Each, HasItsReferent, IsWindowOf, widened}
 use Rattle.rs_machine.specs.Opening.{windows_in}

@@ -1,13 +1,11 @@
 -- Whether the referent that a position names is there, however the position is written.
-use Rattle.std.proofs.Common.{◌≡◌, ◌∙◌, ◌&&◌, ◌||◌, ℕ, Bool, true, false, Option, Some, is_some, refl, sym, ap}
+use Rattle.std.proofs.Common.{◌≡◌, ◌∙◌, ◌&&◌, ◌||◌, ℕ, Option, Some, is_some, refl, ap}
 use Rattle.std.specs.FinMap as names
 use Rattle.rs_catalog.specs.Definitions.{Definitions, RouteItem, on_numbered, referents_from}
 use Rattle.rs_facts.specs.Fact.{Name, Names}
 use Rattle.rs_facts.specs.Insert.{same_name}
 use Rattle.rs_machine.specs.State.{has}
-use Rattle.rs_methods.specs.Position.{expression_of, relative_of, start_name}
-use Rattle.rs_methods.specs.declared.position.Position.{Position}
-use Rattle.rs_methods.specs.declared.position.Position.TheVariants as positions
+use Rattle.rs_methods.specs.Position.{relative_of, start_name}
 use Rattle.rs_methods.specs.declared.position.Sign.{Sign}
 use Rattle.rs_methods.specs.declared.position.Sign.TheVariants as signs
 use Rattle.rs_definitions.specs.Windows.{position_there, referent_there}

@@ -1,13 +1,9 @@
 -- The line by which a view's text is read.
-use Rattle.std.proofs.Common.{◌≡◌, ◌<◌, ◌≤◌, ◌&&◌, ℕ, true, false, not, List, Ok, length, refl, sym, ap, subst, ◌∙◌, arith}
-use Rattle.std.specs.Prelude.{IsTrue}
+use Rattle.std.proofs.Common.{◌≡◌, ◌&&◌, ℕ, true, false, not, List, Ok, refl, sym, subst}
 use Rattle.std.specs.List.{list_any}
 use Rattle.std.specs.Str.{IsUtf8, is_utf8}
-use Rattle.std.proofs.lemmas.Bool.{false≢true}
 use Rattle.std.proofs.lemmas.Str.{IsUtf8-from_is_utf8}
-use Rattle.rs_catalog_pages.specs.Items.{ViewItem}
 use Rattle.rs_machine.specs.Request.{Asks, command}
-use Rattle.rs_machine.specs.declared.limits.TheConstants.{LINE_BYTES}
 use Rattle.rs_machine_laws.specs.ViewLines.{IsReadable, shortest_view_line}
 use Rattle.rs_standing.specs.States.{HasLine}
 use Rattle.rs_syntax.specs.Sound.{IsName}

@@ -1,8 +1,7 @@
 use Rattle.std.proofs.Common.{◌∙◌, ◌&&◌, ◌||◌, sym, ap}
 use Rattle.rs_catalog.specs.Referents.{referents_on}
-use Rattle.rs_facts.specs.Insert.{same_name}
 use Rattle.rs_machine.specs.State.{has}
-use Rattle.rs_methods.specs.Position.{expression_of, start_name}
+use Rattle.rs_methods.specs.Position.{expression_of}
 use Rattle.rs_definitions.specs.Windows.{position_there}
 use Rattle.rs_definitions.proofs.PositionsThere.{is_there}
 use Rattle.rs_definitions.proofs.view_windows.position_there.Goals as goal

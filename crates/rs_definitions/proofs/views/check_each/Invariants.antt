@@ -1,5 +1,3 @@
-use Rattle.std.proofs.Common.{◌++◌}
-use Rattle.std.specs.List.{AllByRecursion}
 use Rattle.rs_catalog.specs.Referents.{referents_on}
 use Rattle.rs_definitions.proofs.CheckedViews.{Passed}
 use Rattle.rs_definitions.proofs.views.check_each.Given as goal

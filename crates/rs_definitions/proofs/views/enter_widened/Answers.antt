@@ -9,13 +9,12 @@ use Rattle.rs_catalog_pages.specs.Items.{ViewItem}
 use Rattle.rs_catalog_pages.specs.Said.{said_view}
 use Rattle.rs_facts.specs.Fact.{Names, name_cmp}
 use Rattle.rs_grammar.specs.declared.kind.TheConstants.{NAME_BYTES}
-use Rattle.rs_machine.specs.Lawful.{widened}
 use Rattle.rs_refusal.specs.declared.refusal.Refusal.TheVariants as refusal
 use Rattle.rs_syntax.specs.QueryView.{query_tree}
 use Rattle.rs_syntax.specs.Sound.{IsName}
 use Rattle.rs_definitions.specs.EnteringViews.{IsQueryOf, IsWidenedOf}
 use Rattle.rs_definitions.proofs.Entering.{each_said, said_at}
-use Rattle.rs_definitions.proofs.EnteredViews.{Entered, entered_all, entered_more, entered_none, zip_found}
+use Rattle.rs_definitions.proofs.EnteredViews.{Entered, entered_all, entered_more, zip_found}
 use Rattle.rs_definitions.proofs.views.enter_widened.Goals as goal
 
 pub view_query-requires : goal.view_query-requires

@@ -1,7 +1,6 @@
 use Rattle.std.proofs.Common.{◌≡◌, ◌≤◌, ◌+◌, Err, length, map, string_bytes, sym, ap, subst, ◌∙◌, arith}
 use Rattle.std.specs.FinMap as names
 use Rattle.std.specs.FinMap.{get-entries}
-use Rattle.std.specs.List.{AllByRecursion}
 use Rattle.std.proofs.lemmas.List.{length-map}
 use Rattle.std.proofs.lemmas.List.Elements.{All-contains, All-from_recursion}
 use Rattle.std.proofs.lemmas.Result.{err_from_is_err_and}
