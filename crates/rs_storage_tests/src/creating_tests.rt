@@ -6,7 +6,7 @@ use rs_contents::free_index_number;
 use rs_disk::{Disk, MemoryDisk};
 use rs_pages::LEAST_LIMIT;
 use rs_refusal::Refusal;
-use rs_store::create;
+use rs_store::Store;
 use std::alloc::Global;
 use std::test::Fail;
 
@@ -28,7 +28,11 @@ static WRITTEN: [(usize, [u8; 8]); 8] = [
 
 /// The bytes of a file that may have three pages at the most, created.
 fn created(alloc: Global) -> Result<Vec<u8>, Refusal> {
-    let mut disk = match create(alloc, MemoryDisk::new(alloc), LEAST_LIMIT) {
+    let store = match Store::create(alloc, MemoryDisk::new(alloc), LEAST_LIMIT) {
+        Ok(store) => store,
+        Err((_, refusal)) => return Err(refusal),
+    };
+    let mut disk = match store.close() {
         Ok(disk) => disk,
         Err((_, refusal)) => return Err(refusal),
     };
