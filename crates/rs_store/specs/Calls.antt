@@ -26,7 +26,7 @@ pub record SameButFlag (old new : Content) : Type 0 where
 pub record IsLeftOpen (limit : ℕ) (content : Content) : Type 0 where
   pub state : State
   pub file : IsFileOf limit content state
-  pub open : content.byte FLAG_OFFSET ≢ 0
+  pub not_closed : content.byte FLAG_OFFSET ≢ 0
 
 -- it is a file of each state that it was a file of
 pub record StaysFile (limit : ℕ) (old new : Content) : Type 0 where
@@ -60,10 +60,10 @@ module _ {D : Type 0} (d : disk.Ghosts D) where
   -- ---- a store that comes to be
 
   -- Whatever the disk is, it is lent to the store or handed back. 91 comes exactly where its failures rose, by one.
-  pub record HandsOver (limit : ℕ) (old : D) (result : Result (StoreState D) (D × Refusal)) : Type 0 where
+  pub record HandsOver (most : ℕ) (old : D) (result : Result (StoreState D) (D × Refusal)) : Type 0 where
     pub honesty : MatchResult result (λ store. d.is_honest store.pager.disk ≡ d.is_honest old) (λ refused. d.is_honest refused.0 ≡ d.is_honest old)
     pub count : MatchResult result (λ store. d.failures store.pager.disk ≡ d.failures old) (λ refused. CountsFault refused.1 (d.failures old) (d.failures refused.0))
-    pub limit : IfOk result (λ store. store.pager.limit ≡ limit)
+    pub limit : IfOk result (λ store. store.pager.limit ≡ most)
     pub synced : IfOk result (λ store. d.is_synced store.pager.disk ≡ true)
     pub marked : IfOk result (λ store. store.is_marked ≡ true)
 

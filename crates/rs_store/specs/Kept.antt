@@ -1,6 +1,6 @@
 -- What a store is, what it keeps, and in which state it stands.
-use Rattle.std.specs.Prelude.{◌≡◌, ◌≤◌, ◌+◌, ℕ, Bool, true, false, List, length, map, sum}
-use Rattle.std.specs.List.{AllZip}
+use Rattle.std.specs.Prelude.{◌≡◌, ◌≤◌, ◌+◌, ℕ, Bool, true, false, length}
+use Rattle.std.specs.List.{AllZip, sum_by}
 use Rattle.rs_catalog.specs.Definitions.{Definitions, Numbered}
 use Rattle.rs_catalog.specs.Referents.{HeldReferents, referents_on}
 use Rattle.rs_catalog_pages.specs.Said.{said_catalogue}
@@ -29,9 +29,9 @@ pub record StoreState (D : Type 0) : Type 0 where
   pub is_marked : Bool
 
 -- no changes are begun, and what is open is a file
-pub record IsSound (is_begun : Bool) (file : OpenedFile) : Type 0 where
+pub record IsSound (is_begun : Bool) (opened : OpenedFile) : Type 0 where
   pub shut : is_begun ≡ false
-  pub file : IsFile file
+  pub file : IsFile opened
 
 -- what is open is that of the contents
 pub record IsOpenedFile (file : OpenedFile) (contents : Contents) : Type 0 where
@@ -42,9 +42,9 @@ pub record IsOpenedFile (file : OpenedFile) (contents : Contents) : Type 0 where
   pub accepted : contents.directory.accepted ≡ file.accepted
 
 -- in memory are the definitions of the contents, and on each route the referents that the version accepted last sees
-pub record AreInMemory (catalog : Definitions) (referents : Numbered HeldReferents) (contents : Contents) : Type 0 where
-  pub catalog : AreDefinitionsAt contents.directory.accepted contents.definitions catalog
-  pub referents : (route : ℕ) → referents_on referents route ≡ referents_seen contents contents.directory.accepted route
+pub record AreInMemory (definitions : Definitions) (held : Numbered HeldReferents) (contents : Contents) : Type 0 where
+  pub catalog : AreDefinitionsAt contents.directory.accepted contents.definitions definitions
+  pub referents : (route : ℕ) → referents_on held route ≡ referents_seen contents contents.directory.accepted route
 
 module _ {D : Type 0} (d : disk.Ghosts D) where
   -- The store keeps these contents: its committed pages hold them, and nothing has changed in them since. What is open is theirs,
@@ -72,4 +72,4 @@ dead_of table = length table.records.working.dead
 
 -- of all tables and of the referents
 abbrev pub garbage_of : OpenedFile → ℕ
-garbage_of file = sum (map dead_of file.tables.items) + length file.referents.working.dead
+garbage_of file = length file.referents.working.dead + sum_by dead_of file.tables.items

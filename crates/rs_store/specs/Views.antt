@@ -10,8 +10,8 @@ use Rattle.rs_machine.specs.Lawful.{AreViewsMeant}
 use Rattle.rs_standing.specs.States.{IsViewOf}
 
 -- these views have come, each under its name with the text that its item has, and some line defines it so; all else is as it was
-pub record HasViews (views : List ViewItem) (old new : Definitions) : Type 0 where
-  pub views : AllZip IsViewOf views (names.entries new.views)
+pub record HasViews (items : List ViewItem) (old new : Definitions) : Type 0 where
+  pub views : AllZip IsViewOf items (names.entries new.views)
   pub others : new ≡ record old { views = new.views }
 
 -- each view passes the checks of its DEFINE line but that windows lie on their routes, whatever facts there are

@@ -12,6 +12,7 @@ ghost use Rattle.rs_store.specs.Kept.{StandsIn};
 use crate::loading::{Loaded, load_state};
 use crate::store::Store;
 use rs_disk::Disk;
+use rs_pager::laws::masked_bytes_are_in_no_map;
 use rs_refusal::Refusal;
 use std::alloc::Global;
 
@@ -89,6 +90,7 @@ impl<D: Disk> Store<D> {
         ensures refused { IsOkUnless result Refusal.Disk }
         ensures count { Counts result (D.failures self.old.pager.disk) (D.failures self.new.pager.disk) }
     {
+        masked_bytes_are_in_no_map();
         let saved = self.save();
         self.is_marked = false;
         saved?;

@@ -9,6 +9,7 @@ ghost use Rattle.rs_store.specs.Kept.{StandsIn, StoreState};
 
 use rs_contents::laws::file_holds_one_thing;
 use rs_disk::Disk;
+use rs_standing::changes::meant_contents_stay_meant;
 use rs_standing::standing::contents_have_one_state;
 
 /// A store stands in one state at the most. That is the state of its catalogue, of the referents in memory, and of the spans that the
@@ -22,4 +23,5 @@ pub fn store_stands_in_one_state<D: Disk>()
 {
     file_holds_one_thing();
     contents_have_one_state();
+    meant_contents_stay_meant();
 }

@@ -2,15 +2,14 @@
 //!
 //! Its definitions and its referents are in memory too. What it keeps is what its committed pages hold.
 
-ghost use Rattle.std.specs.Prelude.{◌≡◌, ◌≤◌, ◌-◌, ◌^◌, ◌+◌, length, map, min, sum};
-ghost use Rattle.rs_contents.specs.Opening.{IsFile};
+ghost use Rattle.std.specs.Prelude.{◌≡◌, ◌≤◌, ◌-◌, ◌^◌, ◌+◌, length, min};
+ghost use Rattle.std.specs.List.{sum_by};
 ghost use Rattle.rs_page_cache.specs.Changes.{ListsHeld};
 ghost use Rattle.rs_page_cache.specs.declared.clean.TheConstants.{MOST_CLEAN};
 ghost use Rattle.rs_store.specs.Kept.{dead_of, garbage_of};
 
-use crate::loading::Loaded;
 use rs_catalog::{Catalog, RouteReferents};
-use rs_contents::opened::OpenedFile;
+use rs_contents::opened::{OpenedFile, OpenedTable};
 use rs_disk::Disk;
 use rs_pager::Pager;
 use std::marker::Model;
@@ -77,10 +76,17 @@ impl<D: Disk> Store<D> {
     pub fn garbage(&self) -> u64
         ensures { result ≡ min (garbage_of self.now.file) (2 ^ 64 - 1) }
     {
-        let mut garbage = self.file.referents.garbage();
-        for table in self.file.tables.as_slice() {
-            garbage = garbage.saturating_add(table.records.garbage());
-        }
-        garbage
+        with_dead(self.file.referents.garbage(), self.file.tables.as_slice())
     }
+}
+
+/// So many and the dead records of these tables (2^64 - 1 at the most).
+fn with_dead(first: u64, tables: &[OpenedTable]) -> u64
+    ensures { result ≡ min (first + sum_by dead_of tables.now) (2 ^ 64 - 1) }
+{
+    let mut count = first;
+    for table in tables {
+        count = count.saturating_add(table.records.garbage());
+    }
+    count
 }
