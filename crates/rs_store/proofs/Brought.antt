@@ -41,7 +41,7 @@ ListedAre = (version : ℕ) (catalogue : CatalogueItems) → AllByRecursion (λ 
     → AreDefinitionsAt version (record catalogue { views = [] }) (without_views catalogue)
 
 -- a catalogue by its parts
-by_parts : Names catalog.RouteItem → Names catalog.TableItem → Names catalog.IndexItem → Names catalog.ViewItem → Names (List Piece) → Definitions
+abbrev by_parts : Names catalog.RouteItem → Names catalog.TableItem → Names catalog.IndexItem → Names catalog.ViewItem → Names (List Piece) → Definitions
 by_parts routes tables indexes views alignments = record { routes = routes; tables = tables; indexes = indexes; views = views; alignments = alignments }
 
 with_views : (version : ℕ) (catalogue : CatalogueItems) (listed is : Definitions) → AreDefinitionsAt version (record catalogue { views = [] }) listed → HasViews catalogue.views listed is

@@ -11,9 +11,12 @@ ghost use Rattle.rs_store.specs.Kept.{StandsIn};
 
 use crate::loading::{Loaded, load_state};
 use crate::store::Store;
+use rs_contents::laws::file_holds_one_thing;
 use rs_disk::Disk;
 use rs_pager::laws::masked_bytes_are_in_no_map;
 use rs_refusal::Refusal;
+use rs_standing::changes::meant_contents_stay_meant;
+use rs_standing::standing::contents_have_one_state;
 use std::alloc::Global;
 
 impl<D: Disk> Store<D> {
@@ -67,6 +70,9 @@ impl<D: Disk> Store<D> {
         ensures count { MatchResult result (λ _. D.failures self.new.pager.disk ≡ D.failures self.old.pager.disk)
             (λ why. CountsFault why (D.failures self.old.pager.disk) (D.failures self.new.pager.disk)) }
     {
+        file_holds_one_thing();
+        contents_have_one_state();
+        meant_contents_stay_meant();
         self.pager.forget();
         let Loaded {
             file,

@@ -5,10 +5,9 @@ ghost use Rattle.rs_catalog_meaning.specs.Meaning.{AreMeant};
 ghost use Rattle.rs_catalog_pages.specs.Said.{said_catalogue, said_route};
 ghost use Rattle.rs_contents.specs.Calls.{RefusesToLoad};
 ghost use Rattle.rs_contents.specs.Contents.{AreGivenOnce, Contents};
-ghost use Rattle.rs_contents.specs.Meant.{route_spans, span_of_route};
+ghost use Rattle.rs_contents.specs.Meant.{span_of_route};
 ghost use Rattle.rs_contents.specs.Opening.{IsFile};
 ghost use Rattle.rs_definitions.specs.Made.{without_views};
-ghost use Rattle.rs_definitions.specs.Referents.{Brings, FindsDamaged};
 ghost use Rattle.rs_pages.specs.Calls.{OnlyReads};
 ghost use Rattle.rs_store.specs.Loading.{BringsState, HasNoState, HoldsOpened, LoadsState, StandsForNone};
 
@@ -44,11 +43,11 @@ pub(crate) fn load_state<P: Pages>(alloc: Global, pages: &mut P) -> Result<Loade
     ensures file { IfOk result (λ loaded. IsFile loaded.file) }
     ensures refused { RefusesToLoad result }
 {
-    let file = rs_contents::load(alloc, pages)?;
-    let (catalog, referents) = bring(alloc, pages, &file)?;
     file_holds_one_thing();
     contents_have_one_state();
     meant_contents_stay_meant();
+    let file = rs_contents::load(alloc, pages)?;
+    let (catalog, referents) = bring(alloc, pages, &file)?;
     Ok(Loaded {
         file,
         catalog,
@@ -72,6 +71,7 @@ fn bring<P: Pages>(
     ensures refused { RefusesToLoad result }
 {
     loaded_file_has_its_directory();
+    listed_definitions_are_a_catalogues();
     let mut catalog = definitions_of(alloc, &file.definitions)?;
     let routes = spans_of(alloc, file.definitions.routes.as_slice())?;
     let referents = referents_of(alloc, pages, &file.referents, &routes, file.accepted)?;
