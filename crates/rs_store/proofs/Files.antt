@@ -1,5 +1,6 @@
 -- A disk as it was opened.
-use Rattle.std.proofs.Common.{◌≡◌, ◌≤◌, ◌∙◌, ℕ, Bool, IsTrue, true, ap, subst, sym, refl, arith}
+use Rattle.std.proofs.Common.{◌≡◌, ◌∙◌, ℕ, Ok, Err, true, ap, subst, sym, arith}
+use Rattle.std.specs.Prelude.{◌≢◌}
 use Rattle.rs_catalog.specs.Definitions.{Definitions, Numbered}
 use Rattle.rs_catalog.specs.Referents.{HeldReferents}
 use Rattle.rs_contents.specs.Contents.{Contents}
@@ -12,16 +13,18 @@ use Rattle.rs_page.specs.declared.file_header.TheConstants.{FLAG_OFFSET}
 use Rattle.rs_pager.specs.Maps.{IsTied, committed, working}
 use Rattle.rs_pager.specs.Opened.{IsFresh, IsOpened}
 use Rattle.rs_pager.specs.Paged.{Paged}
-use Rattle.rs_pager.specs.Stored.{Stores}
+use Rattle.rs_pager.specs.Stored.{IsNoFile, Stores}
 use Rattle.rs_pages.specs.PageMap.{PageMap, SamePages}
 use Rattle.rs_pages.proofs.Stores.{SamePages-trans}
+use Rattle.rs_refusal.specs.declared.refusal.Refusal.{Refusal}
+use Rattle.rs_refusal.specs.declared.refusal.Refusal.TheVariants as refusal
 use Rattle.rs_standing.specs.Meant.{IsMeant}
-use Rattle.rs_standing.specs.Standing.{IsFileOf, Stands, StandsFor}
-use Rattle.rs_store.specs.Calls.{IsLeftOpen, IsNoFileOfAny, LeavesAllButFlag, OpensState}
-use Rattle.rs_store.specs.Kept.{StandsIn}
+use Rattle.rs_standing.specs.Standing.{IsFileOf, StandsFor}
+use Rattle.rs_store.specs.Calls.{IsLeftOpen, IsNoFileOfAny, LeavesAllButFlag, Opens, OpensState, SameButFlag}
+use Rattle.rs_store.specs.Kept.{StoreState}
 use Rattle.rs_store.specs.Loading.{LoadsState, StandsForNone, StandsForSome}
 use Rattle.rs_store.specs.Making.{HasFresh, IsFreshFile}
-use Rattle.rs_store.proofs.Beside.{two_pages}
+use Rattle.rs_store.proofs.Beside.{MaskedInNoMap, no_file_of_any, stays_beside_flag}
 use Rattle.rs_store.proofs.Keeping.{flag_of, keeps_loaded, pages_back, store_over}
 use Rattle.rs_store.proofs.Loaded.{stands_for}
 use Rattle.rs_store.proofs.Same.{FileHoldsOne, SameMeant, SameSays, SameState, meant_moves, same_accepted, state_moves}
@@ -78,6 +81,41 @@ module _ {D : Type 0} (d : disk.Ghosts D) (limit : ℕ) (content : Content) (p :
           is = at.brings.is;
           views = at.brings.views;
         };
+      }
+
+-- ---- answers of opening
+
+module _ {D : Type 0} (d : disk.Ghosts D) (limit : ℕ) (old : D) where
+  pub opens_ok : (store : StoreState D) → OpensState d limit (d.seen old) store → Opens d limit old (Ok store)
+  opens_ok store opens = record { opens = opens; damaged = tt; left_open = tt; seen = tt; stays = tt }
+
+  -- a disk that has no pages
+  pub opens_none : (back : D) (why : Refusal) → d.seen back ≡ d.seen old → (why ≡ refusal.FileNotClosed → ⊥) → (why ≡ refusal.DamagedFile → IsNoFile (d.seen old) limit)
+      → Opens d limit old (Err (back, why))
+  opens_none back why same closed damaged = record {
+    opens = tt;
+    damaged = λ is. no_file_of_any (d.seen old) limit (damaged is);
+    left_open = λ is. absurd (closed is);
+    seen = λ isnt. same;
+    stays = record { each = λ state is. subst (λ (content : Content). IsFileOf limit content state) (sym same) is };
+  }
+
+  -- a disk whose pages were looked at
+  pub opens_err : (masked : MaskedInNoMap) (one_map : DiskHasOneMap) (p now : Paged D) (back : D) (why : Refusal) → IsFresh limit p → SamePages (working d p) (committed d p)
+      → IsOpened d (d.seen old) p → d.seen p.disk ≡ d.seen old → back ≡ now.disk → LeavesAllButFlag d p now
+      → (why ≡ refusal.DamagedFile → StandsForNone (working d p)) → (why ≡ refusal.FileNotClosed → StandsForSome (working d p) × ((d.seen p.disk).byte FLAG_OFFSET ≡ 0 → ⊥))
+      → (why ≢ refusal.Disk → d.seen now.disk ≡ d.seen p.disk) → Opens d limit old (Err (back, why))
+  opens_err masked one_map p now back why first same opened seen given leaves damaged open kept =
+      let after : d.seen back ≡ d.seen now.disk = ap d.seen given in
+      record {
+        opens = tt;
+        damaged = λ is. no_file d limit (d.seen old) p first same opened one_map (damaged is);
+        left_open = λ is. left_open d limit (d.seen old) p first same opened (open is).0
+            (subst (λ (content : Content). content.byte FLAG_OFFSET ≡ 0 → ⊥) seen (open is).1);
+        seen = λ isnt. after ∙ kept isnt ∙ seen;
+        stays = stays_beside_flag masked limit (d.seen old) (d.seen back)
+            (subst (λ (content : Content). SameButFlag content (d.seen back)) seen
+            (subst (λ (content : Content). SameButFlag (d.seen p.disk) content) (sym after) (leaves.disk opened.tied.honest)));
       }
 
 -- ---- a file that was made

@@ -10,6 +10,7 @@ use Rattle.rs_disk.specs.declared.disk.Disk as disk
 use Rattle.rs_machine.specs.State.{State}
 use Rattle.rs_page.specs.declared.file_header.TheConstants.{FLAG_OFFSET}
 use Rattle.rs_pager.specs.Maps.{IsTied, KeepsBelow, KeepsMaps, committed, pager_store, working}
+use Rattle.rs_pager.specs.Opened.{SetsFlag}
 use Rattle.rs_pager.specs.Paged.{Paged}
 use Rattle.rs_pager.specs.Stored.{Stores}
 use Rattle.rs_pages.specs.PageMap.{PageMap, SamePages}
@@ -23,7 +24,7 @@ use Rattle.rs_store.specs.Calls.{KeepsSame, KeepsStore, LeavesAllButFlag, Reopen
 use Rattle.rs_store.specs.Kept.{Keeps, StandsIn, StoreState}
 use Rattle.rs_store.specs.Loading.{LoadsState, StandsForNone}
 use Rattle.rs_store.proofs.Results.{ok_always}
-use Rattle.rs_store.proofs.Beside.{same_but_flag-trans}
+use Rattle.rs_store.proofs.Beside.{same_but_flag-is, same_but_flag-set, same_but_flag-trans}
 use Rattle.rs_store.proofs.Same.{FileHoldsOne, SameMeant, SameSays, SameState, fewer_meant, meant_moves, same_accepted, state_moves}
 
 pub pages_back : (one other : PageMap) → SamePages one other → SamePages other one
@@ -45,6 +46,29 @@ module _ {D : Type 0} (d : disk.Ghosts D) where
     limit = other.limit ∙ one.limit;
     begun = other.begun ∙ one.begun;
     disk = λ honest. same_but_flag-trans (d.seen a.disk) (d.seen b.disk) (d.seen c.disk) (one.disk honest) (other.disk (subst IsTrue (sym one.honesty) honest));
+  }
+
+  pub leaves_by_reading : {T : Type 0} (r : Result T Refusal) (was now : Paged D) → RestsAfter (IsTied d) (pager_store d) (KeepsBelow d) r was now → LeavesAllButFlag d was now
+  leaves_by_reading r was now rests = record {
+    tied = rests.below.tied;
+    committed = rests.below.committed;
+    working = rests.rests.keeps.pages;
+    honesty = rests.below.honesty;
+    limit = rests.rests.counts.limit;
+    begun = rests.rests.counts.begun;
+    disk = λ honest. same_but_flag-is (d.seen was.disk) (d.seen now.disk) (rests.below.unwritten honest);
+  }
+
+  pub leaves_by_flag : {T E : Type 0} (r : Result T E) (is_open : Bool) (was now : Paged D) → KeepsMaps d was now → now.is_begun ≡ was.is_begun
+      → (IsTrue (d.is_honest was.disk) → SetsFlag r is_open (d.seen was.disk) (d.seen now.disk)) → LeavesAllButFlag d was now
+  leaves_by_flag r is_open was now keeps begun sets = record {
+    tied = keeps.tied;
+    committed = keeps.committed;
+    working = keeps.working;
+    honesty = keeps.honesty;
+    limit = keeps.limit;
+    begun = begun;
+    disk = λ honest. same_but_flag-set r is_open (d.seen was.disk) (d.seen now.disk) (sets honest);
   }
 
   -- ---- a store whose pager was called

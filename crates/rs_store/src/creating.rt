@@ -56,12 +56,12 @@ fn create_pages<D: Disk>(alloc: Global, pager: &mut Pager<D>) -> Result<Loaded, 
     ensures count { MatchResult result (λ _. D.failures pager.new.disk ≡ D.failures pager.old.disk)
         (λ why. CountsFault why (D.failures pager.old.disk) (D.failures pager.new.disk)) }
 {
-    write_nothing(alloc, pager)?;
-    let loaded = load_state(alloc, pager)?;
-    pager.set_open_flag(true)?;
     file_holds_one_thing();
     contents_have_one_state();
     meant_contents_stay_meant();
+    write_nothing(alloc, pager)?;
+    let loaded = load_state(alloc, pager)?;
+    pager.set_open_flag(true)?;
     Ok(loaded)
 }
 

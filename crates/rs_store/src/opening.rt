@@ -12,7 +12,7 @@ use crate::loading::{Loaded, load_state};
 use crate::store::Store;
 use rs_disk::Disk;
 use rs_pager::Pager;
-use rs_pager::laws::masked_bytes_are_in_no_map;
+use rs_pager::laws::{disk_stands_for_one_map, masked_bytes_are_in_no_map};
 use rs_pages::{GREATEST_LIMIT, LEAST_LIMIT};
 use rs_refusal::Refusal;
 use std::alloc::Global;
@@ -29,8 +29,9 @@ impl<D: Disk> Store<D> {
         ensures hands { HandsOver D.Disk limit disk result }
         ensures refused { IfErr result (λ refused. WantsOpening refused.1) }
     {
-        let mut pager = Pager::open(alloc, disk, limit)?;
         masked_bytes_are_in_no_map();
+        disk_stands_for_one_map();
+        let mut pager = Pager::open(alloc, disk, limit)?;
         match open_pages(alloc, &mut pager) {
             Ok(loaded) => Ok(store_of(pager, loaded)),
             Err(refusal) => Err((pager.into_disk(), refusal)),
