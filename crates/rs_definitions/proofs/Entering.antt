@@ -39,7 +39,7 @@ said_there said xs x there =
     (there.0, at.0, at.1)
 
 -- one more of a list
-taken-more : {X : Type 0} (xs : List X) (i : ℕ) (x : X) → i < length xs → get_or xs i x ≡ x → take (suc i) xs ≡ take i xs ++ x ∷ []
+pub taken-more : {X : Type 0} (xs : List X) (i : ℕ) (x : X) → i < length xs → get_or xs i x ≡ x → take (suc i) xs ≡ take i xs ++ x ∷ []
 taken-more [] i x inside is = absurd (omega (arith, inside))
 taken-more (y ∷ xs) zero x inside is = ap (λ z. z ∷ []) is
 taken-more (y ∷ xs) (suc i) x inside is = ap (λ rest. y ∷ rest) (taken-more xs i x (omega (arith, inside)) is)
@@ -99,7 +99,7 @@ module _ {X Y : Type 0} (name_of : X → Name) (value : X → Y) where
       and_from (below_all name_cmp (name_of x) (named_by name_of (take i xs))) (is_sorted name_cmp (named_by name_of (take i xs))) (below-taken (name_of x) xs i parts.0) (order-taken xs i parts.1)
 
   -- none of the first has the name of the next
-  not_found : (xs : List X) (i : ℕ) (x : X) → AreInOrder name_of xs → i < length xs → get_or xs i x ≡ x → find name_cmp (name_of x) (map (entry name_of value) (take i xs)) ≡ None
+  pub not_found : (xs : List X) (i : ℕ) (x : X) → AreInOrder name_of xs → i < length xs → get_or xs i x ≡ x → find name_cmp (name_of x) (map (entry name_of value) (take i xs)) ≡ None
   not_found [] i x order inside is = absurd (omega (arith, inside))
   not_found (y ∷ xs) zero x order inside is = refl
   not_found (y ∷ xs) (suc i) x order inside is =

@@ -1,5 +1,12 @@
+mod CheckedViews
+mod EnteredViews
 mod Entering
 mod Found
 mod MeantReferents
+mod MeantViews
+mod PositionsThere
 mod PutReferents
+mod QueryTrees
 mod Seen
+mod ViewTexts
+mod WindowsKept

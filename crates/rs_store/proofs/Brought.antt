@@ -28,7 +28,7 @@ use Rattle.rs_standing.specs.States.{AreDefinitionsAt, IsState, IsViewOf, routes
 use Rattle.rs_standing.proofs.Picked.{born_all}
 use Rattle.rs_store.specs.Kept.{AreInMemory, IsOpenedFile}
 use Rattle.rs_store.specs.Loading.{BringsState, HasNoState, HoldsOpened}
-use Rattle.rs_store.specs.Views.{AreMeantIn, HasViews}
+use Rattle.rs_definitions.specs.Views.{AreMeantIn, HasViews}
 use Rattle.rs_store.proofs.Same.{meant_of_records, records_of_meant}
 use Rattle.rs_cell_versions.specs.Versioned.{Standing}
 use Rattle.rs_versioned.specs.Meant.{AreReferentsMeant}

@@ -8,6 +8,5 @@ mod marking;
 mod opening;
 pub mod laws;
 pub mod store;
-mod viewing;
 
 pub use store::Store;

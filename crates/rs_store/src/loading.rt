@@ -11,14 +11,13 @@ ghost use Rattle.rs_definitions.specs.Made.{without_views};
 ghost use Rattle.rs_pages.specs.Calls.{OnlyReads};
 ghost use Rattle.rs_store.specs.Loading.{BringsState, HasNoState, HoldsOpened, LoadsState, StandsForNone};
 
-use crate::viewing::views_of;
 use rs_catalog::{Catalog, RouteReferents};
 use rs_catalog_meaning::check_meaning;
 use rs_catalog_pages::{StoredCatalogue, StoredRoute};
 use rs_contents::laws::{file_holds_one_thing, loaded_file_has_its_directory};
 use rs_contents::opened::OpenedFile;
 use rs_definitions::laws::listed_definitions_are_a_catalogues;
-use rs_definitions::{catalog_of, referents_of};
+use rs_definitions::{add_views, catalog_of, referents_of};
 use rs_pages::Pages;
 use rs_refusal::Refusal;
 use rs_standing::changes::meant_contents_stay_meant;
@@ -75,7 +74,7 @@ fn bring<P: Pages>(
     let mut catalog = definitions_of(alloc, &file.definitions)?;
     let routes = spans_of(alloc, file.definitions.routes.as_slice())?;
     let referents = referents_of(alloc, pages, &file.referents, &routes, file.accepted)?;
-    views_of(alloc, &mut catalog, &referents, &file.definitions)?;
+    add_views(alloc, &mut catalog, &referents, &file.definitions)?;
     Ok((catalog, referents))
 }
 
