@@ -105,13 +105,13 @@ module _ {D : Type 0} (d : disk.Ghosts D) (limit : ℕ) (old : D) where
       → IsOpened d (d.seen old) p → d.seen p.disk ≡ d.seen old → back ≡ now.disk → LeavesAllButFlag d p now
       → (why ≡ refusal.DamagedFile → StandsForNone (working d p)) → (why ≡ refusal.FileNotClosed → StandsForSome (working d p) × ((d.seen p.disk).byte FLAG_OFFSET ≡ 0 → ⊥))
       → (why ≢ refusal.Disk → d.seen now.disk ≡ d.seen p.disk) → Opens d limit old (Err (back, why))
-  opens_err masked one_map p now back why first same opened seen given leaves damaged open kept =
+  opens_err masked one_map p now back why first same opened seen given leaves damaged unclosed kept =
       let after : d.seen back ≡ d.seen now.disk = ap d.seen given in
       record {
         opens = tt;
         damaged = λ is. no_file d limit (d.seen old) p first same opened one_map (damaged is);
-        left_open = λ is. left_open d limit (d.seen old) p first same opened (open is).0
-            (subst (λ (content : Content). content.byte FLAG_OFFSET ≡ 0 → ⊥) seen (open is).1);
+        left_open = λ is. left_open d limit (d.seen old) p first same opened (unclosed is).0
+            (subst (λ (content : Content). content.byte FLAG_OFFSET ≡ 0 → ⊥) seen (unclosed is).1);
         seen = λ isnt. after ∙ kept isnt ∙ seen;
         stays = stays_beside_flag masked limit (d.seen old) (d.seen back)
             (subst (λ (content : Content). SameButFlag content (d.seen back)) seen
