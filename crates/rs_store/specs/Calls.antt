@@ -82,7 +82,6 @@ module _ {D : Type 0} (d : disk.Ghosts D) where
     pub seen : IfErr result (λ refused. refused.1 ≢ refusal.Disk → d.seen refused.0 ≡ d.seen old)
     pub stays : IfErr result (λ refused. StaysFile limit (d.seen old) (d.seen refused.0))
 
-
   -- What is made of an honest disk: a store that stands in the state at the beginning. It isn't found damaged.
   pub record Creates (result : Result (StoreState D) (D × Refusal)) : Type 0 where
     pub fresh : IfOk result (λ store. StandsIn d 0 store fresh)

@@ -19,7 +19,7 @@ pub fn store_stands_in_one_state<D: Disk>()
         → StandsIn D.Disk oldest store one → StandsIn D.Disk from store other → one ≡ other }
     ensures state { (oldest : ℕ) (store : StoreState D) (state : State) (stands : StandsIn D.Disk oldest store state)
         → state ≡ state_from store.catalog (λ (route : ℕ). referents_on store.referents route) (spans_seen stands.contents store.file.accepted)
-            (record { changes = store.file.accepted; cursors = no_cursors }) }
+        (record { changes = store.file.accepted; cursors = no_cursors }) }
 {
     file_holds_one_thing();
     contents_have_one_state();

@@ -3,10 +3,10 @@
 
 mod closing;
 mod creating;
+pub mod laws;
 mod loading;
 mod marking;
 mod opening;
-pub mod laws;
 pub mod store;
 
 pub use store::Store;
