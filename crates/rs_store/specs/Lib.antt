@@ -1,0 +1,4 @@
+pub mod Calls
+pub mod Kept
+pub mod Loading
+pub mod Making

@@ -1,6 +1,12 @@
 //! The state of the machine in the pages of a file: which disk stands for which state, and the calls that keep it so.
 #![tactic(auto)]
 
-pub mod creating;
+mod closing;
+mod creating;
+pub mod laws;
+mod loading;
+mod marking;
+mod opening;
+pub mod store;
 
-pub use creating::create;
+pub use store::Store;
