@@ -10,12 +10,22 @@ pages of a tree are counted from 0.
 """
 
 from dataclasses import dataclass, field
+from typing import NamedTuple
 
 PAGE_BYTES = 4096
 CONTENT_BYTES = 4080
 FILE_HEADER, LEAF, INNER, CATALOGUE, FREE, DIRECTORY = 1, 2, 3, 4, 5, 6
 TABLES, INDEXES = 128, 64
 LIVING = 2**64 - 1
+OK, DAMAGED, NOT_CLOSED = b"OK", b"ERR 94", b"ERR 95"
+
+
+class File(NamedTuple):
+    """The bytes of a file, and what is answered where it is opened."""
+
+    name: str
+    data: bytes
+    wanted: bytes
 
 
 class Raw(bytes):

@@ -1,11 +1,11 @@
 """Pseudo-random files by a seed: sound ones with something changed, in their bytes, their fields, their pages or what they say.
 
-The same seed and turn give the same file each time. About half of the files stand for a state.
+The same seed and turn give the same file each time. About a quarter of the files stand for a state.
 """
 
 import random
 import re
-from copy import copy, deepcopy
+from copy import copy
 
 from file_writer import LIVING, PAGE_BYTES, Alignment, Index, Record, Referent, Route, View, written
 from whole_files import SOUND
@@ -60,7 +60,7 @@ class RandomFile:
 
     def limit_of(self, pages):
         """Mostly ample, now and then about as many as the file has."""
-        return 1_048_576 if self.by.random() < 0.9 else max(3, pages + self.by.randint(-1, 1))
+        return 1_048_576 if self.by.random() < 0.96 else max(3, pages + self.by.randint(-1, 1))
 
     def shape(self, said):
         """How the file is spread over its pages."""
@@ -70,6 +70,17 @@ class RandomFile:
         said.free = self.by.choice([0, 0, 1, 3])
         said.flag = self.by.choice([0] * 20 + [1, 2, 255])
         said.last_bytes = bytes(self.by.choice([0] * 10 + [1, 4_096]))
+        if self.by.random() < 0.3:
+            for table in said.tables:
+                table.records += self.more_records(table)
+
+    def more_records(self, table):
+        """Events from 9 on, none of which touches another, each third of them dead."""
+        rows = [record.row for record in table.records] or [tuple(None for _ in table.columns)]
+        for place in range(self.by.choice([3, 20, 150])):
+            start = 9_001 + 6 * place
+            died = self.by.choice([LIVING, LIVING, 5])
+            yield Record(0, start, start + (1 if table.kind == 0 else self.by.choice([1, 4])), self.by.choice(rows), 3, died)
 
     # Bytes, fields and pages.
 
@@ -119,14 +130,20 @@ class RandomFile:
     # What a file says.
 
     def said(self):
-        for _ in range(self.by.choice([1, 1, 2, 3])):
+        for _ in range(self.by.choice([1, 1, 1, 1, 2, 3])):
             self.by.choice(
                 [self.change_record] * 5
                 + [self.change_referent] * 2
                 + [self.change_view] * 4
                 + [self.change_route, self.change_table, self.change_index, self.change_alignment, self.change_version]
             )()
+        if self.by.random() < 0.9:
+            self.put_in_order()
         return bytes(written(self.description).data)
+
+    def put_in_order(self):
+        for items in (self.description.routes, self.description.tables, self.description.indexes, self.description.alignments):
+            items.sort(key=lambda item: item.name)
 
     def near(self, number):
         return max(0, number + self.by.choice([-1_000, -100, -2, -1, -1, 1, 1, 2, 100, 1_000]))
@@ -140,12 +157,19 @@ class RandomFile:
         place = self.by.randrange(len(items))
         item = items[place]
         if kind == "twice":
-            items.insert(place, copy(item))
+            items.insert(place, self.other(copy(item)))
         elif kind == "out":
             items.remove(item)
         else:
             field = self.by.choice(fields)
             setattr(item, field, self.near(getattr(item, field)) % 2**32)
+
+    def other(self, item):
+        """The item, with another birth or another number where it has one."""
+        for field in ("born", "number"):
+            if hasattr(item, field) and self.by.random() < 0.7:
+                setattr(item, field, self.by.choice([0, 1, 2, 3, 4, 5, 6]))
+        return item
 
     def change_record(self):
         tables = [table for table in self.description.tables if table.columns]
@@ -179,9 +203,9 @@ class RandomFile:
     def change_view(self):
         views = self.description.views
         text = self.by.choice([view.text for view in views] + QUERIES * 2)
-        if self.by.random() < 0.6:
+        if self.by.random() < 0.5:
             text = self.changed_text(text)
-        name = self.by.choice([b"a", b"b", b"c", b"d", b"e", b"f", b"g", b"pave", b"TO", b"h" * 32])
+        name = self.by.choice([b"a", b"b", b"c", b"d", b"e", b"f", b"g"] * 3 + [b"pave", b"TO", b"h" * 32])
         kept = [view for view in views if view.name != name]
         self.description.views = sorted(kept + [View(name, text)], key=lambda view: view.name)
 

@@ -1,19 +1,21 @@
 """Files of RoadSeg written by hand, each with what opening it is answered: `files()`.
 
-Each is a description (file_writer.py), changed where it has to be wrong, or the bytes of a sound file with some fields or
-bytes written anew. They are the empty file that is created, the closed file of a table whose row was inserted four times, and
+Each is a description (file_writer.py), changed where it has to be wrong, or the bytes of a sound file with some fields written
+anew (field_files.py). They are the empty file that is created, the closed file of a table whose row was inserted four times, and
 one with something of each kind; legal oddities of these; and files that are wrong in one way each. What is wanted is OK,
 ERR 94 for a file that stands for no state, ERR 95 for one that was not closed.
 """
 
-from copy import deepcopy
-from typing import NamedTuple
-
+from field_files import changed_fields
 from file_writer import (
+    DAMAGED,
     LIVING,
+    NOT_CLOSED,
+    OK,
     PAGE_BYTES,
     Alignment,
     Description,
+    File,
     Index,
     Raw,
     Record,
@@ -24,16 +26,9 @@ from file_writer import (
     written,
 )
 
-OK, DAMAGED, NOT_CLOSED = b"OK", b"ERR 94", b"ERR 95"
 MOST_CHANGES = 2**63 - 1
 LONGEST_LINE = 4096
 LONG_NAME = b"N" * 32
-
-
-class File(NamedTuple):
-    name: str
-    data: bytes
-    wanted: bytes
 
 
 # Sound files.
@@ -475,43 +470,9 @@ def damaged():
     yield File("a birth of 99", first.with_fields({"route 0 born": 99}), DAMAGED)
 
 
-# Fields of the file with something of each kind, and numbers with which it stands for no state.
-WRONG_FIELDS = {
-    "fewer pages": {"file pages": 3},
-    "a page more": {"file pages": 200},
-    "no catalogue": {"file first catalogue": 0, "file catalogue bytes": 0},
-    "a catalogue that is cut": {"file catalogue bytes": 100},
-    "free pages that are not listed": {"file first free": 0, "file free": 0},
-    "one free page too few": {"file free": 1},
-    "one free page too many": {"file free": 3},
-    "a living record too many": {"slot 0 living": 12},
-    "a dead record too many": {"slot 0 dead": 2},
-    "a living record for a dead one": {"slot 0 living": 12, "slot 0 dead": 0},
-    "a living referent too many": {"referents living": 5},
-    "a count where there is no table": {"slot 7 living": 1},
-    "a root where there is no table": {"slot 7 root": 2},
-    "a root where there is no index": {"index slot 9 root": 2},
-    "a table without its root": {"slot 0 root": 0},
-    "an index without its root": {"index slot 1 root": 0},
-    "a leaf without cells": {"referents leaf 0 cell 0 route": 2**32 - 1},
-    "a text with a byte of a wrong page": {"page 2 kind": 5},
-}
-
-
-def of_fields():
-    file = written(various())
-    yield File("something of each kind", bytes(file.data), OK)
-    for name, values in WRONG_FIELDS.items():
-        yield File("fields: " + name, file.with_fields(values), DAMAGED)
-
-
 def files():
     """All files."""
     yield from damaged()
     yield from described("odd", ODD, OK)
     yield from described("wrong", WRONG, DAMAGED)
-    yield from of_fields()
-
-
-def copy_of(description):
-    return deepcopy(description)
+    yield from changed_fields(written(various()))

@@ -1,14 +1,14 @@
 //! What a line asks: a file that is opened, said and closed.
 
+ghost use Rattle.std.specs.Prelude.{◌≤◌, IfSome};
+ghost use Rattle.rs_pages.specs.declared.pages.TheConstants.{GREATEST_LIMIT, LEAST_LIMIT};
+
 use crate::definitions::push_definitions;
 use crate::records::push_records;
-use rs_catalog_meaning::check_meaning;
-use rs_contents::load;
-use rs_definitions::catalog_of;
 use rs_disk::{Disk, FileDisk};
-use rs_pager::Pager;
 use rs_pages::{GREATEST_LIMIT, LEAST_LIMIT};
 use rs_refusal::Refusal;
+use rs_store::Store;
 use std::alloc::{AllocError, Global};
 use std::fs::File;
 use std::rt::Files;
@@ -36,7 +36,10 @@ pub fn answer<R: Files<File = File>>(
 }
 
 /// The path and the greatest number of pages.
-fn asked(line: &str) -> Option<(&str, u32)> {
+fn asked(line: &str) -> Option<(&str, u32)>
+    ensures least { IfSome result (λ asked. LEAST_LIMIT ≤ asked.1) }
+    ensures greatest { IfSome result (λ asked. asked.1 ≤ GREATEST_LIMIT) }
+{
     let (command, rest) = line.split_once(' ')?;
     let (path, limit) = rest.split_once(' ')?;
     let limit = limit.parse::<u32>().ok()?;
@@ -47,24 +50,25 @@ fn asked(line: &str) -> Option<(&str, u32)> {
     }
 }
 
-/// Appends the state that a disk stands for.
+/// Appends the state that a disk stands for: the definitions that the store keeps, and the records that the disk holds once it is
+/// closed again.
 fn push_state<D: Disk + Drop>(
     alloc: Global,
     disk: D,
     limit: u32,
     said: &mut String,
-) -> Result<(), Refusal> {
-    let mut pager = match Pager::open(alloc, disk, limit) {
-        Ok(pager) => pager,
+) -> Result<(), Refusal>
+    requires least { LEAST_LIMIT ≤ limit }
+    requires greatest { limit ≤ GREATEST_LIMIT }
+{
+    let store = match Store::open(alloc, disk, limit) {
+        Ok(store) => store,
         Err((_, refusal)) => return Err(refusal),
     };
-    let file = load(alloc, &mut pager)?;
-    check_meaning(&file.definitions)?;
-    let catalog = catalog_of(alloc, &file.definitions)?;
-    if pager.open_flag()? != 0 {
-        return Err(Refusal::FileNotClosed);
+    writeln!(said, "OK\naccepted {}", store.accepted())?;
+    push_definitions(said, store.catalog())?;
+    match store.close() {
+        Ok(disk) => push_records(alloc, disk, limit, said),
+        Err((_, refusal)) => Err(refusal),
     }
-    writeln!(said, "OK\naccepted {}", file.accepted)?;
-    push_definitions(said, &catalog)?;
-    push_records(alloc, &mut pager, &file, said)
 }
