@@ -1,7 +1,7 @@
 """Files with single fields written anew, over a sound file that has something of each kind: `changed_fields(file)`.
 
-Where a page or a cell is named, its fields are looked up by what lies there: `leaf of records`, for one, is the page that the
-first entry of the lowest inner pages of the first table names.
+Where a page or a cell is named, its fields are looked up by what lies there: `leaf of records`, for one, is the page
+that the first entry of the lowest inner pages of the first table names.
 """
 
 from file_writer import DAMAGED, OK, PAGE_BYTES, File
@@ -109,8 +109,9 @@ def tree_changes(at):
     """Pages and cells of the trees of a table with two levels of inner pages."""
     entry, second = RECORDS + " level 1 page 0 entry 0", RECORDS + " level 1 page 0 entry 1"
     top = RECORDS + " level 2 page 0 entry 0"
-    cell, next_cell = RECORDS + " leaf 0 cell 0", RECORDS + " leaf 0 cell 1"
+    cell, next_cell = RECORDS + " leaf 0 cell 0 ", RECORDS + " leaf 0 cell 1 "
     value = at.file.value
+    next_parts = {cell + part: value(next_cell + part) for part in ("start", "num", "sev", "born", "finish")}
     return {
         "a summary that is too great": {entry + " summary": value(entry + " summary") + 1},
         "a summary that is too small": {entry + " summary": value(entry + " summary") - 1},
@@ -130,12 +131,12 @@ def tree_changes(at):
         "an inner page without entries": {"page %d count" % at.inner: 0},
         "an inner page of an entry more": {"page %d count" % at.inner: value("page %d count" % at.inner) + 1},
         "an inner page of more entries than fit": {"page %d count" % at.inner: 2**16 - 1},
-        "a cell that is there twice": {cell + " " + part: value(next_cell + " " + part) for part in ("start", "num", "sev", "born", "finish")},
-        "a record that the index lacks": {RECORDS + " leaf 0 cell 1 sev": value(RECORDS + " leaf 0 cell 1 sev") + 1},
+        "a cell that is there twice": next_parts,
+        "a record that the index lacks": {next_cell + "sev": value(next_cell + "sev") + 1},
         "an entry of another birth": {ENTRIES + " leaf 0 cell 1 born": value(ENTRIES + " leaf 0 cell 1 born") + 1},
         "an entry of another value": {ENTRIES + " leaf 3 cell 2 value": value(ENTRIES + " leaf 3 cell 2 value") + 1},
         "an entry that is dead": {ENTRIES + " leaf 0 cell 1 died": 40},
-        "a record that is dead, not in the index": {RECORDS + " leaf 0 cell 1 died": 40, "slot 3 living": 11, "slot 3 dead": 2},
+        "a record that is dead, not in the index": {next_cell + "died": 40, "slot 3 living": 11, "slot 3 dead": 2},
     }
 
 
@@ -151,7 +152,11 @@ def sound_changes(at):
         },
         "an accepted change more": {"accepted": at.file.value("accepted") + 1},
         "a route of another birth": {"route 0 born": 40},
-        "a free page as the first": {"file first free": at.other_free, "page %d next" % at.other_free: at.free, "page %d next" % at.free: 0},
+        "another free page as the first": {
+            "file first free": at.other_free,
+            "page %d next" % at.other_free: at.free,
+            "page %d next" % at.free: 0,
+        },
     }
 
 

@@ -1,12 +1,12 @@
 """Writes files of RoadSeg from a description in Python, for tests: `written(description)`.
 
-A description is routes, tables with their records, indexes, referents, views and alignments as they are in the format, with
-numbers, births and deaths; nothing of it is checked, so that what it says may be wrong. Lists are written in the order in
-which they are given, cells in the order of their bytes, indexes as the records ask for them. How many cells and entries a page
-gets at the most, how many bytes of the catalogue, and how many free pages there are is part of it.
+A description is routes, tables with their records, indexes, referents, views and alignments as they are in the format,
+with numbers, births and deaths; nothing of it is checked, so that what it says may be wrong. Lists are written in the
+order in which they are given, cells in the order of their bytes, indexes as the records ask for them. How many cells
+and entries a page gets at the most, how many bytes of the catalogue, and how many free pages there are is part of it.
 
-Each field that is written has a name, `route 0 born` or `page 4 kind`, by which a test writes it anew: items of the catalogue and
-pages of a tree are counted from 0.
+Each field that is written has a name, `route 0 born` or `page 4 kind`, by which a test writes it anew: items of the
+catalogue and pages of a tree are counted from 0.
 """
 
 from dataclasses import dataclass, field
@@ -134,8 +134,10 @@ def encoded(value, longest):
 def event_parts(record, columns):
     """The parts of an event's cell."""
     parts = [("route", number(record.route, 4)), ("start", number(record.start, 4))]
-    parts += [(name.decode(errors="replace"), encoded(value, longest)) for value, (name, longest) in zip(record.row, columns)]
-    return parts + [("born", number(record.born, 8)), ("finish", number(record.finish, 4)), ("died", number(record.died, 8))]
+    for value, (name, longest) in zip(record.row, columns):
+        parts.append((name.decode(errors="replace"), encoded(value, longest)))
+    parts.append(("born", number(record.born, 8)))
+    return parts + [("finish", number(record.finish, 4)), ("died", number(record.died, 8))]
 
 
 def entry_parts(record, table, column):
@@ -145,9 +147,9 @@ def entry_parts(record, table, column):
 
 
 def referent_parts(referent):
-    name = ("name", referent.name.ljust(32, b"\0"))
-    dates = [("born", number(referent.born, 8)), ("measure", number(referent.measure, 4)), ("died", number(referent.died, 8))]
-    return [("route", number(referent.route, 4)), name] + dates
+    parts = [("route", number(referent.route, 4)), ("name", referent.name.ljust(32, b"\0"))]
+    parts.append(("born", number(referent.born, 8)))
+    return parts + [("measure", number(referent.measure, 4)), ("died", number(referent.died, 8))]
 
 
 def number(value, width):
@@ -196,7 +198,8 @@ class Written:
         """A further page with its header: its number."""
         page = len(self.data) // PAGE_BYTES
         self.data += bytes(PAGE_BYTES)
-        parts = [("kind", 1, kind), ("zero", 1, 0), ("count", 2, count), ("number", 4, page), ("next", 4, next_page), ("last", 4, 0)]
+        parts = [("kind", 1, kind), ("zero", 1, 0), ("count", 2, count), ("number", 4, page)]
+        parts += [("next", 4, next_page), ("last", 4, 0)]
         place = page * PAGE_BYTES
         for name, width, value in parts:
             self.put("page %d %s" % (page, name), place, number(value, width))
@@ -249,7 +252,7 @@ class Writer:
         return self.tree("referents", [referent_parts(referent) for referent in self.said.referents])
 
     def tree(self, title, cells, end_before=None):
-        """A tree of cells, each by its parts, and its root. A summary is the greatest end, four bytes some bytes before a cell's end."""
+        """A tree of cells, each by its parts: its root. A summary is the greatest end, which is near the end of a cell."""
         cells = sorted(cells, key=bytes_of)
         if not cells:
             return 0
@@ -262,7 +265,8 @@ class Writer:
             depth += 1
             most = min(self.said.inner_entries, CONTENT_BYTES // (width + 8))
             parts = shared_out(level, most)
-            level = [self.inner("%s level %d page %d" % (title, depth, place), part) for place, part in enumerate(parts)]
+            titles = ["%s level %d page %d" % (title, depth, place) for place in range(len(parts))]
+            level = [self.inner(*titled) for titled in zip(titles, parts)]
         return level[0][0]
 
     def leaf(self, title, cells, end_before):
@@ -348,12 +352,13 @@ class Writer:
     def put_page_0(self, first, length, first_free):
         numbers = [("pages", len(self.out.data) // PAGE_BYTES), ("first free", first_free), ("free", self.said.free)]
         numbers += [("first catalogue", first), ("catalogue bytes", length)]
-        parts = [("mark", b"ROADSEG1"), ("format", number(1, 4)), ("flag", number(self.said.flag, 1)), ("zeros", bytes(3))]
+        flag = ("flag", number(self.said.flag, 1))
+        parts = [("mark", b"ROADSEG1"), ("format", number(1, 4)), flag, ("zeros", bytes(3))]
         self.out.put_parts("file", 16, parts + [(name, number(value, 4)) for name, value in numbers])
 
 
 def shared_out(items, most):
-    """The items in parts of at most so many, as even as can be: with three or more allowed no part has less than two."""
+    """The items in parts of at most so many, as even as can be: where three are allowed no part has less than two."""
     count = -(-len(items) // most)
     return [items[len(items) * part // count : len(items) * (part + 1) // count] for part in range(count)]
 
@@ -371,7 +376,8 @@ def route_parts(route):
 
 
 def table_parts(table):
-    parts = [("number", number(table.number, 4)), ("kind", number(table.kind, 1)), ("columns", number(len(table.columns), 1))]
+    parts = [("number", number(table.number, 4)), ("kind", number(table.kind, 1))]
+    parts.append(("columns", number(len(table.columns), 1)))
     for place, (name, longest) in enumerate(table.columns):
         parts += name_parts("column %d name" % place, name) + [("column %d type" % place, number(longest, 1))]
     return parts

@@ -1,14 +1,15 @@
 #!/usr/bin/env python3
 """Opens files with the file driver and with the slow reader of files, and compares what both say.
 
-    files.py [--program PATH] [--seed S] [--turns N] [--only TURN] [--bytes EACH]
+    files.py [--program PATH] [--seed S] [--turns N] [--turns-alone] [--only TURN]
 
 The driver (crates/rs_file_driver) opens each file through the store and says its state or a refusal; the slow reader
-(slow_file.py) does so from the bytes alone. Three groups of files are compared: those written by hand (whole_files.py), of which
-it is known what is wanted; the closed file of a row that was inserted four times, with each byte changed in turn, to all 255
-other values where a field is, and to one other value elsewhere; and pseudo-random ones (random_files.py), as many as there are
-turns. After a file was opened and closed, or refused, its bytes have to be what they were.
-It prints what differs, for each group how many files were OK, 94 and 95, and how many differ, and at last `N passed, M failed`.
+(slow_file.py) does so from the bytes alone. Three groups of files are compared: those written by hand (whole_files.py),
+of which it is known what is wanted; the closed file of a row that was inserted four times, with each byte changed in
+turn, to all 255 other values where a field is, and to one other value elsewhere; and pseudo-random ones
+(random_files.py), as many as there are turns. After a file was opened and closed, or refused, its bytes have to be what
+they were. It prints what differs, for each group how many files were OK, 94 and 95, and how many differ, and at last
+`N passed, M failed`. `--turns 200000 --turns-alone` is the long run.
 """
 
 import argparse
@@ -23,7 +24,7 @@ from multiprocessing import Pool
 from typing import NamedTuple
 
 from file_writer import written
-from random_files import file_of
+from random_files import RandomFile
 from slow_file import answer_of
 from slow_pages import MOST_PAGES
 from whole_files import SOUND, files
@@ -78,7 +79,7 @@ def is_like_another(name):
 
 
 def random_case(seed, turn):
-    file = file_of(seed, turn)
+    file = RandomFile(seed, turn)
     return Case("turn %d of seed %d: %s" % (turn, seed, file.title()), file.data, file.limit)
 
 

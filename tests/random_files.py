@@ -1,4 +1,5 @@
-"""Pseudo-random files by a seed: sound ones with something changed, in their bytes, their fields, their pages or what they say.
+"""Pseudo-random files by a seed: sound ones with something changed, in their bytes, their fields, their pages or what
+they say.
 
 The same seed and turn give the same file each time. About a quarter of the files stand for a state.
 """
@@ -6,16 +7,20 @@ The same seed and turn give the same file each time. About a quarter of the file
 import random
 import re
 from copy import copy
+from functools import partial
 
 from file_writer import LIVING, PAGE_BYTES, Alignment, Index, Record, Referent, Route, View, written
 from whole_files import SOUND
 
-NUMBERS = [0, 1, 2, 3, 4, 6, 7, 16, 20, 63, 64, 127, 128, 255, 256, 1_000, 4_080, 4_081, 4_095, 4_096, 10_000, 999_999_999, 10**9]
+NUMBERS = [0, 1, 2, 3, 4, 6, 7, 16, 20, 63, 64, 127, 128, 255, 256, 1_000, 4_080, 4_081, 4_095, 4_096, 10_000]
+NUMBERS += [999_999_999, 10**9]
 NUMBERS += [2**16 - 1, 2**31, 2**32 - 1, 2**63 - 1, 2**63, 2**63 + 10**12, 2**63 + 10**12 + 1, 2**64 - 2, 2**64 - 1]
 
-WORDS = b"pave crash zone none a b c d A B long_name Z K0 K1 K9 START re re2 num sev surf z t s2 WHERE DISSOLVE RENAME".split()
-WORDS += b"OVERLAY COVER MERGE MINUS WINDOW TRANSFORM GAPS SELECT AS FROM TO AND OR NOT IS NULL ABSOLUTE".split()
-WORDS += b"( ) , = <> < + - @ % 0 1 2.5 100 1000000000001 0.0001 'AC' 'it''s' '' ; \t \xff".split(b" ") + [b" ", b"\r", b"'"]
+WORDS = b"pave crash zone none a b c d A B long_name Z K0 K1 K9 START re re2 num sev surf z t s2".split()
+WORDS += b"WHERE DISSOLVE RENAME OVERLAY COVER MERGE MINUS WINDOW TRANSFORM GAPS SELECT".split()
+WORDS += b"AS FROM TO AND OR NOT IS NULL ABSOLUTE".split()
+WORDS += b"( ) , = <> < + - @ % 0 1 2.5 100 1000000000001 0.0001 'AC' 'it''s' '' ;".split()
+WORDS += [b" ", b"\t", b"\r", b"\xff", b"'"]
 
 QUERIES = [
     b"pave",
@@ -80,7 +85,8 @@ class RandomFile:
         for place in range(self.by.choice([3, 20, 150])):
             start = 9_001 + 6 * place
             died = self.by.choice([LIVING, LIVING, 5])
-            yield Record(0, start, start + (1 if table.kind == 0 else self.by.choice([1, 4])), self.by.choice(rows), 3, died)
+            length = 1 if table.kind == 0 else self.by.choice([1, 4])
+            yield Record(0, start, start + length, self.by.choice(rows), 3, died)
 
     # Bytes, fields and pages.
 
@@ -95,14 +101,14 @@ class RandomFile:
     def fields(self):
         file = written(self.description)
         names = [name for name, places in file.fields.items() if len(places) > 0 and "slot" not in name]
-        names += ["slot 0 root", "slot 1 living", "slot 3 dead", "slot 77 root", "index slot 0 root", "index slot 63 root"]
+        names += ["slot 0 root", "slot 1 living", "slot 3 dead", "slot 77 root", "index slot 0 root"]
         values = {}
         for name in self.by.sample(names, self.by.choice([1, 1, 1, 2])):
             values[name] = self.number(file, name, names)
         return file.with_fields(values)
 
     def number(self, file, name, names):
-        """Another number for a field: a neighbour, that of another field, or one of those at which something changes."""
+        """Another number for a field: a neighbour, that of another field, or one at which something changes."""
         width = len(file.fields[name])
         value = file.value(name)
         other = file.value(self.by.choice(names))
@@ -142,7 +148,8 @@ class RandomFile:
         return bytes(written(self.description).data)
 
     def put_in_order(self):
-        for items in (self.description.routes, self.description.tables, self.description.indexes, self.description.alignments):
+        said = self.description
+        for items in (said.routes, said.tables, said.indexes, said.alignments):
             items.sort(key=lambda item: item.name)
 
     def near(self, number):
@@ -175,7 +182,8 @@ class RandomFile:
         tables = [table for table in self.description.tables if table.columns]
         if tables:
             table = self.by.choice(tables)
-            self.change_one(table.records, ["route", "start", "start", "finish", "finish", "born"], lambda: self.record(table))
+            fields = ["route", "start", "start", "finish", "finish", "born"]
+            self.change_one(table.records, fields, partial(self.record, table))
             for record in table.records[-1:]:
                 self.end_or_move(record)
 
@@ -184,7 +192,8 @@ class RandomFile:
         rows = [record.row for record in table.records] + [tuple(None for _ in table.columns)]
         start = self.by.choice([0, 1_000, 2_500, 9_999, 10_000, self.by.randrange(10_000)])
         length = 1 if table.kind == 0 else self.by.choice([1, 300, 700, 1_000])
-        return Record(self.by.choice([0, 0, 1, 5]), start, start + length, self.by.choice(rows), self.by.choice([0, 3, 6]))
+        route, born = self.by.choice([0, 0, 1, 5]), self.by.choice([0, 3, 6])
+        return Record(route, start, start + length, self.by.choice(rows), born)
 
     def end_or_move(self, record):
         """Now and then the record has ended, or a point is one thousandth long again."""
@@ -194,11 +203,12 @@ class RandomFile:
             record.finish = record.start + 1
 
     def change_referent(self):
-        def make():
-            name = self.by.choice([b"K0", b"K1", b"K7", b"START", b"TO", b"", b"L" * 32, b"K\0K", b"k_0"])
-            return Referent(self.by.choice([0, 0, 1, 7]), name, self.by.choice([0, 1_000, 4_000, 10_000]), self.by.choice([0, 3]))
+        self.change_one(self.description.referents, ["route", "measure", "measure", "born"], self.referent)
 
-        self.change_one(self.description.referents, ["route", "measure", "measure", "born"], make)
+    def referent(self):
+        name = self.by.choice([b"K0", b"K1", b"K7", b"START", b"TO", b"", b"L" * 32, b"K\0K", b"k_0"])
+        route, measure = self.by.choice([0, 0, 1, 7]), self.by.choice([0, 1_000, 4_000, 10_000])
+        return Referent(route, name, measure, self.by.choice([0, 3]))
 
     def change_view(self):
         views = self.description.views
@@ -223,12 +233,15 @@ class RandomFile:
             case "blank":
                 tokens.insert(self.by.choice([place, 0, len(tokens)]), b" ")
             case "deep":
-                tokens = [b"DISSOLVE("] * 30 + [b"MERGE(", text, b", ", text, b")"] + [b", ())"] * self.by.choice([29, 30])
+                tokens = [b"DISSOLVE("] * 30 + [b"MERGE(%b, %b)" % (text, text)]
+                tokens += [b", ())"] * self.by.choice([29, 30, 30])
         return b"".join(tokens)
 
     def change_route(self):
-        make = lambda: Route(self.by.choice([b"C", b"Z9", b"FROM"]), self.by.choice([1, 2, 5, 4_095, 4_096]), 0, 5, 1)
-        self.change_one(self.description.routes, ["number", "start", "finish", "born"], make)
+        self.change_one(self.description.routes, ["number", "start", "finish", "born"], self.route)
+
+    def route(self):
+        return Route(self.by.choice([b"C", b"Z9", b"FROM"]), self.by.choice([1, 2, 5, 4_095, 4_096]), 0, 5, 1)
 
     def change_table(self):
         if self.description.tables:
@@ -238,9 +251,12 @@ class RandomFile:
             setattr(table, field, value)
 
     def change_index(self):
-        make = lambda: Index(self.by.choice([b"q", b"x", b"ON"]), self.by.choice([0, 3, 63, 64]), self.by.choice([0, 1, 3]), 0)
-        self.change_one(self.description.indexes, ["number", "number"], make)
+        self.change_one(self.description.indexes, ["number"], self.index)
         self.description.indexes = [index for index in self.description.indexes if self.has_column(index)]
+
+    def index(self):
+        name, number = self.by.choice([b"q", b"x", b"ON"]), self.by.choice([0, 3, 63, 64])
+        return Index(name, number, self.by.choice([0, 1, 3]), 0)
 
     def has_column(self, index):
         """Whether entries can be written for it: its table, if there is one, has its column."""
@@ -250,7 +266,8 @@ class RandomFile:
     def change_alignment(self):
         alignments = self.description.alignments
         if not alignments or self.by.random() < 0.3:
-            alignments.append(Alignment(self.by.choice([b"s", b"re", b"INTO"]), [(0, 0, 1, 0, 0)] * self.by.choice([0, 1, 64, 65])))
+            pieces = [(0, 0, 1, 0, 0)] * self.by.choice([0, 1, 64, 65])
+            alignments.append(Alignment(self.by.choice([b"s", b"re", b"INTO"]), pieces))
             return
         alignment = self.by.choice(alignments)
         pieces = [list(piece) for piece in alignment.pieces] or [[0, 0, 1, 0, 0]]
@@ -260,7 +277,3 @@ class RandomFile:
 
     def change_version(self):
         self.description.accepted = self.by.choice([0, 1, 5, 6, 7, 29, 30, 31, 39, 41, 2**63 - 1, 2**63])
-
-
-def file_of(seed, turn):
-    return RandomFile(seed, turn)

@@ -1,8 +1,8 @@
 """The catalogue of a file, for the slow reader of files: what its bytes define, and the checks of each definition.
 
-It is written from the format alone and shares nothing with the crates. Five lists, each in the order of its names: routes,
-tables, indexes, views, alignments. A definition is one that its DEFINE line would make beside the others; what a view's text
-says is looked at elsewhere.
+It is written from the format alone and shares nothing with the crates. Five lists, each in the order of its names:
+routes, tables, indexes, views, alignments. A definition is one that its DEFINE line would make beside the others; what
+a view's text says is looked at elsewhere.
 """
 
 import re

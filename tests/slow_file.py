@@ -1,12 +1,12 @@
 #!/usr/bin/env python3
 """The slow reader of files: which state the bytes of a file stand for.
 
-    python3 tests/slow_file.py FILE [--limit PAGES]
+    python3 tests/slow_file.py FILE [--limit PAGES] [--why]
 
-It prints `OK` and then the state, or `ERR 94` where the file stands for none, or `ERR 95` where it stands for one and was
-not closed. It is written from the format and the definitions alone and shares nothing with the crates: pages are read by
-slow_pages.py, the catalogue by slow_catalogue.py, and what a view's text says, and its checks, are those of the slow machine.
-A file may be longer than the pages that it tells.
+It prints `OK` and then the state, or `ERR 94` where the file stands for none, or `ERR 95` where it stands for one and
+was not closed. It is written from the format and the definitions alone and shares nothing with the crates: pages are
+read by slow_pages.py, the catalogue by slow_catalogue.py, and what a view's text says, and its checks, are those of the
+slow machine. A file may be longer than the pages that it tells.
 
 The state is a line for each thing, measures in thousandths, all names in the order of their bytes:
 
@@ -18,7 +18,7 @@ The state is a line for each thing, measures in thousandths, all names in the or
     alignment NAME
     piece ROUTE FROM TO ROUTE ONTO                    of the alignment before it
     referent ROUTE NAME MEASURE
-    span TABLE ROUTE FROM TO VALUE ..                 by table, by route, then in printing order; values as ROW lines have them
+    span TABLE ROUTE FROM TO VALUE ..                 by table and route in printing order; values as in ROW lines
 """
 
 import argparse
@@ -27,7 +27,7 @@ from collections import Counter
 from typing import NamedTuple
 
 from slow_catalogue import Catalogue, catalogue_of, is_name
-from slow_commands import Named, Refused, Relative, DefineView, parts_of, refuse_if
+from slow_commands import DefineView, Named, Refused, Relative, parts_of, refuse_if
 from slow_pages import MOST_PAGES, NO_TREE, Damaged, Pages, want
 from slow_queries import View, opened, size_of
 from slow_reader import GREATEST_NUMBER, command_of, session_of, text_of_line
@@ -116,11 +116,12 @@ def row_of(data, columns):
 
 
 def record_of(cell, columns):
-    """The event that a cell says: route, start, row, born, finish, died."""
+    """The event that a cell says."""
     end = len(cell) - 20
     row = row_of(cell[8:end], columns)
     route, start = number_at(cell, 0, 4), number_at(cell, 4, 4)
-    return Record(route, start, row, number_at(cell, end, 8), number_at(cell, end + 8, 4), number_at(cell, end + 12, 8), cell)
+    born, finish, died = number_at(cell, end, 8), number_at(cell, end + 8, 4), number_at(cell, end + 12, 8)
+    return Record(route, start, row, born, finish, died, cell)
 
 
 def referent_of(cell):
@@ -177,7 +178,7 @@ def check_indexes(pages, roots, catalogue, table, records):
 
 
 def spans_of(pages, directory, catalogue, table):
-    """The living spans of a table, after all checks of its records and its indexes, by route's name in printing order."""
+    """The living spans of a table by route in printing order, after all checks of its records and its indexes."""
     item = directory.tables[table.number]
     width = 28 + sum(width_of(longest) for _, longest in table.columns)
     cells = pages.cells(item.root, width, summary_at=width - 12)
@@ -224,7 +225,7 @@ def check_slots(directory, catalogue):
 
 
 class WideRoute:
-    """A route as a view's windows are checked: each is as wide as the route, where the referents that it names are there."""
+    """A route as a view's windows are checked: each as wide as the route, if the referents that it names are there."""
 
     def __init__(self, route):
         self.places = range(route.start, route.finish + 1)
@@ -264,7 +265,7 @@ class ViewChecks:
 
 
 def query_of(view):
-    """The query of a view: some line defines the view with this very text. The shortest has one digit for its session."""
+    """The query of a view: some line defines it with this very text. The shortest has one digit for its session."""
     line = b"0 DEFINE VIEW " + view.name + b" AS " + view.text
     text = text_of_line(line)
     command = command_of(text, session_of(text)[1])
@@ -275,7 +276,7 @@ def query_of(view):
 
 
 def check_views(catalogue, referents):
-    """Each view passes the checks of its line beside the others, of which those that it names come before it in some order."""
+    """Each view passes the checks of its line beside the others, and names only views before it in some order."""
     checks = ViewChecks(catalogue, referents)
     want(not any(view.name in checks.tables for view in catalogue.views), "no view has a table's name")
     try:

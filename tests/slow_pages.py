@@ -1,7 +1,7 @@
 """The pages of a file, for the slow reader of files: page 0, the directory, chains of pages, and trees.
 
-It is written from the format alone and shares nothing with the crates. Each page is taken once, by whoever it belongs to,
-and its first 16 bytes are looked at then. All numbers are big-endian. What does not fit is `Damaged`.
+It is written from the format alone and shares nothing with the crates. Each page is taken once, by whoever it belongs
+to, and its first 16 bytes are looked at then. All numbers are big-endian. What does not fit is `Damaged`.
 """
 
 import struct
@@ -42,7 +42,7 @@ def is_zeros(data):
 
 
 class Page(NamedTuple):
-    """A page that fits its kind and number: how much is counted in it, the next page, and the bytes after its header."""
+    """A page that fits its kind and number: what is counted in it, the next page, and the bytes after its header."""
 
     kind: int
     count: int
@@ -77,9 +77,8 @@ class Pages:
         self.count = 1
         want(len(data) >= PAGE_BYTES, "a file has a page")
         content = self.take(0, FILE_HEADER).content
-        mark, form, self.flag, zeros, self.count, self.first_free, self.free, self.first_catalogue, self.catalogue_bytes = (
-            FILE_FIELDS.unpack_from(content)
-        )
+        mark, form, self.flag, zeros, self.count, *numbers = FILE_FIELDS.unpack_from(content)
+        self.first_free, self.free, self.first_catalogue, self.catalogue_bytes = numbers
         want(mark == MARK and form == FORMAT, "the mark and the format")
         want(is_zeros(zeros) and is_zeros(content[PAGE_0_END - HEADER_BYTES :]), "the rest of page 0 is zeros")
         want(self.count <= limit, "no more pages than the limit")
@@ -136,7 +135,7 @@ class Pages:
     # Trees.
 
     def cells(self, root, width, summary_at=None):
-        """The cells of a tree, all of one width. Where a summary is kept, it is the greatest number u32 at this place of a cell."""
+        """The cells of a tree, all of one width. A summary is the greatest number u32 at some place of a cell."""
         if root == 0:
             return []
         levels = self.levels(root, width, 0 if summary_at is None else 4)
@@ -174,7 +173,7 @@ def told_of_cells(cells, summary_at):
 
 
 def told_of_level(level, told, summary_at):
-    """What the entries above say of the pages of a level, whose own entries have to say what is told of the pages below them."""
+    """What the entries above say of the pages of a level, whose own entries have to say what is told of those below."""
     said = [entry[4:] for page in level for entry in page]
     want(said == told, "entries say the summary and the least cell of their page")
     if summary_at is None:

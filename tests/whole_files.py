@@ -1,9 +1,9 @@
 """Files of RoadSeg written by hand, each with what opening it is answered: `files()`.
 
-Each is a description (file_writer.py), changed where it has to be wrong, or the bytes of a sound file with some fields written
-anew (field_files.py). They are the empty file that is created, the closed file of a table whose row was inserted four times, and
-one with something of each kind; legal oddities of these; and files that are wrong in one way each. What is wanted is OK,
-ERR 94 for a file that stands for no state, ERR 95 for one that was not closed.
+Each is a description (file_writer.py), changed where it has to be wrong, or the bytes of a sound file with some fields
+written anew (field_files.py). They are the empty file that is created, the closed file of a table whose row was
+inserted four times, and one with something of each kind; legal oddities of these; and files that are wrong in one way
+each. What is wanted is OK, ERR 94 for a file that stands for no state, ERR 95 for one that was not closed.
 """
 
 from field_files import changed_fields
@@ -29,6 +29,7 @@ from file_writer import (
 MOST_CHANGES = 2**63 - 1
 LONGEST_LINE = 4096
 LONG_NAME = b"N" * 32
+PIECE = (0, 0, 1, 0, 0)
 
 
 # Sound files.
@@ -51,11 +52,16 @@ def inserted():
 def various():
     """Something of each kind: lines and points, living and dead, indexes, referents, views over views, an alignment."""
     paved = [Record(0, 1_000 * k, 1_000 * k + 700, (b"ABCDEFGH"[k % 8 : k % 8 + 1],), 10 + k) for k in range(9)]
-    paved += [Record(0, 0, 1_000, (None,), 12), Record(1, 1_000, 1_003, (b"",), 13), Record(0, 500, 900, (b"AC",), 14, died=19)]
+    paved += [Record(0, 0, 1_000, (None,), 12), Record(1, 1_000, 1_003, (b"",), 13)]
+    paved.append(Record(0, 500, 900, (b"AC",), 14, died=19))
     crashes = [Record(0, 1_000 * k, 1_000 * k + 1, (k, (k % 3) - 1), 20 + k) for k in range(11)]
     crashes += [Record(0, 5_000, 5_001, (99, None), 21), Record(0, 5_000, 5_001, (98, -(10**12)), 21, died=30)]
     return Description(
-        routes=[Route(b"A", 0, 0, 10_000, 1), Route(b"B", 1, 1_000, 1_003, 2), Route(b"long_name", 5, 0, 999_999_999, 3)],
+        routes=[
+            Route(b"A", 0, 0, 10_000, 1),
+            Route(b"B", 1, 1_000, 1_003, 2),
+            Route(b"long_name", 5, 0, 999_999_999, 3),
+        ],
         tables=[
             Table(b"crash", 3, 0, [(b"num", 0), (b"sev", 0)], crashes),
             Table(b"pave", 0, 1, [(b"surf", 8)], paved),
@@ -225,14 +231,16 @@ LONGEST_VIEW = LONGEST_LINE - len(b"0 DEFINE VIEW v00 AS ")
 
 ODD = {
     "a view that meets 31 today": add_views(b"WINDOW(pave, A FROM @K0 TO 2)"),
-    "a view that meets 30 today": add_views(b"WINDOW(pave, A FROM 11 TO 12)", b"WINDOW(pave, A FROM @K0-3 TO @START+999999)"),
+    "views that meet 30 today": add_views(
+        b"WINDOW(pave, A FROM 11 TO 12)", b"WINDOW(pave, A FROM @K0-3 TO 1)", b"WINDOW(pave, A FROM 0 TO @START+999999)"
+    ),
     "a view over one that comes later": add_views(b"v01", b"pave"),
     "a view of the longest text": add_views(text_of_length(LONGEST_VIEW)),
     "a view with blanks between its tokens": add_views(b"MERGE ( pave , pave )"),
     "a view of the reserved name of nothing": add_views(b"WHERE(pave, surf = 'START')"),
     "views of 255 nodes": add_views(*doubled(7)),
     "a view of depth 32": add_views(nested(31)),
-    "a view of twelve columns": add_views(b"OVERLAY(DISSOLVE(wide, (c0, c1, c2, c3, c4, c5, c6, c7, c8, c9, c10)), pave)"),
+    "a view of twelve columns": add_views(b"OVERLAY(DISSOLVE(wide, (c0,c1,c2,c3,c4,c5,c6,c7,c8,c9,c10)), pave)"),
     "a view over points and lines": add_views(b"OVERLAY(crash, pave)"),
     "a view of a value that no row has": add_views(b"WHERE(pave, surf = 'a text that is longer than the column''s')"),
     "128 views": add_named_views(*[(b"w%03d" % place, b"pave") for place in range(128)]),
@@ -241,12 +249,18 @@ ODD = {
         put("routes", Route(b"B", 0, 0, 500, born=6)),
         put_records(Record(0, 0, 10_000, (b"AC",), 2, died=4), Record(0, 0, 500, (b"AC",), 6)),
     ),
-    "a dead record that was no run": add_records(Record(0, 500, 400, (b"AC",), 2, died=4), Record(0, 1, 1, (b"AC",), 2, died=4)),
+    "dead records that were no runs": add_records(
+        Record(0, 500, 400, (b"AC",), 2, died=4), Record(0, 1, 1, (b"AC",), 2, died=4)
+    ),
     "dead records beyond all routes": add_records(Record(2**32 - 1, 2**32 - 1, 2**32 - 1, (b"AC",), 0, died=1)),
     "a living record beside the same one, dead": add_records(Record(0, 0, 2_500, (b"AC",), 6 - 1, died=6)),
-    "a dead record that began with the living one": put_records(Record(0, 0, 9, (b"AC",), 3, died=5), Record(0, 0, 9, (b"AC",), 3)),
+    "a dead record that began with the living one": put_records(
+        Record(0, 0, 9, (b"AC",), 3, died=5), Record(0, 0, 9, (b"AC",), 3)
+    ),
     "a dead point two thousandths long": put_points(Record(0, 5, 7, (1,), 2, died=3)),
-    "a birth equal to the accepted version": both(put_records(Record(0, 0, 1, (b"AC",), 6)), put("routes", Route(b"A", 0, 0, 9, 6))),
+    "a birth equal to the accepted version": both(
+        put_records(Record(0, 0, 1, (b"AC",), 6)), put("routes", Route(b"A", 0, 0, 9, 6))
+    ),
     "a birth at version 0": both(put_records(Record(0, 0, 1, (b"AC",), 0)), put("routes", Route(b"A", 0, 0, 9, 0))),
     "a death equal to the accepted version": add_records(Record(0, 3_000, 4_000, (b"AC",), 5, died=6)),
     "a table without records": put_records(),
@@ -263,20 +277,25 @@ ODD = {
     "a text of two letters in four bytes": put_value(8, "äö".encode()),
     "referents at both ends of the route": add_referents((0, b"S", 0, 2), (0, b"E", 10_000, 2)),
     "1,000 referents of a route": add_referents(*[(0, b"R%03d" % place, place, 2) for place in range(1_000)]),
-    "a dead referent that no line can say": add_referents((9, b"\xff \n", 2**32 - 1, 2, 3), (9, b"", 0, 2, 3), (0, b"START", 0, 2, 3)),
+    "dead referents that no line can say": add_referents(
+        (9, b"\xff \n", 2**32 - 1, 2, 3), (9, b"", 0, 2, 3), (0, b"START", 0, 2, 3)
+    ),
     "a referent that was moved": add_referents((0, b"K0", 5, 2, 3), (0, b"K0", 6, 3)),
     "names of 32 bytes": both(put("routes", Route(LONG_NAME, 0, 0, 10_000, 1)), add_referents((0, LONG_NAME, 5, 2))),
     "an alignment longer than a line": both(
-        put("routes", Route(LONG_NAME, 0, 0, 10_000, 1)), put("alignments", Alignment(LONG_NAME, [(0, 0, 10_000, 0, 0)] * 64))
+        put("routes", Route(LONG_NAME, 0, 0, 10_000, 1)),
+        put("alignments", Alignment(LONG_NAME, [(0, 0, 10_000, 0, 0)] * 64)),
     ),
     "64 alignments": put("alignments", *[Alignment(b"r%02d" % place, [(0, 0, 1, 0, 9_999)]) for place in range(64)]),
     "two indexes of one column": put("indexes", Index(b"a", 63, 0, 0), Index(b"b", 0, 0, 0)),
     "64 indexes": put("indexes", *[Index(b"i%02d" % place, place, 0, 0) for place in range(64)]),
-    "128 tables": put("tables", *[Table(b"t%03d" % place, 127 - place, place % 2, [(b"c", 0)]) for place in range(128)]),
+    "128 tables": put("tables", *[Table(b"t%03d" % place, 127 - place, 1, [(b"c", 0)]) for place in range(128)]),
     "twelve columns": put_columns(*[(b"c%d" % place, 40) for place in range(12)]),
     "4,096 routes": put("routes", *[Route(b"r%04d" % place, place, 0, 10_000) for place in range(4_096)]),
     "the last route number": both(put("routes", Route(b"A", 4_095, 0, 9, 1)), put_records()),
-    "the longest route": both(put("routes", Route(b"A", 0, 0, 999_999_999, 1)), put_records(Record(0, 0, 999_999_999, (b"AC",), 2))),
+    "the longest route": both(
+        put("routes", Route(b"A", 0, 0, 999_999_999, 1)), put_records(Record(0, 0, 999_999_999, (b"AC",), 2))
+    ),
     "a point at the greatest measure": both(
         put("routes", Route(b"A", 0, 0, 999_999_999, 1)), put_points(Record(0, 999_999_999, 10**9, (1,), 2))
     ),
@@ -293,7 +312,9 @@ WRONG = {
     "a row within another": add_records(Record(0, 1_000, 2_000, (b"AC",), 6)),
     "a repeated row": add_records(Record(0, 0, 2_500, (b"AC",), 5)),
     "a repeated row, shorter": add_records(Record(0, 0, 2_000, (b"AC",), 6)),
-    "a touching row between others": add_records(Record(0, 2_400, 2_450, (b"PC",), 6), Record(0, 2_500, 3_000, (b"AC",), 6)),
+    "a touching row between others": add_records(
+        Record(0, 2_400, 2_450, (b"PC",), 6), Record(0, 2_500, 3_000, (b"AC",), 6)
+    ),
     "a row that ends where it begins": put_records(Record(0, 5, 5, (b"AC",), 6)),
     "a row that ends before it begins": put_records(Record(0, 5, 4, (b"AC",), 6)),
     "a row on no route": put_records(Record(1, 0, 1, (b"AC",), 6)),
@@ -330,7 +351,9 @@ WRONG = {
     "a text that is cut": put_value(2, "xä".encode()[:2]),
     "a dead row that says nothing": add_records(Record(0, 5, 6, (Raw(b"\2" + bytes(8)),), 2, died=3)),
     # Referents.
-    "a referent before its route": both(put("routes", Route(b"A", 0, 1, 10_000, 1)), put_records(), add_referents((0, b"K", 0, 2))),
+    "a referent before its route": both(
+        put("routes", Route(b"A", 0, 1, 10_000, 1)), put_records(), add_referents((0, b"K", 0, 2))
+    ),
     "a referent after its route": add_referents((0, b"K", 10_001, 2)),
     "a referent on no route": add_referents((1, b"K", 5, 2)),
     "a referent of no name": add_referents((0, b"", 5, 2)),
@@ -433,8 +456,8 @@ WRONG = {
     "a piece past the end of its route": put_alignment((1, 1_000, 1_004, 0, 0)),
     "a piece to before its second route": put_alignment((0, 0, 3, 1, 999)),
     "a piece to past the end of its second route": put_alignment((0, 0, 4, 1, 1_000)),
-    "alignments out of order": put("alignments", Alignment(b"s", [(0, 0, 1, 0, 0)]), Alignment(b"r", [(0, 0, 1, 0, 0)])),
-    "an alignment twice": put("alignments", Alignment(b"r", [(0, 0, 1, 0, 0)]), Alignment(b"r", [(0, 0, 1, 0, 0)])),
+    "alignments out of order": put("alignments", Alignment(b"s", [PIECE]), Alignment(b"r", [PIECE])),
+    "an alignment twice": put("alignments", Alignment(b"r", [PIECE]), Alignment(b"r", [PIECE])),
     "an alignment with a reserved name": put("alignments", Alignment(b"AS", [(0, 0, 1, 0, 0)])),
     "65 alignments": put("alignments", *[Alignment(b"r%02d" % place, [(0, 0, 1, 0, 9_999)]) for place in range(65)]),
 }
@@ -450,7 +473,8 @@ def described(group, changes, wanted):
         change(said)
         yield File("%s: %s" % (group, name), bytes(written(said).data), wanted)
         said.flag = 1
-        yield File("%s, not closed: %s" % (group, name), bytes(written(said).data), NOT_CLOSED if wanted == OK else wanted)
+        left_open = NOT_CLOSED if wanted == OK else wanted
+        yield File("%s, not closed: %s" % (group, name), bytes(written(said).data), left_open)
 
 
 def damaged():
@@ -464,7 +488,8 @@ def damaged():
     yield File("format 3", file.with_fields({"file format": 3}), DAMAGED)
     yield File("flag 2", file.with_fields({"file flag": 2}), NOT_CLOSED)
     yield File("flag 1", file.with_fields({"file flag": 1}), NOT_CLOSED)
-    yield File("flag 1 and the first catalogue page 7", file.with_fields({"file flag": 1, "file first catalogue": 7}), DAMAGED)
+    lost = file.with_fields({"file flag": 1, "file first catalogue": 7})
+    yield File("flag 1 and the first catalogue page 7", lost, DAMAGED)
     yield File("100 bytes", data[:100], DAMAGED)
     yield File("no bytes", b"", DAMAGED)
     yield File("a birth of 99", first.with_fields({"route 0 born": 99}), DAMAGED)
