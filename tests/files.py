@@ -95,7 +95,8 @@ def answers_of(program, folder, cases):
     lines = "".join("open %s %d\n" % (path, case.limit) for path, case in zip(paths, cases))
     done = subprocess.run([program], input=lines.encode(), capture_output=True, timeout=LONGEST_RUN)
     if done.returncode != 0:
-        sys.exit("the driver ended with status %d %s" % (done.returncode, done.stderr[-300:].decode(errors="replace")))
+        error = done.stderr[-300:].decode(errors="replace")
+        raise RuntimeError("the driver ended with status %d %s" % (done.returncode, error))
     return cut(done.stdout), [bytes_at(path) for path in paths]
 
 
@@ -125,7 +126,7 @@ def compare(program, cases):
     with tempfile.TemporaryDirectory(prefix="roadseg-files-", dir=folder) as folder:
         answers, afterwards = answers_of(program, folder, cases)
     if len(answers) != len(cases):
-        sys.exit("the driver answered %d of %d files" % (len(answers), len(cases)))
+        raise RuntimeError("the driver answered %d of %d files" % (len(answers), len(cases)))
     counts, faults = Counter(), []
     for case, answer, after in zip(cases, answers, afterwards):
         wanted, why = answer_of(case.data, case.limit)

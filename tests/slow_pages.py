@@ -38,7 +38,7 @@ def want(is_so, what):
 
 
 def is_zeros(data):
-    return not any(data)
+    return data == bytes(len(data))
 
 
 class Page(NamedTuple):
@@ -108,9 +108,9 @@ class Pages:
         content = self.take(1, DIRECTORY).content
         want(is_zeros(content[DIRECTORY_FORM.size :]), "the rest of page 1 is zeros")
         numbers = DIRECTORY_FORM.unpack_from(content)
-        items = [TreeItem(*numbers[place : place + 3]) for place in range(0, 3 * TABLES, 3)]
+        threes = zip(*(numbers[place : 3 * TABLES : 3] for place in range(3)))
         indexes = list(numbers[3 * TABLES : 3 * TABLES + INDEXES])
-        return Directory(items, indexes, TreeItem(*numbers[-4:-1]), numbers[-1])
+        return Directory(list(map(TreeItem._make, threes)), indexes, TreeItem(*numbers[-4:-1]), numbers[-1])
 
     def catalogue(self):
         """The bytes of the definitions."""
