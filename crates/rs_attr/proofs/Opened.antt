@@ -6,7 +6,7 @@ use Rattle.std.proofs.lemmas.List.Sorted.{length_permutation}
 use Rattle.std.proofs.lemmas.List.Sums.{length-filter}
 use Rattle.std.specs.List.{AllByRecursion, AllZip, Contains}
 use Rattle.rs_attr.specs.Entries.{AreCells, entry_of, index_form}
-use Rattle.rs_attr.specs.Opening.{AreNoPart, HasSoMany, HaveAllEntries, IsCountedTree, OpensNoTable, OpensTable, ReachesIndexes, ReachesNoIndexes}
+use Rattle.rs_attr.specs.Opening.{AreNotEntered, HasSoMany, HaveAllEntries, IsCountedTree, OpensNoTable, OpensTable, ReachesIndexes, ReachesNoIndexes}
 use Rattle.rs_attr.specs.Meant.{SayMeant}
 use Rattle.rs_attr.specs.Tables.{AreOn, HoldIndexes, IndexState}
 use Rattle.rs_attr.specs.declared.told.ToldTable.{ToldTable}
@@ -37,7 +37,7 @@ use Rattle.rs_cell_versions.specs.Opening.{HasPassed, Looked, StandsOtherwise, S
 use Rattle.rs_cell_versions.specs.Version.{is_dead, is_living}
 use Rattle.rs_cell_versions.specs.Versioned.{Standing}
 use Rattle.rs_cell_versions.proofs.Among.{all_at}
-use Rattle.rs_cell_versions.proofs.Dated.{all_kept}
+use Rattle.rs_cell_versions.proofs.Dated.{all_both, all_kept}
 use Rattle.rs_cell_versions.proofs.Looks.{below_parted, cells_from, none_below_nothing, otherwise_back, passed_same}
 use Rattle.rs_cell_versions.proofs.Staying.{tree_same}
 
@@ -52,6 +52,10 @@ Finds pages told part found = (cells : List (List ℕ)) (used : ℕ → ℕ) →
 -- whatever tree stands there, its cells below the bound have their entries in the indexes
 pub record AreEnteredBelow (types : List ColumnType) (pages : PageMap) (indexes : List IndexState) (root : ℕ) (low : List ℕ) : Type 0 where
   pub each : (cells : List (List ℕ)) (used : ℕ → ℕ) → IsTree (event_form (event_width types)) pages root cells used → HaveAllEntries pages indexes (cells_below low cells)
+
+-- whatever tree stands there, these are among its cells
+pub record AreAmong (types : List ColumnType) (pages : PageMap) (root : ℕ) (some : List (List ℕ)) : Type 0 where
+  pub each : (cells : List (List ℕ)) (used : ℕ → ℕ) → IsTree (event_form (event_width types)) pages root cells used → AllByRecursion (Contains cells) some
 
 -- the same of what is told in the same way, on the same pages
 pub found_back : (old mid : PageMap) → SamePages mid old → (told is : Told) → told ≡ is → (part : List (List ℕ) → List (List ℕ)) (found : List (List ℕ)) → Finds mid told part found → Finds old is part found
@@ -85,12 +89,19 @@ all_among : (xs : List (List ℕ)) → AllByRecursion (Contains xs) xs
 all_among [] = tt
 all_among (x ∷ xs) = ((0, omega arith, refl), still_among x xs xs (all_among xs))
 
-pub kept_among : (test : List ℕ → Bool) (cells found : List (List ℕ)) → found ≡ filter test cells → AllByRecursion (Contains cells) found
+kept_among : (test : List ℕ → Bool) (cells found : List (List ℕ)) → found ≡ filter test cells → AllByRecursion (Contains cells) found
 kept_among test cells found is = subst (AllByRecursion (Contains cells)) (sym is) (all_kept (Contains cells) test cells (all_among cells))
 
 of_all : (P : List ℕ → Type 0) (cells found : List (List ℕ)) → AllByRecursion P cells → AllByRecursion (Contains cells) found → AllByRecursion P found
 of_all P cells [] all have = tt
 of_all P cells (f ∷ fs) all have = (all_at P cells f all have.0, of_all P cells fs all have.1)
+
+-- those that were among the cells, and a part of these
+pub both_among : (types : List ColumnType) (pages : PageMap) (told : ToldRecords) (test : List ℕ → Bool) (some found : List (List ℕ)) → AreAmong types pages told.root some
+    → Finds pages (told_of (event_width types) told) (filter test) found → AreAmong types pages told.root (some ++ found)
+both_among types pages told test some found among finds = record {
+  each = λ cells used tree. all_both (Contains cells) some found (among.each cells used tree) (kept_among test cells found (finds cells used tree));
+}
 
 -- indexes of cells have as many entries
 counted_of : (pages : PageMap) (cells : List (List ℕ)) (count : ℕ) → count ≡ length cells → (indexes : List IndexState) (uses : List (ℕ → ℕ)) → HoldIndexes pages indexes cells uses
@@ -241,14 +252,21 @@ module _ (old : PageMap) (indexes : List IndexState) (told : ToldTable) (routes 
       none = λ standing events used uses as_told table meant fresh. other.none standing.dead table.records.cells used (table_stands standing events used as_told table.records);
     }
 
-    -- nor where a part of them is no part of a table
-    pub no_part_table : (route : Option RouteSpan) (test : List ℕ → Bool) (found : List (List ℕ)) → IsPart types routes route test → Finds old (told_of (event_width types) told.records) (filter test) found
-        → AreNoPart told route old indexes found → OpensNoTable old told indexes routes before
-    no_part_table route test found part finds missing = record {
+    -- nor where the events of a part of them are not meant
+    pub no_meant_table : (route : Option RouteSpan) (test : List ℕ → Bool) (found : List (List ℕ)) → IsPart types routes route test → Finds old (told_of (event_width types) told.records) (filter test) found
+        → (SayMeant told route found → ⊥) → OpensNoTable old told indexes routes before
+    no_meant_table route test found part finds missing = record {
       none = λ standing events used uses as_told table meant fresh.
           let cells = table.records.cells in
           let is : found ≡ filter test cells = finds cells used (table_stands standing events used as_told table.records).holds.tree in
-          missing.none uses cells (subst (SayMeant told route) (sym is) (meant_part told routes route test part cells events table.records.say meant)) table.entries (kept_among test cells found is);
+          missing (subst (SayMeant told route) (sym is) (meant_part told routes route test part cells events table.records.say meant));
+    }
+
+    -- nor where some of them are not entered
+    pub no_entered_table : (some : List (List ℕ)) → AreAmong types old told.records.root some → AreNotEntered old indexes some → OpensNoTable old told indexes routes before
+    no_entered_table some among missing = record {
+      none = λ standing events used uses as_told table meant fresh.
+          missing.none uses table.records.cells table.entries (among.each table.records.cells used (table_stands standing events used as_told table.records).holds.tree);
     }
 
     module _ (mid : PageMap) (same : SamePages mid old) (between : ℕ → ℕ) (validates : Validates (event_form (event_width types)) old told.records.root before between) where

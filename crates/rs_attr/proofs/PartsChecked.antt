@@ -1,16 +1,14 @@
 -- Parts of a table's cells that were checked against its indexes.
-use Rattle.std.proofs.Common.{◌≡◌, ◌<◌, ℕ, suc, Bool, not, Option, Some, List, [], ◌∷◌, ◌++◌, length, take, slice_get, map, filter, sym, ap, subst, inl, inr, arith}
+use Rattle.std.proofs.Common.{◌≡◌, ◌<◌, ℕ, suc, Bool, not, Some, List, [], ◌∷◌, ◌++◌, length, take, slice_get, map, filter, sym, ap, subst, inl, inr, arith}
 use Rattle.std.proofs.lemmas.List.Sorted.{Contains-permutation, IsPermutation-sym}
 use Rattle.std.specs.List.{AllByRecursion, Contains}
 use Rattle.std.specs.List.Sorted.{IsPermutation}
 use Rattle.rs_attr.specs.Entries.{Field, HoldsIndex, entry_of, index_form}
-use Rattle.rs_attr.specs.Opening.{AreNoPart, HasEntries, HaveAllEntries, HaveEntries, LacksEntries}
+use Rattle.rs_attr.specs.Opening.{AreNotEntered, HasEntries, HaveAllEntries, HaveEntries, LacksEntries}
 use Rattle.rs_attr.specs.Tables.{HoldIndexes, IndexState}
-use Rattle.rs_attr.specs.declared.told.ToldTable.{ToldTable}
 use Rattle.rs_pages.specs.PageMap.{PageMap, SamePages}
 use Rattle.rs_tree.proofs.Lists.{has_inside, inside_has, take_next, zip_at, zip_lengths}
 use Rattle.rs_tree_whole.proofs.Joins.{all_push}
-use Rattle.rs_versioned.specs.declared.route_span.RouteSpan.{RouteSpan}
 use Rattle.rs_versioned.proofs.Opened.{all_of_parts}
 use Rattle.rs_cell_versions.proofs.Among.{first_or_rest}
 use Rattle.rs_cell_versions.proofs.Dated.{all_both}
@@ -49,8 +47,8 @@ module _ (old mid : PageMap) (same : SamePages mid old) where
     hold_same xs cells us hold.1,
   )
 
-  pub no_part_back : (told : ToldTable) (route : Option RouteSpan) (indexes : List IndexState) (cells : List (List ℕ)) → AreNoPart told route mid indexes cells → AreNoPart told route old indexes cells
-  no_part_back told route indexes cells missing = record { none = λ uses all say hold have. missing.none uses all say (hold_same indexes all uses hold) have }
+  pub not_entered_back : (indexes : List IndexState) (cells : List (List ℕ)) → AreNotEntered mid indexes cells → AreNotEntered old indexes cells
+  not_entered_back indexes cells missing = record { none = λ uses all hold have. missing.none uses all (hold_same indexes all uses hold) have }
 
   module _ (indexes : List IndexState) (k : ℕ) (index : IndexState) (there : slice_get indexes k ≡ Some index) (cells : List (List ℕ)) where
     -- the cells have their entries in one index more
@@ -59,10 +57,10 @@ module _ (old mid : PageMap) (same : SamePages mid old) where
         subst (λ (xs : List IndexState). HaveAllEntries old xs cells) (sym (take_next indexes k index there))
         (all_push (λ (x : IndexState). HasEntries x.field old x.working cells) (take k indexes) index so (entries_back index.field index.working cells have))
 
-    -- where one has none in the next index, they are no part of a table
-    pub no_part_at : (told : ToldTable) (route : Option RouteSpan) → LacksEntries index.field mid index.working cells → AreNoPart told route old indexes cells
-    no_part_at told route lacks = record {
-      none = λ uses all say hold have.
+    -- where one has none in the next index, they are not entered
+    pub not_entered_at : LacksEntries index.field mid index.working cells → AreNotEntered old indexes cells
+    not_entered_at lacks = record {
+      none = λ uses all hold have.
           let within : k < length uses =
           omega (arith, has_inside indexes k index there, zip_lengths (λ (x : IndexState) (u : ℕ → ℕ). HoldsIndex x.field old x.working all u) indexes uses hold) in
           let one = inside_has uses k within in
@@ -82,6 +80,26 @@ both_entered pages [] xs ys one other = tt
 both_entered pages (i ∷ is) xs ys one other = (
   record { each = λ entries used tree. all_both (λ (cell : List ℕ). Contains entries (entry_of i.field cell)) xs ys (one.0.each entries used tree) (other.0.each entries used tree) },
   both_entered pages is xs ys one.1 other.1,
+)
+
+-- what all of both have, all of each have
+pub all_apart : (P : List ℕ → Type 0) (xs ys : List (List ℕ)) → AllByRecursion P (xs ++ ys) → AllByRecursion P xs × AllByRecursion P ys
+all_apart P [] ys all = (tt, all)
+all_apart P (x ∷ xs) ys all = let rest = all_apart P xs ys all.1 in ((all.0, rest.0), rest.1)
+
+-- and each of them is one
+pub first_entered : (pages : PageMap) (indexes : List IndexState) (xs ys : List (List ℕ)) → HaveAllEntries pages indexes (xs ++ ys) → HaveAllEntries pages indexes xs
+first_entered pages [] xs ys have = tt
+first_entered pages (i ∷ is) xs ys have = (
+  record { each = λ entries used tree. (all_apart (λ (cell : List ℕ). Contains entries (entry_of i.field cell)) xs ys (have.0.each entries used tree)).0 },
+  first_entered pages is xs ys have.1,
+)
+
+pub second_entered : (pages : PageMap) (indexes : List IndexState) (xs ys : List (List ℕ)) → HaveAllEntries pages indexes (xs ++ ys) → HaveAllEntries pages indexes ys
+second_entered pages [] xs ys have = tt
+second_entered pages (i ∷ is) xs ys have = (
+  record { each = λ entries used tree. (all_apart (λ (cell : List ℕ). Contains entries (entry_of i.field cell)) xs ys (have.0.each entries used tree)).1 },
+  second_entered pages is xs ys have.1,
 )
 
 -- what passes a test, and what doesn't

@@ -1,8 +1,7 @@
 -- An index, and a table with its indexes, that lie in a file already.
-use Rattle.std.specs.Prelude.{◌≡◌, ◌≤◌, ℕ, List, Contains, Option, length}
+use Rattle.std.specs.Prelude.{◌≡◌, ◌≤◌, ℕ, List, Contains, length}
 use Rattle.std.specs.List.{AllByRecursion, AllZip}
 use Rattle.rs_attr.specs.Entries.{Field, entry_of, index_form}
-use Rattle.rs_attr.specs.Meant.{SayMeant}
 use Rattle.rs_attr.specs.Tables.{HoldIndexes, HoldsTable, IndexState, all_of}
 use Rattle.rs_attr.specs.declared.told.ToldTable.{ToldTable}
 use Rattle.rs_page_owners.specs.Counts.{◌&◌}
@@ -68,7 +67,6 @@ pub record ReachesNoIndexes (pages : PageMap) (indexes : List IndexState) (count
 abbrev pub HaveAllEntries : PageMap → List IndexState → List (List ℕ) → Type 0
 HaveAllEntries pages indexes cells = AllByRecursion (λ index. HasEntries index.field pages index.working cells) indexes
 
--- where the cells say events that are meant on the route, the indexes have no entries of cells that these are among
-pub record AreNoPart (told : ToldTable) (route : Option RouteSpan) (pages : PageMap) (indexes : List IndexState) (cells : List (List ℕ)) : Type 0 where
-  pub none : (uses : List (ℕ → ℕ)) (all : List (List ℕ)) → SayMeant told route cells → HoldIndexes pages indexes all uses
-      → AllByRecursion (Contains all) cells → ⊥
+-- the indexes have no entries of cells that these are among
+pub record AreNotEntered (pages : PageMap) (indexes : List IndexState) (cells : List (List ℕ)) : Type 0 where
+  pub none : (uses : List (ℕ → ℕ)) (all : List (List ℕ)) → HoldIndexes pages indexes all uses → AllByRecursion (Contains all) cells → ⊥

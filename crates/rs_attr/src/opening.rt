@@ -1,15 +1,16 @@
 //! This module checks a table with its indexes, which lies in a file already, against what the file says of it.
 //!
 //! The trees are checked first: their pages are marked and the entries of the indexes counted. Then the cells of the table are
-//! read part by part, so that no more than one part is in memory at a time: a part ends where the next of the routes begins, so
-//! that events of one route alone may be in it. Where each cell has its entry in an index, and there are as many entries as cells,
-//! the index is that of just these cells.
+//! read part by part: a part ends where the next of the routes begins, so that events of one route alone may be in it. The cells
+//! of several parts wait in memory, and are then looked for in the order of each index together, so that its pages are read a few
+//! times, however many routes there are. Where each cell has its entry in an index, and there are as many entries as cells, the
+//! index is that of just these cells.
 
-ghost use Rattle.std.specs.Prelude.{◌≡◌, ◌⊎◌, ◌<◌, ◌≤◌, ◌+◌, ◌*◌, ◌^◌, Err, IfErr, IfOk, OnOk, length};
+ghost use Rattle.std.specs.Prelude.{◌≡◌, ◌⊎◌, ◌<◌, ◌≤◌, ◌+◌, ◌++◌, ◌*◌, ◌^◌, ℕ, List, Contains, Err, IfErr, IfOk, OnOk, length};
+ghost use Rattle.std.specs.List.{AllByRecursion};
 ghost use Rattle.std.specs.Int.{w32, to_be_bytes};
 ghost use Rattle.rs_attr.specs.Calls.{IsOpened, Opens};
-ghost use Rattle.rs_attr.specs.Meant.{SayMeant};
-ghost use Rattle.rs_attr.specs.Opening.{AreNoPart, HasEntries, HaveAllEntries, LacksEntries, ReachesIndexes, ReachesNoIndexes};
+ghost use Rattle.rs_attr.specs.Opening.{AreNotEntered, HasEntries, HaveAllEntries, LacksEntries, ReachesIndexes, ReachesNoIndexes};
 ghost use Rattle.rs_attr.specs.Tables.{AreOn};
 ghost use Rattle.rs_pages.specs.Calls.{OnlyReads};
 ghost use Rattle.rs_page_marks.specs.Marks.{taken};
@@ -29,7 +30,11 @@ use rs_refusal::Refusal;
 use rs_value::row_width;
 use rs_versioned::event::EVENT_BYTES;
 use rs_versioned::{EventTable, RouteSpan, ToldRecords};
-use std::alloc::Global;
+use std::alloc::{AllocError, Global};
+
+/// How many bytes of cells wait at the most before their entries are looked for, but for those of the last part. Putting them in
+/// order takes some four times as many.
+const MOST_WAITING: usize = 0x20_0000;
 
 /// The table that lies in a file already, beside its indexes; their pages are marked. Ok exactly where it lies there as it was
 /// told, with the indexes of its cells, in pages none of which was reached before, and the version that was accepted last has just
@@ -55,14 +60,18 @@ pub fn open<P: Pages>(
     let width = row_width(&told.schema) + EVENT_BYTES;
     let mut opening = Opening::<GreatestEnd>::begin(alloc, pages, width, &told.records, reached)?;
     reach_indexes(pages, indexes, told.records, reached)?;
+    let mut waiting = Cells::new(alloc, width);
     let mut route = None;
     for next in routes {
         let cells = opening.part(alloc, pages, &beginning(*next))?;
-        check_part(alloc, pages, &told, indexes, route, &cells)?;
+        check_events(alloc, &told, route, &cells)?;
+        gather(alloc, pages, indexes, &cells, &mut waiting)?;
         route = Some(*next);
     }
     let (versions, left) = opening.finish(alloc, pages)?;
-    check_part(alloc, pages, &told, indexes, route, &left)?;
+    check_events(alloc, &told, route, &left)?;
+    put_after(&mut waiting, &left)?;
+    check_all(alloc, pages, indexes, &waiting)?;
     Ok(EventTable::with(told.schema, versions))
 }
 
@@ -99,27 +108,66 @@ fn reach_indexes<P: Pages>(
     Ok(())
 }
 
-/// Ok where each of the cells says an event and has its entry in each index, and those that the accepted version sees are on this
-/// route, where there is one, and are the maximal runs of their facts. It is refused with 90, with 91, and with 94 only where this
-/// isn't so. No page changes.
-fn check_part<P: Pages>(
+/// Puts the cells after those that wait. Where these are many then, their entries are looked for in each index, and none waits
+/// any longer. It is refused with 90, with 91, and with 94 only where one of them has no entry in an index. No page changes.
+fn gather<P: Pages>(
     alloc: Global,
     pages: &mut P,
-    told: &ToldTable,
     indexes: &[AttrIndex],
-    route: Option<RouteSpan>,
+    cells: &Cells,
+    waiting: &mut Cells,
+) -> Result<(), Refusal>
+    requires width { record_width cells.now ≡ record_width waiting.old }
+    requires indexes { AllByRecursion (λ index. index.field.cell_width ≡ record_width waiting.old) indexes.now }
+    ensures rests { OnlyReads P.Pages result pages.old pages.new }
+    ensures width { record_width waiting.new ≡ record_width waiting.old }
+    ensures entered { P.is_tied pages.old → OnOk result (HaveAllEntries (P.store pages.old).map indexes.now (listed waiting.new)
+        → HaveAllEntries (P.store pages.old).map indexes.now (listed waiting.old ++ listed cells.now)) }
+    ensures among { OnOk result ((all : List (List ℕ)) → AllByRecursion (Contains all) (listed waiting.old ++ listed cells.now)
+        → AllByRecursion (Contains all) (listed waiting.new)) }
+    ensures refused { IfErr result (λ why. (why ≡ Refusal.OutOfMemory) ⊎ (why ≡ Refusal.Disk) ⊎ (why ≡ Refusal.DamagedFile)) }
+    ensures damaged { P.is_tied pages.old → result ≡ Err Refusal.DamagedFile → AreNotEntered (P.store pages.old).map indexes.now
+        (listed waiting.old ++ listed cells.now) }
+{
+    if indexes.is_empty() {
+        return Ok(());
+    }
+    put_after(waiting, cells)?;
+    if waiting.len() < MOST_WAITING / waiting.width() {
+        return Ok(());
+    }
+    check_all(alloc, pages, indexes, waiting)?;
+    *waiting = Cells::new(alloc, waiting.width());
+    Ok(())
+}
+
+/// Puts the cells after the others.
+fn put_after(others: &mut Cells, cells: &Cells) -> Result<(), AllocError>
+    requires { record_width cells.now ≡ record_width others.old }
+    ensures all { OnOk result (listed others.new ≡ listed others.old ++ listed cells.now) }
+    ensures width { record_width others.new ≡ record_width others.old }
+{
+    for place in 0..cells.len() {
+        others.push(cells.get(place))?;
+    }
+    Ok(())
+}
+
+/// Ok where each of the cells has its entry in each index. It is refused with 90, with 91, and with 94 only where one of them has
+/// none in one of these. No page changes.
+fn check_all<P: Pages>(
+    alloc: Global,
+    pages: &mut P,
+    indexes: &[AttrIndex],
     cells: &Cells,
 ) -> Result<(), Refusal>
-    requires width { record_width cells.now ≡ event_width told.now.schema.items }
-    requires indexes { AreOn told.now.schema.items indexes.now }
+    requires indexes { AllByRecursion (λ index. index.field.cell_width ≡ record_width cells.now) indexes.now }
     ensures rests { OnlyReads P.Pages result pages.old pages.new }
     ensures entered { P.is_tied pages.old → OnOk result (HaveAllEntries (P.store pages.old).map indexes.now (listed cells.now)) }
-    ensures meant { OnOk result (SayMeant told.now route (listed cells.now)) }
     ensures refused { IfErr result (λ why. (why ≡ Refusal.OutOfMemory) ⊎ (why ≡ Refusal.Disk) ⊎ (why ≡ Refusal.DamagedFile)) }
-    ensures damaged { P.is_tied pages.old → result ≡ Err Refusal.DamagedFile → AreNoPart told.now route
-        (P.store pages.old).map indexes.now (listed cells.now) }
+    ensures damaged { P.is_tied pages.old → result ≡ Err Refusal.DamagedFile → AreNotEntered (P.store pages.old).map indexes.now
+        (listed cells.now) }
 {
-    check_events(alloc, told, route, cells)?;
     for index in indexes {
         index.check_entries(alloc, pages, cells)?;
     }
@@ -147,7 +195,7 @@ impl AttrIndex {
         self.check_each(alloc, pages, &ordered)
     }
 
-    /// Ok where each of the cells has its entry in the index. It is refused as `check_entries` is.
+    /// The same in the order in which they are.
     fn check_each<P: Pages>(
         &self,
         alloc: Global,

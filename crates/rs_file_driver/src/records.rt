@@ -1,6 +1,6 @@
 //! Says the records of a file that the version sees that was accepted last: referents, and spans in printing order.
 
-ghost use Rattle.std.specs.Prelude.{◌≡◌, ◌≤◌, ◌<◌, ◌+◌, ◌^◌, length};
+ghost use Rattle.std.specs.Prelude.{◌≡◌, ◌≤◌, length};
 ghost use Rattle.rs_pages.specs.declared.pages.TheConstants.{GREATEST_LIMIT, LEAST_LIMIT};
 ghost use Rattle.rs_records.specs.Listed.{record_width};
 ghost use Rattle.rs_versioned.specs.Events.{event_width};
@@ -69,25 +69,24 @@ fn push_all_referents<P: Pages>(
             number: route.number,
             version: file.accepted,
         };
-        if route.number == u32::MAX {
-            return Err(Refusal::DamagedFile);
-        }
         push_referents(alloc, pages, &file.referents, route, text)?;
     }
     Ok(())
 }
 
-/// Appends a line for each referent of a route.
+/// Appends a line for each referent of a route. The greatest number is no route's.
 fn push_referents<P: Pages>(
     alloc: Global,
     pages: &mut P,
     referents: &ReferentTable,
     route: Route<'_>,
     text: &mut String,
-) -> Result<(), Refusal>
-    requires number { route.number + 1 < 2 ^ 32 }
-{
-    let cells = referents.visible(alloc, pages, route.version, route.number)?;
+) -> Result<(), Refusal> {
+    let number = route.number;
+    if number == u32::MAX {
+        return Err(Refusal::DamagedFile);
+    }
+    let cells = referents.visible(alloc, pages, route.version, number)?;
     push_named(&cells, route.name, text)?;
     Ok(())
 }

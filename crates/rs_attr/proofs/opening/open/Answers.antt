@@ -1,12 +1,13 @@
 -- The trees, then the cells route by route, and at last those that are left.
-use Rattle.std.proofs.Common.{◌≡◌, ◌≤◌, ◌∙◌, ◌+◌, ℕ, get_or, Result, Ok, Err, List, not, refl, sym, ap, subst, arith}
+use Rattle.std.proofs.Common.{◌≡◌, ◌≤◌, ◌∙◌, ◌+◌, ◌++◌, ◌⊎◌, ℕ, Option, get_or, Result, Ok, Err, List, not, refl, sym, ap, subst, inl, inr, arith}
 use Rattle.std.proofs.lemmas.Result.{err_from_is_err_and}
-use Rattle.std.specs.List.{AllByRecursion}
+use Rattle.std.specs.List.{AllByRecursion, Contains}
 use Rattle.rs_attr.specs.Calls.{IsFound}
-use Rattle.rs_attr.specs.Opening.{OpensNoTable, OpensTable}
+use Rattle.rs_attr.specs.Meant.{SayMeant}
+use Rattle.rs_attr.specs.Opening.{HaveAllEntries, OpensNoTable, OpensTable}
 use Rattle.rs_attr.specs.Tables.{IndexState}
-use Rattle.rs_attr.proofs.Opened.{below_all, below_next, below_none, found_back, meant_all, meant_next, meant_none, no_fresh_table, no_indexes_table, no_part_table, no_told_table, opens_table, otherwise_as, passed_as, passed_then, stands_back, told_so}
-use Rattle.rs_attr.proofs.PartsChecked.{all_entries_back, no_part_back}
+use Rattle.rs_attr.proofs.Opened.{AreAmong, below_all, below_next, below_none, both_among, found_back, meant_all, meant_next, meant_none, no_entered_table, no_fresh_table, no_indexes_table, no_meant_table, no_told_table, opens_table, otherwise_as, passed_as, passed_then, stands_back, told_so}
+use Rattle.rs_attr.proofs.PartsChecked.{all_entries_back, first_entered, not_entered_back, second_entered}
 use Rattle.rs_attr.proofs.Routes.{order_at, part_left, part_within, read_at}
 use Rattle.rs_attr.specs.declared.told.ToldTable.{ToldTable}
 use Rattle.rs_versioned.specs.declared.route_span.RouteSpan.{RouteSpan}
@@ -18,6 +19,7 @@ use Rattle.rs_page_marks.specs.Marks.{taken}
 use Rattle.rs_records.specs.Listed.{listed}
 use Rattle.rs_records.specs.Order.{is_below}
 use Rattle.rs_tree.specs.Cells.{cells_within, is_within}
+use Rattle.rs_tree_whole.proofs.Entries.{same_back}
 use Rattle.rs_tree_whole.specs.Validating.{HasNoFreshTree, Validates}
 use Rattle.rs_pages.proofs.Resting.{rests_then}
 use Rattle.rs_versioned.specs.Tables.{EventTableState}
@@ -26,7 +28,7 @@ use Rattle.rs_cell_versions.specs.Opening.{Told, told_of}
 use Rattle.rs_cell_versions.specs.Version.{died_of}
 use Rattle.rs_cell_versions.specs.Versioned.{Standing}
 use Rattle.rs_cell_versions.proofs.Looks.{cells_from, passed_same}
-use Rattle.rs_cell_versions.proofs.Refusing.{rests_err, rests_ok}
+use Rattle.rs_cell_versions.proofs.Refusing.{rests_err, rests_ok, rests_refused}
 use Rattle.rs_attr.proofs.opening.open.Goals as goal
 
 -- no route is read in place of it
@@ -38,6 +40,17 @@ refused_open : {pages : PageMap} {told : ToldTable} {indexes : List IndexState} 
     → result ≡ Err why → (result ≡ Err refusal.DamagedFile → OpensNoTable pages told indexes routes before) → IsFound pages told indexes routes before after result
 refused_open (Ok table) why same damaged = let clash : Ok table ≡ Err why = same in absurd (cc)
 refused_open (Err other) why same damaged = record { opens = tt; damaged = damaged }
+
+-- neither of these is a fault of the disk
+no_fault : {X : Type 0} (why : Refusal) → (why ≡ refusal.OutOfMemory) ⊎ ((why ≡ refusal.DamagedFile) × X) → why ≡ refusal.Disk → ⊥
+no_fault why (inl memory) fault = let clash : refusal.OutOfMemory ≡ refusal.Disk = sym memory ∙ fault in absurd (cc)
+no_fault why (inr damaged) fault = let clash : refusal.DamagedFile ≡ refusal.Disk = sym damaged.0 ∙ fault in absurd (cc)
+
+-- damage that was found says that they are not meant
+not_meant : {told : ToldTable} {route : Option RouteSpan} {cells : List (List ℕ)} (why : Refusal) → why ≡ refusal.DamagedFile
+    → (why ≡ refusal.OutOfMemory) ⊎ ((why ≡ refusal.DamagedFile) × (SayMeant told route cells → ⊥)) → SayMeant told route cells → ⊥
+not_meant why is (inl memory) = let clash : refusal.OutOfMemory ≡ refusal.DamagedFile = sym memory ∙ is in absurd (cc)
+not_meant why is (inr damaged) = damaged.1
 
 pub returns-in_err-opening-clause-opens : goal.returns-in_err-opening-clause-opens
 returns-in_err-opening-clause-opens g c = λ tied.
@@ -71,7 +84,9 @@ loop-next-init g c =
           c.in_ok-opening.ensures.rests c.in_ok-reach_indexes.ensures.rests;
       told = told_so c.args.told.schema.items c.args.told.records (c.row_width-width.result + 28) c.in_ok-opening.opening.told c.in_ok-opening.ensures.told (ap (λ (n : ℕ). n + 28) c.row_width-width.ensures);
       passed = λ tied. passed_as old (record (told_of (event_width c.args.told.schema.items) c.args.told.records) { width = c.row_width-width.result + 28 }) c.in_ok-opening.opening c.in_ok-opening.ensures.told (c.in_ok-opening.ensures.passed old);
-      below = λ tied. below_none old c.args.indexes.now c.args.told c.args.routes.now c.in_ok-opening.opening.low c.in_ok-opening.ensures.low;
+      wide = c.new-waiting.ensures.width ∙ ap (λ (n : ℕ). n + 28) c.row_width-width.ensures;
+      among = λ tied. record { each = λ cells used tree. subst (AllByRecursion (Contains cells)) (sym c.new-waiting.ensures.none) tt };
+      below = λ tied have. below_none old c.args.indexes.now c.args.told c.args.routes.now c.in_ok-opening.opening.low c.in_ok-opening.ensures.low;
       at = (refl, c.in_ok-opening.ensures.low);
       meant = λ tied. meant_none c.args.told c.args.routes.now old c.in_ok-opening.opening.low c.in_ok-opening.ensures.low;
     }
@@ -97,39 +112,70 @@ returns-in_err-cells-clause-opens g c = λ tied.
     (otherwise_as old mid same opening.told (told_of (event_width c.args.told.schema.items) c.args.told.records) c.loop-next.invariant.told
     (c.in_err-cells.ensures.damaged later (ap Err why) (passed_same (event_form opening.told.width) old mid same opening (c.loop-next.invariant.passed tied)))))
 
-pub check_part-requires-clause-width : goal.check_part-requires-clause-width
-check_part-requires-clause-width g c = c.in_ok-cells.ensures.width ∙ ap (λ (t : Told). t.width) c.loop-next.invariant.told
+pub check_events-requires : goal.check_events-requires
+check_events-requires g c = record { width = c.in_ok-cells.ensures.width ∙ ap (λ (t : Told). t.width) c.loop-next.invariant.told }
 
-pub returns-in_err-check_part-clause-rests : goal.returns-in_err-check_part-clause-rests
-returns-in_err-check_part-clause-rests g c =
-    let p = err_from_is_err_and c.from_residual-in_err-check_part.result c.from_residual-in_err-check_part.ensures.1 in
-    rw (p.1, p.2) (rests_err g.P.Pages.is_tied g.P.Pages.store g.P.Pages.keeps c.in_err-check_part.field-0.0 c.args.pages.now c.check_part.new.pages
-    (rests_then g.P.Pages.is_tied g.P.Pages.store g.P.Pages.keeps tt (Err c.in_err-check_part.field-0.0) c.args.pages.now c.loop-next.pages c.check_part.new.pages g.met.P.Pages.keeps_trans g.met.P.Pages.keeps_tied
+pub returns-in_err-check_events-clause-rests : goal.returns-in_err-check_events-clause-rests
+returns-in_err-check_events-clause-rests g c =
+    let p = err_from_is_err_and c.from_residual-in_err-check_events.result c.from_residual-in_err-check_events.ensures.1 in
+    rw (p.1, p.2) (rests_refused g.P.Pages.is_tied g.P.Pages.store g.P.Pages.keeps c.in_ok-cells.cells c.in_err-check_events.field-0.0 c.args.pages.now c.part.new.pages
+    (no_fault c.in_err-check_events.field-0.0 c.in_err-check_events.ensures.refused)
+    (rests_then g.P.Pages.is_tied g.P.Pages.store g.P.Pages.keeps tt (Ok c.in_ok-cells.cells) c.args.pages.now c.loop-next.pages c.part.new.pages g.met.P.Pages.keeps_trans g.met.P.Pages.keeps_tied
+    c.loop-next.invariant.rests c.in_ok-cells.ensures.rests))
+
+pub returns-in_err-check_events-clause-opens : goal.returns-in_err-check_events-clause-opens
+returns-in_err-check_events-clause-opens g c = λ tied.
+    let old = (g.P.Pages.store c.args.pages.now).map in
+    let mid = (g.P.Pages.store c.loop-next.pages).map in
+    let opening = c.loop-next.opening in
+    let later = g.met.P.Pages.keeps_tied c.args.pages.now c.loop-next.pages c.loop-next.invariant.rests.below tied in
+    let same = c.loop-next.invariant.rests.rests.keeps.pages tied in
+    let p = err_from_is_err_and c.from_residual-in_err-check_events.result c.from_residual-in_err-check_events.ensures.1 in
+    let high : List ℕ = c.beginning.result in
+    let next = get_or c.args.routes.now c.loop-next.next-index none in
+    let there = read_at c.args.routes.now c.loop-next.next-index none c.loop-next-test.true in
+    refused_open c.from_residual-in_err-check_events.result p.0 p.1 (λ is.
+    let why : c.in_err-check_events.field-0.0 ≡ refusal.DamagedFile = cc (p.1, p.2, is) in
+    no_meant_table old c.args.indexes.now c.args.told c.args.routes.now (taken c.args.reached.now) c.loop-next.route (is_within opening.low high) (listed c.in_ok-cells.cells)
+    (part_within c.args.told.schema.items c.args.routes.now c.requires.rising c.loop-next.next-index next there c.beginning.ensures.fits high c.beginning.ensures.bytes c.loop-next.route opening.low c.loop-next.invariant.at)
+    (found_back old mid same opening.told (told_of (event_width c.args.told.schema.items) c.args.told.records) c.loop-next.invariant.told (cells_within opening.low high) (listed c.in_ok-cells.cells) (c.in_ok-cells.ensures.found later))
+    (not_meant c.in_err-check_events.field-0.0 why c.in_err-check_events.ensures.refused))
+
+pub gather-requires : goal.gather-requires
+gather-requires g c = record {
+  width = c.in_ok-cells.ensures.width ∙ ap (λ (t : Told). t.width) c.loop-next.invariant.told ∙ sym c.loop-next.invariant.wide;
+  indexes = subst (λ (w : ℕ). AllByRecursion (λ (index : IndexState). index.field.cell_width ≡ w) c.args.indexes.now) (sym c.loop-next.invariant.wide) c.requires.indexes;
+}
+
+pub returns-in_err-gather-clause-rests : goal.returns-in_err-gather-clause-rests
+returns-in_err-gather-clause-rests g c =
+    let p = err_from_is_err_and c.from_residual-in_err-gather.result c.from_residual-in_err-gather.ensures.1 in
+    rw (p.1, p.2) (rests_err g.P.Pages.is_tied g.P.Pages.store g.P.Pages.keeps c.in_err-gather.field-0.0 c.args.pages.now c.gather.new.pages
+    (rests_then g.P.Pages.is_tied g.P.Pages.store g.P.Pages.keeps tt (Err c.in_err-gather.field-0.0) c.args.pages.now c.loop-next.pages c.gather.new.pages g.met.P.Pages.keeps_trans g.met.P.Pages.keeps_tied
     c.loop-next.invariant.rests
-    (rests_then g.P.Pages.is_tied g.P.Pages.store g.P.Pages.keeps c.in_ok-cells.cells (Err c.in_err-check_part.field-0.0) c.loop-next.pages c.part.new.pages c.check_part.new.pages g.met.P.Pages.keeps_trans
-    g.met.P.Pages.keeps_tied c.in_ok-cells.ensures.rests c.in_err-check_part.ensures.rests)))
+    (rests_then g.P.Pages.is_tied g.P.Pages.store g.P.Pages.keeps c.in_ok-cells.cells (Err c.in_err-gather.field-0.0) c.loop-next.pages c.part.new.pages c.gather.new.pages g.met.P.Pages.keeps_trans
+    g.met.P.Pages.keeps_tied c.in_ok-cells.ensures.rests c.in_err-gather.ensures.rests)))
 
-pub returns-in_err-check_part-clause-opens : goal.returns-in_err-check_part-clause-opens
-returns-in_err-check_part-clause-opens g c = λ tied.
+pub returns-in_err-gather-clause-opens : goal.returns-in_err-gather-clause-opens
+returns-in_err-gather-clause-opens g c = λ tied.
     let old = (g.P.Pages.store c.args.pages.now).map in
     let mid = (g.P.Pages.store c.loop-next.pages).map in
     let last = (g.P.Pages.store c.part.new.pages).map in
+    let told = c.args.told in
     let opening = c.loop-next.opening in
     let later = g.met.P.Pages.keeps_tied c.args.pages.now c.loop-next.pages c.loop-next.invariant.rests.below tied in
     let same = c.loop-next.invariant.rests.rests.keeps.pages tied in
     let upto = rests_then g.P.Pages.is_tied g.P.Pages.store g.P.Pages.keeps tt (Ok c.in_ok-cells.cells) c.args.pages.now c.loop-next.pages c.part.new.pages g.met.P.Pages.keeps_trans g.met.P.Pages.keeps_tied
     c.loop-next.invariant.rests c.in_ok-cells.ensures.rests in
-    let p = err_from_is_err_and c.from_residual-in_err-check_part.result c.from_residual-in_err-check_part.ensures.1 in
+    let p = err_from_is_err_and c.from_residual-in_err-gather.result c.from_residual-in_err-gather.ensures.1 in
     let high : List ℕ = c.beginning.result in
-    let next = get_or c.args.routes.now c.loop-next.next-index none in
-    let there = read_at c.args.routes.now c.loop-next.next-index none c.loop-next-test.true in
-    refused_open c.from_residual-in_err-check_part.result p.0 p.1 (λ is.
-    let why : c.in_err-check_part.field-0.0 ≡ refusal.DamagedFile = cc (p.1, p.2, is) in
-    no_part_table old c.args.indexes.now c.args.told c.args.routes.now (taken c.args.reached.now) c.loop-next.route (is_within opening.low high) (listed c.in_ok-cells.cells)
-    (part_within c.args.told.schema.items c.args.routes.now c.requires.rising c.loop-next.next-index next there c.beginning.ensures.fits high c.beginning.ensures.bytes c.loop-next.route opening.low c.loop-next.invariant.at)
-    (found_back old mid same opening.told (told_of (event_width c.args.told.schema.items) c.args.told.records) c.loop-next.invariant.told (cells_within opening.low high) (listed c.in_ok-cells.cells) (c.in_ok-cells.ensures.found later))
-    (no_part_back old last (upto.rests.keeps.pages tied) c.args.told c.loop-next.route c.args.indexes.now (listed c.in_ok-cells.cells)
-    (c.in_err-check_part.ensures.damaged (g.met.P.Pages.keeps_tied c.args.pages.now c.part.new.pages upto.below tied) (ap Err why))))
+    refused_open c.from_residual-in_err-gather.result p.0 p.1 (λ is.
+    let why : c.in_err-gather.field-0.0 ≡ refusal.DamagedFile = cc (p.1, p.2, is) in
+    no_entered_table old c.args.indexes.now told c.args.routes.now (taken c.args.reached.now) (listed c.loop-next.waiting ++ listed c.in_ok-cells.cells)
+    (both_among told.schema.items old told.records (is_within opening.low high) (listed c.loop-next.waiting) (listed c.in_ok-cells.cells) (c.loop-next.invariant.among tied)
+    (found_back old mid same opening.told (told_of (event_width told.schema.items) told.records) c.loop-next.invariant.told (cells_within opening.low high) (listed c.in_ok-cells.cells) (c.in_ok-cells.ensures.found later)))
+    (not_entered_back old last (upto.rests.keeps.pages tied) c.args.indexes.now (listed c.loop-next.waiting ++ listed c.in_ok-cells.cells)
+    (c.in_err-gather.ensures.damaged (g.met.P.Pages.keeps_tied c.args.pages.now c.part.new.pages upto.below tied) (ap Err why))))
 
 pub part-requires : goal.part-requires
 part-requires g c =
@@ -153,8 +199,8 @@ loop-next-preserved g c =
     let upto = rests_then g.P.Pages.is_tied g.P.Pages.store g.P.Pages.keeps tt (Ok c.in_ok-cells.cells) c.args.pages.now c.loop-next.pages c.part.new.pages g.met.P.Pages.keeps_trans g.met.P.Pages.keeps_tied
     c.loop-next.invariant.rests c.in_ok-cells.ensures.rests in
     record {
-      rests = rests_then g.P.Pages.is_tied g.P.Pages.store g.P.Pages.keeps c.in_ok-cells.cells (Ok tt) c.args.pages.now c.part.new.pages c.check_part.new.pages g.met.P.Pages.keeps_trans g.met.P.Pages.keeps_tied
-          upto c.in_ok-check_part.ensures.rests;
+      rests = rests_then g.P.Pages.is_tied g.P.Pages.store g.P.Pages.keeps c.in_ok-cells.cells (Ok tt) c.args.pages.now c.part.new.pages c.gather.new.pages g.met.P.Pages.keeps_trans g.met.P.Pages.keeps_tied
+          upto c.in_ok-gather.ensures.rests;
       told = c.in_ok-cells.ensures.told ∙ c.loop-next.invariant.told;
       passed = λ tied.
           let later = g.met.P.Pages.keeps_tied c.args.pages.now c.loop-next.pages c.loop-next.invariant.rests.below tied in
@@ -162,21 +208,32 @@ loop-next-preserved g c =
           passed_then old mid same opening.told c.part.new.self c.in_ok-cells.ensures.told
           (c.in_ok-cells.ensures.passed later (passed_same (event_form opening.told.width) old mid same opening (c.loop-next.invariant.passed tied)));
       at = record { before = c.loop-next.next-index; next = omega arith; there = there; fits = c.beginning.ensures.fits; bytes = c.in_ok-cells.ensures.low ∙ c.beginning.ensures.bytes };
-      below = λ tied.
+      wide = c.in_ok-gather.ensures.width ∙ c.loop-next.invariant.wide;
+      among = λ tied.
           let later = g.met.P.Pages.keeps_tied c.args.pages.now c.loop-next.pages c.loop-next.invariant.rests.below tied in
           let same = c.loop-next.invariant.rests.rests.keeps.pages tied in
+          let both = both_among told.schema.items old told.records (is_within opening.low high) (listed c.loop-next.waiting) (listed c.in_ok-cells.cells) (c.loop-next.invariant.among tied)
+          (found_back old mid same opening.told (told_of (event_width told.schema.items) told.records) c.loop-next.invariant.told (cells_within opening.low high) (listed c.in_ok-cells.cells) (c.in_ok-cells.ensures.found later)) in
+          record { each = λ cells used tree. c.in_ok-gather.ensures.among cells (both.each cells used tree) };
+      below = λ tied have.
+          let later = g.met.P.Pages.keeps_tied c.args.pages.now c.loop-next.pages c.loop-next.invariant.rests.below tied in
+          let same = c.loop-next.invariant.rests.rests.keeps.pages tied in
+          let last = (g.P.Pages.store c.part.new.pages).map in
+          let now = upto.rests.keeps.pages tied in
+          let entered = all_entries_back old last now c.args.indexes.now (listed c.loop-next.waiting ++ listed c.in_ok-cells.cells)
+          (c.in_ok-gather.ensures.entered (g.met.P.Pages.keeps_tied c.args.pages.now c.part.new.pages upto.below tied)
+          (all_entries_back last old (same_back last old now) c.args.indexes.now (listed c.gather.new.waiting) have)) in
           below_next old c.args.indexes.now told routes opening.low high c.part.new.self.low (listed c.in_ok-cells.cells) order
-          (c.loop-next.invariant.below tied)
+          (c.loop-next.invariant.below tied (first_entered old c.args.indexes.now (listed c.loop-next.waiting) (listed c.in_ok-cells.cells) entered))
           (found_back old mid same opening.told (told_of (event_width told.schema.items) told.records) c.loop-next.invariant.told (cells_within opening.low high) (listed c.in_ok-cells.cells) (c.in_ok-cells.ensures.found later))
-          (all_entries_back old (g.P.Pages.store c.part.new.pages).map (upto.rests.keeps.pages tied) c.args.indexes.now (listed c.in_ok-cells.cells)
-          (c.in_ok-check_part.ensures.entered (g.met.P.Pages.keeps_tied c.args.pages.now c.part.new.pages upto.below tied)))
+          (second_entered old c.args.indexes.now (listed c.loop-next.waiting) (listed c.in_ok-cells.cells) entered)
           c.in_ok-cells.ensures.low;
       meant = λ tied.
           let later = g.met.P.Pages.keeps_tied c.args.pages.now c.loop-next.pages c.loop-next.invariant.rests.below tied in
           let same = c.loop-next.invariant.rests.rests.keeps.pages tied in
           meant_next told routes old c.loop-next.next-index c.loop-next.route opening.low c.loop-next.invariant.at (c.loop-next.invariant.meant tied) high c.part.new.self.low (listed c.in_ok-cells.cells) order
           (found_back old mid same opening.told (told_of (event_width told.schema.items) told.records) c.loop-next.invariant.told (cells_within opening.low high) (listed c.in_ok-cells.cells) (c.in_ok-cells.ensures.found later))
-          c.in_ok-check_part.ensures.meant c.in_ok-cells.ensures.low;
+          c.in_ok-check_events.ensures.meant c.in_ok-cells.ensures.low;
     }
 
 pub returns-in_err-versions-clause-rests : goal.returns-in_err-versions-clause-rests
@@ -200,47 +257,87 @@ returns-in_err-versions-clause-opens g c = λ tied.
     (otherwise_as old mid same opening.told (told_of (event_width c.args.told.schema.items) c.args.told.records) c.loop-next.invariant.told
     (c.in_err-versions.ensures.damaged later (ap Err why) (passed_same (event_form opening.told.width) old mid same opening (c.loop-next.invariant.passed tied)))))
 
-pub check_part-requires-2-clause-width : goal.check_part-requires-2-clause-width
-check_part-requires-2-clause-width g c = c.in_ok-versions.ensures.left_width ∙ ap (λ (t : Told). t.width) c.loop-next.invariant.told
+pub check_events-requires-2 : goal.check_events-requires-2
+check_events-requires-2 g c = record { width = c.in_ok-versions.ensures.left_width ∙ ap (λ (t : Told). t.width) c.loop-next.invariant.told }
 
-pub returns-in_err-check_part-2-clause-rests : goal.returns-in_err-check_part-2-clause-rests
-returns-in_err-check_part-2-clause-rests g c =
-    let p = err_from_is_err_and c.from_residual-in_err-check_part-2.result c.from_residual-in_err-check_part-2.ensures.1 in
-    rw (p.1, p.2) (rests_err g.P.Pages.is_tied g.P.Pages.store g.P.Pages.keeps c.in_err-check_part-2.field-0.0 c.args.pages.now c.check_part-2.new.pages
-    (rests_then g.P.Pages.is_tied g.P.Pages.store g.P.Pages.keeps tt (Err c.in_err-check_part-2.field-0.0) c.args.pages.now c.loop-next.pages c.check_part-2.new.pages g.met.P.Pages.keeps_trans g.met.P.Pages.keeps_tied
+pub returns-in_err-check_events-2-clause-rests : goal.returns-in_err-check_events-2-clause-rests
+returns-in_err-check_events-2-clause-rests g c =
+    let p = err_from_is_err_and c.from_residual-in_err-check_events-2.result c.from_residual-in_err-check_events-2.ensures.1 in
+    rw (p.1, p.2) (rests_refused g.P.Pages.is_tied g.P.Pages.store g.P.Pages.keeps (c.in_ok-versions.versions, c.in_ok-versions.left) c.in_err-check_events-2.field-0.0 c.args.pages.now c.finish.new.pages
+    (no_fault c.in_err-check_events-2.field-0.0 c.in_err-check_events-2.ensures.refused)
+    (rests_then g.P.Pages.is_tied g.P.Pages.store g.P.Pages.keeps tt (Ok (c.in_ok-versions.versions, c.in_ok-versions.left)) c.args.pages.now c.loop-next.pages c.finish.new.pages g.met.P.Pages.keeps_trans g.met.P.Pages.keeps_tied
+    c.loop-next.invariant.rests c.in_ok-versions.ensures.rests))
+
+pub returns-in_err-check_events-2-clause-opens : goal.returns-in_err-check_events-2-clause-opens
+returns-in_err-check_events-2-clause-opens g c = λ tied.
+    let old = (g.P.Pages.store c.args.pages.now).map in
+    let mid = (g.P.Pages.store c.loop-next.pages).map in
+    let opening = c.loop-next.opening in
+    let later = g.met.P.Pages.keeps_tied c.args.pages.now c.loop-next.pages c.loop-next.invariant.rests.below tied in
+    let same = c.loop-next.invariant.rests.rests.keeps.pages tied in
+    let p = err_from_is_err_and c.from_residual-in_err-check_events-2.result c.from_residual-in_err-check_events-2.ensures.1 in
+    refused_open c.from_residual-in_err-check_events-2.result p.0 p.1 (λ is.
+    let why : c.in_err-check_events-2.field-0.0 ≡ refusal.DamagedFile = cc (p.1, p.2, is) in
+    no_meant_table old c.args.indexes.now c.args.told c.args.routes.now (taken c.args.reached.now) c.loop-next.route (λ (cell : List ℕ). not (is_below cell opening.low)) (listed c.in_ok-versions.left)
+    (part_left c.args.told.schema.items c.args.routes.now c.requires.rising c.loop-next.next-index c.loop-next.route opening.low (omega arith) c.loop-next.invariant.at)
+    (found_back old mid same opening.told (told_of (event_width c.args.told.schema.items) c.args.told.records) c.loop-next.invariant.told (cells_from opening.low) (listed c.in_ok-versions.left) (c.in_ok-versions.ensures.left later))
+    (not_meant c.in_err-check_events-2.field-0.0 why c.in_err-check_events-2.ensures.refused))
+
+pub put_after-requires : goal.put_after-requires
+put_after-requires g c = c.in_ok-versions.ensures.left_width ∙ ap (λ (t : Told). t.width) c.loop-next.invariant.told ∙ sym c.loop-next.invariant.wide
+
+pub returns-in_err-put_after-clause-rests : goal.returns-in_err-put_after-clause-rests
+returns-in_err-put_after-clause-rests g c =
+    let p = err_from_is_err_and c.from_residual-in_err-put_after.result c.from_residual-in_err-put_after.ensures.1 in
+    rw (p.1, p.2) (rests_refused g.P.Pages.is_tied g.P.Pages.store g.P.Pages.keeps (c.in_ok-versions.versions, c.in_ok-versions.left) refusal.OutOfMemory c.args.pages.now c.finish.new.pages (λ is. cc)
+    (rests_then g.P.Pages.is_tied g.P.Pages.store g.P.Pages.keeps tt (Ok (c.in_ok-versions.versions, c.in_ok-versions.left)) c.args.pages.now c.loop-next.pages c.finish.new.pages g.met.P.Pages.keeps_trans g.met.P.Pages.keeps_tied
+    c.loop-next.invariant.rests c.in_ok-versions.ensures.rests))
+
+pub check_all-requires : goal.check_all-requires
+check_all-requires g c = record {
+  indexes = subst (λ (w : ℕ). AllByRecursion (λ (index : IndexState). index.field.cell_width ≡ w) c.args.indexes.now) (sym (c.in_ok-put_after.ensures.width ∙ c.loop-next.invariant.wide)) c.requires.indexes;
+}
+
+pub returns-in_err-check_all-clause-rests : goal.returns-in_err-check_all-clause-rests
+returns-in_err-check_all-clause-rests g c =
+    let p = err_from_is_err_and c.from_residual-in_err-check_all.result c.from_residual-in_err-check_all.ensures.1 in
+    rw (p.1, p.2) (rests_err g.P.Pages.is_tied g.P.Pages.store g.P.Pages.keeps c.in_err-check_all.field-0.0 c.args.pages.now c.check_all.new.pages
+    (rests_then g.P.Pages.is_tied g.P.Pages.store g.P.Pages.keeps tt (Err c.in_err-check_all.field-0.0) c.args.pages.now c.loop-next.pages c.check_all.new.pages g.met.P.Pages.keeps_trans g.met.P.Pages.keeps_tied
     c.loop-next.invariant.rests
-    (rests_then g.P.Pages.is_tied g.P.Pages.store g.P.Pages.keeps (c.in_ok-versions.versions, c.in_ok-versions.left) (Err c.in_err-check_part-2.field-0.0) c.loop-next.pages c.finish.new.pages c.check_part-2.new.pages
-    g.met.P.Pages.keeps_trans g.met.P.Pages.keeps_tied c.in_ok-versions.ensures.rests c.in_err-check_part-2.ensures.rests)))
+    (rests_then g.P.Pages.is_tied g.P.Pages.store g.P.Pages.keeps (c.in_ok-versions.versions, c.in_ok-versions.left) (Err c.in_err-check_all.field-0.0) c.loop-next.pages c.finish.new.pages c.check_all.new.pages
+    g.met.P.Pages.keeps_trans g.met.P.Pages.keeps_tied c.in_ok-versions.ensures.rests c.in_err-check_all.ensures.rests)))
 
-pub returns-in_err-check_part-2-clause-opens : goal.returns-in_err-check_part-2-clause-opens
-returns-in_err-check_part-2-clause-opens g c = λ tied.
+pub returns-in_err-check_all-clause-opens : goal.returns-in_err-check_all-clause-opens
+returns-in_err-check_all-clause-opens g c = λ tied.
     let old = (g.P.Pages.store c.args.pages.now).map in
     let mid = (g.P.Pages.store c.loop-next.pages).map in
     let last = (g.P.Pages.store c.finish.new.pages).map in
+    let told = c.args.told in
     let opening = c.loop-next.opening in
     let later = g.met.P.Pages.keeps_tied c.args.pages.now c.loop-next.pages c.loop-next.invariant.rests.below tied in
     let same = c.loop-next.invariant.rests.rests.keeps.pages tied in
     let upto = rests_then g.P.Pages.is_tied g.P.Pages.store g.P.Pages.keeps tt (Ok (c.in_ok-versions.versions, c.in_ok-versions.left)) c.args.pages.now c.loop-next.pages c.finish.new.pages g.met.P.Pages.keeps_trans
     g.met.P.Pages.keeps_tied c.loop-next.invariant.rests c.in_ok-versions.ensures.rests in
-    let p = err_from_is_err_and c.from_residual-in_err-check_part-2.result c.from_residual-in_err-check_part-2.ensures.1 in
-    refused_open c.from_residual-in_err-check_part-2.result p.0 p.1 (λ is.
-    let why : c.in_err-check_part-2.field-0.0 ≡ refusal.DamagedFile = cc (p.1, p.2, is) in
-    no_part_table old c.args.indexes.now c.args.told c.args.routes.now (taken c.args.reached.now) c.loop-next.route (λ (cell : List ℕ). not (is_below cell opening.low)) (listed c.in_ok-versions.left)
-    (part_left c.args.told.schema.items c.args.routes.now c.requires.rising c.loop-next.next-index c.loop-next.route opening.low (omega arith) c.loop-next.invariant.at)
-    (found_back old mid same opening.told (told_of (event_width c.args.told.schema.items) c.args.told.records) c.loop-next.invariant.told (cells_from opening.low) (listed c.in_ok-versions.left) (c.in_ok-versions.ensures.left later))
-    (no_part_back old last (upto.rests.keeps.pages tied) c.args.told c.loop-next.route c.args.indexes.now (listed c.in_ok-versions.left)
-    (c.in_err-check_part-2.ensures.damaged (g.met.P.Pages.keeps_tied c.args.pages.now c.finish.new.pages upto.below tied) (ap Err why))))
+    let p = err_from_is_err_and c.from_residual-in_err-check_all.result c.from_residual-in_err-check_all.ensures.1 in
+    refused_open c.from_residual-in_err-check_all.result p.0 p.1 (λ is.
+    let why : c.in_err-check_all.field-0.0 ≡ refusal.DamagedFile = cc (p.1, p.2, is) in
+    no_entered_table old c.args.indexes.now told c.args.routes.now (taken c.args.reached.now) (listed c.put_after.new.others)
+    (subst (AreAmong told.schema.items old told.records.root) (sym c.in_ok-put_after.ensures.all)
+    (both_among told.schema.items old told.records (λ (cell : List ℕ). not (is_below cell opening.low)) (listed c.loop-next.waiting) (listed c.in_ok-versions.left) (c.loop-next.invariant.among tied)
+    (found_back old mid same opening.told (told_of (event_width told.schema.items) told.records) c.loop-next.invariant.told (cells_from opening.low) (listed c.in_ok-versions.left) (c.in_ok-versions.ensures.left later))))
+    (not_entered_back old last (upto.rests.keeps.pages tied) c.args.indexes.now (listed c.put_after.new.others)
+    (c.in_err-check_all.ensures.damaged (g.met.P.Pages.keeps_tied c.args.pages.now c.finish.new.pages upto.below tied) (ap Err why))))
 
 pub with-requires : goal.with-requires
 with-requires g c = record { width = c.in_ok-versions.ensures.width ∙ ap (λ (t : Told). t.width) c.loop-next.invariant.told }
 
 pub returns-clause-rests : goal.returns-clause-rests
 returns-clause-rests g c =
-    rests_ok g.P.Pages.is_tied g.P.Pages.store g.P.Pages.keeps tt c.with.result c.args.pages.now c.check_part-2.new.pages
-    (rests_then g.P.Pages.is_tied g.P.Pages.store g.P.Pages.keeps tt (Ok tt) c.args.pages.now c.loop-next.pages c.check_part-2.new.pages g.met.P.Pages.keeps_trans g.met.P.Pages.keeps_tied
+    rests_ok g.P.Pages.is_tied g.P.Pages.store g.P.Pages.keeps tt c.with.result c.args.pages.now c.check_all.new.pages
+    (rests_then g.P.Pages.is_tied g.P.Pages.store g.P.Pages.keeps tt (Ok tt) c.args.pages.now c.loop-next.pages c.check_all.new.pages g.met.P.Pages.keeps_trans g.met.P.Pages.keeps_tied
     c.loop-next.invariant.rests
-    (rests_then g.P.Pages.is_tied g.P.Pages.store g.P.Pages.keeps (c.in_ok-versions.versions, c.in_ok-versions.left) (Ok tt) c.loop-next.pages c.finish.new.pages c.check_part-2.new.pages
-    g.met.P.Pages.keeps_trans g.met.P.Pages.keeps_tied c.in_ok-versions.ensures.rests c.in_ok-check_part-2.ensures.rests))
+    (rests_then g.P.Pages.is_tied g.P.Pages.store g.P.Pages.keeps (c.in_ok-versions.versions, c.in_ok-versions.left) (Ok tt) c.loop-next.pages c.finish.new.pages c.check_all.new.pages
+    g.met.P.Pages.keeps_trans g.met.P.Pages.keeps_tied c.in_ok-versions.ensures.rests c.in_ok-check_all.ensures.rests))
 
 pub returns-clause-table : goal.returns-clause-table
 returns-clause-table g c = record {
@@ -268,6 +365,8 @@ returns-clause-opens g c = λ tied.
     g.met.P.Pages.keeps_tied c.loop-next.invariant.rests c.in_ok-versions.ensures.rests in
     let versions = c.in_ok-versions.versions in
     let finds = found_back old mid same opening.told (told_of (event_width types) told.records) said (cells_from opening.low) (listed c.in_ok-versions.left) (c.in_ok-versions.ensures.left later) in
+    let entered = subst (HaveAllEntries old c.args.indexes.now) c.in_ok-put_after.ensures.all
+    (all_entries_back old last (upto.rests.keeps.pages tied) c.args.indexes.now (listed c.put_after.new.others) (c.in_ok-check_all.ensures.entered (g.met.P.Pages.keeps_tied c.args.pages.now c.finish.new.pages upto.below tied))) in
     record {
       opens = subst (λ (s : Standing). OpensTable old told s c.args.indexes.now c.args.routes.now (taken c.args.reached.now) (taken c.reach_indexes.new.reached)) (sym c.with.ensures.working)
           (opens_table old c.args.indexes.now told c.args.routes.now (taken c.args.reached.now) first (c.in_ok-opening.ensures.rests.rests.keeps.pages tied) (taken c.begin.new.reached)
@@ -281,10 +380,9 @@ returns-clause-opens g c = λ tied.
           (c.in_ok-reach_indexes.ensures.reaches begun)
           (stands_back old mid same opening.told (told_of (event_width types) told.records) said versions.working.dead
           (c.in_ok-versions.ensures.stands later (passed_same (event_form opening.told.width) old mid same opening (c.loop-next.invariant.passed tied))))
-          (below_all old c.args.indexes.now told c.args.routes.now opening.low (listed c.in_ok-versions.left) (c.loop-next.invariant.below tied) finds
-          (all_entries_back old last (upto.rests.keeps.pages tied) c.args.indexes.now (listed c.in_ok-versions.left)
-          (c.in_ok-check_part-2.ensures.entered (g.met.P.Pages.keeps_tied c.args.pages.now c.finish.new.pages upto.below tied))))
+          (below_all old c.args.indexes.now told c.args.routes.now opening.low (listed c.in_ok-versions.left) (c.loop-next.invariant.below tied (first_entered old c.args.indexes.now (listed c.loop-next.waiting) (listed c.in_ok-versions.left) entered)) finds
+          (second_entered old c.args.indexes.now (listed c.loop-next.waiting) (listed c.in_ok-versions.left) entered))
           (meant_all told c.args.routes.now old c.loop-next.next-index c.loop-next.route opening.low c.loop-next.invariant.at (c.loop-next.invariant.meant tied) (listed c.in_ok-versions.left) finds
-          c.in_ok-check_part-2.ensures.meant));
+          c.in_ok-check_events-2.ensures.meant));
       damaged = λ is. absurd (cc);
     }

@@ -5,11 +5,11 @@ use Rattle.std.proofs.lemmas.Option.{slice_get_read}
 use Rattle.std.proofs.lemmas.Result.{err_from_is_err_and}
 use Rattle.rs_attr.specs.Opening.{HaveAllEntries}
 use Rattle.rs_attr.specs.Tables.{IndexState}
-use Rattle.rs_attr.proofs.PartsChecked.{entered_next, no_part_at}
+use Rattle.rs_attr.proofs.PartsChecked.{entered_next, not_entered_at}
 use Rattle.rs_refusal.specs.declared.refusal.Refusal.TheVariants as refusal
 use Rattle.rs_records.specs.Listed.{listed}
 use Rattle.rs_pages.proofs.Resting.{rests_none, rests_then}
-use Rattle.rs_attr.proofs.opening.check_part.Goals as goal
+use Rattle.rs_attr.proofs.opening.check_all.Goals as goal
 
 pub loop-index-init : goal.loop-index-init
 loop-index-init g c = record {
@@ -19,7 +19,7 @@ loop-index-init g c = record {
 
 pub returns-in_err-check_entries-clause-rests : goal.returns-in_err-check_entries-clause-rests
 returns-in_err-check_entries-clause-rests g c =
-    let p = err_from_is_err_and c.from_residual-in_err-check_entries.result c.from_residual-in_err-check_entries.ensures.1 in
+    let p = err_from_is_err_and c.from_residual.result c.from_residual.ensures.1 in
     rw (p.1, p.2) (rests_then g.P.Pages.is_tied g.P.Pages.store g.P.Pages.keeps tt (Err c.in_err-check_entries.field-0.0) c.args.pages.now c.loop-index.pages c.check_entries.new.pages g.met.P.Pages.keeps_trans
     g.met.P.Pages.keeps_tied c.loop-index.invariant.rests c.in_err-check_entries.ensures.rests)
 
@@ -27,11 +27,11 @@ pub returns-in_err-check_entries-clause-damaged : goal.returns-in_err-check_entr
 returns-in_err-check_entries-clause-damaged g c = λ tied is.
     let later = g.met.P.Pages.keeps_tied c.args.pages.now c.loop-index.pages c.loop-index.invariant.rests.below tied in
     let same = c.loop-index.invariant.rests.rests.keeps.pages tied in
-    let p = err_from_is_err_and c.from_residual-in_err-check_entries.result c.from_residual-in_err-check_entries.ensures.1 in
+    let p = err_from_is_err_and c.from_residual.result c.from_residual.ensures.1 in
     let why : c.in_err-check_entries.field-0.0 ≡ refusal.DamagedFile = cc (p.1, p.2, is) in
-    no_part_at (g.P.Pages.store c.args.pages.now).map (g.P.Pages.store c.loop-index.pages).map same c.args.indexes.now c.loop-index.index-index c.index-item.result
+    not_entered_at (g.P.Pages.store c.args.pages.now).map (g.P.Pages.store c.loop-index.pages).map same c.args.indexes.now c.loop-index.index-index c.index-item.result
     (slice_get_read c.args.indexes.now (length c.args.indexes.now) c.loop-index.index-index c.index-item.result refl c.loop-index-test.true c.index-item.is) (listed c.args.cells.now)
-    c.args.told.now c.args.route (c.in_err-check_entries.ensures.damaged later (ap Err why))
+    (c.in_err-check_entries.ensures.damaged later (ap Err why))
 
 pub loop-index-preserved : goal.loop-index-preserved
 loop-index-preserved g c = record {

@@ -3,7 +3,7 @@ use Rattle.std.proofs.Common.{Ok, take}
 use Rattle.rs_attr.specs.Opening.{HaveAllEntries}
 use Rattle.rs_pages.specs.Lending.{RestsAfter}
 use Rattle.rs_records.specs.Listed.{listed}
-use Rattle.rs_attr.proofs.opening.check_part.Given as goal
+use Rattle.rs_attr.proofs.opening.check_all.Given as goal
 
 abbrev pub invariant-loop-index : goal.invariant-loop-index
 invariant-loop-index g l = record {
