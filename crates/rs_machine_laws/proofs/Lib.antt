@@ -23,4 +23,7 @@ mod Tokens
 mod PositionTokens
 mod PrintedPositions
 mod ViewLines
+mod ViewLineLengths
 mod ShortestLines
+mod ViewHeights
+mod WideViews

@@ -27,10 +27,11 @@ use Rattle.rs_value.specs.Values.{is_control, is_text}
 use Rattle.rs_machine.specs.declared.limits.TheConstants.{LINE_BYTES}
 use Rattle.rs_machine.specs.Request.{Asks, CARRIAGE_RETURN, command, session_digits, without_return}
 use Rattle.rs_machine.proofs.ReadableLines.{readable_text}
-use Rattle.rs_machine_laws.specs.ViewLines.{shortest_view_line}
+use Rattle.rs_machine_laws.specs.ViewLines.{IsReadable, shortest_view_line}
 use Rattle.rs_machine_laws.proofs.Names.{either_false}
 use Rattle.rs_machine_laws.proofs.Checked.{not_true}
 use Rattle.rs_machine_laws.proofs.ViewLines.{shortest_says}
+use Rattle.rs_machine_laws.proofs.ViewLineLengths.{shortest_fits}
 
 -- ---- texts
 
@@ -151,15 +152,25 @@ asks_as_zero line tree few is digits number reads =
       reads = subst (λ bytes. Reads bytes 1 (Ok tree)) (sym same) reads;
     }
 
+-- what a readable one says it asks
+pub readable_asks : (name text : List ℕ) (tree : CommandTree) → IsReadable (shortest_view_line name text) → Reads (shortest_view_line name text) 1 (Ok tree) → Asks (shortest_view_line name text) (command 0 tree)
+readable_asks name text tree readable reads = asks_as_zero (shortest_view_line name text) tree readable.few readable.is_text refl refl reads
+
 -- the commands of lines are sound
 module _ (read_sound : (line : List ℕ) (from : ℕ) (tree : CommandTree) → IsTrue (is_text line) → Reads line from (Ok tree) → IsSound tree) where
-  pub shortest_asks : (line : List ℕ) (session : ℕ) (name : List ℕ) (query : QueryTree) (text : List ℕ) → Asks line (command session (define_view name query text)) → length (shortest_view_line name text) ≤ LINE_BYTES
-      → Asks (shortest_view_line name text) (command 0 (define_view name query text))
-  shortest_asks line session name query text asks few =
+  whole_sound : (line : List ℕ) (session : ℕ) (name : List ℕ) (query : QueryTree) (text : List ℕ) → Asks line (command session (define_view name query text)) → IsSound (define_view name query text)
+  whole_sound line session name query text asks =
+      read_sound (without_return line) asks.digits (define_view name query text) (readable_text line asks.begins.is_readable) asks.reads
+
+  pub shortest_readable : (line : List ℕ) (session : ℕ) (name : List ℕ) (query : QueryTree) (text : List ℕ) → Asks line (command session (define_view name query text)) → IsReadable (shortest_view_line name text)
+  shortest_readable line session name query text asks =
       let whole = without_return line in
-      let clean = readable_text line asks.begins.is_readable in
-      let sound : IsSound (define_view name query text) = read_sound whole asks.digits (define_view name query text) clean asks.reads in
       let cut = view_cut_out whole asks.digits name query text asks.reads in
-      let is : IsTrue (is_text text) = ap is_text cut.3 ∙ tokens_text whole cut.0 cut.1 cut.2 clean in
-      asks_as_zero (shortest_view_line name text) (define_view name query text) few (shortest_text name text sound.0.word is) refl refl
-      (shortest_says whole asks.digits name query text sound.0 asks.reads)
+      let is : IsTrue (is_text text) = ap is_text cut.3 ∙ tokens_text whole cut.0 cut.1 cut.2 (readable_text line asks.begins.is_readable) in
+      record { few = shortest_fits line session name query text asks; is_text = shortest_text name text (whole_sound line session name query text asks).0.word is }
+
+  pub shortest_asks : (line : List ℕ) (session : ℕ) (name : List ℕ) (query : QueryTree) (text : List ℕ) → Asks line (command session (define_view name query text))
+      → Asks (shortest_view_line name text) (command 0 (define_view name query text))
+  shortest_asks line session name query text asks =
+      readable_asks name text (define_view name query text) (shortest_readable line session name query text asks)
+      (shortest_says (without_return line) asks.digits name query text (whole_sound line session name query text asks).0 asks.reads)

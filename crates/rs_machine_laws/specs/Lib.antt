@@ -1,3 +1,4 @@
 pub mod TokensSay
 pub mod PrintedPositions
 pub mod ViewLines
+pub mod WideViews

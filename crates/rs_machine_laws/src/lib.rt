@@ -9,3 +9,4 @@ pub mod plans;
 pub mod positions;
 pub mod printed;
 pub mod view_lines;
+pub mod wide_views;

@@ -1,12 +1,13 @@
 //! A file that was created is that of the format, byte for byte.
 
 use crate::expect::expect_at;
+use crate::store_tests;
+use crate::store_tests::closed;
 use rs_catalog_pages::StoredIndex;
 use rs_contents::free_index_number;
-use rs_disk::{Disk, MemoryDisk};
+use rs_disk::Disk;
 use rs_pages::LEAST_LIMIT;
 use rs_refusal::Refusal;
-use rs_store::create;
 use std::alloc::Global;
 use std::test::Fail;
 
@@ -28,10 +29,7 @@ static WRITTEN: [(usize, [u8; 8]); 8] = [
 
 /// The bytes of a file that may have three pages at the most, created.
 fn created(alloc: Global) -> Result<Vec<u8>, Refusal> {
-    let mut disk = match create(alloc, MemoryDisk::new(alloc), LEAST_LIMIT) {
-        Ok(disk) => disk,
-        Err((_, refusal)) => return Err(refusal),
-    };
+    let mut disk = closed(store_tests::created(alloc)?)?;
     if disk.pages() != LEAST_LIMIT {
         return Err(Refusal::WrongValues);
     }

@@ -55,6 +55,7 @@ mod row_tests;
 #[cfg(test)]
 mod search_tests;
 #[cfg(test)]
+mod store_tests;
 mod storing_tests;
 #[cfg(test)]
 mod tree_format_tests;

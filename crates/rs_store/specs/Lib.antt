@@ -1,0 +1,5 @@
+pub mod Calls
+pub mod Kept
+pub mod Loading
+pub mod Making
+pub mod Views

@@ -1,0 +1,277 @@
+-- What a store keeps while its pager is called, and once it was read anew.
+use Rattle.std.proofs.Common.{◌≡◌, ◌≤◌, ◌∙◌, ℕ, Bool, IsTrue, Result, Ok, Err, true, subst, sym, refl, arith}
+use Rattle.rs_catalog.specs.Definitions.{Definitions, Numbered}
+use Rattle.rs_catalog.specs.Referents.{HeldReferents}
+use Rattle.rs_contents.specs.Contents.{Contents, HoldsAll, SameContents}
+use Rattle.rs_contents.specs.declared.opened.OpenedFile.{OpenedFile}
+use Rattle.rs_contents.proofs.Loaded.{same_map}
+use Rattle.rs_disk.specs.Content.{Content}
+use Rattle.rs_disk.specs.declared.disk.Disk as disk
+use Rattle.rs_machine.specs.State.{State}
+use Rattle.rs_page.specs.declared.file_header.TheConstants.{FLAG_OFFSET}
+use Rattle.rs_pager.specs.Maps.{IsTied, KeepsBelow, KeepsMaps, committed, pager_store, working}
+use Rattle.rs_pager.specs.Opened.{SetsFlag}
+use Rattle.rs_pager.specs.Paged.{Paged}
+use Rattle.rs_pager.specs.Stored.{Stores}
+use Rattle.rs_pages.specs.PageMap.{PageMap, SamePages}
+use Rattle.rs_pages.specs.Lending.{RestsAfter}
+use Rattle.rs_pages.proofs.Stores.{SamePages-trans}
+use Rattle.rs_refusal.specs.declared.refusal.Refusal.{Refusal}
+use Rattle.rs_refusal.specs.declared.refusal.Refusal.TheVariants as refusal
+use Rattle.rs_standing.specs.Meant.{IsMeant}
+use Rattle.rs_standing.specs.Standing.{IsFileOf, StandsFor}
+use Rattle.rs_store.specs.Calls.{KeepsSame, KeepsStore, LeavesAllButFlag, Reopens, Saves}
+use Rattle.rs_store.specs.Kept.{Keeps, StandsIn, StoreState}
+use Rattle.rs_store.specs.Loading.{LoadsState, StandsForNone}
+use Rattle.rs_store.proofs.Results.{ok_always}
+use Rattle.rs_store.proofs.Beside.{same_but_flag-is, same_but_flag-set, same_but_flag-trans}
+use Rattle.rs_store.proofs.Same.{FileHoldsOne, SameMeant, SameSays, SameState, fewer_meant, meant_moves, same_accepted, state_moves}
+
+pub pages_back : (one other : PageMap) → SamePages one other → SamePages other one
+pages_back one other same = record { fields = sym same.fields; pages = λ n. sym (same.pages n) }
+
+module _ {D : Type 0} (d : disk.Ghosts D) where
+  -- the byte of the flag, as the disk has it
+  abbrev pub flag_of : Paged D → ℕ
+  flag_of p = (d.seen p.disk).byte FLAG_OFFSET
+
+  -- ---- all but the flag
+
+  pub leaves-trans : (a b c : Paged D) → LeavesAllButFlag d a b → LeavesAllButFlag d b c → LeavesAllButFlag d a c
+  leaves-trans a b c one other = record {
+    tied = λ tied. other.tied (one.tied tied);
+    committed = λ tied. SamePages-trans _ _ _ (other.committed (one.tied tied)) (one.committed tied);
+    working = λ tied. SamePages-trans _ _ _ (other.working (one.tied tied)) (one.working tied);
+    honesty = other.honesty ∙ one.honesty;
+    limit = other.limit ∙ one.limit;
+    begun = other.begun ∙ one.begun;
+    disk = λ honest. same_but_flag-trans (d.seen a.disk) (d.seen b.disk) (d.seen c.disk) (one.disk honest) (other.disk (subst IsTrue (sym one.honesty) honest));
+  }
+
+  pub leaves_by_reading : {T : Type 0} (r : Result T Refusal) (was now : Paged D) → RestsAfter (IsTied d) (pager_store d) (KeepsBelow d) r was now → LeavesAllButFlag d was now
+  leaves_by_reading r was now rests = record {
+    tied = rests.below.tied;
+    committed = rests.below.committed;
+    working = rests.rests.keeps.pages;
+    honesty = rests.below.honesty;
+    limit = rests.rests.counts.limit;
+    begun = rests.rests.counts.begun;
+    disk = λ honest. same_but_flag-is (d.seen was.disk) (d.seen now.disk) (rests.below.unwritten honest);
+  }
+
+  pub leaves_by_flag : {T E : Type 0} (r : Result T E) (is_open : Bool) (was now : Paged D) → KeepsMaps d was now → now.is_begun ≡ was.is_begun
+      → (IsTrue (d.is_honest was.disk) → SetsFlag r is_open (d.seen was.disk) (d.seen now.disk)) → LeavesAllButFlag d was now
+  leaves_by_flag r is_open was now keeps begun sets = record {
+    tied = keeps.tied;
+    committed = keeps.committed;
+    working = keeps.working;
+    honesty = keeps.honesty;
+    limit = keeps.limit;
+    begun = begun;
+    disk = λ honest. same_but_flag-set r is_open (d.seen was.disk) (d.seen now.disk) (sets honest);
+  }
+
+  -- ---- a store whose pager was called
+
+  abbrev pub store_over : Paged D → OpenedFile → Definitions → Numbered HeldReferents → Bool → StoreState D
+  store_over p file catalog referents is_marked = record { pager = p; file = file; catalog = catalog; referents = referents; is_marked = is_marked }
+
+  pub keeps_store-refl : (store : StoreState D) → KeepsStore d store store
+  keeps_store-refl store = record { contents = λ contents keeps. keeps; file = refl; catalog = refl; referents = refl; honesty = refl; limit = refl; full = refl }
+
+  pub keeps_store-trans : (a b c : StoreState D) → KeepsStore d a b → KeepsStore d b c → KeepsStore d a c
+  keeps_store-trans a b c one other = record {
+    contents = λ contents keeps. other.contents contents (one.contents contents keeps);
+    file = other.file ∙ one.file;
+    catalog = other.catalog ∙ one.catalog;
+    referents = other.referents ∙ one.referents;
+    honesty = other.honesty ∙ one.honesty;
+    limit = other.limit ∙ one.limit;
+    full = other.full ∙ one.full;
+  }
+
+  -- both maps of pages stay, whatever is written to the disk
+  pub record Moves (was now : Paged D) : Type 0 where
+    pub tied : IsTied d was → IsTied d now
+    pub committed_pages : IsTied d was → SamePages (committed d now) (committed d was)
+    pub working_pages : IsTied d was → SamePages (working d now) (working d was)
+    pub honesty : d.is_honest now.disk ≡ d.is_honest was.disk
+    pub limit : now.limit ≡ was.limit
+    pub full : now.full_refusals ≡ was.full_refusals
+
+  pub moves_by_maps : (was now : Paged D) → KeepsMaps d was now → Moves was now
+  moves_by_maps was now keeps = record {
+    tied = keeps.tied;
+    committed_pages = keeps.committed;
+    working_pages = keeps.working;
+    honesty = keeps.honesty;
+    limit = keeps.limit;
+    full = keeps.full;
+  }
+
+  pub moves_by_reading : {T : Type 0} (r : Result T Refusal) (was now : Paged D) → RestsAfter (IsTied d) (pager_store d) (KeepsBelow d) r was now → Moves was now
+  moves_by_reading r was now rests = record {
+    tied = rests.below.tied;
+    committed_pages = rests.below.committed;
+    working_pages = rests.rests.keeps.pages;
+    honesty = rests.below.honesty;
+    limit = rests.rests.counts.limit;
+    full = rests.rests.full;
+  }
+
+  pub moves-trans : (a b c : Paged D) → Moves a b → Moves b c → Moves a c
+  moves-trans a b c one other = record {
+    tied = λ tied. other.tied (one.tied tied);
+    committed_pages = λ tied. SamePages-trans _ _ _ (other.committed_pages (one.tied tied)) (one.committed_pages tied);
+    working_pages = λ tied. SamePages-trans _ _ _ (other.working_pages (one.tied tied)) (one.working_pages tied);
+    honesty = other.honesty ∙ one.honesty;
+    limit = other.limit ∙ one.limit;
+    full = other.full ∙ one.full;
+  }
+
+  -- the working pages are the committed ones still
+  pub still_same : (was now : Paged D) → Moves was now → IsTied d was → SamePages (working d was) (committed d was) → SamePages (working d now) (committed d now)
+  still_same was now moves tied same =
+      SamePages-trans _ _ _ (moves.working_pages tied) (SamePages-trans _ _ _ same (pages_back _ _ (moves.committed_pages tied)))
+
+  module _ (was now : Paged D) (file : OpenedFile) (catalog : Definitions) (referents : Numbered HeldReferents) (old_marked new_marked : Bool) where
+    pub keeps_by_moves : Moves was now → (IsTied d was → (old_marked ≡ true → flag_of was ≡ 1) → new_marked ≡ true → flag_of now ≡ 1)
+        → KeepsStore d (store_over was file catalog referents old_marked) (store_over now file catalog referents new_marked)
+    keeps_by_moves moves marks = record {
+      contents = λ contents kept. record {
+        tied = moves.tied kept.tied;
+        same = still_same was now moves kept.tied kept.same;
+        holds = subst (λ (m : PageMap). HoldsAll m contents) (sym (same_map (committed d now) (committed d was) (moves.committed_pages kept.tied))) kept.holds;
+        opened = kept.opened;
+        memory = kept.memory;
+        marked = marks kept.tied kept.marked;
+      };
+      file = refl;
+      catalog = refl;
+      referents = refl;
+      honesty = moves.honesty;
+      limit = moves.limit;
+      full = moves.full;
+    }
+
+    pub keeps_by_maps : KeepsMaps d was now → (IsTied d was → (old_marked ≡ true → flag_of was ≡ 1) → new_marked ≡ true → flag_of now ≡ 1)
+        → KeepsStore d (store_over was file catalog referents old_marked) (store_over now file catalog referents new_marked)
+    keeps_by_maps keeps = keeps_by_moves (moves_by_maps was now keeps)
+
+  pub stands_kept : (oldest : ℕ) (old new : StoreState D) (state : State) → KeepsStore d old new → StandsIn d oldest old state → StandsIn d oldest new state
+  stands_kept oldest old new state keeps stands = record {
+    contents = stands.contents;
+    keeps = keeps.contents stands.contents stands.keeps;
+    live = stands.live;
+    meant = stands.meant;
+    is = stands.is;
+    views = stands.views;
+  }
+
+  -- ---- a file of the state
+
+  pub file_of_state : (oldest : ℕ) (store : StoreState D) (state : State) → StandsIn d oldest store state → (now : Paged D)
+      → SamePages (committed d now) (committed d store.pager) → Stores (d.seen now.disk) (committed d now) → now.committed_fields.pages ≤ now.limit
+      → IsFileOf now.limit (d.seen now.disk) state
+  file_of_state oldest store state stands now same stores within = record {
+    pages = committed d now;
+    stores = stores;
+    within = within;
+    contents = stands.contents;
+    stands = record {
+      holds = subst (λ (m : PageMap). HoldsAll m stands.contents) (sym (same_map (committed d now) (committed d store.pager) same)) stands.keeps.holds;
+      meant = fewer_meant oldest stands.contents.directory.accepted stands.contents stands.live stands.meant;
+      is = stands.is;
+      views = stands.views;
+    };
+  }
+
+  -- ---- a store that was read anew
+
+  module _ (was now : Paged D) (file : OpenedFile) (catalog : Definitions) (referents : Numbered HeldReferents) (is_marked : Bool) where
+    -- the store over pages that were read, whatever was kept before
+    pub keeps_loaded : (tied : IsTied d now) (same : SamePages (working d now) (committed d now)) (loads : LoadsState (working d now) file catalog referents)
+        → (is_marked ≡ true → flag_of now ≡ 1) → Keeps d (store_over now file catalog referents is_marked) loads.contents
+    keeps_loaded tied same loads marked = record {
+      tied = tied;
+      same = same;
+      holds = subst (λ (m : PageMap). HoldsAll m loads.contents) (same_map (working d now) (committed d now) same) loads.holds;
+      opened = loads.opened;
+      memory = loads.brings.memory;
+      marked = marked;
+    }
+
+    module _ (one_thing : FileHoldsOne) (moves : Moves was now) (flag : IsTied d was → flag_of now ≡ flag_of was) (first : OpenedFile) (before : Definitions) (held : Numbered HeldReferents) where
+      pub keeps_anew : (contents : Contents) → Keeps d (store_over was first before held is_marked) contents → LoadsState (working d was) file catalog referents
+          → KeepsSame d contents (store_over now file catalog referents is_marked)
+      keeps_anew contents kept loads =
+          let work = same_map (working d now) (working d was) (moves.working_pages kept.tied) in
+          let at : LoadsState (working d now) file catalog referents = subst (λ (m : PageMap). LoadsState m file catalog referents) (sym work) loads in
+          let same = still_same was now moves kept.tied kept.same in
+          record {
+            now = at.contents;
+            keeps = keeps_loaded (moves.tied kept.tied) same at (λ is. flag kept.tied ∙ kept.marked is);
+            same = one_thing (working d now) contents at.contents
+                (subst (λ (m : PageMap). HoldsAll m contents) (sym (work ∙ same_map (working d was) (committed d was) kept.same)) kept.holds) at.holds;
+          }
+
+  module _ (says : SameSays) (meant_alike : SameMeant) (state_alike : SameState) where
+    pub stands_anew : (oldest : ℕ) (old new : StoreState D) (state : State) (stands : StandsIn d oldest old state) → KeepsSame d stands.contents new → StandsIn d oldest new state
+    stands_anew oldest old new state stands anew = record {
+      contents = anew.now;
+      keeps = anew.keeps;
+      live = omega (arith, stands.live, same_accepted stands.contents anew.now anew.same);
+      meant = meant_moves says meant_alike oldest stands.contents anew.now anew.same stands.meant;
+      is = state_moves says state_alike stands.contents anew.now state anew.same stands.is;
+      views = stands.views;
+    }
+
+  -- a store that stands in a state has pages that stand for it
+  pub pages_stand : (oldest : ℕ) (store : StoreState D) (state : State) (stands : StandsIn d oldest store state) → StandsFor (working d store.pager) stands.contents state
+  pages_stand oldest store state stands = record {
+    holds = subst (λ (m : PageMap). HoldsAll m stands.contents) (sym (same_map (working d store.pager) (committed d store.pager) stands.keeps.same)) stands.keeps.holds;
+    meant = fewer_meant oldest stands.contents.directory.accepted stands.contents stands.live stands.meant;
+    is = stands.is;
+    views = stands.views;
+  }
+
+  pub not_none : (oldest : ℕ) (store : StoreState D) (state : State) → StandsIn d oldest store state → StandsForNone (working d store.pager) → ⊥
+  not_none oldest store state stands none = none.none stands.contents state (pages_stand oldest store state stands)
+
+  -- ---- answers
+
+  pub reopens_err : (why : Refusal) (old new : StoreState D) → KeepsStore d old new → ((oldest : ℕ) (state : State) → StandsIn d oldest old state → why ≡ refusal.DamagedFile → ⊥)
+      → Reopens d (Err why) old new
+  reopens_err why old new keeps sound = record {
+    same = λ contents kept. tt;
+    state = λ oldest state stands. tt;
+    stays = keeps.contents;
+    sound = λ oldest state stands is. sound oldest state stands cc;
+    honesty = keeps.honesty;
+    limit = keeps.limit;
+    full = keeps.full;
+  }
+
+  -- what was kept before is what is read anew
+  pub reopens_after : (r : Result (Unit {0}) Refusal) (a b c : StoreState D) → KeepsStore d a b → Reopens d r b c → Reopens d r a c
+  reopens_after r a b c one other = record {
+    same = λ contents kept. other.same contents (one.contents contents kept);
+    state = λ oldest state stands. other.state oldest state (stands_kept oldest a b state one stands);
+    stays = λ contents kept. other.stays contents (one.contents contents kept);
+    sound = λ oldest state stands. other.sound oldest state (stands_kept oldest a b state one stands);
+    honesty = other.honesty ∙ one.honesty;
+    limit = other.limit ∙ one.limit;
+    full = other.full ∙ one.full;
+  }
+
+  -- a disk that is only read from then on stays saved
+  pub saves_after : {E F : Type 0} (r : Result (Unit {0}) F) (a b c : StoreState D) → KeepsStore d a b → Saves d {E = E} (Ok tt) a b
+      → (IsTrue (d.is_honest b.pager.disk) → d.seen c.pager.disk ≡ d.seen b.pager.disk) → c.pager.limit ≡ b.pager.limit → d.is_synced c.pager.disk ≡ d.is_synced b.pager.disk
+      → c.is_marked ≡ b.is_marked → Saves d r a c
+  saves_after r a b c keeps saves seen limit synced marked = record {
+    file = λ oldest state stands.
+        ok_always r (subst (λ (content : Content). IsFileOf c.pager.limit content state) (sym (seen (stands_kept oldest a b state keeps stands).keeps.tied.honest))
+        (subst (λ (most : ℕ). IsFileOf most (d.seen b.pager.disk) state) (sym limit) (saves.file oldest state stands)));
+    synced = ok_always r (synced ∙ saves.synced);
+    marked = ok_always r (marked ∙ saves.marked);
+  }

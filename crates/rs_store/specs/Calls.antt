@@ -1,0 +1,140 @@
+-- What the calls of a store do, and why they are refused.
+use Rattle.std.specs.Prelude.{◌≡◌, ◌≢◌, ◌≤◌, ◌⊎◌, ℕ, true, false, Err, IfErr, IfOk, IsTrue, MatchResult, OnErr, OnOk, Result}
+use Rattle.rs_contents.specs.Contents.{Contents, SameContents}
+use Rattle.rs_disk.specs.Content.{Content}
+use Rattle.rs_disk.specs.declared.disk.Disk as disk
+use Rattle.rs_machine.specs.State.{State, fresh}
+use Rattle.rs_page.specs.declared.file_header.TheConstants.{FLAG_OFFSET}
+use Rattle.rs_page.specs.declared.page.TheConstants.{PAGE_SIZE}
+use Rattle.rs_pager.specs.Maps.{IsTied, committed, working}
+use Rattle.rs_pager.specs.Opened.{CountsFault}
+use Rattle.rs_pager.specs.Paged.{Paged}
+use Rattle.rs_pages.specs.PageMap.{SamePages}
+use Rattle.rs_refusal.specs.declared.refusal.Refusal.{Refusal}
+use Rattle.rs_refusal.specs.declared.refusal.Refusal.TheVariants as refusal
+use Rattle.rs_standing.specs.Standing.{IsFileOf, Stands}
+use Rattle.rs_store.specs.Kept.{Keeps, StandsIn, StoreState}
+
+-- ---- disks
+
+-- all bytes but that of the open flag are as they were
+pub record SameButFlag (old new : Content) : Type 0 where
+  pub others : (place : ℕ) → place ≢ FLAG_OFFSET → new.byte place ≡ old.byte place
+  pub size : PAGE_SIZE ≤ old.size → new.size ≡ old.size
+
+-- the disk is a file of some state, and was not closed
+pub record IsLeftOpen (limit : ℕ) (content : Content) : Type 0 where
+  pub state : State
+  pub file : IsFileOf limit content state
+  pub not_closed : content.byte FLAG_OFFSET ≢ 0
+
+-- it is a file of each state that it was a file of
+pub record StaysFile (limit : ℕ) (old new : Content) : Type 0 where
+  pub each : (state : State) → IsFileOf limit old state → IsFileOf limit new state
+
+-- it is a file of no state, closed or not
+pub record IsNoFileOfAny (limit : ℕ) (content : Content) : Type 0 where
+  pub none : (state : State) → IsFileOf limit content state → ⊥
+
+-- ---- refusals
+
+-- why a file is not opened
+abbrev pub WantsOpening : Refusal → Type 0
+WantsOpening why = (why ≡ refusal.OutOfMemory) ⊎ (why ≡ refusal.Disk) ⊎ (why ≡ refusal.DamagedFile) ⊎ (why ≡ refusal.FileNotClosed)
+
+-- and why none is made
+abbrev pub WantsCreating : Refusal → Type 0
+WantsCreating why = (why ≡ refusal.OutOfMemory) ⊎ (why ≡ refusal.Disk) ⊎ (why ≡ refusal.FileFull) ⊎ (why ≡ refusal.DamagedFile)
+
+module _ {D : Type 0} (d : disk.Ghosts D) where
+  -- both maps of pages stay, the limit and what is begun, and the disk but for the byte of its flag
+  pub record LeavesAllButFlag (old new : Paged D) : Type 0 where
+    pub tied : IsTied d old → IsTied d new
+    pub committed : IsTied d old → SamePages (committed d new) (committed d old)
+    pub working : IsTied d old → SamePages (working d new) (working d old)
+    pub honesty : d.is_honest new.disk ≡ d.is_honest old.disk
+    pub limit : new.limit ≡ old.limit
+    pub begun : new.is_begun ≡ old.is_begun
+    pub disk : IsTrue (d.is_honest old.disk) → SameButFlag (d.seen old.disk) (d.seen new.disk)
+
+  -- ---- a store that comes to be
+
+  -- Whatever the disk is, it is lent to the store or handed back. 91 comes exactly where its failures rose, by one.
+  pub record HandsOver (most : ℕ) (old : D) (result : Result (StoreState D) (D × Refusal)) : Type 0 where
+    pub honesty : MatchResult result (λ store. d.is_honest store.pager.disk ≡ d.is_honest old) (λ refused. d.is_honest refused.0 ≡ d.is_honest old)
+    pub count : MatchResult result (λ store. d.failures store.pager.disk ≡ d.failures old) (λ refused. CountsFault refused.1 (d.failures old) (d.failures refused.0))
+    pub limit : IfOk result (λ store. store.pager.limit ≡ most)
+    pub synced : IfOk result (λ store. d.is_synced store.pager.disk ≡ true)
+    pub marked : IfOk result (λ store. store.is_marked ≡ true)
+
+  -- the disk stood for a state, in which the store stands; its versions begin with the one that was accepted last
+  pub record OpensState (limit : ℕ) (content : Content) (store : StoreState D) : Type 0 where
+    pub state : State
+    pub stood : Stands limit content state
+    pub stands : StandsIn d store.file.accepted store state
+
+  -- What an honest disk is opened as. After all refusals but 91 it is as it was, and after 91 it is a file of what it was, though
+  -- its flag may be any.
+  pub record Opens (limit : ℕ) (old : D) (result : Result (StoreState D) (D × Refusal)) : Type 0 where
+    pub opens : IfOk result (OpensState limit (d.seen old))
+    pub damaged : IfErr result (λ refused. refused.1 ≡ refusal.DamagedFile → IsNoFileOfAny limit (d.seen old))
+    pub left_open : IfErr result (λ refused. refused.1 ≡ refusal.FileNotClosed → IsLeftOpen limit (d.seen old))
+    pub seen : IfErr result (λ refused. refused.1 ≢ refusal.Disk → d.seen refused.0 ≡ d.seen old)
+    pub stays : IfErr result (λ refused. StaysFile limit (d.seen old) (d.seen refused.0))
+
+
+  -- What is made of an honest disk: a store that stands in the state at the beginning. It isn't found damaged.
+  pub record Creates (result : Result (StoreState D) (D × Refusal)) : Type 0 where
+    pub fresh : IfOk result (λ store. StandsIn d 0 store fresh)
+    pub sound : IfErr result (λ refused. refused.1 ≢ refusal.DamagedFile)
+
+  -- ---- a store in use
+
+  -- whatever the store keeps it still keeps, the same is open and in memory, and so are the limit and the count of full refusals
+  pub record KeepsStore (old new : StoreState D) : Type 0 where
+    pub contents : (contents : Contents) → Keeps d old contents → Keeps d new contents
+    pub file : new.file ≡ old.file
+    pub catalog : new.catalog ≡ old.catalog
+    pub referents : new.referents ≡ old.referents
+    pub honesty : d.is_honest new.pager.disk ≡ d.is_honest old.pager.disk
+    pub limit : new.pager.limit ≡ old.pager.limit
+    pub full : new.pager.full_refusals ≡ old.pager.full_refusals
+
+  -- the disk is synced and marked as open, and a file of the state in which the store stands
+  pub record Saves {E : Type 0} (result : Result (Unit {0}) E) (old new : StoreState D) : Type 0 where
+    pub file : (oldest : ℕ) (state : State) → StandsIn d oldest old state → OnOk result (IsFileOf new.pager.limit (d.seen new.pager.disk) state)
+    pub synced : OnOk result (d.is_synced new.pager.disk ≡ true)
+    pub marked : OnOk result (new.is_marked ≡ true)
+
+  -- the same contents are kept, in the same pages
+  pub record KeepsSame (contents : Contents) (store : StoreState D) : Type 0 where
+    pub now : Contents
+    pub keeps : Keeps d store now
+    pub same : SameContents contents now
+
+  -- What is read anew is what the store kept, and it stands in the same state. After a refusal it keeps what it kept. A store that
+  -- stands in a state isn't found damaged.
+  pub record Reopens (result : Result (Unit {0}) Refusal) (old new : StoreState D) : Type 0 where
+    pub same : (contents : Contents) → Keeps d old contents → OnOk result (KeepsSame contents new)
+    pub state : (oldest : ℕ) (state : State) → StandsIn d oldest old state → OnOk result (StandsIn d oldest new state)
+    pub stays : (contents : Contents) → Keeps d old contents → OnErr result (Keeps d new contents)
+    pub sound : (oldest : ℕ) (state : State) → StandsIn d oldest old state → result ≢ Err refusal.DamagedFile
+    pub honesty : d.is_honest new.pager.disk ≡ d.is_honest old.pager.disk
+    pub limit : new.pager.limit ≡ old.pager.limit
+    pub full : new.pager.full_refusals ≡ old.pager.full_refusals
+
+  -- ---- a store that is put away
+
+  -- the disk stands for the state in which the store stood, and is synced; a store that is handed back keeps what it kept, and
+  -- marks its disk as open before it writes again
+  pub record Closes (old : StoreState D) (result : Result D (StoreState D × Refusal)) : Type 0 where
+    pub stands : (oldest : ℕ) (state : State) → StandsIn d oldest old state → IfOk result (λ disk. Stands old.pager.limit (d.seen disk) state)
+    pub synced : IfOk result (λ disk. d.is_synced disk ≡ true)
+    pub honesty : IfOk result (λ disk. d.is_honest disk ≡ d.is_honest old.pager.disk)
+    pub keeps : IfErr result (λ refused. KeepsStore old refused.0)
+    pub unmarked : IfErr result (λ refused. refused.0.is_marked ≡ false)
+
+  -- a disk that is not closed is refused with 91 alone, where its failures rose, by one
+  pub record CountsClosing (old : StoreState D) (result : Result D (StoreState D × Refusal)) : Type 0 where
+    pub refused : IfErr result (λ refused. refused.1 ≡ refusal.Disk)
+    pub count : MatchResult result (λ disk. d.failures disk ≡ d.failures old.pager.disk) (λ refused. CountsFault refused.1 (d.failures old.pager.disk) (d.failures refused.0.pager.disk))

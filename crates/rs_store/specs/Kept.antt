@@ -1,0 +1,75 @@
+-- What a store is, what it keeps, and in which state it stands.
+use Rattle.std.specs.Prelude.{◌≡◌, ◌≤◌, ◌+◌, ℕ, Bool, true, false, length}
+use Rattle.std.specs.List.{AllZip, sum_by}
+use Rattle.rs_catalog.specs.Definitions.{Definitions, Numbered}
+use Rattle.rs_catalog.specs.Referents.{HeldReferents, referents_on}
+use Rattle.rs_catalog_pages.specs.Said.{said_catalogue}
+use Rattle.rs_contents.specs.Contents.{Contents, HoldsAll}
+use Rattle.rs_contents.specs.Opening.{IsFile, IsOpened}
+use Rattle.rs_contents.specs.declared.opened.OpenedFile.{OpenedFile}
+use Rattle.rs_contents.specs.declared.opened.OpenedTable.{OpenedTable}
+use Rattle.rs_disk.specs.declared.disk.Disk as disk
+use Rattle.rs_machine.specs.Lawful.{AreViewsMeant}
+use Rattle.rs_machine.specs.State.{State}
+use Rattle.rs_page.specs.declared.file_header.TheConstants.{FLAG_OFFSET}
+use Rattle.rs_pager.specs.Maps.{IsTied, committed, working}
+use Rattle.rs_pager.specs.Paged.{Paged}
+use Rattle.rs_pages.specs.PageMap.{SamePages}
+use Rattle.rs_standing.specs.Meant.{IsMeant}
+use Rattle.rs_standing.specs.Seen.{referents_seen}
+use Rattle.rs_standing.specs.States.{AreDefinitionsAt, IsState}
+
+-- the pages over the disk, what is open of the file, the definitions and the referents in memory, and whether the disk says that
+-- the file is open
+pub record StoreState (D : Type 0) : Type 0 where
+  pub pager : Paged D
+  pub file : OpenedFile
+  pub catalog : Definitions
+  pub referents : Numbered HeldReferents
+  pub is_marked : Bool
+
+-- no changes are begun, and what is open is a file
+pub record IsSound (is_begun : Bool) (opened : OpenedFile) : Type 0 where
+  pub shut : is_begun ≡ false
+  pub file : IsFile opened
+
+-- what is open is that of the contents
+pub record IsOpenedFile (file : OpenedFile) (contents : Contents) : Type 0 where
+  pub definitions : contents.definitions ≡ said_catalogue file.definitions
+  pub pages : contents.pages ≡ file.pages.items
+  pub tables : AllZip IsOpened file.tables.items contents.tables
+  pub referents : contents.referents.standing ≡ file.referents.working
+  pub accepted : contents.directory.accepted ≡ file.accepted
+
+-- in memory are the definitions of the contents, and on each route the referents that the version accepted last sees
+pub record AreInMemory (definitions : Definitions) (held : Numbered HeldReferents) (contents : Contents) : Type 0 where
+  pub catalog : AreDefinitionsAt contents.directory.accepted contents.definitions definitions
+  pub referents : (route : ℕ) → referents_on held route ≡ referents_seen contents contents.directory.accepted route
+
+module _ {D : Type 0} (d : disk.Ghosts D) where
+  -- The store keeps these contents: its committed pages hold them, and nothing has changed in them since. What is open is theirs,
+  -- and so is what is in memory. Where the store says that the disk is marked as open, it is.
+  pub record Keeps (store : StoreState D) (contents : Contents) : Type 0 where
+    pub tied : IsTied d store.pager
+    pub same : SamePages (working d store.pager) (committed d store.pager)
+    pub holds : HoldsAll (committed d store.pager) contents
+    pub opened : IsOpenedFile store.file contents
+    pub memory : AreInMemory store.catalog store.referents contents
+    pub marked : store.is_marked ≡ true → (d.seen store.pager.disk).byte FLAG_OFFSET ≡ 1
+
+  -- the store keeps contents which are meant from the oldest version on, and have this state
+  pub record StandsIn (oldest : ℕ) (store : StoreState D) (state : State) : Type 0 where
+    pub contents : Contents
+    pub keeps : Keeps store contents
+    pub live : oldest ≤ contents.directory.accepted
+    pub meant : IsMeant oldest contents
+    pub is : IsState contents state
+    pub views : AreViewsMeant state
+
+-- how many records of a table are dead and not cleared
+abbrev pub dead_of : OpenedTable → ℕ
+dead_of table = length table.records.working.dead
+
+-- of all tables and of the referents
+abbrev pub garbage_of : OpenedFile → ℕ
+garbage_of file = length file.referents.working.dead + sum_by dead_of file.tables.items

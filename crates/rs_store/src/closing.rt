@@ -1,0 +1,122 @@
+//! This module writes what a store keeps to its disk: it is saved, read anew, and closed.
+
+ghost use Rattle.std.specs.Prelude.{◌≡◌, ℕ, true, false, IsOkUnless, IsTrue, MatchResult, OnOk};
+ghost use Rattle.rs_contents.specs.Calls.{RefusesToLoad};
+ghost use Rattle.rs_disk.specs.Counts.{Counts};
+ghost use Rattle.rs_machine.specs.State.{State};
+ghost use Rattle.rs_pager.specs.Opened.{CountsFault};
+ghost use Rattle.rs_standing.specs.Standing.{Stands};
+ghost use Rattle.rs_store.specs.Calls.{Closes, CountsClosing, KeepsStore, Reopens, Saves};
+ghost use Rattle.rs_store.specs.Kept.{StandsIn};
+
+use crate::loading::{Loaded, load_state};
+use crate::store::Store;
+use rs_contents::laws::file_holds_one_thing;
+use rs_disk::Disk;
+use rs_pager::laws::masked_bytes_are_in_no_map;
+use rs_refusal::Refusal;
+use rs_standing::changes::meant_contents_stay_meant;
+use rs_standing::standing::contents_have_one_state;
+use std::alloc::Global;
+
+impl<D: Disk> Store<D> {
+    /// Writes all that the disk lacks, and waits until it is on the medium; the disk is marked as open first where it isn't. The store
+    /// keeps what it kept, whatever is answered. It is refused with 91 alone.
+    pub fn save(&mut self) -> Result<(), Refusal>
+        ensures keeps { KeepsStore D.Disk self.old self.new }
+        ensures saves { Saves D.Disk result self.old self.new }
+        ensures refused { IsOkUnless result Refusal.Disk }
+        ensures count { Counts result (D.failures self.old.pager.disk) (D.failures self.new.pager.disk) }
+    {
+        self.mark()?;
+        self.pager.flush()
+    }
+
+    /// Saves, and reads and checks the whole file anew, beside what is in use, which it then takes the place of. The open flag is not
+    /// looked at. It is refused with 90, with 91, and with 94 only where the disk does not give back what was written; after a refusal
+    /// the store keeps what it kept.
+    pub fn reopen(&mut self, alloc: Global) -> Result<(), Refusal>
+        ensures reopens { Reopens D.Disk result self.old self.new }
+        ensures saves { Saves D.Disk result self.old self.new }
+        ensures refused { RefusesToLoad result }
+        ensures count { MatchResult result (λ _. D.failures self.new.pager.disk ≡ D.failures self.old.pager.disk)
+            (λ why. CountsFault why (D.failures self.old.pager.disk) (D.failures self.new.pager.disk)) }
+    {
+        self.save()?;
+        self.read_anew(alloc)
+    }
+
+    /// Saves, marks the disk as closed, waits until that is on the medium, and gives the disk back. A refusal (91) hands back the
+    /// store, which keeps what it kept; before it writes again it marks the disk as open.
+    pub fn close(self) -> Result<D, (Store<D>, Refusal)>
+        ensures closes { Closes D.Disk self result }
+        ensures count { CountsClosing D.Disk self result }
+    {
+        let mut store = self;
+        match store.put_away() {
+            Ok(()) => Ok(store.into_disk()),
+            Err(refusal) => Err((store, refusal)),
+        }
+    }
+
+    /// Reads and checks the whole file beside what is in use, and puts it in the place of that. It is refused with 90, with 91 and with
+    /// 94; after a refusal the store keeps what it kept.
+    fn read_anew(&mut self, alloc: Global) -> Result<(), Refusal>
+        ensures reopens { Reopens D.Disk result self.old self.new }
+        ensures marked { self.new.is_marked ≡ self.old.is_marked }
+        ensures synced { D.is_synced self.new.pager.disk ≡ D.is_synced self.old.pager.disk }
+        ensures seen { IsTrue (D.is_honest self.old.pager.disk) → D.seen self.new.pager.disk ≡ D.seen self.old.pager.disk }
+        ensures refused { RefusesToLoad result }
+        ensures count { MatchResult result (λ _. D.failures self.new.pager.disk ≡ D.failures self.old.pager.disk)
+            (λ why. CountsFault why (D.failures self.old.pager.disk) (D.failures self.new.pager.disk)) }
+    {
+        file_holds_one_thing();
+        contents_have_one_state();
+        meant_contents_stay_meant();
+        self.pager.forget();
+        let Loaded {
+            file,
+            catalog,
+            referents,
+        } = load_state(alloc, &mut self.pager)?;
+        self.file = file;
+        self.catalog = catalog;
+        self.referents = referents;
+        Ok(())
+    }
+
+    /// Saves, and marks the disk as closed. It is refused with 91 alone. From then on the store does not know that the disk says that
+    /// it is open.
+    fn put_away(&mut self) -> Result<(), Refusal>
+        ensures keeps { KeepsStore D.Disk self.old self.new }
+        ensures stands { (oldest : ℕ) (state : State) → StandsIn D.Disk oldest self.old state
+            → OnOk result (Stands self.new.pager.limit (D.seen self.new.pager.disk) state) }
+        ensures synced { OnOk result (D.is_synced self.new.pager.disk ≡ true) }
+        ensures unmarked { self.new.is_marked ≡ false }
+        ensures refused { IsOkUnless result Refusal.Disk }
+        ensures count { Counts result (D.failures self.old.pager.disk) (D.failures self.new.pager.disk) }
+    {
+        masked_bytes_are_in_no_map();
+        let saved = self.save();
+        self.is_marked = false;
+        saved?;
+        self.pager.set_open_flag(false)
+    }
+
+    /// Gives the disk back, and writes nothing.
+    fn into_disk(self) -> D
+        ensures { result ≡ self.pager.disk }
+    {
+        let Store {
+            pager,
+            file,
+            catalog,
+            referents,
+            is_marked: _,
+        } = self;
+        drop(file);
+        drop(catalog);
+        drop(referents);
+        pager.into_disk()
+    }
+}

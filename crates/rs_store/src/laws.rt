@@ -1,0 +1,27 @@
+//! These laws say in which state a store stands.
+
+ghost use Rattle.std.specs.Prelude.{◌≡◌, ℕ};
+ghost use Rattle.rs_catalog.specs.Definitions.{state_from};
+ghost use Rattle.rs_catalog.specs.Referents.{referents_on};
+ghost use Rattle.rs_machine.specs.State.{State, no_cursors};
+ghost use Rattle.rs_standing.specs.Seen.{spans_seen};
+ghost use Rattle.rs_store.specs.Kept.{StandsIn, StoreState};
+
+use rs_contents::laws::file_holds_one_thing;
+use rs_disk::Disk;
+use rs_standing::changes::meant_contents_stay_meant;
+use rs_standing::standing::contents_have_one_state;
+
+/// A store stands in one state at the most. That is the state of its catalogue, of the referents in memory, and of the spans that the
+/// version accepted last sees.
+pub fn store_stands_in_one_state<D: Disk>()
+    ensures one { (oldest from : ℕ) (store : StoreState D) (one other : State)
+        → StandsIn D.Disk oldest store one → StandsIn D.Disk from store other → one ≡ other }
+    ensures state { (oldest : ℕ) (store : StoreState D) (state : State) (stands : StandsIn D.Disk oldest store state)
+        → state ≡ state_from store.catalog (λ (route : ℕ). referents_on store.referents route) (spans_seen stands.contents store.file.accepted)
+            (record { changes = store.file.accepted; cursors = no_cursors }) }
+{
+    file_holds_one_thing();
+    contents_have_one_state();
+    meant_contents_stay_meant();
+}

@@ -1,0 +1,108 @@
+//! This module reads a whole file, checks what it says, and brings its definitions and its referents into memory.
+
+ghost use Rattle.std.specs.Prelude.{◌≡◌, ◌⊎◌, Err, IfErr, IfOk, OnOk, map};
+ghost use Rattle.rs_catalog_meaning.specs.Meaning.{AreMeant};
+ghost use Rattle.rs_catalog_pages.specs.Said.{said_catalogue, said_route};
+ghost use Rattle.rs_contents.specs.Calls.{RefusesToLoad};
+ghost use Rattle.rs_contents.specs.Contents.{AreGivenOnce, Contents};
+ghost use Rattle.rs_contents.specs.Meant.{span_of_route};
+ghost use Rattle.rs_contents.specs.Opening.{IsFile};
+ghost use Rattle.rs_definitions.specs.Made.{without_views};
+ghost use Rattle.rs_pages.specs.Calls.{OnlyReads};
+ghost use Rattle.rs_store.specs.Loading.{BringsState, HasNoState, HoldsOpened, LoadsState, StandsForNone};
+
+use crate::viewing::views_of;
+use rs_catalog::{Catalog, RouteReferents};
+use rs_catalog_meaning::check_meaning;
+use rs_catalog_pages::{StoredCatalogue, StoredRoute};
+use rs_contents::laws::{file_holds_one_thing, loaded_file_has_its_directory};
+use rs_contents::opened::OpenedFile;
+use rs_definitions::laws::listed_definitions_are_a_catalogues;
+use rs_definitions::{catalog_of, referents_of};
+use rs_pages::Pages;
+use rs_refusal::Refusal;
+use rs_standing::changes::meant_contents_stay_meant;
+use rs_standing::standing::contents_have_one_state;
+use rs_versioned::RouteSpan;
+use std::alloc::{AllocError, Global};
+
+/// What is open of a file, with its definitions and its referents in memory.
+#[derive(Drop)]
+pub(crate) struct Loaded {
+    pub(crate) file: OpenedFile,
+    pub(crate) catalog: Catalog,
+    pub(crate) referents: RouteReferents,
+}
+
+/// Opens and checks all that a file holds. Ok only where its pages stand for a state, which is then in memory; 94 only where they
+/// stand for none. It may be refused with 90 or 91 instead. No page changes.
+pub(crate) fn load_state<P: Pages>(alloc: Global, pages: &mut P) -> Result<Loaded, Refusal>
+    ensures rests { OnlyReads P.Pages result pages.old pages.new }
+    ensures loads { P.is_tied pages.old → IfOk result (λ loaded. LoadsState (P.store pages.old).map loaded.file loaded.catalog loaded.referents) }
+    ensures damaged { P.is_tied pages.old → result ≡ Err Refusal.DamagedFile → StandsForNone (P.store pages.old).map }
+    ensures file { IfOk result (λ loaded. IsFile loaded.file) }
+    ensures refused { RefusesToLoad result }
+{
+    file_holds_one_thing();
+    contents_have_one_state();
+    meant_contents_stay_meant();
+    let file = rs_contents::load(alloc, pages)?;
+    let (catalog, referents) = bring(alloc, pages, &file)?;
+    Ok(Loaded {
+        file,
+        catalog,
+        referents,
+    })
+}
+
+/// Brings the definitions of an open file and its referents into memory, and checks them. 94 comes only where its contents are not
+/// meant or have no state. It may be refused with 90 or 91 instead. No page changes.
+fn bring<P: Pages>(
+    alloc: Global,
+    pages: &mut P,
+    file: &OpenedFile,
+) -> Result<(Catalog, RouteReferents), Refusal>
+    requires file { IsFile file.now }
+    ensures rests { OnlyReads P.Pages result pages.old pages.new }
+    ensures brings { P.is_tied pages.old → IfOk result (λ said. (contents : Contents)
+        → HoldsOpened (P.store pages.old).map file.now contents → BringsState contents said.0 said.1) }
+    ensures damaged { P.is_tied pages.old → result ≡ Err Refusal.DamagedFile → (contents : Contents)
+        → HoldsOpened (P.store pages.old).map file.now contents → HasNoState contents }
+    ensures refused { RefusesToLoad result }
+{
+    loaded_file_has_its_directory();
+    listed_definitions_are_a_catalogues();
+    let mut catalog = definitions_of(alloc, &file.definitions)?;
+    let routes = spans_of(alloc, file.definitions.routes.as_slice())?;
+    let referents = referents_of(alloc, pages, &file.referents, &routes, file.accepted)?;
+    views_of(alloc, &mut catalog, &referents, &file.definitions)?;
+    Ok((catalog, referents))
+}
+
+/// The catalogue of these definitions, without their views. It is refused with 90, and with 94 only where one does not pass the
+/// checks and limits of its DEFINE line.
+fn definitions_of(alloc: Global, stored: &StoredCatalogue) -> Result<Catalog, Refusal>
+    requires once { AreGivenOnce (said_catalogue stored.now) }
+    ensures meant { OnOk result (AreMeant (said_catalogue stored.now)) }
+    ensures is { IfOk result (λ catalog. catalog ≡ without_views (said_catalogue stored.now)) }
+    ensures none { result ≡ Err Refusal.DamagedFile → AreMeant (said_catalogue stored.now) → ⊥ }
+    ensures refused { IfErr result (λ why. (why ≡ Refusal.OutOfMemory) ⊎ (why ≡ Refusal.DamagedFile)) }
+{
+    check_meaning(stored)?;
+    Ok(catalog_of(alloc, stored)?)
+}
+
+/// The numbers and measures of these routes.
+fn spans_of(alloc: Global, routes: &[StoredRoute]) -> Result<Vec<RouteSpan>, AllocError>
+    ensures { IfOk result (λ spans. spans.items ≡ map span_of_route (map said_route routes.now)) }
+{
+    let mut spans = Vec::with_capacity(alloc, routes.len())?;
+    for route in routes {
+        spans.push(RouteSpan {
+            number: route.number,
+            start: route.start,
+            finish: route.finish,
+        })?;
+    }
+    Ok(spans)
+}
