@@ -1,7 +1,7 @@
 #!/usr/bin/env bash
 # The gate: the kit's `rt ci` proves every crate, tries the must-fail edits and runs the tests and the programs. Then the
-# program that it built holds the conversations, answers pseudo-random lines beside the slow machine, and has its growths
-# refused in turn.
+# programs that it built hold the conversations, answer pseudo-random lines beside the slow machine, open files beside the slow
+# reader of files, and have their growths refused in turn.
 set -eu
 cd "$(dirname "$0")/.."
 # each check by one process: several for one check take a fifth more of the processors
@@ -9,6 +9,10 @@ RT_JOBS="${RT_JOBS:-$(nproc)}" rt ci
 if [ ! -x crates/roadseg/out/roadseg ]; then
     (cd crates/roadseg && rt run -- --help > /dev/null)
 fi
+if [ ! -x crates/rs_file_driver/out/rs_file_driver ]; then
+    (cd crates/rs_file_driver && rt run > /dev/null < stdin)
+fi
 python3 tests/conversations.py
 python3 tests/compare.py
+python3 tests/files.py
 python3 scripts/growths.py
