@@ -56,6 +56,7 @@ mod row_tests;
 mod search_tests;
 #[cfg(test)]
 mod store_tests;
+#[cfg(test)]
 mod storing_tests;
 #[cfg(test)]
 mod tree_format_tests;
