@@ -1,12 +1,11 @@
 //! A file that was created is that of the format, byte for byte.
 
 use crate::expect::expect_at;
-use crate::store_tests;
-use crate::store_tests::closed;
 use rs_catalog_pages::StoredIndex;
-use rs_contents::free_index_number;
-use rs_disk::Disk;
-use rs_pages::LEAST_LIMIT;
+use rs_contents::{create, free_index_number};
+use rs_disk::{Disk, MemoryDisk};
+use rs_pager::Pager;
+use rs_pages::{LEAST_LIMIT, Pages};
 use rs_refusal::Refusal;
 use std::alloc::Global;
 use std::test::Fail;
@@ -27,10 +26,18 @@ static WRITTEN: [(usize, [u8; 8]); 8] = [
     (8_192, [4, 0, 0, 20, 0, 0, 0, 2]),
 ];
 
-/// The bytes of a file that may have three pages at the most, created.
+/// The bytes of a file that may have three pages at the most, created and flushed.
 fn created(alloc: Global) -> Result<Vec<u8>, Refusal> {
-    let mut disk = closed(store_tests::created(alloc)?)?;
-    if disk.pages() != LEAST_LIMIT {
+    let mut pager = match Pager::create(alloc, MemoryDisk::new(alloc), LEAST_LIMIT) {
+        Ok(pager) => pager,
+        Err((_, refusal)) => return Err(refusal),
+    };
+    pager.begin()?;
+    let pages = create(alloc, &mut pager)?;
+    pager.commit();
+    pager.flush()?;
+    let mut disk = pager.into_disk();
+    if disk.pages() != LEAST_LIMIT || pages.len() != 1 {
         return Err(Refusal::WrongValues);
     }
     let mut bytes = vec![in alloc; 0u8; FILE_BYTES]?;

@@ -55,8 +55,6 @@ mod row_tests;
 #[cfg(test)]
 mod search_tests;
 #[cfg(test)]
-mod store_tests;
-#[cfg(test)]
 mod storing_tests;
 #[cfg(test)]
 mod tree_format_tests;
