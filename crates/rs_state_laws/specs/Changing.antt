@@ -1,0 +1,78 @@
+-- What a change makes of a file: a part changes, records are cleared, and the next version is the one that was accepted last.
+use Rattle.std.specs.Prelude.{◌≡◌, ◌≤◌, ◌+◌, ◌-◌, ℕ, length}
+use Rattle.std.specs.List.{sum_by}
+use Rattle.rs_catalog.specs.Definitions.{Definitions, Numbered}
+use Rattle.rs_catalog.specs.Referents.{HeldReferents}
+use Rattle.rs_contents.specs.Contents.{Contents, HoldsAll, TableContents}
+use Rattle.rs_contents.specs.declared.opened.OpenedFile.{OpenedFile}
+use Rattle.rs_file_changes.specs.Clearing.{ClearsAsMany}
+use Rattle.rs_machine.specs.State.{State}
+use Rattle.rs_pages.specs.PageMap.{PageMap}
+use Rattle.rs_standing.specs.Live.{KeepsLive}
+use Rattle.rs_standing.specs.Meant.{IsMeant}
+use Rattle.rs_standing.specs.States.{IsState}
+use Rattle.rs_state_laws.specs.Standing.{AreInMemory, IsOpenedFile, StandsAt}
+
+-- ---- in the pages
+
+abbrev pub dead_of : TableContents → ℕ
+dead_of table = length table.standing.dead
+
+-- how many records of the tables and of the referents are dead
+abbrev pub dead_in : Contents → ℕ
+dead_in contents = length contents.referents.standing.dead + sum_by dead_of contents.tables
+
+-- Of the records that no version from the oldest on sees, 64 are gone, or all where they are fewer; and at most 64 more than the
+-- change itself has ended.
+pub record ClearsEnough (oldest : ℕ) (old between now : Contents) : Type 0 where
+  pub most : ℕ
+  pub gone : ℕ
+  pub least : 64 ≤ most
+  pub few : most ≤ 64 + (dead_in between - dead_in old)
+  pub cleared : ClearsAsMany oldest most gone between (record now { directory = between.directory })
+
+-- A change is completed once its part has changed: records are cleared, the next version is the one that was accepted last, and the
+-- file holds all that.
+pub record Completes (oldest : ℕ) (old between : Contents) (map : PageMap) (file : OpenedFile) : Type 0 where
+  pub contents : Contents
+  pub same : between.directory ≡ old.directory
+  pub clears : ClearsEnough oldest old between contents
+  pub next : contents.directory.accepted ≡ old.directory.accepted + 1
+  pub holds : HoldsAll map contents
+  pub opened : IsOpenedFile file contents
+
+-- the contents have changed so, and that is completed
+pub record HasChanged (oldest : ℕ) (old : Contents) (map : PageMap) (file : OpenedFile) (change : Contents → Type 0) : Type 0 where
+  pub between : Contents
+  pub changed : change between
+  pub completes : Completes oldest old between map file
+
+-- whatever contents the file held with what was open have changed so
+pub record ChangesFile (oldest : ℕ) (old new : PageMap) (was is : OpenedFile) (change : Contents → Contents → Type 0) : Type 0 where
+  pub each : (contents : Contents) → HoldsAll old contents → IsOpenedFile was contents → HasChanged oldest contents new is (change contents)
+
+-- the file holds no contents with what is open
+pub record HoldsNoFile (map : PageMap) (file : OpenedFile) : Type 0 where
+  pub none : (contents : Contents) → HoldsAll map contents → IsOpenedFile file contents → ⊥
+
+-- ---- in values
+
+-- the same contents, with the next version as the one that was accepted last
+abbrev pub next_of : Contents → Contents
+next_of contents = record contents { directory = record contents.directory { accepted = contents.directory.accepted + 1 } }
+
+-- Where contents have changed so, live versions see what they saw, and the next one means what it says: with these definitions and
+-- referents in memory it has this state.
+pub record GivesState (oldest : ℕ) (old between : Contents) (definitions : Definitions) (held : Numbered HeldReferents) (state : State) : Type 0 where
+  pub live : KeepsLive oldest old between
+  pub meant : IsMeant (old.directory.accepted + 1) (next_of between)
+  pub memory : AreInMemory definitions held (next_of between)
+  pub is : IsState (next_of between) state
+
+-- the file stands for the state of the next version, and live versions see what they saw
+pub record Becomes (oldest : ℕ) (old : Contents) (map : PageMap) (file : OpenedFile) (definitions : Definitions) (held : Numbered HeldReferents) (state : State) : Type 0 where
+  pub between : Contents
+  pub stands : StandsAt oldest map file definitions held state
+  pub clears : ClearsEnough oldest old between stands.contents
+  pub next : stands.contents.directory.accepted ≡ old.directory.accepted + 1
+  pub live : KeepsLive oldest old stands.contents

@@ -1,0 +1,3 @@
+pub mod Changing
+pub mod Parts
+pub mod Standing

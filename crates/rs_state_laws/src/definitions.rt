@@ -1,0 +1,84 @@
+//! Routes, views and alignments that come or go: the state that a file has then.
+
+ghost use Rattle.std.specs.Prelude.{◌≡◌, ◌≤◌, ◌<◌, ◌+◌, ℕ, List, [], Some, false};
+ghost use Rattle.std.specs.FinMap as names;
+ghost use Rattle.rs_catalog.specs.Changes as catalog;
+ghost use Rattle.rs_catalog.specs.Definitions.{AreDefinitions, Definitions, IsFree, Numbered, RouteItem, ViewItem};
+ghost use Rattle.rs_catalog.specs.Referents.{HeldReferents, at_number, referents_on};
+ghost use Rattle.rs_catalog.specs.Uses.{some_piece_on};
+ghost use Rattle.rs_cell_versions.specs.declared.cell.TheConstants.{LIVING};
+ghost use Rattle.rs_contents.specs.Contents.{Contents};
+ghost use Rattle.rs_contents.specs.declared.opened.OpenedFile.{OpenedFile};
+ghost use Rattle.rs_definitions.specs.Listing.{listing_of};
+ghost use Rattle.rs_facts.specs.Fact.{Name};
+ghost use Rattle.rs_facts.specs.Query.{Piece};
+ghost use Rattle.rs_file_changes.specs.Calls.{ChangesDefinitions};
+ghost use Rattle.rs_machine.specs.Lawful.{IsLawful};
+ghost use Rattle.rs_machine.specs.State.{State, has};
+ghost use Rattle.rs_machine.specs.Step as machine;
+ghost use Rattle.rs_pages.specs.PageMap.{PageMap};
+ghost use Rattle.rs_standing.specs.Seen.{spans_seen};
+ghost use Rattle.rs_standing.specs.States.{HasLine};
+ghost use Rattle.rs_state_laws.specs.Changing.{GivesState};
+ghost use Rattle.rs_state_laws.specs.Parts.{DropsRoute};
+ghost use Rattle.rs_state_laws.specs.Standing.{StandsAt};
+ghost use Rattle.rs_syntax.specs.QueryView.{query_tree};
+
+/// Where a route of a free number is listed that is born by the next version, the state has it beside the others.
+pub fn route_defined_gives_its_state()
+    ensures { (from oldest : ℕ) (map : PageMap) (file : OpenedFile) (definitions : Definitions) (held : Numbered HeldReferents) (state : State)
+        → (stands : StandsAt from map file definitions held state) → from ≤ oldest → stands.contents.directory.accepted + 1 < LIVING
+        → (name : Name) (item : RouteItem) (between : Contents) → AreDefinitions (catalog.with_route definitions name item)
+        → has definitions.routes name ≡ false → IsFree (λ (route : RouteItem). route.number) definitions.routes item.number
+        → item.born ≡ stands.contents.directory.accepted + 1
+        → ChangesDefinitions (listing_of (catalog.with_route definitions name item)) stands.contents between
+        → IsLawful (machine.with_route state name item.ends.start item.ends.finish)
+        → GivesState oldest stands.contents between (catalog.with_route definitions name item) held (machine.with_route state name item.ends.start item.ends.finish) }
+{}
+
+/// Where a route is not listed any more on which no fact lies, and its referents have ended, the state has neither. No version before
+/// the next one is live.
+pub fn route_dropped_gives_its_state()
+    ensures { (from oldest : ℕ) (map : PageMap) (file : OpenedFile) (definitions : Definitions) (held kept : Numbered HeldReferents) (state : State)
+        → (stands : StandsAt from map file definitions held state) → oldest ≡ stands.contents.directory.accepted + 1 → oldest < LIVING
+        → (name : Name) (item : RouteItem) (between : Contents) → AreDefinitions (catalog.without_route definitions name)
+        → names.get definitions.routes name ≡ Some item → some_piece_on definitions name ≡ false
+        → ((table : ℕ) → spans_seen stands.contents stands.contents.directory.accepted table item.number ≡ [])
+        → referents_on kept ≡ at_number item.number names.empty (referents_on held)
+        → DropsRoute item.number (listing_of (catalog.without_route definitions name)) stands.contents between
+        → IsLawful (machine.without_route state name)
+        → GivesState oldest stands.contents between (catalog.without_route definitions name) kept (machine.without_route state name) }
+{}
+
+/// Where a view is listed, or is not any more, the state has it beside the others, or has the others.
+pub fn view_listed_gives_its_state()
+    ensures defined { (from oldest : ℕ) (map : PageMap) (file : OpenedFile) (definitions : Definitions) (held : Numbered HeldReferents) (state : State)
+        → (stands : StandsAt from map file definitions held state) → from ≤ oldest → stands.contents.directory.accepted + 1 < LIVING
+        → (name : Name) (item : ViewItem) (between : Contents) → has definitions.views name ≡ false → HasLine name (query_tree item.query) item.text
+        → ChangesDefinitions (listing_of (catalog.with_view definitions name item)) stands.contents between
+        → IsLawful (machine.with_view state name (query_tree item.query))
+        → GivesState oldest stands.contents between (catalog.with_view definitions name item) held (machine.with_view state name (query_tree item.query)) }
+    ensures dropped { (from oldest : ℕ) (map : PageMap) (file : OpenedFile) (definitions : Definitions) (held : Numbered HeldReferents) (state : State)
+        → (stands : StandsAt from map file definitions held state) → from ≤ oldest → stands.contents.directory.accepted + 1 < LIVING
+        → (name : Name) (item : ViewItem) (between : Contents) → names.get definitions.views name ≡ Some item
+        → ChangesDefinitions (listing_of (catalog.without_view definitions name)) stands.contents between
+        → IsLawful (machine.without_view state name)
+        → GivesState oldest stands.contents between (catalog.without_view definitions name) held (machine.without_view state name) }
+{}
+
+/// The same of an alignment.
+pub fn alignment_listed_gives_its_state()
+    ensures defined { (from oldest : ℕ) (map : PageMap) (file : OpenedFile) (definitions : Definitions) (held : Numbered HeldReferents) (state : State)
+        → (stands : StandsAt from map file definitions held state) → from ≤ oldest → stands.contents.directory.accepted + 1 < LIVING
+        → (name : Name) (pieces : List Piece) (between : Contents) → AreDefinitions (catalog.with_alignment definitions name pieces)
+        → has definitions.alignments name ≡ false
+        → ChangesDefinitions (listing_of (catalog.with_alignment definitions name pieces)) stands.contents between
+        → IsLawful (machine.with_alignment state name pieces)
+        → GivesState oldest stands.contents between (catalog.with_alignment definitions name pieces) held (machine.with_alignment state name pieces) }
+    ensures dropped { (from oldest : ℕ) (map : PageMap) (file : OpenedFile) (definitions : Definitions) (held : Numbered HeldReferents) (state : State)
+        → (stands : StandsAt from map file definitions held state) → from ≤ oldest → stands.contents.directory.accepted + 1 < LIVING
+        → (name : Name) (pieces : List Piece) (between : Contents) → names.get definitions.alignments name ≡ Some pieces
+        → ChangesDefinitions (listing_of (catalog.without_alignment definitions name)) stands.contents between
+        → IsLawful (machine.without_alignment state name)
+        → GivesState oldest stands.contents between (catalog.without_alignment definitions name) held (machine.without_alignment state name) }
+{}
