@@ -1,0 +1,34 @@
+-- What completes a change once its part has changed.
+use Rattle.std.specs.Prelude.{◌≡◌, ◌≤◌, ◌+◌, ◌-◌, ◌^◌, ℕ, min}
+use Rattle.std.specs.List.{AllByRecursion}
+use Rattle.rs_catalog_pages.specs.Directory.{DirectoryItems, HasDirectory}
+use Rattle.rs_contents.specs.Contents.{Contents, HoldsAll, HoldsParts}
+use Rattle.rs_contents.specs.declared.opened.OpenedFile.{OpenedFile}
+use Rattle.rs_file_changes.specs.Clearing.{ClearsAsMany}
+use Rattle.rs_file_changes.specs.Parts as parts
+use Rattle.rs_pages.specs.PageMap.{PageMap}
+use Rattle.rs_state_changes.specs.Garbage.{garbage_of}
+use Rattle.rs_state_laws.specs.Standing.{IsOpenedFile}
+
+-- some records are cleared, and the file holds all with the next version as the one that was accepted last
+pub record Completed (oldest before : ℕ) (was : OpenedFile) (between : Contents) (new : PageMap) (is : OpenedFile) : Type 0 where
+  pub contents : Contents
+  pub most : ℕ
+  pub gone : ℕ
+  pub least : 64 ≤ most
+  pub few : (dead : ℕ) → before ≡ min dead (2 ^ 64 - 1) → most ≤ 64 + (garbage_of was - dead)
+  pub cleared : ClearsAsMany oldest most gone between (record contents { directory = between.directory })
+  pub next : contents.directory.accepted ≡ was.accepted + 1
+  pub holds : HoldsAll new contents
+  pub opened : IsOpenedFile is contents
+
+-- whatever contents lie there with what was open, up to the next version, beside a directory
+pub record CompletesFrom (oldest before : ℕ) (old new : PageMap) (was is : OpenedFile) : Type 0 where
+  pub each : (between : Contents) (directory : DirectoryItems) → HasDirectory old directory → HoldsParts old (was.accepted + 1) between
+      → parts.IsOpenedFile was between → AllByRecursion (λ route. route.born ≤ was.accepted + 1) between.definitions.routes
+      → Completed oldest before was between new is
+
+-- no contents lie there with what is open, up to the next version, beside a directory
+pub record HoldsNoneToComplete (map : PageMap) (file : OpenedFile) : Type 0 where
+  pub none : (between : Contents) (directory : DirectoryItems) → HasDirectory map directory → HoldsParts map (file.accepted + 1) between
+      → parts.IsOpenedFile file between → ⊥

@@ -1,0 +1,81 @@
+//! A referent that comes, moves or goes.
+
+ghost use Rattle.std.specs.Prelude.{◌≡◌, ◌<◌, ◌+◌, ◌^◌, true, OnErr, OnOk};
+ghost use Rattle.std.specs.List.{AllByRecursion};
+ghost use Rattle.rs_file_changes.specs.Parts.{KeepsCommitted};
+ghost use Rattle.rs_machine.specs.declared.limits.TheConstants.{CHANGES};
+ghost use Rattle.rs_state_changes.specs.Calls.{IsNext, LeavesFile, MayChange};
+ghost use Rattle.rs_state_laws.specs.Changing.{ChangesFile};
+ghost use Rattle.rs_state_laws.specs.Parts.{EndsReferent, MovesReferent, PutsReferent};
+
+use rs_contents::OpenedFile;
+use rs_methods::{Name, Referent};
+use rs_pages::Pages;
+use rs_refusal::Refusal;
+use std::alloc::Global;
+
+/// Puts a referent on its route: the next version sees it. Versions from `oldest` on see what they saw. It is refused with 90, with 91,
+/// with 92 where the file is full, and with 94 only where the file holds no contents with what is open.
+pub fn define_referent<P: Pages>(
+    alloc: Global,
+    pages: &mut P,
+    file: &mut OpenedFile,
+    oldest: u64,
+    referent: &Referent,
+) -> Result<(), Refusal>
+    requires begun { (P.store pages.old).is_begun ≡ true }
+    requires may { MayChange file.old }
+    requires room { file.old.accepted < CHANGES }
+    requires name { AllByRecursion (λ byte. 0 < byte) referent.now.name.bytes }
+    ensures leaves { LeavesFile P.Pages file.old result pages.old pages.new }
+    ensures puts { P.is_tied pages.old → OnOk result (ChangesFile oldest (P.store pages.old).map (P.store pages.new).map file.old file.new
+        (PutsReferent referent.now.route referent.now.name.bytes referent.now.measure)) }
+    ensures next { OnOk result (IsNext file.old.definitions file.old file.new) }
+    ensures keeps { OnErr result (KeepsCommitted file.old file.new) }
+{
+    todo
+}
+
+/// Puts a referent in the place of the one of its name on its route. It is refused as `define_referent` is.
+pub fn move_referent<P: Pages>(
+    alloc: Global,
+    pages: &mut P,
+    file: &mut OpenedFile,
+    oldest: u64,
+    referent: &Referent,
+) -> Result<(), Refusal>
+    requires begun { (P.store pages.old).is_begun ≡ true }
+    requires may { MayChange file.old }
+    requires room { file.old.accepted < CHANGES }
+    requires name { AllByRecursion (λ byte. 0 < byte) referent.now.name.bytes }
+    requires route { referent.now.route + 1 < 2 ^ 32 }
+    ensures leaves { LeavesFile P.Pages file.old result pages.old pages.new }
+    ensures moves { P.is_tied pages.old → OnOk result (ChangesFile oldest (P.store pages.old).map (P.store pages.new).map file.old file.new
+        (MovesReferent referent.now.route referent.now.name.bytes referent.now.measure)) }
+    ensures next { OnOk result (IsNext file.old.definitions file.old file.new) }
+    ensures keeps { OnErr result (KeepsCommitted file.old file.new) }
+{
+    todo
+}
+
+/// Ends the referent of this name on the route. It is refused as `define_referent` is.
+pub fn drop_referent<P: Pages>(
+    alloc: Global,
+    pages: &mut P,
+    file: &mut OpenedFile,
+    oldest: u64,
+    route: u32,
+    name: &Name,
+) -> Result<(), Refusal>
+    requires begun { (P.store pages.old).is_begun ≡ true }
+    requires may { MayChange file.old }
+    requires room { file.old.accepted < CHANGES }
+    requires route { route + 1 < 2 ^ 32 }
+    ensures leaves { LeavesFile P.Pages file.old result pages.old pages.new }
+    ensures ends { P.is_tied pages.old → OnOk result (ChangesFile oldest (P.store pages.old).map (P.store pages.new).map file.old file.new
+        (EndsReferent route name.now.bytes)) }
+    ensures next { OnOk result (IsNext file.old.definitions file.old file.new) }
+    ensures keeps { OnErr result (KeepsCommitted file.old file.new) }
+{
+    todo
+}

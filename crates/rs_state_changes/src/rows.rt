@@ -1,0 +1,95 @@
+//! A row put along a span of a route, and rows taken away between two thousandths of it.
+
+ghost use Rattle.std.specs.Prelude.{◌≡◌, ◌<◌, ◌+◌, true, length, IfOk, OnErr, OnOk, Some, slice_get};
+ghost use Rattle.rs_contents.specs.declared.opened.OpenedTable.{OpenedTable};
+ghost use Rattle.rs_facts.specs.Spans.{IsPlaced, seen};
+ghost use Rattle.rs_file_changes.specs.Parts.{KeepsCommitted};
+ghost use Rattle.rs_machine.specs.declared.limits.TheConstants.{CHANGES};
+ghost use Rattle.rs_state_changes.specs.Calls.{IsNext, LeavesFile, MayChange};
+ghost use Rattle.rs_state_laws.specs.Changing.{ChangesFile};
+ghost use Rattle.rs_state_laws.specs.Parts.{InsertsRow, RemovesRows};
+ghost use Rattle.rs_value.specs.Values.{IsRowOf};
+ghost use Rattle.rs_value.specs.View.{row_of};
+
+use rs_contents::OpenedFile;
+use rs_facts::{Condition, Span};
+use rs_pages::Pages;
+use rs_refusal::Refusal;
+use rs_value::Kind;
+use std::alloc::Global;
+
+/// A row that is put along a span of a route.
+#[derive(Drop)]
+pub struct Insertion {
+    /// The table's place among those of the file.
+    pub table: usize,
+    /// Whether its rows are points or lines.
+    pub kind: Kind,
+    /// The route's number.
+    pub route: u32,
+    /// The row along its span, in thousandths.
+    pub span: Span,
+}
+
+/// Rows that are taken away between two thousandths of a route.
+#[derive(Drop)]
+pub struct Removal {
+    /// The table's place among those of the file.
+    pub table: usize,
+    /// The route's number.
+    pub route: u32,
+    /// The first thousandth.
+    pub lo: u32,
+    /// The first thousandth after them.
+    pub hi: u32,
+    /// Which rows go; all where there is no condition.
+    pub goes: Option<Condition>,
+}
+
+/// Puts a row along a span, and answers how many facts are new. Versions from `oldest` on see what they saw, and the next version sees
+/// the row. It is refused with 90, with 91, with 92 where the file is full, and with 94 only where the file holds no contents with what
+/// is open.
+pub fn insert<P: Pages>(
+    alloc: Global,
+    pages: &mut P,
+    file: &mut OpenedFile,
+    oldest: u64,
+    insertion: &Insertion,
+) -> Result<u64, Refusal>
+    requires begun { (P.store pages.old).is_begun ≡ true }
+    requires may { MayChange file.old }
+    requires room { file.old.accepted < CHANGES }
+    requires place { insertion.now.table < length file.old.tables.items }
+    requires row { (table : OpenedTable) → slice_get file.old.tables.items insertion.now.table ≡ Some table
+        → IsRowOf table.records.types (row_of insertion.now.span.tuple.value) }
+    requires placed { IsPlaced insertion.now.kind (seen insertion.now.span) }
+    ensures leaves { LeavesFile P.Pages file.old result pages.old pages.new }
+    ensures inserts { P.is_tied pages.old → IfOk result (λ count. ChangesFile oldest (P.store pages.old).map (P.store pages.new).map file.old file.new
+        (InsertsRow insertion.now.table insertion.now.kind insertion.now.route (seen insertion.now.span) count)) }
+    ensures next { OnOk result (IsNext file.old.definitions file.old file.new) }
+    ensures keeps { OnErr result (KeepsCommitted file.old file.new) }
+{
+    todo
+}
+
+/// Takes rows away, and answers how many facts went. Versions from `oldest` on see what they saw, and the next version does not see the
+/// rows. It is refused as `insert` is.
+pub fn remove<P: Pages>(
+    alloc: Global,
+    pages: &mut P,
+    file: &mut OpenedFile,
+    oldest: u64,
+    removal: &Removal,
+) -> Result<u128, Refusal>
+    requires begun { (P.store pages.old).is_begun ≡ true }
+    requires may { MayChange file.old }
+    requires room { file.old.accepted < CHANGES }
+    requires place { removal.now.table < length file.old.tables.items }
+    ensures leaves { LeavesFile P.Pages file.old result pages.old pages.new }
+    ensures removes { P.is_tied pages.old → IfOk result (λ count. ChangesFile oldest (P.store pages.old).map (P.store pages.new).map file.old file.new
+        (RemovesRows removal.now.table removal.now.route removal.now.lo removal.now.hi removal.now.goes count)) }
+    ensures next { OnOk result (IsNext file.old.definitions file.old file.new) }
+    ensures keeps { OnErr result (KeepsCommitted file.old file.new) }
+{
+    todo
+}
