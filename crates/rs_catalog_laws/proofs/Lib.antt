@@ -1,0 +1,6 @@
+pub mod Numbers
+pub mod States
+pub mod Routes
+pub mod Tables
+pub mod OtherReferents
+pub mod OtherRows
