@@ -4,3 +4,5 @@ pub mod Routes
 pub mod Tables
 pub mod OtherReferents
 pub mod OtherRows
+pub mod SpanRows
+pub mod Events

@@ -44,6 +44,14 @@ module _ {X : Type 0} (number_of : X → ℕ) where
   pub apart_from_other : (items : Names X) → AreNumbered number_of items → (a b : Name) (x y : X) → eq_by_cmp name_cmp a b ≡ false → names.get items a ≡ Some x → names.get items b ≡ Some y → number_of x ≡ number_of y → ⊥
   apart_from_other items numbered a b x y off at there same = false_true (sym off ∙ name_itself a b (numbered a b x y at there same))
 
+  -- what is left after a name was taken out has another number than what stood there
+  pub apart_from_removed : (items : Names X) → AreNumbered number_of items → (key q : Name) (value item : X) → names.get items key ≡ Some value → names.get (names.remove items key) q ≡ Some item → number_of item ≡ number_of value → ⊥
+  apart_from_removed items numbered key q value item there at same =
+      elim (eq_by_cmp name_cmp q key) as (λ b. eq_by_cmp name_cmp q key ≡ b → cond b None (names.get items q) ≡ Some item → ⊥) [
+        | true ↦ λ e f. none_some item f
+        | false ↦ λ e f. apart_from_other items numbered q key item value e f there same
+      ] refl (sym (get-remove name_cmp-total items key q) ∙ at)
+
   -- what has the number of what stands under a name is it
   pub only_of_number : (items : Names X) → AreNumbered number_of items → (a b : Name) (x y : X) → names.get items a ≡ Some x → names.get items b ≡ Some y → number_of x ≡ number_of y → x ≡ y
   only_of_number items numbered a b x y at there same = some_same x y (sym at ∙ ap (names.get items) (numbered a b x y at there same) ∙ there)
