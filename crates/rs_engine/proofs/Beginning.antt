@@ -10,12 +10,12 @@ use Rattle.rs_catalog.specs.Referents.{HeldReferents, referents_on, no_referents
 use Rattle.rs_catalog.proofs.DefinitionLaws.{are_definitions-empty}
 use Rattle.rs_catalog.proofs.MapLaws.{none_some}
 use Rattle.rs_catalog.proofs.StateLaws.{routes_of-none, views_of-none, indexes_of-none, tables_from-none, referents_from-none}
+use Rattle.rs_catalog_laws.proofs.States.{same_state}
 use Rattle.rs_event_lists.specs.Held.{HeldLists, spans_on}
 use Rattle.rs_event_lists.specs.Changed.{HoldsNothing}
 use Rattle.rs_cursor.specs.Held.{HeldCursors, cursors_of}
 use Rattle.rs_engine.specs.Held.{state_of, IsHeld}
 use Rattle.rs_engine.specs.View.{machine_of}
-use Rattle.rs_engine.proofs.StateLaws.{same_state}
 
 module _ (definitions : Definitions) (referents : Numbered HeldReferents) (events : HeldLists) (cursors : HeldCursors) where
   nothing_there : definitions ≡ no_definitions → (name : Name) (item : TableItem) → names.get definitions.tables name ≡ Some item → ⊥

@@ -21,6 +21,7 @@ use Rattle.rs_machine.specs.Checks.{◌>>=◌, no_refusal, window_route, same_ki
 use Rattle.rs_machine.specs.Step.{Effect, counted, may_change, row_inserted, rows_removed, with_table, with_facts_along, without_facts}
 use Rattle.rs_catalog.specs.Events.{behind}
 use Rattle.rs_catalog.specs.Referents.{referents_on}
+use Rattle.rs_catalog_laws.proofs.States.{facts_at}
 use Rattle.rs_event_lists.specs.Held.{HeldLists, spans_on, kind_at, kind_on}
 use Rattle.rs_event_lists.specs.Changed.{TakesSpan, LosesRows, AreAllKept}
 use Rattle.rs_event_lists.specs.Removal.{goes_by}
@@ -29,7 +30,6 @@ use Rattle.rs_engine.specs.Held.{Held, state_of, IsHeld}
 use Rattle.rs_engine.specs.Located.{position_by, span_by, event_span_by}
 use Rattle.rs_engine.specs.Insertion.{MayBePut}
 use Rattle.rs_engine.specs.Removal.{MayBeTaken}
-use Rattle.rs_engine.proofs.StateLaws.{facts_at}
 use Rattle.rs_engine.proofs.Positions.{located-between, then_ok, in_order, less_than}
 use Rattle.rs_engine.proofs.EventChecks.{table_of, row_passed, removal_passed}
 use Rattle.rs_engine.proofs.EventSteps.{state_taken, held_taken, state_lost, held_lost}

@@ -1,4 +1,3 @@
-mod StateLaws
 mod RouteSteps
 mod TableSteps
 mod EventSteps

@@ -35,6 +35,9 @@ use Rattle.rs_catalog.specs.Definitions.{RouteItem, TableItem, facts_from, table
 use Rattle.rs_catalog.specs.Names.{map_values}
 use Rattle.rs_catalog.proofs.Names.{get-map_values}
 use Rattle.rs_catalog.proofs.MapLaws.{none_some, some_same}
+use Rattle.rs_catalog.proofs.StateLaws.{get-tables_from}
+use Rattle.rs_catalog_laws.proofs.Numbers.{false_true}
+use Rattle.rs_catalog_laws.proofs.States.{facts_at, facts_nowhere}
 use Rattle.rs_checker.specs.declared.checked.Checked.{Checked}
 use Rattle.rs_checker.specs.CheckedView.{query_of, named_in}
 use Rattle.rs_checker.specs.Numbers.{IsNumberedIn, AreNumberedIn}
@@ -56,8 +59,6 @@ use Rattle.rs_engine.specs.Plans.{CanBePlanned, IsPlanFor}
 use Rattle.rs_engine.specs.Present.{is_of_kind, are_so_wide, starts_wide, spans_of_table, present}
 use Rattle.rs_engine.proofs.Outcomes.{table_at}
 use Rattle.rs_engine.proofs.Plans.{counts_of, basis_of, all-counted}
-use Rattle.rs_engine.proofs.StateLaws.{facts_at, facts_nowhere, get_table}
-use Rattle.rs_engine.proofs.RouteSteps.{false_true}
 
 -- ---- a table's spans by its number
 
@@ -135,7 +136,7 @@ module _ (held : Held) (is : IsHeld held) where
 
   rows-wide : RowsHaveTheirWidth world
   rows-wide name table at =
-      let found = mapped-some (table_from held.definitions.routes (spans_on held.events)) (names.get held.definitions.tables name) table (sym (get_table held.definitions (spans_on held.events) name) ∙ at) in
+      let found = mapped-some (table_from held.definitions.routes (spans_on held.events)) (names.get held.definitions.tables name) table (sym (get-tables_from held.definitions (spans_on held.events) name) ∙ at) in
       subst (λ (t : Table). (route : Name) (k : ℕ) (row : Row) → contains (t.facts route k) row ≡ true → length row ≡ length t.columns) found.2 (wide-there name found.0 found.1)
 
   -- ---- what a plan names

@@ -33,13 +33,13 @@ use Rattle.rs_catalog.proofs.Names.{each_entry, entries-map_values}
 use Rattle.rs_catalog.proofs.MapLaws.{some_same, same_name-true}
 use Rattle.std.specs.Cmp.{eq_by_cmp_equiv}
 use Rattle.rs_catalog.proofs.NameOrder.{name_cmp-total}
+use Rattle.rs_catalog_laws.proofs.States.{facts_at}
 use Rattle.rs_checker.specs.Numbers.{IsNumberedIn, AreNumberedIn}
 use Rattle.rs_event_lists.specs.Held.{HeldLists, spans_on}
 use Rattle.rs_plan.specs.Counted.{Counted, AreIndexesOf, IsCounted}
 use Rattle.rs_plan.specs.declared.counts.Index.{Index}
 use Rattle.rs_engine.specs.Held.{Held, state_of, IsHeld}
 use Rattle.rs_engine.specs.Planned.{records_kept, SeenIndex, index_seen, item_seen, indexes_kept}
-use Rattle.rs_engine.proofs.StateLaws.{facts_at}
 use Rattle.rs_engine.proofs.Outcomes.{table_at}
 
 head_same : {X : Type 0} (x y : X) (xs ys : List X) → ◌≡◌ {A = List X} (x ∷ xs) (y ∷ ys) → x ≡ y

@@ -24,10 +24,11 @@ use Rattle.rs_catalog.specs.Definitions.{RouteItem, TableItem, facts_from, table
 use Rattle.rs_catalog.specs.Events.{behind, LieOn}
 use Rattle.rs_event_lists.specs.Held.{spans_on}
 use Rattle.rs_engine.specs.Held.{Held, state_of, IsHeld}
-use Rattle.rs_engine.proofs.StateLaws.{facts_at, get_table}
 use Rattle.rs_catalog.proofs.MapLaws.{same_name-true}
+use Rattle.rs_catalog.proofs.StateLaws.{get-tables_from}
+use Rattle.rs_catalog_laws.proofs.Numbers.{false_true}
+use Rattle.rs_catalog_laws.proofs.States.{facts_at}
 use Rattle.rs_engine.proofs.Outcomes.{route_at}
-use Rattle.rs_engine.proofs.RouteSteps.{false_true}
 
 -- ---- what operators make of no rows
 
@@ -120,7 +121,7 @@ module _ (held : Held) (is : IsHeld held) (route : Name) (on : RouteItem) (there
 
   named_off : (name : Name) (k : ℕ) → IsOff (kind_of world (table_rows name)) k → rows_at world (table_rows name) route k ≡ none
   named_off name k off =
-      let got = get_table held.definitions (spans_on held.events) name in
+      let got = get-tables_from held.definitions (spans_on held.events) name in
       ap (λ o. facts_of o route k) got
       ∙ elim (names.get held.definitions.tables name) as (λ o. names.get held.definitions.tables name ≡ o → IsOff (table_kind (option_map (table_from held.definitions.routes (spans_on held.events)) o)) k → facts_of (option_map (table_from held.definitions.routes (spans_on held.events)) o) route k ≡ none) [
         | None ↦ λ e away. refl

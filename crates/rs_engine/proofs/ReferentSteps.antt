@@ -1,5 +1,5 @@
 -- What a change of a route's referents does to the state, and what is looked at before.
-use Rattle.std.proofs.Common.{◌≡◌, ℕ, ◌+◌, ◌<◌, ◌≤◌, Bool, true, false, cond, not, nat_lt, ◌||◌, Option, Some, None, Result, Ok, Err, refl, sym, ap, ◌∙◌}
+use Rattle.std.proofs.Common.{◌≡◌, ℕ, ◌+◌, ◌<◌, ◌≤◌, Bool, true, false, not, nat_lt, ◌||◌, Option, Some, None, Result, Ok, Err, refl, sym, ap, ◌∙◌}
 use Rattle.std.specs.FinMap as names
 use Rattle.std.specs.Cmp.{eq_by_cmp_equiv}
 use Rattle.rs_refusal.specs.declared.refusal.Refusal.{Refusal}
@@ -12,22 +12,23 @@ use Rattle.rs_machine.specs.declared.limits.TheConstants.{REFERENTS}
 use Rattle.rs_machine.specs.State.{has}
 use Rattle.rs_machine.specs.Checks.{◌>>=◌, unless, found, has_referent, position_on}
 use Rattle.rs_machine.specs.Step.{Effect, counted, may_change, with_referents, referent_defined, referent_moved}
-use Rattle.rs_catalog.specs.Definitions.{RouteItem, Numbered, on_numbered, referents_from}
+use Rattle.rs_catalog.specs.Definitions.{RouteItem, Numbered, state_from}
 use Rattle.rs_catalog.specs.Referents.{HeldReferents, referents_on, at_number}
 use Rattle.rs_catalog.proofs.NameOrder.{name_cmp-total}
-use Rattle.rs_catalog.proofs.StateLaws.{referents_from-at}
-use Rattle.rs_engine.specs.Held.{Held, state_of, IsHeld}
+use Rattle.rs_catalog_laws.specs.Rest.{one_more}
+use Rattle.rs_catalog_laws.proofs.Numbers.{false_true, other_number}
+use Rattle.rs_catalog_laws.proofs.OtherReferents as laws
+use Rattle.rs_catalog_laws.proofs.OtherReferents.{referents_off, state_with_referents}
+use Rattle.rs_event_lists.specs.Held.{spans_on}
+use Rattle.rs_engine.specs.Held.{Held, rest_of, state_of, IsHeld}
 use Rattle.rs_engine.specs.Referents.{route_of_referent, with_referent, without_referent}
-use Rattle.rs_engine.proofs.StateLaws.{same_state, other_number}
-use Rattle.rs_engine.proofs.RouteSteps.{false_true}
 use Rattle.rs_engine.proofs.Outcomes.{below-true, below-false, route_at, no_route}
 
 -- ---- one route has other referents
 
 module _ (held : Held) (route : Name) (item : RouteItem) (there : names.get held.definitions.routes route ≡ Some item) where
   pub referents_there : (state_of held).referents route ≡ referents_on held.referents item.number
-  unfolding referents_from
-  referents_there = ap (on_numbered names.empty (referents_on held.referents)) there
+  referents_there = laws.referents_there held.definitions route item (referents_on held.referents) there
 
   pub has_there : (name : Name) → has ((state_of held).referents route) name ≡ has (referents_on held.referents item.number) name
   has_there name = ap (λ (referents : Names ℕ). has referents name) referents_there
@@ -43,10 +44,11 @@ module _ (held : Held) (route : Name) (item : RouteItem) (there : names.get held
     with_other_referents = record held { referents = referents; changes = held.changes + 1 }
 
     pub state_other_referents : state_of with_other_referents ≡ with_referents (state_of held) route after
-    state_other_referents = same_state _ _ refl (ap (referents_from held.definitions) changed ∙ referents_from-at held.definitions (referents_on held.referents) route item after is.definitions.route_numbers there) refl refl refl refl refl refl
+    state_other_referents =
+        ap (λ (by_number : ℕ → Names ℕ). state_from held.definitions by_number (spans_on held.events) (one_more (rest_of held))) changed
+        ∙ state_with_referents held.definitions route item after (referents_on held.referents) (spans_on held.events) (rest_of held) is.definitions there
 
     pub held_other_referents : IsHeld with_other_referents
-    unfolding at_number
     held_other_referents = record {
       definitions = is.definitions;
       events = is.events;
@@ -54,7 +56,7 @@ module _ (held : Held) (route : Name) (item : RouteItem) (there : names.get held
       few_routes = is.few_routes;
       referents = λ number free.
           ap (λ (by_number : ℕ → Names ℕ). by_number number) changed
-          ∙ ap (λ b. cond b after (referents_on held.referents number)) (other_number number item.number (λ same. free route item there (sym same)))
+          ∙ referents_off item.number (referents_on held.referents) after number (other_number number item.number (λ same. free route item there (sym same)))
           ∙ is.referents number free;
     }
 

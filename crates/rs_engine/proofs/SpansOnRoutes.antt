@@ -26,11 +26,12 @@ use Rattle.rs_catalog.specs.Definitions.{RouteItem, TableItem, table_from, table
 use Rattle.rs_catalog.specs.Events.{behind, LieOn}
 use Rattle.rs_catalog.proofs.Names.{each_entry}
 use Rattle.rs_catalog.proofs.MapLaws.{none_some, some_same}
+use Rattle.rs_catalog.proofs.StateLaws.{get-tables_from}
+use Rattle.rs_catalog_laws.proofs.Numbers.{false_true}
+use Rattle.rs_catalog_laws.proofs.States.{facts_at, table_at}
 use Rattle.rs_event_lists.specs.Held.{spans_on}
 use Rattle.rs_event_lists.specs.Changed.{HasSpansOn, HasNoSpansOn}
 use Rattle.rs_engine.specs.Held.{Held, state_of, IsHeld}
-use Rattle.rs_engine.proofs.StateLaws.{facts_at, get_table, table_at}
-use Rattle.rs_engine.proofs.RouteSteps.{false_true}
 
 -- ---- tests on lists
 
@@ -126,7 +127,7 @@ module _ (old : Held) (name : Name) (on : RouteItem) (is : IsHeld old) (there : 
       elim (names.get old.definitions.tables q) as (λ o. names.get old.definitions.tables q ≡ o → option_map table_of o ≡ Some table → P table) [
         | None ↦ λ e f. none_some table f
         | Some item ↦ λ e f. subst P (some_same (table_of item) table f) (each item e)
-      ] refl (sym (get_table old.definitions (spans_on old.events) q) ∙ at)
+      ] refl (sym (get-tables_from old.definitions (spans_on old.events) q) ∙ at)
 
   pub no_fact_on : HasNoSpansOn old.events on.number → some_table (state_of old) (has_fact_on name on.ends) ≡ false
   no_fact_on none = no_entry (has_fact_on name on.ends) (tables_from old.definitions (spans_on old.events)) (λ q table at.

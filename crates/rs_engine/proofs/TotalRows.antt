@@ -27,12 +27,11 @@ use Rattle.rs_machine.specs.Step.{Effect, effect, rows_along, totals_printed}
 use Rattle.rs_catalog.specs.Definitions.{RouteItem, Definitions, AreDefinitions}
 use Rattle.rs_catalog.proofs.NameOrder.{name_cmp-total}
 use Rattle.rs_catalog.proofs.Names.{each_entry, entries-map_values, left_true, right_true}
+use Rattle.rs_catalog_laws.proofs.Numbers.{false_true, same_number, other_number}
 use Rattle.rs_total.specs.Totalling.{AreRunsAlong, AreTotalsOf}
 use Rattle.rs_total.specs.Tally.{Tally}
 use Rattle.rs_engine.specs.Held.{Held, state_of, IsHeld}
 use Rattle.rs_engine.specs.Totalled.{along_route, totals_of_query}
-use Rattle.rs_engine.proofs.StateLaws.{same_number, other_number}
-use Rattle.rs_engine.proofs.RouteSteps.{false_true}
 use Rattle.rs_engine.proofs.QueryRows.{query_lies}
 use Rattle.rs_engine.proofs.Printing.{hold_within}
 

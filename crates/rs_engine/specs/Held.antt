@@ -1,5 +1,5 @@
 -- What the engine keeps, and the state of the reference machine that it stands for.
-use Rattle.std.specs.Prelude.{◌≡◌, ℕ, ◌+◌, ◌≤◌, Some}
+use Rattle.std.specs.Prelude.{◌≡◌, ℕ, ◌≤◌, Some}
 use Rattle.std.specs.FinMap as names
 use Rattle.rs_facts.specs.Fact.{Name}
 use Rattle.rs_machine.specs.declared.limits.TheConstants.{ROUTES}
@@ -23,10 +23,6 @@ pub record Held : Type 0 where
 
 abbrev pub rest_of : Held → Rest
 rest_of held = record { changes = held.changes; cursors = cursors_of held.cursors }
-
--- the same after one more change
-abbrev pub one_more : Rest → Rest
-one_more rest = record rest { changes = rest.changes + 1 }
 
 abbrev pub state_of : Held → State
 state_of held = state_from held.definitions (referents_on held.referents) (spans_on held.events) (rest_of held)

@@ -2,9 +2,10 @@ use Rattle.std.proofs.Common.{◌≡◌, ◌+◌, None, sym, ap, map, subst, ◌
 use Rattle.std.specs.FinMap as names
 use Rattle.rs_syntax.specs.View.{column_tree}
 use Rattle.rs_catalog.specs.Definitions.{TableItem, Definitions, AreDefinitions}
+use Rattle.rs_catalog_laws.proofs.Tables.{taken_back}
 use Rattle.rs_machine.specs.Step.{with_table, empty_table}
 use Rattle.rs_engine.specs.Held.{Held, state_of, IsHeld}
-use Rattle.rs_engine.proofs.TableSteps.{state_defined_table, held_defined_table, taken_back}
+use Rattle.rs_engine.proofs.TableSteps.{state_defined_table, held_defined_table}
 use Rattle.rs_engine.proofs.engine.Engine.put_table.Goals as goal
 
 pub invariant_of-self-in-Err : goal.invariant_of-self-in-Err
