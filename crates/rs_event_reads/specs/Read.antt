@@ -1,13 +1,13 @@
 -- What is read of a table's events.
-use Rattle.std.specs.Prelude.{◌≡◌, ◌+◌, ℕ, Bool, List, Result, Err, IfOk, filter, map, nat_eq, nat_lt}
-use Rattle.rs_contents.specs.declared.opened.OpenedTable.{OpenedTable}
+use Rattle.std.specs.Prelude.{◌≡◌, ◌+◌, ℕ, Bool, List, filter, map, nat_eq, nat_lt}
+use Rattle.std.specs.List.{AllZip}
 use Rattle.rs_facts.specs.Runs.{Stretch}
 use Rattle.rs_pages.specs.PageMap.{PageMap}
 use Rattle.rs_value.specs.declared.column.ColumnType.{ColumnType}
 use Rattle.rs_value.specs.declared.column.Kind.{Kind}
 use Rattle.rs_value.specs.declared.column.Kind.TheVariants.{Line, Point}
 use Rattle.rs_cell_versions.specs.Versioned.{Standing}
-use Rattle.rs_versioned.specs.Events.{Event, is_visible, kept_events, span_of}
+use Rattle.rs_versioned.specs.Events.{Event, SaysEvent, is_visible, kept_events, span_of}
 use Rattle.rs_versioned.specs.Records.{HoldsRecords}
 
 -- a span of a line has a thousandth at least, and one of a point has just one
@@ -27,3 +27,11 @@ pub record AreSpansWithin (types : List ColumnType) (pages : PageMap) (standing 
 -- no events lie there
 pub record HoldsNoEvents (types : List ColumnType) (pages : PageMap) (standing : Standing) : Type 0 where
   pub none : (events : List Event) (used : ℕ → ℕ) (accepted : ℕ) → HoldsRecords (kept_events types) pages standing accepted events used → ⊥
+
+-- where the cells say events, these are their spans, but for those that are not placed as the kind asks
+pub record SayPlaced (types : List ColumnType) (kind : Kind) (cells : List (List ℕ)) (spans : List Stretch) : Type 0 where
+  pub are : (events : List Event) → AllZip (SaysEvent types) cells events → spans ≡ filter (is_placed kind) (map span_of events)
+
+-- the cells say no events
+pub record SayNone (types : List ColumnType) (cells : List (List ℕ)) : Type 0 where
+  pub none : (events : List Event) → AllZip (SaysEvent types) cells events → ⊥

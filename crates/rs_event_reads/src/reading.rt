@@ -2,10 +2,10 @@
 
 ghost use Rattle.std.specs.Prelude.{◌≡◌, ◌⊎◌, Err, IfErr, IfOk, map};
 ghost use Rattle.std.specs.List.{AllByRecursion};
-ghost use Rattle.rs_event_reads.specs.Read.{AreSpansWithin, HoldsNoEvents, is_placed};
+ghost use Rattle.rs_event_reads.specs.Read.{AreSpansWithin, HoldsNoEvents, SayNone, SayPlaced, is_placed};
 ghost use Rattle.rs_facts.specs.Spans.{ArePlaced, seen};
 ghost use Rattle.rs_pages.specs.Calls.{OnlyReads};
-ghost use Rattle.rs_records.specs.Listed.{record_width};
+ghost use Rattle.rs_records.specs.Listed.{listed, record_width};
 ghost use Rattle.rs_value.specs.Values.{IsRowOf};
 ghost use Rattle.rs_versioned.specs.Events.{event_width};
 
@@ -54,6 +54,10 @@ fn placed_spans(
     cells: &Cells,
 ) -> Result<Vec<Span>, Refusal>
     requires width { record_width cells.now ≡ event_width schema.now.items }
+    ensures says { IfOk result (λ spans. SayPlaced schema.now.items kind (listed cells.now) (map seen spans.items)) }
+    ensures placed { IfOk result (λ spans. ArePlaced kind (map seen spans.items)) }
+    ensures rows { IfOk result (λ spans. AllByRecursion (λ span. IsRowOf schema.now.items span.row) (map seen spans.items)) }
+    ensures refused { IfErr result (λ why. (why ≡ Refusal.OutOfMemory) ⊎ ((why ≡ Refusal.DamagedFile) × SayNone schema.now.items (listed cells.now))) }
 {
     let mut spans = Vec::new(alloc);
     for place in 0..cells.len() {
