@@ -7,7 +7,7 @@ ghost use Rattle.rs_page_owners.specs.Calls.{Leaves};
 ghost use Rattle.rs_state_changes.specs.Calls.{IsNext};
 ghost use Rattle.rs_state_changes.specs.Completing.{CompletesFrom, HoldsNoneToComplete};
 
-use crate::garbage::garbage;
+use crate::counting::garbage;
 use rs_contents::OpenedFile;
 use rs_file_changes::{clear, write_directory};
 use rs_pages::Pages;

@@ -6,14 +6,14 @@
 #![tactic(auto)]
 
 mod completing;
+pub mod counting;
 pub mod definitions;
-pub mod garbage;
 pub mod referents;
 pub mod rows;
 pub mod tables;
 
+pub use counting::garbage;
 pub use definitions::{drop_route, redefine};
-pub use garbage::garbage;
 pub use referents::{define_referent, drop_referent, move_referent};
 pub use rows::{Insertion, Removal, insert, remove};
 pub use tables::{IndexPlace, define_index, define_table, drop_index, drop_table};

@@ -1,13 +1,11 @@
 -- What contents say after records of them are cleared, and the state that they have.
 use Rattle.std.proofs.Common.{◌≡◌, ◌≤◌, ◌+◌, ℕ, List, map, refl, sym, ap, ◌∙◌, subst, arith}
 use Rattle.std.proofs.Math.Path.{fun_ext}
-use Rattle.std.specs.Prelude.{IsPermutation}
-use Rattle.std.specs.List.{AllZip}
 use Rattle.rs_catalog.specs.Definitions.{Definitions, Numbered, Rest, state_from}
 use Rattle.rs_catalog.specs.Referents.{HeldReferents, referents_on}
 use Rattle.rs_catalog_laws.specs.Rest.{SameRows}
 use Rattle.rs_catalog_pages.specs.Items.{CatalogueItems}
-use Rattle.rs_contents.specs.Contents.{Contents, HoldsAll, TableContents}
+use Rattle.rs_contents.specs.Contents.{Contents, TableContents}
 use Rattle.rs_contents.specs.declared.opened.OpenedFile.{OpenedFile}
 use Rattle.rs_facts.specs.Fact.{Names}
 use Rattle.rs_facts.specs.Runs.{Stretch}

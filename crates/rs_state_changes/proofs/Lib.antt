@@ -1,0 +1,2 @@
+mod Completion
+pub mod Wholes
