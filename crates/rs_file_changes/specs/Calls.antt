@@ -1,5 +1,5 @@
 -- What the calls that change a file's parts leave of the pages, do, and answer.
-use Rattle.std.specs.Prelude.{◌≡◌, ◌≤◌, ◌<◌, ◌^◌, ℕ, Bool, false, Contains, IfOk, IsTrue, List, OnOk, Result}
+use Rattle.std.specs.Prelude.{◌≡◌, ◌≤◌, ◌<◌, ◌%◌, ◌^◌, ℕ, Bool, false, Contains, IfOk, IsTrue, List, OnOk, Result, length}
 use Rattle.std.specs.List.{AllByRecursion}
 use Rattle.rs_catalog_pages.specs.Directory.{DirectoryItems, HasDirectory}
 use Rattle.rs_catalog_pages.specs.Items.{CatalogueItems}
@@ -9,7 +9,7 @@ use Rattle.rs_cell_versions.specs.declared.cell.TheConstants.{LIVING}
 use Rattle.rs_contents.specs.Contents.{Contents, HoldsAll, HoldsParts, SameContents}
 use Rattle.rs_contents.specs.declared.opened.OpenedFile.{OpenedFile}
 use Rattle.rs_file_changes.specs.declared.definitions.Former.{Former}
-use Rattle.rs_file_changes.specs.Clearing.{ClearsAsMany}
+use Rattle.rs_file_changes.specs.Clearing.{ClearsAsMany, ClearsFirst}
 use Rattle.rs_file_changes.specs.Parts.{HoldsNoParts, IsOpenedFile, Makes}
 use Rattle.rs_page_owners.specs.Calls as owners
 use Rattle.rs_pages.specs.PageMap.{PageMap}
@@ -92,6 +92,11 @@ module _ {P : Type 0} (pages : Ghosts P) (was : OpenedFile) where
   abbrev pub Clears : OpenedFile → ℕ → ℕ → Result ℕ Refusal → P → P → Type 0
   Clears is oldest most result old new = pages.is_tied old → IfOk result (λ gone. (accepted : ℕ)
       → Makes (pages.store old).map (pages.store new).map was is accepted accepted (ClearsAsMany oldest most gone))
+
+  -- of the tables the one with this number comes first, counted round and round
+  abbrev pub StartsAt : OpenedFile → ℕ → ℕ → ℕ → Result ℕ Refusal → P → P → Type 0
+  StartsAt is oldest most number result old new = pages.is_tied old → IfOk result (λ gone. (accepted : ℕ)
+      → Makes (pages.store old).map (pages.store new).map was is accepted accepted (ClearsFirst oldest most (number % length was.tables.items)))
 
   abbrev pub Puts : OpenedFile → ℕ → ReferentRecord → Result (Unit {0}) Refusal → P → P → Type 0
   Puts is version one result old new = pages.is_tied old → OnOk result ((accepted : ℕ) → accepted ≤ version

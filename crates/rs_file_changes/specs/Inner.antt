@@ -10,7 +10,7 @@ use Rattle.rs_pages.specs.PageMap.{PageMap}
 use Rattle.rs_versioned.specs.Events.{Event, kept_events}
 use Rattle.rs_versioned.specs.Records.{HasCleared, HoldsRecords}
 use Rattle.rs_versioned.specs.Referents.{ReferentRecord, SaysReferent}
-use Rattle.rs_file_changes.specs.Clearing.{ClearsParts, clearable, clearable_events, clearable_referents}
+use Rattle.rs_file_changes.specs.Clearing.{ClearsFirst, ClearsParts, clearable, clearable_events, clearable_referents, records_in}
 
 -- ---- keeping and taking back
 
@@ -56,15 +56,17 @@ pub record ClearsOpened (old new : PageMap) (was is : OpenedTable) (oldest most 
 -- so many are gone, and with those that may still go they are as many as are to go
 pub record ClearsSome (oldest most gone : ℕ) (old now : Contents) : Type 0 where
   pub parts : ClearsParts oldest old now
+  pub many : records_in old ≡ records_in now + gone
   pub left : oldest < LIVING → gone + min (most - gone) (clearable oldest now) ≡ min most (clearable oldest old)
 
 -- no event is left at this place that no version from the oldest on sees
 pub record HasNoneAt (oldest place : ℕ) (contents : Contents) : Type 0 where
   pub none : (table : TableContents) → slice_get contents.tables place ≡ Some table → clearable_events oldest table.events ≡ 0
 
--- the same at each of these places, where fewer are gone than were asked for
+-- the same at each of these places, where fewer are gone than were asked for, and the first of them came first
 pub record ClearsPlaces (oldest most gone from to : ℕ) (old now : Contents) : Type 0 where
   pub some : ClearsSome oldest most gone old now
+  pub first : from < to → ClearsFirst oldest most from old now
   pub none : oldest < LIVING → gone < most → (place : ℕ) → from ≤ place → place < to → HasNoneAt oldest place now
 
 -- no referent is left that no version from the oldest on sees, where fewer are gone than were asked for

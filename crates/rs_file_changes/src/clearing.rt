@@ -1,10 +1,10 @@
 //! This module clears a file's tables and its referents: records go that no live version sees.
 
-ghost use Rattle.std.specs.Prelude.{◌≡◌, ◌≢◌, ◌<◌, ◌≤◌, ◌+◌, ℕ, true, Err, IfOk, length};
+ghost use Rattle.std.specs.Prelude.{◌≡◌, ◌≢◌, ◌<◌, ◌≤◌, ◌+◌, ◌%◌, ℕ, true, Err, IfOk, length};
 ghost use Rattle.rs_attr.specs.Calls as attr;
 ghost use Rattle.rs_attr.specs.Tables.{AreOn};
 ghost use Rattle.rs_cell_versions.specs.Version.{HaveDiedBy};
-ghost use Rattle.rs_file_changes.specs.Calls.{Clears, Leaves};
+ghost use Rattle.rs_file_changes.specs.Calls.{Clears, Leaves, StartsAt};
 ghost use Rattle.rs_file_changes.specs.Inner.{ClearsAllReferents, ClearsOpened, ClearsPlaces};
 ghost use Rattle.rs_file_changes.specs.Parts.{HaveAllDiedBy, IsReady, KeepsCommitted, KeepsOpened, Makes};
 
@@ -37,6 +37,7 @@ pub fn clear<P: Pages>(
     requires ready { IsReady file.old }
     ensures leaves { Leaves P.Pages file.old result pages.old pages.new }
     ensures clears { Clears P.Pages file.old file.new oldest most result pages.old pages.new }
+    ensures turn { StartsAt P.Pages file.old file.new oldest most first result pages.old pages.new }
     ensures few { IfOk result (λ gone. gone ≤ most) }
     ensures keeps { KeepsCommitted file.old file.new }
     ensures order { (version : ℕ) → HaveAllDiedBy version file.old → HaveAllDiedBy version file.new }
@@ -58,7 +59,8 @@ pub fn clear<P: Pages>(
 
 /// The place with this number, counted round and round among so many.
 fn place_among(number: usize, count: usize) -> usize
-    ensures { result ≤ count }
+    ensures few { result ≤ count }
+    ensures place { 0 < count → result ≡ number % count }
 {
     if count == 0 { 0 } else { number % count }
 }

@@ -1,10 +1,11 @@
 -- The tables from a place on, those before it, and the referents.
-use Rattle.std.proofs.Common.{◌-◌, arith}
+use Rattle.std.proofs.Common.{◌≡◌, ◌+◌, ◌-◌, ◌%◌, length, refl, subst, arith}
 use Rattle.std.proofs.lemmas.Result.{err_from_is_err_and}
+use Rattle.rs_file_changes.specs.Clearing.{ClearsAsMany, ClearsFirst}
 use Rattle.rs_file_changes.specs.Inner.{ClearsPlaces}
 use Rattle.rs_file_changes.specs.Parts.{HoldsNoParts, KeepsOpened}
-use Rattle.rs_file_changes.proofs.Cleared.{all_cleared}
-use Rattle.rs_file_changes.proofs.Made.{none_before}
+use Rattle.rs_file_changes.proofs.Cleared.{ClearsInTurn, all_cleared}
+use Rattle.rs_file_changes.proofs.Made.{makes_weaker, none_before}
 use Rattle.rs_file_changes.proofs.Ready.{keeps_then, ready_after}
 use Rattle.rs_page_owners.proofs.Following.{works_err}
 use Rattle.rs_page_owners.proofs.Working.{CountsNothing-trans, Works-trans}
@@ -86,14 +87,33 @@ returns-clause-leaves g c =
     }
 
 pub returns-clause-clears : goal.returns-clause-clears
-returns-clause-clears g c = λ tied.
+returns-clause-clears g c = λ tied accepted.
+    let gone = (c.in_ok-after.after + c.in_ok-before.before) + c.in_ok-referents.referents in
     let tied1 = g.met.P.Pages.keeps_tied c.args.pages.now c.clear_tables.new.pages c.in_ok-after.ensures.leaves.keeps tied in
     let tied2 = g.met.P.Pages.keeps_tied c.clear_tables.new.pages c.clear_tables-2.new.pages c.in_ok-before.ensures.leaves.keeps tied1 in
-    all_cleared (g.P.Pages.store c.args.pages.now).map (g.P.Pages.store c.clear_tables.new.pages).map (g.P.Pages.store c.clear_tables-2.new.pages).map (g.P.Pages.store c.clear_referents.new.pages).map
+    makes_weaker (ClearsInTurn c.args.oldest c.args.most gone c.place_among-start.result) (ClearsAsMany c.args.oldest c.args.most gone) (λ old now clears. clears.as_many)
+    (g.P.Pages.store c.args.pages.now).map (g.P.Pages.store c.clear_referents.new.pages).map c.args.file.now c.clear_referents.new.file accepted accepted
+    (all_cleared (g.P.Pages.store c.args.pages.now).map (g.P.Pages.store c.clear_tables.new.pages).map (g.P.Pages.store c.clear_tables-2.new.pages).map (g.P.Pages.store c.clear_referents.new.pages).map
     c.args.file.now c.clear_tables.new.file c.clear_tables-2.new.file c.clear_referents.new.file
-    c.args.oldest c.args.most c.in_ok-after.after c.in_ok-before.before c.in_ok-referents.referents c.place_among-start.result c.len-count.result (omega arith)
+    c.args.oldest c.args.most c.in_ok-after.after c.in_ok-before.before c.in_ok-referents.referents c.place_among-start.result c.len-count.result c.place_among-start.result (omega arith) (λ some. refl)
     c.in_ok-after.ensures.few c.in_ok-before.ensures.few c.in_ok-referents.ensures.few
-    (c.in_ok-after.ensures.clears tied) (c.in_ok-before.ensures.clears tied1) (c.in_ok-referents.ensures.clears tied2)
+    (c.in_ok-after.ensures.clears tied) (c.in_ok-before.ensures.clears tied1) (c.in_ok-referents.ensures.clears tied2) accepted)
+
+pub returns-clause-turn : goal.returns-clause-turn
+returns-clause-turn g c = λ tied accepted.
+    let gone = (c.in_ok-after.after + c.in_ok-before.before) + c.in_ok-referents.referents in
+    let place = c.args.first % length c.args.file.now.tables.items in
+    let long : c.len-count.result ≡ length c.args.file.now.tables.items = omega arith in
+    let tied1 = g.met.P.Pages.keeps_tied c.args.pages.now c.clear_tables.new.pages c.in_ok-after.ensures.leaves.keeps tied in
+    let tied2 = g.met.P.Pages.keeps_tied c.clear_tables.new.pages c.clear_tables-2.new.pages c.in_ok-before.ensures.leaves.keeps tied1 in
+    makes_weaker (ClearsInTurn c.args.oldest c.args.most gone place) (ClearsFirst c.args.oldest c.args.most place) (λ old now clears. clears.first)
+    (g.P.Pages.store c.args.pages.now).map (g.P.Pages.store c.clear_referents.new.pages).map c.args.file.now c.clear_referents.new.file accepted accepted
+    (all_cleared (g.P.Pages.store c.args.pages.now).map (g.P.Pages.store c.clear_tables.new.pages).map (g.P.Pages.store c.clear_tables-2.new.pages).map (g.P.Pages.store c.clear_referents.new.pages).map
+    c.args.file.now c.clear_tables.new.file c.clear_tables-2.new.file c.clear_referents.new.file
+    c.args.oldest c.args.most c.in_ok-after.after c.in_ok-before.before c.in_ok-referents.referents c.place_among-start.result c.len-count.result place long
+    (λ some. subst (λ n. c.place_among-start.result ≡ c.args.first % n) long (c.place_among-start.ensures.place some))
+    c.in_ok-after.ensures.few c.in_ok-before.ensures.few c.in_ok-referents.ensures.few
+    (c.in_ok-after.ensures.clears tied) (c.in_ok-before.ensures.clears tied1) (c.in_ok-referents.ensures.clears tied2) accepted)
 
 pub returns-clause-keeps : goal.returns-clause-keeps
 returns-clause-keeps g c =

@@ -1,5 +1,5 @@
 -- One table after the other.
-use Rattle.std.proofs.Common.{◌≤◌, ◌+◌, ◌-◌, arith}
+use Rattle.std.proofs.Common.{◌≤◌, ◌+◌, ◌-◌, refl, arith}
 use Rattle.std.proofs.lemmas.Result.{err_from_is_err_and}
 use Rattle.rs_file_changes.specs.Inner.{ClearsPlaces}
 use Rattle.rs_file_changes.specs.Parts.{HoldsNoParts, KeepsOpened}
@@ -17,6 +17,8 @@ loop-place-init g c = record {
   works = Works-refl (g.P.Pages.store c.args.pages.now);
   nothing = CountsNothing-refl (g.P.Pages.store c.args.pages.now);
   few = omega arith;
+  past = omega arith;
+  begun = λ same. refl;
   kept = keeps_none c.args.file.now;
   order = λ version have. have;
   clears = λ tied accepted. makes_none (ClearsPlaces c.args.bounds.oldest c.args.bounds.most 0 c.args.from c.args.from) (places_none c.args.bounds.oldest c.args.bounds.most c.args.from)
@@ -68,11 +70,13 @@ loop-place-preserved g c =
       works = Works-trans first mid last c.loop-place.invariant.works c.in_ok-went.ensures.leaves.works.works;
       nothing = CountsNothing-trans first mid last c.loop-place.invariant.nothing c.in_ok-went.ensures.leaves.works.ends;
       few = omega arith;
+      past = omega (arith, c.loop-place.invariant.past);
+      begun = λ same. absurd (omega (arith, c.loop-place.invariant.past));
       kept = keeps_then c.args.file.now c.loop-place.file c.clear_place.new.file c.loop-place.invariant.kept c.in_ok-went.ensures.keeps;
       order = λ version have. c.in_ok-went.ensures.order version (c.loop-place.invariant.order version have);
       clears = λ tied accepted.
           makes_then (ClearsPlaces oldest most one c.args.from place) (ClearsPlaces oldest (most - one) other place (place + 1)) (ClearsPlaces oldest most (one + other) c.args.from (place + 1))
-          (λ old next now had has. places_next oldest most one other c.args.from place few fewer old next now had has)
+          (λ old next now had has. places_next oldest most one other c.args.from place few fewer c.loop-place.invariant.past c.loop-place.invariant.begun old next now had has)
           first.map mid.map last.map c.args.file.now c.loop-place.file c.clear_place.new.file accepted accepted accepted (c.loop-place.invariant.clears tied accepted)
           (c.in_ok-went.ensures.clears (g.met.P.Pages.keeps_tied c.args.pages.now c.loop-place.pages c.loop-place.invariant.keeps tied) accepted);
     }

@@ -1,5 +1,5 @@
 -- The tables so far are cleared.
-use Rattle.std.proofs.Common.{◌≤◌, ℕ}
+use Rattle.std.proofs.Common.{◌≡◌, ◌≤◌, ℕ}
 use Rattle.rs_file_changes.specs.Inner.{ClearsPlaces}
 use Rattle.rs_file_changes.specs.Parts.{HaveAllDiedBy, KeepsCommitted, Makes}
 use Rattle.rs_page_owners.specs.Changes.{CountsNothing, Works}
@@ -11,6 +11,8 @@ invariant-loop-place g l = record {
   works : Works (g.P.Pages.store l.fn.pages) (g.P.Pages.store l.pages);
   nothing : CountsNothing (g.P.Pages.store l.fn.pages) (g.P.Pages.store l.pages);
   few : l.gone ≤ l.bounds.most;
+  past : l.from ≤ l.place;
+  begun : l.place ≡ l.from → l.gone ≡ 0;
   kept : KeepsCommitted l.fn.file l.file;
   order : (version : ℕ) → HaveAllDiedBy version l.fn.file → HaveAllDiedBy version l.file;
   clears : g.P.Pages.is_tied l.fn.pages → (accepted : ℕ)
