@@ -1,0 +1,6 @@
+mod Next
+mod Among
+mod Narrowing
+mod Pages
+mod Parts
+mod Roots

@@ -1,0 +1,34 @@
+-- A leaf tells whether it has the cell, and an inner page leads where its entries lead.
+use Rattle.std.proofs.Common.{subst}
+use Rattle.rs_page.specs.declared.header.PageKind.TheVariants as kind
+use Rattle.rs_tree.specs.Form.{joined}
+use Rattle.rs_tree.specs.Layouts.{entry_bytes}
+use Rattle.rs_tree.specs.Node.{IsNode}
+use Rattle.rs_tree.specs.declared.node.Node.TheVariants.{Leaf, Inner}
+use Rattle.rs_tree.proofs.Entering.{records_fit}
+use Rattle.rs_tree_lookup.proofs.Pages.{inner_leads, leaf_leads}
+use Rattle.rs_tree_lookup.proofs.stepping.look_in.Goals as goal
+
+pub is_in_leaf-requires : goal.is_in_leaf-requires
+is_in_leaf-requires g c =
+    let node : IsNode c.args.page.now.bytes c.args.number c.args.layout (Leaf c.in-Some-Leaf.count) =
+    subst (IsNode c.args.page.now.bytes c.args.number c.args.layout) c.in-Some-Leaf.field-0-is c.in-Some-Leaf.ensures.found in
+    records_fit c.args.page.now.bytes kind.Leaf c.args.number c.in-Some-Leaf.count c.args.layout.width node.0
+
+pub step_below-requires-clause-fit : goal.step_below-requires-clause-fit
+step_below-requires-clause-fit g c =
+    let node : IsNode c.args.page.now.bytes c.args.number c.args.layout (Inner c.in-Some-Inner.count) =
+    subst (IsNode c.args.page.now.bytes c.args.number c.args.layout) c.in-Some-Inner.field-0-is c.in-Some-Inner.ensures.found in
+    records_fit c.args.page.now.bytes kind.Inner c.args.number c.in-Some-Inner.count (entry_bytes c.args.layout) node.0
+
+pub returns-in-Some-Leaf-clause-leads : goal.returns-in-Some-Leaf-clause-leads
+returns-in-Some-Leaf-clause-leads g c = λ map lent.
+    leaf_leads (λ bytes cells. g.S.Summary.says bytes (joined g.S.Summary.unit g.S.Summary.join g.S.Summary.of cells)) c.args.layout map c.args.number c.in-Some-Leaf.count
+    c.args.page.now.bytes c.args.cell.now lent c.is_in_leaf.result
+    (subst (IsNode c.args.page.now.bytes c.args.number c.args.layout) c.in-Some-Leaf.field-0-is c.in-Some-Leaf.ensures.found) c.is_in_leaf.ensures
+
+pub returns-in-Some-Inner-clause-leads : goal.returns-in-Some-Inner-clause-leads
+returns-in-Some-Inner-clause-leads g c = λ map lent.
+    inner_leads (λ bytes cells. g.S.Summary.says bytes (joined g.S.Summary.unit g.S.Summary.join g.S.Summary.of cells)) c.args.layout map c.args.number c.in-Some-Inner.count
+    c.args.page.now.bytes c.args.cell.now lent c.step_below.result
+    (subst (IsNode c.args.page.now.bytes c.args.number c.args.layout) c.in-Some-Inner.field-0-is c.in-Some-Inner.ensures.found) c.step_below.ensures
