@@ -1,89 +1,28 @@
 -- The entries of a tree, beside the cells that have them.
-use Rattle.std.proofs.Common.{◌≡◌, ◌<◌, ℕ, zero, suc, Bool, true, false, not, ◌&&◌, cond, nat_lt, Some, List, [], ◌∷◌, ◌++◌, IsTrue, length, map, filter, slice_get, take, refl, sym, ap, ◌∙◌, subst, inl, inr, arith}
-use Rattle.std.proofs.lemmas.Bool.{false≢true, lt-ltb, ltb-true}
-use Rattle.std.proofs.lemmas.Cmp.{nat_cmp_total, tied_itself}
+use Rattle.std.proofs.Common.{◌≡◌, ℕ, suc, Bool, true, false, Some, List, [], ◌∷◌, Result, Ok, Err, IfOk, IfErr, IsTrue, length, map, slice_get, take, refl, sym, ap, ◌∙◌, subst, inl, inr, arith}
+use Rattle.std.specs.Prelude.{◌↔◌}
+use Rattle.std.proofs.lemmas.Bool.{false≢true}
 use Rattle.std.proofs.lemmas.List.{length-map}
 use Rattle.std.proofs.lemmas.List.Sorted.{Contains-permutation, IsPermutation-cons, IsPermutation-refl, IsPermutation-sym, IsPermutation-trans, IsPermutation-middle, length_permutation}
-use Rattle.std.specs.Cmp.{nat_cmp_is}
-use Rattle.std.specs.Cmp.Lexicographic.{slice_cmp}
-use Rattle.std.specs.FinMap.{nat_cmp-IsAntisymmetric}
 use Rattle.std.specs.List.{AllByRecursion, Contains}
 use Rattle.std.specs.List.Sorted.{IsPermutation}
-use Rattle.std.specs.Ordering.{is_lt, nat_cmp, ordering_then}
-use Rattle.std.specs.declared.cmp.Ordering.{Ordering}
-use Rattle.std.specs.declared.cmp.Ordering.TheVariants.{Less, Equal, Greater}
-use Rattle.rs_attr.specs.Entries.{AreCells, Field, HoldsIndex, entry_bytes, entry_of, index_form, plain_form}
+use Rattle.rs_attr.specs.Entries.{AreCells, Field, HoldsIndex, entry_bytes, entry_of, index_form}
 use Rattle.rs_attr.specs.Opening.{HasEntries, HasSoMany, HaveEntries, LacksEntries}
 use Rattle.rs_attr.proofs.Entering.{TellsApart}
 use Rattle.rs_attr.proofs.Indexes.{entries_apart}
 use Rattle.rs_pages.specs.PageMap.{PageMap, SamePages}
+use Rattle.rs_pages.specs.Store.{Store}
 use Rattle.rs_records.specs.Order.{is_below, Ascends}
 use Rattle.rs_records.proofs.Orders.{is_below-self}
-use Rattle.rs_tree.specs.Cells.{cells_within, is_within}
+use Rattle.rs_refusal.specs.declared.refusal.Refusal.{Refusal}
+use Rattle.rs_tree.specs.Calls.{RefusesToRead}
+use Rattle.rs_tree.specs.Form.{Form, form_of}
+use Rattle.rs_tree.specs.declared.summary.NoSummary.{NoSummary}
 use Rattle.rs_tree.specs.Tree.{IsNoTree, IsTree}
 use Rattle.rs_tree.proofs.Lists.{all_at, take_next}
 use Rattle.rs_tree_whole.proofs.Joins.{all_push}
-use Rattle.rs_cell_versions.proofs.Among.{filtered, first_or_rest}
+use Rattle.rs_cell_versions.proofs.Among.{first_or_rest}
 use Rattle.rs_cell_versions.proofs.Staying.{tree_same}
-
--- bytes are below themselves with one more
-more_above : (x : ℕ) (bytes : List ℕ) → slice_cmp nat_cmp bytes (bytes ++ x ∷ []) ≡ Less
-more_above x [] = refl
-more_above x (b ∷ bs) = ap (λ (o : Ordering). ordering_then o (slice_cmp nat_cmp bs (bs ++ x ∷ []))) (tied_itself nat_cmp_total b) ∙ more_above x bs
-
--- nothing lies between the bytes and these with a zero
-nothing_between : (x bytes : List ℕ) → is_lt (slice_cmp nat_cmp x bytes) ≡ false → is_lt (slice_cmp nat_cmp x (bytes ++ 0 ∷ [])) ≡ true → x ≡ bytes
-nothing_between [] [] not_below below = refl
-nothing_between [] (b ∷ bs) not_below below = absurd (false≢true (sym not_below))
-nothing_between (zero ∷ []) [] not_below below = absurd (false≢true below)
-nothing_between (zero ∷ (a ∷ as')) [] not_below below = absurd (false≢true below)
-nothing_between (suc n ∷ as') [] not_below below =
-    let more : nat_cmp (suc n) 0 ≡ Greater = sym (nat_cmp_is (suc n) 0 Greater (omega arith)) in
-    absurd (false≢true (sym (ap (λ (o : Ordering). is_lt (ordering_then o (slice_cmp nat_cmp as' []))) more) ∙ below))
-nothing_between (a ∷ as') (b ∷ bs) not_below below = by_order (nat_cmp a b) refl not_below below (nothing_between as' bs) where
-  by_order : (o : Ordering) → nat_cmp a b ≡ o → is_lt (ordering_then o (slice_cmp nat_cmp as' bs)) ≡ false → is_lt (ordering_then o (slice_cmp nat_cmp as' (bs ++ 0 ∷ []))) ≡ true
-      → (is_lt (slice_cmp nat_cmp as' bs) ≡ false → is_lt (slice_cmp nat_cmp as' (bs ++ 0 ∷ [])) ≡ true → as' ≡ bs) → a ∷ as' ≡ b ∷ bs
-  by_order Less e low high rest = absurd (false≢true (sym low))
-  by_order Equal e low high rest = ap (λ (n : ℕ). n ∷ as') (nat_cmp-IsAntisymmetric a b e) ∙ ap (λ (l : List ℕ). b ∷ l) (rest low high)
-  by_order Greater e low high rest = absurd (false≢true high)
-
--- just the bytes themselves are within
-within_itself : (bytes : List ℕ) → is_within bytes (bytes ++ 0 ∷ []) bytes ≡ true
-unfolding is_below
-within_itself bytes = ap (λ (b : Bool). not b && is_below bytes (bytes ++ 0 ∷ [])) (is_below-self bytes) ∙ ap is_lt (more_above 0 bytes)
-
-within_alone : (x bytes : List ℕ) → is_within bytes (bytes ++ 0 ∷ []) x ≡ true → x ≡ bytes
-unfolding is_below
-within_alone x bytes is = by_tests (is_below x bytes) (is_below x (bytes ++ 0 ∷ [])) refl refl is where
-  by_tests : (p q : Bool) → is_below x bytes ≡ p → is_below x (bytes ++ 0 ∷ []) ≡ q → (not p && q) ≡ true → x ≡ bytes
-  by_tests true q one other both = absurd (false≢true both)
-  by_tests false false one other both = absurd (false≢true both)
-  by_tests false true one other both = nothing_between x bytes one other
-
--- what passes is kept
-kept_some : (test : List ℕ → Bool) (cells : List (List ℕ)) (cell : List ℕ) → test cell ≡ true → Contains cells cell → 0 < length (filter test cells)
-kept_some test [] cell is has = absurd (omega (arith, has.1))
-kept_some test (c ∷ cs) cell is has = by_test (test c) refl (kept_some test cs cell is) where
-  by_test : (b : Bool) → test c ≡ b → (Contains cs cell → 0 < length (filter test cs)) → 0 < length (cond b (c ∷ filter test cs) (filter test cs))
-  by_test true e later = omega arith
-  by_test false e later = elim (first_or_rest cell c cs has) [
-    | inl same ↦ absurd (false≢true (sym e ∙ ap test same ∙ is))
-    | inr rest ↦ later rest
-  ]
-
-first_of : (cells : List (List ℕ)) → 0 < length cells → (cell : List ℕ) × Contains cells cell
-first_of [] some = absurd (omega (arith, some))
-first_of (c ∷ cs) some = (c, (0, omega arith, refl))
-
--- something is found between the bytes and these with a zero just where they are there
-pub found_there : (bytes : List ℕ) (cells : List (List ℕ)) → 0 < length (cells_within bytes (bytes ++ 0 ∷ []) cells) → Contains cells bytes
-found_there bytes cells some =
-    let one = first_of (cells_within bytes (bytes ++ 0 ∷ []) cells) some in
-    let told = filtered (is_within bytes (bytes ++ 0 ∷ [])) cells one.0 one.1 in
-    subst (λ (x : List ℕ). Contains cells x) (within_alone one.0 bytes told.0) told.1
-
-pub there_found : (bytes : List ℕ) (cells : List (List ℕ)) → Contains cells bytes → 0 < length (cells_within bytes (bytes ++ 0 ∷ []) cells)
-there_found bytes cells has = kept_some (is_within bytes (bytes ++ 0 ∷ [])) cells bytes (within_itself bytes) has
 
 -- one of some is first, and then the others
 moved_out : (xs : List (List ℕ)) (x : List ℕ) → Contains xs x → (others : List (List ℕ)) × IsPermutation xs (x ∷ others)
@@ -156,21 +95,31 @@ abbrev pub Tells : Field → PageMap → ℕ → List ℕ → Bool → Type 0
 Tells field pages root cell found = (entries : List (List ℕ)) (used : ℕ → ℕ) → IsTree (index_form field) pages root entries used
     → (IsTrue found → Contains entries (entry_of field cell)) × (Contains entries (entry_of field cell) → IsTrue found)
 
--- it is there where something is found from the entry on, below what is next to it
-pub tells_within : (field : Field) (pages : PageMap) (root wide count : ℕ) (cell low high : List ℕ) (found : List (List ℕ)) → wide ≡ entry_bytes field
-    → low ≡ entry_of field cell → high ≡ low ++ 0 ∷ [] → count ≡ length found
-    → ((entries : List (List ℕ)) (used : ℕ → ℕ) → IsTree (plain_form wide) pages root entries used → found ≡ cells_within low high entries)
-    → Tells field pages root cell (nat_lt 0 count)
-tells_within field pages root wide count cell low high found width begins ends counted finds entries used tree =
-    let entry : List ℕ = entry_of field cell in
-    let ends_so : high ≡ entry ++ 0 ∷ [] = ends ∙ ap (λ (l : List ℕ). l ++ 0 ∷ []) begins in
-    let is : found ≡ cells_within entry (entry ++ 0 ∷ []) entries =
-    finds entries used (subst (λ (w : ℕ). IsTree (plain_form w) pages root entries used) (sym width) tree)
-    ∙ ap (λ (l : List ℕ). cells_within l high entries) begins ∙ ap (λ (h : List ℕ). cells_within entry h entries) ends_so in
-    let many : count ≡ length (cells_within entry (entry ++ 0 ∷ []) entries) = counted ∙ ap length is in (
-      λ some. found_there entry entries (subst (λ (n : ℕ). 0 < n) many (ltb-true 0 count some)),
-      λ has. lt-ltb 0 count (subst (λ (n : ℕ). 0 < n) (sym many) (there_found entry entries has)),
-    )
+module _ (field : Field) (pages : PageMap) (root top summary wide : ℕ) (none : summary ≡ 0) (width : wide ≡ entry_bytes field) (same : top ≡ root) where
+  -- the form of a tree with such widths, which keeps no summaries
+  abbrev form_at : ℕ → ℕ → Form
+  form_at = form_of (λ bytes (_ : NoSummary). bytes ≡ []) (record {}) (λ _ _. record {}) (λ _. record {})
+
+  -- what is told of an entry in the tree is told of its cell in the index
+  pub looked_tells : (cell entry : List ℕ) (result : Result Bool Refusal) → entry ≡ entry_of field cell
+      → IfOk result (λ found. (entries : List (List ℕ)) (used : ℕ → ℕ) → IsTree (form_at summary wide) pages top entries used → (IsTrue found ↔ Contains entries entry))
+      → IfOk result (Tells field pages root cell)
+  looked_tells cell entry (Err why) is told = tt
+  looked_tells cell entry (Ok found) is told = λ entries used tree.
+      subst (λ (e : List ℕ). IsTrue found ↔ Contains entries e) is
+      (told entries used
+      (subst (λ (s : ℕ). IsTree (form_at s wide) pages top entries used) (sym none)
+      (subst (λ (w : ℕ). IsTree (form_at 0 w) pages top entries used) (sym width)
+      (subst (λ (r : ℕ). IsTree (index_form field) pages r entries used) (sym same) tree))))
+
+  -- the tree is refused as the index is
+  pub looked_refuses : {T : Type 0} (tied : Type 0) (result : Result T Refusal) (old new : Store) → IfErr result (λ why. RefusesToRead tied (form_at summary wide) top why old new)
+      → IfErr result (λ why. RefusesToRead tied (index_form field) root why old new)
+  looked_refuses tied (Ok x) old new refused = tt
+  looked_refuses tied (Err why) old new refused =
+      subst (λ (r : ℕ). RefusesToRead tied (index_form field) r why old new) same
+      (subst (λ (w : ℕ). RefusesToRead tied (form_at 0 w) top why old new) width
+      (subst (λ (s : ℕ). RefusesToRead tied (form_at s wide) top why old new) none refused))
 
 module _ (field : Field) (old mid : PageMap) (root : ℕ) (same : SamePages mid old) where
   -- no cells have entries of their own as yet

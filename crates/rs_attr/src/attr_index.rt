@@ -26,7 +26,8 @@ use rs_page_marks::Reached;
 use rs_pages::Pages;
 use rs_records::Cells;
 use rs_refusal::Refusal;
-use rs_tree::NoSummary;
+use rs_tree::{Layout, NoSummary, Summary};
+use rs_tree_lookup::contains;
 use rs_value::{ColumnType, Schema, Value, column_width};
 use rs_versioned::event::EVENT_BYTES;
 use std::alloc::{AllocError, Global};
@@ -154,7 +155,6 @@ impl AttrIndex {
     /// No page changes. The buffer is for the bytes of the entry; what it holds is unspecified.
     pub(crate) fn has_entry<P: Pages>(
         &self,
-        alloc: Global,
         pages: &mut P,
         buffer: &mut Vec<u8>,
         cell: &[u8],
@@ -170,8 +170,8 @@ impl AttrIndex {
         write_entry_and_zero(buffer, cell, self.start, wide).map_err(|_| Refusal::OutOfMemory)?;
         let after = buffer.as_slice();
         let entry = &after[..after.len() - 1];
-        let found = self.tree.range(alloc, pages, entry, after)?;
-        Ok(found.len() > 0)
+        let layout = Layout::new(wide + self.cell_width, NoSummary::WIDTH);
+        contains::<P, NoSummary>(pages, layout, self.tree.root(), entry, after)
     }
 
     /// Puts the entry of a cell into the index, or takes it out. It is refused as `put` and `take` are.

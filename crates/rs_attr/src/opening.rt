@@ -212,7 +212,7 @@ impl AttrIndex {
     {
         let mut buffer = Vec::new(alloc);
         for place in 0..cells.len() {
-            if !self.has_entry(alloc, pages, &mut buffer, cells.get(place))? {
+            if !self.has_entry(pages, &mut buffer, cells.get(place))? {
                 return Err(Refusal::DamagedFile);
             }
         }
