@@ -25,7 +25,7 @@ pub record Beside (some now : List Event) : Type 0 where
   pub others : List Event
   pub are : IsPermutation now (some ++ others)
 
-first_there : (one : Event) (xs old : List Event) → IsPermutation old (one ∷ xs) → Contains old one
+pub first_there : (one : Event) (xs old : List Event) → IsPermutation old (one ∷ xs) → Contains old one
 first_there one xs old p = Contains-permutation (one ∷ xs) old one (IsPermutation-sym old (one ∷ xs) p) (0, omega arith, refl)
 
 -- an event that was among others has ended, and these are there

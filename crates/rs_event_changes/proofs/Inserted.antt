@@ -24,9 +24,11 @@ use Rattle.rs_event_changes.specs.Changes.{Inserts}
 use Rattle.rs_event_changes.specs.Inner.{HasThese}
 use Rattle.rs_event_changes.specs.Picked.{IsHeld, IsWidened, Joins, passing}
 use Rattle.rs_event_changes.specs.Seen.{GivenWayIsSeen}
+use Rattle.rs_event_changes.specs.Turns.{Turns}
 use Rattle.rs_event_changes.proofs.Finding.{Finds, has_none, has_passing, live_gone, small_each}
 use Rattle.rs_event_changes.proofs.Inserting.{InsertsHere, held_now, is_one_met, met_are, one_met_on, widened}
 use Rattle.rs_event_changes.proofs.Tables.{same_shares, same_table}
+use Rattle.rs_event_changes.proofs.Turning.{AreApart, events_apart, none_turned, turned}
 
 module _ (types : List ColumnType) (kind : Kind) (version route : ℕ) (below : version < LIVING) (span : Stretch) (placed : IsPlaced kind span)
     (from upto : ℕ) (reaches : from ≡ span.lo - gap_of kind) (ends : upto ≡ min (span.hi + gap_of kind) 4294967295)
@@ -54,6 +56,9 @@ module _ (types : List ColumnType) (kind : Kind) (version route : ℕ) (below : 
       fit : AllByRecursion (λ (one : Event). one.hi < 4294967296) events
       fit = small_each types holds.records.cells events holds.records.say
 
+      apart : AreApart events
+      apart = events_apart types holds.records.cells events holds.records.holds.tree.ascends holds.records.say
+
       -- the change as it is said of the events
       become : (change : List Event → List Event → Type 0) → ChangesTable types mid new was is were are version version change
           → ((now : List Event) → change events now → Inserts kind accepted version route span count events now)
@@ -71,9 +76,9 @@ module _ (types : List ColumnType) (kind : Kind) (version route : ℕ) (below : 
           }
 
       whole : (gs : List Event) (now : List Event) → AllByRecursion (λ (one : Event). one.died ≡ LIVING) gs → GivesWay types version route gs come events now
-          → InsertsHere kind accepted version route span count events now → Inserts kind accepted version route span count events now
-      whole gs now live way here = record {
-        changes = record { live = λ oldest first runs. law types version route gs come events now below live way kind oldest accepted before runs; elsewhere = here.elsewhere };
+          → Turns version events now → InsertsHere kind accepted version route span count events now → Inserts kind accepted version route span count events now
+      whole gs now live way turns here = record {
+        changes = record { live = λ oldest first runs. law types version route gs come events now below live way kind oldest accepted before runs; elsewhere = here.elsewhere; turns = turns };
         facts = here.facts;
         runs = here.runs;
         within = here.within;
@@ -89,7 +94,7 @@ module _ (types : List ColumnType) (kind : Kind) (version route : ℕ) (below : 
       if_held held =
           let here = subst (λ l. IsHeld span l gone come count) (met_are version route from upto span.row events) held in
           become (GivesWay types version route [] come) (made [] (subst (λ l. AllZip (SaysEvent types) l []) (sym held.none_gone) tt)) (λ now way.
-          whole [] now tt way
+          whole [] now tt way (subst (Turns version events) (sym (nothing held.none_come now way)) (none_turned version events))
           (held_now types kind version route below accepted before events now (dated accepted events used holds.records) fit level span placed from upto reaches ends gone come count here
           (nothing held.none_come now way)))
 
@@ -99,7 +104,8 @@ module _ (types : List ColumnType) (kind : Kind) (version route : ℕ) (below : 
           let met = filter (is_one_met version route from upto span.row) events in
           let here = subst (λ l. IsWidened types span l gone come count) (met_are version route from upto span.row events) wider in
           become (GivesWay types version route met come) (made met here.say) (λ now way.
-          whole met now (live_gone types version route accepted (omega (arith, before)) events (dated accepted events used holds.records) (is_one_met version route from upto span.row) (one_met_on version route from upto span.row)) way
+          let live = live_gone types version route accepted (omega (arith, before)) events (dated accepted events used holds.records) (is_one_met version route from upto span.row) (one_met_on version route from upto span.row) in
+          whole met now live way (turned types version below route accepted before events now (dated accepted events used holds.records) apart (is_one_met version route from upto span.row) live come way)
           (widened types kind version route below accepted before events now (dated accepted events used holds.records) fit level span placed from upto reaches ends
           (subst (λ l. GivesWay types version route met l events now) here.is way) count here.counted))
 

@@ -15,4 +15,5 @@ mod Seeing
 mod Shown
 mod StillSeen
 mod Tables
+mod Turning
 mod WideSpans

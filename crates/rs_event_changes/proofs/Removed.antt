@@ -29,6 +29,7 @@ use Rattle.rs_event_changes.specs.Seen.{GivenWayIsSeen}
 use Rattle.rs_event_changes.proofs.Finding.{Finds, has_passing, live_gone}
 use Rattle.rs_event_changes.proofs.Removing.{gone_are, is_one_gone, nothing_removed, one_gone_on, removed}
 use Rattle.rs_event_changes.proofs.Tables.{same_shares, same_table}
+use Rattle.rs_event_changes.proofs.Turning.{events_apart, none_turned, turned}
 
 module _ (types : List ColumnType) (version route : ℕ) (below : version < LIVING) (lo hi : ℕ) (goes : Option Condition) (old : PageMap) (was : Standing) where
   dated : (accepted : ℕ) (events : List Event) (used : ℕ → ℕ) → HoldsRecords (kept_events types) old was accepted events used → AllByRecursion (IsDatedRecord (kept_events types) accepted) events
@@ -50,7 +51,7 @@ module _ (types : List ColumnType) (version route : ℕ) (below : version < LIVI
           holds = later_table types old was were accepted version events used uses (omega (arith, before)) holds;
           moves = same_pages-moves old old (used & all_of uses) (SamePages-refl old);
           changed = record {
-            changes = λ kind. record { live = λ oldest first runs. record { each = λ at low high. IsPermutation-refl _ }; elsewhere = here.elsewhere };
+            changes = λ kind. record { live = λ oldest first runs. record { each = λ at low high. IsPermutation-refl _ }; elsewhere = here.elsewhere; turns = none_turned version events };
             facts = here.facts;
             runs = here.runs;
             within = here.within;
@@ -90,6 +91,8 @@ module _ (types : List ColumnType) (version route : ℕ) (below : version < LIVI
           let way = subst (λ l. GivesWay types version route these l events step.events) left step.changed in
           let here = removed types version route below accepted before events step.events (dated accepted events used holds.records) (level accepted events used before holds.records) lo hi (goes_by goes) some way count counted in
           let live = live_gone types version route accepted (omega (arith, before)) events (dated accepted events used holds.records) (is_one_gone version route lo hi (goes_by goes)) (one_gone_on version route lo hi (goes_by goes)) in
+          let apart = events_apart types holds.records.cells events holds.records.holds.tree.ascends holds.records.say in
+          let turns = turned types version below route accepted before events step.events (dated accepted events used holds.records) apart (is_one_gone version route lo hi (goes_by goes)) live come step.changed in
           record {
             events = step.events;
             after = step.after;
@@ -97,7 +100,7 @@ module _ (types : List ColumnType) (version route : ℕ) (below : version < LIVI
             holds = step.holds;
             moves = moves_trans old mid new (used & all_of uses) (used & all_of uses) (step.after & all_of step.afters) (same_pages-moves old mid (used & all_of uses) same) step.moves;
             changed = record {
-              changes = λ kind. record { live = λ oldest first runs. law types version route these come events step.events below live step.changed kind oldest accepted before runs; elsewhere = here.elsewhere };
+              changes = λ kind. record { live = λ oldest first runs. law types version route these come events step.events below live step.changed kind oldest accepted before runs; elsewhere = here.elsewhere; turns = turns };
               facts = here.facts;
               runs = here.runs;
               within = here.within;

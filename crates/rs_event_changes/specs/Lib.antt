@@ -4,3 +4,4 @@ pub mod Changes
 pub mod Inner
 pub mod Picked
 pub mod Seen
+pub mod Turns
