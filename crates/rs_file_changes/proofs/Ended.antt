@@ -5,13 +5,15 @@ use Rattle.rs_attr.specs.Entries.{Field, HoldsIndex}
 use Rattle.rs_attr.specs.Tables.{HoldIndexes, IndexState, all_of, kept_parts}
 use Rattle.rs_attr.proofs.Placing.{all_of-cons}
 use Rattle.rs_catalog_pages.specs.Said.{said_catalogue}
+use Rattle.rs_cell_versions.specs.Version.{HaveDiedBy}
+use Rattle.rs_cell_versions.specs.Versioned.{Standing}
 use Rattle.rs_contents.specs.Contents.{Contents, LiesTable, SameTable, TableContents, index_roots, owned, table_pages}
 use Rattle.rs_contents.specs.Opening.{IsOpened}
 use Rattle.rs_contents.specs.declared.opened.OpenedFile.{OpenedFile}
 use Rattle.rs_contents.specs.declared.opened.OpenedTable.{OpenedTable}
 use Rattle.rs_file_changes.specs.Calls.{StaysOpened}
 use Rattle.rs_file_changes.specs.Inner.{IsIndexKept, IsIndexTakenBack, IsTableKept, IsTableTakenBack}
-use Rattle.rs_file_changes.specs.Parts.{IsAsItWas, IsCommitted, IsReady, IsTableCommitted, KeepsCommitted, KeepsOpened, SameOpened}
+use Rattle.rs_file_changes.specs.Parts.{HaveAllDiedBy, IsAsItWas, IsCommitted, IsReady, IsTableCommitted, KeepsCommitted, KeepsOpened, SameOpened}
 use Rattle.rs_file_changes.proofs.Lists.{each_right}
 use Rattle.rs_file_changes.proofs.Ready.{ready_of}
 use Rattle.rs_page_owners.proofs.Moving.{shares_same}
@@ -114,6 +116,22 @@ kept_fields (i ∷ is) (o ∷ os) all = let field : o.field ≡ i.field = all.0.
 pub ready_kept : (was is : OpenedFile) → is.definitions ≡ was.definitions → AllZip IsTableKept was.tables.items is.tables.items → IsReady was → IsReady is
 ready_kept was is definitions tables ready =
     ready_of was is IsTableKept (λ one other kept. (kept.types, kept_fields one.indexes.items other.indexes.items kept.indexes)) definitions tables ready
+
+-- what is known to be dead stays as it is
+order_each : (version : ℕ) (one other : List OpenedTable) → AllZip IsTableKept one other → AllByRecursion (λ (table : OpenedTable). HaveDiedBy version table.records.working.dead) one
+    → AllByRecursion (λ (table : OpenedTable). HaveDiedBy version table.records.working.dead) other
+order_each version [] [] all died = tt
+order_each version [] (o ∷ os) all died = absurd all
+order_each version (i ∷ is) [] all died = absurd all
+order_each version (i ∷ is) (o ∷ os) all died =
+    (subst (λ (standing : Standing). HaveDiedBy version standing.dead) (sym all.0.working) died.0, order_each version is os all.1 died.1)
+
+pub order_kept : (was is : OpenedFile) → AllZip IsTableKept was.tables.items is.tables.items → is.referents.working ≡ was.referents.working
+    → (version : ℕ) → HaveAllDiedBy version was → HaveAllDiedBy version is
+order_kept was is tables referents version died = record {
+  tables = order_each version was.tables.items is.tables.items tables died.tables;
+  referents = subst (λ (standing : Standing). HaveDiedBy version standing.dead) (sym referents) died.referents;
+}
 
 -- ---- taken back
 

@@ -1,12 +1,12 @@
 //! This module keeps what was changed of what is open, or takes it back. Neither takes memory; the pages are to be committed or
 //! abandoned with it.
 
-ghost use Rattle.std.specs.Prelude.{◌≡◌};
+ghost use Rattle.std.specs.Prelude.{◌≡◌, ℕ};
 ghost use Rattle.std.specs.List.{AllZip};
 ghost use Rattle.rs_contents.specs.declared.opened.OpenedFile.{OpenedFile};
 ghost use Rattle.rs_file_changes.specs.Calls.{StaysOpened};
 ghost use Rattle.rs_file_changes.specs.Inner.{IsIndexKept, IsIndexTakenBack, IsTableKept, IsTableTakenBack};
-ghost use Rattle.rs_file_changes.specs.Parts.{IsAsItWas, IsCommitted, IsReady, KeepsCommitted};
+ghost use Rattle.rs_file_changes.specs.Parts.{HaveAllDiedBy, IsAsItWas, IsCommitted, IsReady, KeepsCommitted};
 
 use rs_attr::AttrIndex;
 use rs_contents::{OpenedFile, OpenedTable};
@@ -16,6 +16,8 @@ pub fn keep(file: &mut OpenedFile)
     ensures committed { IsCommitted file.new }
     ensures stays { StaysOpened file.old file.new }
     ensures ready { IsReady file.old → IsReady file.new }
+    ensures order { (version : ℕ) → HaveAllDiedBy version file.old → HaveAllDiedBy version file.new }
+    ensures definitions { file.new.definitions ≡ file.old.definitions }
     ensures accepted { file.new.accepted ≡ file.old.accepted }
 {
     for place in 0..file.tables.len() {

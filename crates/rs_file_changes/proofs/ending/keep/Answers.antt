@@ -4,7 +4,7 @@ use Rattle.std.proofs.lemmas.Option.{slice_get-get_or}
 use Rattle.rs_contents.specs.declared.opened.OpenedFile.{OpenedFile}
 use Rattle.rs_file_changes.specs.Inner.{IsTableKept}
 use Rattle.rs_file_changes.specs.Parts.{IsTableCommitted}
-use Rattle.rs_file_changes.proofs.Ended.{ready_kept, stays_opened, table_committed}
+use Rattle.rs_file_changes.proofs.Ended.{order_kept, ready_kept, stays_opened, table_committed}
 use Rattle.rs_file_changes.proofs.Lists.{Partly, each_right, partly_all, partly_long, partly_next}
 use Rattle.rs_versioned.specs.Tables.{ReferentTableState}
 use Rattle.rs_file_changes.proofs.ending.keep.Goals as goal
@@ -55,3 +55,11 @@ returns-clause-ready c =
     let zip = partly_all IsTableKept c.loop-place.place fn all c.loop-place.invariant.tables (omega (arith, partly_long IsTableKept c.loop-place.place fn all c.loop-place.invariant.tables, c.loop-place-test.false)) in
     let is : OpenedFile = record c.loop-place.file { referents = c.commit.new.self } in
     λ ready. ready_kept c.args.file.now is c.loop-place.invariant.definitions zip ready
+
+pub returns-clause-order : goal.returns-clause-order
+returns-clause-order c =
+    let fn = c.args.file.now.tables.items in
+    let all = c.loop-place.file.tables.items in
+    let zip = partly_all IsTableKept c.loop-place.place fn all c.loop-place.invariant.tables (omega (arith, partly_long IsTableKept c.loop-place.place fn all c.loop-place.invariant.tables, c.loop-place-test.false)) in
+    let is : OpenedFile = record c.loop-place.file { referents = c.commit.new.self } in
+    order_kept c.args.file.now is zip (c.commit.ensures.working ∙ ap (λ (r : ReferentTableState). r.working) c.loop-place.invariant.referents)
