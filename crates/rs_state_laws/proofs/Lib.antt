@@ -1,1 +1,5 @@
+pub mod NamedEntries
+pub mod OtherReferents
+pub mod ReferentLists
+pub mod ReferentSteps
 mod Completed

@@ -16,6 +16,17 @@ ghost use Rattle.rs_state_laws.specs.Changing.{GivesState};
 ghost use Rattle.rs_state_laws.specs.Parts.{EndsReferent, MovesReferent, PutsReferent};
 ghost use Rattle.rs_state_laws.specs.Standing.{StandsAt};
 
+use rs_catalog_laws::referents::state_has_other_referents_on_a_route;
+use rs_standing::changes::{changed_referents_leave_all_else_meant, meant_contents_stay_meant};
+use rs_standing::live::{
+    live_versions_see_the_same, live_versions_see_their_referents,
+    version_that_sees_the_same_has_the_same_world,
+};
+use rs_standing::standing::definitions_of_a_file_are_a_catalogues;
+use rs_standing::versions::{
+    next_version_begins_as_the_present_one, next_version_is_meant_as_the_present_one,
+};
+
 /// Where a referent that was not there was put on a route, the route has it beside the others.
 pub fn referent_put_gives_its_state()
     ensures { (from oldest : ℕ) (map : PageMap) (file : OpenedFile) (definitions : Definitions) (held kept : Numbered HeldReferents) (state : State)
@@ -26,7 +37,17 @@ pub fn referent_put_gives_its_state()
         → PutsReferent on.number name measure stands.contents between
         → IsLawful (with_referents state route (names.insert (state.referents route) name measure))
         → GivesState oldest stands.contents between definitions kept (with_referents state route (names.insert (state.referents route) name measure)) }
-{}
+{
+    state_has_other_referents_on_a_route();
+    changed_referents_leave_all_else_meant();
+    meant_contents_stay_meant();
+    live_versions_see_the_same();
+    live_versions_see_their_referents();
+    version_that_sees_the_same_has_the_same_world();
+    definitions_of_a_file_are_a_catalogues();
+    next_version_begins_as_the_present_one();
+    next_version_is_meant_as_the_present_one();
+}
 
 /// Where a referent that was there has ended and lives at another measure, the route has it there.
 pub fn referent_moved_gives_its_state()
@@ -38,7 +59,17 @@ pub fn referent_moved_gives_its_state()
         → MovesReferent on.number name measure stands.contents between
         → IsLawful (with_referents state route (names.insert (state.referents route) name measure))
         → GivesState oldest stands.contents between definitions kept (with_referents state route (names.insert (state.referents route) name measure)) }
-{}
+{
+    state_has_other_referents_on_a_route();
+    changed_referents_leave_all_else_meant();
+    meant_contents_stay_meant();
+    live_versions_see_the_same();
+    live_versions_see_their_referents();
+    version_that_sees_the_same_has_the_same_world();
+    definitions_of_a_file_are_a_catalogues();
+    next_version_begins_as_the_present_one();
+    next_version_is_meant_as_the_present_one();
+}
 
 /// Where a referent that was there has ended, the route has the others.
 pub fn referent_ended_gives_its_state()
@@ -50,4 +81,14 @@ pub fn referent_ended_gives_its_state()
         → EndsReferent on.number name stands.contents between
         → IsLawful (with_referents state route (names.remove (state.referents route) name))
         → GivesState oldest stands.contents between definitions kept (with_referents state route (names.remove (state.referents route) name)) }
-{}
+{
+    state_has_other_referents_on_a_route();
+    changed_referents_leave_all_else_meant();
+    meant_contents_stay_meant();
+    live_versions_see_the_same();
+    live_versions_see_their_referents();
+    version_that_sees_the_same_has_the_same_world();
+    definitions_of_a_file_are_a_catalogues();
+    next_version_begins_as_the_present_one();
+    next_version_is_meant_as_the_present_one();
+}
