@@ -1,2 +1,3 @@
-mod Completion
+pub mod ReferentWholes
 pub mod Wholes
+mod Completion

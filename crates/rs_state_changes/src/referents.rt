@@ -8,7 +8,10 @@ ghost use Rattle.rs_state_changes.specs.Calls.{IsNext, LeavesFile, MayChange};
 ghost use Rattle.rs_state_laws.specs.Changing.{ChangesFile};
 ghost use Rattle.rs_state_laws.specs.Parts.{EndsReferent, MovesReferent, PutsReferent};
 
+use crate::completing::complete;
+use crate::counting::garbage;
 use rs_contents::OpenedFile;
+use rs_file_changes::{end_referent, put_referent};
 use rs_methods::{Name, Referent};
 use rs_pages::Pages;
 use rs_refusal::Refusal;
@@ -33,7 +36,11 @@ pub fn define_referent<P: Pages>(
     ensures next { OnOk result (IsNext file.old.definitions file.old file.new) }
     ensures keeps { OnErr result (KeepsCommitted file.old file.new) }
 {
-    todo
+    let before = garbage(file);
+    let version = file.accepted + 1;
+    put_referent(alloc, pages, file, version, referent)?;
+    complete(alloc, pages, file, oldest, before)?;
+    Ok(())
 }
 
 /// Puts a referent in the place of the one of its name on its route. It is refused as `define_referent` is.
@@ -55,7 +62,12 @@ pub fn move_referent<P: Pages>(
     ensures next { OnOk result (IsNext file.old.definitions file.old file.new) }
     ensures keeps { OnErr result (KeepsCommitted file.old file.new) }
 {
-    todo
+    let before = garbage(file);
+    let version = file.accepted + 1;
+    end_referent(alloc, pages, file, version, referent.route, &referent.name)?;
+    put_referent(alloc, pages, file, version, referent)?;
+    complete(alloc, pages, file, oldest, before)?;
+    Ok(())
 }
 
 /// Ends the referent of this name on the route. It is refused as `define_referent` is.
@@ -77,5 +89,9 @@ pub fn drop_referent<P: Pages>(
     ensures next { OnOk result (IsNext file.old.definitions file.old file.new) }
     ensures keeps { OnErr result (KeepsCommitted file.old file.new) }
 {
-    todo
+    let before = garbage(file);
+    let version = file.accepted + 1;
+    end_referent(alloc, pages, file, version, route, name)?;
+    complete(alloc, pages, file, oldest, before)?;
+    Ok(())
 }
