@@ -56,6 +56,7 @@ module _ (oldest most gone : ℕ) (old mid : PageMap) (was between : OpenedFile)
           few = few;
           cleared = record {
             parts = record { definitions = parts.definitions; directory = refl; tables = parts.tables; referents = parts.referents };
+            many = made.changed.many;
             as_many = made.changed.as_many;
           };
           next = writes.accepted;
