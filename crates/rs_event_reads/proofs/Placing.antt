@@ -7,7 +7,7 @@ use Rattle.std.proofs.lemmas.List.Elements.{filter-append}
 use Rattle.std.specs.Prelude.{filter}
 use Rattle.std.specs.List.{AllByRecursion, AllZip}
 use Rattle.rs_facts.specs.Runs.{Stretch}
-use Rattle.rs_facts.specs.Spans.{ArePlaced, IsPlaced}
+use Rattle.rs_facts.specs.Spans.{IsPlaced}
 use Rattle.rs_tree.proofs.Lists.{take_next}
 use Rattle.rs_value.proofs.EncodingLaws.{said_typed}
 use Rattle.rs_value.specs.Values.{IsRowOf}

@@ -75,6 +75,6 @@ fn is_placed(kind: Kind, span: &Span) -> bool
 {
     match kind {
         Kind::Line => span.lo < span.hi,
-        Kind::Point => span.lo.checked_add(1) == Some(span.hi),
+        Kind::Point => span.lo < span.hi && span.hi - span.lo == 1,
     }
 }

@@ -1,5 +1,5 @@
 -- The spans of the cells so far.
-use Rattle.std.proofs.Common.{◌≡◌, map, take}
+use Rattle.std.proofs.Common.{map, take}
 use Rattle.std.specs.List.{AllByRecursion}
 use Rattle.rs_event_reads.specs.Read.{SayPlaced}
 use Rattle.rs_facts.specs.Spans.{ArePlaced, seen}
