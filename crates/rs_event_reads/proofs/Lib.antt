@@ -1,2 +1,3 @@
 mod Finding
 mod Placing
+mod Within
