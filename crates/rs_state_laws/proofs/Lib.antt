@@ -3,3 +3,5 @@ pub mod OtherReferents
 pub mod ReferentLists
 pub mod ReferentSteps
 mod Completed
+mod OnRoutes
+mod TableRows

@@ -22,6 +22,15 @@ ghost use Rattle.rs_state_laws.specs.Changing.{GivesState};
 ghost use Rattle.rs_state_laws.specs.Parts.{InsertsRow, RemovesRows};
 ghost use Rattle.rs_state_laws.specs.Standing.{StandsAt};
 
+use crate::completing::file_stands_for_the_state_in_memory;
+use rs_catalog_laws::rows::{state_has_a_row_more, state_has_rows_less};
+use rs_standing::changes::{changed_table_leaves_the_others_meant, meant_contents_stay_meant};
+use rs_standing::live::live_versions_see_the_same;
+use rs_standing::standing::definitions_of_a_file_are_a_catalogues;
+use rs_standing::versions::{
+    next_version_begins_as_the_present_one, next_version_is_meant_as_the_present_one,
+};
+
 /// Where a row was put along a span of a route, the table has the row there beside those that it had, and the count is that of its
 /// new facts.
 pub fn row_put_gives_its_state()
@@ -35,7 +44,16 @@ pub fn row_put_gives_its_state()
         → (there : Table) → names.get state.tables name ≡ Some there
         → GivesState oldest stands.contents between definitions held (with_table state name (with_facts_along there route span.lo span.hi span.row))
         × (count ≡ new_facts there.facts route span.lo span.hi span.row) }
-{}
+{
+    file_stands_for_the_state_in_memory();
+    definitions_of_a_file_are_a_catalogues();
+    meant_contents_stay_meant();
+    changed_table_leaves_the_others_meant();
+    live_versions_see_the_same();
+    next_version_begins_as_the_present_one();
+    next_version_is_meant_as_the_present_one();
+    state_has_a_row_more();
+}
 
 /// Where rows were taken away between two thousandths of a route, the table has those that it had without these, and the count is that
 /// of the facts that went.
@@ -49,4 +67,13 @@ pub fn rows_taken_away_give_their_state()
         → (there : Table) → names.get state.tables name ≡ Some there
         → GivesState oldest stands.contents between definitions held (with_table state name (without_facts there route lo hi (goes_by goes)))
         × (count ≡ removed_facts there.facts route lo hi (goes_by goes)) }
-{}
+{
+    file_stands_for_the_state_in_memory();
+    definitions_of_a_file_are_a_catalogues();
+    meant_contents_stay_meant();
+    changed_table_leaves_the_others_meant();
+    live_versions_see_the_same();
+    next_version_begins_as_the_present_one();
+    next_version_is_meant_as_the_present_one();
+    state_has_rows_less();
+}
