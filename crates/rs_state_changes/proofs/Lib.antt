@@ -1,3 +1,4 @@
 pub mod ReferentWholes
 pub mod Wholes
 mod Completion
+mod TablesPlaced

@@ -1,3 +1,4 @@
 pub mod Calls
 pub mod Completing
 pub mod Garbage
+pub mod InPlace

@@ -2,15 +2,19 @@
 
 ghost use Rattle.std.specs.Prelude.{◌≡◌, ◌<◌, ◌+◌, true, length, IfOk, OnErr, OnOk, Some, slice_get};
 ghost use Rattle.rs_contents.specs.declared.opened.OpenedTable.{OpenedTable};
+ghost use Rattle.rs_event_changes.specs.Changes.{Inserts, Removes};
 ghost use Rattle.rs_facts.specs.Spans.{IsPlaced, seen};
-ghost use Rattle.rs_file_changes.specs.Parts.{KeepsCommitted};
+ghost use Rattle.rs_file_changes.specs.Parts.{HaveAllDiedBy, KeepsCommitted};
 ghost use Rattle.rs_machine.specs.declared.limits.TheConstants.{CHANGES};
 ghost use Rattle.rs_state_changes.specs.Calls.{IsNext, LeavesFile, MayChange};
+ghost use Rattle.rs_state_changes.specs.InPlace.{MakesAt};
 ghost use Rattle.rs_state_laws.specs.Changing.{ChangesFile};
 ghost use Rattle.rs_state_laws.specs.Parts.{InsertsRow, RemovesRows};
 ghost use Rattle.rs_value.specs.Values.{IsRowOf};
 ghost use Rattle.rs_value.specs.View.{row_of};
 
+use crate::completing::complete;
+use crate::counting::garbage;
 use rs_contents::OpenedFile;
 use rs_facts::{Condition, Span};
 use rs_pages::Pages;
@@ -69,7 +73,42 @@ pub fn insert<P: Pages>(
     ensures next { OnOk result (IsNext file.old.definitions file.old file.new) }
     ensures keeps { OnErr result (KeepsCommitted file.old file.new) }
 {
-    todo
+    let before = garbage(file);
+    let count = insert_in_place(alloc, pages, file, insertion)?;
+    complete(alloc, pages, file, oldest, before)?;
+    Ok(count)
+}
+
+/// Puts the row into its table, as versions after the one that was accepted last see it.
+fn insert_in_place<P: Pages>(
+    alloc: Global,
+    pages: &mut P,
+    file: &mut OpenedFile,
+    insertion: &Insertion,
+) -> Result<u64, Refusal>
+    requires begun { (P.store pages.old).is_begun ≡ true }
+    requires may { MayChange file.old }
+    requires room { file.old.accepted < CHANGES }
+    requires place { insertion.now.table < length file.old.tables.items }
+    requires row { (table : OpenedTable) → slice_get file.old.tables.items insertion.now.table ≡ Some table
+        → IsRowOf table.records.types (row_of insertion.now.span.tuple.value) }
+    requires placed { IsPlaced insertion.now.kind (seen insertion.now.span) }
+    ensures leaves { LeavesFile P.Pages file.old result pages.old pages.new }
+    ensures inserts { P.is_tied pages.old → IfOk result (λ count. MakesAt (P.store pages.old).map (P.store pages.new).map file.old file.new insertion.now.table
+        (Inserts insertion.now.kind file.old.accepted (file.old.accepted + 1) insertion.now.route (seen insertion.now.span) count)) }
+    ensures keeps { KeepsCommitted file.old file.new }
+    ensures order { HaveAllDiedBy (file.old.accepted + 1) file.new }
+{
+    let version = file.accepted + 1;
+    rs_event_changes::insert(
+        alloc,
+        pages,
+        &mut file.tables[insertion.table],
+        insertion.kind,
+        version,
+        insertion.route,
+        &insertion.span,
+    )
 }
 
 /// Takes rows away, and answers how many facts went. Versions from `oldest` on see what they saw, and the next version does not see the
@@ -91,5 +130,39 @@ pub fn remove<P: Pages>(
     ensures next { OnOk result (IsNext file.old.definitions file.old file.new) }
     ensures keeps { OnErr result (KeepsCommitted file.old file.new) }
 {
-    todo
+    let before = garbage(file);
+    let count = remove_in_place(alloc, pages, file, removal)?;
+    complete(alloc, pages, file, oldest, before)?;
+    Ok(count)
+}
+
+/// Takes the rows out of their table, as versions after the one that was accepted last see it.
+fn remove_in_place<P: Pages>(
+    alloc: Global,
+    pages: &mut P,
+    file: &mut OpenedFile,
+    removal: &Removal,
+) -> Result<u128, Refusal>
+    requires begun { (P.store pages.old).is_begun ≡ true }
+    requires may { MayChange file.old }
+    requires room { file.old.accepted < CHANGES }
+    requires place { removal.now.table < length file.old.tables.items }
+    ensures leaves { LeavesFile P.Pages file.old result pages.old pages.new }
+    ensures removes { P.is_tied pages.old → IfOk result (λ count. MakesAt (P.store pages.old).map (P.store pages.new).map file.old file.new removal.now.table
+        (Removes file.old.accepted (file.old.accepted + 1) removal.now.route removal.now.lo removal.now.hi removal.now.goes count)) }
+    ensures keeps { KeepsCommitted file.old file.new }
+    ensures order { HaveAllDiedBy (file.old.accepted + 1) file.new }
+{
+    let version = file.accepted + 1;
+    let goes = removal.goes.as_ref();
+    rs_event_changes::remove(
+        alloc,
+        pages,
+        &mut file.tables[removal.table],
+        version,
+        removal.route,
+        removal.lo,
+        removal.hi,
+        goes,
+    )
 }
