@@ -26,13 +26,13 @@ pub(crate) fn by_value(
     Ok(ordered)
 }
 
-/// The value of each cell, and its place among them, by value and then by place.
+/// The bytes of each cell's value, and its place among them, by value and then by place.
 fn places_by_value(
     alloc: Global,
     cells: &Cells,
     start: usize,
     wide: usize,
-) -> Result<Vec<(Vec<u8>, usize)>, AllocError>
+) -> Result<Vec<(&[u8], usize)>, AllocError>
     requires within { start + wide ≤ record_width cells.now }
     ensures each { IfOk result (λ places. All (λ value. value.1 < length (listed cells.now)) places.items) }
     ensures moved { IfOk result (λ places. IsPermutation (listed cells.now)
@@ -40,19 +40,16 @@ fn places_by_value(
 {
     let mut places = Vec::new(alloc);
     for place in 0..cells.len() {
-        let value = value_of(alloc, cells.get(place), start, wide)?;
-        places.push((value, place))?;
+        places.push((value_of(cells.get(place), start, wide), place))?;
     }
     places.sort_unstable();
     Ok(places)
 }
 
 /// The bytes of a cell's value.
-fn value_of(alloc: Global, cell: &[u8], start: usize, wide: usize) -> Result<Vec<u8>, AllocError>
+fn value_of(cell: &[u8], start: usize, wide: usize) -> &[u8]
     requires within { start + wide ≤ length cell.now }
-    ensures { IfOk result (λ value. value.items ≡ take wide (drop start cell.now)) }
+    ensures { result.now ≡ take wide (drop start cell.now) }
 {
-    let mut value = Vec::new(alloc);
-    value.extend_from_slice(&cell[start..start + wide])?;
-    Ok(value)
+    &cell[start..start + wide]
 }

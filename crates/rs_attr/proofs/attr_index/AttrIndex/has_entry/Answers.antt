@@ -1,5 +1,5 @@
 -- The tree is asked whether it has the entry, and the entry is told with what follows it at once.
-use Rattle.std.proofs.Common.{◌≡◌, ◌∙◌, ℕ, List, [], ◌∷◌, ◌++◌, ◌-◌, IfErr, IfOk, length, take, ap, arith, rules}
+use Rattle.std.proofs.Common.{◌≡◌, ◌∙◌, ℕ, [], ◌∷◌, ◌++◌, ◌-◌, IfErr, IfOk, length, take, ap, arith, rules}
 use Rattle.std.proofs.lemmas.List.{length-append, take_at}
 use Rattle.rs_attr.specs.Entries.{Field, entry_of, index_form}
 use Rattle.rs_attr.proofs.Checked.{Tells, looked_refuses, looked_tells}
