@@ -3,5 +3,11 @@ pub mod OtherReferents
 pub mod ReferentLists
 pub mod ReferentSteps
 mod Completed
+mod DroppedRoutes
+mod MoreRoutes
+mod NewDefinitions
+mod NewRoutes
+mod OffRoute
 mod OnRoutes
+mod OtherDefinitions
 mod TableRows

@@ -24,6 +24,23 @@ ghost use Rattle.rs_state_laws.specs.Parts.{DropsRoute};
 ghost use Rattle.rs_state_laws.specs.Standing.{StandsAt};
 ghost use Rattle.rs_syntax.specs.QueryView.{query_tree};
 
+use rs_catalog_laws::definitions::{
+    state_has_one_other_definition_more_or_less, state_has_one_route_more_or_less,
+};
+use rs_definitions::listing_laws::{
+    definitions_of_a_file_list_its_items, listed_definitions_of_a_lawful_catalogue_are_meant,
+    one_route_is_listed_more_or_less,
+};
+use rs_standing::changes::changed_definitions_leave_records_meant;
+use rs_standing::live::{
+    live_versions_see_the_same_beside_new_definitions,
+    version_that_sees_the_same_has_the_same_world,
+};
+use rs_standing::standing::{contents_have_one_state, definitions_of_a_file_are_a_catalogues};
+use rs_standing::versions::{
+    next_version_begins_as_the_present_one, next_version_is_meant_as_the_present_one,
+};
+
 /// Where a route of a free number is listed that is born by the next version, the state has it beside the others.
 pub fn route_defined_gives_its_state()
     ensures { (from oldest : ℕ) (map : PageMap) (file : OpenedFile) (definitions : Definitions) (held : Numbered HeldReferents) (state : State)
@@ -34,7 +51,18 @@ pub fn route_defined_gives_its_state()
         → ChangesDefinitions (listing_of (catalog.with_route definitions name item)) stands.contents between
         → IsLawful (machine.with_route state name item.ends.start item.ends.finish)
         → GivesState oldest stands.contents between (catalog.with_route definitions name item) held (machine.with_route state name item.ends.start item.ends.finish) }
-{}
+{
+    changed_definitions_leave_records_meant();
+    contents_have_one_state();
+    definitions_of_a_file_are_a_catalogues();
+    definitions_of_a_file_list_its_items();
+    listed_definitions_of_a_lawful_catalogue_are_meant();
+    live_versions_see_the_same_beside_new_definitions();
+    next_version_begins_as_the_present_one();
+    next_version_is_meant_as_the_present_one();
+    one_route_is_listed_more_or_less();
+    state_has_one_route_more_or_less();
+}
 
 /// Where a route is not listed any more on which no fact lies, and its referents have ended, the state has neither. No version before
 /// the next one is live.
@@ -48,7 +76,19 @@ pub fn route_dropped_gives_its_state()
         → DropsRoute item.number (listing_of (catalog.without_route definitions name)) stands.contents between
         → IsLawful (machine.without_route state name)
         → GivesState oldest stands.contents between (catalog.without_route definitions name) kept (machine.without_route state name) }
-{}
+{
+    changed_definitions_leave_records_meant();
+    contents_have_one_state();
+    definitions_of_a_file_are_a_catalogues();
+    definitions_of_a_file_list_its_items();
+    listed_definitions_of_a_lawful_catalogue_are_meant();
+    live_versions_see_the_same_beside_new_definitions();
+    next_version_begins_as_the_present_one();
+    next_version_is_meant_as_the_present_one();
+    one_route_is_listed_more_or_less();
+    state_has_one_route_more_or_less();
+    version_that_sees_the_same_has_the_same_world();
+}
 
 /// Where a view is listed, or is not any more, the state has it beside the others, or has the others.
 pub fn view_listed_gives_its_state()
@@ -64,7 +104,17 @@ pub fn view_listed_gives_its_state()
         → ChangesDefinitions (listing_of (catalog.without_view definitions name)) stands.contents between
         → IsLawful (machine.without_view state name)
         → GivesState oldest stands.contents between (catalog.without_view definitions name) held (machine.without_view state name) }
-{}
+{
+    changed_definitions_leave_records_meant();
+    contents_have_one_state();
+    definitions_of_a_file_are_a_catalogues();
+    definitions_of_a_file_list_its_items();
+    listed_definitions_of_a_lawful_catalogue_are_meant();
+    live_versions_see_the_same_beside_new_definitions();
+    next_version_begins_as_the_present_one();
+    next_version_is_meant_as_the_present_one();
+    state_has_one_other_definition_more_or_less();
+}
 
 /// The same of an alignment.
 pub fn alignment_listed_gives_its_state()
@@ -81,4 +131,14 @@ pub fn alignment_listed_gives_its_state()
         → ChangesDefinitions (listing_of (catalog.without_alignment definitions name)) stands.contents between
         → IsLawful (machine.without_alignment state name)
         → GivesState oldest stands.contents between (catalog.without_alignment definitions name) held (machine.without_alignment state name) }
-{}
+{
+    changed_definitions_leave_records_meant();
+    contents_have_one_state();
+    definitions_of_a_file_are_a_catalogues();
+    definitions_of_a_file_list_its_items();
+    listed_definitions_of_a_lawful_catalogue_are_meant();
+    live_versions_see_the_same_beside_new_definitions();
+    next_version_begins_as_the_present_one();
+    next_version_is_meant_as_the_present_one();
+    state_has_one_other_definition_more_or_less();
+}
