@@ -1,4 +1,6 @@
 pub mod ReferentWholes
 pub mod Wholes
 mod Completion
+mod EndedReferents
+mod Redefined
 mod TablesPlaced

@@ -1,4 +1,5 @@
 pub mod Calls
 pub mod Completing
+pub mod Ending
 pub mod Garbage
 pub mod InPlace
