@@ -128,7 +128,11 @@ fn push_created<D: Disk + Drop>(
     let listed = stored_of(alloc, store.catalog())?;
     let definitions = listed.routes.len() + listed.tables.len() + listed.views.len();
     writeln!(said, "OK\nheld {changed} {clean}")?;
-    writeln!(said, "garbage {} definitions {definitions}", store.garbage())?;
+    writeln!(
+        said,
+        "garbage {} definitions {definitions}",
+        store.garbage()
+    )?;
     match store.close() {
         Ok(_) => Ok(()),
         Err((_, refusal)) => Err(refusal),
