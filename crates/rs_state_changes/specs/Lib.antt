@@ -3,3 +3,4 @@ pub mod Completing
 pub mod Ending
 pub mod Garbage
 pub mod InPlace
+pub mod Tables
