@@ -1,6 +1,6 @@
 -- What a store is, what it keeps, and in which state it stands.
-use Rattle.std.specs.Prelude.{◌≡◌, ◌≤◌, ◌+◌, ℕ, Bool, true, false, length}
-use Rattle.std.specs.List.{AllZip, sum_by}
+use Rattle.std.specs.Prelude.{◌≡◌, ◌≤◌, ℕ, Bool, true, false}
+use Rattle.std.specs.List.{AllZip}
 use Rattle.rs_catalog.specs.Definitions.{Definitions, Numbered}
 use Rattle.rs_catalog.specs.Referents.{HeldReferents, referents_on}
 use Rattle.rs_catalog_pages.specs.Said.{said_catalogue}
@@ -17,7 +17,9 @@ use Rattle.rs_pager.specs.Paged.{Paged}
 use Rattle.rs_pages.specs.PageMap.{SamePages}
 use Rattle.rs_standing.specs.Meant.{IsMeant}
 use Rattle.rs_standing.specs.Seen.{referents_seen}
-use Rattle.rs_standing.specs.States.{AreDefinitionsAt, IsState}
+use Rattle.rs_standing.specs.States.{IsState}
+pub use Rattle.rs_state_changes.specs.Garbage.{dead_of, garbage_of}
+pub use Rattle.rs_state_laws.specs.Standing.{AreInMemory, IsOpenedFile}
 
 -- the pages over the disk, what is open of the file, the definitions and the referents in memory, and whether the disk says that
 -- the file is open
@@ -32,19 +34,6 @@ pub record StoreState (D : Type 0) : Type 0 where
 pub record IsSound (is_begun : Bool) (opened : OpenedFile) : Type 0 where
   pub shut : is_begun ≡ false
   pub file : IsFile opened
-
--- what is open is that of the contents
-pub record IsOpenedFile (file : OpenedFile) (contents : Contents) : Type 0 where
-  pub definitions : contents.definitions ≡ said_catalogue file.definitions
-  pub pages : contents.pages ≡ file.pages.items
-  pub tables : AllZip IsOpened file.tables.items contents.tables
-  pub referents : contents.referents.standing ≡ file.referents.working
-  pub accepted : contents.directory.accepted ≡ file.accepted
-
--- in memory are the definitions of the contents, and on each route the referents that the version accepted last sees
-pub record AreInMemory (definitions : Definitions) (held : Numbered HeldReferents) (contents : Contents) : Type 0 where
-  pub catalog : AreDefinitionsAt contents.directory.accepted contents.definitions definitions
-  pub referents : (route : ℕ) → referents_on held route ≡ referents_seen contents contents.directory.accepted route
 
 module _ {D : Type 0} (d : disk.Ghosts D) where
   -- The store keeps these contents: its committed pages hold them, and nothing has changed in them since. What is open is theirs,
@@ -65,11 +54,3 @@ module _ {D : Type 0} (d : disk.Ghosts D) where
     pub meant : IsMeant oldest contents
     pub is : IsState contents state
     pub views : AreViewsMeant state
-
--- how many records of a table are dead and not cleared
-abbrev pub dead_of : OpenedTable → ℕ
-dead_of table = length table.records.working.dead
-
--- of all tables and of the referents
-abbrev pub garbage_of : OpenedFile → ℕ
-garbage_of file = length file.referents.working.dead + sum_by dead_of file.tables.items

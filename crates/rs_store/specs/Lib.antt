@@ -1,4 +1,5 @@
 pub mod Calls
+pub mod Changing
 pub mod Kept
 pub mod Loading
 pub mod Making

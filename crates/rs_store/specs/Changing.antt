@@ -1,0 +1,67 @@
+-- What a change makes of a store: the state of the next version, in which live versions see what they saw.
+use Rattle.std.specs.Prelude.{◌≡◌, ◌≢◌, ◌≤◌, ◌+◌, ℕ, Err, Result, MatchResult, OnErr, OnOk, Some}
+use Rattle.std.specs.FinMap as names
+use Rattle.rs_catalog.specs.Definitions.{Definitions, RouteItem, TableItem}
+use Rattle.rs_catalog.specs.Events.{behind}
+use Rattle.rs_catalog.specs.Referents.{referents_on}
+use Rattle.rs_contents.specs.Contents.{Contents}
+use Rattle.rs_disk.specs.declared.disk.Disk as disk
+use Rattle.rs_facts.specs.Fact.{Name}
+use Rattle.rs_facts.specs.Runs.{Stretch}
+use Rattle.rs_facts.specs.Spans.{IsPlaced}
+use Rattle.rs_machine.specs.Checks.{column_types}
+use Rattle.rs_machine.specs.State.{State}
+use Rattle.rs_pager.specs.Opened.{CountsFault}
+use Rattle.rs_refusal.specs.Counts.{counted_on}
+use Rattle.rs_refusal.specs.declared.refusal.Refusal.{Refusal}
+use Rattle.rs_refusal.specs.declared.refusal.Refusal.TheVariants as refusal
+use Rattle.rs_standing.specs.Live.{KeepsLive}
+use Rattle.rs_state_laws.specs.Changing.{ClearsEnough}
+use Rattle.rs_store.specs.Kept.{Keeps, StandsIn, StoreState}
+use Rattle.rs_value.specs.Values.{IsRowOf}
+
+-- the table is there, and the row is one of its columns, along a span of its kind
+pub record IsRowFor (definitions : Definitions) (name : Name) (span : Stretch) : Type 0 where
+  pub table : TableItem
+  pub there : names.get definitions.tables name ≡ Some table
+  pub row : IsRowOf (column_types table.columns) span.row
+  pub placed : IsPlaced table.kind span
+
+-- the table and the route are there, and the span lies on the route
+pub record LiesOn (definitions : Definitions) (name route : Name) (span : Stretch) : Type 0 where
+  pub table : TableItem
+  pub table_there : names.get definitions.tables name ≡ Some table
+  pub on : RouteItem
+  pub route_there : names.get definitions.routes route ≡ Some on
+  pub from : on.ends.start ≤ span.lo
+  pub upto : span.hi ≤ behind table.kind on.ends
+
+module _ {D : Type 0} (d : disk.Ghosts D) where
+  -- the store stands in the state of the next version; versions from the oldest on see what they saw, and of the records that none of
+  -- them sees enough are gone
+  pub record HasBecome (oldest : ℕ) (old : Contents) (store : StoreState D) (state : State) : Type 0 where
+    pub between : Contents
+    pub stands : StandsIn d oldest store state
+    pub clears : ClearsEnough oldest old between stands.contents
+    pub next : stands.contents.directory.accepted ≡ old.directory.accepted + 1
+    pub live : KeepsLive oldest old stands.contents
+
+  -- a change counts a full file where it is refused with 92, and nowhere else
+  pub record CountsFull (why : Refusal) (old new : ℕ) : Type 0 where
+    pub full : why ≡ refusal.FileFull → new ≡ counted_on old
+    pub other : why ≢ refusal.FileFull → old ≤ new
+
+  -- what a change leaves, whatever it is: after a refusal the store keeps what it kept, and the same is in memory. 91 comes exactly
+  -- where the disk's failures rose, by one; 92 only where the full refusals rose; 94 never where the store stands in a state
+  pub record LeavesStore {T : Type 0} (result : Result T Refusal) (old new : StoreState D) : Type 0 where
+    pub stays : (contents : Contents) → Keeps d old contents → OnErr result (Keeps d new contents)
+    pub sound : (from : ℕ) (state : State) → StandsIn d from old state → result ≢ Err refusal.DamagedFile
+    pub catalog : OnErr result (new.catalog ≡ old.catalog)
+    pub referents : OnErr result ((route : ℕ) → referents_on new.referents route ≡ referents_on old.referents route)
+    pub accepted : MatchResult result (λ _. new.file.accepted ≡ old.file.accepted + 1) (λ _. new.file.accepted ≡ old.file.accepted)
+    pub failures : MatchResult result (λ _. d.failures new.pager.disk ≡ d.failures old.pager.disk)
+        (λ why. CountsFault why (d.failures old.pager.disk) (d.failures new.pager.disk))
+    pub full : MatchResult result (λ _. new.pager.full_refusals ≡ old.pager.full_refusals)
+        (λ why. CountsFull why old.pager.full_refusals new.pager.full_refusals)
+    pub honesty : d.is_honest new.pager.disk ≡ d.is_honest old.pager.disk
+    pub limit : new.pager.limit ≡ old.pager.limit
