@@ -1,32 +1,37 @@
 -- Definitions and referents, brought into memory, and what follows where they are not meant.
 use Rattle.std.proofs.Common.{◌≡◌, ◌<◌, ◌^◌, ◌∙◌, ℕ, suc, List, [], ◌∷◌, refl, sym, ap, subst, arith}
 use Rattle.std.proofs.Math.Path.{fun_ext}
+use Rattle.std.proofs.lemmas.List.Elements.{All-contains, All-from_recursion}
 use Rattle.std.specs.FinMap as names
 use Rattle.std.specs.List.{AllByRecursion, AllZip}
 use Rattle.std.specs.Prelude.{◌≤◌, map}
 use Rattle.rs_catalog.specs.Definitions as catalog
 use Rattle.rs_catalog.specs.Definitions.{Definitions, Numbered, Rest, state_from}
 use Rattle.rs_catalog.specs.Referents.{HeldReferents, referents_on}
-use Rattle.rs_catalog_meaning.specs.Meaning.{AreMeant, ends_of}
-use Rattle.rs_catalog_pages.specs.Items.{CatalogueItems, RouteItem, ViewItem}
+use Rattle.rs_catalog_meaning.specs.Meaning.{AreMeant, IsTable, ends_of}
+use Rattle.rs_catalog_pages.specs.Items.{CatalogueItems, RouteItem, TableItem, ViewItem}
 use Rattle.rs_catalog_pages.specs.Said.{said_catalogue}
 use Rattle.rs_contents.specs.Contents.{Contents, HoldsAll}
 use Rattle.rs_contents.specs.Meant.{route_spans, span_of_route}
+use Rattle.rs_contents.specs.Opening.{IsFile}
 use Rattle.rs_contents.specs.declared.opened.OpenedFile.{OpenedFile}
+use Rattle.rs_definitions.specs.Listing.{listing_of}
 use Rattle.rs_definitions.specs.Made.{without_views}
 use Rattle.rs_definitions.specs.Referents.{IsSpan, OfThose}
 use Rattle.rs_facts.specs.Fact.{Names}
 use Rattle.rs_facts.specs.Query.{Piece}
 use Rattle.rs_facts.specs.Runs.{Stretch}
-use Rattle.rs_machine.specs.Lawful.{AreViewsMeant, IsRoute}
+use Rattle.rs_file_changes.specs.Parts.{IsCommitted}
+use Rattle.rs_machine.specs.Lawful.{AreColumnsOfTable, AreViewsMeant, Each, IsRoute}
 use Rattle.rs_machine.specs.State.{State, no_cursors}
 use Rattle.rs_machine.specs.declared.limits.TheConstants.{ROUTES}
 use Rattle.rs_pages.specs.PageMap.{PageMap}
 use Rattle.rs_standing.specs.Meant.{IsMeant}
 use Rattle.rs_standing.specs.Seen.{born_by, referents_seen, spans_seen}
-use Rattle.rs_standing.specs.States.{AreDefinitionsAt, IsState, IsViewOf, routes_named}
-use Rattle.rs_standing.proofs.Picked.{born_all}
-use Rattle.rs_store.specs.Kept.{AreInMemory, IsOpenedFile}
+use Rattle.rs_standing.specs.States.{AreDefinitionsAt, IsState, named_table, tables_named}
+use Rattle.rs_standing.proofs.Named.{item_of}
+use Rattle.rs_state_changes.specs.Calls.{MayChange}
+use Rattle.rs_store.specs.Kept.{IsAtRest}
 use Rattle.rs_store.specs.Loading.{BringsState, HasNoState, HoldsOpened}
 use Rattle.rs_definitions.specs.Views.{AreMeantIn, HasViews}
 use Rattle.rs_store.proofs.Same.{meant_of_records, records_of_meant}
@@ -65,6 +70,42 @@ only_views version catalogue listed is are so = record {
       ∙ ap (λ (indexes : Names catalog.IndexItem). by_parts listed.routes listed.tables indexes is.views is.alignments) (so.indexes ∙ sym are.indexes)
       ∙ ap (λ (alignments : Names (List Piece)). by_parts listed.routes listed.tables listed.indexes is.views alignments) (so.alignments ∙ sym are.alignments);
 }
+
+-- ---- at rest
+
+-- what is said of the listing of definitions
+abbrev pub ListItems : Type 0
+ListItems = (version : ℕ) (catalogue : CatalogueItems) (definitions : Definitions) → AreMeant catalogue → AllByRecursion (λ route. route.born ≤ version) catalogue.routes
+    → AreDefinitionsAt version catalogue definitions → listing_of definitions ≡ catalogue
+
+-- tables of a file that are meant have columns that a table may have
+columns_of_each : (catalogue : CatalogueItems) (tables : Names catalog.TableItem) → AreMeant catalogue → tables ≡ tables_named catalogue.tables
+    → Each tables (λ name table. AreColumnsOfTable table.columns)
+columns_of_each catalogue tables meant are name table there =
+    let found = item_of (λ (item : TableItem). item.name) (λ (item : TableItem). (named_table item).1) catalogue.tables name table meant.tables.in_order
+    (ap (λ (m : Names catalog.TableItem). names.get m name) (sym are) ∙ there) in
+    let is = All-contains IsTable catalogue.tables found.item (All-from_recursion IsTable catalogue.tables meant.tables.each) found.there in
+    subst (λ (t : catalog.TableItem). AreColumnsOfTable t.columns) found.is is.columns
+
+-- what was brought of a file that was loaded is at rest with it
+pub at_rest : ListedAre → ListItems → (file : OpenedFile) (listed is : Definitions) → IsFile file → MayChange file → IsCommitted file → AreMeant (said_catalogue file.definitions)
+    → listed ≡ without_views (said_catalogue file.definitions) → HasViews (said_catalogue file.definitions).views listed is → IsAtRest file is
+at_rest listed_are list_items file listed is whole may committed meant made has =
+    let said = said_catalogue file.definitions in
+    let births : AllByRecursion (λ (route : RouteItem). route.born ≤ file.accepted) said.routes =
+    subst (λ (n : ℕ). AllByRecursion (λ (route : RouteItem). route.born ≤ n) said.routes) whole.accepted whole.sound.routes in
+    let are : AreDefinitionsAt file.accepted said is = with_views file.accepted said (without_views said) is (listed_are file.accepted said births)
+    (subst (λ (d : Definitions). HasViews said.views d is) made has) in
+    record {
+      may = may;
+      committed = committed;
+      listing = list_items file.accepted said is meant births are;
+      births = births;
+      columns = columns_of_each said is.tables meant are.tables;
+      bound = omega (arith, whole.sound.limit, whole.accepted);
+    }
+
+-- ---- the state
 
 -- what stands beside the definitions in the state of contents
 abbrev rest_of : Contents → Rest

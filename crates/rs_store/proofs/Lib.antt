@@ -4,5 +4,9 @@ pub mod Files
 pub mod Keeping
 pub mod Loaded
 pub mod OneState
+pub mod Placed
+pub mod Referred
 pub mod Results
+pub mod Rows
 pub mod Same
+pub mod Settled

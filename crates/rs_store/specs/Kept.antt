@@ -1,23 +1,24 @@
 -- What a store is, what it keeps, and in which state it stands.
 use Rattle.std.specs.Prelude.{◌≡◌, ◌≤◌, ℕ, Bool, true, false}
-use Rattle.std.specs.List.{AllZip}
+use Rattle.std.specs.List.{AllByRecursion}
 use Rattle.rs_catalog.specs.Definitions.{Definitions, Numbered}
-use Rattle.rs_catalog.specs.Referents.{HeldReferents, referents_on}
+use Rattle.rs_catalog.specs.Referents.{HeldReferents}
 use Rattle.rs_catalog_pages.specs.Said.{said_catalogue}
 use Rattle.rs_contents.specs.Contents.{Contents, HoldsAll}
-use Rattle.rs_contents.specs.Opening.{IsFile, IsOpened}
 use Rattle.rs_contents.specs.declared.opened.OpenedFile.{OpenedFile}
-use Rattle.rs_contents.specs.declared.opened.OpenedTable.{OpenedTable}
+use Rattle.rs_definitions.specs.Listing.{listing_of}
 use Rattle.rs_disk.specs.declared.disk.Disk as disk
-use Rattle.rs_machine.specs.Lawful.{AreViewsMeant}
+use Rattle.rs_file_changes.specs.Parts.{IsCommitted}
+use Rattle.rs_machine.specs.Lawful.{AreColumnsOfTable, AreViewsMeant, Each}
 use Rattle.rs_machine.specs.State.{State}
+use Rattle.rs_machine.specs.declared.limits.TheConstants.{CHANGES}
 use Rattle.rs_page.specs.declared.file_header.TheConstants.{FLAG_OFFSET}
 use Rattle.rs_pager.specs.Maps.{IsTied, committed, working}
 use Rattle.rs_pager.specs.Paged.{Paged}
 use Rattle.rs_pages.specs.PageMap.{SamePages}
 use Rattle.rs_standing.specs.Meant.{IsMeant}
-use Rattle.rs_standing.specs.Seen.{referents_seen}
 use Rattle.rs_standing.specs.States.{IsState}
+use Rattle.rs_state_changes.specs.Calls.{MayChange}
 pub use Rattle.rs_state_changes.specs.Garbage.{dead_of, garbage_of}
 pub use Rattle.rs_state_laws.specs.Standing.{AreInMemory, IsOpenedFile}
 
@@ -30,10 +31,20 @@ pub record StoreState (D : Type 0) : Type 0 where
   pub referents : Numbered HeldReferents
   pub is_marked : Bool
 
--- no changes are begun, and what is open is a file
-pub record IsSound (is_begun : Bool) (opened : OpenedFile) : Type 0 where
+-- What is open can be changed, and nothing of it has changed since the last commit. The catalogue in memory lists its very definitions,
+-- whose routes were born by the version that was accepted last, and each table has columns that a table may have.
+pub record IsAtRest (file : OpenedFile) (catalog : Definitions) : Type 0 where
+  pub may : MayChange file
+  pub committed : IsCommitted file
+  pub listing : listing_of catalog ≡ said_catalogue file.definitions
+  pub births : AllByRecursion (λ route. route.born ≤ file.accepted) (said_catalogue file.definitions).routes
+  pub columns : Each catalog.tables (λ name table. AreColumnsOfTable table.columns)
+  pub bound : file.accepted ≤ CHANGES
+
+-- no changes are begun, and what is open and in memory is at rest
+pub record IsSound (is_begun : Bool) (file : OpenedFile) (catalog : Definitions) : Type 0 where
   pub shut : is_begun ≡ false
-  pub file : IsFile opened
+  pub rests : IsAtRest file catalog
 
 module _ {D : Type 0} (d : disk.Ghosts D) where
   -- The store keeps these contents: its committed pages hold them, and nothing has changed in them since. What is open is theirs,

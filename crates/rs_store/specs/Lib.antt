@@ -3,3 +3,5 @@ pub mod Changing
 pub mod Kept
 pub mod Loading
 pub mod Making
+pub mod Placing
+pub mod Settling

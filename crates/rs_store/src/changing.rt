@@ -1,24 +1,32 @@
-//! This module changes a store: each call is one change of the state, whole or not at all.
+//! This module changes the rows of a store's tables: each call is one change of the state, whole or not at all.
 
-ghost use Rattle.std.specs.Prelude.{◌≡◌, ◌≤◌, ◌<◌, ◌+◌, ℕ, IfOk, OnOk, Some};
+ghost use Rattle.std.specs.Prelude.{◌≡◌, ◌≤◌, ◌<◌, ◌+◌, ℕ, true, IfOk, Some};
 ghost use Rattle.std.specs.FinMap as names;
+ghost use Rattle.rs_catalog.specs.Definitions.{RouteItem, TableItem};
 ghost use Rattle.rs_event_lists.specs.Removal.{goes_by};
 ghost use Rattle.rs_facts.specs.Insert.{new_facts};
 ghost use Rattle.rs_facts.specs.Query.{Table};
 ghost use Rattle.rs_facts.specs.Remove.{removed_facts};
 ghost use Rattle.rs_facts.specs.Spans.{seen};
 ghost use Rattle.rs_machine.specs.Lawful.{IsLawful};
-ghost use Rattle.rs_machine.specs.State.{State};
-ghost use Rattle.rs_machine.specs.Step.{with_facts_along, with_referents, with_table, without_facts};
+ghost use Rattle.rs_machine.specs.State.{State, has};
+ghost use Rattle.rs_machine.specs.Step.{with_facts_along, with_table, without_facts};
 ghost use Rattle.rs_machine.specs.declared.limits.TheConstants.{CHANGES};
 ghost use Rattle.rs_store.specs.Changing.{HasBecome, IsRowFor, LeavesStore, LiesOn};
-ghost use Rattle.rs_store.specs.Kept.{StandsIn};
+ghost use Rattle.rs_store.specs.Kept.{IsAtRest, StandsIn};
+ghost use Rattle.rs_store.specs.Placing.{IsPlaceOf};
 
+use crate::placing::table_place;
+use crate::settling::{kept_change_gives_its_state, settle};
 use crate::store::Store;
+use rs_catalog::Catalog;
+use rs_contents::OpenedFile;
 use rs_disk::Disk;
 use rs_facts::{Condition, Span};
 use rs_methods::Name;
 use rs_refusal::Refusal;
+use rs_state_changes::{Insertion, Removal};
+use rs_state_laws::rows::{row_put_gives_its_state, rows_taken_away_give_their_state};
 use std::alloc::Global;
 
 impl<D: Disk> Store<D> {
@@ -43,6 +51,87 @@ impl<D: Disk> Store<D> {
             → IfOk result (λ count. HasBecome D.Disk oldest stands.contents self.new (with_table state table.now.bytes (with_facts_along there route.now.bytes span.lo span.hi (seen span).row))
             × (count ≡ new_facts there.facts route.now.bytes span.lo span.hi (seen span).row)) }
     {
-        todo
+        kept_change_gives_its_state::<D>();
+        row_put_gives_its_state();
+        let insertion = insertion_of(&self.file, &self.catalog, table, route, span);
+        self.mark()?;
+        self.pager.begin()?;
+        let made = rs_state_changes::insert(
+            alloc,
+            &mut self.pager,
+            &mut self.file,
+            oldest,
+            &insertion,
+        );
+        settle(&mut self.pager, &mut self.file, made)
+    }
+
+    /// Takes the rows away between two thousandths of a route that meet a condition, or all, and answers how many facts went. It is
+    /// refused as `insert` is.
+    pub fn remove(
+        &mut self,
+        alloc: Global,
+        oldest: u64,
+        table: &Name,
+        route: &Name,
+        lo: u32,
+        hi: u32,
+        goes: Option<Condition>,
+    ) -> Result<u128, Refusal>
+        requires table { has self.old.catalog.tables table.now.bytes ≡ true }
+        requires route { has self.old.catalog.routes route.now.bytes ≡ true }
+        requires room { self.old.file.accepted < CHANGES }
+        ensures leaves { LeavesStore D.Disk result self.old self.new }
+        ensures removes { (from : ℕ) (state : State) (stands : StandsIn D.Disk from self.old state) → from ≤ oldest → oldest ≤ self.old.file.accepted + 1
+            → (there : Table) → names.get state.tables table.now.bytes ≡ Some there
+            → IsLawful (with_table state table.now.bytes (without_facts there route.now.bytes lo hi (goes_by goes)))
+            → IfOk result (λ count. HasBecome D.Disk oldest stands.contents self.new (with_table state table.now.bytes (without_facts there route.now.bytes lo hi (goes_by goes)))
+            × (count ≡ removed_facts there.facts route.now.bytes lo hi (goes_by goes))) }
+    {
+        kept_change_gives_its_state::<D>();
+        rows_taken_away_give_their_state();
+        let removal = Removal {
+            table: table_place(&self.file, &self.catalog, table),
+            route: self.catalog.route(route).unwrap().number(),
+            lo,
+            hi,
+            goes,
+        };
+        self.mark()?;
+        self.pager.begin()?;
+        let made = rs_state_changes::remove(
+            alloc,
+            &mut self.pager,
+            &mut self.file,
+            oldest,
+            &removal,
+        );
+        settle(&mut self.pager, &mut self.file, made)
+    }
+}
+
+/// The row as the file takes it: by the table's place and the route's number.
+fn insertion_of(
+    file: &OpenedFile,
+    catalog: &Catalog,
+    table: &Name,
+    route: &Name,
+    span: Span,
+) -> Insertion
+    requires rests { IsAtRest file.now catalog.now }
+    requires row { IsRowFor catalog.now table.now.bytes (seen span) }
+    requires lies { LiesOn catalog.now table.now.bytes route.now.bytes (seen span) }
+    ensures place { (item : TableItem) → names.get catalog.now.tables table.now.bytes ≡ Some item → IsPlaceOf file.now item result.table }
+    ensures kind { (item : TableItem) → names.get catalog.now.tables table.now.bytes ≡ Some item → result.kind ≡ item.kind }
+    ensures route { (item : RouteItem) → names.get catalog.now.routes route.now.bytes ≡ Some item → result.route ≡ item.number }
+    ensures span { result.span ≡ span }
+{
+    let kind = catalog.table(table).unwrap().kind();
+    let number = catalog.route(route).unwrap().number();
+    Insertion {
+        table: table_place(file, catalog, table),
+        kind,
+        route: number,
+        span,
     }
 }

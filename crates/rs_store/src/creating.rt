@@ -1,10 +1,10 @@
 //! This module makes a file in which nothing is defined, as a store.
 
 ghost use Rattle.std.specs.Prelude.{◌≡◌, ◌≢◌, ◌≤◌, ◌⊎◌, [], true, false, Err, IfErr, IfOk, IsTrue, MatchResult, OnOk};
-ghost use Rattle.rs_contents.specs.Opening.{IsFile};
 ghost use Rattle.rs_machine.specs.State.{fresh};
 ghost use Rattle.rs_pager.specs.Opened.{CountsFault, IsCreated};
 ghost use Rattle.rs_store.specs.Calls.{Creates, HandsOver, WantsCreating};
+ghost use Rattle.rs_store.specs.Kept.{IsAtRest};
 ghost use Rattle.rs_store.specs.Making.{HasFresh, IsFreshFile};
 
 use crate::loading::{Loaded, load_state};
@@ -47,7 +47,7 @@ fn create_pages<D: Disk>(alloc: Global, pager: &mut Pager<D>) -> Result<Loaded, 
     ensures made { IsTrue (D.is_honest pager.old.disk) → IsCreated D.Disk pager.old
         → IfOk result (λ loaded. HasFresh D.Disk pager.new loaded.file loaded.catalog loaded.referents) }
     ensures sound { IsTrue (D.is_honest pager.old.disk) → IsCreated D.Disk pager.old → result ≢ Err Refusal.DamagedFile }
-    ensures file { IfOk result (λ loaded. IsFile loaded.file) }
+    ensures file { IfOk result (λ loaded. IsAtRest loaded.file loaded.catalog) }
     ensures shut { OnOk result (pager.new.is_begun ≡ false) }
     ensures limit { pager.new.limit ≡ pager.old.limit }
     ensures honesty { D.is_honest pager.new.disk ≡ D.is_honest pager.old.disk }

@@ -1,12 +1,16 @@
 //! The state of the machine in the pages of a file: which disk stands for which state, and the calls that keep it so.
 #![tactic(auto)]
 
+mod changing;
 mod closing;
 mod creating;
 pub mod laws;
 mod loading;
 mod marking;
 mod opening;
+mod placing;
+mod referring;
+mod settling;
 pub mod store;
 
 pub use store::Store;

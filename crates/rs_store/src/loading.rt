@@ -9,6 +9,7 @@ ghost use Rattle.rs_contents.specs.Meant.{span_of_route};
 ghost use Rattle.rs_contents.specs.Opening.{IsFile};
 ghost use Rattle.rs_definitions.specs.Made.{without_views};
 ghost use Rattle.rs_pages.specs.Calls.{OnlyReads};
+ghost use Rattle.rs_store.specs.Kept.{IsAtRest};
 ghost use Rattle.rs_store.specs.Loading.{BringsState, HasNoState, HoldsOpened, LoadsState, StandsForNone};
 
 use rs_catalog::{Catalog, RouteReferents};
@@ -17,7 +18,9 @@ use rs_catalog_pages::{StoredCatalogue, StoredRoute};
 use rs_contents::laws::{file_holds_one_thing, loaded_file_has_its_directory};
 use rs_contents::opened::OpenedFile;
 use rs_definitions::laws::listed_definitions_are_a_catalogues;
+use rs_definitions::listing_laws::definitions_of_a_file_list_its_items;
 use rs_definitions::{add_views, catalog_of, referents_of};
+use rs_file_changes::laws::loaded_file_can_be_changed;
 use rs_pages::Pages;
 use rs_refusal::Refusal;
 use rs_standing::changes::meant_contents_stay_meant;
@@ -39,7 +42,7 @@ pub(crate) fn load_state<P: Pages>(alloc: Global, pages: &mut P) -> Result<Loade
     ensures rests { OnlyReads P.Pages result pages.old pages.new }
     ensures loads { P.is_tied pages.old → IfOk result (λ loaded. LoadsState (P.store pages.old).map loaded.file loaded.catalog loaded.referents) }
     ensures damaged { P.is_tied pages.old → result ≡ Err Refusal.DamagedFile → StandsForNone (P.store pages.old).map }
-    ensures file { IfOk result (λ loaded. IsFile loaded.file) }
+    ensures file { IfOk result (λ loaded. IsAtRest loaded.file loaded.catalog) }
     ensures refused { RefusesToLoad result }
 {
     file_holds_one_thing();
@@ -65,12 +68,15 @@ fn bring<P: Pages>(
     ensures rests { OnlyReads P.Pages result pages.old pages.new }
     ensures brings { P.is_tied pages.old → IfOk result (λ said. (contents : Contents)
         → HoldsOpened (P.store pages.old).map file.now contents → BringsState contents said.0 said.1) }
+    ensures file { IfOk result (λ said. IsAtRest file.now said.0) }
     ensures damaged { P.is_tied pages.old → result ≡ Err Refusal.DamagedFile → (contents : Contents)
         → HoldsOpened (P.store pages.old).map file.now contents → HasNoState contents }
     ensures refused { RefusesToLoad result }
 {
     loaded_file_has_its_directory();
+    loaded_file_can_be_changed();
     listed_definitions_are_a_catalogues();
+    definitions_of_a_file_list_its_items();
     let mut catalog = definitions_of(alloc, &file.definitions)?;
     let routes = spans_of(alloc, file.definitions.routes.as_slice())?;
     let referents = referents_of(alloc, pages, &file.referents, &routes, file.accepted)?;

@@ -1,11 +1,11 @@
 //! This module opens the file that a disk holds, as a store.
 
 ghost use Rattle.std.specs.Prelude.{◌≡◌, ◌≢◌, ◌≤◌, ◌⊎◌, true, false, Err, IfErr, IfOk, IsTrue, MatchResult, OnErr, OnOk};
-ghost use Rattle.rs_contents.specs.Opening.{IsFile};
 ghost use Rattle.rs_page.specs.declared.file_header.TheConstants.{FLAG_OFFSET};
 ghost use Rattle.rs_pager.specs.Maps.{IsTied, working};
 ghost use Rattle.rs_pager.specs.Opened.{CountsFault};
 ghost use Rattle.rs_store.specs.Calls.{HandsOver, LeavesAllButFlag, Opens, WantsOpening};
+ghost use Rattle.rs_store.specs.Kept.{IsAtRest};
 ghost use Rattle.rs_store.specs.Loading.{LoadsState, StandsForNone, StandsForSome};
 
 use crate::loading::{Loaded, load_state};
@@ -42,7 +42,7 @@ impl<D: Disk> Store<D> {
 /// The store over these pages, of which this is open and in memory; the disk is marked as open.
 pub(crate) fn store_of<D: Disk>(pager: Pager<D>, loaded: Loaded) -> Store<D>
     requires shut { pager.is_begun ≡ false }
-    requires file { IsFile loaded.file }
+    requires rests { IsAtRest loaded.file loaded.catalog }
     ensures { result ≡ record { pager = pager; file = loaded.file; catalog = loaded.catalog; referents = loaded.referents; is_marked = true } }
 {
     let Loaded {
@@ -66,7 +66,7 @@ fn open_pages<D: Disk>(alloc: Global, pager: &mut Pager<D>) -> Result<Loaded, Re
     ensures leaves { LeavesAllButFlag D.Disk pager.old pager.new }
     ensures seen { IsTrue (D.is_honest pager.old.disk) → IfErr result (λ why. why ≢ Refusal.Disk → D.seen pager.new.disk ≡ D.seen pager.old.disk) }
     ensures loads { IsTied D.Disk pager.old → IfOk result (λ loaded. LoadsState (working D.Disk pager.old) loaded.file loaded.catalog loaded.referents) }
-    ensures file { IfOk result (λ loaded. IsFile loaded.file) }
+    ensures file { IfOk result (λ loaded. IsAtRest loaded.file loaded.catalog) }
     ensures closed { IsTrue (D.is_honest pager.old.disk) → OnOk result ((D.seen pager.old.disk).byte FLAG_OFFSET ≡ 0) }
     ensures marked { IsTrue (D.is_honest pager.old.disk) → OnOk result ((D.seen pager.new.disk).byte FLAG_OFFSET ≡ 1) }
     ensures synced { OnOk result (D.is_synced pager.new.disk ≡ true) }

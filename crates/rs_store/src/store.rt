@@ -2,14 +2,13 @@
 //!
 //! Its definitions and its referents are in memory too. What it keeps is what its committed pages hold.
 
-ghost use Rattle.std.specs.Prelude.{◌≡◌, ◌≤◌, ◌-◌, ◌^◌, ◌+◌, length, min};
-ghost use Rattle.std.specs.List.{sum_by};
+ghost use Rattle.std.specs.Prelude.{◌≡◌, ◌≤◌, ◌-◌, ◌^◌, length, min};
 ghost use Rattle.rs_page_cache.specs.Changes.{ListsHeld};
 ghost use Rattle.rs_page_cache.specs.declared.clean.TheConstants.{MOST_CLEAN};
-ghost use Rattle.rs_store.specs.Kept.{dead_of, garbage_of};
+ghost use Rattle.rs_store.specs.Kept.{garbage_of};
 
 use rs_catalog::{Catalog, RouteReferents};
-use rs_contents::opened::{OpenedFile, OpenedTable};
+use rs_contents::opened::OpenedFile;
 use rs_disk::Disk;
 use rs_pager::Pager;
 use std::marker::Model;
@@ -37,7 +36,7 @@ impl<D: Disk> Model for Store<D> {
 
     ghost view = { λ s. record { pager = s.pager; file = s.file; catalog = s.catalog; referents = s.referents; is_marked = s.is_marked } };
 
-    ghost invariant = { λ s. IsSound s.pager.is_begun s.file };
+    ghost invariant = { λ s. IsSound s.pager.is_begun s.file s.catalog };
 }
 
 impl<D: Disk> Store<D> {
@@ -76,17 +75,6 @@ impl<D: Disk> Store<D> {
     pub fn garbage(&self) -> u64
         ensures { result ≡ min (garbage_of self.now.file) (2 ^ 64 - 1) }
     {
-        with_dead(self.file.referents.garbage(), self.file.tables.as_slice())
+        rs_state_changes::garbage(&self.file)
     }
-}
-
-/// So many and the dead records of these tables (2^64 - 1 at the most).
-fn with_dead(first: u64, tables: &[OpenedTable]) -> u64
-    ensures { result ≡ min (first + sum_by dead_of tables.now) (2 ^ 64 - 1) }
-{
-    let mut count = first;
-    for table in tables {
-        count = count.saturating_add(table.records.garbage());
-    }
-    count
 }

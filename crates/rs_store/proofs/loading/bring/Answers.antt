@@ -12,7 +12,7 @@ use Rattle.rs_refusal.specs.declared.refusal.Refusal.TheVariants as refusal
 use Rattle.rs_versioned.specs.Meant.{AreReferentsMeant}
 use Rattle.rs_versioned.specs.Referents.{referents_at}
 use Rattle.rs_versioned.specs.declared.route_span.RouteSpan.{RouteSpan}
-use Rattle.rs_store.proofs.Brought.{are_spans, brings, no_referents, no_views, of_referents}
+use Rattle.rs_store.proofs.Brought.{are_spans, at_rest, brings, no_referents, no_views, of_referents}
 use Rattle.rs_store.proofs.loading.bring.Goals as goal
 
 pub returns-in_err-referents-clause-damaged : goal.returns-in_err-referents-clause-damaged
@@ -54,3 +54,10 @@ returns-clause-brings g c = λ tied contents holds.
     → (number : ℕ) → referents_on c.in_ok-referents.referents number ≡ names.from_entries (referents_at file.accepted number records))) routes (c.in_ok-referents.ensures.brings tied)) in
     brings listed pages file contents holds c.in_ok-catalog.catalog c.add_views.new.catalog c.in_ok-referents.referents c.in_ok-catalog.ensures.meant c.in_ok-catalog.ensures.is
     c.in_ok-add_views.ensures.has c.in_ok-add_views.ensures.means are
+
+pub returns-clause-file : goal.returns-clause-file
+returns-clause-file g c =
+    let file = c.args.file.now in
+    at_rest c.listed_definitions_are_a_catalogues.ensures.seen c.definitions_of_a_file_list_its_items.ensures file c.in_ok-catalog.catalog c.add_views.new.catalog c.requires.file
+    (record { ready = c.loaded_file_can_be_changed.ensures.ready file c.requires.file; order = c.loaded_file_can_be_changed.ensures.order file c.requires.file })
+    (c.loaded_file_can_be_changed.ensures.committed file c.requires.file) c.in_ok-catalog.ensures.meant c.in_ok-catalog.ensures.is c.in_ok-add_views.ensures.has

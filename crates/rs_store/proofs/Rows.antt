@@ -1,0 +1,137 @@
+-- Rows that a store was given, or that were taken from it.
+use Rattle.std.proofs.Common.{◌≡◌, ◌≤◌, ◌<◌, ◌+◌, ◌∙◌, ℕ, Bool, List, Result, Ok, Err, Some, ap, slice_get, subst, sym, arith}
+use Rattle.std.specs.FinMap as names
+use Rattle.std.specs.Prelude.{IfOk, OnOk, Option}
+use Rattle.rs_catalog.specs.Definitions.{Definitions, Numbered, RouteItem, TableItem}
+use Rattle.rs_catalog.specs.Events.{behind}
+use Rattle.rs_catalog.specs.Referents.{HeldReferents}
+use Rattle.rs_catalog_pages.specs.Items.{CatalogueItems}
+use Rattle.rs_catalog_pages.specs.Said.{said_catalogue}
+use Rattle.rs_cell_versions.specs.declared.cell.TheConstants.{LIVING}
+use Rattle.rs_contents.specs.Contents.{Contents, table_numbers}
+use Rattle.rs_contents.specs.declared.opened.OpenedFile.{OpenedFile}
+use Rattle.rs_disk.specs.declared.disk.Disk as disk
+use Rattle.rs_event_lists.specs.Removal.{goes_by}
+use Rattle.rs_facts.specs.Fact.{Name}
+use Rattle.rs_facts.specs.Insert.{new_facts}
+use Rattle.rs_facts.specs.Query.{Table}
+use Rattle.rs_facts.specs.Remove.{removed_facts}
+use Rattle.rs_facts.specs.Runs.{Stretch}
+use Rattle.rs_facts.specs.declared.condition.Condition.{Condition}
+use Rattle.rs_machine.specs.Lawful.{AreViewsMeant, IsLawful}
+use Rattle.rs_machine.specs.State.{State}
+use Rattle.rs_machine.specs.Step.{with_facts_along, with_table, without_facts}
+use Rattle.rs_machine.specs.declared.limits.TheConstants.{CHANGES}
+use Rattle.rs_pager.specs.Maps.{KeepsBelow, working}
+use Rattle.rs_pager.specs.Paged.{Paged}
+use Rattle.rs_pages.specs.PageMap.{PageMap}
+use Rattle.rs_refusal.specs.declared.refusal.Refusal.{Refusal}
+use Rattle.rs_state_laws.specs.Changing.{ChangesFile, Completes, GivesState}
+use Rattle.rs_state_laws.specs.Parts.{InsertsRow, RemovesRows}
+use Rattle.rs_state_laws.specs.Standing.{StandsAt}
+use Rattle.rs_store.specs.Changing.{HasBecome}
+use Rattle.rs_store.specs.Kept.{StandsIn, StoreState}
+use Rattle.rs_store.specs.Settling.{HasBegun, IsKept, Settles}
+use Rattle.rs_store.proofs.Keeping.{store_over}
+use Rattle.rs_store.proofs.Settled.{stands_at_first}
+
+-- what is so of an answer where the change was kept
+pub made_and_kept : {D T : Type 0} (d : disk.Ghosts D) (P Q : T → Type 0) (result : Result T Refusal) (between last : Paged D) (changed settled : OpenedFile) → IfOk result P
+    → Settles d result between last changed settled → ((answer : T) → P answer → IsKept d between last changed settled → Q answer) → IfOk result Q
+made_and_kept d P Q (Ok answer) between last changed settled made settles gives = gives answer made settles
+made_and_kept d P Q (Err why) between last changed settled made settles gives = tt
+
+-- and of one that is in memory too
+pub made_both : {D T H : Type 0} (d : disk.Ghosts D) (P Q : T → Type 0) (result : Result T Refusal) (between last : Paged D) (changed settled : OpenedFile) → IfOk result P → OnOk result H
+    → Settles d result between last changed settled → ((answer : T) → P answer → H → IsKept d between last changed settled → Q answer) → IfOk result Q
+made_both d P Q (Ok answer) between last changed settled made held settles gives = gives answer made held settles
+made_both d P Q (Err why) between last changed settled made held settles gives = tt
+
+-- what the law of a change that was kept says
+abbrev pub KeptGives : {D : Type 0} → disk.Ghosts D → Type 0
+KeptGives {D} d = (old : StoreState D) (first between last : Paged D) (file changed settled : OpenedFile) (catalog now : Definitions) (referents held : Numbered HeldReferents) (is_marked : Bool)
+    → HasBegun d old (store_over d first file catalog referents is_marked) → KeepsBelow d first between → IsKept d between last changed settled
+    → (from oldest : ℕ) (state next : State) (stands : StandsIn d from old state) → from ≤ oldest → oldest ≤ old.file.accepted + 1
+    → (part : Contents) → Completes oldest stands.contents part (working d between) changed → GivesState oldest stands.contents part now held next → AreViewsMeant next
+    → HasBecome d oldest stands.contents (store_over d last settled now held is_marked) next
+
+abbrev pub RowPutGives : Type 0
+RowPutGives = (from oldest : ℕ) (map : PageMap) (file : OpenedFile) (definitions : Definitions) (held : Numbered HeldReferents) (state : State)
+    → (stands : StandsAt from map file definitions held state) → from ≤ oldest → stands.contents.directory.accepted + 1 < LIVING
+    → (name route : Name) (table : TableItem) (on : RouteItem) (place : ℕ) (span : Stretch) (count : ℕ) (between : Contents)
+    → names.get definitions.tables name ≡ Some table → names.get definitions.routes route ≡ Some on
+    → slice_get (table_numbers stands.contents.definitions) place ≡ Some table.number
+    → on.ends.start ≤ span.lo → span.hi ≤ behind table.kind on.ends
+    → InsertsRow place table.kind on.number span count stands.contents between
+    → (there : Table) → names.get state.tables name ≡ Some there
+    → GivesState oldest stands.contents between definitions held (with_table state name (with_facts_along there route span.lo span.hi span.row))
+    × (count ≡ new_facts there.facts route span.lo span.hi span.row)
+
+abbrev pub RowsTakenGive : Type 0
+RowsTakenGive = (from oldest : ℕ) (map : PageMap) (file : OpenedFile) (definitions : Definitions) (held : Numbered HeldReferents) (state : State)
+    → (stands : StandsAt from map file definitions held state) → from ≤ oldest → stands.contents.directory.accepted + 1 < LIVING
+    → (name route : Name) (table : TableItem) (on : RouteItem) (place lo hi : ℕ) (goes : Option Condition) (count : ℕ) (between : Contents)
+    → names.get definitions.tables name ≡ Some table → names.get definitions.routes route ≡ Some on
+    → slice_get (table_numbers stands.contents.definitions) place ≡ Some table.number
+    → RemovesRows place on.number lo hi goes count stands.contents between
+    → (there : Table) → names.get state.tables name ≡ Some there
+    → GivesState oldest stands.contents between definitions held (with_table state name (without_facts there route lo hi (goes_by goes)))
+    × (count ≡ removed_facts there.facts route lo hi (goes_by goes))
+
+module _ {D : Type 0} (d : disk.Ghosts D) (old : StoreState D) (first between last : Paged D) (file changed settled : OpenedFile) (catalog : Definitions) (referents : Numbered HeldReferents)
+    (is_marked : Bool) (begun : HasBegun d old (store_over d first file catalog referents is_marked)) (below : KeepsBelow d first between) (kept_gives : KeptGives d)
+    (from oldest : ℕ) (state : State) (stands : StandsIn d from old state) (low : from ≤ oldest) (high : oldest ≤ old.file.accepted + 1) (room : old.file.accepted < CHANGES) where
+  -- the next version is one that a record can live to see
+  pub next_below : stands.contents.directory.accepted + 1 < LIVING
+  next_below = let level : stands.contents.directory.accepted ≡ old.file.accepted = stands.keeps.opened.accepted in omega (arith, level, room)
+
+  -- the numbers of the tables are those of what is open
+  pub number_at : (place number : ℕ) → slice_get (table_numbers (said_catalogue file.definitions)) place ≡ Some number → slice_get (table_numbers stands.contents.definitions) place ≡ Some number
+  number_at place number is =
+      let at = begun.keeps.contents stands.contents stands.keeps in
+      ap (λ (items : CatalogueItems). slice_get (table_numbers items) place) at.opened.definitions ∙ is
+
+  -- a part of the file that gives a state gives it to the store
+  pub by_part : (now : Definitions) (held : Numbered HeldReferents) (next : State) (change : Contents → Contents → Type 0)
+      → ChangesFile oldest (working d first) (working d between) file changed change → ((part : Contents) → change stands.contents part → GivesState oldest stands.contents part now held next)
+      → AreViewsMeant next → IsKept d between last changed settled → HasBecome d oldest stands.contents (store_over d last settled now held is_marked) next
+  by_part now held next change changes gives views kept =
+      let at = stands_at_first d old first between last file changed settled catalog referents is_marked begun below from state stands in
+      let has = changes.each stands.contents at.holds at.opened in
+      kept_gives old first between last file changed settled catalog now referents held is_marked begun below kept from oldest state next stands low high has.between has.completes
+      (gives has.between has.changed) views
+
+  -- a row that was put is there in the next version
+  pub row_put : RowPutGives → (name route : Name) (table : TableItem) (on : RouteItem) (place : ℕ) (span : Stretch) → names.get catalog.tables name ≡ Some table
+      → names.get catalog.routes route ≡ Some on → slice_get (table_numbers (said_catalogue file.definitions)) place ≡ Some table.number
+      → on.ends.start ≤ span.lo → span.hi ≤ behind table.kind on.ends → (there : Table) → names.get state.tables name ≡ Some there
+      → IsLawful (with_table state name (with_facts_along there route span.lo span.hi span.row)) → (count : ℕ)
+      → ChangesFile oldest (working d first) (working d between) file changed (InsertsRow place table.kind on.number span count) → IsKept d between last changed settled
+      → HasBecome d oldest stands.contents (store_over d last settled catalog referents is_marked) (with_table state name (with_facts_along there route span.lo span.hi span.row))
+      × (count ≡ new_facts there.facts route span.lo span.hi span.row)
+  row_put put_gives name route table on place span table_there route_there numbered start end there is lawful count changes kept =
+      let at = stands_at_first d old first between last file changed settled catalog referents is_marked begun below from state stands in
+      let has = changes.each stands.contents at.holds at.opened in
+      let gives = put_gives from oldest (working d first) file catalog referents state at low next_below name route table on place span count has.between table_there route_there
+      (number_at place table.number numbered) start end has.changed there is in (
+        kept_gives old first between last file changed settled catalog catalog referents referents is_marked begun below kept from oldest state
+            (with_table state name (with_facts_along there route span.lo span.hi span.row)) stands low high has.between has.completes gives.0 lawful.views,
+        gives.1,
+      )
+
+  -- rows that were taken away are not
+  pub rows_taken : RowsTakenGive → (name route : Name) (table : TableItem) (on : RouteItem) (place lo hi : ℕ) (goes : Option Condition) → names.get catalog.tables name ≡ Some table
+      → names.get catalog.routes route ≡ Some on → slice_get (table_numbers (said_catalogue file.definitions)) place ≡ Some table.number
+      → (there : Table) → names.get state.tables name ≡ Some there → IsLawful (with_table state name (without_facts there route lo hi (goes_by goes))) → (count : ℕ)
+      → ChangesFile oldest (working d first) (working d between) file changed (RemovesRows place on.number lo hi goes count) → IsKept d between last changed settled
+      → HasBecome d oldest stands.contents (store_over d last settled catalog referents is_marked) (with_table state name (without_facts there route lo hi (goes_by goes)))
+      × (count ≡ removed_facts there.facts route lo hi (goes_by goes))
+  rows_taken taken_give name route table on place lo hi goes table_there route_there numbered there is lawful count changes kept =
+      let at = stands_at_first d old first between last file changed settled catalog referents is_marked begun below from state stands in
+      let has = changes.each stands.contents at.holds at.opened in
+      let gives = taken_give from oldest (working d first) file catalog referents state at low next_below name route table on place lo hi goes count has.between table_there route_there
+      (number_at place table.number numbered) has.changed there is in (
+        kept_gives old first between last file changed settled catalog catalog referents referents is_marked begun below kept from oldest state
+            (with_table state name (without_facts there route lo hi (goes_by goes))) stands low high has.between has.completes gives.0 lawful.views,
+        gives.1,
+      )

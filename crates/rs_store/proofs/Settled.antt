@@ -1,0 +1,470 @@
+-- A change that was made or refused, as a store has it once its pages are kept or taken back.
+use Rattle.std.proofs.Common.{◌≡◌, ◌≤◌, ◌+◌, ◌∙◌, ℕ, Bool, IsTrue, List, [], ◌∷◌, Result, Ok, Err, Some, true, ap, inl, inr, refl, subst, sym, arith}
+use Rattle.std.specs.FinMap as names
+use Rattle.std.specs.List.{AllByRecursion, AllZip}
+use Rattle.std.specs.Prelude.{◌*◌, ◌<◌, ◌==◌, ◌^◌, OnErr, OnOk, filter}
+use Rattle.rs_attr.specs.Entries.{Field, IsColumn}
+use Rattle.rs_attr.specs.Tables.{IndexState}
+use Rattle.rs_catalog.specs.Definitions.{Definitions, Numbered}
+use Rattle.rs_catalog.specs.Referents.{HeldReferents, referents_on}
+use Rattle.rs_catalog_pages.specs.Directory.{DirectoryItems, HasDirectory}
+use Rattle.rs_catalog_pages.specs.Items.{CatalogueItems, IndexItem, RouteItem, TableItem}
+use Rattle.rs_catalog_pages.specs.Said.{said_catalogue}
+use Rattle.rs_catalog_pages.specs.Storing.{StoresAfter}
+use Rattle.rs_catalog_pages.specs.declared.items.StoredCatalogue.{StoredCatalogue}
+use Rattle.rs_cell_versions.specs.Version.{HaveDiedBy}
+use Rattle.rs_contents.specs.Contents.{AreNumbered, Contents, HoldsAll, HoldsParts, IsIndex, IsTable, SameContents, SameTable, TableContents, index_roots}
+use Rattle.rs_contents.specs.declared.opened.OpenedFile.{OpenedFile}
+use Rattle.rs_contents.specs.declared.opened.OpenedTable.{OpenedTable}
+use Rattle.rs_contents.proofs.Loaded.{same_map}
+use Rattle.rs_definitions.specs.Listing.{listing_of}
+use Rattle.rs_disk.specs.Content.{Content}
+use Rattle.rs_disk.specs.declared.disk.Disk as disk
+use Rattle.rs_file_changes.specs.Clearing.{ClearsAsMany, ClearsReferents, ClearsTable}
+use Rattle.rs_file_changes.specs.Parts as parts
+use Rattle.rs_file_changes.specs.Parts.{HaveAllDiedBy, IsAsItWas, IsCommitted, IsReady, KeepsCommitted, SameOpened}
+use Rattle.rs_file_changes.proofs.AsItWas.{still_opened}
+use Rattle.rs_file_changes.proofs.Lists.{each_then}
+use Rattle.rs_file_changes.proofs.Ready.{ready_after}
+use Rattle.rs_machine.specs.Lawful.{AreColumnsOfTable, AreViewsMeant, Each}
+use Rattle.rs_machine.specs.State.{State}
+use Rattle.rs_machine.specs.declared.limits.TheConstants.{CHANGES}
+use Rattle.rs_page.specs.declared.file_header.TheConstants.{FLAG_OFFSET}
+use Rattle.rs_pager.specs.Maps.{IsTied, KeepsBelow, KeepsDiskMasked, KeepsMaps, committed, pager_store, working}
+use Rattle.rs_pager.specs.Paged.{Paged}
+use Rattle.rs_pages.specs.PageMap.{PageMap, SamePages}
+use Rattle.rs_pages.proofs.Stores.{SamePages-trans}
+use Rattle.rs_refusal.specs.Counts.{counted_on}
+use Rattle.rs_refusal.specs.declared.refusal.Refusal.{Refusal}
+use Rattle.rs_refusal.specs.declared.refusal.Refusal.TheVariants as refusal
+use Rattle.rs_standing.specs.Live.{KeepsEvents, KeepsLive, KeepsRecords, KeepsReferents}
+use Rattle.rs_standing.specs.States.{AreDefinitionsAt}
+use Rattle.rs_state_changes.specs.Calls.{IsNext, MayChange}
+use Rattle.rs_state_laws.specs.Changing.{Becomes, ClearsEnough, Completes, GivesState, HoldsNoFile}
+use Rattle.rs_state_laws.specs.Standing.{AreInMemory, IsOpenedFile, StandsAt}
+use Rattle.rs_store.specs.Calls.{KeepsStore}
+use Rattle.rs_store.specs.Changing.{HasBecome, LeavesStore}
+use Rattle.rs_store.specs.Kept.{IsAtRest, Keeps, StandsIn, StoreState}
+use Rattle.rs_store.specs.Settling.{HasBegun, IsFileKept, IsFileTakenBack, IsKept, IsTakenBack, Settles}
+use Rattle.rs_store.proofs.Keeping.{flag_of, keeps_by_maps, keeps_store-trans, pages_back, store_over}
+use Rattle.rs_store.proofs.Same.{SameMeant, SameSays, SameState, meant_moves, same_accepted, state_moves}
+use Rattle.rs_value.specs.declared.column.ColumnType.{ColumnType}
+use Rattle.rs_versioned.specs.Events.{Event, event_width, kept_events}
+use Rattle.rs_versioned.specs.Records.{HasCleared}
+use Rattle.rs_versioned.specs.Referents.{ReferentRecord, referents_at}
+use Rattle.rs_versioned.specs.Tables.{EventTableState, ReferentTableState}
+
+-- ---- contents that are the same
+
+indexes_same : (types : List ColumnType) (directory : DirectoryItems) (items : List IndexItem) (one other : List IndexState) → index_roots one ≡ index_roots other
+    → AllZip (IsIndex types directory) items one → AllZip (IsIndex types directory) items other
+indexes_same types directory [] [] [] same are = tt
+indexes_same types directory [] [] (o ∷ os) same are = absurd cc
+indexes_same types directory [] (i ∷ is) other same are = absurd are
+indexes_same types directory (t ∷ ts) [] other same are = absurd are
+indexes_same types directory (t ∷ ts) (i ∷ is) [] same are = absurd cc
+indexes_same types directory (t ∷ ts) (i ∷ is) (o ∷ os) same are =
+    let first : (i.field, i.working) ≡ (o.field, o.working) = cc in
+    let field : i.field ≡ o.field = ap (λ (p : Field × ℕ). p.0) first in
+    let root : i.working ≡ o.working = ap (λ (p : Field × ℕ). p.1) first in
+    let rest : index_roots is ≡ index_roots os = cc in (
+      record {
+        column = subst (λ (f : Field). IsColumn types t.column f) field are.0.column;
+        fits = are.0.fits;
+        root = are.0.root ∙ ap Some root;
+      },
+      indexes_same types directory ts is os rest are.1,
+    )
+
+table_same : (directory : DirectoryItems) (items : List IndexItem) (item : TableItem) (one other : TableContents) → SameTable one other
+    → IsTable directory items item one → IsTable directory items item other
+table_same directory items item one other same is = record {
+  few = is.few;
+  types = sym same.types ∙ is.types;
+  fits = subst (λ (types : List ColumnType). 3 * (8 + event_width types) ≤ 4080) same.types is.fits;
+  stands = is.stands ∙ ap Some same.stands;
+  indexes = indexes_same other.types directory (filter (λ (index : IndexItem). index.table == item.number) items) one.indexes other.indexes same.indexes
+      (subst (λ (types : List ColumnType). AllZip (IsIndex types directory) (filter (λ (index : IndexItem). index.table == item.number) items) one.indexes) same.types is.indexes);
+}
+
+tables_same : (directory : DirectoryItems) (indexes : List IndexItem) (items : List TableItem) (one other : List TableContents) → AllZip SameTable one other
+    → AllZip (IsTable directory indexes) items one → AllZip (IsTable directory indexes) items other
+tables_same directory indexes items one other same are =
+    each_then (IsTable directory indexes) SameTable (IsTable directory indexes) (λ item a b is alike. table_same directory indexes item a b alike is) items one other are same
+
+-- parts that lie there make the whole again
+pub holds_same : (map : PageMap) (one other : Contents) → SameContents one other → HoldsAll map one → HoldsParts map one.directory.accepted other → HoldsAll map other
+holds_same map one other same holds parts_lie = record {
+  directory = subst (λ (directory : DirectoryItems). HasDirectory map directory) same.directory holds.directory;
+  said = record {
+    numbered = subst (λ (directory : DirectoryItems). AreNumbered other.definitions directory) same.directory
+        (subst (λ (items : CatalogueItems). AreNumbered items one.directory) same.definitions holds.said.numbered);
+    tables = subst (λ (directory : DirectoryItems). AllZip (IsTable directory other.definitions.indexes) other.definitions.tables other.tables) same.directory
+        (subst (λ (items : CatalogueItems). AllZip (IsTable one.directory items.indexes) items.tables other.tables) same.definitions
+        (tables_same one.directory one.definitions.indexes one.definitions.tables one.tables other.tables same.tables holds.said.tables));
+    referents = ap (λ (directory : DirectoryItems). directory.referents) (sym same.directory) ∙ holds.said.referents ∙ same.referents_stand;
+  };
+  limit = subst (λ (directory : DirectoryItems). directory.accepted < 2 ^ 63) same.directory holds.limit;
+  routes = subst (λ (directory : DirectoryItems). AllByRecursion (λ route. route.born ≤ directory.accepted) other.definitions.routes) same.directory
+      (subst (λ (items : CatalogueItems). AllByRecursion (λ route. route.born ≤ one.directory.accepted) items.routes) same.definitions holds.routes);
+  parts = subst (λ (directory : DirectoryItems). HoldsParts map directory.accepted other) same.directory parts_lie;
+}
+
+memory_same : (now : Definitions) (held : Numbered HeldReferents) (one other : Contents) → SameContents one other → AreInMemory now held one → AreInMemory now held other
+memory_same now held one other same memory =
+    let level = same_accepted one other same in
+    record {
+      catalog = subst (λ (n : ℕ). AreDefinitionsAt n other.definitions now) level
+          (subst (λ (items : CatalogueItems). AreDefinitionsAt one.directory.accepted items now) same.definitions memory.catalog);
+      referents = λ route. memory.referents route
+          ∙ ap (λ (rs : List ReferentRecord). names.from_entries (referents_at one.directory.accepted route rs)) same.referents
+          ∙ ap (λ (n : ℕ). names.from_entries (referents_at n route other.referents.referents)) level;
+    }
+
+clears_table : (oldest : ℕ) (was is other : TableContents) → ClearsTable oldest was is → SameTable is other → ClearsTable oldest was other
+clears_table oldest was is other clears same = record {
+  types = sym same.types ∙ clears.types;
+  cells = clears.cells;
+  cleared = subst (λ (events : List Event). HasCleared (kept_events was.types) oldest clears.cells was.events events) same.events clears.cleared;
+}
+
+clears_same : (oldest : ℕ) (old between one other : Contents) → SameContents one other → ClearsEnough oldest old between one → ClearsEnough oldest old between other
+clears_same oldest old between one other same clears = record {
+  most = clears.most;
+  gone = clears.gone;
+  least = clears.least;
+  few = clears.few;
+  cleared = record {
+    parts = record {
+      definitions = sym same.definitions ∙ clears.cleared.parts.definitions;
+      directory = refl;
+      tables = each_then (ClearsTable oldest) SameTable (ClearsTable oldest) (clears_table oldest) between.tables one.tables other.tables clears.cleared.parts.tables same.tables;
+      referents = subst (λ (rs : List ReferentRecord). ClearsReferents oldest between.referents.referents rs) same.referents clears.cleared.parts.referents;
+    };
+    as_many = clears.cleared.as_many;
+  };
+}
+
+-- ---- what laws say
+
+abbrev pub LiveJoined : Type 0
+LiveJoined = (oldest : ℕ) (old next now : Contents) → KeepsLive oldest old next → KeepsLive oldest next now → old.directory.accepted ≤ next.directory.accepted → KeepsLive oldest old now
+
+abbrev pub LiveByRecords : Type 0
+LiveByRecords = (oldest : ℕ) (old now : Contents) → KeepsRecords oldest old now → KeepsLive oldest old now
+
+abbrev pub EventsStay : Type 0
+EventsStay = (oldest accepted : ℕ) (events : List Event) → KeepsEvents oldest accepted events events
+
+abbrev pub ReferentsStay : Type 0
+ReferentsStay = (oldest accepted : ℕ) (referents : List ReferentRecord) → KeepsReferents oldest accepted referents referents
+
+abbrev pub CompletedHasState : Type 0
+CompletedHasState = (from oldest : ℕ) (map new : PageMap) (was is : OpenedFile) (definitions now : Definitions) (held kept : Numbered HeldReferents) (state next : State)
+    → (stands : StandsAt from map was definitions held state) → from ≤ oldest → oldest ≤ stands.contents.directory.accepted + 1
+    → (between : Contents) → Completes oldest stands.contents between new is → GivesState oldest stands.contents between now kept next
+    → AreViewsMeant next → Becomes oldest stands.contents new is now kept next
+
+module _ (events_stay : EventsStay) (referents_stay : ReferentsStay) (by_records : LiveByRecords) (joined : LiveJoined) where
+  tables_live : (oldest accepted : ℕ) (one other : List TableContents) → AllZip SameTable one other → AllZip (λ was is. KeepsEvents oldest accepted was.events is.events) one other
+  tables_live oldest accepted [] [] same = tt
+  tables_live oldest accepted [] (o ∷ os) same = absurd same
+  tables_live oldest accepted (i ∷ is) [] same = absurd same
+  tables_live oldest accepted (i ∷ is) (o ∷ os) same = (
+    subst (λ (events : List Event). KeepsEvents oldest accepted i.events events) same.0.events (events_stay oldest accepted i.events),
+    tables_live oldest accepted is os same.1,
+  )
+
+  live_same : (oldest : ℕ) (old one other : Contents) → SameContents one other → KeepsLive oldest old one → old.directory.accepted ≤ one.directory.accepted → KeepsLive oldest old other
+  live_same oldest old one other same live later =
+      let level = one.directory.accepted in
+      joined oldest old one other live (by_records oldest one other (record {
+        definitions = sym same.definitions;
+        tables = tables_live oldest level one.tables other.tables same.tables;
+        referents = subst (λ (rs : List ReferentRecord). KeepsReferents oldest level one.referents.referents rs) same.referents
+            (referents_stay oldest level one.referents.referents);
+      })) later
+
+-- ---- what is open
+
+pub parts_of : (file : OpenedFile) (contents : Contents) → IsOpenedFile file contents → parts.IsOpenedFile file contents
+parts_of file contents opened = record { definitions = opened.definitions; pages = opened.pages; tables = opened.tables; referents = opened.referents }
+
+pub as_it_was : (was is : OpenedFile) (contents : Contents) → IsAsItWas was is → IsOpenedFile was contents → IsOpenedFile is contents
+as_it_was was is contents same opened =
+    let still = still_opened was is contents same (parts_of was contents opened) in
+    record { definitions = still.definitions; pages = still.pages; tables = still.tables; referents = still.referents; accepted = opened.accepted ∙ sym same.accepted }
+
+-- ---- a store whose changes were begun
+
+module _ {D : Type 0} (d : disk.Ghosts D) where
+  pub begun_keeps : (old : StoreState D) (was now : Paged D) (file : OpenedFile) (catalog : Definitions) (referents : Numbered HeldReferents) (is_marked : Bool)
+      → KeepsStore d old (store_over d was file catalog referents is_marked) → KeepsMaps d was now → KeepsDiskMasked d was now
+      → KeepsStore d old (store_over d now file catalog referents is_marked)
+  begun_keeps old was now file catalog referents is_marked keeps maps masked =
+      keeps_store-trans d old (store_over d was file catalog referents is_marked) (store_over d now file catalog referents is_marked) keeps
+      (keeps_by_maps d was now file catalog referents is_marked is_marked maps (λ tied before is. (masked tied.honest).bytes FLAG_OFFSET refl ∙ before is))
+
+  pub begins : (old : StoreState D) (was now : Paged D) (file : OpenedFile) (catalog : Definitions) (referents : Numbered HeldReferents) (is_marked : Bool)
+      → KeepsStore d old (store_over d was file catalog referents is_marked) → KeepsMaps d was now → KeepsDiskMasked d was now
+      → d.failures was.disk ≡ d.failures old.pager.disk → d.failures now.disk ≡ d.failures was.disk
+      → HasBegun d old (store_over d now file catalog referents is_marked)
+  begins old was now file catalog referents is_marked keeps maps masked first second = record {
+    keeps = begun_keeps old was now file catalog referents is_marked keeps maps masked;
+    failures = second ∙ first;
+  }
+
+  -- no change was begun, since the disk failed
+  pub left_unbegun : {T : Type 0} (why : Refusal) (old new : StoreState D) → KeepsStore d old new → why ≡ refusal.Disk
+      → d.failures new.pager.disk ≡ counted_on (d.failures old.pager.disk) → LeavesStore d {T = T} (Err why) old new
+  left_unbegun why old new keeps is_disk counted = record {
+    stays = keeps.contents;
+    sound = λ from state stands is. let e : why ≡ refusal.DamagedFile = cc in absurd (cc (e, is_disk));
+    catalog = keeps.catalog;
+    referents = λ route. ap (λ (held : Numbered HeldReferents). referents_on held route) keeps.referents;
+    accepted = ap (λ (file : OpenedFile). file.accepted) keeps.file;
+    failures = record { disk = λ is. counted; other = λ isnt. absurd (isnt is_disk) };
+    full = record { full = λ is. absurd (cc (is, is_disk)); other = λ isnt. omega (arith, keeps.full) };
+    honesty = keeps.honesty;
+    limit = keeps.limit;
+  }
+
+  module _ (old : StoreState D) (first between last : Paged D) (file changed settled : OpenedFile) (catalog : Definitions) (referents : Numbered HeldReferents) (is_marked : Bool)
+      (begun : HasBegun d old (store_over d first file catalog referents is_marked)) (below : KeepsBelow d first between) where
+    -- the store once the change is kept or taken back
+    abbrev pub after : Definitions → Numbered HeldReferents → StoreState D
+    after now held = store_over d last settled now held is_marked
+
+    -- what the pages held as changes began
+    pub at_first : (contents : Contents) → Keeps d old contents → HoldsAll (working d first) contents
+    at_first contents kept =
+        let at = begun.keeps.contents contents kept in
+        subst (λ (m : PageMap). HoldsAll m contents) (sym (same_map (working d first) (committed d first) at.same)) at.holds
+
+    flag_stays : (contents : Contents) → Keeps d old contents → last.disk ≡ between.disk → is_marked ≡ true → flag_of d last ≡ 1
+    flag_stays contents kept same is =
+        let at = begun.keeps.contents contents kept in
+        ap (λ (disk : D). (d.seen disk).byte FLAG_OFFSET) same ∙ ap (λ (content : Content). content.byte FLAG_OFFSET) (below.unwritten at.tied.honest) ∙ at.marked is
+
+    keeps_taken_back : (contents : Contents) (now : Definitions) (held : Numbered HeldReferents) → Keeps d old contents → KeepsCommitted file changed → IsCommitted file
+        → IsTakenBack d between last changed settled → now ≡ catalog → ((route : ℕ) → referents_on held route ≡ referents_on referents route) → Keeps d (after now held) contents
+    keeps_taken_back contents now held kept keeps whole back same alike =
+        let at = begun.keeps.contents contents kept in
+        record {
+          tied = back.tied (below.tied at.tied);
+          same = SamePages-trans _ _ _ back.working_pages (pages_back _ _ back.committed_pages);
+          holds = subst (λ (m : PageMap). HoldsAll m contents) (sym (same_map (committed d last) (committed d between) back.committed_pages
+              ∙ same_map (committed d between) (committed d first) (below.committed at.tied))) at.holds;
+          opened = as_it_was file settled contents (back.file.back file whole keeps) at.opened;
+          memory = record {
+            catalog = subst (λ (definitions : Definitions). AreDefinitionsAt contents.directory.accepted contents.definitions definitions) (sym same) at.memory.catalog;
+            referents = λ route. alike route ∙ at.memory.referents route;
+          };
+          marked = flag_stays contents kept back.abandons.disk;
+        }
+
+    -- A refused change leaves the store as it was, where the same is in memory.
+    pub left_refused : {T : Type 0} (why : Refusal) (now : Definitions) (held : Numbered HeldReferents)
+        → StoresAfter {T = T} (IsTied d first → HoldsNoFile (working d first) file) (Err why) (pager_store d first) (pager_store d between)
+        → KeepsCommitted file changed → IsCommitted file → IsTakenBack d between last changed settled
+        → now ≡ catalog → ((route : ℕ) → referents_on held route ≡ referents_on referents route) → LeavesStore d {T = T} (Err why) old (after now held)
+    left_refused why now held stores keeps whole back same alike =
+        let restored = back.file.back file whole keeps in
+        let fewer : first.full_refusals ≤ between.full_refusals = stores.counts.full_refusals in
+        record {
+          stays = λ contents kept. keeps_taken_back contents now held kept keeps whole back same alike;
+          sound = λ from state stands is.
+              let e : why ≡ refusal.DamagedFile = cc in
+              elim stores.ends.cause [
+                | inl m ↦ absurd (cc (e, m))
+                | inr (inl m) ↦ absurd (cc (e, m))
+                | inr (inr (inl m)) ↦ absurd (cc (e, m.0))
+                | inr (inr (inr m)) ↦
+                    let at = begun.keeps.contents stands.contents stands.keeps in
+                    (m.1 at.tied).none stands.contents (at_first stands.contents stands.keeps) at.opened
+              ];
+          catalog = same ∙ begun.keeps.catalog;
+          referents = λ route. alike route ∙ ap (λ (r : Numbered HeldReferents). referents_on r route) begun.keeps.referents;
+          accepted = restored.accepted ∙ ap (λ (f : OpenedFile). f.accepted) begun.keeps.file;
+          failures = record {
+            disk = λ is. ap d.failures back.abandons.disk ∙ stores.ends.count.disk is ∙ ap counted_on begun.failures;
+            other = λ isnt. ap d.failures back.abandons.disk ∙ stores.ends.count.other isnt ∙ begun.failures;
+          };
+          full = record {
+            full = λ is. elim stores.ends.cause [
+              | inl m ↦ absurd (cc (is, m))
+              | inr (inl m) ↦ absurd (cc (is, m))
+              | inr (inr (inl m)) ↦ back.abandons.full ∙ m.1.counted ∙ ap counted_on begun.keeps.full
+              | inr (inr (inr m)) ↦ absurd (cc (is, m.0))
+            ];
+            other = λ isnt. omega (arith, fewer, back.abandons.full, begun.keeps.full);
+          };
+          honesty = ap d.is_honest back.abandons.disk ∙ below.honesty ∙ begun.keeps.honesty;
+          limit = back.abandons.limit ∙ stores.counts.limit ∙ begun.keeps.limit;
+        }
+
+    -- a change that was made counts one version more, and no refusal
+    pub left_made : {T : Type 0} (answer : T) (now : Definitions) (held : Numbered HeldReferents)
+        → StoresAfter {T = T} (IsTied d first → HoldsNoFile (working d first) file) (Ok answer) (pager_store d first) (pager_store d between)
+        → changed.accepted ≡ file.accepted + 1 → IsKept d between last changed settled → LeavesStore d {T = T} (Ok answer) old (after now held)
+    left_made answer now held stores next kept = record {
+      stays = λ contents keeps. tt;
+      sound = λ from state stands is. absurd cc;
+      catalog = tt;
+      referents = tt;
+      accepted = kept.file.accepted ∙ next ∙ ap (λ (f : OpenedFile). f.accepted + 1) begun.keeps.file;
+      failures = ap d.failures kept.commits.disk ∙ stores.ends.failures ∙ begun.failures;
+      full = kept.commits.full ∙ stores.ends.full ∙ begun.keeps.full;
+      honesty = ap d.is_honest kept.commits.disk ∙ below.honesty ∙ begun.keeps.honesty;
+      limit = kept.commits.limit ∙ stores.counts.limit ∙ begun.keeps.limit;
+    }
+
+    -- what a change leaves, made or refused
+    pub left_settled : {T : Type 0} (result : Result T Refusal) (definitions : StoredCatalogue) (now : Definitions) (held : Numbered HeldReferents)
+        → StoresAfter {T = T} (IsTied d first → HoldsNoFile (working d first) file) result (pager_store d first) (pager_store d between)
+        → OnOk result (IsNext definitions file changed) → OnErr result (KeepsCommitted file changed) → IsCommitted file → Settles d result between last changed settled
+        → OnErr result (now ≡ catalog) → OnErr result ((route : ℕ) → referents_on held route ≡ referents_on referents route) → LeavesStore d result old (after now held)
+    left_settled (Ok answer) definitions now held stores next keeps whole settles same alike = left_made answer now held stores next.accepted settles
+    left_settled (Err why) definitions now held stores next keeps whole settles same alike = left_refused why now held stores keeps whole settles same alike
+
+    -- ---- the state of the next version
+
+    -- a store that stands in a state has begun its changes in pages that stand for it
+    abbrev pub stands_at_first : (from : ℕ) (state : State) → StandsIn d from old state → StandsAt from (working d first) file catalog referents state
+    stands_at_first from state stands =
+        let at = begun.keeps.contents stands.contents stands.keeps in
+        record {
+          contents = stands.contents;
+          holds = at_first stands.contents stands.keeps;
+          opened = at.opened;
+          memory = at.memory;
+          live = stands.live;
+          meant = stands.meant;
+          is = stands.is;
+          views = stands.views;
+        }
+
+    module _ (says : SameSays) (meant_alike : SameMeant) (state_alike : SameState) (events_stay : EventsStay) (referents_stay : ReferentsStay)
+        (by_records : LiveByRecords) (joined : LiveJoined) (kept : IsKept d between last changed settled) where
+      -- A file that has become what the next version says makes a store that has become so, once it is kept.
+      pub becomes_kept : (oldest : ℕ) (before : Contents) (now : Definitions) (held : Numbered HeldReferents) (next : State) → Keeps d old before
+          → Becomes oldest before (working d between) changed now held next → HasBecome d oldest before (after now held) next
+      becomes_kept oldest before now held next keeps becomes =
+          let one = becomes.stands.contents in
+          let made = (kept.file.stays (working d between) one.directory.accepted).each one becomes.stands.holds.parts (parts_of changed one becomes.stands.opened) in
+          let other = made.contents in
+          let same : SameContents one other = made.changed in
+          let level = same_accepted one other same in
+          let at = begun.keeps.contents before keeps in
+          let map = same_map (committed d last) (working d between) kept.committed_pages in
+          record {
+            between = becomes.between;
+            stands = record {
+              contents = other;
+              keeps = record {
+                tied = kept.tied (below.tied at.tied);
+                same = SamePages-trans _ _ _ kept.working_pages (pages_back _ _ kept.committed_pages);
+                holds = subst (λ (m : PageMap). HoldsAll m other) (sym map) (holds_same (working d between) one other same becomes.stands.holds made.holds);
+                opened = record {
+                  definitions = made.opened.definitions;
+                  pages = made.opened.pages;
+                  tables = made.opened.tables;
+                  referents = made.opened.referents;
+                  accepted = sym level ∙ becomes.stands.opened.accepted ∙ sym kept.file.accepted;
+                };
+                memory = memory_same now held one other same becomes.stands.memory;
+                marked = flag_stays before keeps kept.commits.disk;
+              };
+              live = omega (arith, becomes.stands.live, level);
+              meant = meant_moves says meant_alike oldest one other same becomes.stands.meant;
+              is = state_moves says state_alike one other next same becomes.stands.is;
+              views = becomes.stands.views;
+            };
+            clears = clears_same oldest before becomes.between one other same becomes.clears;
+            next = sym level ∙ becomes.next;
+            live = live_same events_stay referents_stay by_records joined oldest before one other same becomes.live (omega (arith, becomes.next));
+          }
+
+      -- So does one in which the part of a change was completed, if that gives the state.
+      pub has_become : CompletedHasState → (from oldest : ℕ) (state next : State) (now : Definitions) (held : Numbered HeldReferents) (stands : StandsIn d from old state) → from ≤ oldest
+          → oldest ≤ old.file.accepted + 1 → (part : Contents) → Completes oldest stands.contents part (working d between) changed
+          → GivesState oldest stands.contents part now held next → AreViewsMeant next → HasBecome d oldest stands.contents (after now held) next
+      has_become completed from oldest state next now held stands low high part completes gives views =
+          let level : stands.contents.directory.accepted ≡ old.file.accepted = stands.keeps.opened.accepted in
+          let within : oldest ≤ stands.contents.directory.accepted + 1 = omega (arith, high, level) in
+          becomes_kept oldest stands.contents now held next stands.keeps
+          (completed from oldest (working d first) (working d between) file changed catalog now referents held state next (stands_at_first from state stands) low
+          within part completes gives views)
+
+-- ---- a file at rest
+
+order_as_it_was : (version : ℕ) (was is : List OpenedTable) → AllZip SameOpened was is → AllByRecursion (λ (table : OpenedTable). HaveDiedBy version table.records.working.dead) was
+    → AllByRecursion (λ (table : OpenedTable). HaveDiedBy version table.records.working.dead) is
+order_as_it_was version [] [] same died = tt
+order_as_it_was version [] (i ∷ is) same died = absurd same
+order_as_it_was version (w ∷ ws) [] same died = absurd same
+order_as_it_was version (w ∷ ws) (i ∷ is) same died =
+    (subst (λ (records : EventTableState). HaveDiedBy version records.working.dead) (sym same.0.records) died.0, order_as_it_was version ws is same.1 died.1)
+
+-- what was taken back can be changed again
+pub may_again : (file changed settled : OpenedFile) → MayChange file → IsCommitted file → KeepsCommitted file changed → IsReady changed → IsFileTakenBack changed settled → MayChange settled
+may_again file changed settled may whole keeps ready back =
+    let restored = back.back file whole keeps in
+    record {
+      ready = back.ready ready;
+      order = subst (λ (n : ℕ). HaveAllDiedBy n settled) (sym restored.accepted) (record {
+        tables = order_as_it_was file.accepted file.tables.items settled.tables.items restored.tables may.order.tables;
+        referents = subst (λ (r : ReferentTableState). HaveDiedBy file.accepted r.working.dead) (sym restored.referents) may.order.referents;
+      });
+    }
+
+-- and what was kept
+pub may_next : (changed settled : OpenedFile) → MayChange changed → IsFileKept changed settled → MayChange settled
+may_next changed settled may kept = record {
+  ready = kept.ready may.ready;
+  order = subst (λ (n : ℕ). HaveAllDiedBy n settled) (sym kept.accepted) (kept.order changed.accepted may.order);
+}
+
+-- a refused change leaves what is open and in memory at rest
+pub rests_refused : (file changed settled : OpenedFile) (catalog : Definitions) → IsAtRest file catalog → KeepsCommitted file changed → IsFileTakenBack changed settled → IsAtRest settled catalog
+rests_refused file changed settled catalog rests keeps back =
+    let restored = back.back file rests.committed keeps in
+    let same : said_catalogue settled.definitions ≡ said_catalogue file.definitions = ap said_catalogue restored.definitions in
+    record {
+      may = may_again file changed settled rests.may rests.committed keeps (ready_after file changed keeps rests.may.ready) back;
+      committed = back.committed;
+      listing = rests.listing ∙ sym same;
+      births = subst (λ (n : ℕ). AllByRecursion (λ route. route.born ≤ n) (said_catalogue settled.definitions).routes) (sym restored.accepted)
+          (subst (λ (items : CatalogueItems). AllByRecursion (λ route. route.born ≤ file.accepted) items.routes) (sym same) rests.births);
+      columns = rests.columns;
+      bound = omega (arith, rests.bound, restored.accepted);
+    }
+
+born_later : (one other : ℕ) (routes : List RouteItem) → one ≤ other → AllByRecursion (λ route. route.born ≤ one) routes → AllByRecursion (λ route. route.born ≤ other) routes
+born_later one other [] later born = tt
+born_later one other (r ∷ rs) later born = (omega (arith, later, born.0), born_later one other rs later born.1)
+
+-- So does one that was made, where the catalogue lists the definitions, whose routes were born by the next version.
+pub rests_made : (file changed settled : OpenedFile) (definitions : StoredCatalogue) (now : Definitions) → file.accepted < CHANGES → IsNext definitions file changed → IsFileKept changed settled
+    → listing_of now ≡ said_catalogue definitions → AllByRecursion (λ route. route.born ≤ file.accepted + 1) (said_catalogue definitions).routes
+    → Each now.tables (λ name table. AreColumnsOfTable table.columns) → IsAtRest settled now
+rests_made file changed settled definitions now room next kept listing births columns =
+    let same : said_catalogue settled.definitions ≡ said_catalogue definitions = ap said_catalogue (kept.definitions ∙ next.definitions_are) in
+    let level : settled.accepted ≡ file.accepted + 1 = kept.accepted ∙ next.accepted in
+    record {
+      may = may_next changed settled next.may kept;
+      committed = kept.committed;
+      listing = listing ∙ sym same;
+      births = subst (λ (n : ℕ). AllByRecursion (λ route. route.born ≤ n) (said_catalogue settled.definitions).routes) (sym level)
+          (subst (λ (items : CatalogueItems). AllByRecursion (λ route. route.born ≤ file.accepted + 1) items.routes) (sym same) births);
+      columns = columns;
+      bound = omega (arith, room, level);
+    }
+
+-- a change of records leaves what is open and in memory at rest, made or refused
+pub rests_settled : {D T : Type 0} (d : disk.Ghosts D) (result : Result T Refusal) (between last : Paged D) (file changed settled : OpenedFile) (catalog : Definitions) → IsAtRest file catalog
+    → file.accepted < CHANGES → OnOk result (IsNext file.definitions file changed) → OnErr result (KeepsCommitted file changed) → Settles d result between last changed settled → IsAtRest settled catalog
+rests_settled d (Ok answer) between last file changed settled catalog rests room next keeps settles =
+    rests_made file changed settled file.definitions catalog room next settles.file rests.listing
+    (born_later file.accepted (file.accepted + 1) (said_catalogue file.definitions).routes (omega arith) rests.births) rests.columns
+rests_settled d (Err why) between last file changed settled catalog rests room next keeps settles = rests_refused file changed settled catalog rests keeps settles.file

@@ -1,0 +1,101 @@
+-- The referent is put by a change of the file and of memory, which is kept or taken back.
+use Rattle.std.proofs.Common.{◌≡◌, ◌≤◌, ◌<◌, ◌+◌, ◌∙◌, ℕ, OnOk, Ok, Result, Some, ap, refl, subst, sym}
+use Rattle.std.specs.FinMap as names
+use Rattle.std.proofs.lemmas.Result.{err_from_is_err_and}
+use Rattle.rs_catalog.specs.Definitions.{Definitions}
+use Rattle.rs_catalog.specs.Referents.{at_number, referents_on}
+use Rattle.rs_contents.specs.declared.opened.OpenedFile.{OpenedFile}
+use Rattle.rs_machine.specs.Step.{with_referents}
+use Rattle.rs_machine.specs.declared.limits.TheConstants.{CHANGES}
+use Rattle.rs_pager.specs.Maps.{working}
+use Rattle.rs_refusal.specs.Counts.{counted_on}
+use Rattle.rs_refusal.specs.declared.refusal.Refusal.{Refusal}
+use Rattle.rs_state_laws.specs.Changing.{ChangesFile}
+use Rattle.rs_state_laws.specs.Parts.{PutsReferent}
+use Rattle.rs_store.specs.Calls.{KeepsStore}
+use Rattle.rs_store.specs.Changing.{HasBecome, LeavesStore}
+use Rattle.rs_store.specs.Kept.{StoreState}
+use Rattle.rs_store.proofs.Keeping.{store_over}
+use Rattle.rs_store.proofs.Results.{err_always}
+use Rattle.rs_store.proofs.Rows.{by_part, made_both, next_below}
+use Rattle.rs_store.proofs.Settled.{begins, begun_keeps, left_settled, left_unbegun, rests_settled, stands_at_first}
+use Rattle.rs_store.proofs.store.Store.define_referent.Goals as goal
+
+pub returns-in_err-begin-clause-leaves : goal.returns-in_err-begin-clause-leaves
+returns-in_err-begin-clause-leaves g c =
+    let d = g.D.Disk in
+    let old = c.args.self.now in
+    let was = c.self.inside in
+    let first = c.begin.new.self in
+    let kept = subst (λ (s : StoreState g.row.D.Denot). KeepsStore d old s) (sym c.self.view_is) c.mark.ensures.keeps in
+    let failed : d.failures was.pager.disk ≡ d.failures old.pager.disk =
+    ap (λ (s : StoreState g.row.D.Denot). d.failures s.pager.disk) c.self.view_is ∙ c.in_ok-mark.ensures.count in
+    let p = err_from_is_err_and c.from_residual-in_err-begin.result c.from_residual-in_err-begin.ensures.1 in
+    rw (p.1, p.2) (left_unbegun d c.in_err-begin.field-0.0 old (store_over d first was.file was.catalog was.referents was.is_marked)
+    (begun_keeps d old was.pager first was.file was.catalog was.referents was.is_marked kept c.begin.ensures.keeps c.begin.ensures.masked)
+    c.in_err-begin.ensures.refusal (c.in_err-begin.ensures.count ∙ ap counted_on failed))
+
+pub invariant_of-self-2 : goal.invariant_of-self-2
+invariant_of-self-2 g c =
+    let was = c.self.inside in
+    let same : was.file ≡ c.args.self.now.file = ap (λ (s : StoreState g.row.D.Denot). s.file) c.self.view_is ∙ c.mark.ensures.keeps.file in
+    record {
+      shut = c.settle.ensures.shut;
+      rests = rests_settled g.D.Disk c.define_in_both-made.result c.define_in_both-made.new.pages c.settle.new.pager was.file c.define_in_both-made.new.file c.settle.new.file was.catalog
+          c.self.invariant.rests (subst (λ (f : OpenedFile). f.accepted < CHANGES) (sym same) c.requires.room) c.define_in_both-made.ensures.next c.define_in_both-made.ensures.keeps c.settle.ensures.settles;
+    }
+
+pub returns-clause-leaves : goal.returns-clause-leaves
+returns-clause-leaves g c =
+    let d = g.D.Disk in
+    let old = c.args.self.now in
+    let was = c.self.inside in
+    let first = c.begin.new.self in
+    let last = c.settle.new.pager in
+    let result = c.define_in_both-made.result in
+    let kept = subst (λ (s : StoreState g.row.D.Denot). KeepsStore d old s) (sym c.self.view_is) c.mark.ensures.keeps in
+    let failed : d.failures was.pager.disk ≡ d.failures old.pager.disk =
+    ap (λ (s : StoreState g.row.D.Denot). d.failures s.pager.disk) c.self.view_is ∙ c.in_ok-mark.ensures.count in
+    let begun = begins d old was.pager first was.file was.catalog was.referents was.is_marked kept c.begin.ensures.keeps c.begin.ensures.masked failed c.in_ok-begin.ensures.count in
+    subst (λ (r : Result (Unit {0}) Refusal). LeavesStore d r old (store_over d last c.settle.new.file was.catalog c.define_in_both-made.new.referents was.is_marked)) (sym c.settle.ensures.same)
+    (left_settled d old first c.define_in_both-made.new.pages last was.file c.define_in_both-made.new.file c.settle.new.file was.catalog was.referents was.is_marked begun c.define_in_both-made.ensures.leaves.keeps
+    result was.file.definitions was.catalog c.define_in_both-made.new.referents c.define_in_both-made.ensures.leaves.stores c.define_in_both-made.ensures.next c.define_in_both-made.ensures.keeps c.self.invariant.rests.committed
+    c.settle.ensures.settles (err_always result refl) c.define_in_both-made.ensures.back)
+
+pub returns-clause-puts : goal.returns-clause-puts
+returns-clause-puts g c = λ from state stands low high route on there numbered is lawful.
+    let d = g.D.Disk in
+    let old = c.args.self.now in
+    let was = c.self.inside in
+    let first = c.begin.new.self in
+    let between = c.define_in_both-made.new.pages in
+    let changed = c.define_in_both-made.new.file in
+    let last = c.settle.new.pager in
+    let settled = c.settle.new.file in
+    let result = c.define_in_both-made.result in
+    let kept = subst (λ (s : StoreState g.row.D.Denot). KeepsStore d old s) (sym c.self.view_is) c.mark.ensures.keeps in
+    let failed : d.failures was.pager.disk ≡ d.failures old.pager.disk =
+    ap (λ (s : StoreState g.row.D.Denot). d.failures s.pager.disk) c.self.view_is ∙ c.in_ok-mark.ensures.count in
+    let begun = begins d old was.pager first was.file was.catalog was.referents was.is_marked kept c.begin.ensures.keeps c.begin.ensures.masked failed c.in_ok-begin.ensures.count in
+    let one = c.args.referent.now in
+    let name = one.name.bytes in
+    let held = c.define_in_both-made.new.referents in
+    let next = with_referents state route (names.insert (state.referents route) name one.measure) in
+    let tied = (begun.keeps.contents stands.contents stands.keeps).tied in
+    let route_there : names.get was.catalog.routes route ≡ Some on = ap (λ (k : Definitions). names.get k.routes route) kept.catalog ∙ there in
+    let below = c.define_in_both-made.ensures.leaves.keeps in
+    let law = c.kept_change_gives_its_state.ensures in
+    subst (λ (r : Result (Unit {0}) Refusal). OnOk r (HasBecome d c.args.oldest stands.contents (store_over d last settled was.catalog held was.is_marked) next)) (sym c.settle.ensures.same)
+    (made_both d (λ answer. ChangesFile c.args.oldest (working d first) (working d between) was.file changed (PutsReferent one.route name one.measure))
+    (λ answer. HasBecome d c.args.oldest stands.contents (store_over d last settled was.catalog held was.is_marked) next)
+    result between last changed settled (c.define_in_both-made.ensures.puts tied) c.define_in_both-made.ensures.held c.settle.ensures.settles
+    (λ answer changes put keeps.
+    by_part d old first between last was.file changed settled was.catalog was.referents was.is_marked begun below law from c.args.oldest state stands low high c.requires.room
+    was.catalog held next (PutsReferent on.number name one.measure)
+    (subst (λ (n : ℕ). ChangesFile c.args.oldest (working d first) (working d between) was.file changed (PutsReferent n name one.measure)) (sym numbered) changes)
+    (λ part puts. c.referent_put_gives_its_state.ensures from c.args.oldest (working d first) was.file was.catalog was.referents held state
+    (stands_at_first d old first between last was.file changed settled was.catalog was.referents was.is_marked begun below from state stands) low
+    (next_below d old first between last was.file changed settled was.catalog was.referents was.is_marked begun below law from c.args.oldest state stands low high c.requires.room)
+    route name one.measure on part route_there is
+    (subst (λ (n : ℕ). referents_on held ≡ at_number n (names.insert (referents_on was.referents n) name one.measure) (referents_on was.referents)) (sym numbered) put) puts lawful)
+    lawful.views keeps))

@@ -1,0 +1,121 @@
+-- The referent moves by a change of the file, which is kept or taken back, and then in memory.
+use Rattle.std.proofs.Common.{◌≡◌, ◌≤◌, ◌<◌, ◌+◌, ◌∙◌, ℕ, OnOk, Ok, Result, Some, ap, refl, subst, sym}
+use Rattle.std.specs.FinMap as names
+use Rattle.std.specs.declared.alloc.AllocError.{AllocError}
+use Rattle.std.proofs.lemmas.Result.{err_from_is_err_and}
+use Rattle.rs_catalog.specs.Definitions.{Definitions}
+use Rattle.rs_catalog.specs.Referents.{at_number, referents_on}
+use Rattle.rs_contents.specs.declared.opened.OpenedFile.{OpenedFile}
+use Rattle.rs_machine.specs.Step.{with_referents}
+use Rattle.rs_machine.specs.declared.limits.TheConstants.{CHANGES}
+use Rattle.rs_pager.specs.Maps.{working}
+use Rattle.rs_refusal.specs.Counts.{counted_on}
+use Rattle.rs_refusal.specs.declared.refusal.Refusal.{Refusal}
+use Rattle.rs_state_laws.specs.Changing.{ChangesFile}
+use Rattle.rs_state_laws.specs.Parts.{MovesReferent}
+use Rattle.rs_store.specs.Calls.{KeepsStore}
+use Rattle.rs_store.specs.Changing.{LeavesStore}
+use Rattle.rs_store.specs.Kept.{StoreState}
+use Rattle.rs_store.specs.Settling.{IsKept, Settles}
+use Rattle.rs_store.proofs.Keeping.{store_over}
+use Rattle.rs_store.proofs.Results.{err_always}
+use Rattle.rs_store.proofs.Rows.{by_part, next_below}
+use Rattle.rs_store.proofs.Settled.{begins, begun_keeps, left_settled, left_unbegun, rests_settled, stands_at_first}
+use Rattle.rs_store.proofs.store.Store.move_referent.Goals as goal
+
+pub returns-in_err-begin-clause-leaves : goal.returns-in_err-begin-clause-leaves
+returns-in_err-begin-clause-leaves g c =
+    let d = g.D.Disk in
+    let old = c.args.self.now in
+    let was = c.self.inside in
+    let first = c.begin.new.self in
+    let kept = subst (λ (s : StoreState g.row.D.Denot). KeepsStore d old s) (sym c.self.view_is) c.mark.ensures.keeps in
+    let failed : d.failures was.pager.disk ≡ d.failures old.pager.disk =
+    ap (λ (s : StoreState g.row.D.Denot). d.failures s.pager.disk) c.self.view_is ∙ c.in_ok-mark.ensures.count in
+    let p = err_from_is_err_and c.from_residual-in_err-begin.result c.from_residual-in_err-begin.ensures.1 in
+    rw (p.1, p.2) (left_unbegun d c.in_err-begin.field-0.0 old (store_over d first was.file was.catalog was.referents was.is_marked)
+    (begun_keeps d old was.pager first was.file was.catalog was.referents was.is_marked kept c.begin.ensures.keeps c.begin.ensures.masked)
+    c.in_err-begin.ensures.refusal (c.in_err-begin.ensures.count ∙ ap counted_on failed))
+
+pub invariant_of-self-in_err-settle : goal.invariant_of-self-in_err-settle
+invariant_of-self-in_err-settle g c =
+    let was = c.self.inside in
+    let same : was.file ≡ c.args.self.now.file = ap (λ (s : StoreState g.row.D.Denot). s.file) c.self.view_is ∙ c.mark.ensures.keeps.file in
+    record {
+      shut = c.settle.ensures.shut;
+      rests = rests_settled g.D.Disk c.move_referent-made.result c.move_referent-made.new.pages c.settle.new.pager was.file c.move_referent-made.new.file c.settle.new.file was.catalog
+          c.self.invariant.rests (subst (λ (f : OpenedFile). f.accepted < CHANGES) (sym same) c.requires.room) c.move_referent-made.ensures.next c.move_referent-made.ensures.keeps c.settle.ensures.settles;
+    }
+
+pub returns-in_err-settle-clause-leaves : goal.returns-in_err-settle-clause-leaves
+returns-in_err-settle-clause-leaves g c =
+    let d = g.D.Disk in
+    let old = c.args.self.now in
+    let was = c.self.inside in
+    let first = c.begin.new.self in
+    let between = c.move_referent-made.new.pages in
+    let changed = c.move_referent-made.new.file in
+    let last = c.settle.new.pager in
+    let settled = c.settle.new.file in
+    let result = c.move_referent-made.result in
+    let kept = subst (λ (s : StoreState g.row.D.Denot). KeepsStore d old s) (sym c.self.view_is) c.mark.ensures.keeps in
+    let failed : d.failures was.pager.disk ≡ d.failures old.pager.disk =
+    ap (λ (s : StoreState g.row.D.Denot). d.failures s.pager.disk) c.self.view_is ∙ c.in_ok-mark.ensures.count in
+    let begun = begins d old was.pager first was.file was.catalog was.referents was.is_marked kept c.begin.ensures.keeps c.begin.ensures.masked failed c.in_ok-begin.ensures.count in
+    let p = err_from_is_err_and c.from_residual-in_err-settle.result c.from_residual-in_err-settle.ensures.1 in
+    rw (p.1, p.2) (subst (λ (r : Result (Unit {0}) Refusal). LeavesStore d r old (store_over d last settled was.catalog was.referents was.is_marked)) (sym c.settle.ensures.same ∙ c.in_err-settle.was)
+    (left_settled d old first between last was.file changed settled was.catalog was.referents was.is_marked begun c.move_referent-made.ensures.leaves.keeps
+    result was.file.definitions was.catalog was.referents c.move_referent-made.ensures.leaves.stores c.move_referent-made.ensures.next c.move_referent-made.ensures.keeps
+    c.self.invariant.rests.committed c.settle.ensures.settles (err_always result refl) (err_always result (λ route. refl))))
+
+pub invariant_of-self-2 : goal.invariant_of-self-2
+invariant_of-self-2 g c =
+    let was = c.self.inside in
+    let same : was.file ≡ c.args.self.now.file = ap (λ (s : StoreState g.row.D.Denot). s.file) c.self.view_is ∙ c.mark.ensures.keeps.file in
+    record {
+      shut = c.settle.ensures.shut;
+      rests = rests_settled g.D.Disk c.move_referent-made.result c.move_referent-made.new.pages c.settle.new.pager was.file c.move_referent-made.new.file c.settle.new.file was.catalog
+          c.self.invariant.rests (subst (λ (f : OpenedFile). f.accepted < CHANGES) (sym same) c.requires.room) c.move_referent-made.ensures.next c.move_referent-made.ensures.keeps c.settle.ensures.settles;
+    }
+
+pub returns-clause-moves : goal.returns-clause-moves
+returns-clause-moves g c = λ from state stands low high route on there numbered is lawful.
+    let d = g.D.Disk in
+    let old = c.args.self.now in
+    let was = c.self.inside in
+    let first = c.begin.new.self in
+    let between = c.move_referent-made.new.pages in
+    let changed = c.move_referent-made.new.file in
+    let last = c.settle.new.pager in
+    let settled = c.settle.new.file in
+    let result = c.move_referent-made.result in
+    let kept = subst (λ (s : StoreState g.row.D.Denot). KeepsStore d old s) (sym c.self.view_is) c.mark.ensures.keeps in
+    let failed : d.failures was.pager.disk ≡ d.failures old.pager.disk =
+    ap (λ (s : StoreState g.row.D.Denot). d.failures s.pager.disk) c.self.view_is ∙ c.in_ok-mark.ensures.count in
+    let begun = begins d old was.pager first was.file was.catalog was.referents was.is_marked kept c.begin.ensures.keeps c.begin.ensures.masked failed c.in_ok-begin.ensures.count in
+    let one = c.args.referent.now in
+    let name = one.name.bytes in
+    let held = c.put.new.self in
+    let next = with_referents state route (names.insert (state.referents route) name one.measure) in
+    let made : result ≡ Ok c.in_ok-settle.field-0 = sym c.settle.ensures.same ∙ c.in_ok-settle.was in
+    let tied = (begun.keeps.contents stands.contents stands.keeps).tied in
+    let route_there : names.get was.catalog.routes route ≡ Some on = ap (λ (k : Definitions). names.get k.routes route) kept.catalog ∙ there in
+    let changes : ChangesFile c.args.oldest (working d first) (working d between) was.file changed (MovesReferent on.number name one.measure) =
+    subst (λ (n : ℕ). ChangesFile c.args.oldest (working d first) (working d between) was.file changed (MovesReferent n name one.measure)) (sym numbered)
+    (subst (λ (r : Result (Unit {0}) Refusal). OnOk r (ChangesFile c.args.oldest (working d first) (working d between) was.file changed (MovesReferent one.route name one.measure))) made
+    (c.move_referent-made.ensures.moves tied)) in
+    let keeps : IsKept d between last changed settled = subst (λ (r : Result (Unit {0}) Refusal). Settles d r between last changed settled) made c.settle.ensures.settles in
+    let put : referents_on held ≡ at_number one.route (names.insert (referents_on was.referents one.route) name one.measure) (referents_on was.referents) =
+    subst (λ (r : Result (Unit {0}) AllocError). OnOk r (referents_on held ≡ at_number one.route (names.insert (referents_on was.referents one.route) name one.measure) (referents_on was.referents)))
+    c.unwrap.ensures c.put.ensures.ok in
+    let moved : referents_on held ≡ at_number on.number (names.insert (referents_on was.referents on.number) name one.measure) (referents_on was.referents) =
+    subst (λ (n : ℕ). referents_on held ≡ at_number n (names.insert (referents_on was.referents n) name one.measure) (referents_on was.referents)) (sym numbered) put in
+    let below = c.move_referent-made.ensures.leaves.keeps in
+    let law = c.kept_change_gives_its_state.ensures in
+    by_part d old first between last was.file changed settled was.catalog was.referents was.is_marked begun below law from c.args.oldest state stands low high c.requires.room
+    was.catalog held next (MovesReferent on.number name one.measure) changes
+    (λ part moves. c.referent_moved_gives_its_state.ensures from c.args.oldest (working d first) was.file was.catalog was.referents held state
+    (stands_at_first d old first between last was.file changed settled was.catalog was.referents was.is_marked begun below from state stands) low
+    (next_below d old first between last was.file changed settled was.catalog was.referents was.is_marked begun below law from c.args.oldest state stands low high c.requires.room)
+    route name one.measure on part route_there is moved moves lawful)
+    lawful.views keeps

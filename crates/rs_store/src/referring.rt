@@ -1,0 +1,212 @@
+//! This module changes the referents of a store's routes: each call is one change of the state, whole or not at all.
+
+ghost use Rattle.std.specs.Prelude.{◌≡◌, ◌≢◌, ◌≤◌, ◌<◌, ◌+◌, ◌^◌, ℕ, true, false, OnErr, OnOk, Some};
+ghost use Rattle.std.specs.FinMap as names;
+ghost use Rattle.std.specs.List.{AllByRecursion};
+ghost use Rattle.rs_catalog.specs.Definitions.{RouteItem};
+ghost use Rattle.rs_catalog.specs.Referents.{at_number, referents_on};
+ghost use Rattle.rs_facts.specs.Fact.{Name as ListName};
+ghost use Rattle.rs_file_changes.specs.Parts.{KeepsCommitted};
+ghost use Rattle.rs_machine.specs.Lawful.{IsLawful};
+ghost use Rattle.rs_machine.specs.State.{State, has};
+ghost use Rattle.rs_machine.specs.Step.{with_referents};
+ghost use Rattle.rs_machine.specs.declared.limits.TheConstants.{CHANGES};
+ghost use Rattle.rs_methods.specs.Position.{start_name};
+ghost use Rattle.rs_state_changes.specs.Calls.{IsNext, LeavesFile, MayChange};
+ghost use Rattle.rs_state_laws.specs.Changing.{ChangesFile};
+ghost use Rattle.rs_state_laws.specs.Parts.{PutsReferent};
+ghost use Rattle.rs_store.specs.Changing.{HasBecome, LeavesStore};
+ghost use Rattle.rs_store.specs.Kept.{StandsIn};
+
+use crate::laws::store_stands_in_one_state;
+use crate::settling::{kept_change_gives_its_state, settle};
+use crate::store::Store;
+use rs_catalog::RouteReferents;
+use rs_contents::OpenedFile;
+use rs_disk::Disk;
+use rs_file_changes::laws::changed_file_can_be_changed;
+use rs_measure::Measure;
+use rs_methods::{Name, Referent};
+use rs_pages::Pages;
+use rs_refusal::Refusal;
+use rs_state_laws::referents::{
+    referent_ended_gives_its_state, referent_moved_gives_its_state, referent_put_gives_its_state,
+};
+use std::alloc::Global;
+
+impl<D: Disk> Store<D> {
+    /// Ends the referent of this name on a route. Versions from `oldest` on see what they saw. It is refused with 90, with 91, and with
+    /// 92 where the file is full; with 94 only where the disk does not give back what was written. A refusal changes nothing.
+    pub fn drop_referent(
+        &mut self,
+        alloc: Global,
+        oldest: u64,
+        route: &Name,
+        name: &Name,
+    ) -> Result<(), Refusal>
+        requires route { has self.old.catalog.routes route.now.bytes ≡ true }
+        requires room { self.old.file.accepted < CHANGES }
+        ensures leaves { LeavesStore D.Disk result self.old self.new }
+        ensures drops { (from : ℕ) (state : State) (stands : StandsIn D.Disk from self.old state) → from ≤ oldest → oldest ≤ self.old.file.accepted + 1
+            → has (state.referents route.now.bytes) name.now.bytes ≡ true
+            → IsLawful (with_referents state route.now.bytes (names.remove (state.referents route.now.bytes) name.now.bytes))
+            → OnOk result (HasBecome D.Disk oldest stands.contents self.new
+            (with_referents state route.now.bytes (names.remove (state.referents route.now.bytes) name.now.bytes))) }
+    {
+        kept_change_gives_its_state::<D>();
+        referent_ended_gives_its_state();
+        self.catalog.stand();
+        let number = self.catalog.route(route).unwrap().number();
+        self.mark()?;
+        self.pager.begin()?;
+        let made = rs_state_changes::drop_referent(
+            alloc,
+            &mut self.pager,
+            &mut self.file,
+            oldest,
+            number,
+            name,
+        );
+        settle(&mut self.pager, &mut self.file, made)?;
+        self.referents.remove(number, name);
+        Ok(())
+    }
+    /// Puts a referent on a route at a measure: it is a new one, or the one of its name moves there. It is refused as `drop_referent` is.
+    pub fn put_referent(
+        &mut self,
+        alloc: Global,
+        oldest: u64,
+        route: &Name,
+        name: Name,
+        measure: Measure,
+    ) -> Result<(), Refusal>
+        requires route { has self.old.catalog.routes route.now.bytes ≡ true }
+        requires not_start { name.bytes ≢ start_name }
+        requires name { AllByRecursion (λ byte. 0 < byte) name.bytes }
+        requires room { self.old.file.accepted < CHANGES }
+        ensures leaves { LeavesStore D.Disk result self.old self.new }
+        ensures puts { (from : ℕ) (state : State) (stands : StandsIn D.Disk from self.old state) → from ≤ oldest → oldest ≤ self.old.file.accepted + 1
+            → IsLawful (with_referents state route.now.bytes (names.insert (state.referents route.now.bytes) name.bytes measure))
+            → OnOk result (HasBecome D.Disk oldest stands.contents self.new
+            (with_referents state route.now.bytes (names.insert (state.referents route.now.bytes) name.bytes measure))) }
+    {
+        store_stands_in_one_state::<D>();
+        self.catalog.stand();
+        let number = self.catalog.route(route).unwrap().number();
+        let referent = Referent {
+            route: number,
+            name,
+            measure,
+        };
+        if self.referents.has(number, &name) {
+            self.move_referent(alloc, oldest, &referent)
+        } else {
+            self.define_referent(alloc, oldest, &referent)
+        }
+    }
+
+    /// Puts a referent that its route does not have.
+    fn define_referent(
+        &mut self,
+        alloc: Global,
+        oldest: u64,
+        referent: &Referent,
+    ) -> Result<(), Refusal>
+        requires not_start { referent.now.name.bytes ≢ start_name }
+        requires name { AllByRecursion (λ byte. 0 < byte) referent.now.name.bytes }
+        requires new { has (referents_on self.old.referents referent.now.route) referent.now.name.bytes ≡ false }
+        requires room { self.old.file.accepted < CHANGES }
+        ensures leaves { LeavesStore D.Disk result self.old self.new }
+        ensures puts { (from : ℕ) (state : State) (stands : StandsIn D.Disk from self.old state) → from ≤ oldest → oldest ≤ self.old.file.accepted + 1
+            → (route : ListName) (on : RouteItem) → names.get self.old.catalog.routes route ≡ Some on → on.number ≡ referent.now.route
+            → has (state.referents route) referent.now.name.bytes ≡ false
+            → IsLawful (with_referents state route (names.insert (state.referents route) referent.now.name.bytes referent.now.measure))
+            → OnOk result (HasBecome D.Disk oldest stands.contents self.new
+            (with_referents state route (names.insert (state.referents route) referent.now.name.bytes referent.now.measure))) }
+    {
+        kept_change_gives_its_state::<D>();
+        referent_put_gives_its_state();
+        self.mark()?;
+        self.pager.begin()?;
+        let made = define_in_both(
+            alloc,
+            &mut self.pager,
+            &mut self.file,
+            &mut self.referents,
+            oldest,
+            referent,
+        );
+        settle(&mut self.pager, &mut self.file, made)
+    }
+
+    /// Moves a referent that its route has.
+    fn move_referent(
+        &mut self,
+        alloc: Global,
+        oldest: u64,
+        referent: &Referent,
+    ) -> Result<(), Refusal>
+        requires not_start { referent.now.name.bytes ≢ start_name }
+        requires name { AllByRecursion (λ byte. 0 < byte) referent.now.name.bytes }
+        requires there { has (referents_on self.old.referents referent.now.route) referent.now.name.bytes ≡ true }
+        requires number { referent.now.route + 1 < 2 ^ 32 }
+        requires room { self.old.file.accepted < CHANGES }
+        ensures leaves { LeavesStore D.Disk result self.old self.new }
+        ensures moves { (from : ℕ) (state : State) (stands : StandsIn D.Disk from self.old state) → from ≤ oldest → oldest ≤ self.old.file.accepted + 1
+            → (route : ListName) (on : RouteItem) → names.get self.old.catalog.routes route ≡ Some on → on.number ≡ referent.now.route
+            → has (state.referents route) referent.now.name.bytes ≡ true
+            → IsLawful (with_referents state route (names.insert (state.referents route) referent.now.name.bytes referent.now.measure))
+            → OnOk result (HasBecome D.Disk oldest stands.contents self.new
+            (with_referents state route (names.insert (state.referents route) referent.now.name.bytes referent.now.measure))) }
+    {
+        kept_change_gives_its_state::<D>();
+        referent_moved_gives_its_state();
+        self.mark()?;
+        self.pager.begin()?;
+        let made = rs_state_changes::move_referent(
+            alloc,
+            &mut self.pager,
+            &mut self.file,
+            oldest,
+            referent,
+        );
+        settle(&mut self.pager, &mut self.file, made)?;
+        self.referents
+            .put(referent.route, referent.name, referent.measure)
+            .unwrap();
+        Ok(())
+    }
+}
+
+/// Puts a new referent into memory and then into the file; where the file refuses it, it goes out of memory again.
+fn define_in_both<P: Pages>(
+    alloc: Global,
+    pages: &mut P,
+    file: &mut OpenedFile,
+    referents: &mut RouteReferents,
+    oldest: u64,
+    referent: &Referent,
+) -> Result<(), Refusal>
+    requires begun { (P.store pages.old).is_begun ≡ true }
+    requires may { MayChange file.old }
+    requires room { file.old.accepted < CHANGES }
+    requires not_start { referent.now.name.bytes ≢ start_name }
+    requires name { AllByRecursion (λ byte. 0 < byte) referent.now.name.bytes }
+    requires new { has (referents_on referents.old referent.now.route) referent.now.name.bytes ≡ false }
+    ensures leaves { LeavesFile P.Pages file.old result pages.old pages.new }
+    ensures puts { P.is_tied pages.old → OnOk result (ChangesFile oldest (P.store pages.old).map (P.store pages.new).map file.old file.new
+        (PutsReferent referent.now.route referent.now.name.bytes referent.now.measure)) }
+    ensures next { OnOk result (IsNext file.old.definitions file.old file.new) }
+    ensures keeps { OnErr result (KeepsCommitted file.old file.new) }
+    ensures held { OnOk result (referents_on referents.new ≡ at_number referent.now.route
+        (names.insert (referents_on referents.old referent.now.route) referent.now.name.bytes referent.now.measure) (referents_on referents.old)) }
+    ensures back { OnErr result ((route : ℕ) → referents_on referents.new route ≡ referents_on referents.old route) }
+{
+    changed_file_can_be_changed();
+    referents.put(referent.route, referent.name, referent.measure)?;
+    let made = rs_state_changes::define_referent(alloc, pages, file, oldest, referent);
+    if made.is_err() {
+        referents.remove(referent.route, &referent.name);
+    }
+    made
+}

@@ -1,0 +1,69 @@
+//! This module keeps a change that was made, or takes back one that was refused: its pages, and what is open.
+
+ghost use Rattle.std.specs.Prelude.{◌≡◌, ◌≤◌, ◌+◌, ℕ, Bool, true, false};
+ghost use Rattle.rs_catalog.specs.Definitions.{Definitions, Numbered};
+ghost use Rattle.rs_catalog.specs.Referents.{HeldReferents};
+ghost use Rattle.rs_contents.specs.Contents.{Contents};
+ghost use Rattle.rs_contents.specs.declared.opened.OpenedFile.{OpenedFile};
+ghost use Rattle.rs_machine.specs.Lawful.{AreViewsMeant};
+ghost use Rattle.rs_machine.specs.State.{State};
+ghost use Rattle.rs_pager.specs.Maps.{KeepsBelow, working};
+ghost use Rattle.rs_pager.specs.Paged.{Paged};
+ghost use Rattle.rs_state_laws.specs.Changing.{Completes, GivesState};
+ghost use Rattle.rs_store.specs.Changing.{HasBecome};
+ghost use Rattle.rs_store.specs.Kept.{StandsIn, StoreState};
+ghost use Rattle.rs_store.specs.Settling.{HasBegun, IsKept, Settles};
+
+use rs_contents::OpenedFile;
+use rs_disk::Disk;
+use rs_file_changes::{keep, take_back};
+use rs_pager::Pager;
+use rs_refusal::Refusal;
+use rs_standing::changes::meant_contents_stay_meant;
+use rs_standing::live::{
+    live_versions_see_the_same, live_versions_see_their_events, live_versions_see_their_referents,
+};
+use rs_standing::standing::contents_have_one_state;
+use rs_state_laws::completing::completed_change_has_its_state;
+
+/// Keeps the change in its pages and in what is open where it was made, and takes it back where it was refused. It hands on the answer.
+pub(crate) fn settle<D: Disk, T>(
+    pager: &mut Pager<D>,
+    file: &mut OpenedFile,
+    made: Result<T, Refusal>,
+) -> Result<T, Refusal>
+    requires begun { pager.old.is_begun ≡ true }
+    ensures same { result ≡ made }
+    ensures settles { Settles D.Disk made pager.old pager.new file.old file.new }
+    ensures shut { pager.new.is_begun ≡ false }
+{
+    match made {
+        Ok(answer) => {
+            pager.commit();
+            keep(file);
+            Ok(answer)
+        }
+        Err(refusal) => {
+            pager.abandon();
+            take_back(file);
+            Err(refusal)
+        }
+    }
+}
+
+/// Where the part of a change was completed in pages that were kept, and that gives a state, a store over these pages has become so.
+pub(crate) fn kept_change_gives_its_state<D: Disk>()
+    ensures { (old : StoreState D) (first between last : Paged D) (file changed settled : OpenedFile) (catalog now : Definitions) (referents held : Numbered HeldReferents) (is_marked : Bool)
+        → HasBegun D.Disk old (record { pager = first; file = file; catalog = catalog; referents = referents; is_marked = is_marked })
+        → KeepsBelow D.Disk first between → IsKept D.Disk between last changed settled
+        → (from oldest : ℕ) (state next : State) (stands : StandsIn D.Disk from old state) → from ≤ oldest → oldest ≤ old.file.accepted + 1
+        → (part : Contents) → Completes oldest stands.contents part (working D.Disk between) changed → GivesState oldest stands.contents part now held next → AreViewsMeant next
+        → HasBecome D.Disk oldest stands.contents (record { pager = last; file = settled; catalog = now; referents = held; is_marked = is_marked }) next }
+{
+    meant_contents_stay_meant();
+    contents_have_one_state();
+    live_versions_see_their_events();
+    live_versions_see_their_referents();
+    live_versions_see_the_same();
+    completed_change_has_its_state();
+}
