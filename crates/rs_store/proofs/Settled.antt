@@ -1,7 +1,8 @@
 -- A change that was made or refused, as a store has it once its pages are kept or taken back.
-use Rattle.std.proofs.Common.{◌≡◌, ◌≤◌, ◌+◌, ◌∙◌, ℕ, Bool, IsTrue, List, [], ◌∷◌, Result, Ok, Err, Some, true, ap, inl, inr, refl, subst, sym, arith}
+use Rattle.std.proofs.Common.{◌≡◌, ◌≤◌, ◌+◌, ◌∙◌, ℕ, Bool, IsTrue, List, [], ◌∷◌, Result, Ok, Err, Some, length, true, ap, inl, inr, refl, subst, sym, arith}
+use Rattle.std.proofs.lemmas.List.Sums.{sum_by-cons}
 use Rattle.std.specs.FinMap as names
-use Rattle.std.specs.List.{AllByRecursion, AllZip}
+use Rattle.std.specs.List.{AllByRecursion, AllZip, sum_by}
 use Rattle.std.specs.Prelude.{◌*◌, ◌<◌, ◌==◌, ◌^◌, OnErr, OnOk, filter}
 use Rattle.rs_attr.specs.Entries.{Field, IsColumn}
 use Rattle.rs_attr.specs.Tables.{IndexState}
@@ -20,7 +21,7 @@ use Rattle.rs_contents.proofs.Loaded.{same_map}
 use Rattle.rs_definitions.specs.Listing.{listing_of}
 use Rattle.rs_disk.specs.Content.{Content}
 use Rattle.rs_disk.specs.declared.disk.Disk as disk
-use Rattle.rs_file_changes.specs.Clearing.{ClearsAsMany, ClearsReferents, ClearsTable}
+use Rattle.rs_file_changes.specs.Clearing.{ClearsAsMany, ClearsReferents, ClearsTable, records_in}
 use Rattle.rs_file_changes.specs.Parts as parts
 use Rattle.rs_file_changes.specs.Parts.{HaveAllDiedBy, IsAsItWas, IsCommitted, IsReady, KeepsCommitted, SameOpened}
 use Rattle.rs_file_changes.proofs.AsItWas.{still_opened}
@@ -128,6 +129,17 @@ clears_table oldest was is other clears same = record {
   cleared = subst (λ (events : List Event). HasCleared (kept_events was.types) oldest clears.cells was.events events) same.events clears.cleared;
 }
 
+events_same : (xs ys : List TableContents) → AllZip SameTable xs ys → sum_by (λ (t : TableContents). length t.events) xs ≡ sum_by (λ (t : TableContents). length t.events) ys
+events_same [] [] all = refl
+events_same [] (y ∷ ys) all = absurd all
+events_same (x ∷ xs) [] all = absurd all
+events_same (x ∷ xs) (y ∷ ys) all =
+    let weigh : TableContents → ℕ = λ t. length t.events in
+    omega (arith, sum_by-cons weigh x xs, sum_by-cons weigh y ys, ap length all.0.events, events_same xs ys all.1)
+
+records_same : (one other : Contents) → SameContents one other → records_in one ≡ records_in other
+records_same one other same = omega (arith, events_same one.tables other.tables same.tables, ap length same.referents)
+
 clears_same : (oldest : ℕ) (old between one other : Contents) → SameContents one other → ClearsEnough oldest old between one → ClearsEnough oldest old between other
 clears_same oldest old between one other same clears = record {
   most = clears.most;
@@ -141,6 +153,7 @@ clears_same oldest old between one other same clears = record {
       tables = each_then (ClearsTable oldest) SameTable (ClearsTable oldest) (clears_table oldest) between.tables one.tables other.tables clears.cleared.parts.tables same.tables;
       referents = subst (λ (rs : List ReferentRecord). ClearsReferents oldest between.referents.referents rs) same.referents clears.cleared.parts.referents;
     };
+    many = omega (arith, clears.cleared.many, records_same one other same);
     as_many = clears.cleared.as_many;
   };
 }
