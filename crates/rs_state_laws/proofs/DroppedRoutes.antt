@@ -67,11 +67,11 @@ none_seen version number (e ∷ es) none = by_seen (sees_event version e) (none_
   ] refl none
   by_seen false later none = later (unseen (e.route == number) none)
 
-abbrev numbers_of : List TableItem → List ℕ
+abbrev pub numbers_of : List TableItem → List ℕ
 numbers_of = map (λ (table : TableItem). table.number)
 
 -- where no table has the number, there are no events under it
-none_with : (items : List TableItem) (tables : List TableContents) (number : ℕ) → times (numbers_of items) number ≤ 0 → events_with items tables number ≡ []
+pub none_with : (items : List TableItem) (tables : List TableContents) (number : ℕ) → times (numbers_of items) number ≤ 0 → events_with items tables number ≡ []
 none_with [] tables number none = refl
 none_with (i ∷ items) [] number none = refl
 none_with (i ∷ items) (t ∷ tables) number none =

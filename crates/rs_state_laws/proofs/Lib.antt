@@ -10,4 +10,7 @@ mod NewRoutes
 mod OffRoute
 mod OnRoutes
 mod OtherDefinitions
+mod OtherIndexes
+mod OtherTables
+mod TableEvents
 mod TableRows

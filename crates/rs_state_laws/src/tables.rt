@@ -19,6 +19,17 @@ ghost use Rattle.rs_state_laws.specs.Parts.{ChangesIndexes, PutsTable, TakesTabl
 ghost use Rattle.rs_state_laws.specs.Standing.{StandsAt};
 ghost use Rattle.rs_value.specs.declared.column.ColumnType.{ColumnType};
 
+use rs_definitions::listing_laws::{
+    definitions_of_a_file_list_its_items, listed_definitions_of_a_lawful_catalogue_are_meant,
+    one_table_is_listed_more_or_less,
+};
+use rs_standing::changes::{changed_definitions_leave_records_meant, meant_contents_stay_meant};
+use rs_standing::live::live_versions_see_the_same_beside_new_definitions;
+use rs_standing::standing::{contents_have_one_state, definitions_of_a_file_are_a_catalogues};
+use rs_standing::versions::{
+    next_version_begins_as_the_present_one, next_version_is_meant_as_the_present_one,
+};
+
 /// Where a table without events has come at the place where it is listed, the state has it beside the others.
 pub fn table_defined_gives_its_state()
     ensures { (from oldest : ℕ) (map : PageMap) (file : OpenedFile) (definitions : Definitions) (held : Numbered HeldReferents) (state : State)
@@ -29,7 +40,17 @@ pub fn table_defined_gives_its_state()
         → PutsTable place types (listing_of (catalog.with_table definitions name item)) stands.contents between
         → IsLawful (machine.with_table state name (machine.empty_table item.kind item.columns))
         → GivesState oldest stands.contents between (catalog.with_table definitions name item) held (machine.with_table state name (machine.empty_table item.kind item.columns)) }
-{}
+{
+    changed_definitions_leave_records_meant();
+    contents_have_one_state();
+    definitions_of_a_file_are_a_catalogues();
+    definitions_of_a_file_list_its_items();
+    listed_definitions_of_a_lawful_catalogue_are_meant();
+    live_versions_see_the_same_beside_new_definitions();
+    next_version_begins_as_the_present_one();
+    next_version_is_meant_as_the_present_one();
+    one_table_is_listed_more_or_less();
+}
 
 /// Where a table has gone with its indexes, the state has the others. No version before the next one is live.
 pub fn table_dropped_gives_its_state()
@@ -40,7 +61,17 @@ pub fn table_dropped_gives_its_state()
         → TakesTable place (listing_of (catalog.without_table definitions name)) stands.contents between
         → IsLawful (machine.without_table state name)
         → GivesState oldest stands.contents between (catalog.without_table definitions name) held (machine.without_table state name) }
-{}
+{
+    changed_definitions_leave_records_meant();
+    contents_have_one_state();
+    definitions_of_a_file_are_a_catalogues();
+    definitions_of_a_file_list_its_items();
+    listed_definitions_of_a_lawful_catalogue_are_meant();
+    live_versions_see_the_same_beside_new_definitions();
+    next_version_begins_as_the_present_one();
+    next_version_is_meant_as_the_present_one();
+    one_table_is_listed_more_or_less();
+}
 
 /// Where an index has come or gone, the state has it beside the others, or has the others.
 pub fn index_listed_gives_its_state()
@@ -57,4 +88,14 @@ pub fn index_listed_gives_its_state()
         → ChangesIndexes place (listing_of (catalog.without_index definitions name)) stands.contents between
         → IsLawful (machine.without_index state name)
         → GivesState oldest stands.contents between (catalog.without_index definitions name) held (machine.without_index state name) }
-{}
+{
+    changed_definitions_leave_records_meant();
+    contents_have_one_state();
+    definitions_of_a_file_are_a_catalogues();
+    definitions_of_a_file_list_its_items();
+    listed_definitions_of_a_lawful_catalogue_are_meant();
+    live_versions_see_the_same_beside_new_definitions();
+    meant_contents_stay_meant();
+    next_version_begins_as_the_present_one();
+    next_version_is_meant_as_the_present_one();
+}
