@@ -1,5 +1,5 @@
 -- A table or an index that comes or goes after records were cleared might have come or gone before.
-use Rattle.std.proofs.Common.{◌≡◌, ◌+◌, ℕ, List, [], ◌∷◌, ◌++◌, min, refl, sym, ap, ◌∙◌, subst, arith}
+use Rattle.std.proofs.Common.{◌≡◌, ◌+◌, ℕ, List, [], ◌∷◌, ◌++◌, length, min, refl, sym, ap, ◌∙◌, subst, arith}
 use Rattle.std.proofs.lemmas.List.Sums.{sum_by-append, sum_by-cons}
 use Rattle.std.proofs.lemmas.List.Sorted.{IsPermutation-refl}
 use Rattle.std.specs.List.{AllZip, sum_by}
@@ -19,10 +19,18 @@ use Rattle.rs_versioned.specs.Records.{HasCleared}
 abbrev pub weigh : ℕ → TableContents → ℕ
 weigh oldest table = clearable_events oldest table.events
 
+-- how many events it has
+abbrev pub events_in : TableContents → ℕ
+events_in table = length table.events
+
+pub split_by : (weight : TableContents → ℕ) (before : List TableContents) (table : TableContents) (after : List TableContents)
+    → sum_by weight (before ++ table ∷ after) ≡ weight table + sum_by weight (before ++ after)
+split_by weight before table after =
+    omega (arith, sum_by-append weight before (table ∷ after), sum_by-cons weight table after, sum_by-append weight before after)
+
 pub split_sum : (oldest : ℕ) (before : List TableContents) (table : TableContents) (after : List TableContents)
     → sum_by (weigh oldest) (before ++ table ∷ after) ≡ weigh oldest table + sum_by (weigh oldest) (before ++ after)
-split_sum oldest before table after =
-    omega (arith, sum_by-append (weigh oldest) before (table ∷ after), sum_by-cons (weigh oldest) table after, sum_by-append (weigh oldest) before after)
+split_sum oldest before table after = split_by (weigh oldest) before table after
 
 -- a changed table among the others
 pub changes_table_at : (columns : List ColumnType) (place : ℕ) (change : List Event → List Event → Type 0) (old now : Contents) → ChangesAt columns place change old now
@@ -70,6 +78,11 @@ module _ (oldest gone : ℕ) (definitions : CatalogueItems) (pages : List ℕ) (
       let zero : weigh oldest comes.table ≡ 0 = ap (clearable_events oldest) comes.no_events in
       let same : clearable oldest between ≡ clearable oldest old =
       omega (arith, zero, split_sum oldest at.first comes.table at.last, ap (sum_by (weigh oldest)) at.are) in
+      let all : sum_by events_in old.tables + length old.referents.referents ≡ (sum_by events_in whole.mid.tables + length whole.mid.referents.referents) + gone = clears.many in
+      let none : events_in comes.table ≡ 0 = ap length comes.no_events in
+      let many : sum_by events_in (at.first ++ comes.table ∷ at.last) + length old.referents.referents
+          ≡ (sum_by events_in (comes.before ++ comes.table ∷ comes.after) + length whole.mid.referents.referents) + gone =
+      omega (arith, none, all, split_by events_in at.first comes.table at.last, ap (sum_by events_in) at.are, ap (sum_by events_in) comes.were, split_by events_in comes.before comes.table comes.after) in
       record {
         between = between;
         gone = gone;
@@ -94,6 +107,7 @@ module _ (oldest gone : ℕ) (definitions : CatalogueItems) (pages : List ℕ) (
             tables = together R at.first comes.table at.last comes.before comes.table comes.after at.firsts (clears_none oldest comes.table comes.no_events) at.lasts;
             referents = clears.parts.referents;
           };
+          many = many;
           as_many = λ below. clears.as_many below ∙ ap (min 64) (sym same);
         });
       }
@@ -109,6 +123,12 @@ module _ (oldest gone : ℕ) (definitions : CatalogueItems) (pages : List ℕ) (
       let between : Contents = record old { definitions = definitions; pages = pages; tables = at.first ++ next ∷ at.last } in
       let same : clearable oldest between ≡ clearable oldest old =
       omega (arith, split_sum oldest at.first next at.last, split_sum oldest at.first at.one at.last, ap (sum_by (weigh oldest)) at.are) in
+      let all : sum_by events_in old.tables + length old.referents.referents ≡ (sum_by events_in whole.mid.tables + length whole.mid.referents.referents) + gone = clears.many in
+      let as_long : events_in change.next ≡ events_in change.table = ap length change.changed in
+      let many : sum_by events_in (at.first ++ next ∷ at.last) + length old.referents.referents
+          ≡ (sum_by events_in (change.before ++ change.next ∷ change.after) + length whole.mid.referents.referents) + gone =
+      omega (arith, as_long, all, split_by events_in at.first next at.last, split_by events_in at.first at.one at.last, ap (sum_by events_in) at.are,
+      ap (sum_by events_in) change.were, split_by events_in change.before change.table change.after, split_by events_in change.before change.next change.after) in
       let here : R next change.next = record {
         types = change.types ∙ at.goes.types;
         cells = at.goes.cells;
@@ -138,6 +158,7 @@ module _ (oldest gone : ℕ) (definitions : CatalogueItems) (pages : List ℕ) (
             tables = together R at.first next at.last change.before change.next change.after at.firsts here at.lasts;
             referents = clears.parts.referents;
           };
+          many = many;
           as_many = λ below. clears.as_many below ∙ ap (min 64) (sym same);
         });
       }

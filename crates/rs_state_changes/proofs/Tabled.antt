@@ -1,6 +1,6 @@
 -- A table without events comes to a file, or goes from it.
 use Rattle.std.proofs.Common.{◌≡◌, ◌<◌, ◌≤◌, ◌+◌, ℕ, List, [], ◌∷◌, ◌++◌, length, min, refl, sym, ap, ◌∙◌, subst, arith}
-use Rattle.std.specs.List.{AllByRecursion, AllZip, insert, remove}
+use Rattle.std.specs.List.{AllByRecursion, AllZip, insert, remove, sum_by}
 use Rattle.std.proofs.lemmas.List.Sorted.{length_permutation}
 use Rattle.rs_attr.specs.Tables.{HoldIndexes, IndexState, all_of}
 use Rattle.rs_attr.proofs.Placing.{all_of-cons}
@@ -20,7 +20,7 @@ use Rattle.rs_page_owners.specs.Counts.{no_pages}
 use Rattle.rs_pages.specs.PageMap.{PageMap}
 use Rattle.rs_state_changes.specs.Tables.{ComesTable}
 use Rattle.rs_state_changes.proofs.Among.{apart, beside_back, insert_between, joined, parted, remove_between}
-use Rattle.rs_state_changes.proofs.Commuting.{split_sum, weigh}
+use Rattle.rs_state_changes.proofs.Commuting.{events_in, split_by, split_sum, weigh}
 use Rattle.rs_state_changes.proofs.Indexed.{no_entries}
 use Rattle.rs_state_changes.proofs.Next.{Commutes}
 use Rattle.rs_state_laws.specs.Parts.{ChangesTableAt, TakesTable}
@@ -113,6 +113,7 @@ pub record GoesCleared (oldest gone place : ℕ) (old now : Contents) : Type 0 w
   pub firsts : AllZip (ClearsTable oldest) first before
   pub lasts : AllZip (ClearsTable oldest) last after
   pub referents : ClearsReferents oldest old.referents.referents now.referents.referents
+  pub many : sum_by events_in (first ++ last) + length old.referents.referents ≡ (sum_by events_in (before ++ after) + length now.referents.referents) + gone
   pub as_many : oldest < LIVING → gone ≡ min 64 (clearable oldest (record old { tables = first ++ last }))
 
 perm_none : {X : Type 0} (xs : List X) → length xs ≡ 0 → xs ≡ []
@@ -144,6 +145,10 @@ table_leaves oldest gone place old new was mid is version makes tables definitio
       let zero : weigh oldest e.next ≡ 0 = ap (clearable_events oldest) e.changed in
       let left : Contents = record contents { tables = e.before ++ e.after } in
       let same : clearable oldest (record contents { tables = e.before ++ e.next ∷ e.after }) ≡ clearable oldest left = omega (arith, zero, split_sum oldest e.before e.next e.after) in
+      let whole : sum_by events_in (e.before ++ e.next ∷ e.after) + length contents.referents.referents
+          ≡ (sum_by events_in made.contents.tables + length made.contents.referents.referents) + gone = all.many in
+      let empty : events_in e.next ≡ 0 = ap length e.changed in
+      let still : events_in at.one ≡ 0 = ap length none in
       record {
         contents = record made.contents { tables = at.first ++ at.last };
         holds = table_goes new version made.contents made.holds at.first at.last at.one at.are (eventless new version at.one none lies);
@@ -168,6 +173,7 @@ table_leaves oldest gone place old new was mid is version makes tables definitio
           firsts = at.firsts;
           lasts = at.lasts;
           referents = all.parts.referents;
+          many = omega (arith, whole, empty, still, split_by events_in e.before e.next e.after, split_by events_in at.first at.one at.last, ap (sum_by events_in) at.are);
           as_many = λ below. all.as_many below ∙ ap (min 64) same;
         };
       };
@@ -196,6 +202,7 @@ table_gone oldest gone definitions pages place old now goes = record {
       tables = subst (AllZip (ClearsTable oldest) (goes.first ++ goes.last)) (sym goes.are) (joined (ClearsTable oldest) goes.first goes.last goes.before goes.after goes.firsts goes.lasts);
       referents = goes.referents;
     };
+    many = omega (arith, goes.many, ap (sum_by events_in) goes.are);
     as_many = goes.as_many;
   };
 }
