@@ -81,7 +81,7 @@ module _ (oldest gone : ℕ) (definitions : CatalogueItems) (pages : List ℕ) (
       let all : sum_by events_in old.tables + length old.referents.referents ≡ (sum_by events_in whole.mid.tables + length whole.mid.referents.referents) + gone = clears.many in
       let none : events_in comes.table ≡ 0 = ap length comes.no_events in
       let many : sum_by events_in (at.first ++ comes.table ∷ at.last) + length old.referents.referents
-          ≡ (sum_by events_in (comes.before ++ comes.table ∷ comes.after) + length whole.mid.referents.referents) + gone =
+      ≡ (sum_by events_in (comes.before ++ comes.table ∷ comes.after) + length whole.mid.referents.referents) + gone =
       omega (arith, none, all, split_by events_in at.first comes.table at.last, ap (sum_by events_in) at.are, ap (sum_by events_in) comes.were, split_by events_in comes.before comes.table comes.after) in
       record {
         between = between;
@@ -126,9 +126,18 @@ module _ (oldest gone : ℕ) (definitions : CatalogueItems) (pages : List ℕ) (
       let all : sum_by events_in old.tables + length old.referents.referents ≡ (sum_by events_in whole.mid.tables + length whole.mid.referents.referents) + gone = clears.many in
       let as_long : events_in change.next ≡ events_in change.table = ap length change.changed in
       let many : sum_by events_in (at.first ++ next ∷ at.last) + length old.referents.referents
-          ≡ (sum_by events_in (change.before ++ change.next ∷ change.after) + length whole.mid.referents.referents) + gone =
-      omega (arith, as_long, all, split_by events_in at.first next at.last, split_by events_in at.first at.one at.last, ap (sum_by events_in) at.are,
-      ap (sum_by events_in) change.were, split_by events_in change.before change.table change.after, split_by events_in change.before change.next change.after) in
+      ≡ (sum_by events_in (change.before ++ change.next ∷ change.after) + length whole.mid.referents.referents) + gone =
+      omega (
+        arith,
+        as_long,
+        all,
+        split_by events_in at.first next at.last,
+        split_by events_in at.first at.one at.last,
+        ap (sum_by events_in) at.are,
+        ap (sum_by events_in) change.were,
+        split_by events_in change.before change.table change.after,
+        split_by events_in change.before change.next change.after,
+      ) in
       let here : R next change.next = record {
         types = change.types ∙ at.goes.types;
         cells = at.goes.cells;

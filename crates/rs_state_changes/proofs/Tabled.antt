@@ -146,7 +146,7 @@ table_leaves oldest gone place old new was mid is version makes tables definitio
       let left : Contents = record contents { tables = e.before ++ e.after } in
       let same : clearable oldest (record contents { tables = e.before ++ e.next ∷ e.after }) ≡ clearable oldest left = omega (arith, zero, split_sum oldest e.before e.next e.after) in
       let whole : sum_by events_in (e.before ++ e.next ∷ e.after) + length contents.referents.referents
-          ≡ (sum_by events_in made.contents.tables + length made.contents.referents.referents) + gone = all.many in
+      ≡ (sum_by events_in made.contents.tables + length made.contents.referents.referents) + gone = all.many in
       let empty : events_in e.next ≡ 0 = ap length e.changed in
       let still : events_in at.one ≡ 0 = ap length none in
       record {
