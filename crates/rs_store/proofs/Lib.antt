@@ -3,6 +3,7 @@ pub mod Brought
 pub mod Files
 pub mod Keeping
 pub mod Loaded
+pub mod Numbered
 pub mod OneState
 pub mod Placed
 pub mod Referred
@@ -10,3 +11,4 @@ pub mod Results
 pub mod Rows
 pub mod Same
 pub mod Settled
+pub mod TableReads

@@ -4,4 +4,5 @@ pub mod Kept
 pub mod Loading
 pub mod Making
 pub mod Placing
+pub mod Reading
 pub mod Settling

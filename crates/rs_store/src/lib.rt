@@ -9,6 +9,7 @@ mod loading;
 mod marking;
 mod opening;
 mod placing;
+mod reading;
 mod referring;
 mod settling;
 pub mod store;

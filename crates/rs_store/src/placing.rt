@@ -24,7 +24,7 @@ pub(crate) fn table_place(file: &OpenedFile, catalog: &Catalog, table: &Name) ->
 }
 
 /// The place of the table of this number.
-fn numbered_at(tables: &[StoredTable], number: u32) -> Option<usize>
+pub(crate) fn numbered_at(tables: &[StoredTable], number: u32) -> Option<usize>
     ensures found { IfSome result (IsNumberedAt tables.now number) }
     ensures none { IfNone result (HasNoNumber tables.now number) }
 {

@@ -1,0 +1,46 @@
+-- The spans of the table with the number, as they lie in the pages that the store keeps.
+use Rattle.std.proofs.Common.{◌∙◌, List, ap, map, sym, subst}
+use Rattle.rs_event_reads.specs.Read.{spans_within}
+use Rattle.rs_facts.specs.Spans.{seen}
+use Rattle.rs_facts.specs.declared.fact.Span.{Span}
+use Rattle.rs_pager.specs.Maps.{working}
+use Rattle.rs_standing.specs.Seen.{events_of}
+use Rattle.rs_store.specs.Kept.{Keeps, StoreState}
+use Rattle.rs_store.specs.Reading.{ReadsStore}
+use Rattle.rs_store.proofs.Keeping.{store_over}
+use Rattle.rs_store.proofs.TableReads.{events_open, no_events, not_no_events, reads_by_reading, spans_open}
+use Rattle.rs_store.proofs.store.Store.spans.Goals as goal
+
+pub returns-in-Some-clause-reads : goal.returns-in-Some-clause-reads
+returns-in-Some-clause-reads g c =
+    let d = g.D.Disk in
+    let was = c.self.inside in
+    subst (λ (s : StoreState g.row.D.Denot). ReadsStore d s (store_over d c.spans.new.pages was.file was.catalog was.referents was.is_marked)) c.self.view_is
+    (reads_by_reading d c.spans.result was.pager c.spans.new.pages was.file was.catalog was.referents was.is_marked c.spans.ensures.refused c.spans.ensures.rests)
+
+pub returns-in-Some-clause-gives : goal.returns-in-Some-clause-gives
+returns-in-Some-clause-gives g c = λ contents keeps.
+    let d = g.D.Disk in
+    let was = c.self.inside in
+    let over = store_over d was.pager was.file was.catalog was.referents was.is_marked in
+    let kept = subst (λ (s : StoreState g.row.D.Denot). Keeps d s contents) (sym c.self.view_is) keeps in
+    spans_open c.args.kind c.args.version c.args.route c.args.from c.args.to (working d was.pager) c.in-Some.opened.now (events_of contents c.args.table)
+    (events_open d over contents kept c.args.table c.in-Some.opened.now c.in-Some.ensures.found) c.spans.result (c.spans.ensures.gives kept.tied)
+
+pub returns-in-Some-clause-sound : goal.returns-in-Some-clause-sound
+returns-in-Some-clause-sound g c = λ contents keeps damaged.
+    let d = g.D.Disk in
+    let was = c.self.inside in
+    let over = store_over d was.pager was.file was.catalog was.referents was.is_marked in
+    let kept = subst (λ (s : StoreState g.row.D.Denot). Keeps d s contents) (sym c.self.view_is) keeps in
+    not_no_events (working d was.pager) c.in-Some.opened.now (events_of contents c.args.table)
+    (events_open d over contents kept c.args.table c.in-Some.opened.now c.in-Some.ensures.found) (c.spans.ensures.damaged kept.tied damaged)
+
+pub returns-in-None-clause-gives : goal.returns-in-None-clause-gives
+returns-in-None-clause-gives g c = λ contents keeps.
+    let d = g.D.Disk in
+    let was = c.self.inside in
+    let over = store_over d was.pager was.file was.catalog was.referents was.is_marked in
+    let kept = subst (λ (s : StoreState g.row.D.Denot). Keeps d s contents) (sym c.self.view_is) keeps in
+    ap (λ (spans : List Span). map seen spans) c.new.ensures.items
+    ∙ ap (spans_within c.args.kind c.args.version c.args.route c.args.from c.args.to) (sym (no_events d over contents kept c.args.table c.in-None.ensures.none))
