@@ -232,6 +232,7 @@ module _ {D : Type 0} (d : disk.Ghosts D) where
       → d.failures new.pager.disk ≡ counted_on (d.failures old.pager.disk) → LeavesStore d {T = T} (Err why) old new
   left_unbegun why old new keeps is_disk counted = record {
     stays = keeps.contents;
+    cause = inr (inl is_disk);
     sound = λ from state stands is. let e : why ≡ refusal.DamagedFile = cc in absurd (cc (e, is_disk));
     catalog = keeps.catalog;
     referents = λ route. ap (λ (held : Numbered HeldReferents). referents_on held route) keeps.referents;
@@ -286,6 +287,12 @@ module _ {D : Type 0} (d : disk.Ghosts D) where
         let fewer : first.full_refusals ≤ between.full_refusals = stores.counts.full_refusals in
         record {
           stays = λ contents kept. keeps_taken_back contents now held kept keeps whole back same alike;
+          cause = elim stores.ends.cause [
+            | inl m ↦ inl m
+            | inr (inl m) ↦ inr (inl m)
+            | inr (inr (inl m)) ↦ inr (inr (inl m.0))
+            | inr (inr (inr m)) ↦ inr (inr (inr m.0))
+          ];
           sound = λ from state stands is.
               let e : why ≡ refusal.DamagedFile = cc in
               elim stores.ends.cause [
@@ -322,6 +329,7 @@ module _ {D : Type 0} (d : disk.Ghosts D) where
         → changed.accepted ≡ file.accepted + 1 → IsKept d between last changed settled → LeavesStore d {T = T} (Ok answer) old (after now held)
     left_made answer now held stores next kept = record {
       stays = λ contents keeps. tt;
+      cause = tt;
       sound = λ from state stands is. absurd cc;
       catalog = tt;
       referents = tt;

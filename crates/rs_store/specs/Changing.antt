@@ -1,5 +1,5 @@
 -- What a change makes of a store: the state of the next version, in which live versions see what they saw.
-use Rattle.std.specs.Prelude.{◌≡◌, ◌≢◌, ◌≤◌, ◌+◌, ℕ, Err, Result, MatchResult, OnErr, OnOk, Some}
+use Rattle.std.specs.Prelude.{◌≡◌, ◌≢◌, ◌≤◌, ◌+◌, ℕ, Err, Result, MatchResult, OnErr, OnOk, Some, IfErr, ◌⊎◌}
 use Rattle.std.specs.FinMap as names
 use Rattle.rs_catalog.specs.Definitions.{Definitions, RouteItem, TableItem}
 use Rattle.rs_catalog.specs.Events.{behind}
@@ -36,6 +36,10 @@ pub record LiesOn (definitions : Definitions) (name route : Name) (span : Stretc
   pub from : on.ends.start ≤ span.lo
   pub upto : span.hi ≤ behind table.kind on.ends
 
+-- why a change is refused
+abbrev pub WantsChanging : Refusal → Type 0
+WantsChanging why = (why ≡ refusal.OutOfMemory) ⊎ (why ≡ refusal.Disk) ⊎ (why ≡ refusal.FileFull) ⊎ (why ≡ refusal.DamagedFile)
+
 module _ {D : Type 0} (d : disk.Ghosts D) where
   -- the store stands in the state of the next version; versions from the oldest on see what they saw, and of the records that none of
   -- them sees enough are gone
@@ -46,7 +50,7 @@ module _ {D : Type 0} (d : disk.Ghosts D) where
     pub next : stands.contents.directory.accepted ≡ old.directory.accepted + 1
     pub live : KeepsLive oldest old stands.contents
 
-  -- a change counts a full file where it is refused with 92, and nowhere else
+  -- where a change is refused with 92 the refusals of a full file have risen, by one; they never fall
   pub record CountsFull (why : Refusal) (old new : ℕ) : Type 0 where
     pub full : why ≡ refusal.FileFull → new ≡ counted_on old
     pub other : why ≢ refusal.FileFull → old ≤ new
@@ -55,6 +59,7 @@ module _ {D : Type 0} (d : disk.Ghosts D) where
   -- where the disk's failures rose, by one; 92 only where the full refusals rose; 94 never where the store stands in a state
   pub record LeavesStore {T : Type 0} (result : Result T Refusal) (old new : StoreState D) : Type 0 where
     pub stays : (contents : Contents) → Keeps d old contents → OnErr result (Keeps d new contents)
+    pub cause : IfErr result WantsChanging
     pub sound : (from : ℕ) (state : State) → StandsIn d from old state → result ≢ Err refusal.DamagedFile
     pub catalog : OnErr result (new.catalog ≡ old.catalog)
     pub referents : OnErr result ((route : ℕ) → referents_on new.referents route ≡ referents_on old.referents route)
