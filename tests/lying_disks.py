@@ -32,7 +32,7 @@ def made(program, folder):
     """What is wrong with a file that was made, or None."""
     path = os.path.join(folder, "made")
     out = answered(program, ["create %s 10\n" % path, "create %s 10\n" % path, "open %s 10\n" % path])
-    wanted = [b"OK", b"held 0 0", b"garbage 0 definitions 0", b"ERR 0"]
+    wanted = [b"OK", b"held 0 0", b"garbage 0 routes 0 tables 0", b"ERR 0"]
     with open(path, "rb") as file:
         data = file.read()
     if data != bytes(written(SOUND["empty"]()).data):
