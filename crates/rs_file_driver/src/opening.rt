@@ -126,11 +126,11 @@ fn push_created<D: Disk + Drop>(
     store.reopen(alloc)?;
     let (changed, clean) = store.held();
     let listed = stored_of(alloc, store.catalog())?;
-    let definitions = listed.routes.len() + listed.tables.len() + listed.views.len();
+    let (routes, tables) = (listed.routes.len(), listed.tables.len());
     writeln!(said, "OK\nheld {changed} {clean}")?;
     writeln!(
         said,
-        "garbage {} definitions {definitions}",
+        "garbage {} routes {routes} tables {tables}",
         store.garbage()
     )?;
     match store.close() {
