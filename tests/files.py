@@ -7,8 +7,7 @@ The driver (crates/rs_file_driver) opens each file through the store and says it
 (slow_file.py) does so from the bytes alone. Three groups of files are compared: those written by hand (whole_files.py),
 of which it is known what is wanted; the closed file of a row that was inserted four times, with each byte changed in
 turn, to all 255 other values where a field is, and to one other value elsewhere; and pseudo-random ones
-(random_files.py), as many as there are turns. A file is made too, and one is read from a disk that gives another byte at a
-later reading (lying_disks.py). After a file was opened and closed, or refused, its bytes have to be what
+(random_files.py), as many as there are turns. After a file was opened and closed, or refused, its bytes have to be what
 they were. It prints what differs, for each group how many files were OK, 94 and 95, and how many differ, and at last
 `N passed, M failed`. `--turns 200000 --turns-alone` is the long run.
 """
@@ -24,7 +23,6 @@ from itertools import islice
 from multiprocessing import Pool
 from typing import NamedTuple
 
-import lying_disks
 from file_writer import written
 from random_files import RandomFile
 from slow_file import answer_of
@@ -102,11 +100,6 @@ def answers_of(program, folder, cases):
     return cut(done.stdout), [bytes_at(path) for path in paths]
 
 
-def shared_memory():
-    """The folder of files in memory, where there is one."""
-    return SHARED_MEMORY if os.path.isdir(SHARED_MEMORY) else None
-
-
 def bytes_at(path):
     with open(path, "rb") as file:
         return file.read()
@@ -129,7 +122,8 @@ class Compared(NamedTuple):
 
 def compare(program, cases):
     """Compares the answers to some files."""
-    with tempfile.TemporaryDirectory(prefix="roadseg-files-", dir=shared_memory()) as folder:
+    folder = SHARED_MEMORY if os.path.isdir(SHARED_MEMORY) else None
+    with tempfile.TemporaryDirectory(prefix="roadseg-files-", dir=folder) as folder:
         answers, afterwards = answers_of(program, folder, cases)
     if len(answers) != len(cases):
         raise RuntimeError("the driver answered %d of %d files" % (len(answers), len(cases)))
@@ -201,7 +195,6 @@ def main():
             these = partial(compare, chosen.program)
             results.append(report("written by hand", pool.imap(these, batches_of(written_cases()))))
             results.append(report("each byte changed", pool.imap(these, batches_of(byte_cases()))))
-            results.append(lying_disks.check(chosen.program, shared_memory()))
         these = partial(compare_turns, chosen.program, chosen.seed)
         results.append(report("pseudo-random, seed %d" % chosen.seed, pool.imap(these, batches_of(turns))))
     passed, failed = (sum(numbers) for numbers in zip(*results))

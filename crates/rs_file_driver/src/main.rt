@@ -1,16 +1,11 @@
 //! Opens the files that its input names, and says which state of the machine each stands for.
 //!
 //! A line is `open PATH LIMIT`, the greatest number of pages last. It is answered with `OK` and the state, a line for each thing
-//! as `tests/slow_file.py` prints it, or with `ERR` and the number of a refusal. A file that is answered OK is closed again.
-//!
-//! `create PATH LIMIT` makes a file where none is, saves it and reads it anew, and says what is held of it. `lie PATH LIMIT AT BYTE
-//! READINGS` opens a file and reads it anew over a disk that gives another byte at one place, once the place has been read so often,
-//! and says both answers and the definitions that are in memory then. Any other line, and a file that is not there, is answered
-//! `ERR 0`.
+//! as `tests/slow_file.py` prints it, or with `ERR` and the number of a refusal. A file that is answered OK is closed again. Any
+//! other line, and a file that is not there, is answered `ERR 0`.
 #![tactic(auto)]
 
 mod definitions;
-mod lying;
 mod opening;
 mod records;
 
