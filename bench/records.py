@@ -50,8 +50,8 @@ def command_of(program, is_proved):
     """What runs the program, up to its argument. It is built before that."""
     if not is_proved:
         return ["rt", "try", "--steps", "1", "--seconds", "1200", "--"]
-    status, output = output_of(["rt", "run", "--", "1000"], program)
-    if status != 0 or not fields_of(output, 1000):
+    status, output = output_of(["rt", "run", "--", "1200"], program)
+    if status != 0 or not fields_of(output, 1200):
         sys.exit("%s\nthe program could not be built" % "\n".join(output.split("\n")[-40:]))
     return [os.path.join(program, "out", PROGRAM)]
 
