@@ -228,12 +228,12 @@ module _ {D : Type 0} (d : disk.Ghosts D) where
   }
 
   -- no change was begun, since the disk failed
-  pub left_unbegun : {T : Type 0} (why : Refusal) (old new : StoreState D) → KeepsStore d old new → why ≡ refusal.Disk
-      → d.failures new.pager.disk ≡ counted_on (d.failures old.pager.disk) → LeavesStore d {T = T} (Err why) old new
+  pub left_unbegun : {may : State → Type 0} {T : Type 0} (why : Refusal) (old new : StoreState D) → KeepsStore d old new → why ≡ refusal.Disk
+      → d.failures new.pager.disk ≡ counted_on (d.failures old.pager.disk) → LeavesStore d may {T = T} (Err why) old new
   left_unbegun why old new keeps is_disk counted = record {
     stays = keeps.contents;
     cause = inr (inl is_disk);
-    sound = λ from state stands is. let e : why ≡ refusal.DamagedFile = cc in absurd (cc (e, is_disk));
+    sound = λ from state stands allowed is. let e : why ≡ refusal.DamagedFile = cc in absurd (cc (e, is_disk));
     catalog = keeps.catalog;
     referents = λ route. ap (λ (held : Numbered HeldReferents). referents_on held route) keeps.referents;
     accepted = ap (λ (file : OpenedFile). file.accepted) keeps.file;
@@ -278,10 +278,10 @@ module _ {D : Type 0} (d : disk.Ghosts D) where
         }
 
     -- A refused change leaves the store as it was, where the same is in memory.
-    pub left_refused : {T : Type 0} (why : Refusal) (now : Definitions) (held : Numbered HeldReferents)
+    pub left_refused : {may : State → Type 0} {T : Type 0} (why : Refusal) (now : Definitions) (held : Numbered HeldReferents)
         → StoresAfter {T = T} (IsTied d first → HoldsNoFile (working d first) file) (Err why) (pager_store d first) (pager_store d between)
         → KeepsCommitted file changed → IsCommitted file → IsTakenBack d between last changed settled
-        → now ≡ catalog → ((route : ℕ) → referents_on held route ≡ referents_on referents route) → LeavesStore d {T = T} (Err why) old (after now held)
+        → now ≡ catalog → ((route : ℕ) → referents_on held route ≡ referents_on referents route) → LeavesStore d may {T = T} (Err why) old (after now held)
     left_refused why now held stores keeps whole back same alike =
         let restored = back.file.back file whole keeps in
         let fewer : first.full_refusals ≤ between.full_refusals = stores.counts.full_refusals in
@@ -293,7 +293,7 @@ module _ {D : Type 0} (d : disk.Ghosts D) where
             | inr (inr (inl m)) ↦ inr (inr (inl m.0))
             | inr (inr (inr m)) ↦ inr (inr (inr m.0))
           ];
-          sound = λ from state stands is.
+          sound = λ from state stands allowed is.
               let e : why ≡ refusal.DamagedFile = cc in
               elim stores.ends.cause [
                 | inl m ↦ absurd (cc (e, m))
@@ -324,13 +324,13 @@ module _ {D : Type 0} (d : disk.Ghosts D) where
         }
 
     -- a change that was made counts one version more, and no refusal
-    pub left_made : {T : Type 0} (answer : T) (now : Definitions) (held : Numbered HeldReferents)
+    pub left_made : {may : State → Type 0} {T : Type 0} (answer : T) (now : Definitions) (held : Numbered HeldReferents)
         → StoresAfter {T = T} (IsTied d first → HoldsNoFile (working d first) file) (Ok answer) (pager_store d first) (pager_store d between)
-        → changed.accepted ≡ file.accepted + 1 → IsKept d between last changed settled → LeavesStore d {T = T} (Ok answer) old (after now held)
+        → changed.accepted ≡ file.accepted + 1 → IsKept d between last changed settled → LeavesStore d may {T = T} (Ok answer) old (after now held)
     left_made answer now held stores next kept = record {
       stays = λ contents keeps. tt;
       cause = tt;
-      sound = λ from state stands is. absurd cc;
+      sound = λ from state stands allowed is. absurd cc;
       catalog = tt;
       referents = tt;
       accepted = kept.file.accepted ∙ next ∙ ap (λ (f : OpenedFile). f.accepted + 1) begun.keeps.file;
@@ -341,10 +341,10 @@ module _ {D : Type 0} (d : disk.Ghosts D) where
     }
 
     -- what a change leaves, made or refused
-    pub left_settled : {T : Type 0} (result : Result T Refusal) (definitions : StoredCatalogue) (now : Definitions) (held : Numbered HeldReferents)
+    pub left_settled : {may : State → Type 0} {T : Type 0} (result : Result T Refusal) (definitions : StoredCatalogue) (now : Definitions) (held : Numbered HeldReferents)
         → StoresAfter {T = T} (IsTied d first → HoldsNoFile (working d first) file) result (pager_store d first) (pager_store d between)
         → OnOk result (IsNext definitions file changed) → OnErr result (KeepsCommitted file changed) → IsCommitted file → Settles d result between last changed settled
-        → OnErr result (now ≡ catalog) → OnErr result ((route : ℕ) → referents_on held route ≡ referents_on referents route) → LeavesStore d result old (after now held)
+        → OnErr result (now ≡ catalog) → OnErr result ((route : ℕ) → referents_on held route ≡ referents_on referents route) → LeavesStore d may result old (after now held)
     left_settled (Ok answer) definitions now held stores next keeps whole settles same alike = left_made answer now held stores next.accepted settles
     left_settled (Err why) definitions now held stores next keeps whole settles same alike = left_refused why now held stores keeps whole settles same alike
 

@@ -36,6 +36,10 @@ pub record LiesOn (definitions : Definitions) (name route : Name) (span : Stretc
   pub from : on.ends.start ≤ span.lo
   pub upto : span.hi ≤ behind table.kind on.ends
 
+-- a change that any state allows
+abbrev pub Always : State → Type 0
+Always state = Unit {0}
+
 -- why a change is refused
 abbrev pub WantsChanging : Refusal → Type 0
 WantsChanging why = (why ≡ refusal.OutOfMemory) ⊎ (why ≡ refusal.Disk) ⊎ (why ≡ refusal.FileFull) ⊎ (why ≡ refusal.DamagedFile)
@@ -55,12 +59,13 @@ module _ {D : Type 0} (d : disk.Ghosts D) where
     pub full : why ≡ refusal.FileFull → new ≡ counted_on old
     pub other : why ≢ refusal.FileFull → old ≤ new
 
-  -- what a change leaves, whatever it is: after a refusal the store keeps what it kept, and the same is in memory. 91 comes exactly
-  -- where the disk's failures rose, by one; 92 only where the full refusals rose; 94 never where the store stands in a state
-  pub record LeavesStore {T : Type 0} (result : Result T Refusal) (old new : StoreState D) : Type 0 where
+  -- What a change leaves, whatever it is: after a refusal the store keeps what it kept, and the same is in memory. 91 comes exactly
+  -- where the disk's failures rose, by one; 92 only where the full refusals rose; 94 never where the store stands in a state that may
+  -- change so.
+  pub record LeavesStore (may : State → Type 0) {T : Type 0} (result : Result T Refusal) (old new : StoreState D) : Type 0 where
     pub stays : (contents : Contents) → Keeps d old contents → OnErr result (Keeps d new contents)
     pub cause : IfErr result WantsChanging
-    pub sound : (from : ℕ) (state : State) → StandsIn d from old state → result ≢ Err refusal.DamagedFile
+    pub sound : (from : ℕ) (state : State) → StandsIn d from old state → may state → result ≢ Err refusal.DamagedFile
     pub catalog : OnErr result (new.catalog ≡ old.catalog)
     pub referents : OnErr result ((route : ℕ) → referents_on new.referents route ≡ referents_on old.referents route)
     pub accepted : MatchResult result (λ _. new.file.accepted ≡ old.file.accepted + 1) (λ _. new.file.accepted ≡ old.file.accepted)

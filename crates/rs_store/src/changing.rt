@@ -12,7 +12,7 @@ ghost use Rattle.rs_machine.specs.Lawful.{IsLawful};
 ghost use Rattle.rs_machine.specs.State.{State, has};
 ghost use Rattle.rs_machine.specs.Step.{with_facts_along, with_table, without_facts};
 ghost use Rattle.rs_machine.specs.declared.limits.TheConstants.{CHANGES};
-ghost use Rattle.rs_store.specs.Changing.{HasBecome, IsRowFor, LeavesStore, LiesOn};
+ghost use Rattle.rs_store.specs.Changing.{Always, HasBecome, IsRowFor, LeavesStore, LiesOn};
 ghost use Rattle.rs_store.specs.Kept.{IsAtRest, StandsIn};
 ghost use Rattle.rs_store.specs.Placing.{IsPlaceOf};
 
@@ -44,7 +44,7 @@ impl<D: Disk> Store<D> {
         requires row { IsRowFor self.old.catalog table.now.bytes (seen span) }
         requires lies { LiesOn self.old.catalog table.now.bytes route.now.bytes (seen span) }
         requires room { self.old.file.accepted < CHANGES }
-        ensures leaves { LeavesStore D.Disk result self.old self.new }
+        ensures leaves { LeavesStore D.Disk Always result self.old self.new }
         ensures inserts { (from : ℕ) (state : State) (stands : StandsIn D.Disk from self.old state) → from ≤ oldest → oldest ≤ self.old.file.accepted + 1
             → (there : Table) → names.get state.tables table.now.bytes ≡ Some there
             → IsLawful (with_table state table.now.bytes (with_facts_along there route.now.bytes span.lo span.hi (seen span).row))
@@ -81,7 +81,7 @@ impl<D: Disk> Store<D> {
         requires table { has self.old.catalog.tables table.now.bytes ≡ true }
         requires route { has self.old.catalog.routes route.now.bytes ≡ true }
         requires room { self.old.file.accepted < CHANGES }
-        ensures leaves { LeavesStore D.Disk result self.old self.new }
+        ensures leaves { LeavesStore D.Disk Always result self.old self.new }
         ensures removes { (from : ℕ) (state : State) (stands : StandsIn D.Disk from self.old state) → from ≤ oldest → oldest ≤ self.old.file.accepted + 1
             → (there : Table) → names.get state.tables table.now.bytes ≡ Some there
             → IsLawful (with_table state table.now.bytes (without_facts there route.now.bytes lo hi (goes_by goes)))

@@ -15,7 +15,7 @@ ghost use Rattle.rs_methods.specs.Position.{start_name};
 ghost use Rattle.rs_state_changes.specs.Calls.{IsNext, LeavesFile, MayChange};
 ghost use Rattle.rs_state_laws.specs.Changing.{ChangesFile};
 ghost use Rattle.rs_state_laws.specs.Parts.{PutsReferent};
-ghost use Rattle.rs_store.specs.Changing.{HasBecome, LeavesStore};
+ghost use Rattle.rs_store.specs.Changing.{Always, HasBecome, LeavesStore};
 ghost use Rattle.rs_store.specs.Kept.{StandsIn};
 
 use crate::laws::store_stands_in_one_state;
@@ -46,7 +46,7 @@ impl<D: Disk> Store<D> {
     ) -> Result<(), Refusal>
         requires route { has self.old.catalog.routes route.now.bytes ≡ true }
         requires room { self.old.file.accepted < CHANGES }
-        ensures leaves { LeavesStore D.Disk result self.old self.new }
+        ensures leaves { LeavesStore D.Disk Always result self.old self.new }
         ensures drops { (from : ℕ) (state : State) (stands : StandsIn D.Disk from self.old state) → from ≤ oldest → oldest ≤ self.old.file.accepted + 1
             → has (state.referents route.now.bytes) name.now.bytes ≡ true
             → IsLawful (with_referents state route.now.bytes (names.remove (state.referents route.now.bytes) name.now.bytes))
@@ -84,7 +84,7 @@ impl<D: Disk> Store<D> {
         requires not_start { name.bytes ≢ start_name }
         requires name { AllByRecursion (λ byte. 0 < byte) name.bytes }
         requires room { self.old.file.accepted < CHANGES }
-        ensures leaves { LeavesStore D.Disk result self.old self.new }
+        ensures leaves { LeavesStore D.Disk Always result self.old self.new }
         ensures puts { (from : ℕ) (state : State) (stands : StandsIn D.Disk from self.old state) → from ≤ oldest → oldest ≤ self.old.file.accepted + 1
             → IsLawful (with_referents state route.now.bytes (names.insert (state.referents route.now.bytes) name.bytes measure))
             → OnOk result (HasBecome D.Disk oldest stands.contents self.new
@@ -116,7 +116,7 @@ impl<D: Disk> Store<D> {
         requires name { AllByRecursion (λ byte. 0 < byte) referent.now.name.bytes }
         requires new { has (referents_on self.old.referents referent.now.route) referent.now.name.bytes ≡ false }
         requires room { self.old.file.accepted < CHANGES }
-        ensures leaves { LeavesStore D.Disk result self.old self.new }
+        ensures leaves { LeavesStore D.Disk Always result self.old self.new }
         ensures puts { (from : ℕ) (state : State) (stands : StandsIn D.Disk from self.old state) → from ≤ oldest → oldest ≤ self.old.file.accepted + 1
             → (route : ListName) (on : RouteItem) → names.get self.old.catalog.routes route ≡ Some on → on.number ≡ referent.now.route
             → has (state.referents route) referent.now.name.bytes ≡ false
@@ -151,7 +151,7 @@ impl<D: Disk> Store<D> {
         requires there { has (referents_on self.old.referents referent.now.route) referent.now.name.bytes ≡ true }
         requires number { referent.now.route + 1 < 2 ^ 32 }
         requires room { self.old.file.accepted < CHANGES }
-        ensures leaves { LeavesStore D.Disk result self.old self.new }
+        ensures leaves { LeavesStore D.Disk Always result self.old self.new }
         ensures moves { (from : ℕ) (state : State) (stands : StandsIn D.Disk from self.old state) → from ≤ oldest → oldest ≤ self.old.file.accepted + 1
             → (route : ListName) (on : RouteItem) → names.get self.old.catalog.routes route ≡ Some on → on.number ≡ referent.now.route
             → has (state.referents route) referent.now.name.bytes ≡ true

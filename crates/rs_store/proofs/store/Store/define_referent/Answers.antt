@@ -13,7 +13,7 @@ use Rattle.rs_refusal.specs.declared.refusal.Refusal.{Refusal}
 use Rattle.rs_state_laws.specs.Changing.{ChangesFile}
 use Rattle.rs_state_laws.specs.Parts.{PutsReferent}
 use Rattle.rs_store.specs.Calls.{KeepsStore}
-use Rattle.rs_store.specs.Changing.{HasBecome, LeavesStore}
+use Rattle.rs_store.specs.Changing.{Always, HasBecome, LeavesStore}
 use Rattle.rs_store.specs.Kept.{StoreState}
 use Rattle.rs_store.proofs.Keeping.{store_over}
 use Rattle.rs_store.proofs.Results.{err_always}
@@ -57,7 +57,7 @@ returns-clause-leaves g c =
     let failed : d.failures was.pager.disk ≡ d.failures old.pager.disk =
     ap (λ (s : StoreState g.row.D.Denot). d.failures s.pager.disk) c.self.view_is ∙ c.in_ok-mark.ensures.count in
     let begun = begins d old was.pager first was.file was.catalog was.referents was.is_marked kept c.begin.ensures.keeps c.begin.ensures.masked failed c.in_ok-begin.ensures.count in
-    subst (λ (r : Result (Unit {0}) Refusal). LeavesStore d r old (store_over d last c.settle.new.file was.catalog c.define_in_both-made.new.referents was.is_marked)) (sym c.settle.ensures.same)
+    subst (λ (r : Result (Unit {0}) Refusal). LeavesStore d Always r old (store_over d last c.settle.new.file was.catalog c.define_in_both-made.new.referents was.is_marked)) (sym c.settle.ensures.same)
     (left_settled d old first c.define_in_both-made.new.pages last was.file c.define_in_both-made.new.file c.settle.new.file was.catalog was.referents was.is_marked begun c.define_in_both-made.ensures.leaves.keeps
     result was.file.definitions was.catalog c.define_in_both-made.new.referents c.define_in_both-made.ensures.leaves.stores c.define_in_both-made.ensures.next c.define_in_both-made.ensures.keeps c.self.invariant.rests.committed
     c.settle.ensures.settles (err_always result refl) c.define_in_both-made.ensures.back)

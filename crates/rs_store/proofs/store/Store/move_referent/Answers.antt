@@ -14,7 +14,7 @@ use Rattle.rs_refusal.specs.declared.refusal.Refusal.{Refusal}
 use Rattle.rs_state_laws.specs.Changing.{ChangesFile}
 use Rattle.rs_state_laws.specs.Parts.{MovesReferent}
 use Rattle.rs_store.specs.Calls.{KeepsStore}
-use Rattle.rs_store.specs.Changing.{LeavesStore}
+use Rattle.rs_store.specs.Changing.{Always, LeavesStore}
 use Rattle.rs_store.specs.Kept.{StoreState}
 use Rattle.rs_store.specs.Settling.{IsKept, Settles}
 use Rattle.rs_store.proofs.Keeping.{store_over}
@@ -63,7 +63,7 @@ returns-in_err-settle-clause-leaves g c =
     ap (λ (s : StoreState g.row.D.Denot). d.failures s.pager.disk) c.self.view_is ∙ c.in_ok-mark.ensures.count in
     let begun = begins d old was.pager first was.file was.catalog was.referents was.is_marked kept c.begin.ensures.keeps c.begin.ensures.masked failed c.in_ok-begin.ensures.count in
     let p = err_from_is_err_and c.from_residual-in_err-settle.result c.from_residual-in_err-settle.ensures.1 in
-    rw (p.1, p.2) (subst (λ (r : Result (Unit {0}) Refusal). LeavesStore d r old (store_over d last settled was.catalog was.referents was.is_marked)) (sym c.settle.ensures.same ∙ c.in_err-settle.was)
+    rw (p.1, p.2) (subst (λ (r : Result (Unit {0}) Refusal). LeavesStore d Always r old (store_over d last settled was.catalog was.referents was.is_marked)) (sym c.settle.ensures.same ∙ c.in_err-settle.was)
     (left_settled d old first between last was.file changed settled was.catalog was.referents was.is_marked begun c.move_referent-made.ensures.leaves.keeps
     result was.file.definitions was.catalog was.referents c.move_referent-made.ensures.leaves.stores c.move_referent-made.ensures.next c.move_referent-made.ensures.keeps
     c.self.invariant.rests.committed c.settle.ensures.settles (err_always result refl) (err_always result (λ route. refl))))

@@ -14,7 +14,7 @@ use Rattle.rs_refusal.specs.declared.refusal.Refusal.{Refusal}
 use Rattle.rs_state_laws.specs.Changing.{ChangesFile}
 use Rattle.rs_state_laws.specs.Parts.{RemovesRows}
 use Rattle.rs_store.specs.Calls.{KeepsStore}
-use Rattle.rs_store.specs.Changing.{HasBecome, LeavesStore}
+use Rattle.rs_store.specs.Changing.{Always, HasBecome, LeavesStore}
 use Rattle.rs_store.specs.Kept.{StandsIn, StoreState}
 use Rattle.rs_store.specs.Placing.{IsPlaceOf}
 use Rattle.rs_store.proofs.Keeping.{store_over}
@@ -60,7 +60,7 @@ returns-clause-leaves g c =
     let failed : d.failures was.pager.disk ≡ d.failures old.pager.disk =
     ap (λ (s : StoreState g.row.D.Denot). d.failures s.pager.disk) c.self-2.view_is ∙ c.in_ok-mark.ensures.count in
     let begun = begins d old was.pager first was.file was.catalog was.referents was.is_marked kept c.begin.ensures.keeps c.begin.ensures.masked failed c.in_ok-begin.ensures.count in
-    subst (λ (r : Result ℕ Refusal). LeavesStore d r old (store_over d last c.settle.new.file was.catalog was.referents was.is_marked)) (sym c.settle.ensures.same)
+    subst (λ (r : Result ℕ Refusal). LeavesStore d Always r old (store_over d last c.settle.new.file was.catalog was.referents was.is_marked)) (sym c.settle.ensures.same)
     (left_settled d old first c.remove-made.new.pages last was.file c.remove-made.new.file c.settle.new.file was.catalog was.referents was.is_marked begun c.remove-made.ensures.leaves.keeps
     result was.file.definitions was.catalog was.referents c.remove-made.ensures.leaves.stores c.remove-made.ensures.next c.remove-made.ensures.keeps c.self-2.invariant.rests.committed
     c.settle.ensures.settles (err_always result refl) (err_always result (λ route. refl)))
