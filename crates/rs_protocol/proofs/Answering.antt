@@ -1,6 +1,5 @@
 -- What is answered to one line.
 use Rattle.std.proofs.Common.{◌≡◌, ℕ, ◌⊎◌, inl, inr, List, take, Option, Some, Result, Ok, Err, refl, sym, ap, ◌∙◌, subst}
-use Rattle.std.specs.Prelude.{IsTrue}
 use Rattle.rs_refusal.specs.declared.refusal.Refusal.{Refusal}
 use Rattle.rs_refusal.specs.declared.refusal.Refusal.TheVariants.{OutOfMemory}
 use Rattle.rs_measure.specs.FixedPoint.{number_of_digits}
@@ -8,9 +7,9 @@ use Rattle.rs_syntax.specs.Tree.{CommandTree}
 use Rattle.rs_syntax.specs.Verdict.{Reads}
 use Rattle.rs_machine.specs.Served.{Machine, Reply, refused, Served}
 use Rattle.rs_machine.specs.ReplyText.{reply_text, refusal_text}
-use Rattle.rs_machine.specs.Request.{unreadable, no_command, command, BeginsWith, SessionReads, is_text, line_refusal, session_digits}
-use Rattle.rs_machine.proofs.ReadableLines.{readable_text}
+use Rattle.rs_machine.specs.Request.{unreadable, no_command, command, BeginsWith, SessionReads, line_refusal, session_digits}
 use Rattle.rs_machine.specs.Answered.{answer}
+use Rattle.rs_serve.specs.Said.{IsSaid}
 use Rattle.rs_protocol.specs.declared.stream.Fault.{Fault}
 use Rattle.rs_protocol.specs.Inner.{Puts, PutsAnswer, IsRequest}
 
@@ -34,9 +33,9 @@ session_reads line text session digits said request reads = record {
   reads = subst (λ t. Reads t digits said) request.text_is reads;
 }
 
--- the text of a session's line is text
-pub request_is_text : (line text : List ℕ) (session digits : ℕ) → IsRequest line text session digits → IsTrue (is_text text)
-request_is_text line text session digits request = subst (λ t. IsTrue (is_text t)) (sym request.text_is) (readable_text line request.is_readable)
+-- the line says the command that its text says
+pub request_says : (line text : List ℕ) (session digits : ℕ) (tree : CommandTree) → IsRequest line text session digits → Reads text digits (Ok tree) → IsSaid session tree
+request_says line text session digits tree request reads = record { line = line; asks = session_reads line text session digits (Ok tree) request reads }
 
 -- a line that is no command, or was not read
 pub answers_refused : (T : Type 0) (result : Result T Fault) (line text : List ℕ) (session digits : ℕ) (refusal : Refusal) (machine : Machine) (a b : Option (List ℕ))

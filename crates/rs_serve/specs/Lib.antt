@@ -1,1 +1,2 @@
 pub mod ReplyView
+pub mod Said

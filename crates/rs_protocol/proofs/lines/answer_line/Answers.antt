@@ -1,6 +1,6 @@
 use Rattle.rs_serve.specs.ReplyView.{reply_of}
 use Rattle.rs_syntax.specs.View.{tree_of}
-use Rattle.rs_protocol.proofs.Answering.{request_is_text, answers_unreadable, answers_refused, answers_command}
+use Rattle.rs_protocol.proofs.Answering.{request_says, answers_unreadable, answers_refused, answers_command}
 use Rattle.rs_protocol.proofs.lines.answer_line.Goals as goal
 
 pub returns-in-Err : goal.returns-in-Err
@@ -13,7 +13,10 @@ returns-in-Err g c old is = (
 
 pub step-reply-requires : goal.step-reply-requires
 step-reply-requires g c =
-    record { sound = c.in-Ok-command_of.ensures.sound (request_is_text c.args.line.now c.in-Ok.request.text.now c.in-Ok.request.session c.in-Ok.request.digits c.in-Ok.ensures) }
+    record {
+      said = request_says c.args.line.now c.in-Ok.request.text.now c.in-Ok.request.session c.in-Ok.request.digits
+          (tree_of c.in-Ok-command_of.command) c.in-Ok.ensures c.in-Ok-command_of.ensures.ok;
+    }
 
 pub returns-in-Ok-command_of : goal.returns-in-Ok-command_of
 returns-in-Ok-command_of g c old is =
