@@ -1,0 +1,71 @@
+//! The checks of an index that is to be defined or dropped.
+
+ghost use Rattle.std.specs.Prelude.{◌≡◌, ◌<◌, ℕ, List, Ok, Err, IfErr, IfOk, OnOk};
+ghost use Rattle.std.specs.FinMap as names;
+ghost use Rattle.rs_facts.specs.Runs.{Stretch};
+ghost use Rattle.rs_machine.specs.Step.{counted, index_defined, index_dropped, with_index, without_index};
+ghost use Rattle.rs_machine.specs.declared.limits.TheConstants.{INDEXES, CHANGES};
+ghost use Rattle.rs_catalog.specs.Definitions.{IsColumnOf};
+ghost use Rattle.rs_command_checks.specs.States.{state_by};
+
+use crate::checks::Checks;
+use rs_checker::column_of;
+use rs_machine::limits::INDEXES;
+use rs_methods::Name;
+use rs_refusal::Refusal;
+
+/// A column of a table, by the table's number and the column's place.
+#[derive(Clone, Copy)]
+pub struct TableColumn {
+    /// The table's number.
+    pub table: u32,
+    /// The column's place, the leftmost 0.
+    pub place: u8,
+}
+
+impl Checks<'_> {
+    /// The column of which an index may be defined. Checks, in order: there is no such table (21); it has no such column
+    /// (22); the index's name is taken (24); limits (27).
+    pub fn check_new_index(
+        self,
+        name: &Name,
+        table: &Name,
+        column: &Name,
+    ) -> Result<TableColumn, Refusal>
+        ensures accepted { (spans : ℕ → ℕ → List Stretch) → IfOk result (λ of. index_defined (state_by self spans) name.now.bytes table.now.bytes column.now.bytes ≡ Ok (counted 0 (with_index (state_by self spans) name.now.bytes (record { table = table.now.bytes; column = of.place })))) }
+        ensures refused { (spans : ℕ → ℕ → List Stretch) → IfErr result (λ refusal. index_defined (state_by self spans) name.now.bytes table.now.bytes column.now.bytes ≡ Err refusal) }
+        ensures of { IfOk result (λ of. IsColumnOf self.catalog.now.tables table.now.bytes of.table of.place) }
+        ensures room { OnOk result (names.len self.catalog.now.indexes < INDEXES) }
+        ensures may_change { OnOk result (self.changes < CHANGES) }
+    {
+        let entry = self.catalog.named_table(table)?;
+        self.catalog.stand();
+        let place = column_of(entry, column)?;
+        if self.catalog.index(name).is_some() {
+            return Err(Refusal::NameTaken);
+        }
+        if self.catalog.indexes_len() >= INDEXES {
+            return Err(Refusal::Limit);
+        }
+        self.may_change()?;
+        Ok(TableColumn {
+            table: entry.number(),
+            place,
+        })
+    }
+
+    /// Whether an index may be dropped. Checks, in order: 21; a session has a cursor (23); 27.
+    pub fn check_old_index(self, name: &Name) -> Result<(), Refusal>
+        ensures accepted { (spans : ℕ → ℕ → List Stretch) → OnOk result (index_dropped (state_by self spans) name.now.bytes ≡ Ok (counted 0 (without_index (state_by self spans) name.now.bytes))) }
+        ensures refused { (spans : ℕ → ℕ → List Stretch) → IfErr result (λ refusal. index_dropped (state_by self spans) name.now.bytes ≡ Err refusal) }
+        ensures may_change { OnOk result (self.changes < CHANGES) }
+    {
+        if self.catalog.index(name).is_none() {
+            return Err(Refusal::NoSuchName);
+        }
+        if self.cursors.any() {
+            return Err(Refusal::InUse);
+        }
+        self.may_change()
+    }
+}

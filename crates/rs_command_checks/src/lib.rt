@@ -1,0 +1,20 @@
+//! The checks of each command, in their order, against what is in memory: the definitions, the referents, the cursors and the
+//! count of changes.
+//!
+//! It promises the reference machine's refusal or what the machine makes of an accepted command, whichever spans tables have.
+#![tactic(auto)]
+
+mod alignments;
+pub mod checks;
+mod cursors;
+mod definitions;
+mod drops;
+mod events;
+mod indexes;
+mod queries;
+mod referents;
+mod views;
+
+pub use checks::Checks;
+pub use events::Removal;
+pub use indexes::TableColumn;
