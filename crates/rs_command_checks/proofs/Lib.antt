@@ -1,0 +1,9 @@
+mod Outcomes
+mod ColumnNames
+mod CursorSteps
+mod ReferentSteps
+mod Translations
+mod Positions
+mod Rows
+mod EventChecks
+mod EventResults

@@ -18,11 +18,11 @@ use rs_syntax::Piece;
 
 impl Checks<'_> {
     /// Whether an alignment may be defined. Checks, in order: its name is taken (24); limits (27); its pieces (20, 30, 31); 27.
-    pub fn check_new_alignment(self, name: &Name, pieces: &[Piece]) -> Result<(), Refusal>
-        ensures accepted { (spans : ℕ → ℕ → List Stretch) → OnOk result (alignment_defined (state_by self spans) name.now.bytes (map piece_tree pieces.now) ≡ Ok (counted 0 (with_alignment (state_by self spans) name.now.bytes (pieces_of pieces.now)))) }
-        ensures refused { (spans : ℕ → ℕ → List Stretch) → IfErr result (λ refusal. alignment_defined (state_by self spans) name.now.bytes (map piece_tree pieces.now) ≡ Err refusal) }
-        ensures lie { OnOk result (ArePiecesOn (routes_of self.catalog.now) (pieces_of pieces.now)) }
-        ensures may_change { OnOk result (self.changes < CHANGES) }
+    pub fn check_new_alignment(&self, name: &Name, pieces: &[Piece]) -> Result<(), Refusal>
+        ensures accepted { (spans : ℕ → ℕ → List Stretch) → OnOk result (alignment_defined (state_by self.now spans) name.now.bytes (map piece_tree pieces.now) ≡ Ok (counted 0 (with_alignment (state_by self.now spans) name.now.bytes (pieces_of pieces.now)))) }
+        ensures refused { (spans : ℕ → ℕ → List Stretch) → IfErr result (λ refusal. alignment_defined (state_by self.now spans) name.now.bytes (map piece_tree pieces.now) ≡ Err refusal) }
+        ensures lie { OnOk result (ArePiecesOn (routes_of self.now.catalog.now) (pieces_of pieces.now)) }
+        ensures may_change { OnOk result (self.now.changes < CHANGES) }
     {
         if self.catalog.alignment(name).is_some() {
             return Err(Refusal::NameTaken);
@@ -38,10 +38,10 @@ impl Checks<'_> {
     }
 
     /// Whether an alignment may be dropped. Checks, in order: 21; a view names it (23); 27.
-    pub fn check_old_alignment(self, name: &Name) -> Result<(), Refusal>
-        ensures accepted { (spans : ℕ → ℕ → List Stretch) → OnOk result (alignment_dropped (state_by self spans) name.now.bytes ≡ Ok (counted 0 (without_alignment (state_by self spans) name.now.bytes))) }
-        ensures refused { (spans : ℕ → ℕ → List Stretch) → IfErr result (λ refusal. alignment_dropped (state_by self spans) name.now.bytes ≡ Err refusal) }
-        ensures may_change { OnOk result (self.changes < CHANGES) }
+    pub fn check_old_alignment(&self, name: &Name) -> Result<(), Refusal>
+        ensures accepted { (spans : ℕ → ℕ → List Stretch) → OnOk result (alignment_dropped (state_by self.now spans) name.now.bytes ≡ Ok (counted 0 (without_alignment (state_by self.now spans) name.now.bytes))) }
+        ensures refused { (spans : ℕ → ℕ → List Stretch) → IfErr result (λ refusal. alignment_dropped (state_by self.now spans) name.now.bytes ≡ Err refusal) }
+        ensures may_change { OnOk result (self.now.changes < CHANGES) }
     {
         if self.catalog.alignment(name).is_none() {
             return Err(Refusal::NoSuchName);

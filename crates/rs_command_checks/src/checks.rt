@@ -29,9 +29,9 @@ pub struct Checks<'a> {
 
 impl Checks<'_> {
     /// Whether one more change may be accepted (27).
-    pub fn may_change(self) -> Result<(), Refusal>
-        ensures answer { (spans : ℕ → ℕ → List Stretch) → result ≡ may_change (state_by self spans) }
-        ensures room { OnOk result (self.changes < CHANGES) }
+    pub fn may_change(&self) -> Result<(), Refusal>
+        ensures answer { (spans : ℕ → ℕ → List Stretch) → result ≡ may_change (state_by self.now spans) }
+        ensures room { OnOk result (self.now.changes < CHANGES) }
     {
         if self.changes >= CHANGES {
             return Err(Refusal::Limit);

@@ -21,17 +21,17 @@ impl Checks<'_> {
     /// The query on which a cursor of the session may be opened. Checks, in order: its query; its name is taken (61); the
     /// session has as many as it may (62).
     pub fn check_new_cursor(
-        self,
+        &self,
         session: Session,
         name: &Name,
         query: &Query,
         method: Method,
     ) -> Result<Checked, Refusal>
-        ensures accepted { (spans : ℕ → ℕ → List Stretch) → IfOk result (λ checked. cursor_opened (state_by self spans) session name.now.bytes (query_tree query.now) method
-            ≡ Ok (counted 0 (with_cursor (state_by self spans) session name.now.bytes (lines_of (state_by self spans) (query_of checked.query) method)))) }
-        ensures refused { (spans : ℕ → ℕ → List Stretch) → IfErr result (λ refusal. (refusal ≡ Refusal.OutOfMemory) ⊎ (cursor_opened (state_by self spans) session name.now.bytes (query_tree query.now) method ≡ Err refusal)) }
-        ensures is { (spans : ℕ → ℕ → List Stretch) → IfOk result (IsChecked (state_by self spans) (query_tree query.now)) }
-        ensures numbers { IfOk result (λ checked. AreNumberedIn self.catalog.now (named_in checked.query)) }
+        ensures accepted { (spans : ℕ → ℕ → List Stretch) → IfOk result (λ checked. cursor_opened (state_by self.now spans) session name.now.bytes (query_tree query.now) method
+            ≡ Ok (counted 0 (with_cursor (state_by self.now spans) session name.now.bytes (lines_of (state_by self.now spans) (query_of checked.query) method)))) }
+        ensures refused { (spans : ℕ → ℕ → List Stretch) → IfErr result (λ refusal. (refusal ≡ Refusal.OutOfMemory) ⊎ (cursor_opened (state_by self.now spans) session name.now.bytes (query_tree query.now) method ≡ Err refusal)) }
+        ensures is { (spans : ℕ → ℕ → List Stretch) → IfOk result (IsChecked (state_by self.now spans) (query_tree query.now)) }
+        ensures numbers { IfOk result (λ checked. AreNumberedIn self.now.catalog.now (named_in checked.query)) }
     {
         let checked = self.checked(query)?;
         if self.cursors.has(session, name) {

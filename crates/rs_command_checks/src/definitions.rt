@@ -22,17 +22,17 @@ use rs_value::{COLUMNS, Kind};
 impl Checks<'_> {
     /// Whether a route may be defined. Checks, in order: its name is taken (24), it is empty (31), limits (27).
     pub fn check_new_route(
-        self,
+        &self,
         name: &Name,
         start: Measure,
         finish: Measure,
     ) -> Result<(), Refusal>
-        ensures accepted { (spans : ℕ → ℕ → List Stretch) → OnOk result (route_defined (state_by self spans) name.now.bytes start finish ≡ Ok (counted 0 (with_route (state_by self spans) name.now.bytes start finish))) }
-        ensures refused { (spans : ℕ → ℕ → List Stretch) → IfErr result (λ refusal. route_defined (state_by self spans) name.now.bytes start finish ≡ Err refusal) }
-        ensures new { OnOk result (names.get self.catalog.now.routes name.now.bytes ≡ None) }
+        ensures accepted { (spans : ℕ → ℕ → List Stretch) → OnOk result (route_defined (state_by self.now spans) name.now.bytes start finish ≡ Ok (counted 0 (with_route (state_by self.now spans) name.now.bytes start finish))) }
+        ensures refused { (spans : ℕ → ℕ → List Stretch) → IfErr result (λ refusal. route_defined (state_by self.now spans) name.now.bytes start finish ≡ Err refusal) }
+        ensures new { OnOk result (names.get self.now.catalog.now.routes name.now.bytes ≡ None) }
         ensures ordered { OnOk result (start < finish) }
-        ensures room { OnOk result (names.len self.catalog.now.routes < ROUTES) }
-        ensures may_change { OnOk result (self.changes < CHANGES) }
+        ensures room { OnOk result (names.len self.now.catalog.now.routes < ROUTES) }
+        ensures may_change { OnOk result (self.now.changes < CHANGES) }
     {
         if self.catalog.route(name).is_some() {
             return Err(Refusal::NameTaken);
@@ -48,17 +48,17 @@ impl Checks<'_> {
 
     /// Whether a table may be defined. Checks, in order: its name is taken (24), two columns have one name (41), limits (27).
     pub fn check_new_table(
-        self,
+        &self,
         kind: Kind,
         name: &Name,
         columns: &[ColumnDefinition],
     ) -> Result<(), Refusal>
-        ensures accepted { (spans : ℕ → ℕ → List Stretch) → OnOk result (table_defined (state_by self spans) kind name.now.bytes (map column_tree columns.now) ≡ Ok (counted 0 (with_table (state_by self spans) name.now.bytes (empty_table kind (map column_tree columns.now))))) }
-        ensures refused { (spans : ℕ → ℕ → List Stretch) → IfErr result (λ refusal. table_defined (state_by self spans) kind name.now.bytes (map column_tree columns.now) ≡ Err refusal) }
-        ensures new { OnOk result (names.get self.catalog.now.tables name.now.bytes ≡ None) }
+        ensures accepted { (spans : ℕ → ℕ → List Stretch) → OnOk result (table_defined (state_by self.now spans) kind name.now.bytes (map column_tree columns.now) ≡ Ok (counted 0 (with_table (state_by self.now spans) name.now.bytes (empty_table kind (map column_tree columns.now))))) }
+        ensures refused { (spans : ℕ → ℕ → List Stretch) → IfErr result (λ refusal. table_defined (state_by self.now spans) kind name.now.bytes (map column_tree columns.now) ≡ Err refusal) }
+        ensures new { OnOk result (names.get self.now.catalog.now.tables name.now.bytes ≡ None) }
         ensures few_columns { OnOk result (length columns.now ≤ COLUMNS) }
-        ensures room { OnOk result (names.len self.catalog.now.tables < TABLES) }
-        ensures may_change { OnOk result (self.changes < CHANGES) }
+        ensures room { OnOk result (names.len self.now.catalog.now.tables < TABLES) }
+        ensures may_change { OnOk result (self.now.changes < CHANGES) }
     {
         if self.catalog.has_table_or_view(name) {
             return Err(Refusal::NameTaken);

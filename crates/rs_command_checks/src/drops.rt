@@ -18,15 +18,15 @@ use rs_refusal::Refusal;
 impl Checks<'_> {
     /// A route that may be dropped; the caller says whether some table has a fact on it. Checks, in order: 20; a table has a
     /// fact on it, an alignment has a piece on it or a view's window is on it, or a session has a cursor (23); 27.
-    pub fn check_old_route(self, name: &Name, has_facts: bool) -> Result<RouteEntry, Refusal>
-        ensures accepted { (spans : ℕ → ℕ → List Stretch) → TellsOfFacts (state_by self spans) name.now.bytes has_facts
-            → OnOk result (route_dropped (state_by self spans) name.now.bytes ≡ Ok (counted 0 (without_route (state_by self spans) name.now.bytes))) }
-        ensures refused { (spans : ℕ → ℕ → List Stretch) → TellsOfFacts (state_by self spans) name.now.bytes has_facts
-            → IfErr result (λ refusal. route_dropped (state_by self spans) name.now.bytes ≡ Err refusal) }
-        ensures there { IfOk result (λ route. names.get self.catalog.now.routes name.now.bytes ≡ Some route) }
+    pub fn check_old_route(&self, name: &Name, has_facts: bool) -> Result<RouteEntry, Refusal>
+        ensures accepted { (spans : ℕ → ℕ → List Stretch) → TellsOfFacts (state_by self.now spans) name.now.bytes has_facts
+            → OnOk result (route_dropped (state_by self.now spans) name.now.bytes ≡ Ok (counted 0 (without_route (state_by self.now spans) name.now.bytes))) }
+        ensures refused { (spans : ℕ → ℕ → List Stretch) → TellsOfFacts (state_by self.now spans) name.now.bytes has_facts
+            → IfErr result (λ refusal. route_dropped (state_by self.now spans) name.now.bytes ≡ Err refusal) }
+        ensures there { IfOk result (λ route. names.get self.now.catalog.now.routes name.now.bytes ≡ Some route) }
         ensures no_facts { OnOk result (has_facts ≡ false) }
-        ensures unused { OnOk result (some_piece_on self.catalog.now name.now.bytes ≡ false) }
-        ensures may_change { OnOk result (self.changes < CHANGES) }
+        ensures unused { OnOk result (some_piece_on self.now.catalog.now name.now.bytes ≡ false) }
+        ensures may_change { OnOk result (self.now.changes < CHANGES) }
     {
         let route = self.catalog.named_route(name)?;
         if has_facts {
@@ -46,11 +46,11 @@ impl Checks<'_> {
     }
 
     /// The number of a table that may be dropped. Checks, in order: 21; a view names it, or a session has a cursor (23); 27.
-    pub fn check_old_table(self, name: &Name) -> Result<u32, Refusal>
-        ensures accepted { (spans : ℕ → ℕ → List Stretch) → OnOk result (table_dropped (state_by self spans) name.now.bytes ≡ Ok (counted 0 (without_table (state_by self spans) name.now.bytes))) }
-        ensures refused { (spans : ℕ → ℕ → List Stretch) → IfErr result (λ refusal. table_dropped (state_by self spans) name.now.bytes ≡ Err refusal) }
-        ensures there { IfOk result (λ number. HasTable self.catalog.now name.now.bytes number) }
-        ensures may_change { OnOk result (self.changes < CHANGES) }
+    pub fn check_old_table(&self, name: &Name) -> Result<u32, Refusal>
+        ensures accepted { (spans : ℕ → ℕ → List Stretch) → OnOk result (table_dropped (state_by self.now spans) name.now.bytes ≡ Ok (counted 0 (without_table (state_by self.now spans) name.now.bytes))) }
+        ensures refused { (spans : ℕ → ℕ → List Stretch) → IfErr result (λ refusal. table_dropped (state_by self.now spans) name.now.bytes ≡ Err refusal) }
+        ensures there { IfOk result (λ number. HasTable self.now.catalog.now name.now.bytes number) }
+        ensures may_change { OnOk result (self.now.changes < CHANGES) }
     {
         let number = self.catalog.named_table(name)?.number();
         if self.catalog.is_query_named(name) {

@@ -49,18 +49,18 @@ pub struct Removal {
 impl Checks<'_> {
     /// The row along its span that may be put into a table. Checks, in order: 20; 21; 25, 30; 31; 32; 33; 34; 27.
     pub fn checked_insertion(
-        self,
+        &self,
         name: &Name,
         route: &Name,
         place: &EventLocation,
         values: &[Literal],
     ) -> Result<Span, Refusal>
-        ensures accepted { (spans : ℕ → ℕ → List Stretch) (there : Table) → names.get (state_by self spans).tables name.now.bytes ≡ Some there
-            → IfOk result (λ span. row_inserted (state_by self spans) name.now.bytes route.now.bytes (location_tree place.now) (literal_row values.now)
-            ≡ Ok (counted (new_facts there.facts route.now.bytes span.lo span.hi (seen span).row) (with_table (state_by self spans) name.now.bytes (with_facts_along there route.now.bytes span.lo span.hi (seen span).row)))) }
-        ensures refused { (spans : ℕ → ℕ → List Stretch) → IfErr result (λ refusal. (refusal ≡ Refusal.OutOfMemory) ⊎ (row_inserted (state_by self spans) name.now.bytes route.now.bytes (location_tree place.now) (literal_row values.now) ≡ Err refusal)) }
-        ensures event { AreValues (literal_row values.now) → IfOk result (λ span. IsEventOn self.catalog.now name.now.bytes route.now.bytes (seen span)) }
-        ensures may_change { OnOk result (self.changes < CHANGES) }
+        ensures accepted { (spans : ℕ → ℕ → List Stretch) (there : Table) → names.get (state_by self.now spans).tables name.now.bytes ≡ Some there
+            → IfOk result (λ span. row_inserted (state_by self.now spans) name.now.bytes route.now.bytes (location_tree place.now) (literal_row values.now)
+            ≡ Ok (counted (new_facts there.facts route.now.bytes span.lo span.hi (seen span).row) (with_table (state_by self.now spans) name.now.bytes (with_facts_along there route.now.bytes span.lo span.hi (seen span).row)))) }
+        ensures refused { (spans : ℕ → ℕ → List Stretch) → IfErr result (λ refusal. (refusal ≡ Refusal.OutOfMemory) ⊎ (row_inserted (state_by self.now spans) name.now.bytes route.now.bytes (location_tree place.now) (literal_row values.now) ≡ Err refusal)) }
+        ensures event { AreValues (literal_row values.now) → IfOk result (λ span. IsEventOn self.now.catalog.now name.now.bytes route.now.bytes (seen span)) }
+        ensures may_change { OnOk result (self.now.changes < CHANGES) }
     {
         let span = self.fitted_span(name, route, place, values)?;
         self.may_change()?;
@@ -69,14 +69,14 @@ impl Checks<'_> {
 
     /// The row along its span, where all fit each other and there is memory for the row.
     fn fitted_span(
-        self,
+        &self,
         name: &Name,
         route: &Name,
         place: &EventLocation,
         values: &[Literal],
     ) -> Result<Span, Refusal>
-        ensures done { IfOk result (λ span. MayBePut self name.now.bytes route.now.bytes (location_tree place.now) (literal_row values.now) (seen span)) }
-        ensures refused { (spans : ℕ → ℕ → List Stretch) → IfErr result (λ refusal. (refusal ≡ Refusal.OutOfMemory) ⊎ (row_inserted (state_by self spans) name.now.bytes route.now.bytes (location_tree place.now) (literal_row values.now) ≡ Err refusal)) }
+        ensures done { IfOk result (λ span. MayBePut self.now name.now.bytes route.now.bytes (location_tree place.now) (literal_row values.now) (seen span)) }
+        ensures refused { (spans : ℕ → ℕ → List Stretch) → IfErr result (λ refusal. (refusal ≡ Refusal.OutOfMemory) ⊎ (row_inserted (state_by self.now spans) name.now.bytes route.now.bytes (location_tree place.now) (literal_row values.now) ≡ Err refusal)) }
     {
         let on = self.catalog.named_route(route)?;
         let table = self.catalog.named_table(name)?;
@@ -92,17 +92,17 @@ impl Checks<'_> {
 
     /// What a removal may take away of a table. Checks, in order: 20; 21; 25, 30; 31; the condition (22, 33); 27.
     pub fn checked_removal(
-        self,
+        &self,
         name: &Name,
         window: &Window,
         condition: &Option<Vec<Vec<Atom>>>,
     ) -> Result<Removal, Refusal>
-        ensures accepted { (spans : ℕ → ℕ → List Stretch) (there : Table) → names.get (state_by self spans).tables name.now.bytes ≡ Some there
-            → IfOk result (λ removal. rows_removed (state_by self spans) name.now.bytes (window_tree window.now) (removal_tree condition.now)
-            ≡ Ok (counted (removed_facts there.facts removal.route.bytes removal.lo removal.hi (goes_by removal.goes)) (with_table (state_by self spans) name.now.bytes (without_facts there removal.route.bytes removal.lo removal.hi (goes_by removal.goes))))) }
-        ensures refused { (spans : ℕ → ℕ → List Stretch) → IfErr result (λ refusal. (refusal ≡ Refusal.OutOfMemory) ⊎ (rows_removed (state_by self spans) name.now.bytes (window_tree window.now) (removal_tree condition.now) ≡ Err refusal)) }
-        ensures there { IfOk result (λ removal. AreThere self.catalog.now name.now.bytes removal.route.bytes) }
-        ensures may_change { OnOk result (self.changes < CHANGES) }
+        ensures accepted { (spans : ℕ → ℕ → List Stretch) (there : Table) → names.get (state_by self.now spans).tables name.now.bytes ≡ Some there
+            → IfOk result (λ removal. rows_removed (state_by self.now spans) name.now.bytes (window_tree window.now) (removal_tree condition.now)
+            ≡ Ok (counted (removed_facts there.facts removal.route.bytes removal.lo removal.hi (goes_by removal.goes)) (with_table (state_by self.now spans) name.now.bytes (without_facts there removal.route.bytes removal.lo removal.hi (goes_by removal.goes))))) }
+        ensures refused { (spans : ℕ → ℕ → List Stretch) → IfErr result (λ refusal. (refusal ≡ Refusal.OutOfMemory) ⊎ (rows_removed (state_by self.now spans) name.now.bytes (window_tree window.now) (removal_tree condition.now) ≡ Err refusal)) }
+        ensures there { IfOk result (λ removal. AreThere self.now.catalog.now name.now.bytes removal.route.bytes) }
+        ensures may_change { OnOk result (self.now.changes < CHANGES) }
     {
         let removal = self.fitted_removal(name, window, condition)?;
         self.may_change()?;
@@ -111,13 +111,13 @@ impl Checks<'_> {
 
     /// What a removal takes away, where its table and its window are there and its condition fits the columns.
     fn fitted_removal(
-        self,
+        &self,
         name: &Name,
         window: &Window,
         condition: &Option<Vec<Vec<Atom>>>,
     ) -> Result<Removal, Refusal>
-        ensures done { IfOk result (λ removal. MayBeTaken self name.now.bytes (window_tree window.now) (removal_tree condition.now) removal) }
-        ensures refused { (spans : ℕ → ℕ → List Stretch) → IfErr result (λ refusal. (refusal ≡ Refusal.OutOfMemory) ⊎ (rows_removed (state_by self spans) name.now.bytes (window_tree window.now) (removal_tree condition.now) ≡ Err refusal)) }
+        ensures done { IfOk result (λ removal. MayBeTaken self.now name.now.bytes (window_tree window.now) (removal_tree condition.now) removal) }
+        ensures refused { (spans : ℕ → ℕ → List Stretch) → IfErr result (λ refusal. (refusal ≡ Refusal.OutOfMemory) ⊎ (rows_removed (state_by self.now spans) name.now.bytes (window_tree window.now) (removal_tree condition.now) ≡ Err refusal)) }
     {
         let route = route_of(window);
         let on = self.catalog.named_route(route)?;
@@ -134,8 +134,8 @@ impl Checks<'_> {
     }
 
     /// Where an event is put on a route, in thousandths (25, 30; 31).
-    fn located_event(self, on: RouteEntry, place: &EventLocation) -> Result<(u32, u32), Refusal>
-        ensures { result ≡ event_span_by on.ends (referents_on self.referents.now on.number) (location_tree place.now) }
+    fn located_event(&self, on: RouteEntry, place: &EventLocation) -> Result<(u32, u32), Refusal>
+        ensures { result ≡ event_span_by on.ends (referents_on self.now.referents.now on.number) (location_tree place.now) }
     {
         match place {
             EventLocation::Along { from, to } => self.located_span(on, from, to),
@@ -147,8 +147,8 @@ impl Checks<'_> {
     }
 
     /// Where a window lies on its route, in thousandths (25, 30; 31). A whole route has its end, at which a point may stand.
-    fn located_window(self, on: RouteEntry, window: &Window) -> Result<(u32, u32), Refusal>
-        ensures { result ≡ window_span_by on.ends (referents_on self.referents.now on.number) (window_tree window.now) }
+    fn located_window(&self, on: RouteEntry, window: &Window) -> Result<(u32, u32), Refusal>
+        ensures { result ≡ window_span_by on.ends (referents_on self.now.referents.now on.number) (window_tree window.now) }
     {
         match window {
             Window::Whole { .. } => {
@@ -163,12 +163,12 @@ impl Checks<'_> {
     /// Two positions of a route in thousandths: 25 or 30 for the first, 25 or 30 for the second, then 31 unless the
     /// first is below the second.
     fn located_span(
-        self,
+        &self,
         on: RouteEntry,
         from: &Position,
         to: &Position,
     ) -> Result<(u32, u32), Refusal>
-        ensures { result ≡ span_by on.ends (referents_on self.referents.now on.number) (expression_of from.now) (expression_of to.now) }
+        ensures { result ≡ span_by on.ends (referents_on self.now.referents.now on.number) (expression_of from.now) (expression_of to.now) }
     {
         let lo = self.referents.located(on, from)?.thousandths();
         let hi = self.referents.located(on, to)?.thousandths();

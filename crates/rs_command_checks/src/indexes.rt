@@ -27,16 +27,16 @@ impl Checks<'_> {
     /// The column of which an index may be defined. Checks, in order: there is no such table (21); it has no such column
     /// (22); the index's name is taken (24); limits (27).
     pub fn check_new_index(
-        self,
+        &self,
         name: &Name,
         table: &Name,
         column: &Name,
     ) -> Result<TableColumn, Refusal>
-        ensures accepted { (spans : ℕ → ℕ → List Stretch) → IfOk result (λ of. index_defined (state_by self spans) name.now.bytes table.now.bytes column.now.bytes ≡ Ok (counted 0 (with_index (state_by self spans) name.now.bytes (record { table = table.now.bytes; column = of.place })))) }
-        ensures refused { (spans : ℕ → ℕ → List Stretch) → IfErr result (λ refusal. index_defined (state_by self spans) name.now.bytes table.now.bytes column.now.bytes ≡ Err refusal) }
-        ensures of { IfOk result (λ of. IsColumnOf self.catalog.now.tables table.now.bytes of.table of.place) }
-        ensures room { OnOk result (names.len self.catalog.now.indexes < INDEXES) }
-        ensures may_change { OnOk result (self.changes < CHANGES) }
+        ensures accepted { (spans : ℕ → ℕ → List Stretch) → IfOk result (λ of. index_defined (state_by self.now spans) name.now.bytes table.now.bytes column.now.bytes ≡ Ok (counted 0 (with_index (state_by self.now spans) name.now.bytes (record { table = table.now.bytes; column = of.place })))) }
+        ensures refused { (spans : ℕ → ℕ → List Stretch) → IfErr result (λ refusal. index_defined (state_by self.now spans) name.now.bytes table.now.bytes column.now.bytes ≡ Err refusal) }
+        ensures of { IfOk result (λ of. IsColumnOf self.now.catalog.now.tables table.now.bytes of.table of.place) }
+        ensures room { OnOk result (names.len self.now.catalog.now.indexes < INDEXES) }
+        ensures may_change { OnOk result (self.now.changes < CHANGES) }
     {
         let entry = self.catalog.named_table(table)?;
         self.catalog.stand();
@@ -55,10 +55,10 @@ impl Checks<'_> {
     }
 
     /// Whether an index may be dropped. Checks, in order: 21; a session has a cursor (23); 27.
-    pub fn check_old_index(self, name: &Name) -> Result<(), Refusal>
-        ensures accepted { (spans : ℕ → ℕ → List Stretch) → OnOk result (index_dropped (state_by self spans) name.now.bytes ≡ Ok (counted 0 (without_index (state_by self spans) name.now.bytes))) }
-        ensures refused { (spans : ℕ → ℕ → List Stretch) → IfErr result (λ refusal. index_dropped (state_by self spans) name.now.bytes ≡ Err refusal) }
-        ensures may_change { OnOk result (self.changes < CHANGES) }
+    pub fn check_old_index(&self, name: &Name) -> Result<(), Refusal>
+        ensures accepted { (spans : ℕ → ℕ → List Stretch) → OnOk result (index_dropped (state_by self.now spans) name.now.bytes ≡ Ok (counted 0 (without_index (state_by self.now spans) name.now.bytes))) }
+        ensures refused { (spans : ℕ → ℕ → List Stretch) → IfErr result (λ refusal. index_dropped (state_by self.now spans) name.now.bytes ≡ Err refusal) }
+        ensures may_change { OnOk result (self.now.changes < CHANGES) }
     {
         if self.catalog.index(name).is_none() {
             return Err(Refusal::NoSuchName);

@@ -24,10 +24,10 @@ use std::alloc::AllocError;
 
 impl Checks<'_> {
     /// The checked query, which can be planned; or the refusal of the first check that fails.
-    pub fn checked(self, query: &Query) -> Result<Checked, Refusal>
-        ensures is { (spans : ℕ → ℕ → List Stretch) → IfOk result (IsChecked (state_by self spans) (query_tree query.now)) }
-        ensures numbers { IfOk result (λ made. AreNumberedIn self.catalog.now (named_in made.query)) }
-        ensures refused { (spans : ℕ → ℕ → List Stretch) → IfErr result (λ refusal. (refusal ≡ Refusal.OutOfMemory) ⊎ (checked (state_by self spans) (query_tree query.now) ≡ Err refusal)) }
+    pub fn checked(&self, query: &Query) -> Result<Checked, Refusal>
+        ensures is { (spans : ℕ → ℕ → List Stretch) → IfOk result (IsChecked (state_by self.now spans) (query_tree query.now)) }
+        ensures numbers { IfOk result (λ made. AreNumberedIn self.now.catalog.now (named_in made.query)) }
+        ensures refused { (spans : ℕ → ℕ → List Stretch) → IfErr result (λ refusal. (refusal ≡ Refusal.OutOfMemory) ⊎ (checked (state_by self.now spans) (query_tree query.now) ≡ Err refusal)) }
     {
         let checked = check(self.alloc, self.catalog, self.referents, query)?;
         Ok(checked)
@@ -35,13 +35,13 @@ impl Checks<'_> {
 
     /// A position of a route in the method wanted, as one line (20; 25, 30).
     pub fn translate(
-        self,
+        &self,
         route: &Name,
         position: &Position,
         method: Method,
     ) -> Result<Vec<String>, Refusal>
-        ensures done { (spans : ℕ → ℕ → List Stretch) → IfOk result (λ rows. position_translated (state_by self spans) route.now.bytes (expression_of position.now) method ≡ Ok (effect (rows_of rows.items) (length (rows_of rows.items)) (state_by self spans))) }
-        ensures refused { (spans : ℕ → ℕ → List Stretch) → IfErr result (λ refusal. (refusal ≡ Refusal.OutOfMemory) ⊎ (position_translated (state_by self spans) route.now.bytes (expression_of position.now) method ≡ Err refusal)) }
+        ensures done { (spans : ℕ → ℕ → List Stretch) → IfOk result (λ rows. position_translated (state_by self.now spans) route.now.bytes (expression_of position.now) method ≡ Ok (effect (rows_of rows.items) (length (rows_of rows.items)) (state_by self.now spans))) }
+        ensures refused { (spans : ℕ → ℕ → List Stretch) → IfErr result (λ refusal. (refusal ≡ Refusal.OutOfMemory) ⊎ (position_translated (state_by self.now spans) route.now.bytes (expression_of position.now) method ≡ Err refusal)) }
     {
         let on = self.catalog.named_route(route)?;
         let measure = self.referents.located(on, position)?;
@@ -50,16 +50,16 @@ impl Checks<'_> {
 
     /// One line, the text of a measure of a route by a method.
     fn translated(
-        self,
+        &self,
         route: &Name,
         on: RouteEntry,
         method: Method,
         measure: Measure,
     ) -> Result<Vec<String>, AllocError>
-        requires there { names.get self.catalog.now.routes route.now.bytes ≡ Some on }
+        requires there { names.get self.now.catalog.now.routes route.now.bytes ≡ Some on }
         requires after_start { on.ends.start ≤ measure }
         requires before_finish { measure ≤ on.ends.finish }
-        ensures { (spans : ℕ → ℕ → List Stretch) → IfOk result (λ rows. rows_of rows.items ≡ position_text (state_by self spans) route.now.bytes on.ends method measure ∷ []) }
+        ensures { (spans : ℕ → ℕ → List Stretch) → IfOk result (λ rows. rows_of rows.items ≡ position_text (state_by self.now spans) route.now.bytes on.ends method measure ∷ []) }
     {
         let text = self.referents.expressed(on, method, measure)?;
         Ok(vec![in self.alloc; text]?)

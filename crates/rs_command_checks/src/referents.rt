@@ -23,17 +23,17 @@ use rs_refusal::Refusal;
 impl Checks<'_> {
     /// The measure of a referent that may be defined. Checks, in order: 20; 25, 30; 24; 27.
     pub fn place_of_new_referent(
-        self,
+        &self,
         route: &Name,
         name: &Name,
         position: &Position,
     ) -> Result<Measure, Refusal>
-        ensures accepted { (spans : ℕ → ℕ → List Stretch) → IfOk result (λ measure. referent_defined (state_by self spans) route.now.bytes name.now.bytes (expression_of position.now) ≡ Ok (counted 0 (with_referent (state_by self spans) route.now.bytes name.now.bytes measure))) }
-        ensures refused { (spans : ℕ → ℕ → List Stretch) → IfErr result (λ refusal. referent_defined (state_by self spans) route.now.bytes name.now.bytes (expression_of position.now) ≡ Err refusal) }
-        ensures there { OnOk result (has self.catalog.now.routes route.now.bytes ≡ true) }
+        ensures accepted { (spans : ℕ → ℕ → List Stretch) → IfOk result (λ measure. referent_defined (state_by self.now spans) route.now.bytes name.now.bytes (expression_of position.now) ≡ Ok (counted 0 (with_referent (state_by self.now spans) route.now.bytes name.now.bytes measure))) }
+        ensures refused { (spans : ℕ → ℕ → List Stretch) → IfErr result (λ refusal. referent_defined (state_by self.now spans) route.now.bytes name.now.bytes (expression_of position.now) ≡ Err refusal) }
+        ensures there { OnOk result (has self.now.catalog.now.routes route.now.bytes ≡ true) }
         ensures not_start { OnOk result (name.now.bytes ≢ start_name) }
-        ensures new { (spans : ℕ → ℕ → List Stretch) → OnOk result (has ((state_by self spans).referents route.now.bytes) name.now.bytes ≡ false) }
-        ensures may_change { OnOk result (self.changes < CHANGES) }
+        ensures new { (spans : ℕ → ℕ → List Stretch) → OnOk result (has ((state_by self.now spans).referents route.now.bytes) name.now.bytes ≡ false) }
+        ensures may_change { OnOk result (self.now.changes < CHANGES) }
     {
         let entry = self.catalog.named_route(route)?;
         self.new_place_on(route, entry, name, position)
@@ -41,17 +41,17 @@ impl Checks<'_> {
 
     /// The new measure of a referent that may be moved. Checks, in order: 20; 25; 23; 25, 30; 27.
     pub fn place_of_moved_referent(
-        self,
+        &self,
         route: &Name,
         name: &Name,
         position: &Position,
     ) -> Result<Measure, Refusal>
-        ensures accepted { (spans : ℕ → ℕ → List Stretch) → IfOk result (λ measure. referent_moved (state_by self spans) route.now.bytes name.now.bytes (expression_of position.now) ≡ Ok (counted 0 (with_referent (state_by self spans) route.now.bytes name.now.bytes measure))) }
-        ensures refused { (spans : ℕ → ℕ → List Stretch) → IfErr result (λ refusal. referent_moved (state_by self spans) route.now.bytes name.now.bytes (expression_of position.now) ≡ Err refusal) }
-        ensures there { OnOk result (has self.catalog.now.routes route.now.bytes ≡ true) }
+        ensures accepted { (spans : ℕ → ℕ → List Stretch) → IfOk result (λ measure. referent_moved (state_by self.now spans) route.now.bytes name.now.bytes (expression_of position.now) ≡ Ok (counted 0 (with_referent (state_by self.now spans) route.now.bytes name.now.bytes measure))) }
+        ensures refused { (spans : ℕ → ℕ → List Stretch) → IfErr result (λ refusal. referent_moved (state_by self.now spans) route.now.bytes name.now.bytes (expression_of position.now) ≡ Err refusal) }
+        ensures there { OnOk result (has self.now.catalog.now.routes route.now.bytes ≡ true) }
         ensures not_start { OnOk result (name.now.bytes ≢ start_name) }
-        ensures has { (spans : ℕ → ℕ → List Stretch) → OnOk result (has ((state_by self spans).referents route.now.bytes) name.now.bytes ≡ true) }
-        ensures may_change { OnOk result (self.changes < CHANGES) }
+        ensures has { (spans : ℕ → ℕ → List Stretch) → OnOk result (has ((state_by self.now spans).referents route.now.bytes) name.now.bytes ≡ true) }
+        ensures may_change { OnOk result (self.now.changes < CHANGES) }
     {
         let entry = self.route_of_referent(route, name)?;
         self.moved_place_on(route, entry, name, position)
@@ -59,13 +59,13 @@ impl Checks<'_> {
 
     /// The route of a referent that may be dropped. Checks, in order: 20; 25; it is START or a view's window lies by it (23);
     /// 27.
-    pub fn check_old_referent(self, route: &Name, name: &Name) -> Result<RouteEntry, Refusal>
-        ensures accepted { (spans : ℕ → ℕ → List Stretch) → OnOk result (referent_dropped (state_by self spans) route.now.bytes name.now.bytes ≡ Ok (counted 0 (without_referent (state_by self spans) route.now.bytes name.now.bytes))) }
-        ensures refused { (spans : ℕ → ℕ → List Stretch) → IfErr result (λ refusal. referent_dropped (state_by self spans) route.now.bytes name.now.bytes ≡ Err refusal) }
-        ensures there { IfOk result (λ entry. names.get self.catalog.now.routes route.now.bytes ≡ Some entry) }
+    pub fn check_old_referent(&self, route: &Name, name: &Name) -> Result<RouteEntry, Refusal>
+        ensures accepted { (spans : ℕ → ℕ → List Stretch) → OnOk result (referent_dropped (state_by self.now spans) route.now.bytes name.now.bytes ≡ Ok (counted 0 (without_referent (state_by self.now spans) route.now.bytes name.now.bytes))) }
+        ensures refused { (spans : ℕ → ℕ → List Stretch) → IfErr result (λ refusal. referent_dropped (state_by self.now spans) route.now.bytes name.now.bytes ≡ Err refusal) }
+        ensures there { IfOk result (λ entry. names.get self.now.catalog.now.routes route.now.bytes ≡ Some entry) }
         ensures not_start { OnOk result (name.now.bytes ≢ start_name) }
-        ensures has { (spans : ℕ → ℕ → List Stretch) → OnOk result (has ((state_by self spans).referents route.now.bytes) name.now.bytes ≡ true) }
-        ensures may_change { OnOk result (self.changes < CHANGES) }
+        ensures has { (spans : ℕ → ℕ → List Stretch) → OnOk result (has ((state_by self.now spans).referents route.now.bytes) name.now.bytes ≡ true) }
+        ensures may_change { OnOk result (self.now.changes < CHANGES) }
     {
         let entry = self.route_of_referent(route, name)?;
         if self.catalog.is_referent_named(route, name) {
@@ -77,18 +77,18 @@ impl Checks<'_> {
 
     /// The measure of a referent that may be defined on a route that is there (25, 30; 24; 27).
     fn new_place_on(
-        self,
+        &self,
         route: &Name,
         entry: RouteEntry,
         name: &Name,
         position: &Position,
     ) -> Result<Measure, Refusal>
-        requires there { names.get self.catalog.now.routes route.now.bytes ≡ Some entry }
-        ensures accepted { (spans : ℕ → ℕ → List Stretch) → IfOk result (λ measure. referent_defined (state_by self spans) route.now.bytes name.now.bytes (expression_of position.now) ≡ Ok (counted 0 (with_referent (state_by self spans) route.now.bytes name.now.bytes measure))) }
-        ensures refused { (spans : ℕ → ℕ → List Stretch) → IfErr result (λ refusal. referent_defined (state_by self spans) route.now.bytes name.now.bytes (expression_of position.now) ≡ Err refusal) }
+        requires there { names.get self.now.catalog.now.routes route.now.bytes ≡ Some entry }
+        ensures accepted { (spans : ℕ → ℕ → List Stretch) → IfOk result (λ measure. referent_defined (state_by self.now spans) route.now.bytes name.now.bytes (expression_of position.now) ≡ Ok (counted 0 (with_referent (state_by self.now spans) route.now.bytes name.now.bytes measure))) }
+        ensures refused { (spans : ℕ → ℕ → List Stretch) → IfErr result (λ refusal. referent_defined (state_by self.now spans) route.now.bytes name.now.bytes (expression_of position.now) ≡ Err refusal) }
         ensures not_start { OnOk result (name.now.bytes ≢ start_name) }
-        ensures new { (spans : ℕ → ℕ → List Stretch) → OnOk result (has ((state_by self spans).referents route.now.bytes) name.now.bytes ≡ false) }
-        ensures may_change { OnOk result (self.changes < CHANGES) }
+        ensures new { (spans : ℕ → ℕ → List Stretch) → OnOk result (has ((state_by self.now spans).referents route.now.bytes) name.now.bytes ≡ false) }
+        ensures may_change { OnOk result (self.now.changes < CHANGES) }
     {
         let measure = self.referents.located(entry, position)?;
         if self.has_referent(route, entry, name) {
@@ -103,17 +103,17 @@ impl Checks<'_> {
 
     /// The new measure of a referent that may be moved on its route (25, 30; 27).
     fn moved_place_on(
-        self,
+        &self,
         route: &Name,
         entry: RouteEntry,
         name: &Name,
         position: &Position,
     ) -> Result<Measure, Refusal>
-        requires there { names.get self.catalog.now.routes route.now.bytes ≡ Some entry }
-        requires movable { (spans : ℕ → ℕ → List Stretch) → route_of_referent (state_by self spans) route.now.bytes name.now.bytes ≡ Ok entry.ends }
-        ensures accepted { (spans : ℕ → ℕ → List Stretch) → IfOk result (λ measure. referent_moved (state_by self spans) route.now.bytes name.now.bytes (expression_of position.now) ≡ Ok (counted 0 (with_referent (state_by self spans) route.now.bytes name.now.bytes measure))) }
-        ensures refused { (spans : ℕ → ℕ → List Stretch) → IfErr result (λ refusal. referent_moved (state_by self spans) route.now.bytes name.now.bytes (expression_of position.now) ≡ Err refusal) }
-        ensures may_change { OnOk result (self.changes < CHANGES) }
+        requires there { names.get self.now.catalog.now.routes route.now.bytes ≡ Some entry }
+        requires movable { (spans : ℕ → ℕ → List Stretch) → route_of_referent (state_by self.now spans) route.now.bytes name.now.bytes ≡ Ok entry.ends }
+        ensures accepted { (spans : ℕ → ℕ → List Stretch) → IfOk result (λ measure. referent_moved (state_by self.now spans) route.now.bytes name.now.bytes (expression_of position.now) ≡ Ok (counted 0 (with_referent (state_by self.now spans) route.now.bytes name.now.bytes measure))) }
+        ensures refused { (spans : ℕ → ℕ → List Stretch) → IfErr result (λ refusal. referent_moved (state_by self.now spans) route.now.bytes name.now.bytes (expression_of position.now) ≡ Err refusal) }
+        ensures may_change { OnOk result (self.now.changes < CHANGES) }
     {
         let measure = self.referents.located(entry, position)?;
         self.may_change()?;
@@ -121,12 +121,12 @@ impl Checks<'_> {
     }
 
     /// The route of a referent that is there (20, 25) and is not START (23).
-    fn route_of_referent(self, route: &Name, name: &Name) -> Result<RouteEntry, Refusal>
-        ensures found { (spans : ℕ → ℕ → List Stretch) → IfOk result (λ entry. route_of_referent (state_by self spans) route.now.bytes name.now.bytes ≡ Ok entry.ends) }
-        ensures refused { (spans : ℕ → ℕ → List Stretch) → IfErr result (λ refusal. route_of_referent (state_by self spans) route.now.bytes name.now.bytes ≡ Err refusal) }
-        ensures there { IfOk result (λ entry. names.get self.catalog.now.routes route.now.bytes ≡ Some entry) }
+    fn route_of_referent(&self, route: &Name, name: &Name) -> Result<RouteEntry, Refusal>
+        ensures found { (spans : ℕ → ℕ → List Stretch) → IfOk result (λ entry. route_of_referent (state_by self.now spans) route.now.bytes name.now.bytes ≡ Ok entry.ends) }
+        ensures refused { (spans : ℕ → ℕ → List Stretch) → IfErr result (λ refusal. route_of_referent (state_by self.now spans) route.now.bytes name.now.bytes ≡ Err refusal) }
+        ensures there { IfOk result (λ entry. names.get self.now.catalog.now.routes route.now.bytes ≡ Some entry) }
         ensures not_start { OnOk result (name.now.bytes ≢ start_name) }
-        ensures has { (spans : ℕ → ℕ → List Stretch) → OnOk result (has ((state_by self spans).referents route.now.bytes) name.now.bytes ≡ true) }
+        ensures has { (spans : ℕ → ℕ → List Stretch) → OnOk result (has ((state_by self.now spans).referents route.now.bytes) name.now.bytes ≡ true) }
     {
         let entry = self.catalog.named_route(route)?;
         if !self.has_referent(route, entry, name) {
@@ -139,9 +139,9 @@ impl Checks<'_> {
     }
 
     /// Whether a route that is there has a referent of this name; each has START.
-    fn has_referent(self, route: &Name, entry: RouteEntry, name: &Name) -> bool
-        requires there { names.get self.catalog.now.routes route.now.bytes ≡ Some entry }
-        ensures { (spans : ℕ → ℕ → List Stretch) → result ≡ has_referent (state_by self spans) route.now.bytes name.now.bytes }
+    fn has_referent(&self, route: &Name, entry: RouteEntry, name: &Name) -> bool
+        requires there { names.get self.now.catalog.now.routes route.now.bytes ≡ Some entry }
+        ensures { (spans : ℕ → ℕ → List Stretch) → result ≡ has_referent (state_by self.now spans) route.now.bytes name.now.bytes }
     {
         is_start(name) || self.referents.has(entry.number(), name)
     }

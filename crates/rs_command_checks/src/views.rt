@@ -16,10 +16,10 @@ use rs_syntax::Query;
 
 impl Checks<'_> {
     /// Whether a view may be defined. Checks, in order: its query; its name is taken (24); limits (27).
-    pub fn check_new_view(self, name: &Name, query: &Query) -> Result<(), Refusal>
-        ensures accepted { (spans : ℕ → ℕ → List Stretch) → OnOk result (view_defined (state_by self spans) name.now.bytes (query_tree query.now) ≡ Ok (counted 0 (with_view (state_by self spans) name.now.bytes (query_tree query.now)))) }
-        ensures refused { (spans : ℕ → ℕ → List Stretch) → IfErr result (λ refusal. (refusal ≡ Refusal.OutOfMemory) ⊎ (view_defined (state_by self spans) name.now.bytes (query_tree query.now) ≡ Err refusal)) }
-        ensures may_change { OnOk result (self.changes < CHANGES) }
+    pub fn check_new_view(&self, name: &Name, query: &Query) -> Result<(), Refusal>
+        ensures accepted { (spans : ℕ → ℕ → List Stretch) → OnOk result (view_defined (state_by self.now spans) name.now.bytes (query_tree query.now) ≡ Ok (counted 0 (with_view (state_by self.now spans) name.now.bytes (query_tree query.now)))) }
+        ensures refused { (spans : ℕ → ℕ → List Stretch) → IfErr result (λ refusal. (refusal ≡ Refusal.OutOfMemory) ⊎ (view_defined (state_by self.now spans) name.now.bytes (query_tree query.now) ≡ Err refusal)) }
+        ensures may_change { OnOk result (self.now.changes < CHANGES) }
     {
         check(self.alloc, self.catalog, self.referents, query)?;
         if self.catalog.has_table_or_view(name) {
@@ -32,10 +32,10 @@ impl Checks<'_> {
     }
 
     /// Whether a view may be dropped. Checks, in order: 21; a view names it (23); 27.
-    pub fn check_old_view(self, name: &Name) -> Result<(), Refusal>
-        ensures accepted { (spans : ℕ → ℕ → List Stretch) → OnOk result (view_dropped (state_by self spans) name.now.bytes ≡ Ok (counted 0 (without_view (state_by self spans) name.now.bytes))) }
-        ensures refused { (spans : ℕ → ℕ → List Stretch) → IfErr result (λ refusal. view_dropped (state_by self spans) name.now.bytes ≡ Err refusal) }
-        ensures may_change { OnOk result (self.changes < CHANGES) }
+    pub fn check_old_view(&self, name: &Name) -> Result<(), Refusal>
+        ensures accepted { (spans : ℕ → ℕ → List Stretch) → OnOk result (view_dropped (state_by self.now spans) name.now.bytes ≡ Ok (counted 0 (without_view (state_by self.now spans) name.now.bytes))) }
+        ensures refused { (spans : ℕ → ℕ → List Stretch) → IfErr result (λ refusal. view_dropped (state_by self.now spans) name.now.bytes ≡ Err refusal) }
+        ensures may_change { OnOk result (self.now.changes < CHANGES) }
     {
         if self.catalog.view(name).is_none() {
             return Err(Refusal::NoSuchName);
