@@ -24,6 +24,7 @@ use Rattle.rs_catalog.specs.Uses.{some_view_query, some_piece_on}
 use Rattle.rs_catalog.proofs.StateLaws.{get-routes_of, get-views_of, get-tables_from, get-indexes_of, len-routes_of, len-views_of, len-tables_from, len-indexes_of}
 use Rattle.rs_cursor.specs.Held.{cursors_of}
 use Rattle.rs_command_checks.specs.declared.checks.Checks.{Checks}
+use Rattle.rs_command_checks.specs.Facts.{TellsOfFacts}
 use Rattle.rs_command_checks.specs.States.{state_by}
 
 pub below-true : (a b : ℕ) → a < b → nat_lt a b ≡ true
@@ -174,6 +175,11 @@ module _ (checks : Checks) (spans : ℕ → ℕ → List Stretch) (name of colum
       index_checked e f = rw (table_at checks spans of item there, is, has_index checks spans name false e, len-indexes_of checks.catalog.now, below-true (names.len checks.catalog.now.indexes) INDEXES f)
 
 -- ---- what is dropped
+
+-- what the caller tells of facts on a route that is there
+pub told : (checks : Checks) (spans : ℕ → ℕ → List Stretch) (name : Name) (item : RouteItem) (has_facts b : Bool) → names.get checks.catalog.now.routes name ≡ Some item
+    → TellsOfFacts (state_by checks spans) name has_facts → has_facts ≡ b → some_table (state_by checks spans) (has_fact_on name item.ends) ≡ b
+told checks spans name item has_facts b there tells is = sym (tells item.ends (route_at checks spans name item there)) ∙ is
 
 module _ (checks : Checks) (spans : ℕ → ℕ → List Stretch) (name : Name) where
   pub drops_no_route : names.get checks.catalog.now.routes name ≡ None → route_dropped (state_by checks spans) name ≡ Err NoSuchRoute

@@ -2,52 +2,50 @@ use Rattle.std.proofs.Common.{◌≡◌, Ok, Err, sym, ap, subst, ◌∙◌}
 use Rattle.std.specs.FinMap as names
 use Rattle.std.proofs.lemmas.Result.{err_from_is_err_and}
 use Rattle.rs_refusal.specs.declared.refusal.Refusal.TheVariants.{NoSuchRoute}
-use Rattle.rs_event_lists.specs.Changed.{HasSpansOn, HasNoSpansOn}
 use Rattle.rs_machine.specs.Step.{counted, may_change, route_dropped, without_route}
-use Rattle.rs_command_checks.proofs.SpansOnRoutes.{fact_on, no_fact_on}
-use Rattle.rs_command_checks.proofs.Outcomes.{found_some, found_none, drops_no_route, drops_used_route, drops_aligned_route, drops_seen_route, drops_waited_route, drops_route, may_ok, may_err}
+use Rattle.rs_command_checks.proofs.Outcomes.{found_some, found_none, told, drops_no_route, drops_used_route, drops_aligned_route, drops_seen_route, drops_waited_route, drops_route, may_ok, may_err}
 use Rattle.rs_command_checks.proofs.checks.Checks.check_old_route.Goals as goal
 
 pub returns-in_err-route-clause-refused : goal.returns-in_err-route-clause-refused
-returns-in_err-route-clause-refused c = λ spans.
+returns-in_err-route-clause-refused c = λ spans tells.
     let p = err_from_is_err_and c.from_residual.result c.from_residual.ensures.1 in
     let none = found_none (names.get c.args.self.now.catalog.now.routes c.args.name.now.bytes) NoSuchRoute c.in_err-route.field-0.0 c.in_err-route.ensures in
     rw (p.1, p.2) ((drops_no_route c.args.self.now spans c.args.name.now.bytes none.0 ∙ ap Err (sym none.1)))
 
-pub returns-then-has_events_on-clause-refused : goal.returns-then-has_events_on-clause-refused
-returns-then-has_events_on-clause-refused c = λ spans.
+pub returns-then-has_facts-clause-refused : goal.returns-then-has_facts-clause-refused
+returns-then-has_facts-clause-refused c = λ spans tells.
     let there = found_some (names.get c.args.self.now.catalog.now.routes c.args.name.now.bytes) NoSuchRoute c.in_ok-route.route c.in_ok-route.ensures in
-    drops_used_route c.args.self.now spans c.args.name.now.bytes c.in_ok-route.route there (fact_on c.args.self.now spans c.args.name.now.bytes c.in_ok-route.route c.self.invariant there (subst (HasSpansOn c.self.inside.events) c.number.ensures (c.has_events_on.ensures.some c.if-has_events_on.true)))
+    drops_used_route c.args.self.now spans c.args.name.now.bytes c.in_ok-route.route there (told c.args.self.now spans c.args.name.now.bytes c.in_ok-route.route c.args.has_facts _ there tells c.if-has_facts.true)
 
 pub returns-then-is_route_aligned-clause-refused : goal.returns-then-is_route_aligned-clause-refused
-returns-then-is_route_aligned-clause-refused c = λ spans.
+returns-then-is_route_aligned-clause-refused c = λ spans tells.
     let there = found_some (names.get c.args.self.now.catalog.now.routes c.args.name.now.bytes) NoSuchRoute c.in_ok-route.route c.in_ok-route.ensures in
-    drops_aligned_route c.args.self.now spans c.args.name.now.bytes c.in_ok-route.route there (no_fact_on c.args.self.now spans c.args.name.now.bytes c.in_ok-route.route c.self.invariant there (subst (HasNoSpansOn c.self.inside.events) c.number.ensures (c.has_events_on.ensures.none c.if-has_events_on.false)))
+    drops_aligned_route c.args.self.now spans c.args.name.now.bytes c.in_ok-route.route there (told c.args.self.now spans c.args.name.now.bytes c.in_ok-route.route c.args.has_facts _ there tells c.if-has_facts.false)
     (sym c.is_route_aligned.ensures ∙ c.if-is_route_aligned.true)
 
 pub returns-then-is_route_named-clause-refused : goal.returns-then-is_route_named-clause-refused
-returns-then-is_route_named-clause-refused c = λ spans.
+returns-then-is_route_named-clause-refused c = λ spans tells.
     let there = found_some (names.get c.args.self.now.catalog.now.routes c.args.name.now.bytes) NoSuchRoute c.in_ok-route.route c.in_ok-route.ensures in
-    drops_seen_route c.args.self.now spans c.args.name.now.bytes c.in_ok-route.route there (no_fact_on c.args.self.now spans c.args.name.now.bytes c.in_ok-route.route c.self.invariant there (subst (HasNoSpansOn c.self.inside.events) c.number.ensures (c.has_events_on.ensures.none c.if-has_events_on.false)))
+    drops_seen_route c.args.self.now spans c.args.name.now.bytes c.in_ok-route.route there (told c.args.self.now spans c.args.name.now.bytes c.in_ok-route.route c.args.has_facts _ there tells c.if-has_facts.false)
     (sym c.is_route_aligned.ensures ∙ c.if-is_route_aligned.false) (sym c.is_route_named.ensures ∙ c.if-is_route_named.true)
 
 pub returns-then-any-clause-refused : goal.returns-then-any-clause-refused
-returns-then-any-clause-refused c = λ spans.
+returns-then-any-clause-refused c = λ spans tells.
     let there = found_some (names.get c.args.self.now.catalog.now.routes c.args.name.now.bytes) NoSuchRoute c.in_ok-route.route c.in_ok-route.ensures in
-    drops_waited_route c.args.self.now spans c.args.name.now.bytes c.in_ok-route.route there (no_fact_on c.args.self.now spans c.args.name.now.bytes c.in_ok-route.route c.self.invariant there (subst (HasNoSpansOn c.self.inside.events) c.number.ensures (c.has_events_on.ensures.none c.if-has_events_on.false)))
+    drops_waited_route c.args.self.now spans c.args.name.now.bytes c.in_ok-route.route there (told c.args.self.now spans c.args.name.now.bytes c.in_ok-route.route c.args.has_facts _ there tells c.if-has_facts.false)
     (sym c.is_route_aligned.ensures ∙ c.if-is_route_aligned.false) (sym c.is_route_named.ensures ∙ c.if-is_route_named.false) (sym c.any.ensures ∙ c.if-any.true)
 
 pub returns-in_err-may_change-clause-refused : goal.returns-in_err-may_change-clause-refused
-returns-in_err-may_change-clause-refused c = λ spans.
+returns-in_err-may_change-clause-refused c = λ spans tells.
     let p = err_from_is_err_and c.from_residual-in_err-may_change.result c.from_residual-in_err-may_change.ensures.1 in
     let there = found_some (names.get c.args.self.now.catalog.now.routes c.args.name.now.bytes) NoSuchRoute c.in_ok-route.route c.in_ok-route.ensures in
-    rw (p.1, p.2) ((drops_route c.args.self.now spans c.args.name.now.bytes c.in_ok-route.route there (no_fact_on c.args.self.now spans c.args.name.now.bytes c.in_ok-route.route c.self.invariant there (subst (HasNoSpansOn c.self.inside.events) c.number.ensures (c.has_events_on.ensures.none c.if-has_events_on.false)))
+    rw (p.1, p.2) ((drops_route c.args.self.now spans c.args.name.now.bytes c.in_ok-route.route there (told c.args.self.now spans c.args.name.now.bytes c.in_ok-route.route c.args.has_facts _ there tells c.if-has_facts.false)
     (sym c.is_route_aligned.ensures ∙ c.if-is_route_aligned.false) (sym c.is_route_named.ensures ∙ c.if-is_route_named.false) (sym c.any.ensures ∙ c.if-any.false)
     ∙ may_err c.args.self.now spans _ _ (c.in_err-may_change.ensures.answer spans)))
 
 pub returns-clause-accepted : goal.returns-clause-accepted
-returns-clause-accepted c = λ spans.
+returns-clause-accepted c = λ spans tells.
     let there = found_some (names.get c.args.self.now.catalog.now.routes c.args.name.now.bytes) NoSuchRoute c.in_ok-route.route c.in_ok-route.ensures in
-    drops_route c.args.self.now spans c.args.name.now.bytes c.in_ok-route.route there (no_fact_on c.args.self.now spans c.args.name.now.bytes c.in_ok-route.route c.self.invariant there (subst (HasNoSpansOn c.self.inside.events) c.number.ensures (c.has_events_on.ensures.none c.if-has_events_on.false)))
+    drops_route c.args.self.now spans c.args.name.now.bytes c.in_ok-route.route there (told c.args.self.now spans c.args.name.now.bytes c.in_ok-route.route c.args.has_facts _ there tells c.if-has_facts.false)
     (sym c.is_route_aligned.ensures ∙ c.if-is_route_aligned.false) (sym c.is_route_named.ensures ∙ c.if-is_route_named.false) (sym c.any.ensures ∙ c.if-any.false)
     ∙ may_ok c.args.self.now spans _ (c.in_ok-may_change.ensures.answer spans)
