@@ -98,6 +98,10 @@ pub found_none : {X : Type 0} (o : Option X) (refusal other : Refusal) → Err o
 found_none (Some y) refusal other e = cc
 found_none None refusal other e = (refl, cc)
 
+pub on_ok : {A B : Type 0} (r : Result A B) (P : Type 0) → P → OnOk r P
+on_ok (Ok x) P p = p
+on_ok (Err e) P p = tt
+
 -- ---- a route's definition
 
 module _ (checks : Checks) (spans : ℕ → ℕ → List Stretch) (name : Name) (start finish : ℕ) where

@@ -1,5 +1,5 @@
 -- What the machine answers where a referent is to be defined, moved or dropped.
-use Rattle.std.proofs.Common.{◌≡◌, ℕ, ◌+◌, ◌<◌, ◌≤◌, Bool, true, false, not, nat_lt, ◌||◌, Option, Some, None, Result, Ok, Err, refl, sym, ap, ◌∙◌}
+use Rattle.std.proofs.Common.{◌≡◌, ℕ, ◌+◌, ◌<◌, ◌≤◌, Bool, true, false, not, nat_lt, ◌||◌, List, Option, Some, None, Result, Ok, Err, refl, sym, ap, ◌∙◌}
 use Rattle.std.specs.FinMap as names
 use Rattle.std.specs.Cmp.{eq_by_cmp_equiv}
 use Rattle.rs_refusal.specs.declared.refusal.Refusal.{Refusal}
@@ -9,11 +9,13 @@ use Rattle.rs_facts.specs.Fact.{Name, Names}
 use Rattle.rs_facts.specs.Insert.{same_name}
 use Rattle.rs_facts.specs.Query.{RouteEnds}
 use Rattle.rs_machine.specs.declared.limits.TheConstants.{REFERENTS}
+use Rattle.rs_machine.specs.Opening.{names_referent}
 use Rattle.rs_machine.specs.State.{has}
 use Rattle.rs_machine.specs.Checks.{◌>>=◌, unless, found, has_referent, position_on}
-use Rattle.rs_machine.specs.Step.{Effect, counted, may_change, with_referents, referent_defined, referent_moved}
+use Rattle.rs_machine.specs.Step.{Effect, counted, may_change, with_referents, referent_defined, referent_moved, referent_dropped}
 use Rattle.rs_catalog.specs.Definitions.{RouteItem}
 use Rattle.rs_catalog.specs.Referents.{referents_on}
+use Rattle.rs_catalog.specs.Uses.{some_view_query}
 use Rattle.rs_catalog.proofs.NameOrder.{name_cmp-total}
 use Rattle.rs_catalog_laws.proofs.Numbers.{false_true}
 use Rattle.rs_catalog_laws.proofs.OtherReferents as laws
@@ -117,6 +119,58 @@ old_no_route checks spans route name none = rw (no_route checks spans route none
 
 pub new_no_route : (checks : Checks) (spans : ℕ → ℕ → List Stretch) (route name : Name) (position : PositionExpression) → names.get checks.catalog.now.routes route ≡ None → referent_defined (state_by checks spans) route name position ≡ Err NoSuchRoute
 new_no_route checks spans route name position none = rw (no_route checks spans route none)
+
+-- the checks of a referent that may be moved or dropped, and what comes after them
+abbrev old_checks : Option RouteEnds → Bool → Bool → Result RouteEnds Refusal
+old_checks o is_there start = found o NoSuchRoute >>= λ ends. unless is_there NoSuchReferent >>= λ _. unless (not start) InUse >>= λ _. Ok ends
+
+moving_fails : {B : Type 0} (o : Option RouteEnds) (is_there start : Bool) (next : RouteEnds → Result B Refusal) (refusal : Refusal) → old_checks o is_there start ≡ Err refusal
+    → (found o NoSuchRoute >>= λ ends. unless is_there NoSuchReferent >>= λ _. unless (not start) InUse >>= λ _. next ends) ≡ Err refusal
+moving_fails None is_there start next refusal e = cc
+moving_fails (Some ends) false start next refusal e = cc
+moving_fails (Some ends) true true next refusal e = cc
+moving_fails (Some ends) true false next refusal e = cc
+
+abbrev dropping : {B : Type 0} → Option RouteEnds → Bool → Bool → Bool → Result B Refusal → Result B Refusal
+dropping o is_there start used next = found o NoSuchRoute >>= λ _. unless is_there NoSuchReferent >>= λ _. unless (not (start || used)) InUse >>= λ _. next
+
+dropping_fails : {B : Type 0} (o : Option RouteEnds) (is_there start used : Bool) (next : Result B Refusal) (refusal : Refusal) → old_checks o is_there start ≡ Err refusal
+    → dropping o is_there start used next ≡ Err refusal
+dropping_fails None is_there start used next refusal e = cc
+dropping_fails (Some ends) false start used next refusal e = cc
+dropping_fails (Some ends) true true used next refusal e = cc
+dropping_fails (Some ends) true false used next refusal e = cc
+
+dropping_goes_on : {B : Type 0} (o : Option RouteEnds) (is_there start used : Bool) (next : Result B Refusal) (at : RouteEnds) → old_checks o is_there start ≡ Ok at
+    → dropping o is_there start used next ≡ (unless (not used) InUse >>= λ _. next)
+dropping_goes_on None is_there start used next at e = cc
+dropping_goes_on (Some ends) false start used next at e = cc
+dropping_goes_on (Some ends) true true used next at e = cc
+dropping_goes_on (Some ends) true false used next at e = refl
+
+module _ (checks : Checks) (spans : ℕ → ℕ → List Stretch) (route name : Name) where
+  pub moves_none : (position : PositionExpression) (refusal : Refusal) → route_of_referent (state_by checks spans) route name ≡ Err refusal → referent_moved (state_by checks spans) route name position ≡ Err refusal
+  moves_none position refusal e = moving_fails (names.get (state_by checks spans).routes route) (has_referent (state_by checks spans) route name) (same_name start_name name)
+      (λ ends. position_on (state_by checks spans) route ends position >>= λ measure. may_change (state_by checks spans) >>= λ _. Ok (counted 0 (with_referent (state_by checks spans) route name measure))) refusal e
+
+  abbrev after_drop : Result Effect Refusal
+  after_drop = may_change (state_by checks spans) >>= λ _. Ok (counted 0 (without_referent (state_by checks spans) route name))
+
+  pub drops_none : (refusal : Refusal) → route_of_referent (state_by checks spans) route name ≡ Err refusal → referent_dropped (state_by checks spans) route name ≡ Err refusal
+  drops_none refusal e = dropping_fails (names.get (state_by checks spans).routes route) (has_referent (state_by checks spans) route name) (same_name start_name name)
+      (some_view_query checks.catalog.now (names_referent route name)) after_drop refusal e
+
+  module _ (ends : RouteEnds) (found_there : route_of_referent (state_by checks spans) route name ≡ Ok ends) where
+    found_so : referent_dropped (state_by checks spans) route name ≡ (unless (not (some_view_query checks.catalog.now (names_referent route name))) InUse >>= λ _. after_drop)
+    found_so = dropping_goes_on (names.get (state_by checks spans).routes route) (has_referent (state_by checks spans) route name) (same_name start_name name)
+        (some_view_query checks.catalog.now (names_referent route name)) after_drop ends found_there
+
+    pub drops_seen_referent : some_view_query checks.catalog.now (names_referent route name) ≡ true → referent_dropped (state_by checks spans) route name ≡ Err InUse
+    drops_seen_referent e = found_so ∙ ap (λ b. unless (not b) InUse >>= λ _. after_drop) e
+
+    pub drops_referent : some_view_query checks.catalog.now (names_referent route name) ≡ false → referent_dropped (state_by checks spans) route name
+        ≡ (may_change (state_by checks spans) >>= λ _. Ok (counted 0 (without_referent (state_by checks spans) route name)))
+    drops_referent e = found_so ∙ ap (λ b. unless (not b) InUse >>= λ _. after_drop) e
 
 -- a name that is not START's
 pub not_start : (name : Name) → same_name start_name name ≡ false → name ≡ start_name → ⊥
