@@ -10,7 +10,7 @@ pub returns-in_err-route-clause-refused : goal.returns-in_err-route-clause-refus
 returns-in_err-route-clause-refused c = λ spans tells.
     let p = err_from_is_err_and c.from_residual.result c.from_residual.ensures.1 in
     let none = found_none (names.get c.args.self.now.catalog.now.routes c.args.name.now.bytes) NoSuchRoute c.in_err-route.field-0.0 c.in_err-route.ensures in
-    rw (p.1, p.2) ((drops_no_route c.args.self.now spans c.args.name.now.bytes none.0 ∙ ap Err (sym none.1)))
+    rw (p.1, p.2) (drops_no_route c.args.self.now spans c.args.name.now.bytes none.0 ∙ ap Err (sym none.1))
 
 pub returns-then-has_facts-clause-refused : goal.returns-then-has_facts-clause-refused
 returns-then-has_facts-clause-refused c = λ spans tells.
@@ -39,9 +39,9 @@ pub returns-in_err-may_change-clause-refused : goal.returns-in_err-may_change-cl
 returns-in_err-may_change-clause-refused c = λ spans tells.
     let p = err_from_is_err_and c.from_residual-in_err-may_change.result c.from_residual-in_err-may_change.ensures.1 in
     let there = found_some (names.get c.args.self.now.catalog.now.routes c.args.name.now.bytes) NoSuchRoute c.in_ok-route.route c.in_ok-route.ensures in
-    rw (p.1, p.2) ((drops_route c.args.self.now spans c.args.name.now.bytes c.in_ok-route.route there (told c.args.self.now spans c.args.name.now.bytes c.in_ok-route.route c.args.has_facts _ there tells c.if-has_facts.false)
+    rw (p.1, p.2) (drops_route c.args.self.now spans c.args.name.now.bytes c.in_ok-route.route there (told c.args.self.now spans c.args.name.now.bytes c.in_ok-route.route c.args.has_facts _ there tells c.if-has_facts.false)
     (sym c.is_route_aligned.ensures ∙ c.if-is_route_aligned.false) (sym c.is_route_named.ensures ∙ c.if-is_route_named.false) (sym c.any.ensures ∙ c.if-any.false)
-    ∙ may_err c.args.self.now spans _ _ (c.in_err-may_change.ensures.answer spans)))
+    ∙ may_err c.args.self.now spans _ _ (c.in_err-may_change.ensures.answer spans))
 
 pub returns-clause-accepted : goal.returns-clause-accepted
 returns-clause-accepted c = λ spans tells.

@@ -10,7 +10,7 @@ pub returns-in_err-named_table-clause-refused : goal.returns-in_err-named_table-
 returns-in_err-named_table-clause-refused c = λ spans.
     let p = err_from_is_err_and c.from_residual.result c.from_residual.ensures.1 in
     let none = found_none (names.get c.args.self.now.catalog.now.tables c.args.name.now.bytes) NoSuchName c.in_err-named_table.field-0.0 c.in_err-named_table.ensures in
-    rw (p.1, p.2) ((drops_no_table c.args.self.now spans c.args.name.now.bytes none.0 ∙ ap Err (sym none.1)))
+    rw (p.1, p.2) (drops_no_table c.args.self.now spans c.args.name.now.bytes none.0 ∙ ap Err (sym none.1))
 
 pub returns-then-is_query_named-clause-refused : goal.returns-then-is_query_named-clause-refused
 returns-then-is_query_named-clause-refused c = λ spans.
@@ -26,8 +26,8 @@ pub returns-in_err-may_change-clause-refused : goal.returns-in_err-may_change-cl
 returns-in_err-may_change-clause-refused c = λ spans.
     let p = err_from_is_err_and c.from_residual-in_err-may_change.result c.from_residual-in_err-may_change.ensures.1 in
     let there = found_some (names.get c.args.self.now.catalog.now.tables c.args.name.now.bytes) NoSuchName _ c.in_ok-named_table.ensures in
-    rw (p.1, p.2) ((drops_table c.args.self.now spans c.args.name.now.bytes _ there (sym c.is_query_named.ensures ∙ c.if-is_query_named.false) (sym c.any.ensures ∙ c.if-any.false)
-    ∙ may_err c.args.self.now spans _ _ (c.in_err-may_change.ensures.answer spans)))
+    rw (p.1, p.2) (drops_table c.args.self.now spans c.args.name.now.bytes _ there (sym c.is_query_named.ensures ∙ c.if-is_query_named.false) (sym c.any.ensures ∙ c.if-any.false)
+    ∙ may_err c.args.self.now spans _ _ (c.in_err-may_change.ensures.answer spans))
 
 pub returns-clause-accepted : goal.returns-clause-accepted
 returns-clause-accepted c = λ spans.
