@@ -1,22 +1,22 @@
 -- What the machine answers where a cursor is to be opened.
-use Rattle.std.proofs.Common.{◌≡◌, ℕ, ◌<◌, ◌≤◌, true, false, not, nat_lt, List, length, take, drop, Option, None, Result, Ok, Err, refl, sym, ap, ◌∙◌}
+use Rattle.std.proofs.Common.{◌≡◌, ℕ, ◌<◌, ◌≤◌, true, false, not, nat_lt, List, Result, Ok, Err, refl, ap, ◌∙◌}
 use Rattle.std.specs.FinMap as names
 use Rattle.rs_refusal.specs.declared.refusal.Refusal.{Refusal}
-use Rattle.rs_refusal.specs.declared.refusal.Refusal.TheVariants.{NoSuchCursor, CursorNameTaken, TooManyCursors}
+use Rattle.rs_refusal.specs.declared.refusal.Refusal.TheVariants.{CursorNameTaken, TooManyCursors}
 use Rattle.rs_methods.specs.declared.position.Method.{Method}
 use Rattle.rs_facts.specs.Fact.{Name}
 use Rattle.rs_facts.specs.Query.{Query}
 use Rattle.rs_syntax.specs.Tree.{QueryTree}
 use Rattle.rs_machine.specs.declared.limits.TheConstants.{CURSORS}
-use Rattle.rs_machine.specs.State.{RowText, has, cursors_at}
-use Rattle.rs_machine.specs.Checks.{◌>>=◌, found, unless}
+use Rattle.rs_machine.specs.State.{has}
+use Rattle.rs_machine.specs.Checks.{◌>>=◌, unless}
 use Rattle.rs_machine.specs.Checking.{checked}
-use Rattle.rs_machine.specs.Step.{Effect, effect, counted, lines_of, with_cursor, cursor_opened, rows_fetched, cursor_closed}
+use Rattle.rs_machine.specs.Step.{Effect, counted, lines_of, with_cursor, cursor_opened}
 use Rattle.rs_cursor.specs.Held.{cursors_of}
 use Rattle.rs_facts.specs.Runs.{Stretch}
 use Rattle.rs_command_checks.specs.declared.checks.Checks.{Checks}
 use Rattle.rs_command_checks.specs.States.{state_by}
-use Rattle.rs_command_checks.proofs.Outcomes.{below-true, below-false, none_there, some_of}
+use Rattle.rs_command_checks.proofs.Outcomes.{below-true, below-false}
 
 -- ---- a cursor is opened
 

@@ -1,5 +1,5 @@
 -- What an insertion and a removal that pass their checks change.
-use Rattle.std.proofs.Common.{◌≡◌, ℕ, suc, ◌+◌, ◌<◌, ◌≤◌, true, false, nat_lt, List, Option, Some, Result, Ok, Err, refl, sym, ap, subst, ◌∙◌, arith}
+use Rattle.std.proofs.Common.{◌≡◌, ℕ, suc, ◌+◌, ◌<◌, ◌≤◌, true, nat_lt, List, Option, Some, Result, Ok, Err, refl, sym, ap, subst, ◌∙◌, arith}
 use Rattle.std.specs.FinMap as names
 use Rattle.rs_refusal.specs.declared.refusal.Refusal.{Refusal}
 use Rattle.rs_methods.specs.Position.{PositionExpression}
@@ -14,7 +14,7 @@ use Rattle.rs_facts.specs.Query.{RouteEnds, Table}
 use Rattle.rs_facts.specs.Runs.{Stretch}
 use Rattle.rs_facts.specs.Spans.{IsPlaced}
 use Rattle.rs_syntax.specs.Tree.{EventLocationTree, along, at_point, WindowTree, ConditionTree}
-use Rattle.rs_machine.specs.Checks.{◌>>=◌, window_route, same_kind, location_kind, column_types}
+use Rattle.rs_machine.specs.Checks.{◌>>=◌, same_kind, location_kind, column_types}
 use Rattle.rs_machine.specs.Step.{Effect, counted, may_change, row_inserted, rows_removed, with_table, with_facts_along, without_facts}
 use Rattle.rs_catalog.specs.Events.{behind}
 use Rattle.rs_catalog.specs.Referents.{referents_on}

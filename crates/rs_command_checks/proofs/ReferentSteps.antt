@@ -1,5 +1,5 @@
 -- What the machine answers where a referent is to be defined, moved or dropped.
-use Rattle.std.proofs.Common.{◌≡◌, ℕ, ◌+◌, ◌<◌, ◌≤◌, Bool, true, false, not, nat_lt, ◌||◌, List, Option, Some, None, Result, Ok, Err, refl, sym, ap, ◌∙◌}
+use Rattle.std.proofs.Common.{◌≡◌, ℕ, ◌<◌, ◌≤◌, Bool, true, false, not, nat_lt, ◌||◌, List, Option, Some, None, Result, Ok, Err, refl, sym, ap, ◌∙◌}
 use Rattle.std.specs.FinMap as names
 use Rattle.std.specs.Cmp.{eq_by_cmp_equiv}
 use Rattle.rs_refusal.specs.declared.refusal.Refusal.{Refusal}
@@ -12,7 +12,7 @@ use Rattle.rs_machine.specs.declared.limits.TheConstants.{REFERENTS}
 use Rattle.rs_machine.specs.Opening.{names_referent}
 use Rattle.rs_machine.specs.State.{has}
 use Rattle.rs_machine.specs.Checks.{◌>>=◌, unless, found, has_referent, position_on}
-use Rattle.rs_machine.specs.Step.{Effect, counted, may_change, with_referents, referent_defined, referent_moved, referent_dropped}
+use Rattle.rs_machine.specs.Step.{Effect, counted, may_change, referent_defined, referent_moved, referent_dropped}
 use Rattle.rs_catalog.specs.Definitions.{RouteItem}
 use Rattle.rs_catalog.specs.Referents.{referents_on}
 use Rattle.rs_catalog.specs.Uses.{some_view_query}

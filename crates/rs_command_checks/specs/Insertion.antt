@@ -1,5 +1,5 @@
 -- What the checks of an insertion find.
-use Rattle.std.specs.Prelude.{◌≡◌, ◌≤◌, ℕ, true, Some, Ok}
+use Rattle.std.specs.Prelude.{◌≡◌, ◌≤◌, true, Some, Ok}
 use Rattle.std.specs.FinMap as names
 use Rattle.rs_value.specs.Row.{Row}
 use Rattle.rs_value.specs.Values.{IsRowOf}

@@ -1,8 +1,6 @@
 use Rattle.std.proofs.Common.{map, false, refl, sym, ◌∙◌, arith}
 use Rattle.std.proofs.lemmas.List.{length-map}
-use Rattle.rs_refusal.specs.declared.refusal.Refusal.TheVariants.{NameTaken}
 use Rattle.rs_syntax.specs.View.{piece_tree}
-use Rattle.rs_machine.specs.Step.{alignment_defined}
 use Rattle.rs_command_checks.proofs.Outcomes.{alignment_taken, alignment_checked, last_refused, lent_there, lent_is}
 use Rattle.rs_command_checks.proofs.checks.Checks.check_new_alignment.Goals as goal
 

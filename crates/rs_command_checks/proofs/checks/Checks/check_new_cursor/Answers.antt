@@ -1,10 +1,6 @@
-use Rattle.std.proofs.Common.{◌≡◌, ⊎_elim, inl, inr, Ok, Err, sym, subst, ◌∙◌, arith}
+use Rattle.std.proofs.Common.{⊎_elim, inl, inr, sym, ◌∙◌, arith}
 use Rattle.std.proofs.lemmas.Result.{err_from_is_err_and}
-use Rattle.rs_refusal.specs.declared.refusal.Refusal.TheVariants.{CursorNameTaken, TooManyCursors}
 use Rattle.rs_syntax.specs.QueryView.{query_tree}
-use Rattle.rs_machine.specs.Checking.{checked}
-use Rattle.rs_machine.specs.Step.{counted, lines_of, with_cursor, cursor_opened}
-use Rattle.rs_checker.specs.CheckedView.{query_of}
 use Rattle.rs_command_checks.proofs.CursorSteps.{open_unchecked, open_taken, open_too_many, open_checked}
 use Rattle.rs_command_checks.proofs.checks.Checks.check_new_cursor.Goals as goal
 

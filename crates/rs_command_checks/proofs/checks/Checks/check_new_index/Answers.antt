@@ -1,9 +1,7 @@
-use Rattle.std.proofs.Common.{◌≡◌, true, false, Ok, Err, sym, ap, subst, ◌∙◌, arith}
+use Rattle.std.proofs.Common.{true, false, Err, sym, ap, ◌∙◌, arith}
 use Rattle.std.specs.FinMap as names
 use Rattle.std.proofs.lemmas.Result.{err_from_is_err_and}
-use Rattle.rs_refusal.specs.declared.refusal.Refusal.TheVariants.{NoSuchName, NameTaken, Limit}
-use Rattle.rs_machine.specs.Step.{counted, may_change, index_defined, with_index}
-use Rattle.rs_catalog.specs.Definitions.{IsColumnOf}
+use Rattle.rs_refusal.specs.declared.refusal.Refusal.TheVariants.{NoSuchName}
 use Rattle.rs_command_checks.proofs.Outcomes.{found_some, found_none, index_of_no_table, index_of_no_column, index_taken, index_too_many, index_checked, may_ok, may_err, lent_is}
 use Rattle.rs_command_checks.proofs.checks.Checks.check_new_index.Goals as goal
 

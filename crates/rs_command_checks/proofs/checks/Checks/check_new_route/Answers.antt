@@ -1,6 +1,5 @@
-use Rattle.std.proofs.Common.{◌≡◌, Ok, Err, sym, ap, subst, ◌∙◌, arith}
-use Rattle.std.specs.Prelude.{is_some, OnOk, IfErr}
-use Rattle.rs_machine.specs.Step.{counted, may_change, route_defined, with_route}
+use Rattle.std.proofs.Common.{sym, ap, ◌∙◌, arith}
+use Rattle.std.specs.Prelude.{is_some}
 use Rattle.rs_command_checks.proofs.Outcomes.{route_taken, route_empty, route_too_many, route_checked, last_accepted, last_refused}
 use Rattle.rs_command_checks.proofs.checks.Checks.check_new_route.Goals as goal
 

@@ -1,8 +1,6 @@
-use Rattle.std.proofs.Common.{◌≡◌, Ok, Err, sym, ap, map, subst, ◌∙◌, arith}
-use Rattle.std.specs.Prelude.{OnOk, IfErr}
+use Rattle.std.proofs.Common.{sym, map, ◌∙◌, arith}
 use Rattle.std.proofs.lemmas.List.{length-map}
 use Rattle.rs_syntax.specs.View.{column_tree}
-use Rattle.rs_machine.specs.Step.{counted, may_change, table_defined, with_table, empty_table}
 use Rattle.rs_command_checks.proofs.Outcomes.{table_taken, table_column_twice, table_too_wide, table_too_many, table_checked, last_accepted, last_refused}
 use Rattle.rs_command_checks.proofs.checks.Checks.check_new_table.Goals as goal
 

@@ -1,9 +1,6 @@
-use Rattle.std.proofs.Common.{◌≡◌, ◌⊎◌, ⊎_elim, inl, inr, Ok, Err, sym, ap, subst, ◌∙◌, arith}
-use Rattle.std.specs.Prelude.{OnOk, IfErr}
+use Rattle.std.proofs.Common.{⊎_elim, inl, inr, sym, ◌∙◌, arith}
 use Rattle.std.proofs.lemmas.Result.{err_from_is_err_and}
-use Rattle.rs_refusal.specs.declared.refusal.Refusal.TheVariants.{NameTaken, Limit, OutOfMemory}
 use Rattle.rs_syntax.specs.QueryView.{query_tree}
-use Rattle.rs_machine.specs.Step.{counted, may_change, view_defined, with_view}
 use Rattle.rs_command_checks.specs.States.{rest_by}
 use Rattle.rs_command_checks.proofs.Outcomes.{view_unchecked, view_taken, view_too_many, view_checked, last_accepted, last_refused, or_later}
 use Rattle.rs_command_checks.proofs.checks.Checks.check_new_view.Goals as goal

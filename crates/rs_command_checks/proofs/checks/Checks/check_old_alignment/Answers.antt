@@ -1,7 +1,4 @@
-use Rattle.std.proofs.Common.{◌≡◌, true, false, Ok, Err, sym, ap, subst, ◌∙◌}
-use Rattle.std.specs.Prelude.{OnOk, IfErr}
-use Rattle.rs_refusal.specs.declared.refusal.Refusal.TheVariants.{NoSuchName, InUse}
-use Rattle.rs_machine.specs.Step.{counted, may_change, alignment_dropped, without_alignment}
+use Rattle.std.proofs.Common.{true, false, sym, ◌∙◌}
 use Rattle.rs_command_checks.proofs.Outcomes.{drops_no_alignment, drops_seen_alignment, drops_alignment, last_accepted, last_refused, none_there, lent_there, some_of}
 use Rattle.rs_command_checks.proofs.checks.Checks.check_old_alignment.Goals as goal
 

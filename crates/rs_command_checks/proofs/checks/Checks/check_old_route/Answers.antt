@@ -1,8 +1,7 @@
-use Rattle.std.proofs.Common.{◌≡◌, Ok, Err, sym, ap, subst, ◌∙◌}
+use Rattle.std.proofs.Common.{Err, sym, ap, ◌∙◌}
 use Rattle.std.specs.FinMap as names
 use Rattle.std.proofs.lemmas.Result.{err_from_is_err_and}
 use Rattle.rs_refusal.specs.declared.refusal.Refusal.TheVariants.{NoSuchRoute}
-use Rattle.rs_machine.specs.Step.{counted, may_change, route_dropped, without_route}
 use Rattle.rs_command_checks.proofs.Outcomes.{found_some, found_none, told, drops_no_route, drops_used_route, drops_aligned_route, drops_seen_route, drops_waited_route, drops_route, may_ok, may_err}
 use Rattle.rs_command_checks.proofs.checks.Checks.check_old_route.Goals as goal
 

@@ -1,8 +1,7 @@
-use Rattle.std.proofs.Common.{◌≡◌, Ok, Err, sym, ap, subst, ◌∙◌}
+use Rattle.std.proofs.Common.{Err, sym, ap, ◌∙◌}
 use Rattle.std.specs.FinMap as names
 use Rattle.std.proofs.lemmas.Result.{err_from_is_err_and}
-use Rattle.rs_refusal.specs.declared.refusal.Refusal.TheVariants.{NoSuchName, InUse}
-use Rattle.rs_machine.specs.Step.{counted, may_change, table_dropped, without_table}
+use Rattle.rs_refusal.specs.declared.refusal.Refusal.TheVariants.{NoSuchName}
 use Rattle.rs_command_checks.proofs.Outcomes.{found_some, found_none, drops_no_table, drops_seen_table, drops_waited_table, drops_table, may_ok, may_err}
 use Rattle.rs_command_checks.proofs.checks.Checks.check_old_table.Goals as goal
 

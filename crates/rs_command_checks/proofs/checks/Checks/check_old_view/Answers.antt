@@ -1,7 +1,4 @@
-use Rattle.std.proofs.Common.{◌≡◌, true, false, Ok, Err, sym, ap, subst, ◌∙◌}
-use Rattle.std.specs.Prelude.{OnOk, IfErr}
-use Rattle.rs_refusal.specs.declared.refusal.Refusal.TheVariants.{NoSuchName, InUse}
-use Rattle.rs_machine.specs.Step.{counted, may_change, view_dropped, without_view}
+use Rattle.std.proofs.Common.{true, false, sym, ◌∙◌}
 use Rattle.rs_command_checks.proofs.Outcomes.{drops_no_view, drops_seen_view, drops_view, last_accepted, last_refused, none_there, lent_there, some_of}
 use Rattle.rs_command_checks.proofs.checks.Checks.check_old_view.Goals as goal
 

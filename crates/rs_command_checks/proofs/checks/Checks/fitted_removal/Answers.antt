@@ -1,4 +1,4 @@
-use Rattle.std.proofs.Common.{◌≡◌, ◌≤◌, length, inl, inr, Ok, Err, ⊎_elim, sym, ap, subst, ◌∙◌}
+use Rattle.std.proofs.Common.{◌≡◌, ◌≤◌, length, inl, inr, Err, ⊎_elim, sym, ap, subst, ◌∙◌}
 use Rattle.std.proofs.lemmas.List.{length-map}
 use Rattle.std.proofs.lemmas.Result.{err_from_is_err_and}
 use Rattle.std.specs.FinMap as names
@@ -7,9 +7,6 @@ use Rattle.rs_value.specs.declared.column.TheConstants.{COLUMNS}
 use Rattle.rs_syntax.specs.View.{column_tree, removal_tree}
 use Rattle.rs_syntax.specs.QueryView.{window_tree}
 use Rattle.rs_machine.specs.Checking.{removal_checked}
-use Rattle.rs_machine.specs.Step.{rows_removed}
-use Rattle.rs_catalog.specs.Referents.{referents_on}
-use Rattle.rs_command_checks.specs.Located.{window_span_by}
 use Rattle.rs_command_checks.proofs.Outcomes.{found_some, found_none}
 use Rattle.rs_command_checks.proofs.EventChecks.{removal_no_route, removal_no_table, removal_off_route, removal_no_test}
 use Rattle.rs_command_checks.proofs.checks.Checks.fitted_removal.Goals as goal

@@ -1,15 +1,12 @@
-use Rattle.std.proofs.Common.{◌≡◌, ◌≤◌, length, inr, Ok, Err, sym, ap, subst, ◌∙◌}
+use Rattle.std.proofs.Common.{◌≤◌, length, inr, Err, sym, ap, subst, ◌∙◌}
 use Rattle.std.proofs.lemmas.List.{length-map}
 use Rattle.std.proofs.lemmas.Result.{err_from_is_err_and}
 use Rattle.std.specs.FinMap as names
-use Rattle.rs_refusal.specs.declared.refusal.Refusal.TheVariants.{NoSuchRoute, NoSuchName, PointOrLineWanted}
+use Rattle.rs_refusal.specs.declared.refusal.Refusal.TheVariants.{NoSuchRoute, NoSuchName}
 use Rattle.rs_value.specs.View.{literal_row}
 use Rattle.rs_value.specs.declared.column.TheConstants.{COLUMNS}
 use Rattle.rs_syntax.specs.View.{column_tree, location_tree}
 use Rattle.rs_machine.specs.Checks.{same_kind, location_kind, row_fits}
-use Rattle.rs_machine.specs.Step.{row_inserted}
-use Rattle.rs_catalog.specs.Referents.{referents_on}
-use Rattle.rs_command_checks.specs.Located.{event_span_by}
 use Rattle.rs_command_checks.proofs.Outcomes.{found_some, found_none}
 use Rattle.rs_command_checks.proofs.EventChecks.{row_no_route, row_no_table, row_off_route, row_other_kind, row_misfit}
 use Rattle.rs_command_checks.proofs.checks.Checks.fitted_span.Goals as goal

@@ -1,7 +1,5 @@
-use Rattle.std.proofs.Common.{◌≡◌, Some, sym, ap, subst, ◌∙◌}
-use Rattle.std.specs.FinMap as names
+use Rattle.std.proofs.Common.{sym, ap, ◌∙◌}
 use Rattle.rs_machine.specs.State.{has}
-use Rattle.rs_machine.specs.Checks.{has_referent}
 use Rattle.rs_catalog.specs.Referents.{referents_on}
 use Rattle.rs_command_checks.proofs.ReferentSteps.{has_referent_there}
 use Rattle.rs_command_checks.proofs.checks.Checks.has_referent.Goals as goal

@@ -1,9 +1,6 @@
-use Rattle.std.proofs.Common.{◌≡◌, Some, Ok, Err, sym, ap, subst, ◌∙◌}
-use Rattle.std.specs.FinMap as names
+use Rattle.std.proofs.Common.{◌∙◌}
 use Rattle.std.proofs.lemmas.Result.{err_from_is_err_and}
 use Rattle.rs_methods.specs.Position.{expression_of}
-use Rattle.rs_machine.specs.Step.{counted, may_change, referent_moved}
-use Rattle.rs_command_checks.specs.Referents.{route_of_referent, with_referent}
 use Rattle.rs_command_checks.proofs.Outcomes.{may_ok, may_err}
 use Rattle.rs_command_checks.proofs.ReferentSteps.{moved_off_route, moved_checked}
 use Rattle.rs_command_checks.proofs.checks.Checks.moved_place_on.Goals as goal

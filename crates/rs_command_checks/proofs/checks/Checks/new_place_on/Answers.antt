@@ -1,14 +1,10 @@
-use Rattle.std.proofs.Common.{ℕ, List, [], ◌≡◌, Some, Ok, Err, sym, ap, subst, ◌∙◌, arith}
+use Rattle.std.proofs.Common.{ℕ, List, [], sym, ap, subst, ◌∙◌, arith}
 use Rattle.std.specs.FinMap as names
 use Rattle.std.proofs.Common.{◌≤◌, ◌<◌}
 use Rattle.std.proofs.lemmas.Result.{err_from_is_err_and}
-use Rattle.rs_refusal.specs.declared.refusal.Refusal.TheVariants.{NameTaken, Limit}
 use Rattle.rs_methods.specs.Position.{expression_of}
 use Rattle.rs_machine.specs.declared.limits.TheConstants.{REFERENTS}
-use Rattle.rs_machine.specs.Checks.{has_referent}
-use Rattle.rs_machine.specs.Step.{counted, may_change, referent_defined}
 use Rattle.rs_catalog.specs.Referents.{referents_on}
-use Rattle.rs_command_checks.specs.Referents.{with_referent}
 use Rattle.rs_facts.specs.Runs.{Stretch}
 use Rattle.rs_command_checks.proofs.Outcomes.{may_ok, may_err}
 use Rattle.rs_command_checks.proofs.ReferentSteps.{new_off_route, new_taken, new_too_many, new_checked, new_not_start, new_has}

@@ -1,11 +1,7 @@
-use Rattle.std.proofs.Common.{◌≡◌, true, Ok, Err, sym, ap, subst, ◌∙◌}
+use Rattle.std.proofs.Common.{Err, sym, ap, ◌∙◌}
 use Rattle.std.specs.FinMap as names
 use Rattle.std.proofs.lemmas.Result.{err_from_is_err_and}
-use Rattle.rs_refusal.specs.declared.refusal.Refusal.TheVariants.{NoSuchRoute, NoSuchReferent, InUse}
-use Rattle.rs_machine.specs.State.{has}
-use Rattle.rs_machine.specs.Checks.{has_referent}
-use Rattle.rs_catalog.specs.Referents.{referents_on}
-use Rattle.rs_command_checks.specs.Referents.{route_of_referent}
+use Rattle.rs_refusal.specs.declared.refusal.Refusal.TheVariants.{NoSuchRoute}
 use Rattle.rs_command_checks.proofs.Outcomes.{found_some, found_none}
 use Rattle.rs_command_checks.proofs.ReferentSteps.{old_no_route, old_missing, old_is_start, old_found, old_has, not_start}
 use Rattle.rs_command_checks.proofs.checks.Checks.route_of_referent.Goals as goal

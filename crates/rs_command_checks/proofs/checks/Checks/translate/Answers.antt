@@ -1,9 +1,8 @@
-use Rattle.std.proofs.Common.{◌≡◌, ◌∷◌, [], length, inr, Ok, Err, sym, ap, subst, ◌∙◌}
+use Rattle.std.proofs.Common.{inr, Err, sym, ap, ◌∙◌}
 use Rattle.std.proofs.lemmas.Result.{err_from_is_err_and}
 use Rattle.std.specs.FinMap as names
 use Rattle.rs_refusal.specs.declared.refusal.Refusal.TheVariants.{NoSuchRoute}
 use Rattle.rs_methods.specs.Position.{expression_of}
-use Rattle.rs_machine.specs.Step.{effect, position_text, position_translated}
 use Rattle.rs_serve.specs.ReplyView.{rows_of}
 use Rattle.rs_command_checks.proofs.Outcomes.{found_some, found_none}
 use Rattle.rs_command_checks.proofs.Translations.{translated_no_route, translated_off_route, translated_at}

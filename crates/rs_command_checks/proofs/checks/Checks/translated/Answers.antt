@@ -1,6 +1,4 @@
-use Rattle.std.proofs.Common.{◌≡◌, Some, [], ◌∷◌, sym, ap, subst, ◌∙◌}
-use Rattle.std.specs.FinMap as names
-use Rattle.rs_machine.specs.Step.{position_text}
+use Rattle.std.proofs.Common.{[], ◌∷◌, ap, ◌∙◌}
 use Rattle.rs_serve.specs.ReplyView.{rows_of}
 use Rattle.rs_command_checks.proofs.Translations.{text_there}
 use Rattle.rs_command_checks.proofs.checks.Checks.translated.Goals as goal
