@@ -310,17 +310,7 @@ module _ (checks : Checks) (spans : ℕ → ℕ → List Stretch) (name : Name) 
   pub alignment_taken : is_some (names.get checks.catalog.now.alignments name) ≡ true → Aligned (Err NameTaken)
   alignment_taken e = rw e
 
-  module _ (new : is_some (names.get checks.catalog.now.alignments name) ≡ false) where
-    pub alignment_too_many : ALIGNMENTS ≤ names.len checks.catalog.now.alignments → Aligned (Err Limit)
-    alignment_too_many e = rw (new, below-false (names.len checks.catalog.now.alignments) ALIGNMENTS e)
-
-    module _ (room : names.len checks.catalog.now.alignments < ALIGNMENTS) where
-      pub alignment_too_long : PIECES < length written → Aligned (Err Limit)
-      alignment_too_long e = rw (new, below-true (names.len checks.catalog.now.alignments) ALIGNMENTS room, upto-false (length written) PIECES e)
-
-      pub alignment_off : length written ≤ PIECES → (refusal : Refusal) → pieces_checked (routes_of checks.catalog.now) written ≡ Err refusal → Aligned (Err refusal)
-      alignment_off e refusal off = rw (new, below-true (names.len checks.catalog.now.alignments) ALIGNMENTS room, upto-true (length written) PIECES e, off)
-
-      pub alignment_checked : length written ≤ PIECES → (pieces : List Piece) → pieces_checked (routes_of checks.catalog.now) written ≡ Ok pieces
-          → Aligned (may_change (state_by checks spans) >>= λ _. Ok (counted 0 (with_alignment (state_by checks spans) name pieces)))
-      alignment_checked e pieces is = rw (new, below-true (names.len checks.catalog.now.alignments) ALIGNMENTS room, upto-true (length written) PIECES e, is)
+  pub alignment_checked : is_some (names.get checks.catalog.now.alignments name) ≡ false → names.len checks.catalog.now.alignments < ALIGNMENTS
+      → length written ≤ PIECES → (pieces : List Piece) → pieces_checked (routes_of checks.catalog.now) written ≡ Ok pieces
+      → Aligned (may_change (state_by checks spans) >>= λ _. Ok (counted 0 (with_alignment (state_by checks spans) name pieces)))
+  alignment_checked new room e pieces is = rw (new, below-true (names.len checks.catalog.now.alignments) ALIGNMENTS room, upto-true (length written) PIECES e, is)

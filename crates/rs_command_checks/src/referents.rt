@@ -9,7 +9,6 @@ ghost use Rattle.rs_machine.specs.State.{has};
 ghost use Rattle.rs_machine.specs.Checks.{has_referent};
 ghost use Rattle.rs_machine.specs.Step.{counted, referent_defined, referent_moved, referent_dropped};
 ghost use Rattle.rs_machine.specs.declared.limits.TheConstants.{CHANGES};
-ghost use Rattle.rs_catalog.specs.Referents.{referents_on};
 ghost use Rattle.rs_command_checks.specs.Referents.{route_of_referent, with_referent, without_referent};
 ghost use Rattle.rs_command_checks.specs.States.{state_by};
 
