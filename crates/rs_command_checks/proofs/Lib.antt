@@ -7,3 +7,4 @@ mod Positions
 mod Rows
 mod EventChecks
 mod EventResults
+mod SpansOnRoutes

@@ -11,6 +11,7 @@ mod definitions;
 mod drops;
 mod events;
 mod indexes;
+pub mod laws;
 mod queries;
 mod referents;
 mod views;
