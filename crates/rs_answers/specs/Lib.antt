@@ -1,0 +1,7 @@
+pub mod Present
+pub mod Plans
+pub mod Standing
+pub mod Counts
+pub mod Printed
+pub mod Totalled
+pub mod Routes

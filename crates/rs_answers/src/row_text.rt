@@ -1,0 +1,53 @@
+//! The text of the rows that a query answers, one line for each run.
+//!
+//! It promises to append the machine's line of each run, in the order of the runs.
+
+ghost use Rattle.std.specs.Prelude.{◌≡◌, ◌++◌, map, IfOk, OnOk, string_bytes};
+ghost use Rattle.rs_facts.specs.LineText.{line_of};
+ghost use Rattle.rs_facts.specs.Spans.{seen};
+ghost use Rattle.rs_serve.specs.ReplyView.{rows_of};
+ghost use Rattle.rs_answers.specs.Printed.{printed_by};
+
+use crate::printer::PositionPrinter;
+use rs_facts::Span;
+use rs_value::{Kind, push_values};
+use std::alloc::{AllocError, Global};
+
+/// The room that a line is given at first, in bytes; it takes more where it needs more.
+const LINE_ROOM: usize = 48;
+
+/// Appends the line of each run of one route.
+pub(crate) fn push_lines(
+    alloc: Global,
+    kind: Kind,
+    printer: &PositionPrinter<'_>,
+    runs: &[Span],
+    rows: &mut Vec<String>,
+) -> Result<(), AllocError>
+    ensures { OnOk result (rows_of rows.new.items ≡ rows_of rows.old.items ++ map (line_of (printed_by printer.now) kind printer.now.name.now.bytes) (map seen runs.now)) }
+{
+    for run in runs {
+        rows.push(line_text(alloc, kind, printer, run)?)?;
+    }
+    Ok(())
+}
+
+/// The line of one run: the route, its position or its two positions, and its values.
+fn line_text(
+    alloc: Global,
+    kind: Kind,
+    printer: &PositionPrinter<'_>,
+    run: &Span,
+) -> Result<String, AllocError>
+    ensures { IfOk result (λ text. string_bytes text ≡ line_of (printed_by printer.now) kind printer.now.name.now.bytes (seen run.now)) }
+{
+    let mut text = String::with_capacity(alloc, LINE_ROOM)?;
+    text.push_str(printer.name.as_str())?;
+    printer.push(&mut text, run.lo)?;
+    match kind {
+        Kind::Point => (),
+        Kind::Line => printer.push(&mut text, run.hi)?,
+    }
+    push_values(&mut text, &run.tuple)?;
+    Ok(text)
+}
