@@ -5,3 +5,5 @@ mod CanPlan
 mod PlannedRows
 mod LineTexts
 mod QueryAnswers
+mod TotalRows
+mod Leavings

@@ -1,7 +1,9 @@
 -- The lines of a query, on one route and on all.
-use Rattle.std.proofs.Common.{◌≡◌, ℕ, zero, suc, ◌<◌, List, [], ◌∷◌, ◌++◌, map, flat_map, length, get_or, Some, refl, sym, ap, subst, ◌∙◌, append_assoc, arith}
+use Rattle.std.proofs.Common.{◌≡◌, ℕ, zero, suc, ◌+◌, ◌<◌, List, [], ◌∷◌, ◌++◌, map, flat_map, length, take, get_or, append-nil, Some, refl, sym, ap, subst, ◌∙◌, append_assoc, arith}
 use Rattle.std.proofs.Math.Path.{fun_ext}
-use Rattle.std.proofs.lemmas.List.{map-append}
+use Rattle.std.proofs.lemmas.List.{map-append, take_more}
+use Rattle.std.proofs.Math.Seq.{take-length}
+use Rattle.std.proofs.lemmas.Grind.{flat_map-append}
 use Rattle.std.specs.List.{AllByRecursion}
 use Rattle.std.specs.FinMap as names
 use Rattle.arrayvec.specs.ArrayString.{ArrayString}
@@ -21,12 +23,11 @@ use Rattle.rs_catalog.proofs.Names.{each_entry, entries-map_values}
 use Rattle.rs_plan.specs.declared.plan.Plan.{Plan}
 use Rattle.rs_exec.specs.Snapshot.{Snapshot}
 use Rattle.rs_exec.specs.Meaning.{rows_in, kind_in}
-use Rattle.rs_answers.specs.declared.printer.PositionPrinter.{PositionPrinter}
 use Rattle.rs_answers.specs.declared.routes.NamedRoute.{NamedRoute}
 use Rattle.rs_answers.specs.Routes.{entry_of}
 use Rattle.rs_answers.specs.Plans.{IsPlanFor}
 use Rattle.rs_answers.specs.Present.{IsPresent}
-use Rattle.rs_answers.specs.Printed.{place_on, printed_by, printed_position, IsPlaceOn}
+use Rattle.rs_answers.specs.Printed.{place_on, printed_position, IsPlaceOn}
 use Rattle.rs_answers.proofs.LineTexts.{place-same, lines-same}
 use Rattle.rs_answers.proofs.PlannedRows.{runs-planned}
 use Rattle.rs_answers.proofs.QueryRuns.{RowsLieOnRoutes, runs-printable, runs-printed}
@@ -45,15 +46,8 @@ routes-more routes one left rest next =
 -- ---- the lines of a planned query on one route
 
 module _ (rows-lie : RowsLieOnRoutes) (definitions : Definitions) (referents : Numbered HeldReferents) (state : State) (snapshot : Snapshot) (present : IsPresent definitions referents state snapshot)
-    (query : Query) (plan : Plan) (for : IsPlanFor definitions query plan) (printer : PositionPrinter) (kept : printer.referents.now ≡ referents)
-    (there : names.get definitions.routes printer.name.now.bytes ≡ Some printer.route)
-    (runs : List Stretch) (are : AreRunsOf (kind_in plan) (rows_in plan snapshot printer.route.number) runs) where
-  abbrev route : Name
-  route = printer.name.now.bytes
-
-  abbrev on : RouteItem
-  on = printer.route
-
+    (query : Query) (plan : Plan) (for : IsPlanFor definitions query plan) (route : Name) (on : RouteItem) (there : names.get definitions.routes route ≡ Some on)
+    (runs : List Stretch) (are : AreRunsOf (kind_in plan) (rows_in plan snapshot on.number) runs) where
   abbrev kind : Kind
   kind = kind_of (world_of state) query
 
@@ -63,24 +57,28 @@ module _ (rows-lie : RowsLieOnRoutes) (definitions : Definitions) (referents : N
   there-too : names.get state.routes route ≡ Some on.ends
   there-too = route-at definitions (referents_on referents) state present.defined route on there
 
-  text-there : (place : ℕ) → printed_position printer.referents.now on printer.method place ≡ position_text state route on.ends printer.method place
-  unfolding printed_position
-  text-there place =
-      ap (λ (kept : Numbered HeldReferents). expression_text (expression_at on.ends.start on.ends.finish (names.entries (referents_on kept on.number)) printer.method place)) kept
-      ∙ ap (λ (referents : Names ℕ). expression_text (expression_at on.ends.start on.ends.finish (names.entries referents) printer.method place))
-      (sym (referents-at definitions (referents_on referents) state present.defined route on there))
+  module _ (kept : Numbered HeldReferents) (kept-are : kept ≡ referents) (method : Method) where
+    text-there : (place : ℕ) → printed_position kept on method place ≡ position_text state route on.ends method place
+    unfolding printed_position
+    text-there place =
+        ap (λ (kept : Numbered HeldReferents). expression_text (expression_at on.ends.start on.ends.finish (names.entries (referents_on kept on.number)) method place)) kept-are
+        ∙ ap (λ (referents : Names ℕ). expression_text (expression_at on.ends.start on.ends.finish (names.entries referents) method place))
+        (sym (referents-at definitions (referents_on referents) state present.defined route on there))
 
-  printed-there : (place : ℕ) → IsPlaceOn on.ends place → printed_by printer place ≡ position_text state route on.ends printer.method place
-  printed-there place lies = ap (printed_position printer.referents.now on printer.method) (place-same on.ends place lies) ∙ text-there place
+    abbrev printed : ℕ → RowText
+    printed place = printed_position kept on method (place_on on.ends place)
 
-  pub query-lines : (told : Kind) → told ≡ kind_in plan → map (line_of (printed_by printer) told route) runs ≡ lines_on state query printer.method route on.ends
-  query-lines told same =
-      let means = for.means referents state snapshot present in
-      ap (λ (k : Kind). map (line_of (printed_by printer) k route) runs) (same ∙ means.kind)
-      ∙ lines-same (printed_by printer) (position_text state route on.ends printer.method) on.ends printed-there route kind runs
-          (runs-printable rows-lie state present.lawful query means.formed route on.ends there-too runs are-runs)
-      ∙ ap (map (line_of (position_text state route on.ends printer.method) kind route))
-          (runs-printed rows-lie state present.lawful query means.formed route on.ends there-too runs are-runs)
+    printed-there : (place : ℕ) → IsPlaceOn on.ends place → printed place ≡ position_text state route on.ends method place
+    printed-there place lies = ap (printed_position kept on method) (place-same on.ends place lies) ∙ text-there place
+
+    pub query-lines : (told : Kind) → told ≡ kind_in plan → map (line_of printed told route) runs ≡ lines_on state query method route on.ends
+    query-lines told same =
+        let means = for.means referents state snapshot present in
+        ap (λ (k : Kind). map (line_of printed k route) runs) (same ∙ means.kind)
+        ∙ lines-same printed (position_text state route on.ends method) on.ends printed-there route kind runs
+            (runs-printable rows-lie state present.lawful query means.formed route on.ends there-too runs are-runs)
+        ∙ ap (map (line_of (position_text state route on.ends method) kind route))
+            (runs-printed rows-lie state present.lawful query means.formed route on.ends there-too runs are-runs)
 
 -- ---- the lines of a query on all routes
 
@@ -113,7 +111,30 @@ each-there definitions [] k other h all = absurd (omega arith)
 each-there definitions (one ∷ routes) zero other h all = all.0
 each-there definitions (one ∷ routes) (suc k) other h all = each-there definitions routes k other (omega arith) all.1
 
-pub route-there : (definitions : Definitions) (routes : List NamedRoute) (k : ℕ) (other : NamedRoute) → k < length routes → map entry_of routes ≡ names.entries definitions.routes
+route-there : (definitions : Definitions) (routes : List NamedRoute) (k : ℕ) (other : NamedRoute) → k < length routes → map entry_of routes ≡ names.entries definitions.routes
     → names.get definitions.routes (get_or routes k other).name.bytes ≡ Some (get_or routes k other).route
 route-there definitions routes k other h all = each-there definitions routes k other h
     (subst (AllByRecursion (λ (e : Name × RouteItem). names.get definitions.routes e.0 ≡ Some e.1)) (sym all) (each_entry definitions.routes))
+
+-- one route's lines after those of the routes before it
+pub lines-more : (state : State) (query : Query) (method : Method) (routes : List NamedRoute) (k : ℕ) (one : NamedRoute) (old new : List RowText) → k < length routes → one ≡ get_or routes k one
+    → old ≡ lines_so_far state query method (take k routes) → new ≡ old ++ lines_on state query method one.name.bytes one.route.ends → new ≡ lines_so_far state query method (take (k + 1) routes)
+lines-more state query method routes k one old new h is so adds =
+    let each : NamedRoute → List RowText = λ named. lines_on state query method named.name.bytes named.route.ends in
+    adds
+    ∙ ap (λ l. l ++ each one) so
+    ∙ ap (λ l. lines_so_far state query method (take k routes) ++ l) (ap each is ∙ sym (append-nil (each (get_or routes k one))))
+    ∙ sym (flat_map-append each (take k routes) (get_or routes k one ∷ []))
+    ∙ ap (lines_so_far state query method) (sym (take_more routes k one h))
+
+pub lines-end : (state : State) (query : Query) (method : Method) (routes : List NamedRoute) (k : ℕ) → k ≡ length routes → lines_so_far state query method (take k routes) ≡ lines_so_far state query method routes
+lines-end state query method routes k e = ap (λ (n : ℕ). lines_so_far state query method (take n routes)) e ∙ ap (lines_so_far state query method) (take-length routes)
+
+-- each of them is there in definitions that are the same
+pub named-there : (definitions later : Definitions) → later ≡ definitions → (routes : List NamedRoute) (k : ℕ) (one : NamedRoute) → k < length routes → one ≡ get_or routes k one → map entry_of routes ≡ names.entries definitions.routes
+    → names.get later.routes one.name.bytes ≡ Some one.route
+named-there definitions later same routes k one h is all =
+    ap (λ (d : Definitions). names.get d.routes one.name.bytes) same
+    ∙ ap (λ (named : NamedRoute). names.get definitions.routes named.name.bytes) is
+    ∙ route-there definitions routes k one h all
+    ∙ ap (λ (named : NamedRoute). Some named.route) (sym is)

@@ -18,6 +18,7 @@ use crate::printer::PositionPrinter;
 use crate::routes::{NamedRoute, named_routes};
 use crate::row_text::push_lines;
 use crate::runs::runs_on;
+use rs_machine_laws::printed::rows_lie_on_routes;
 use rs_methods::Method;
 use rs_refusal::Refusal;
 use std::alloc::Global;
@@ -61,6 +62,7 @@ fn push_rows<E: InMemory>(
         → rows_of rows.new.items ≡ rows_of rows.old.items ++ lines_on state query method named.now.name.bytes named.now.route.ends) }
     ensures ends { EndsWith E.Source e.old e.new result }
 {
+    rows_lie_on_routes();
     let runs = runs_on(
         alloc,
         e,

@@ -27,6 +27,7 @@ use crate::runs::runs_on;
 
 use rs_checker::{Columns, check_group, check_summed};
 use rs_coalesce::lent;
+use rs_machine_laws::printed::rows_lie_on_routes;
 use rs_methods::Name;
 use rs_refusal::Refusal;
 use rs_total::{Total, Totals, push_total};
@@ -100,6 +101,7 @@ fn add_rows<E: InMemory>(
         → AreTotalsOf by column (done ++ along_route state query named.now.name.bytes named.now.route.ends ∷ []) totals.new) }
     ensures ends { EndsWith E.Source e.old e.new result }
 {
+    rows_lie_on_routes();
     let runs = runs_on(
         alloc,
         e,
