@@ -1,17 +1,17 @@
 -- The counts that a plan is chosen by are those of a state, and its indexes are those of the definitions.
-use Rattle.std.proofs.Common.{◌≡◌, ℕ, true, false, ◌==◌, nat_eq, List, [], ◌∷◌, ◌++◌, map, length, Some, refl, sym, ap, subst, ◌∙◌}
+use Rattle.std.proofs.Common.{◌≡◌, true, false, ◌==◌, nat_eq, List, [], ◌∷◌, ◌++◌, map, length, Some, refl, sym, ap, subst, ◌∙◌}
 use Rattle.std.proofs.lemmas.Bool.Decides.{Decides-eqb}
 use Rattle.std.proofs.lemmas.List.{map-append, append_assoc}
 use Rattle.std.specs.List.{AllByRecursion}
 use Rattle.std.specs.FinMap as names
 use Rattle.std.specs.Cmp.{eq_by_cmp_equiv}
 use Rattle.arrayvec.specs.ArrayString.{ArrayString}
-use Rattle.rs_facts.specs.Fact.{Name, Names}
+use Rattle.rs_facts.specs.Fact.{Name}
 use Rattle.rs_facts.specs.Insert.{same_name}
-use Rattle.rs_facts.specs.Query.{Query, World, table_columns}
-use Rattle.rs_planning.specs.Basis.{Basis, IndexedColumn}
+use Rattle.rs_facts.specs.Query.{table_columns}
+use Rattle.rs_planning.specs.Basis.{Basis}
 use Rattle.rs_planning.specs.Numbered.{Numbered, numbered_table, numbered_route, numbered_index}
-use Rattle.rs_catalog.specs.Definitions.{RouteItem, TableItem, IndexItem, Definitions, AreDefinitions, IsColumnOf, indexes_of, indexed_column}
+use Rattle.rs_catalog.specs.Definitions.{TableItem, IndexItem, Definitions, AreDefinitions, IsColumnOf, indexes_of, indexed_column}
 use Rattle.rs_catalog.specs.Names.{entries_by_bytes}
 use Rattle.rs_catalog.proofs.Names.{each_entry, entries-map_values}
 use Rattle.rs_catalog.proofs.MapLaws.{some_same, same_name-true}

@@ -1,12 +1,10 @@
 -- A source that was read stands for what it stood for, and what is in memory is the same.
 use Rattle.std.proofs.Common.{◌≡◌, ℕ, sym, subst}
-use Rattle.std.specs.FinMap as names
 use Rattle.rs_facts.specs.Query.{Query}
 use Rattle.rs_machine.specs.State.{State}
 use Rattle.rs_catalog.specs.Definitions.{Definitions, Numbered}
 use Rattle.rs_catalog.specs.Referents.{HeldReferents}
 use Rattle.rs_plan.specs.declared.plan.Plan.{Plan}
-use Rattle.rs_exec.specs.Snapshot.{Snapshots}
 use Rattle.rs_exec.specs.Leaving.{LeavesBehind}
 use Rattle.rs_exec.specs.declared.source.Source as spans
 use Rattle.rs_answers.specs.declared.memory.InMemory as memory

@@ -1,5 +1,5 @@
 -- The plan of a checked query, evaluated on the present of a state, has the query's rows.
-use Rattle.std.proofs.Common.{◌≡◌, ℕ, true, false, List, [], ◌∷◌, ◌++◌, map, length, Option, Some, None, refl, sym, ap, subst, ◌∙◌, arith}
+use Rattle.std.proofs.Common.{◌≡◌, ℕ, true, List, [], ◌∷◌, ◌++◌, map, length, Option, Some, None, refl, sym, ap, subst, ◌∙◌, arith}
 use Rattle.std.proofs.Math.Path.{fun_ext}
 use Rattle.std.specs.Prelude.{Contains}
 use Rattle.std.specs.List.{AllByRecursion}
@@ -7,7 +7,6 @@ use Rattle.std.specs.Option.{option_map}
 use Rattle.std.specs.FinMap as names
 use Rattle.std.proofs.lemmas.List.Elements.{All-from_recursion, All-contains}
 use Rattle.rs_value.specs.declared.column.Kind.{Kind}
-use Rattle.rs_value.specs.Row.{Row}
 use Rattle.rs_facts.specs.Fact.{Name, Names, Places, Facts, contains, none, no_facts}
 use Rattle.rs_facts.specs.Query.{World, Query, Table, table_columns, facts_of, rows_at, kind_of}
 use Rattle.rs_facts.specs.Runs.{Stretch, AreRunsOf}
@@ -41,7 +40,7 @@ use Rattle.rs_plan.specs.PlanView as planned
 use Rattle.rs_plan.specs.PlanView.{plan_tree}
 use Rattle.rs_plan.specs.declared.counts.Index.{Index}
 use Rattle.rs_plan.specs.declared.plan.Plan.{Plan}
-use Rattle.rs_exec.specs.Snapshot.{NumberedTable, Snapshot}
+use Rattle.rs_exec.specs.Snapshot.{Snapshot}
 use Rattle.rs_exec.specs.Meaning.{rows_in, kind_in, is_well_formed}
 use Rattle.rs_exec.specs.Agreement.{IsNumberedTable, AgreesOn, AreDistinct, PlansAreTheSame}
 use Rattle.rs_answers.specs.Counts.{HasIndexes, AreCounted}

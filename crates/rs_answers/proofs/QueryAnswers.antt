@@ -1,6 +1,5 @@
 -- The lines of a query, on one route and on all.
 use Rattle.std.proofs.Common.{◌≡◌, ℕ, zero, suc, ◌+◌, ◌<◌, List, [], ◌∷◌, ◌++◌, map, flat_map, length, take, get_or, append-nil, Some, refl, sym, ap, subst, ◌∙◌, append_assoc, arith}
-use Rattle.std.proofs.Math.Path.{fun_ext}
 use Rattle.std.proofs.lemmas.List.{map-append, take_more}
 use Rattle.std.proofs.Math.Seq.{take-length}
 use Rattle.std.proofs.lemmas.Grind.{flat_map-append}
@@ -16,7 +15,7 @@ use Rattle.rs_facts.specs.Runs.{Stretch, AreRunsOf}
 use Rattle.rs_facts.specs.LineText.{line_of}
 use Rattle.rs_machine.specs.State.{State, RowText, world_of}
 use Rattle.rs_machine.specs.Step.{position_text, lines_on, lines_of}
-use Rattle.rs_catalog.specs.Definitions.{Numbered, RouteItem, Definitions, routes_of}
+use Rattle.rs_catalog.specs.Definitions.{Numbered, RouteItem, Definitions}
 use Rattle.rs_catalog.specs.Names.{entries_by_bytes}
 use Rattle.rs_catalog.specs.Referents.{HeldReferents, referents_on}
 use Rattle.rs_catalog.proofs.Names.{each_entry, entries-map_values}
@@ -76,9 +75,9 @@ module _ (rows-lie : RowsLieOnRoutes) (definitions : Definitions) (referents : N
         let means = for.means referents state snapshot present in
         ap (λ (k : Kind). map (line_of printed k route) runs) (same ∙ means.kind)
         ∙ lines-same printed (position_text state route on.ends method) on.ends printed-there route kind runs
-            (runs-printable rows-lie state present.lawful query means.formed route on.ends there-too runs are-runs)
+        (runs-printable rows-lie state present.lawful query means.formed route on.ends there-too runs are-runs)
         ∙ ap (map (line_of (position_text state route on.ends method) kind route))
-            (runs-printed rows-lie state present.lawful query means.formed route on.ends there-too runs are-runs)
+        (runs-printed rows-lie state present.lawful query means.formed route on.ends there-too runs are-runs)
 
 -- ---- the lines of a query on all routes
 

@@ -8,7 +8,7 @@ use Rattle.rs_value.specs.Row.{Row}
 use Rattle.rs_facts.specs.Fact.{Name, Places, contains}
 use Rattle.rs_facts.specs.Query.{RouteEnds, Query, rows_at, kind_of}
 use Rattle.rs_facts.specs.WellFormed.{IsWellFormed}
-use Rattle.rs_facts.specs.Runs.{Stretch, IsLineRun, IsPointRun, IsMaximalRun, AreRunsOf, LieWithin, runs_of}
+use Rattle.rs_facts.specs.Runs.{Stretch, IsLineRun, IsPointRun, IsMaximalRun, AreRunsOf, LieWithin}
 use Rattle.rs_facts.specs.Spans.{places_of}
 use Rattle.rs_facts.proofs.KeptLaws.{every-weaker}
 use Rattle.rs_facts.proofs.Apart.{kept-apart}
@@ -18,7 +18,7 @@ use Rattle.rs_machine.specs.Lawful.{MayHoldAt, IsLawful, OnRoute}
 use Rattle.rs_machine.specs.State.{State, world_of}
 use Rattle.rs_machine.specs.Step.{printed_runs}
 use Rattle.rs_catalog.proofs.MapLaws.{some_same}
-use Rattle.rs_answers.specs.Printed.{IsPlaceOn, IsWithinEnds}
+use Rattle.rs_answers.specs.Printed.{IsWithinEnds}
 
 -- the rows of a well-formed query lie on routes that are there
 abbrev pub RowsLieOnRoutes : Type 0

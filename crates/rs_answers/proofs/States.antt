@@ -1,10 +1,9 @@
 -- What stands under a name in a state of these definitions.
-use Rattle.std.proofs.Common.{◌≡◌, ℕ, Option, Some, None, refl, sym, ap, subst, ◌∙◌}
+use Rattle.std.proofs.Common.{◌≡◌, ℕ, Option, Some, None, refl, ap, ◌∙◌}
 use Rattle.std.specs.Option.{option_map}
 use Rattle.std.specs.FinMap as names
 use Rattle.rs_facts.specs.Fact.{Name, Names}
-use Rattle.rs_facts.specs.Query.{RouteEnds, Table, World}
-use Rattle.rs_planning.specs.Basis.{IndexedColumn}
+use Rattle.rs_facts.specs.Query.{RouteEnds}
 use Rattle.rs_machine.specs.State.{State, world_of}
 use Rattle.rs_catalog.specs.Definitions.{RouteItem, TableItem, Definitions, routes_of, indexes_of, table_from, world_from}
 use Rattle.rs_catalog.proofs.MapLaws.{none_some, some_same}

@@ -1,12 +1,12 @@
 -- The rows of a query along all routes, and what the machine answers to totals of a checked query.
-use Rattle.std.proofs.Common.{◌≡◌, ℕ, ◌+◌, ◌<◌, ◌≤◌, ◌^◌, List, [], ◌∷◌, ◌++◌, map, length, take, get_or, min, Option, Some, Result, Ok, Err, refl, sym, ap, subst, ◌∙◌, arith}
+use Rattle.std.proofs.Common.{◌≡◌, ℕ, ◌+◌, ◌<◌, ◌^◌, List, [], ◌∷◌, ◌++◌, map, length, take, get_or, Option, Some, Result, Ok, Err, refl, sym, ap, subst, ◌∙◌, arith}
 use Rattle.std.proofs.lemmas.List.{length-map, length-take, map-append, take_more}
 use Rattle.std.proofs.Math.Seq.{take-length}
 use Rattle.std.specs.FinMap as names
 use Rattle.rs_refusal.specs.declared.refusal.Refusal.{Refusal}
 use Rattle.rs_measure.specs.declared.measure.TheConstants.{GREATEST_MEASURE}
-use Rattle.rs_facts.specs.Fact.{Name, Names}
-use Rattle.rs_facts.specs.Query.{RouteEnds, Query, kind_of, rows_at}
+use Rattle.rs_facts.specs.Fact.{Name}
+use Rattle.rs_facts.specs.Query.{RouteEnds, Query, kind_of}
 use Rattle.rs_facts.specs.Runs.{Stretch, AreRunsOf}
 use Rattle.rs_facts.specs.Totals.{Along, Total, totalled}
 use Rattle.rs_facts.specs.TotalText.{total_text}
@@ -15,7 +15,7 @@ use Rattle.rs_machine.specs.State.{State, RowText, world_of}
 use Rattle.rs_machine.specs.Checks.{◌>>=◌}
 use Rattle.rs_machine.specs.Checking.{columns_in, group_checked, summed_checked}
 use Rattle.rs_machine.specs.Step.{Effect, effect, rows_along}
-use Rattle.rs_catalog.specs.Definitions.{Numbered, RouteItem, Definitions, routes_of}
+use Rattle.rs_catalog.specs.Definitions.{Numbered, RouteItem, Definitions}
 use Rattle.rs_catalog.specs.Referents.{HeldReferents, referents_on}
 use Rattle.rs_catalog.proofs.Names.{entries-map_values}
 use Rattle.rs_plan.specs.declared.plan.Plan.{Plan}
@@ -90,9 +90,9 @@ pub totals-more : (state : State) (query : Query) (group : List ℕ) (column : O
 totals-more state query group column routes k one tally h is are =
     subst (λ (done : List Along). AreTotalsOf group column done tally)
     (
-      ap (λ (named : NamedRoute). along_so_far state query (take k routes) ++ along_named state query named ∷ []) is
-      ∙ sym (map-append (along_named state query) (take k routes) (get_or routes k one ∷ []))
-      ∙ ap (along_so_far state query) (sym (take_more routes k one h))
+    ap (λ (named : NamedRoute). along_so_far state query (take k routes) ++ along_named state query named ∷ []) is
+    ∙ sym (map-append (along_named state query) (take k routes) (get_or routes k one ∷ []))
+    ∙ ap (along_so_far state query) (sym (take_more routes k one h))
     ) are
 
 pub totals-end : (state : State) (query : Query) (group : List ℕ) (column : Option ℕ) (routes : List NamedRoute) (k : ℕ) (tally : Tally) → k ≡ length routes → along_so_far state query routes ≡ rows_along state query

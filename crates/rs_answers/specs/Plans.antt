@@ -1,5 +1,5 @@
 -- What passes from a query's check to its planning, and from there to the evaluation of its plan.
-use Rattle.std.specs.Prelude.{◌≡◌, ℕ, ◌≤◌, true, List, Some}
+use Rattle.std.specs.Prelude.{◌≡◌, ℕ, ◌≤◌, List, Some}
 use Rattle.std.specs.FinMap as names
 use Rattle.rs_facts.specs.Fact.{Name}
 use Rattle.rs_facts.specs.Query.{Query, kind_of, rows_at}
@@ -14,7 +14,7 @@ use Rattle.rs_checker.specs.declared.checked.Checked.{Checked}
 use Rattle.rs_checker.specs.CheckedView.{query_of, named_in}
 use Rattle.rs_checker.specs.Numbers.{AreNumberedIn}
 use Rattle.rs_plan.specs.declared.plan.Plan.{Plan}
-use Rattle.rs_exec.specs.Meaning.{rows_in, kind_in, is_well_formed}
+use Rattle.rs_exec.specs.Meaning.{rows_in, kind_in}
 use Rattle.rs_exec.specs.Snapshot.{Snapshot}
 use Rattle.rs_answers.specs.Present.{IsPresent}
 

@@ -3,7 +3,6 @@
 //! It promises the machine's lines in each state that the source stands for, and that what is refused changes nothing.
 #![tactic(auto)]
 
-
 pub mod memory;
 pub mod plans;
 mod printer;
@@ -13,8 +12,8 @@ pub mod rows;
 pub mod runs;
 pub mod totals;
 
-pub use rows::lines;
 pub use memory::{InMemory, PlannedQuery};
 pub use plans::{checked, explain_lines, planned, planning_indexes};
+pub use rows::lines;
 pub use runs::runs_on;
 pub use totals::total_of;

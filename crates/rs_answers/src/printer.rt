@@ -3,7 +3,6 @@
 //! It promises to append a space and the machine's text of a position by a method.
 
 ghost use Rattle.std.specs.Prelude.{◌≡◌, ◌≤◌, ◌++◌, codes, OnOk, string_bytes};
-ghost use Rattle.rs_measure.specs.declared.measure.TheConstants.{GREATEST_MEASURE};
 ghost use Rattle.rs_answers.specs.Printed.{place_on};
 
 use rs_catalog::{RouteEntry, RouteReferents};

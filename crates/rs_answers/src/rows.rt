@@ -63,13 +63,7 @@ fn push_rows<E: InMemory>(
     ensures ends { EndsWith E.Source e.old e.new result }
 {
     rows_lie_on_routes();
-    let runs = runs_on(
-        alloc,
-        e,
-        asked.plan,
-        named.route.number(),
-        asked.version,
-    )?;
+    let runs = runs_on(alloc, e, asked.plan, named.route.number(), asked.version)?;
     let printer = PositionPrinter {
         referents: e.referents(),
         name: &named.name,

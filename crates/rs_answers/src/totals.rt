@@ -24,7 +24,6 @@ ghost use Rattle.rs_answers.specs.Totalled.{along_route, totals_of_query};
 use crate::memory::{InMemory, PlannedQuery};
 use crate::routes::{NamedRoute, named_routes};
 use crate::runs::runs_on;
-
 use rs_checker::{Columns, check_group, check_summed};
 use rs_coalesce::lent;
 use rs_machine_laws::printed::rows_lie_on_routes;
@@ -102,13 +101,7 @@ fn add_rows<E: InMemory>(
     ensures ends { EndsWith E.Source e.old e.new result }
 {
     rows_lie_on_routes();
-    let runs = runs_on(
-        alloc,
-        e,
-        asked.plan,
-        named.route.number(),
-        asked.version,
-    )?;
+    let runs = runs_on(alloc, e, asked.plan, named.route.number(), asked.version)?;
     let lent_runs = lent(alloc, runs.as_slice())?;
     Ok(totals.add_route(lent_runs.as_slice())?)
 }

@@ -21,10 +21,10 @@ returns-in_err-totals-2-clause-refused g c =
     rw (p.1, p.2) (⊎_elim
     (λ (wanting : c.in_err-totals-2.field-0.0 ≡ OutOfMemory). inl (subst (λ (why : Refusal). g.E.Source.wants why old new) (sym wanting) (g.met.E.Source.wants_memory old new c.in_ok-totals.ensures.ends.leaves.passes)))
     (λ off. inr (λ query for state stands columns.
-        total-too-large state query by (summed_tree c.args.summed.now) c.in_ok-group.group.items
-        (ap (λ (columns : List Column). group_checked columns by) (sym columns) ∙ c.in_ok-group.ensures.ok) c.in_ok-column.column
-        (ap (λ (columns : List Column). summed_checked columns (summed_tree c.args.summed.now)) (sym columns) ∙ sym c.in_ok-column.ensures) _
-        (off.1 c.in_ok-group.group.items c.in_ok-column.column (rows_along state query) (c.in_ok-totals.ensures.totals query for state stands) ∙ ap Err (sym off.0))))
+    total-too-large state query by (summed_tree c.args.summed.now) c.in_ok-group.group.items
+    (ap (λ (columns : List Column). group_checked columns by) (sym columns) ∙ c.in_ok-group.ensures.ok) c.in_ok-column.column
+    (ap (λ (columns : List Column). summed_checked columns (summed_tree c.args.summed.now)) (sym columns) ∙ sym c.in_ok-column.ensures) _
+    (off.1 c.in_ok-group.group.items c.in_ok-column.column (rows_along state query) (c.in_ok-totals.ensures.totals query for state stands) ∙ ap Err (sym off.0))))
     c.in_err-totals-2.ensures.refused)
 
 pub returns-clause-done : goal.returns-clause-done
