@@ -7,7 +7,6 @@ use Rattle.rs_catalog.specs.Referents.{HeldReferents}
 use Rattle.rs_plan.specs.declared.plan.Plan.{Plan}
 use Rattle.rs_exec.specs.Leaving.{LeavesBehind}
 use Rattle.rs_exec.specs.declared.source.Source as spans
-use Rattle.rs_answers.specs.declared.memory.InMemory as memory
 use Rattle.rs_answers.specs.Plans.{IsPlanFor}
 use Rattle.rs_answers.specs.Present.{IsPresent}
 use Rattle.rs_answers.specs.Standing.{StandsAt}
@@ -22,18 +21,18 @@ module _ {E : Type 0} (source : spans.Ghosts E) where
     passes = trans a b c first.passes second.passes;
   }
 
-  module _ (kept : memory.Ghosts E)
-      (definitions-stay : (old new : E) → source.passes old new → kept.definitions new ≡ kept.definitions old)
-      (referents-stay : (old new : E) → source.passes old new → kept.held_referents new ≡ kept.held_referents old)
+  module _ (definitions : E → Definitions) (referents : E → Numbered HeldReferents)
+      (definitions-stay : (old new : E) → source.passes old new → definitions new ≡ definitions old)
+      (referents-stay : (old new : E) → source.passes old new → referents new ≡ referents old)
       (old new : E) (leaves : LeavesBehind source old new) where
-    pub stands-later : (version : ℕ) (state : State) → StandsAt source kept version old state → StandsAt source kept version new state
+    pub stands-later : (version : ℕ) (state : State) → StandsAt source.is definitions referents version old state → StandsAt source.is definitions referents version new state
     stands-later version state stands = record {
       snapshots = stands.snapshots;
       is = leaves.stands stands.snapshots stands.is;
       present =
-          subst (λ (definitions : Definitions). IsPresent definitions (kept.held_referents new) state (stands.snapshots version)) (sym (definitions-stay old new leaves.passes))
-          (subst (λ (referents : Numbered HeldReferents). IsPresent (kept.definitions old) referents state (stands.snapshots version)) (sym (referents-stay old new leaves.passes)) stands.present);
+          subst (λ (d : Definitions). IsPresent d (referents new) state (stands.snapshots version)) (sym (definitions-stay old new leaves.passes))
+          (subst (λ (r : Numbered HeldReferents). IsPresent (definitions old) r state (stands.snapshots version)) (sym (referents-stay old new leaves.passes)) stands.present);
     }
 
-    pub plan-later : (query : Query) (plan : Plan) → IsPlanFor (kept.definitions old) query plan → IsPlanFor (kept.definitions new) query plan
-    plan-later query plan for = subst (λ (definitions : Definitions). IsPlanFor definitions query plan) (sym (definitions-stay old new leaves.passes)) for
+    pub plan-later : (query : Query) (plan : Plan) → IsPlanFor (definitions old) query plan → IsPlanFor (definitions new) query plan
+    plan-later query plan for = subst (λ (d : Definitions). IsPlanFor d query plan) (sym (definitions-stay old new leaves.passes)) for

@@ -5,3 +5,4 @@ pub mod Counts
 pub mod Printed
 pub mod Totalled
 pub mod Routes
+pub mod TotalColumns

@@ -16,4 +16,4 @@ pub use memory::{InMemory, PlannedQuery};
 pub use plans::{checked, explain_lines, planned, planning_indexes};
 pub use rows::lines;
 pub use runs::runs_on;
-pub use totals::total_of;
+pub use totals::{TotalColumns, total_columns, total_of};

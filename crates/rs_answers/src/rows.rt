@@ -34,7 +34,7 @@ pub fn lines<E: InMemory>(
     requires formed { is_well_formed asked.now.plan.now ≡ true }
     requires kind { asked.now.kind ≡ kind_in asked.now.plan.now }
     ensures lines { IfOk result (λ rows. (query : Query) → IsPlanFor (E.definitions e.old) query asked.now.plan.now
-        → (state : State) → StandsAt E.Source E.InMemory.own asked.now.version e.old state → rows_of rows.items ≡ lines_of state query method) }
+        → (state : State) → StandsAt E.is E.definitions E.held_referents asked.now.version e.old state → rows_of rows.items ≡ lines_of state query method) }
     ensures ends { EndsWith E.Source e.old e.new result }
 {
     let routes = named_routes(alloc, e.catalog())?;
@@ -58,7 +58,7 @@ fn push_rows<E: InMemory>(
     requires kind { asked.now.kind ≡ kind_in asked.now.plan.now }
     ensures lines { OnOk result ((query : Query) → IsPlanFor (E.definitions e.old) query asked.now.plan.now
         → names.get (E.definitions e.old).routes named.now.name.bytes ≡ Some named.now.route
-        → (state : State) → StandsAt E.Source E.InMemory.own asked.now.version e.old state
+        → (state : State) → StandsAt E.is E.definitions E.held_referents asked.now.version e.old state
         → rows_of rows.new.items ≡ rows_of rows.old.items ++ lines_on state query method named.now.name.bytes named.now.route.ends) }
     ensures ends { EndsWith E.Source e.old e.new result }
 {

@@ -5,7 +5,8 @@
 ghost use Rattle.std.specs.Prelude.{◌≡◌, ◌≤◌, ◌<◌, ◌⊎◌, ◌++◌, ◌^◌, [], ◌∷◌, ℕ, true, List, Option, map, length, Some, Ok, Err, IfOk, IfErr, OnOk, string_bytes};
 ghost use Rattle.std.specs.FinMap as names;
 ghost use Rattle.rs_value.specs.declared.column.TheConstants.{COLUMNS};
-ghost use Rattle.rs_facts.specs.Query.{Query};
+ghost use Rattle.rs_facts.specs.Fact.{Name};
+ghost use Rattle.rs_facts.specs.Query.{Column, Query};
 ghost use Rattle.rs_facts.specs.Totals.{Along};
 ghost use Rattle.rs_facts.specs.TotalText.{total_text};
 ghost use Rattle.rs_syntax.specs.View.{column_tree, summed_tree};
@@ -19,6 +20,7 @@ ghost use Rattle.rs_exec.specs.Leaving.{EndsWith, LeavesBehind};
 ghost use Rattle.rs_exec.specs.Meaning.{kind_in, is_well_formed};
 ghost use Rattle.rs_answers.specs.Plans.{IsPlanFor};
 ghost use Rattle.rs_answers.specs.Standing.{StandsAt};
+ghost use Rattle.rs_answers.specs.TotalColumns.{AreTotalColumns};
 ghost use Rattle.rs_answers.specs.Totalled.{along_route, totals_of_query};
 
 use crate::memory::{InMemory, PlannedQuery};
@@ -33,31 +35,56 @@ use rs_total::{Total, Totals, push_total};
 use rs_value::Kind;
 use std::alloc::{AllocError, Global};
 
-/// The line of each group of a planned query's rows, in the order of the groups, for these columns of the query; or the
-/// refusal of the groups' columns (22, 41), then of the column summed (22, 33), then of a total that is too large (50). The
-/// source tells of all other refusals.
+/// The columns of totals by their places, the leftmost 0: those whose values make a group, and the one that is summed, if any.
+#[derive(Drop)]
+pub struct TotalColumns {
+    /// Those whose values make a group.
+    pub group: Vec<u8>,
+    /// The one that is summed.
+    pub summed: Option<u8>,
+}
+
+/// The columns of totals of a query with these columns; or the refusal of the groups' columns (22, 41), then of the column
+/// summed (22, 33). One other refusal is for want of memory.
+pub fn total_columns(
+    alloc: Global,
+    columns: &Columns,
+    by: &[Name],
+    summed: &Option<Name>,
+) -> Result<TotalColumns, Refusal>
+    ensures ok { IfOk result (AreTotalColumns (map column_tree columns.now.items) (map (λ name. name.bytes) by.now) (summed_tree summed.now)) }
+    ensures few { IfOk result (λ made. length made.group.items ≤ COLUMNS) }
+    ensures refused { IfErr result (λ refusal. (refusal ≡ Refusal.OutOfMemory)
+        ⊎ ((query : Query) (state : State) → map column_tree columns.now.items ≡ columns_in state query
+        → totals_of_query state query (map (λ name. name.bytes) by.now) (summed_tree summed.now) ≡ Err refusal)) }
+{
+    let group = check_group(alloc, columns, by)?;
+    let summed = check_summed(columns, summed)?;
+    Ok(TotalColumns { group, summed })
+}
+
+/// The line of each group of a planned query's rows, in the order of the groups; or the refusal of a total that is too large
+/// (50). The source tells of all other refusals.
 pub fn total_of<E: InMemory>(
     alloc: Global,
     e: &mut E,
     asked: &PlannedQuery<'_>,
-    columns: &Columns,
-    by: &[Name],
-    summed: &Option<Name>,
+    columns: TotalColumns,
 ) -> Result<Vec<String>, Refusal>
     requires formed { is_well_formed asked.now.plan.now ≡ true }
     requires kind { asked.now.kind ≡ kind_in asked.now.plan.now }
+    requires few { length columns.group.items ≤ COLUMNS }
     ensures done { IfOk result (λ rows. (query : Query) → IsPlanFor (E.definitions e.old) query asked.now.plan.now
-        → (state : State) → StandsAt E.Source E.InMemory.own asked.now.version e.old state → map column_tree columns.now.items ≡ columns_in state query
-        → totals_of_query state query (map (λ name. name.bytes) by.now) (summed_tree summed.now)
-        ≡ Ok (effect (rows_of rows.items) (length (rows_of rows.items)) state)) }
+        → (state : State) → StandsAt E.is E.definitions E.held_referents asked.now.version e.old state
+        → (seen : List Column) (by : List Name) (summed : Option Name) → AreTotalColumns seen by summed columns → seen ≡ columns_in state query
+        → totals_of_query state query by summed ≡ Ok (effect (rows_of rows.items) (length (rows_of rows.items)) state)) }
     ensures refused { IfErr result (λ why. E.wants why e.old e.new ⊎ ((query : Query) → IsPlanFor (E.definitions e.old) query asked.now.plan.now
-        → (state : State) → StandsAt E.Source E.InMemory.own asked.now.version e.old state → map column_tree columns.now.items ≡ columns_in state query
-        → totals_of_query state query (map (λ name. name.bytes) by.now) (summed_tree summed.now) ≡ Err why)) }
+        → (state : State) → StandsAt E.is E.definitions E.held_referents asked.now.version e.old state
+        → (seen : List Column) (by : List Name) (summed : Option Name) → AreTotalColumns seen by summed columns → seen ≡ columns_in state query
+        → totals_of_query state query by summed ≡ Err why)) }
     ensures leaves { LeavesBehind E.Source e.old e.new }
 {
-    let group = check_group(alloc, columns, by)?;
-    let column = check_summed(columns, summed)?;
-    let totals = totals_of_routes(alloc, e, asked, group, column)?;
+    let totals = totals_of_routes(alloc, e, asked, columns.group, columns.summed)?;
     let totals = totals.finish(alloc)?;
     Ok(total_lines(alloc, asked.kind, totals.as_slice())?)
 }
@@ -73,7 +100,7 @@ fn totals_of_routes<E: InMemory>(
     requires formed { is_well_formed asked.now.plan.now ≡ true }
     requires few { length group.items ≤ COLUMNS }
     ensures totals { IfOk result (λ totals. (query : Query) → IsPlanFor (E.definitions e.old) query asked.now.plan.now
-        → (state : State) → StandsAt E.Source E.InMemory.own asked.now.version e.old state → AreTotalsOf group.items column (rows_along state query) totals) }
+        → (state : State) → StandsAt E.is E.definitions E.held_referents asked.now.version e.old state → AreTotalsOf group.items column (rows_along state query) totals) }
     ensures ends { EndsWith E.Source e.old e.new result }
 {
     let routes = named_routes(alloc, e.catalog())?;
@@ -95,7 +122,7 @@ fn add_rows<E: InMemory>(
     requires formed { is_well_formed asked.now.plan.now ≡ true }
     ensures adds { OnOk result ((query : Query) → IsPlanFor (E.definitions e.old) query asked.now.plan.now
         → names.get (E.definitions e.old).routes named.now.name.bytes ≡ Some named.now.route
-        → (state : State) → StandsAt E.Source E.InMemory.own asked.now.version e.old state
+        → (state : State) → StandsAt E.is E.definitions E.held_referents asked.now.version e.old state
         → (by : List ℕ) (column : Option ℕ) (done : List Along) → length done < 2 ^ 31 → AreTotalsOf by column done totals.old
         → AreTotalsOf by column (done ++ along_route state query named.now.name.bytes named.now.route.ends ∷ []) totals.new) }
     ensures ends { EndsWith E.Source e.old e.new result }

@@ -21,8 +21,8 @@ loop-named-preserved g c =
           lines-more state query c.args.method routes c.loop-named.named-index c.named-item.result (rows_of c.loop-named.rows.items) (rows_of c.push_rows.new.rows.items) (omega arith) c.named-item.is
           (before.printed query for state stands)
           (c.in_ok-push_rows.ensures.lines query
-          (plan-later g.E.Source g.E.InMemory laws.definitions_stay laws.referents_stay c.args.e.now c.loop-named.e before.leaves query c.args.asked.now.plan.now for) there state
-          (stands-later g.E.Source g.E.InMemory laws.definitions_stay laws.referents_stay c.args.e.now c.loop-named.e before.leaves c.args.asked.now.version state stands));
+          (plan-later g.E.Source g.E.InMemory.definitions g.E.InMemory.held_referents laws.definitions_stay laws.referents_stay c.args.e.now c.loop-named.e before.leaves query c.args.asked.now.plan.now for) there state
+          (stands-later g.E.Source g.E.InMemory.definitions g.E.InMemory.held_referents laws.definitions_stay laws.referents_stay c.args.e.now c.loop-named.e before.leaves c.args.asked.now.version state stands));
     }
 
 pub returns-clause-lines : goal.returns-clause-lines

@@ -11,6 +11,6 @@ use Rattle.rs_answers.proofs.rows.lines.Given as goal
 abbrev pub invariant-loop-named : goal.invariant-loop-named
 invariant-loop-named g l = record {
   leaves : LeavesBehind g.E.Source l.initial.e l.e;
-  printed : (query : Query) → IsPlanFor (g.E.InMemory.definitions l.initial.e) query l.asked.plan.now → (state : State) → StandsAt g.E.Source g.E.InMemory l.asked.version l.initial.e state
+  printed : (query : Query) → IsPlanFor (g.E.InMemory.definitions l.initial.e) query l.asked.plan.now → (state : State) → StandsAt g.E.Source.is g.E.InMemory.definitions g.E.InMemory.held_referents l.asked.version l.initial.e state
       → rows_of l.rows.items ≡ lines_so_far state query l.method (take l.named-index l.named-items);
 }

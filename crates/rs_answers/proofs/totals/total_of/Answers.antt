@@ -4,7 +4,6 @@ use Rattle.rs_refusal.specs.declared.refusal.Refusal.{Refusal}
 use Rattle.rs_refusal.specs.declared.refusal.Refusal.TheVariants.{OutOfMemory}
 use Rattle.rs_facts.specs.Query.{Column}
 use Rattle.rs_facts.specs.TotalText.{total_text}
-use Rattle.rs_syntax.specs.View.{summed_tree}
 use Rattle.rs_machine.specs.Checking.{group_checked, summed_checked}
 use Rattle.rs_machine.specs.Step.{rows_along}
 use Rattle.rs_serve.specs.ReplyView.{rows_of}
@@ -15,26 +14,24 @@ use Rattle.rs_answers.proofs.totals.total_of.Goals as goal
 pub returns-in_err-totals-2-clause-refused : goal.returns-in_err-totals-2-clause-refused
 returns-in_err-totals-2-clause-refused g c =
     let p = err_from_is_err_and c.from_residual-in_err-totals-2.result c.from_residual-in_err-totals-2.ensures.1 in
-    let by = map (λ name. name.bytes) c.args.by.now in
     let old = c.args.e.now in
     let new = c.totals_of_routes.new.e in
     rw (p.1, p.2) (⊎_elim
     (λ (wanting : c.in_err-totals-2.field-0.0 ≡ OutOfMemory). inl (subst (λ (why : Refusal). g.E.Source.wants why old new) (sym wanting) (g.met.E.Source.wants_memory old new c.in_ok-totals.ensures.ends.leaves.passes)))
-    (λ off. inr (λ query for state stands columns.
-    total-too-large state query by (summed_tree c.args.summed.now) c.in_ok-group.group.items
-    (ap (λ (columns : List Column). group_checked columns by) (sym columns) ∙ c.in_ok-group.ensures.ok) c.in_ok-column.column
-    (ap (λ (columns : List Column). summed_checked columns (summed_tree c.args.summed.now)) (sym columns) ∙ sym c.in_ok-column.ensures) _
-    (off.1 c.in_ok-group.group.items c.in_ok-column.column (rows_along state query) (c.in_ok-totals.ensures.totals query for state stands) ∙ ap Err (sym off.0))))
+    (λ off. inr (λ query for state stands seen by summed columns same.
+        total-too-large state query by summed c.args.columns.group.items
+        (ap (λ (columns : List Column). group_checked columns by) (sym same) ∙ columns.group) c.args.columns.summed
+        (ap (λ (columns : List Column). summed_checked columns summed) (sym same) ∙ columns.sums) _
+        (off.1 c.args.columns.group.items c.args.columns.summed (rows_along state query) (c.in_ok-totals.ensures.totals query for state stands) ∙ ap Err (sym off.0))))
     c.in_err-totals-2.ensures.refused)
 
 pub returns-clause-done : goal.returns-clause-done
-returns-clause-done g c = λ query for state stands columns.
-    let by = map (λ name. name.bytes) c.args.by.now in
+returns-clause-done g c = λ query for state stands seen by summed columns same.
     let means = for.means (g.E.InMemory.held_referents c.args.e.now) state (stands.snapshots c.args.asked.now.version) stands.present in
     let kind = c.requires.kind ∙ means.kind in
-    total-answered state query by (summed_tree c.args.summed.now) c.in_ok-group.group.items
-    (ap (λ (columns : List Column). group_checked columns by) (sym columns) ∙ c.in_ok-group.ensures.ok) c.in_ok-column.column
-    (ap (λ (columns : List Column). summed_checked columns (summed_tree c.args.summed.now)) (sym columns) ∙ sym c.in_ok-column.ensures)
+    total-answered state query by summed c.args.columns.group.items
+    (ap (λ (columns : List Column). group_checked columns by) (sym same) ∙ columns.group) c.args.columns.summed
+    (ap (λ (columns : List Column). summed_checked columns summed) (sym same) ∙ columns.sums)
     (map answered c.in_ok-totals-2.totals.items) (rows_of c.in_ok-total_lines.field-0.items)
-    (c.in_ok-totals-2.ensures.ok c.in_ok-group.group.items c.in_ok-column.column (rows_along state query) (c.in_ok-totals.ensures.totals query for state stands))
+    (c.in_ok-totals-2.ensures.ok c.args.columns.group.items c.args.columns.summed (rows_along state query) (c.in_ok-totals.ensures.totals query for state stands))
     (c.in_ok-total_lines.ensures ∙ (λ i. map (total_text (kind i)) (map answered (c.as_slice.ensures.value i))))

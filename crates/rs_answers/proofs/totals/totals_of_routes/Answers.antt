@@ -21,8 +21,8 @@ loop-named-preserved g c =
       added = λ query for state stands.
           totals-more state query c.args.group.items c.args.column routes c.loop-named.named-index c.named-item.result c.add_rows.new.totals (omega arith) c.named-item.is
           (c.in_ok-add_rows.ensures.adds query
-          (plan-later g.E.Source g.E.InMemory laws.definitions_stay laws.referents_stay e c.loop-named.e before.leaves query c.args.asked.now.plan.now for) there state
-          (stands-later g.E.Source g.E.InMemory laws.definitions_stay laws.referents_stay e c.loop-named.e before.leaves c.args.asked.now.version state stands)
+          (plan-later g.E.Source g.E.InMemory.definitions g.E.InMemory.held_referents laws.definitions_stay laws.referents_stay e c.loop-named.e before.leaves query c.args.asked.now.plan.now for) there state
+          (stands-later g.E.Source g.E.InMemory.definitions g.E.InMemory.held_referents laws.definitions_stay laws.referents_stay e c.loop-named.e before.leaves c.args.asked.now.version state stands)
           c.args.group.items c.args.column (along_so_far state query (take c.loop-named.named-index routes))
           (few-so-far (g.E.InMemory.definitions e) (g.E.InMemory.held_referents e) state (stands.snapshots c.args.asked.now.version) stands.present routes all query c.loop-named.named-index)
           (before.added query for state stands));
