@@ -1,6 +1,7 @@
 //! The lines that queries are answered with: planned, evaluated over a source of spans, and printed.
 //!
-//! It promises the machine's lines in each state that the source stands for, and that what is refused changes nothing.
+//! It promises the machine's lines in each state that the source stands for. What the source refuses is handed on, and the source
+//! stands for what it stood for.
 #![tactic(auto)]
 
 pub mod memory;

@@ -19,10 +19,10 @@ returns-in_err-totals-2-clause-refused g c =
     rw (p.1, p.2) (⊎_elim
     (λ (wanting : c.in_err-totals-2.field-0.0 ≡ OutOfMemory). inl (subst (λ (why : Refusal). g.E.Source.wants why old new) (sym wanting) (g.met.E.Source.wants_memory old new c.in_ok-totals.ensures.ends.leaves.passes)))
     (λ off. inr (λ query for state stands seen by summed columns same.
-        total-too-large state query by summed c.args.columns.group.items
-        (ap (λ (columns : List Column). group_checked columns by) (sym same) ∙ columns.group) c.args.columns.summed
-        (ap (λ (columns : List Column). summed_checked columns summed) (sym same) ∙ columns.sums) _
-        (off.1 c.args.columns.group.items c.args.columns.summed (rows_along state query) (c.in_ok-totals.ensures.totals query for state stands) ∙ ap Err (sym off.0))))
+    total-too-large state query by summed c.args.columns.group.items
+    (ap (λ (columns : List Column). group_checked columns by) (sym same) ∙ columns.group) c.args.columns.summed
+    (ap (λ (columns : List Column). summed_checked columns summed) (sym same) ∙ columns.sums) _
+    (off.1 c.args.columns.group.items c.args.columns.summed (rows_along state query) (c.in_ok-totals.ensures.totals query for state stands) ∙ ap Err (sym off.0))))
     c.in_err-totals-2.ensures.refused)
 
 pub returns-clause-done : goal.returns-clause-done
