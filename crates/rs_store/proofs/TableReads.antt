@@ -1,7 +1,9 @@
 -- What a read leaves of a store, and what it finds of a table.
 use Rattle.std.proofs.Common.{◌≡◌, ◌≤◌, ◌∙◌, ℕ, Bool, Result, Ok, Err, Vec, List, [], ap, inl, inr, map, refl, subst, sym, arith}
-use Rattle.std.specs.Prelude.{IfOk, count_by}
-use Rattle.rs_catalog.specs.Definitions.{Definitions, Numbered}
+use Rattle.std.specs.FinMap as names
+use Rattle.std.specs.List.{AllByRecursion}
+use Rattle.std.specs.Prelude.{IfOk, Some, count_by}
+use Rattle.rs_catalog.specs.Definitions.{AreDefinitions, Definitions, Numbered, TableItem}
 use Rattle.rs_catalog.specs.Referents.{HeldReferents}
 use Rattle.rs_catalog_pages.specs.Items.{CatalogueItems}
 use Rattle.rs_catalog_pages.specs.Said.{said_catalogue}
@@ -14,8 +16,11 @@ use Rattle.rs_contents.proofs.Loaded.{same_map}
 use Rattle.rs_disk.specs.Content.{Content}
 use Rattle.rs_disk.specs.declared.disk.Disk as disk
 use Rattle.rs_event_reads.specs.Read.{AreSpansWithin, HoldsNoEvents, spans_within}
+use Rattle.rs_facts.specs.Fact.{Name}
+use Rattle.rs_facts.specs.Runs.{Stretch}
 use Rattle.rs_facts.specs.Spans.{seen}
 use Rattle.rs_facts.specs.declared.fact.Span.{Span}
+use Rattle.rs_machine.specs.Checks.{column_types}
 use Rattle.rs_page.specs.declared.file_header.TheConstants.{FLAG_OFFSET}
 use Rattle.rs_page_owners.specs.Counts.{times}
 use Rattle.rs_pager.specs.Maps.{IsTied, KeepsBelow, committed, pager_store, working}
@@ -25,17 +30,19 @@ use Rattle.rs_pages.specs.PageMap.{PageMap}
 use Rattle.rs_refusal.proofs.CountLemmas.{counted_on_le}
 use Rattle.rs_refusal.specs.declared.refusal.Refusal.{Refusal}
 use Rattle.rs_standing.specs.Seen.{events_of, events_with}
+use Rattle.rs_value.specs.Values.{IsRowOf}
 use Rattle.rs_value.specs.declared.column.ColumnType.{ColumnType}
 use Rattle.rs_value.specs.declared.column.Kind.{Kind}
 use Rattle.rs_versioned.proofs.KeptRecords.{events_are_kept}
 use Rattle.rs_versioned.proofs.Present.{held_living}
 use Rattle.rs_versioned.specs.Events.{Event, kept_events}
 use Rattle.rs_versioned.specs.Records.{HoldsRecords}
-use Rattle.rs_store.specs.Kept.{Keeps, StoreState}
-use Rattle.rs_store.specs.Placing.{HasNoNumber}
+use Rattle.rs_store.specs.Kept.{IsAtRest, Keeps, StoreState}
+use Rattle.rs_store.specs.Placing.{HasNoNumber, IsNumberedAt}
 use Rattle.rs_store.specs.Reading.{IsTableNumbered, ReadsStore, lives}
 use Rattle.rs_store.proofs.Keeping.{keeps_by_moves, moves_by_reading, store_over}
 use Rattle.rs_store.proofs.Numbered.{lies_at, none_lie}
+use Rattle.rs_store.proofs.Placed.{place_of_number}
 
 -- the events of a table that is open, as they lie in pages
 pub record HoldsOpen (map : PageMap) (opened : OpenedTable) (events : List Event) : Type 0 where
@@ -56,6 +63,16 @@ module _ (kind : Kind) (version route from to : ℕ) (map_of : PageMap) (opened 
       → IfOk result (λ spans. map seen spans.items ≡ spans_within kind version route from to events)
   spans_open (Ok spans) are = are.each events lie.used lie.accepted lie.holds
   spans_open (Err why) are = tt
+
+-- the rows that were read are of the columns of the table of the catalogue that has the number
+pub rows_typed : {Z : Type 0} (file : OpenedFile) (catalog : Definitions) → IsAtRest file catalog → AreDefinitions catalog → (number : ℕ) (opened : OpenedTable) → IsTableNumbered file number opened
+    → (name : Name) (item : TableItem) → names.get catalog.tables name ≡ Some item → item.number ≡ number → (result : Result (Vec Span Z) Refusal)
+    → IfOk result (λ spans. AllByRecursion (λ (span : Stretch). IsRowOf opened.records.types span.row) (map seen spans.items))
+    → IfOk result (λ spans. AllByRecursion (λ (span : Stretch). IsRowOf (column_types item.columns) span.row) (map seen spans.items))
+rows_typed file catalog rests are number opened at name item there same result rows =
+    let numbered = subst (λ (n : ℕ). IsNumberedAt file.definitions.tables.items n at.place) (sym same) at.numbered in
+    let place = place_of_number file catalog rests are name item at.place there numbered in
+    subst (λ (types : List ColumnType). IfOk result (λ spans. AllByRecursion (λ (span : Stretch). IsRowOf types span.row) (map seen spans.items))) (place.types opened at.there) rows
 
 pub not_no_events : (map : PageMap) (opened : OpenedTable) (events : List Event) → HoldsOpen map opened events → HoldsNoEvents opened.records.types map opened.records.working → ⊥
 not_no_events map opened events lie none = none.none events lie.used lie.accepted lie.holds

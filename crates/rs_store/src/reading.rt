@@ -1,16 +1,22 @@
 //! This module reads the rows of a store's tables, by the numbers of tables and routes.
 
-ghost use Rattle.std.specs.Prelude.{◌≡◌, ◌≢◌, ℕ, Err, IfNone, IfOk, IfSome, MatchResult, count_by, map};
+ghost use Rattle.std.specs.Prelude.{◌≡◌, ◌≢◌, ℕ, Err, IfNone, IfOk, IfSome, MatchResult, Some, count_by, map};
+ghost use Rattle.std.specs.FinMap as names;
+ghost use Rattle.std.specs.List.{AllByRecursion};
+ghost use Rattle.rs_catalog.specs.Definitions.{TableItem};
 ghost use Rattle.rs_contents.specs.Calls.{RefusesToLoad};
 ghost use Rattle.rs_contents.specs.Contents.{Contents};
 ghost use Rattle.rs_event_reads.specs.Read.{spans_within};
+ghost use Rattle.rs_facts.specs.Fact.{Name};
 ghost use Rattle.rs_facts.specs.Spans.{ArePlaced, seen};
 ghost use Rattle.rs_file_changes.specs.Parts.{IsReady};
+ghost use Rattle.rs_machine.specs.Checks.{column_types};
 ghost use Rattle.rs_pager.specs.Opened.{CountsFault};
 ghost use Rattle.rs_standing.specs.Seen.{events_of};
 ghost use Rattle.rs_store.specs.Kept.{Keeps};
 ghost use Rattle.rs_store.specs.Placing.{HasNoNumber};
 ghost use Rattle.rs_store.specs.Reading.{IsTableNumbered, ReadsStore, lives, living_of};
+ghost use Rattle.rs_value.specs.Values.{IsRowOf};
 
 use crate::placing::numbered_at;
 use crate::store::Store;
@@ -24,7 +30,7 @@ use std::alloc::Global;
 impl<D: Disk> Store<D> {
     /// The spans of the table with this number on the route with that number that the version sees and that overlap the stretch from
     /// one thousandth up to another, in the order in which they are printed. Those that are not placed as the kind asks are left out;
-    /// there are none where no table has the number. It is refused with 90, with 91, and with 94 only where the disk does not give back
+    /// there are none where no table has the number. Where the catalogue has it, each row is one of the table's columns. It is refused with 90, with 91, and with 94 only where the disk does not give back
     /// what was written. Nothing that is kept changes, whatever is answered.
     pub fn spans(
         &mut self,
@@ -42,9 +48,12 @@ impl<D: Disk> Store<D> {
         ensures gives { (contents : Contents) → Keeps D.Disk self.old contents
             → IfOk result (λ spans. map seen spans.items ≡ spans_within kind version route from to (events_of contents table)) }
         ensures placed { IfOk result (λ spans. ArePlaced kind (map seen spans.items)) }
+        ensures rows { (name : Name) (item : TableItem) → names.get self.old.catalog.tables name ≡ Some item → item.number ≡ table
+            → IfOk result (λ spans. AllByRecursion (λ span. IsRowOf (column_types item.columns) span.row) (map seen spans.items)) }
         ensures sound { (contents : Contents) → Keeps D.Disk self.old contents → result ≢ Err Refusal.DamagedFile }
         ensures refused { RefusesToLoad result }
     {
+        self.catalog.stand();
         match numbered(&self.file, table) {
             Some(opened) => rs_event_reads::spans(
                 alloc,

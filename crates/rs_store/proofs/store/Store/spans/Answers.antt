@@ -1,5 +1,6 @@
 -- The spans of the table with the number, as they lie in the pages that the store keeps.
 use Rattle.std.proofs.Common.{◌∙◌, List, ap, map, sym, subst}
+use Rattle.std.specs.FinMap as names
 use Rattle.rs_event_reads.specs.Read.{spans_within}
 use Rattle.rs_facts.specs.Spans.{seen}
 use Rattle.rs_facts.specs.declared.fact.Span.{Span}
@@ -8,7 +9,7 @@ use Rattle.rs_standing.specs.Seen.{events_of}
 use Rattle.rs_store.specs.Kept.{Keeps, StoreState}
 use Rattle.rs_store.specs.Reading.{ReadsStore}
 use Rattle.rs_store.proofs.Keeping.{store_over}
-use Rattle.rs_store.proofs.TableReads.{events_open, no_events, not_no_events, reads_by_reading, spans_open}
+use Rattle.rs_store.proofs.TableReads.{events_open, no_events, not_no_events, reads_by_reading, rows_typed, spans_open}
 use Rattle.rs_store.proofs.store.Store.spans.Goals as goal
 
 pub returns-in-Some-clause-reads : goal.returns-in-Some-clause-reads
@@ -17,6 +18,12 @@ returns-in-Some-clause-reads g c =
     let was = c.self.inside in
     subst (λ (s : StoreState g.row.D.Denot). ReadsStore d s (store_over d c.spans.new.pages was.file was.catalog was.referents was.is_marked)) c.self.view_is
     (reads_by_reading d c.spans.result was.pager c.spans.new.pages was.file was.catalog was.referents was.is_marked c.spans.ensures.refused c.spans.ensures.rests)
+
+pub returns-in-Some-clause-rows : goal.returns-in-Some-clause-rows
+returns-in-Some-clause-rows g c = λ name item there same.
+    let was = c.self.inside in
+    rows_typed was.file was.catalog c.self.invariant.rests c.stand.ensures c.args.table c.in-Some.opened.now c.in-Some.ensures.found
+    name item (ap (λ (s : StoreState g.row.D.Denot). names.get s.catalog.tables name) c.self.view_is ∙ there) same c.spans.result c.spans.ensures.rows
 
 pub returns-in-Some-clause-gives : goal.returns-in-Some-clause-gives
 returns-in-Some-clause-gives g c = λ contents keeps.
