@@ -1,0 +1,189 @@
+-- What is asked of a store and given.
+use Rattle.std.proofs.Common.{◌≡◌, ◌≤◌, ◌&&◌, ◌||◌, ◌==◌, ◌∙◌, ℕ, suc, Bool, true, false, cond, nat_le, Vec, Result, Ok, Err, Some, List, [], ◌∷◌, ap, inl, inr, length, map, refl, subst, sym, arith}
+use Rattle.std.specs.FinMap as names
+use Rattle.std.specs.List.{AllByRecursion, list_any}
+use Rattle.std.specs.Prelude.{IfOk}
+use Rattle.std.proofs.lemmas.Bool.{and_parts, eqb-true, false≢true, le-leb, leb-true}
+use Rattle.std.proofs.lemmas.List.{length-map}
+use Rattle.rs_catalog.specs.Definitions.{Definitions, TableItem, no_places}
+use Rattle.rs_catalog.proofs.Names.{each_entry}
+use Rattle.rs_contents.specs.Contents.{Contents}
+use Rattle.rs_disk.specs.declared.disk.Disk as disk
+use Rattle.rs_event_reads.specs.Read.{spans_within}
+use Rattle.rs_exec.specs.Given.{AreGiven, AreGivenOfValue, has_value, inside, rows_asked, table_asked}
+use Rattle.rs_exec.specs.Snapshot.{NumberedTable, Snapshot, Snapshots}
+use Rattle.rs_exec.specs.declared.source.Asked.{Asked}
+use Rattle.rs_exec.specs.declared.source.Part.{Part}
+use Rattle.rs_exec.specs.declared.source.SoughtValue.{SoughtValue}
+use Rattle.rs_facts.specs.Fact.{Name, RowSet, keep, none}
+use Rattle.rs_facts.specs.Query.{Column}
+use Rattle.rs_facts.specs.Runs.{Stretch}
+use Rattle.rs_facts.specs.Spans.{ArePlaced, places_of, seen}
+use Rattle.rs_facts.specs.declared.fact.Span.{Span}
+use Rattle.rs_machine.specs.Checks.{column_types}
+use Rattle.rs_pager.specs.Maps.{committed}
+use Rattle.rs_refusal.specs.declared.refusal.Refusal.{Refusal}
+use Rattle.rs_standing.specs.Seen.{events_of, routes_at}
+use Rattle.rs_store.specs.Kept.{Keeps, StandsIn, StoreState}
+use Rattle.rs_sweep.specs.Lists.{AreWide}
+use Rattle.rs_value.specs.Row.{Row}
+use Rattle.rs_value.specs.Values.{IsRowOf}
+use Rattle.rs_value.specs.declared.column.ColumnType.{ColumnType}
+use Rattle.rs_value.specs.declared.column.Kind.{Kind}
+use Rattle.rs_value.specs.declared.column.Kind.TheVariants.{Line, Point}
+use Rattle.rs_versioned.specs.Events.{Event}
+use Rattle.rs_versioned.specs.Meant.{AreEventsMeant}
+use Rattle.rs_store_reads.specs.Shown.{Shows, behind_of, first_of, is_shown, is_table, places_seen, same_kind, snapshot_at, table_there}
+use Rattle.rs_store_reads.proofs.Tables.{all_lie, events_meant}
+use Rattle.rs_store_reads.proofs.Within.{NoneLeftOut, RowsWithin, means_inside}
+
+-- ---- the table that is asked
+
+kind_same : (one other : Kind) → same_kind one other ≡ true → one ≡ other
+kind_same Line Line e = refl
+kind_same Line Point e = absurd (false≢true e)
+kind_same Point Line e = absurd (false≢true e)
+kind_same Point Point e = refl
+
+kind_itself : (kind : Kind) → same_kind kind kind ≡ true
+kind_itself Line = refl
+kind_itself Point = refl
+
+-- a table of the definitions that has the number, the kind and the width
+pub record HasTable (definitions : Definitions) (table : NumberedTable) : Type 0 where
+  pub name : Name
+  pub item : TableItem
+  pub there : names.get definitions.tables name ≡ Some item
+  pub number : item.number ≡ table.number
+  pub kind : item.kind ≡ table.kind
+  pub width : length item.columns ≡ table.width
+
+module _ (definitions : Definitions) (table : NumberedTable) where
+  found_among : (entries : List (Name × TableItem)) → AllByRecursion (λ e. names.get definitions.tables e.0 ≡ Some e.1) entries → list_any (λ (e : Name × TableItem). is_table table e.1) entries ≡ true
+      → HasTable definitions table
+  unfolding is_table
+  found_among [] each any = absurd (false≢true any)
+  found_among (e ∷ es) each any = by_test (is_table table e.1) (found_among es each.1) refl any where
+    by_test : (b : Bool) → (list_any (λ (e : Name × TableItem). is_table table e.1) es ≡ true → HasTable definitions table) → is_table table e.1 ≡ b → (b || list_any (λ (e : Name × TableItem). is_table table e.1) es) ≡ true → HasTable definitions table
+    by_test true more is any =
+        let parts = and_parts (e.1.number == table.number) (same_kind e.1.kind table.kind && length e.1.columns == table.width) is in
+        let rest = and_parts (same_kind e.1.kind table.kind) (length e.1.columns == table.width) parts.1 in
+        record {
+          name = e.0;
+          item = e.1;
+          there = each.0;
+          number = eqb-true e.1.number table.number parts.0;
+          kind = kind_same e.1.kind table.kind rest.0;
+          width = eqb-true (length e.1.columns) table.width rest.1;
+        }
+    by_test false more is any = more any
+
+  pub table_found : table_there definitions table ≡ true → HasTable definitions table
+  table_found any = found_among (names.entries definitions.tables) (each_entry definitions.tables) any
+
+-- ---- the width of rows
+
+row_width : (types : List ColumnType) (row : Row) → IsRowOf types row → length row ≡ length types
+row_width [] [] is = refl
+row_width [] (datum ∷ row) is = absurd is
+row_width (type ∷ types) [] is = absurd is
+row_width (type ∷ types) (datum ∷ row) is = ap suc (row_width types row is.1)
+
+rows_wide : (types : List ColumnType) (width : ℕ) → length types ≡ width → (spans : List Stretch) → AllByRecursion (λ (span : Stretch). IsRowOf types span.row) spans → AreWide width spans
+rows_wide types width many [] all = tt
+rows_wide types width many (span ∷ spans) all = (row_width types span.row all.0 ∙ many, rows_wide types width many spans all.1)
+
+-- ---- what is given
+
+-- versions that are not live
+dead_below : (oldest version accepted : ℕ) → nat_le oldest version ≡ false → oldest ≤ version → version ≤ accepted → ⊥
+dead_below oldest version accepted e low high = false≢true (sym e ∙ le-leb oldest version low)
+
+dead_above : (oldest version accepted : ℕ) → nat_le version accepted ≡ false → oldest ≤ version → version ≤ accepted → ⊥
+dead_above oldest version accepted e low high = false≢true (sym e ∙ le-leb version accepted high)
+
+module _ {D : Type 0} (d : disk.Ghosts D) (oldest : ℕ) (store : StoreState D) (asked : Asked) (part : Part) where
+  -- nothing is shown where the version is not live or the table is not there
+  none_shown : (lower upper there : Bool) → nat_le oldest asked.version ≡ lower → nat_le asked.version store.file.accepted ≡ upper → table_there store.catalog (table_asked asked) ≡ there
+      → (lower && (upper && there)) ≡ false → (snapshots : Snapshots) → Shows d oldest store snapshots → (k : ℕ) → rows_asked snapshots asked k ≡ none
+  none_shown false upper there low high is off snapshots shows k =
+      shows.others asked.version (dead_below oldest asked.version store.file.accepted low) (table_asked asked) asked.route k
+  none_shown true false there low high is off snapshots shows k =
+      shows.others asked.version (dead_above oldest asked.version store.file.accepted high) (table_asked asked) asked.route k
+  none_shown true true true low high is off snapshots shows k = absurd (false≢true (sym off))
+  none_shown true true false low high is off snapshots shows k =
+      ap (λ (s : Snapshot). s.rows (table_asked asked) asked.route k)
+      (shows.live asked.version (leb-true oldest asked.version low) (leb-true asked.version store.file.accepted high))
+      ∙ ap (λ (b : Bool). (cond b (places_seen shows.stands.contents asked.version asked.table asked.route) no_places) k) is
+
+  pub given_none : is_shown store.catalog oldest store.file.accepted asked ≡ false → AreGiven (Shows d oldest store) asked part []
+  given_none off = record {
+    means = λ snapshots shows k. ap (inside part k) (sym (none_shown (nat_le oldest asked.version) (nat_le asked.version store.file.accepted) (table_there store.catalog (table_asked asked)) refl refl refl off snapshots shows k));
+    placed = tt;
+    wide = tt;
+  }
+
+  module _ (left : NoneLeftOut) (rows : RowsWithin) (on : is_shown store.catalog oldest store.file.accepted asked ≡ true) where
+    low : oldest ≤ asked.version
+    low = leb-true oldest asked.version (and_parts (nat_le oldest asked.version) (nat_le asked.version store.file.accepted && table_there store.catalog (table_asked asked)) on).0
+
+    upper : (nat_le asked.version store.file.accepted && table_there store.catalog (table_asked asked)) ≡ true
+    upper = (and_parts (nat_le oldest asked.version) (nat_le asked.version store.file.accepted && table_there store.catalog (table_asked asked)) on).1
+
+    high : asked.version ≤ store.file.accepted
+    high = leb-true asked.version store.file.accepted (and_parts (nat_le asked.version store.file.accepted) (table_there store.catalog (table_asked asked)) upper).0
+
+    there : table_there store.catalog (table_asked asked) ≡ true
+    there = (and_parts (nat_le asked.version store.file.accepted) (table_there store.catalog (table_asked asked)) upper).1
+
+    abbrev Reads : List Stretch → Type 0
+    Reads spans = (contents : Contents) → Keeps d store contents → spans ≡ spans_within asked.kind asked.version asked.route (first_of part) (behind_of part) (events_of contents asked.table)
+
+    means : (spans : List Stretch) → Reads spans → (snapshots : Snapshots) → Shows d oldest store snapshots → (k : ℕ)
+        → inside part k (places_of spans k) ≡ inside part k (rows_asked snapshots asked k)
+    means spans reads snapshots shows k =
+        let stands = shows.stands in
+        let contents = stands.contents in
+        let has = table_found store.catalog (table_asked asked) there in
+        let within : asked.version ≤ contents.directory.accepted = omega (arith, high, stands.keeps.opened.accepted) in
+        let events = events_of contents asked.table in
+        let meant : AreEventsMeant (routes_at asked.version contents.definitions.routes) asked.kind asked.version events =
+        subst (λ (n : ℕ). AreEventsMeant (routes_at asked.version contents.definitions.routes) asked.kind asked.version (events_of contents n)) has.number
+        (subst (λ (kind : Kind). AreEventsMeant (routes_at asked.version contents.definitions.routes) kind asked.version (events_of contents has.item.number)) has.kind
+        (events_meant (committed d store.pager) contents store.catalog oldest stands.keeps.holds stands.meant stands.keeps.memory.catalog has.name has.item has.there asked.version low within)) in
+        let lie = all_lie (committed d store.pager) contents store.catalog oldest stands.keeps.holds stands.meant stands.keeps.memory.catalog asked.version asked.kind events meant asked.route in
+        let shown : rows_asked snapshots asked k ≡ places_seen contents asked.version asked.table asked.route k =
+        ap (λ (s : Snapshot). s.rows (table_asked asked) asked.route k) (shows.live asked.version low high)
+        ∙ ap (λ (b : Bool). (cond b (places_seen contents asked.version asked.table asked.route) no_places) k) there in
+        ap (λ (s : List Stretch). inside part k (places_of s k)) (reads contents stands.keeps)
+        ∙ means_inside left rows asked.kind asked.version asked.route events (meant.runs asked.route) lie part k
+        ∙ ap (inside part k) (sym shown)
+
+    pub given_shown : {Z : Type 0} (from to : ℕ) → from ≡ first_of part → to ≡ behind_of part → (result : Result (Vec Span Z) Refusal)
+        → ((contents : Contents) → Keeps d store contents → IfOk result (λ spans. map seen spans.items ≡ spans_within asked.kind asked.version asked.route from to (events_of contents asked.table)))
+        → IfOk result (λ spans. ArePlaced asked.kind (map seen spans.items))
+        → ((name : Name) (item : TableItem) → names.get store.catalog.tables name ≡ Some item → item.number ≡ asked.table
+        → IfOk result (λ spans. AllByRecursion (λ (span : Stretch). IsRowOf (column_types item.columns) span.row) (map seen spans.items)))
+        → IfOk result (λ spans. AreGiven (Shows d oldest store) asked part (map seen spans.items))
+    given_shown from to first behind (Err why) reads placed typed = tt
+    given_shown from to first behind (Ok spans) reads placed typed =
+        let has = table_found store.catalog (table_asked asked) there in
+        record {
+          means = means (map seen spans.items) (λ contents keeps.
+              reads contents keeps
+              ∙ ap (λ (n : ℕ). spans_within asked.kind asked.version asked.route n to (events_of contents asked.table)) first
+              ∙ ap (λ (n : ℕ). spans_within asked.kind asked.version asked.route (first_of part) n (events_of contents asked.table)) behind);
+          placed = placed;
+          wide = rows_wide (column_types has.item.columns) asked.width (length-map has.item.columns (λ (column : Column). column.1) ∙ has.width) (map seen spans.items)
+              (typed has.name has.item has.there has.number);
+        }
+
+-- those that have a value are among all
+pub given_of_value : {Z : Type 0} (stands : Snapshots → Type 0) (asked : Asked) (part : Part) (sought : SoughtValue) (result : Result (Vec Span Z) Refusal)
+    → IfOk result (λ spans. AreGiven stands asked part (map seen spans.items)) → IfOk result (λ spans. AreGivenOfValue stands asked part sought (map seen spans.items))
+given_of_value stands asked part sought (Ok spans) given = record {
+  means = λ snapshots is k. ap (keep (has_value sought)) (given.means snapshots is k);
+  placed = given.placed;
+  wide = given.wide;
+}
+given_of_value stands asked part sought (Err why) given = tt

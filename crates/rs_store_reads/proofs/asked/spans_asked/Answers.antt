@@ -1,0 +1,28 @@
+-- What is shown of the table, and why it is not.
+use Rattle.std.proofs.Common.{List, ap, map, subst, sym, ◌∙◌}
+use Rattle.rs_exec.specs.Given.{AreGiven}
+use Rattle.rs_facts.specs.Runs.{Stretch}
+use Rattle.rs_facts.specs.Spans.{seen}
+use Rattle.rs_facts.specs.declared.fact.Span.{Span}
+use Rattle.rs_store_reads.proofs.Given.{given_none, given_shown}
+use Rattle.rs_store_reads.proofs.Passing.{shows_on, wants-counted}
+use Rattle.rs_store_reads.specs.Shown.{Shows}
+use Rattle.rs_store_reads.proofs.asked.spans_asked.Goals as goal
+
+pub returns-then-not-is_shown-clause-gives : goal.returns-then-not-is_shown-clause-gives
+returns-then-not-is_shown-clause-gives g c =
+    subst (λ (spans : List Stretch). AreGiven (Shows g.D.Disk c.args.oldest c.args.store.now) c.args.asked.now c.args.part spans) (sym (ap (λ (spans : List Span). map seen spans) c.new.ensures.items))
+    (given_none g.D.Disk c.args.oldest c.args.store.now c.args.asked.now c.args.part (sym c.is_shown.ensures ∙ c.if-not-is_shown.true))
+
+pub returns-clause-gives : goal.returns-clause-gives
+returns-clause-gives g c =
+    given_shown g.D.Disk c.args.oldest c.args.store.now c.args.asked.now c.args.part c.spans_within_hold_what_the_table_holds.ensures.placed c.spans_within_hold_what_the_table_holds.ensures.rows
+    (sym c.is_shown.ensures ∙ c.if-not-is_shown.false) c.first_of.result c.behind_of.result c.first_of.ensures c.behind_of.ensures c.spans.result c.spans.ensures.gives c.spans.ensures.placed c.spans.ensures.rows
+
+pub returns-clause-stays : goal.returns-clause-stays
+returns-clause-stays g c = λ snapshots shows. shows_on g.D.Disk c.args.oldest c.args.store.now c.spans.new.self c.spans.ensures.reads snapshots shows
+
+pub returns-clause-wants : goal.returns-clause-wants
+returns-clause-wants g c =
+    wants-counted g.D.Disk c.spans.result c.args.store.now c.spans.new.self c.spans.ensures.refused c.spans.ensures.count
+    (λ damaged. record { none = λ oldest state stands. c.spans.ensures.sound stands.contents stands.keeps damaged })

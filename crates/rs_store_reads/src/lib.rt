@@ -1,0 +1,11 @@
+//! What a store shows to the evaluation of plans: the spans of its tables at live versions, counts of their records, and whether a
+//! route has facts.
+//!
+//! A read changes nothing that the store keeps, whatever it answers.
+#![tactic(auto)]
+
+pub mod asked;
+pub mod counting;
+
+pub use asked::{spans_asked, spans_of_value_asked};
+pub use counting::records_of;
