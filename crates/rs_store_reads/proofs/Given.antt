@@ -30,24 +30,14 @@ use Rattle.rs_value.specs.Row.{Row}
 use Rattle.rs_value.specs.Values.{IsRowOf}
 use Rattle.rs_value.specs.declared.column.ColumnType.{ColumnType}
 use Rattle.rs_value.specs.declared.column.Kind.{Kind}
-use Rattle.rs_value.specs.declared.column.Kind.TheVariants.{Line, Point}
 use Rattle.rs_versioned.specs.Events.{Event}
 use Rattle.rs_versioned.specs.Meant.{AreEventsMeant}
 use Rattle.rs_store_reads.specs.Shown.{Shows, behind_of, first_of, is_shown, is_table, places_seen, same_kind, snapshot_at, table_there}
+use Rattle.rs_store_reads.proofs.SameKind.{kind_same}
 use Rattle.rs_store_reads.proofs.Tables.{all_lie, events_meant}
 use Rattle.rs_store_reads.proofs.Within.{NoneLeftOut, RowsWithin, means_inside}
 
 -- ---- the table that is asked
-
-kind_same : (one other : Kind) → same_kind one other ≡ true → one ≡ other
-kind_same Line Line e = refl
-kind_same Line Point e = absurd (false≢true e)
-kind_same Point Line e = absurd (false≢true e)
-kind_same Point Point e = refl
-
-kind_itself : (kind : Kind) → same_kind kind kind ≡ true
-kind_itself Line = refl
-kind_itself Point = refl
 
 -- a table of the definitions that has the number, the kind and the width
 pub record HasTable (definitions : Definitions) (table : NumberedTable) : Type 0 where

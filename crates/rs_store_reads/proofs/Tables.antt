@@ -1,17 +1,21 @@
 -- What a live version sees of a table of the catalogue, and where it lies.
 use Rattle.std.proofs.Common.{◌≡◌, ◌≤◌, ◌<◌, ◌+◌, ◌&&◌, ◌==◌, ◌∙◌, ℕ, suc, Bool, true, Some, List, [], ◌∷◌, ap, filter, map, refl, subst, sym, arith}
 use Rattle.std.specs.FinMap as names
+use Rattle.std.specs.FinMap.{entries-from_sorted, is_sorted}
+use Rattle.std.specs.FinMap.Entries.{below_all}
+use Rattle.std.specs.Ordering.{is_lt}
 use Rattle.std.specs.List.{AllByRecursion}
 use Rattle.std.specs.Prelude.{Contains}
 use Rattle.std.proofs.lemmas.Bool.{and_parts, eqb-true}
 use Rattle.std.proofs.lemmas.List.Elements.{All-contains, All-from_recursion}
 use Rattle.rs_catalog.specs.Definitions as catalog
 use Rattle.rs_catalog.specs.Definitions.{Definitions}
-use Rattle.rs_catalog_meaning.specs.Meaning.{ends_of}
+use Rattle.rs_catalog_meaning.specs.Meaning.{ends_of, named_by}
 use Rattle.rs_catalog_meaning.specs.Stating.{kind_of}
+use Rattle.rs_cell_versions.specs.Versioned.{Standing}
 use Rattle.rs_catalog_pages.specs.Items.{RouteItem, TableItem}
 use Rattle.rs_contents.specs.Contents.{Contents, HoldsAll, LiesTable, TableContents}
-use Rattle.rs_facts.specs.Fact.{Name, Names, Places, contains}
+use Rattle.rs_facts.specs.Fact.{Name, Names, contains, name_cmp}
 use Rattle.rs_facts.specs.Runs.{LieWithin, Stretch}
 use Rattle.rs_facts.specs.Spans.{places_of}
 use Rattle.rs_facts.proofs.SpanLaws.{Covers-from_contains}
@@ -21,12 +25,14 @@ use Rattle.rs_pages.specs.PageMap.{PageMap}
 use Rattle.rs_standing.specs.Meant.{IsMeant, IsTableMeant}
 use Rattle.rs_standing.specs.Seen.{born_by, events_of, is_born, routes_at, span_of_route}
 use Rattle.rs_standing.specs.States.{AreDefinitionsAt, named_route, named_table, routes_named}
-use Rattle.rs_standing.proofs.Named.{HasItem, item_of}
+use Rattle.rs_standing.proofs.Named.{HasItem, item_of, to_T}
 use Rattle.rs_standing.proofs.Picked.{HasTable, born_all, each_kept, kept_passes, kept_there, same_numbered, source_of, table_of}
 use Rattle.rs_value.specs.Row.{Row}
+use Rattle.rs_value.specs.declared.column.ColumnType.{ColumnType}
 use Rattle.rs_value.specs.declared.column.Kind.{Kind}
 use Rattle.rs_value.specs.declared.column.Kind.TheVariants.{Line, Point}
-use Rattle.rs_versioned.specs.Events.{Event, facts_at, is_on, sees_event, span_of}
+use Rattle.rs_versioned.specs.Events.{Event, facts_at, is_on, kept_events, sees_event, span_of}
+use Rattle.rs_versioned.specs.Records.{HoldsRecords}
 use Rattle.rs_versioned.specs.Meant.{AreEventsMeant, HasRoute, IsSpanOf}
 use Rattle.rs_versioned.specs.declared.route_span.RouteSpan.{RouteSpan}
 
@@ -57,6 +63,26 @@ facts_lie routes kind version events meant number k row held =
       is_so = on_span kind (span_of event) lies.route k lies.is_so low high;
     }
 
+-- names rise whatever stands under them
+below_values : {Y : Type 0} (value : RouteItem → Y) (name : Name) (xs : List RouteItem)
+    → below_all name_cmp name (map (λ (r : RouteItem). (r.name, value r)) xs) ≡ below_all name_cmp name (named_by (λ (r : RouteItem). r.name) xs)
+below_values value name [] = refl
+below_values value name (x ∷ xs) = ap (λ b. is_lt (name_cmp name x.name) && b) (below_values value name xs)
+
+sorted_values : {Y : Type 0} (value : RouteItem → Y) (xs : List RouteItem)
+    → is_sorted name_cmp (map (λ (r : RouteItem). (r.name, value r)) xs) ≡ is_sorted name_cmp (named_by (λ (r : RouteItem). r.name) xs)
+sorted_values value [] = refl
+sorted_values value (x ∷ xs) =
+    ap (λ b. b && is_sorted name_cmp (map (λ (r : RouteItem). (r.name, value r)) xs)) (below_values value x.name xs)
+    ∙ ap (λ b. below_all name_cmp x.name (named_by (λ (r : RouteItem). r.name) xs) && b) (sorted_values value xs)
+
+-- the events of a table as they lie in pages
+pub record HoldsEvents (pages : PageMap) (accepted : ℕ) (events : List Event) : Type 0 where
+  pub types : List ColumnType
+  pub standing : Standing
+  pub used : ℕ → ℕ
+  pub holds : HoldsRecords (kept_events types) pages standing accepted events used
+
 module _ (pages : PageMap) (contents : Contents) (definitions : Definitions) (oldest : ℕ) (holds : HoldsAll pages contents) (meant : IsMeant oldest contents)
     (are : AreDefinitionsAt contents.directory.accepted contents.definitions definitions) where
   abbrev Meant : ℕ → TableItem → TableContents → Type 0
@@ -79,6 +105,17 @@ module _ (pages : PageMap) (contents : Contents) (definitions : Definitions) (ol
       subst (λ (i : catalog.TableItem). AreEventsMeant (routes_at version contents.definitions.routes) i.kind version (events_of contents i.number)) has.is
       (subst (λ (events : List Event). AreEventsMeant (routes_at version contents.definitions.routes) (kind_of has.item.kind) version events) (sym table.events) table.one)
 
+  -- its events lie in pages
+  pub events_lie : (name : Name) (item : catalog.TableItem) → names.get definitions.tables name ≡ Some item → oldest ≤ contents.directory.accepted
+      → HoldsEvents pages contents.directory.accepted (events_of contents item.number)
+  events_lie name item there low =
+      let has = item_of (λ (t : TableItem). t.name) (λ t. (named_table t).1) contents.definitions.tables name item meant.definitions.tables.in_order
+      (sym (ap (λ (tables : Names catalog.TableItem). names.get tables name) are.tables) ∙ there) in
+      let table = table_for contents.directory.accepted low (omega arith) has.item has.there in
+      subst (λ (i : catalog.TableItem). HoldsEvents pages contents.directory.accepted (events_of contents i.number)) has.is
+      (subst (HoldsEvents pages contents.directory.accepted) (sym table.events)
+      (record { types = table.table.types; standing = table.table.standing; used = table.table.used; holds = table.third.records }))
+
   -- ---- routes
 
   is_route : (version number : ℕ) (IsSo : RouteSpan → Type 0) (on : HasRoute (routes_at version contents.definitions.routes) number IsSo) → on.route.finish ≤ GREATEST_MEASURE
@@ -98,6 +135,13 @@ module _ (pages : PageMap) (contents : Contents) (definitions : Definitions) (ol
 
   routes_kept : definitions.routes ≡ routes_named contents.definitions.routes
   routes_kept = are.routes ∙ ap routes_named (born_all contents.directory.accepted contents.definitions.routes holds.routes)
+
+  -- the routes of the catalogue are those of the file
+  pub routes_listed : names.entries definitions.routes ≡ map named_route contents.definitions.routes
+  routes_listed =
+      ap names.entries routes_kept
+      ∙ entries-from_sorted name_cmp (map named_route contents.definitions.routes)
+      (to_T (is_sorted name_cmp (map named_route contents.definitions.routes)) (sorted_values (λ (r : RouteItem). (named_route r).1) contents.definitions.routes ∙ meant.definitions.routes.in_order))
 
   -- the route of the catalogue that has the number is the route of the file
   pub route_of : (name : Name) (item : catalog.RouteItem) → names.get definitions.routes name ≡ Some item

@@ -34,6 +34,10 @@ is_table table item = item.number == table.number && (same_kind item.kind table.
 abbrev pub table_there : Definitions → NumberedTable → Bool
 table_there definitions table = list_any (λ entry. is_table table entry.1) (names.entries definitions.tables)
 
+-- the item as a table by its number
+abbrev pub numbered_as : TableItem → NumberedTable
+numbered_as item = record { number = item.number; kind = item.kind; width = length item.columns }
+
 -- ---- snapshots
 
 -- the rows that the version sees of a table on a route
@@ -45,6 +49,15 @@ abbrev pub snapshot_at : Definitions → Contents → ℕ → Snapshot
 snapshot_at definitions contents version = record {
   rows = λ table route. if table_there definitions table then places_seen contents version table.number route else no_places;
 }
+
+-- no table has a row
+abbrev pub no_snapshot : Snapshot
+no_snapshot = record { rows = λ table route. no_places }
+
+-- those of the versions from the oldest one up to the one that was accepted last; no other has a row
+abbrev pub shown_from : Definitions → Contents → ℕ → ℕ → Snapshots
+shown_from definitions contents oldest accepted version =
+    if nat_le oldest version && nat_le version accepted then snapshot_at definitions contents version else no_snapshot
 
 -- no table has a row anywhere
 abbrev pub HasNoRows : Snapshot → Type 0

@@ -6,6 +6,7 @@
 
 pub mod asked;
 pub mod counting;
+pub mod laws;
 
 pub use asked::{spans_asked, spans_of_value_asked};
 pub use counting::records_of;
