@@ -7,7 +7,8 @@ use Rattle.std.proofs.lemmas.Bool.Decides.{nat_tests}
 use Rattle.std.proofs.lemmas.List.{length-map}
 use Rattle.std.proofs.lemmas.List.Sums.{length-filter, sum_by-cons}
 use Rattle.rs_catalog.specs.Definitions as catalog
-use Rattle.rs_catalog.specs.Definitions.{Definitions, facts_from, on_numbered, no_places, state_from, table_from, world_from}
+use Rattle.rs_catalog.specs.Definitions.{Definitions, Rest, facts_from, on_numbered, no_places, state_from, table_from, world_from}
+use Rattle.rs_catalog.specs.Referents.{referents_on}
 use Rattle.rs_catalog.proofs.Names.{each_entry, entries-map_values}
 use Rattle.rs_cell_versions.specs.declared.cell.TheConstants.{LIVING}
 use Rattle.rs_catalog_pages.specs.Items.{CatalogueItems, RouteItem}
@@ -17,7 +18,7 @@ use Rattle.rs_catalog_pages.proofs.Counting.{times-cons, times-none}
 use Rattle.rs_contents.specs.Contents.{Contents, HoldsAll, LiesTable, TableContents}
 use Rattle.rs_contents.specs.Opening.{IsOpened}
 use Rattle.rs_contents.specs.declared.opened.OpenedTable.{OpenedTable}
-use Rattle.rs_facts.specs.Fact.{Name, Places}
+use Rattle.rs_facts.specs.Fact.{Name, Names, Places}
 use Rattle.rs_disk.specs.declared.disk.Disk as disk
 use Rattle.rs_facts.specs.Query.{RouteEnds, Table}
 use Rattle.rs_facts.specs.Runs.{LieWithin, Stretch}
@@ -31,7 +32,7 @@ use Rattle.rs_planning.specs.Basis.{runs_counted}
 use Rattle.rs_planning.specs.Laws.{AreItsRuns}
 use Rattle.rs_planning.proofs.RecordCounts.{records-are_runs}
 use Rattle.rs_standing.specs.Meant.{IsMeant}
-use Rattle.rs_standing.specs.Seen.{born_by, events_of, events_with, is_born, referents_seen, routes_at, span_of_route, spans_seen}
+use Rattle.rs_standing.specs.Seen.{born_by, events_of, events_with, is_born, routes_at, span_of_route, spans_seen}
 use Rattle.rs_standing.specs.States.{AreDefinitionsAt, named_route}
 use Rattle.rs_standing.proofs.Picked.{kept_there, source_of}
 use Rattle.rs_store.specs.Kept.{StandsIn, StoreState}
@@ -42,7 +43,7 @@ use Rattle.rs_versioned.specs.Events.{Event, facts_at, is_on, kept_events, sees_
 use Rattle.rs_versioned.specs.Meant.{AreEventsMeant, HasRoute, IsSpanOf}
 use Rattle.rs_versioned.specs.declared.route_span.RouteSpan.{RouteSpan}
 use Rattle.rs_store_reads.proofs.Tables.{events_lie, events_meant, lie_on, routes_listed}
-use Rattle.rs_store_reads.proofs.States.{table_at}
+use Rattle.rs_store_reads.proofs.States.{StateIs, table_at}
 
 -- ---- what is open counts the living
 
@@ -216,9 +217,9 @@ module _ (pages : PageMap) (contents : Contents) (definitions : Definitions) (ol
       ∙ sym (ap length (held_present (kept_events lie.types) (events_are_kept lie.types) pages lie.standing level events lie.used lie.holds before))
       ∙ sym (all_seen number_of level (names.entries definitions.routes) events (each_on_one (filter (sees_event level) events) events_are_meant.lie))
 
-  pub runs_are_living : (state : State) → state ≡ state_from definitions (referents_seen contents level) (spans_seen contents level) (record { changes = level; cursors = no_cursors })
+  pub runs_are_living : (state : State) (referents : ℕ → Names ℕ) (rest : Rest) → state ≡ state_from definitions referents (spans_seen contents level) rest
       → runs_counted (world_of state) name ≡ count_by lives events
-  runs_are_living state is =
+  runs_are_living state referents rest is =
       let entries = entries-map_values (λ (r : catalog.RouteItem). r.ends) definitions.routes in
       let each = each_entry definitions.routes in
       let world = world_from definitions (spans_seen contents level) in
@@ -239,9 +240,10 @@ module _ {D : Type 0} (d : disk.Ghosts D) (oldest : ℕ) (store : StoreState D) 
       stands.keeps.opened.tables stands.keeps.holds.parts.tables
       ∙ ap (λ (said : CatalogueItems). count_by lives (events_with said.tables stands.contents.tables item.number)) (sym stands.keeps.opened.definitions)
 
-  pub counted_in_state : state ≡ state_from store.catalog (referents_seen stands.contents stands.contents.directory.accepted) (spans_seen stands.contents stands.contents.directory.accepted)
-      (record { changes = stands.contents.directory.accepted; cursors = no_cursors })
-      → runs_counted (world_of state) name ≡ living_of store.file item.number
-  counted_in_state is =
-      runs_are_living (committed d store.pager) stands.contents store.catalog oldest stands.keeps.holds stands.meant stands.keeps.memory.catalog stands.live name item there state is
+  pub counted_in_state : StateIs d → runs_counted (world_of state) name ≡ living_of store.file item.number
+  counted_in_state state_is =
+      let referents : ℕ → Names ℕ = λ (route : ℕ). referents_on store.referents route in
+      let rest : Rest = record { changes = store.file.accepted; cursors = no_cursors } in
+      runs_are_living (committed d store.pager) stands.contents store.catalog oldest stands.keeps.holds stands.meant stands.keeps.memory.catalog stands.live name item there state referents rest
+      (state_is oldest store state stands ∙ ap (λ (version : ℕ). state_from store.catalog referents (spans_seen stands.contents version) rest) (sym stands.keeps.opened.accepted))
       ∙ sym living_kept

@@ -1,2 +1,3 @@
 pub mod Reads
+pub mod Routes
 pub mod Shown

@@ -7,6 +7,8 @@
 pub mod asked;
 pub mod counting;
 pub mod laws;
+pub mod routes;
 
 pub use asked::{spans_asked, spans_of_value_asked};
 pub use counting::records_of;
+pub use routes::has_facts_on;

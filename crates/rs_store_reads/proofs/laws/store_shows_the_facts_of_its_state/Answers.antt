@@ -1,0 +1,9 @@
+-- What a store shows is what its state has.
+use Rattle.rs_store_reads.proofs.States.{rows_of_state, stands_shown}
+use Rattle.rs_store_reads.proofs.laws.store_shows_the_facts_of_its_state.Goals as goal
+
+pub returns-clause-shows : goal.returns-clause-shows
+returns-clause-shows g c = stands_shown g.D.Disk
+
+pub returns-clause-facts : goal.returns-clause-facts
+returns-clause-facts g c = rows_of_state g.D.Disk c.store_stands_in_one_state.ensures.state
