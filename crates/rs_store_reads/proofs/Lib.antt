@@ -6,3 +6,5 @@ pub mod Within
 pub mod Given
 pub mod Passing
 pub mod Counted
+pub mod Facts
+pub mod Keyed

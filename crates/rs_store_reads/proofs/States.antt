@@ -36,11 +36,11 @@ facts_there definitions spans item route on at = ap (on_numbered no_places (λ (
 
 -- ---- tests on what stands under names
 
-any_first : (a b : Bool) → a ≡ true → (a || b) ≡ true
+pub any_first : (a b : Bool) → a ≡ true → (a || b) ≡ true
 any_first true b e = refl
 any_first false b e = absurd (false≢true e)
 
-any_more : (a b : Bool) → b ≡ true → (a || b) ≡ true
+pub any_more : (a b : Bool) → b ≡ true → (a || b) ≡ true
 any_more true b e = refl
 any_more false b e = e
 
