@@ -1,10 +1,9 @@
 -- As many records of a table live as it has maximal runs on all routes.
-use Rattle.std.proofs.Common.{◌≡◌, ◌≤◌, ◌<◌, ◌+◌, ◌&&◌, ◌==◌, ◌∙◌, ℕ, zero, suc, Bool, true, false, cond, nat_eq, Some, List, [], ◌∷◌, ap, filter, get_or, length, map, refl, subst, sum_by, sym, arith}
+use Rattle.std.proofs.Common.{◌≡◌, ◌≤◌, ◌<◌, ◌+◌, ◌&&◌, ◌==◌, ◌∙◌, ℕ, zero, suc, Bool, true, false, cond, Some, List, [], ◌∷◌, ap, filter, get_or, length, map, refl, subst, sum_by, sym, arith}
 use Rattle.std.specs.FinMap as names
 use Rattle.std.specs.List.{AllByRecursion, AllZip, count_by}
 use Rattle.std.specs.Prelude.{Contains}
 use Rattle.std.proofs.lemmas.Bool.Decides.{nat_tests}
-use Rattle.std.proofs.lemmas.List.{length-map}
 use Rattle.std.proofs.lemmas.List.Sums.{length-filter, sum_by-cons}
 use Rattle.rs_catalog.specs.Definitions as catalog
 use Rattle.rs_catalog.specs.Definitions.{Definitions, Rest, facts_from, on_numbered, no_places, state_from, table_from, world_from}

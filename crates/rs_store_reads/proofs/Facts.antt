@@ -1,9 +1,8 @@
 -- A route has facts just where some table has spans on it.
-use Rattle.std.proofs.Common.{◌≡◌, ◌≤◌, ◌<◌, ◌+◌, ◌-◌, ◌^◌, ◌||◌, ◌==◌, ◌∙◌, ℕ, zero, suc, Bool, true, false, not, Vec, vec_len, Some, None, Option, List, [], ◌∷◌, ◌++◌, add-one, ap, get_or, length, map, refl, subst, sym, take, arith}
+use Rattle.std.proofs.Common.{◌≡◌, ◌≤◌, ◌<◌, ◌+◌, ◌-◌, ◌^◌, ◌||◌, ◌==◌, ◌∙◌, ℕ, zero, suc, Bool, true, false, not, Vec, vec_len, Some, None, List, [], ◌∷◌, ◌++◌, add-one, ap, get_or, length, map, refl, subst, sym, take, arith}
 use Rattle.std.specs.FinMap as names
 use Rattle.std.specs.List.{AllByRecursion, list_any}
 use Rattle.std.specs.Option.{option_map}
-use Rattle.std.specs.Prelude.{Contains}
 use Rattle.std.proofs.lemmas.Bool.{false≢true}
 use Rattle.std.proofs.lemmas.Bool.Decides.{nat_tests}
 use Rattle.std.proofs.lemmas.List.{take_all, take_more}
@@ -13,7 +12,6 @@ use Rattle.std.proofs.lemmas.Option.{none-some, same_Some}
 use Rattle.rs_catalog.specs.Definitions.{Definitions, RouteItem, TableItem, table_from, tables_from}
 use Rattle.rs_catalog.proofs.Names.{each_entry}
 use Rattle.rs_catalog.proofs.StateLaws.{get-tables_from}
-use Rattle.rs_contents.specs.Contents.{Contents, HoldsAll}
 use Rattle.rs_contents.specs.declared.opened.OpenedFile.{OpenedFile}
 use Rattle.rs_disk.specs.declared.disk.Disk as disk
 use Rattle.rs_event_reads.specs.Read.{spans_within}
@@ -83,7 +81,7 @@ module _ (table : Table) (name : Name) (from to : ℕ) (places : Places) (facts 
   no_fact : places ≡ places_of [] → list_any (λ k. not (has_none (table.facts name k))) (thousandths from to) ≡ false
   no_fact empty =
       any_none (λ k. not (has_none (table.facts name k))) (thousandths from to) (λ k.
-          ap (λ (p : Places). not (has_none (p k))) (facts ∙ empty) ∙ ap not has_none-none)
+      ap (λ (p : Places). not (has_none (p k))) (facts ∙ empty) ∙ ap not has_none-none)
 
   a_fact : (kind : Kind) (spans : List Stretch) → AreAllRunsOf kind places spans → LieWithin from to places → has_some spans ≡ true
       → list_any (λ k. not (has_none (table.facts name k))) (thousandths from to) ≡ true
@@ -165,10 +163,10 @@ module _ {D : Type 0} (d : disk.Ghosts D) (oldest : ℕ) (store : StoreState D) 
     no_fact_on all =
         ap (λ tables. list_any (λ (e : Name × Table). has_fact_on route on.ends e.1) (names.entries tables)) tables_are
         ∙ no_entry (has_fact_on route on.ends) (tables_from store.catalog spans) (λ q table there.
-            elim (names.get store.catalog.tables q) as (λ o. names.get store.catalog.tables q ≡ o → option_map table_of o ≡ Some table → has_fact_on route on.ends table ≡ false) [
-              | None ↦ λ e f. absurd (none-some table f)
-              | Some item ↦ λ e f. subst (λ (t : Table). has_fact_on route on.ends t ≡ false) (same_Some (table_of item) table f) (none_of q item all e)
-            ] refl (sym (get-tables_from store.catalog spans q) ∙ there))
+        elim (names.get store.catalog.tables q) as (λ o. names.get store.catalog.tables q ≡ o → option_map table_of o ≡ Some table → has_fact_on route on.ends table ≡ false) [
+          | None ↦ λ e f. absurd (none-some table f)
+          | Some item ↦ λ e f. subst (λ (t : Table). has_fact_on route on.ends t ≡ false) (same_Some (table_of item) table f) (none_of q item all e)
+        ] refl (sym (get-tables_from store.catalog spans q) ∙ there))
 
 -- ---- one table after another
 

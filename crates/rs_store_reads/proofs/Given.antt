@@ -1,5 +1,5 @@
 -- What is asked of a store and given.
-use Rattle.std.proofs.Common.{◌≡◌, ◌≤◌, ◌&&◌, ◌||◌, ◌==◌, ◌∙◌, ℕ, suc, Bool, true, false, cond, nat_le, Vec, Result, Ok, Err, Some, List, [], ◌∷◌, ap, inl, inr, length, map, refl, subst, sym, arith}
+use Rattle.std.proofs.Common.{◌≡◌, ◌≤◌, ◌&&◌, ◌||◌, ◌==◌, ◌∙◌, ℕ, suc, Bool, true, false, cond, nat_le, Vec, Result, Ok, Err, Some, List, [], ◌∷◌, ap, length, map, refl, subst, sym, arith}
 use Rattle.std.specs.FinMap as names
 use Rattle.std.specs.List.{AllByRecursion, list_any}
 use Rattle.std.specs.Prelude.{IfOk}
@@ -15,7 +15,7 @@ use Rattle.rs_exec.specs.Snapshot.{NumberedTable, Snapshot, Snapshots}
 use Rattle.rs_exec.specs.declared.source.Asked.{Asked}
 use Rattle.rs_exec.specs.declared.source.Part.{Part}
 use Rattle.rs_exec.specs.declared.source.SoughtValue.{SoughtValue}
-use Rattle.rs_facts.specs.Fact.{Name, RowSet, keep, none}
+use Rattle.rs_facts.specs.Fact.{Name, keep, none}
 use Rattle.rs_facts.specs.Query.{Column}
 use Rattle.rs_facts.specs.Runs.{Stretch}
 use Rattle.rs_facts.specs.Spans.{ArePlaced, places_of, seen}
@@ -24,15 +24,14 @@ use Rattle.rs_machine.specs.Checks.{column_types}
 use Rattle.rs_pager.specs.Maps.{committed}
 use Rattle.rs_refusal.specs.declared.refusal.Refusal.{Refusal}
 use Rattle.rs_standing.specs.Seen.{events_of, routes_at}
-use Rattle.rs_store.specs.Kept.{Keeps, StandsIn, StoreState}
+use Rattle.rs_store.specs.Kept.{Keeps, StoreState}
 use Rattle.rs_sweep.specs.Lists.{AreWide}
 use Rattle.rs_value.specs.Row.{Row}
 use Rattle.rs_value.specs.Values.{IsRowOf}
 use Rattle.rs_value.specs.declared.column.ColumnType.{ColumnType}
 use Rattle.rs_value.specs.declared.column.Kind.{Kind}
-use Rattle.rs_versioned.specs.Events.{Event}
 use Rattle.rs_versioned.specs.Meant.{AreEventsMeant}
-use Rattle.rs_store_reads.specs.Shown.{Shows, behind_of, first_of, is_shown, is_table, places_seen, same_kind, snapshot_at, table_there}
+use Rattle.rs_store_reads.specs.Shown.{Shows, behind_of, first_of, is_shown, is_table, places_seen, same_kind, table_there}
 use Rattle.rs_store_reads.proofs.SameKind.{kind_same}
 use Rattle.rs_store_reads.proofs.Tables.{all_lie, events_meant}
 use Rattle.rs_store_reads.proofs.Within.{NoneLeftOut, RowsWithin, means_inside}

@@ -7,7 +7,7 @@ use Rattle.rs_contents.specs.declared.opened.OpenedFile.{OpenedFile}
 use Rattle.rs_disk.specs.declared.disk.Disk as disk
 use Rattle.rs_exec.specs.Snapshot.{Snapshots}
 use Rattle.rs_machine.specs.State.{State}
-use Rattle.rs_pager.specs.Maps.{KeepsChanges, committed, working}
+use Rattle.rs_pager.specs.Maps.{KeepsChanges}
 use Rattle.rs_pager.specs.Opened.{CountsFault}
 use Rattle.rs_pager.specs.Paged.{Paged}
 use Rattle.rs_pages.proofs.Stores.{SamePages-trans}
@@ -34,8 +34,8 @@ changes-trans a b c one other = record {
 module _ {D : Type 0} (d : disk.Ghosts D) where
   -- ---- what passes
 
-  pub passes-refl : (store : StoreState D) → Passes d store store
-  passes-refl store = record {
+  pub passes_refl : (store : StoreState D) → Passes d store store
+  passes_refl store = record {
     keeps = keeps_store-refl d store;
     marked = refl;
     tied = λ tied. tied;
@@ -47,8 +47,8 @@ module _ {D : Type 0} (d : disk.Ghosts D) where
     failures = omega arith;
   }
 
-  pub passes-trans : (a b c : StoreState D) → Passes d a b → Passes d b c → Passes d a c
-  passes-trans a b c one other = record {
+  pub passes_trans : (a b c : StoreState D) → Passes d a b → Passes d b c → Passes d a c
+  passes_trans a b c one other = record {
     keeps = keeps_store-trans d a b c one.keeps other.keeps;
     marked = other.marked ∙ one.marked;
     tied = λ tied. other.tied (one.tied tied);
@@ -84,20 +84,20 @@ module _ {D : Type 0} (d : disk.Ghosts D) where
 
   -- ---- why a read is refused
 
-  pub wants-memory : (a b : StoreState D) → WantsReading d refusal.OutOfMemory a b
-  wants-memory a b = inl refl
+  pub wants_memory : (a b : StoreState D) → WantsReading d refusal.OutOfMemory a b
+  wants_memory a b = inl refl
 
-  pub wants-later : (why : Refusal) (a b c : StoreState D) → Passes d a b → WantsReading d why b c → WantsReading d why a c
-  wants-later why a b c passes (inl memory) = inl memory
-  wants-later why a b c passes (inr (inl failed)) = inr (inl (failed.0, Rose-after_le (d.failures a.pager.disk) (d.failures b.pager.disk) (d.failures c.pager.disk) passes.failures failed.1))
-  wants-later why a b c passes (inr (inr damaged)) = inr (inr (damaged.0, record { none = λ oldest state stands. damaged.1.none oldest state (stands_on oldest a b passes state stands) }))
+  pub wants_later : (why : Refusal) (a b c : StoreState D) → Passes d a b → WantsReading d why b c → WantsReading d why a c
+  wants_later why a b c passes (inl memory) = inl memory
+  wants_later why a b c passes (inr (inl failed)) = inr (inl (failed.0, Rose-after_le (d.failures a.pager.disk) (d.failures b.pager.disk) (d.failures c.pager.disk) passes.failures failed.1))
+  wants_later why a b c passes (inr (inr damaged)) = inr (inr (damaged.0, record { none = λ oldest state stands. damaged.1.none oldest state (stands_on oldest a b passes state stands) }))
 
   -- a refusal that counts the disk's failures, and is no damage where the store stands
-  pub wants-counted : {T : Type 0} (result : Result T Refusal) (old new : StoreState D) → RefusesToLoad result
+  pub wants_counted : {T : Type 0} (result : Result T Refusal) (old new : StoreState D) → RefusesToLoad result
       → MatchResult result (λ _. d.failures new.pager.disk ≡ d.failures old.pager.disk) (λ why. CountsFault why (d.failures old.pager.disk) (d.failures new.pager.disk)) → (result ≡ Err refusal.DamagedFile → StandsInNone d old)
       → IfErr result (λ why. WantsReading d why old new)
-  wants-counted (Ok x) old new refused counts none = tt
-  wants-counted (Err why) old new (inl memory) counts none = inl memory
-  wants-counted (Err why) old new (inr (inl failed)) counts none =
+  wants_counted (Ok x) old new refused counts none = tt
+  wants_counted (Err why) old new (inl memory) counts none = inl memory
+  wants_counted (Err why) old new (inr (inl failed)) counts none =
       inr (inl (failed, subst (Rose (d.failures old.pager.disk)) (sym (counts.disk failed)) (Rose_counted_on (d.failures old.pager.disk))))
-  wants-counted (Err why) old new (inr (inr damaged)) counts none = inr (inr (damaged, none (λ i. Err (damaged i))))
+  wants_counted (Err why) old new (inr (inr damaged)) counts none = inr (inr (damaged, none (λ i. Err (damaged i))))

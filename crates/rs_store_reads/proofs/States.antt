@@ -1,5 +1,5 @@
 -- The tables of the state of a store, and what they have on a route.
-use Rattle.std.proofs.Common.{◌≡◌, ◌≤◌, ◌&&◌, ◌||◌, ◌==◌, ◌∙◌, ℕ, Bool, true, false, cond, nat_le, Some, None, Option, List, [], ◌∷◌, ap, length, refl, subst, sym, arith}
+use Rattle.std.proofs.Common.{◌≡◌, ◌≤◌, ◌&&◌, ◌||◌, ◌==◌, ◌∙◌, ℕ, Bool, true, false, cond, nat_le, Some, Option, List, [], ◌∷◌, ap, length, refl, sym, arith}
 use Rattle.std.specs.FinMap as names
 use Rattle.std.specs.FinMap.{find, get-entries}
 use Rattle.std.specs.List.{AllByRecursion, list_any}
@@ -12,8 +12,8 @@ use Rattle.rs_catalog.specs.Referents.{referents_on}
 use Rattle.rs_catalog.proofs.Names.{each_entry}
 use Rattle.rs_catalog.proofs.StateLaws.{get-tables_from}
 use Rattle.rs_disk.specs.declared.disk.Disk as disk
-use Rattle.rs_exec.specs.Snapshot.{NumberedTable, Snapshot, Snapshots}
-use Rattle.rs_facts.specs.Fact.{Name, Names, Places, RowSet, name_cmp, none}
+use Rattle.rs_exec.specs.Snapshot.{Snapshot, Snapshots}
+use Rattle.rs_facts.specs.Fact.{Name, Names, Places, name_cmp}
 use Rattle.rs_facts.specs.Query.{Table, facts_of}
 use Rattle.rs_facts.specs.Runs.{Stretch}
 use Rattle.rs_facts.specs.Spans.{places_of}

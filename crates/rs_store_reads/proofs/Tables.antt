@@ -1,10 +1,9 @@
 -- What a live version sees of a table of the catalogue, and where it lies.
-use Rattle.std.proofs.Common.{◌≡◌, ◌≤◌, ◌<◌, ◌+◌, ◌&&◌, ◌==◌, ◌∙◌, ℕ, suc, Bool, true, Some, List, [], ◌∷◌, ap, filter, map, refl, subst, sym, arith}
+use Rattle.std.proofs.Common.{◌≡◌, ◌≤◌, ◌<◌, ◌+◌, ◌&&◌, ◌==◌, ◌∙◌, ℕ, true, Some, List, [], ◌∷◌, ap, filter, map, refl, subst, sym, arith}
 use Rattle.std.specs.FinMap as names
 use Rattle.std.specs.FinMap.{entries-from_sorted, is_sorted}
 use Rattle.std.specs.FinMap.Entries.{below_all}
 use Rattle.std.specs.Ordering.{is_lt}
-use Rattle.std.specs.List.{AllByRecursion}
 use Rattle.std.specs.Prelude.{Contains}
 use Rattle.std.proofs.lemmas.Bool.{and_parts, eqb-true}
 use Rattle.std.proofs.lemmas.List.Elements.{All-contains, All-from_recursion}
@@ -17,7 +16,6 @@ use Rattle.rs_catalog_pages.specs.Items.{RouteItem, TableItem}
 use Rattle.rs_contents.specs.Contents.{Contents, HoldsAll, LiesTable, TableContents}
 use Rattle.rs_facts.specs.Fact.{Name, Names, contains, name_cmp}
 use Rattle.rs_facts.specs.Runs.{LieWithin, Stretch}
-use Rattle.rs_facts.specs.Spans.{places_of}
 use Rattle.rs_facts.proofs.SpanLaws.{Covers-from_contains}
 use Rattle.rs_machine.specs.Lawful.{IsRoute}
 use Rattle.rs_measure.specs.declared.measure.TheConstants.{GREATEST_MEASURE}

@@ -1,11 +1,11 @@
 -- The spans of a part of a route mean what the version sees there.
-use Rattle.std.proofs.Common.{◌≡◌, ◌≤◌, ◌<◌, ◌+◌, ◌-◌, ◌^◌, ◌∙◌, ℕ, Bool, true, false, cond, List, [], ◌∷◌, ap, filter, map, refl, subst, sym, arith}
+use Rattle.std.proofs.Common.{◌≡◌, ◌≤◌, ◌<◌, ◌+◌, ◌-◌, ◌^◌, ◌∙◌, ℕ, Bool, true, false, cond, List, [], ◌∷◌, ap, filter, map, refl, sym, arith}
 use Rattle.std.specs.List.{AllByRecursion}
 use Rattle.rs_event_reads.specs.Read.{spans_within}
 use Rattle.rs_exec.specs.Given.{inside}
 use Rattle.rs_exec.specs.declared.source.Part.{Part}
 use Rattle.rs_exec.specs.declared.source.Part.TheVariants as parts
-use Rattle.rs_facts.specs.Fact.{Places, RowSet, contains, none}
+use Rattle.rs_facts.specs.Fact.{Places, RowSet, none}
 use Rattle.rs_facts.specs.Insert.{within}
 use Rattle.rs_facts.specs.Operators.{windowed}
 use Rattle.rs_facts.specs.Runs.{IsMaximalRun, LieWithin, Stretch}

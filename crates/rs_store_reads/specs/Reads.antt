@@ -1,7 +1,7 @@
 -- What reads of a store keep, why they are refused, and what they find of a route.
-use Rattle.std.specs.Prelude.{◌≡◌, ◌⊎◌, ℕ, Bool, List, Some, map}
+use Rattle.std.specs.Prelude.{◌≡◌, ◌⊎◌, ℕ, Bool, Some}
 use Rattle.std.specs.FinMap as names
-use Rattle.rs_catalog.specs.Definitions.{Definitions, RouteItem, TableItem}
+use Rattle.rs_catalog.specs.Definitions.{RouteItem}
 use Rattle.rs_disk.specs.declared.disk.Disk as disk
 use Rattle.rs_facts.specs.Fact.{Name}
 use Rattle.rs_machine.specs.State.{State}
@@ -11,7 +11,6 @@ use Rattle.rs_refusal.specs.declared.refusal.Refusal.{Refusal}
 use Rattle.rs_refusal.specs.declared.refusal.Refusal.TheVariants as refusal
 use Rattle.rs_store.specs.Kept.{StandsIn, StoreState}
 use Rattle.rs_store.specs.Reading.{ReadsStore}
-use Rattle.rs_value.specs.declared.column.Kind.{Kind}
 
 module _ {D : Type 0} (d : disk.Ghosts D) where
   -- a read leaves all that is kept as it was, and failures of the disk don't fall

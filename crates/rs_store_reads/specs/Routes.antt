@@ -1,5 +1,5 @@
 -- The tables of a catalogue by their numbers and kinds, and which of them have spans on a route.
-use Rattle.std.specs.Prelude.{◌≡◌, ℕ, Bool, true, false, not, List, [], ◌∷◌, Some, map}
+use Rattle.std.specs.Prelude.{◌≡◌, ℕ, Bool, true, false, List, [], ◌∷◌, Some, map}
 use Rattle.std.specs.FinMap as names
 use Rattle.rs_catalog.specs.Definitions.{Definitions, TableItem}
 use Rattle.rs_disk.specs.declared.disk.Disk as disk

@@ -73,7 +73,9 @@ pub fn spans_of_value_asked<D: Disk>(
 fn is_shown<D: Disk>(store: &Store<D>, oldest: u64, asked: &Asked) -> bool
     ensures { result ≡ is_shown store.now.catalog oldest store.now.file.accepted asked.now }
 {
-    oldest <= asked.version && asked.version <= store.accepted() && has_table(store.catalog(), asked)
+    oldest <= asked.version
+        && asked.version <= store.accepted()
+        && has_table(store.catalog(), asked)
 }
 
 /// Whether a table of the catalogue has this number and this kind, and so many columns.

@@ -59,7 +59,15 @@ fn has_spans_of<D: Disk>(
 {
     spans_within_hold_what_the_table_holds();
     let accepted = store.accepted();
-    let spans = store.spans(alloc, table.number, table.kind, accepted, route, 0, u32::MAX)?;
+    let spans = store.spans(
+        alloc,
+        table.number,
+        table.kind,
+        accepted,
+        route,
+        0,
+        u32::MAX,
+    )?;
     Ok(!spans.is_empty())
 }
 

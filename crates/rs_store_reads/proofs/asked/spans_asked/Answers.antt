@@ -5,7 +5,7 @@ use Rattle.rs_facts.specs.Runs.{Stretch}
 use Rattle.rs_facts.specs.Spans.{seen}
 use Rattle.rs_facts.specs.declared.fact.Span.{Span}
 use Rattle.rs_store_reads.proofs.Given.{given_none, given_shown}
-use Rattle.rs_store_reads.proofs.Passing.{shows_on, wants-counted}
+use Rattle.rs_store_reads.proofs.Passing.{shows_on, wants_counted}
 use Rattle.rs_store_reads.specs.Shown.{Shows}
 use Rattle.rs_store_reads.proofs.asked.spans_asked.Goals as goal
 
@@ -24,5 +24,5 @@ returns-clause-stays g c = λ snapshots shows. shows_on g.D.Disk c.args.oldest c
 
 pub returns-clause-wants : goal.returns-clause-wants
 returns-clause-wants g c =
-    wants-counted g.D.Disk c.spans.result c.args.store.now c.spans.new.self c.spans.ensures.refused c.spans.ensures.count
+    wants_counted g.D.Disk c.spans.result c.args.store.now c.spans.new.self c.spans.ensures.refused c.spans.ensures.count
     (λ damaged. record { none = λ oldest state stands. c.spans.ensures.sound stands.contents stands.keeps damaged })

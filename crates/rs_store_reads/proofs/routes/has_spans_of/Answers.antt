@@ -1,19 +1,17 @@
 -- The spans of the whole route are those that the version sees.
-use Rattle.std.proofs.Common.{◌≡◌, ◌-◌, ◌^◌, ◌∙◌, ℕ, Err, ap, map, not, subst, sym}
+use Rattle.std.proofs.Common.{◌-◌, ◌^◌, ◌∙◌, ℕ, Err, ap, sym}
 use Rattle.std.proofs.lemmas.Result.{err_from_is_err_and}
 use Rattle.rs_event_reads.specs.Read.{spans_within}
-use Rattle.rs_facts.specs.Spans.{seen}
 use Rattle.rs_standing.specs.Seen.{events_of, spans_seen}
-use Rattle.rs_store_reads.specs.Routes.{has_some}
 use Rattle.rs_store_reads.specs.declared.routes.TableKey.{TableKey}
 use Rattle.rs_store_reads.proofs.Facts.{some_read, whole_read}
-use Rattle.rs_store_reads.proofs.Passing.{wants-counted}
+use Rattle.rs_store_reads.proofs.Passing.{wants_counted}
 use Rattle.rs_store_reads.proofs.routes.has_spans_of.Goals as goal
 
 pub returns-in_err-spans-clause-wants : goal.returns-in_err-spans-clause-wants
 returns-in_err-spans-clause-wants g c =
     let p = err_from_is_err_and c.from_residual.result c.from_residual.ensures.1 in
-    rw (p.1, p.2) (wants-counted g.D.Disk (Err c.in_err-spans.field-0.0) c.args.store.now c.spans.new.self c.in_err-spans.ensures.refused c.in_err-spans.ensures.count
+    rw (p.1, p.2) (wants_counted g.D.Disk (Err c.in_err-spans.field-0.0) c.args.store.now c.spans.new.self c.in_err-spans.ensures.refused c.in_err-spans.ensures.count
     (λ damaged. record { none = λ oldest state stands. c.in_err-spans.ensures.sound stands.contents stands.keeps damaged }))
 
 pub returns-clause-says : goal.returns-clause-says

@@ -1,6 +1,5 @@
 -- One key after another.
 use Rattle.std.proofs.Common.{◌≡◌, ◌++◌, List, map, sym, ap, ◌∙◌, append-nil}
-use Rattle.std.specs.FinMap as names
 use Rattle.rs_catalog.specs.Names.{entries_by_bytes}
 use Rattle.rs_store_reads.specs.Routes.{key_of}
 use Rattle.rs_store_reads.specs.declared.routes.TableKey.{TableKey}
