@@ -12,6 +12,7 @@ use Rattle.std.proofs.lemmas.Option.{none-some, same_Some}
 use Rattle.rs_catalog.specs.Definitions.{Definitions, RouteItem, TableItem, table_from, tables_from}
 use Rattle.rs_catalog.proofs.Names.{each_entry}
 use Rattle.rs_catalog.proofs.StateLaws.{get-tables_from}
+use Rattle.rs_contents.specs.Contents.{Contents}
 use Rattle.rs_contents.specs.declared.opened.OpenedFile.{OpenedFile}
 use Rattle.rs_disk.specs.declared.disk.Disk as disk
 use Rattle.rs_event_reads.specs.Read.{spans_within}
@@ -29,7 +30,7 @@ use Rattle.rs_machine.specs.State.{State}
 use Rattle.rs_machine.specs.Step.{has_fact_on, some_table}
 use Rattle.rs_pager.specs.Maps.{committed}
 use Rattle.rs_standing.specs.Seen.{events_of, routes_at, spans_seen}
-use Rattle.rs_store.specs.Kept.{StandsIn, StoreState}
+use Rattle.rs_store.specs.Kept.{Keeps, StandsIn, StoreState}
 use Rattle.rs_store.proofs.Placed.{entry_there}
 use Rattle.rs_value.specs.Row.{Row}
 use Rattle.rs_value.specs.declared.column.Kind.{Kind}
@@ -125,7 +126,7 @@ module _ {D : Type 0} (d : disk.Ghosts D) (oldest : ℕ) (store : StoreState D) 
       (meant_at name item there) route on at)
 
   -- what is read of the whole route is what is seen there
-  pub whole_read : NoneLeftOut → RowsWithin → (name : Name) (item : TableItem) → names.get store.catalog.tables name ≡ Some item → (route : ℕ)
+  whole_read : NoneLeftOut → RowsWithin → (name : Name) (item : TableItem) → names.get store.catalog.tables name ≡ Some item → (route : ℕ)
       → spans_within item.kind store.file.accepted route 0 (2 ^ 32 - 1) (events_of stands.contents item.number) ≡ spans item.number route
   whole_read left rows name item there route =
       let events = events_of stands.contents item.number in
@@ -175,10 +176,25 @@ some_items : (items : List Span) → not (length items == 0) ≡ has_some (map s
 some_items [] = refl
 some_items (span ∷ more) = let other : (length more + 1 == 0) ≡ false = grind (arith, nat_tests) in ap (λ (n : ℕ). not (n == 0)) (sym (add-one (length more))) ∙ ap not other
 
-pub some_read : {Z : Type 0} (read : Vec Span Z) (is_empty : Bool) (there : List Stretch) → is_empty ≡ (vec_len read == 0) → map seen read.items ≡ there → not is_empty ≡ has_some there
+some_read : {Z : Type 0} (read : Vec Span Z) (is_empty : Bool) (there : List Stretch) → is_empty ≡ (vec_len read == 0) → map seen read.items ≡ there → not is_empty ≡ has_some there
 some_read read is_empty there empty are =
     let many : vec_len read ≡ length read.items = omega (arith, read.ok) in
     ap not empty ∙ ap (λ (n : ℕ). not (n == 0)) many ∙ some_items read.items ∙ ap has_some are
+
+module _ {D : Type 0} (d : disk.Ghosts D) (left : NoneLeftOut) (rows : RowsWithin) where
+  -- what was read of the whole route says whether there are spans
+  pub read_says : {Z : Type 0} (store : StoreState D) (key : TableKey) (route version : ℕ) (read : Vec Span Z) (is_empty : Bool) → version ≡ store.file.accepted → is_empty ≡ (vec_len read == 0)
+      → ((contents : Contents) → Keeps d store contents → map seen read.items ≡ spans_within key.kind version route 0 (2 ^ 32 - 1) (events_of contents key.number))
+      → HasSpansOf d store key route (not is_empty)
+  read_says store key route version read is_empty present empty reads = record {
+    each = λ oldest state stands name item there is.
+        let events = events_of stands.contents in
+        some_read read is_empty (spans_seen stands.contents store.file.accepted item.number route) empty
+        (reads stands.contents stands.keeps
+        ∙ ap (λ (n : ℕ). spans_within key.kind n route 0 (2 ^ 32 - 1) (events key.number)) present
+        ∙ ap (λ (k : TableKey). spans_within k.kind store.file.accepted route 0 (2 ^ 32 - 1) (events k.number)) (sym is)
+        ∙ whole_read d oldest store state stands left rows name item there route);
+  }
 
 -- a table of the catalogue that has the key
 pub record HasKey (definitions : Definitions) (key : TableKey) : Type 0 where

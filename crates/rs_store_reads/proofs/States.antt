@@ -9,7 +9,7 @@ use Rattle.std.proofs.lemmas.Bool.{and_from, eq-eqb, false≢true, le-leb, leb-t
 use Rattle.std.proofs.lemmas.Option.{none-some, same_Some}
 use Rattle.rs_catalog.specs.Definitions.{Definitions, RouteItem, TableItem, facts_from, no_places, on_numbered, state_from, table_from, tables_from}
 use Rattle.rs_catalog.specs.Referents.{referents_on}
-use Rattle.rs_catalog.proofs.Names.{each_entry}
+use Rattle.rs_catalog.proofs.Names.{each_entry, get-map_values}
 use Rattle.rs_catalog.proofs.StateLaws.{get-tables_from}
 use Rattle.rs_disk.specs.declared.disk.Disk as disk
 use Rattle.rs_exec.specs.Snapshot.{Snapshot, Snapshots}
@@ -18,7 +18,9 @@ use Rattle.rs_facts.specs.Query.{Table, facts_of}
 use Rattle.rs_facts.specs.Runs.{Stretch}
 use Rattle.rs_facts.specs.Spans.{places_of}
 use Rattle.rs_machine.specs.State.{State, no_cursors}
-use Rattle.rs_standing.specs.Seen.{spans_seen}
+use Rattle.rs_standing.specs.Seen.{born_by, spans_seen}
+use Rattle.rs_standing.specs.States.{routes_named, tables_named, world_at}
+use Rattle.rs_standing.specs.States as standing
 use Rattle.rs_store.specs.Kept.{StandsIn, StoreState}
 use Rattle.rs_store_reads.specs.Shown.{Shows, is_table, no_snapshot, numbered_as, places_seen, same_kind, shown_from, snapshot_at, table_there}
 use Rattle.rs_store_reads.proofs.SameKind.{kind_itself}
@@ -104,6 +106,24 @@ module _ {D : Type 0} (d : disk.Ghosts D) where
       ap (λ (s : Snapshot). s.rows (numbered_as item) on.number k) (shows.live accepted low (omega arith))
       ∙ ap (λ (b : Bool). (cond b (places_seen contents accepted item.number on.number) no_places) k) (there_itself store.catalog name item there)
       ∙ sym (ap (λ (places : Places). places k) (facts_there store.catalog spans item route on at))
+      ∙ sym (ap (λ (o : Option Table). facts_of o route k) table)
+
+  -- at each live version
+  pub rows_of_version : (oldest : ℕ) (store : StoreState D) (snapshots : Snapshots) (shows : Shows d oldest store snapshots)
+      → (version : ℕ) → oldest ≤ version → version ≤ store.file.accepted
+      → (name : Name) (item : TableItem) → names.get store.catalog.tables name ≡ Some item
+      → (route : Name) (on : RouteItem) → names.get (routes_named (born_by version shows.stands.contents.definitions.routes)) route ≡ Some on → (k : ℕ)
+      → (snapshots version).rows (numbered_as item) on.number k ≡ facts_of (names.get (world_at shows.stands.contents version).tables name) route k
+  unfolding facts_from
+  rows_of_version oldest store snapshots shows version low high name item there route on at k =
+      let contents = shows.stands.contents in
+      let named : names.get (tables_named contents.definitions.tables) name ≡ Some item =
+      sym (ap (λ (tables : Names TableItem). names.get tables name) shows.stands.keeps.memory.catalog.tables) ∙ there in
+      let table : names.get (world_at contents version).tables name ≡ Some (standing.table_at contents version item) =
+      get-map_values (standing.table_at contents version) (tables_named contents.definitions.tables) name ∙ ap (option_map (standing.table_at contents version)) named in
+      ap (λ (s : Snapshot). s.rows (numbered_as item) on.number k) (shows.live version low high)
+      ∙ ap (λ (b : Bool). (cond b (places_seen contents version item.number on.number) no_places) k) (there_itself store.catalog name item there)
+      ∙ sym (ap (λ (o : Option RouteItem). on_numbered no_places (λ (number : ℕ). places_seen contents version item.number number) o k) at)
       ∙ sym (ap (λ (o : Option Table). facts_of o route k) table)
 
   -- a store that stands in a state shows what its versions see

@@ -78,7 +78,7 @@ fn is_shown<D: Disk>(store: &Store<D>, oldest: u64, asked: &Asked) -> bool
         && has_table(store.catalog(), asked)
 }
 
-/// Whether a table of the catalogue has this number and this kind, and so many columns.
+/// Whether the catalogue has the table.
 fn has_table(catalog: &Catalog, asked: &Asked) -> bool
     ensures { result ≡ table_there catalog.now (table_asked asked.now) }
 {
@@ -90,7 +90,7 @@ fn has_table(catalog: &Catalog, asked: &Asked) -> bool
     false
 }
 
-/// Whether the table has.
+/// Whether it is this table: it has this number and this kind, and so many columns.
 #[tactic(auto, unfolding(crate::specs::Shown::is_table))]
 fn is_table(table: &TableEntry, asked: &Asked) -> bool
     ensures { result ≡ is_table (table_asked asked.now) table.now }
