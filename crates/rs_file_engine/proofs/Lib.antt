@@ -1,0 +1,3 @@
+pub mod Filing
+pub mod Machines
+pub mod Stepping

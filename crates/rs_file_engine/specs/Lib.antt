@@ -1,0 +1,4 @@
+pub mod Files
+pub mod Kept
+pub mod Serving
+pub mod Replied
