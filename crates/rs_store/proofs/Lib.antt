@@ -2,12 +2,14 @@ pub mod Beside
 pub mod Brought
 pub mod Files
 pub mod Keeping
+pub mod Listed
 pub mod Loaded
 pub mod Numbered
 pub mod OneState
 pub mod Placed
 pub mod Referred
 pub mod Results
+pub mod Rewritten
 pub mod Rows
 pub mod Same
 pub mod Settled

@@ -5,4 +5,5 @@ pub mod Loading
 pub mod Making
 pub mod Placing
 pub mod Reading
+pub mod Rewriting
 pub mod Settling

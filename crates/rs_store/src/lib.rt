@@ -11,6 +11,7 @@ mod opening;
 mod placing;
 mod reading;
 mod referring;
+mod rewriting;
 mod settling;
 pub mod store;
 

@@ -1,0 +1,100 @@
+//! This module writes other definitions of the same tables into the file of a store, once it has checked that a file can keep them.
+
+ghost use Rattle.std.specs.Prelude.{◌≡◌, ◌≤◌, ◌<◌, ◌+◌, ◌^◌, ◌↔◌, All, IsOkUnless, IsTrue, OnErr, OnOk, false, length, string_bytes};
+ghost use Rattle.std.specs.List.{AllByRecursion};
+ghost use Rattle.rs_catalog_pages.specs.Fitting.{FitsCatalogue, IsShort};
+ghost use Rattle.rs_catalog_pages.specs.Said.{said_catalogue};
+ghost use Rattle.rs_definitions.specs.Listing.{listing_of};
+ghost use Rattle.rs_file_changes.specs.Calls.{ChangesDefinitions};
+ghost use Rattle.rs_file_changes.specs.Parts.{IsCommitted};
+ghost use Rattle.rs_machine.specs.declared.limits.TheConstants.{CHANGES};
+ghost use Rattle.rs_state_changes.specs.Calls.{MayChange};
+ghost use Rattle.rs_store.specs.Rewriting.{AreNumbersSmall, CanBeKept, HasTablesOf, Rewrites};
+
+use crate::settling::{kept_change_gives_its_state, settle};
+use rs_catalog::Catalog;
+use rs_catalog_meaning::check_meaning;
+use rs_catalog_meaning::laws::{meant_definitions_are_short, meant_definitions_fit};
+use rs_catalog_pages::{StoredCatalogue, StoredView};
+use rs_contents::OpenedFile;
+use rs_definitions::stored_of;
+use rs_disk::Disk;
+use rs_pager::Pager;
+use rs_refusal::Refusal;
+use rs_state_changes::redefine;
+use std::alloc::Global;
+
+/// Writes the definitions of this catalogue into the file, which has the same tables and indexes. It is refused with 90, with 91, with 92
+/// where the file is full, and with 94 where the definitions can't be kept or the disk does not give back what was written.
+pub(crate) fn write_definitions_of<D: Disk>(
+    alloc: Global,
+    pager: &mut Pager<D>,
+    file: &mut OpenedFile,
+    oldest: u64,
+    catalog: &Catalog,
+) -> Result<(), Refusal>
+    requires shut { pager.old.is_begun ≡ false }
+    requires may { MayChange file.old }
+    requires committed { IsCommitted file.old }
+    requires room { file.old.accepted < CHANGES }
+    requires small { AreNumbersSmall (listing_of catalog.now) }
+    requires tables { HasTablesOf (said_catalogue file.old.definitions) (listing_of catalog.now) }
+    requires births { AllByRecursion (λ route. route.born ≤ file.old.accepted + 1) (listing_of catalog.now).routes }
+    ensures rewrites { Rewrites D.Disk oldest (ChangesDefinitions (listing_of catalog.now)) (listing_of catalog.now) result pager.old pager.new file.old file.new }
+    ensures shut { pager.new.is_begun ≡ false }
+{
+    let definitions = stored_of(alloc, catalog)?;
+    rewrite(alloc, pager, file, oldest, definitions)
+}
+
+/// Writes these definitions into the file, which has the same tables and indexes. It is refused as `write_definitions_of` is.
+pub(crate) fn rewrite<D: Disk>(
+    alloc: Global,
+    pager: &mut Pager<D>,
+    file: &mut OpenedFile,
+    oldest: u64,
+    definitions: StoredCatalogue,
+) -> Result<(), Refusal>
+    requires shut { pager.old.is_begun ≡ false }
+    requires may { MayChange file.old }
+    requires committed { IsCommitted file.old }
+    requires room { file.old.accepted < CHANGES }
+    requires small { AreNumbersSmall (said_catalogue definitions) }
+    requires tables { HasTablesOf (said_catalogue file.old.definitions) (said_catalogue definitions) }
+    requires births { AllByRecursion (λ route. route.born ≤ file.old.accepted + 1) (said_catalogue definitions).routes }
+    ensures rewrites { Rewrites D.Disk oldest (ChangesDefinitions (said_catalogue definitions)) (said_catalogue definitions) result pager.old pager.new file.old file.new }
+    ensures shut { pager.new.is_begun ≡ false }
+{
+    kept_change_gives_its_state::<D>();
+    check_definitions(&definitions)?;
+    pager.begin()?;
+    let made = redefine(alloc, pager, file, oldest, definitions);
+    settle(pager, file, made)
+}
+
+/// Checks that a file can keep these definitions; 94 where not. It takes no memory.
+pub(crate) fn check_definitions(definitions: &StoredCatalogue) -> Result<(), Refusal>
+    requires small { AreNumbersSmall (said_catalogue definitions.now) }
+    ensures fits { OnOk result (FitsCatalogue (said_catalogue definitions.now)) }
+    ensures short { OnOk result (IsShort (said_catalogue definitions.now)) }
+    ensures none { OnErr result (CanBeKept (said_catalogue definitions.now) → ⊥) }
+    ensures refused { IsOkUnless result Refusal.DamagedFile }
+{
+    meant_definitions_fit();
+    meant_definitions_are_short();
+    check_meaning(definitions)?;
+    if are_texts_short(definitions.views.as_slice()) {
+        Ok(())
+    } else {
+        Err(Refusal::DamagedFile)
+    }
+}
+
+/// Whether the text of each view fits the field that a file has for it.
+fn are_texts_short(views: &[StoredView]) -> bool
+    ensures { IsTrue result ↔ All (λ view. length (string_bytes view.text.text) < 2 ^ 16) views.now }
+{
+    views
+        .iter()
+        .all(|view| view.text.text.len() <= usize::from(u16::MAX))
+}
