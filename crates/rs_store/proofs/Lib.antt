@@ -7,6 +7,7 @@ pub mod Loaded
 pub mod Numbered
 pub mod OneState
 pub mod Placed
+pub mod Redefined
 pub mod Referred
 pub mod Results
 pub mod Rewritten

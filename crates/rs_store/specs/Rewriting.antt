@@ -8,7 +8,8 @@ use Rattle.rs_contents.specs.Contents.{Contents}
 use Rattle.rs_contents.specs.declared.opened.OpenedFile.{OpenedFile}
 use Rattle.rs_definitions.specs.Listing.{listing_of}
 use Rattle.rs_disk.specs.declared.disk.Disk as disk
-use Rattle.rs_machine.specs.Lawful.{AreColumnsOfTable, AreViewsMeant, Each, IsLawful}
+use Rattle.rs_file_changes.specs.Calls.{ChangesDefinitions}
+use Rattle.rs_machine.specs.Lawful.{AreColumnsOfTable, AreViewsMeant, Each}
 use Rattle.rs_machine.specs.State.{State}
 use Rattle.rs_pager.specs.Paged.{Paged}
 use Rattle.rs_refusal.specs.declared.refusal.Refusal.{Refusal}
@@ -61,3 +62,11 @@ module _ {D : Type 0} (d : disk.Ghosts D) where
         → OnOk result (HasBecome d oldest stands.contents (record { pager = new; file = is; catalog = now; referents = held; is_marked = is_marked }) next)
     pub rests : (catalog now : Definitions) → IsAtRest was catalog → listing_of now ≡ items → Each now.tables (λ name table. AreColumnsOfTable table.columns)
         → MatchResult result (λ _. IsAtRest is now) (λ _. IsAtRest is catalog)
+
+  -- The file and the catalogue in memory have the next definitions from now on, or still those that they had. What is open and in
+  -- memory is at rest.
+  pub record Redefines (oldest : ℕ) (next : Definitions) (result : Result (Unit {0}) Refusal) (old new : Paged D) (was is : OpenedFile) (catalog now : Definitions) : Type 0 where
+    pub rewrites : Rewrites oldest (ChangesDefinitions (listing_of next)) (listing_of next) result old new was is
+    pub made : OnOk result (now ≡ next)
+    pub stays : OnErr result (now ≡ catalog)
+    pub rests : IsAtRest is now

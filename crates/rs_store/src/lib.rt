@@ -4,6 +4,7 @@
 mod changing;
 mod closing;
 mod creating;
+mod defining;
 pub mod laws;
 mod loading;
 mod marking;

@@ -37,7 +37,6 @@ pub(crate) fn write_definitions_of<D: Disk>(
     requires may { MayChange file.old }
     requires committed { IsCommitted file.old }
     requires room { file.old.accepted < CHANGES }
-    requires small { AreNumbersSmall (listing_of catalog.now) }
     requires tables { HasTablesOf (said_catalogue file.old.definitions) (listing_of catalog.now) }
     requires births { AllByRecursion (λ route. route.born ≤ file.old.accepted + 1) (listing_of catalog.now).routes }
     ensures rewrites { Rewrites D.Disk oldest (ChangesDefinitions (listing_of catalog.now)) (listing_of catalog.now) result pager.old pager.new file.old file.new }
@@ -59,7 +58,6 @@ pub(crate) fn rewrite<D: Disk>(
     requires may { MayChange file.old }
     requires committed { IsCommitted file.old }
     requires room { file.old.accepted < CHANGES }
-    requires small { AreNumbersSmall (said_catalogue definitions) }
     requires tables { HasTablesOf (said_catalogue file.old.definitions) (said_catalogue definitions) }
     requires births { AllByRecursion (λ route. route.born ≤ file.old.accepted + 1) (said_catalogue definitions).routes }
     ensures rewrites { Rewrites D.Disk oldest (ChangesDefinitions (said_catalogue definitions)) (said_catalogue definitions) result pager.old pager.new file.old file.new }
@@ -73,7 +71,7 @@ pub(crate) fn rewrite<D: Disk>(
 }
 
 /// Checks that a file can keep these definitions; 94 where not. It takes no memory.
-pub(crate) fn check_definitions(definitions: &StoredCatalogue) -> Result<(), Refusal>
+fn check_definitions(definitions: &StoredCatalogue) -> Result<(), Refusal>
     requires small { AreNumbersSmall (said_catalogue definitions.now) }
     ensures fits { OnOk result (FitsCatalogue (said_catalogue definitions.now)) }
     ensures short { OnOk result (IsShort (said_catalogue definitions.now)) }

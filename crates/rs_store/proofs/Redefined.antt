@@ -1,0 +1,162 @@
+-- A store in which definitions came or went: what it is left as, and the state that it has become.
+use Rattle.std.proofs.Common.{◌≡◌, ◌≤◌, ◌<◌, ◌+◌, ◌^◌, ◌++◌, ◌∙◌, ℕ, Bool, true, false, List, [], ◌∷◌, All, Result, Ok, Err, ap, length, refl, subst, sym, arith}
+use Rattle.std.specs.List.{AllByRecursion, AllZip}
+use Rattle.std.specs.Prelude.{OnErr, OnOk, codes}
+use Rattle.std.specs.Result.{is_err}
+use Rattle.std.proofs.lemmas.Bool.{false≢true}
+use Rattle.std.proofs.lemmas.List.{length-append}
+use Rattle.std.proofs.lemmas.List.Elements.{All-from_recursion}
+use Rattle.rs_catalog.specs.Definitions as catalog
+use Rattle.rs_catalog.specs.Definitions.{Definitions, Numbered}
+use Rattle.rs_catalog.specs.Referents.{HeldReferents, referents_on}
+use Rattle.rs_catalog_pages.specs.Items.{ViewItem}
+use Rattle.rs_cell_versions.specs.declared.cell.TheConstants.{LIVING}
+use Rattle.rs_contents.specs.Contents.{Contents}
+use Rattle.rs_contents.specs.declared.opened.OpenedFile.{OpenedFile}
+use Rattle.rs_definitions.specs.Listing.{listing_of}
+use Rattle.rs_disk.specs.declared.disk.Disk as disk
+use Rattle.rs_facts.specs.Fact.{Name}
+use Rattle.rs_file_changes.specs.Calls.{ChangesDefinitions}
+use Rattle.rs_machine.specs.Lawful.{AreColumnsOfTable, AreViewsMeant, Each}
+use Rattle.rs_machine.specs.Request.{Asks, command}
+use Rattle.rs_machine.specs.State.{State}
+use Rattle.rs_machine.specs.declared.limits.TheConstants.{CHANGES}
+use Rattle.rs_machine_laws.specs.ViewLines.{IsReadable, shortest_view_line}
+use Rattle.rs_pager.specs.Maps.{committed}
+use Rattle.rs_pager.specs.Paged.{Paged}
+use Rattle.rs_refusal.specs.declared.refusal.Refusal.{Refusal}
+use Rattle.rs_refusal.specs.declared.refusal.Refusal.TheVariants as refusal
+use Rattle.rs_standing.specs.States.{HasLine, IsViewOf}
+use Rattle.rs_state_laws.specs.Changing.{GivesState}
+use Rattle.rs_state_laws.specs.Standing.{StandsAt}
+use Rattle.rs_store.specs.Changing.{HasBecome, LeavesStore}
+use Rattle.rs_store.specs.Kept.{IsAtRest, StandsIn, StoreState}
+use Rattle.rs_store.specs.Rewriting.{CanBeKept, GoesOn, Redefines, Rewrites, WhereKept}
+use Rattle.rs_store.proofs.Keeping.{store_over}
+use Rattle.rs_store.proofs.Results.{err_always}
+use Rattle.rs_syntax.specs.QueryView.{query_tree}
+use Rattle.rs_syntax.specs.Tree.{QueryTree, define_view}
+
+-- ---- definitions that can be kept
+
+-- what is said of a line that defines a view
+abbrev pub IsLineReadable : Type 0
+IsLineReadable = (line : List ℕ) (session : ℕ) (name : List ℕ) (query : QueryTree) (text : List ℕ) → Asks line (command session (define_view name query text)) → IsReadable (shortest_view_line name text)
+
+text_short : IsLineReadable → (name : Name) (query : QueryTree) (text : List ℕ) → HasLine name query text → length text < 2 ^ 16
+text_short readable name query text has =
+    let few = (readable has.line has.session name query text has.asks).few in
+    omega (arith, few, length-append (codes "0 DEFINE VIEW ") (name ++ (codes " AS " ++ text)), length-append name (codes " AS " ++ text), length-append (codes " AS ") text)
+
+texts_short : IsLineReadable → (views : List ViewItem) (entries : List (Name × catalog.ViewItem)) → AllZip IsViewOf views entries → AllByRecursion (λ view. length view.text < 2 ^ 16) views
+texts_short readable [] entries are = tt
+texts_short readable (view ∷ views) [] are = absurd are
+texts_short readable (view ∷ views) (entry ∷ entries) are =
+    (text_short readable view.name (query_tree entry.1.query) view.text are.0.defined, texts_short readable views entries are.1)
+
+-- definitions that give a lawful state can be kept
+pub can_be_kept : IsLineReadable → (oldest : ℕ) (old : Contents) (next : Definitions) (held : Numbered HeldReferents) (after : State)
+    → GivesState oldest old (record old { definitions = listing_of next }) next held after → CanBeKept (listing_of next)
+can_be_kept readable oldest old next held after gives = record {
+  meant = gives.meant.definitions;
+  texts = All-from_recursion (λ (view : ViewItem). length view.text < 2 ^ 16) (listing_of next).views
+      (texts_short readable (listing_of next).views _ gives.memory.catalog.views);
+}
+
+-- ---- answers
+
+pub ok_never : {T E : Type 0} (P : Type 0) (r : Result T E) → is_err r ≡ true → OnOk r P
+ok_never P (Ok x) is = absurd (false≢true is)
+ok_never P (Err e) is = tt
+
+pub err_never : {T E : Type 0} (P : Type 0) (r : Result T E) → is_err r ≡ false → OnErr r P
+err_never P (Ok x) is = tt
+err_never P (Err e) is = absurd (false≢true (sym is))
+
+module _ {D : Type 0} (d : disk.Ghosts D) where
+  -- ---- the parts
+
+  -- what was written is in memory too, or went out of it again
+  pub redefines : (oldest : ℕ) (next : Definitions) (result : Result (Unit {0}) Refusal) (old new : Paged D) (was is : OpenedFile) (catalog now : Definitions)
+      → Rewrites d oldest (ChangesDefinitions (listing_of next)) (listing_of next) result old new was is → IsAtRest was catalog → Each next.tables (λ name table. AreColumnsOfTable table.columns)
+      → OnOk result (now ≡ next) → OnErr result (now ≡ catalog) → Redefines d oldest next result old new was is catalog now
+  redefines oldest next (Ok answer) old new was is catalog now rewrites rests columns made stays = record {
+    rewrites = rewrites;
+    made = made;
+    stays = tt;
+    rests = subst (λ (n : Definitions). IsAtRest is n) (sym made) (rewrites.rests catalog next rests refl columns);
+  }
+  redefines oldest next (Err why) old new was is catalog now rewrites rests columns made stays = record {
+    rewrites = rewrites;
+    made = tt;
+    stays = stays;
+    rests = subst (λ (n : Definitions). IsAtRest is n) (sym stays) (rewrites.rests catalog next rests refl columns);
+  }
+
+  -- ---- the store
+
+  -- what one state allows another may ask for
+  pub left_where : {may other : State → Type 0} {T : Type 0} (result : Result T Refusal) (old new : StoreState D)
+      → ((from : ℕ) (state : State) → StandsIn d from old state → may state → other state) → LeavesStore d other result old new → LeavesStore d may result old new
+  left_where result old new allowed leaves = record {
+    stays = leaves.stays;
+    cause = leaves.cause;
+    sound = λ from state stands may. leaves.sound from state stands (allowed from state stands may);
+    catalog = leaves.catalog;
+    referents = leaves.referents;
+    accepted = leaves.accepted;
+    failures = leaves.failures;
+    full = leaves.full;
+    honesty = leaves.honesty;
+    limit = leaves.limit;
+  }
+
+  module _ (store was : StoreState D) (goes : GoesOn d store was) where
+    -- a store that goes on stands in the same state, in its committed pages
+    abbrev pub stands_still : (from : ℕ) (state : State) → StandsIn d from store state → StandsAt from (committed d was.pager) was.file was.catalog was.referents state
+    stands_still from state stands =
+        let at = goes.keeps.contents stands.contents stands.keeps in
+        record {
+          contents = stands.contents;
+          holds = at.holds;
+          opened = at.opened;
+          memory = at.memory;
+          live = stands.live;
+          meant = stands.meant;
+          is = stands.is;
+          views = stands.views;
+        }
+
+    -- the next version is one that a record can live to see
+    pub next_lives : (from : ℕ) (state : State) (stands : StandsIn d from store state) → store.file.accepted < CHANGES → stands.contents.directory.accepted + 1 < LIVING
+    next_lives from state stands room =
+        let level : stands.contents.directory.accepted ≡ store.file.accepted = stands.keeps.opened.accepted in omega (arith, level, room)
+
+    -- a state that allows the change gives another
+    abbrev pub Gives : Definitions → (State → Type 0) → (State → State) → Type 0
+    Gives next may after = (from oldest : ℕ) (state : State) (stands : StandsIn d from store state) → from ≤ oldest → may state → (part : Contents)
+        → ChangesDefinitions (listing_of next) stands.contents part → GivesState oldest stands.contents part next was.referents (after state)
+
+    module _ (last : Paged D) (settled : OpenedFile) (now next : Definitions) (oldest : ℕ) (result : Result (Unit {0}) Refusal)
+        (redefines : Redefines d oldest next result was.pager last was.file settled was.catalog now) (may : State → Type 0) (after : State → State) (gives : Gives next may after) where
+      -- what a store is left as in which definitions came or went
+      pub left_redefined : IsLineReadable → LeavesStore d may result store (store_over d last settled now was.referents was.is_marked)
+      left_redefined readable =
+          left_where {may = may} {other = WhereKept (listing_of next)} result store (store_over d last settled now was.referents was.is_marked)
+          (λ from state stands allowed. can_be_kept readable from stands.contents next was.referents (after state)
+          (gives from from state stands (omega arith) allowed (record stands.contents { definitions = listing_of next }) (record { definitions_are = refl; rest = refl })))
+          (redefines.rewrites.leaves store was.catalog now was.referents was.referents was.is_marked goes redefines.stays (err_always result refl))
+
+      become_so : (contents : Contents) (state : State) (r : Result (Unit {0}) Refusal) → OnOk r (now ≡ next)
+          → OnOk r (HasBecome d oldest contents (store_over d last settled next was.referents was.is_marked) state)
+          → OnOk r (HasBecome d oldest contents (store_over d last settled now was.referents was.is_marked) state)
+      become_so contents state (Ok answer) made become = subst (λ (n : Definitions). HasBecome d oldest contents (store_over d last settled n was.referents was.is_marked) state) (sym made) become
+      become_so contents state (Err why) made become = tt
+
+      -- and the state that it has become
+      pub become_redefined : (from : ℕ) (state : State) (stands : StandsIn d from store state) → from ≤ oldest → oldest ≤ store.file.accepted + 1 → may state → AreViewsMeant (after state)
+          → OnOk result (HasBecome d oldest stands.contents (store_over d last settled now was.referents was.is_marked) (after state))
+      become_redefined from state stands low high allowed views =
+          become_so stands.contents (after state) result redefines.made
+          (redefines.rewrites.becomes store was.catalog next was.referents was.referents was.is_marked goes from state (after state) stands low high
+          (λ part changes. gives from oldest state stands low allowed part changes) views)
