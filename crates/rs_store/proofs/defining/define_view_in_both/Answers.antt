@@ -38,5 +38,5 @@ returns-else-is_err-clause-redefines g c =
     (subst (λ (n : Definitions). Rewrites d c.args.oldest (ChangesDefinitions (listing_of n)) (listing_of n) made.result c.args.pager.now made.new.pager c.args.file.now made.new.file)
     c.in_ok-define_view.ensures.ok made.ensures.rewrites)
     c.requires.rests c.requires.rests.columns
-    (ok_always made.result c.in_ok-define_view.ensures.ok)
+    (ok_always {P = c.define_view.new.self ≡ next} made.result c.in_ok-define_view.ensures.ok)
     (err_never (c.define_view.new.self ≡ was) made.result (sym c.is_err.ensures.value ∙ c.if-is_err.false))
