@@ -1,7 +1,8 @@
 -- A store in which definitions came or went: what it is left as, and the state that it has become.
-use Rattle.std.proofs.Common.{◌≡◌, ◌≤◌, ◌<◌, ◌+◌, ◌^◌, ◌++◌, ◌∙◌, ℕ, Bool, true, false, List, [], ◌∷◌, All, Result, Ok, Err, ap, length, refl, subst, sym, arith}
+use Rattle.std.proofs.Common.{◌≡◌, ◌≤◌, ◌<◌, ◌+◌, ◌^◌, ◌++◌, ◌∙◌, ℕ, Bool, true, false, List, [], ◌∷◌, All, Result, Ok, Err, None, Some, ap, length, refl, subst, sym, arith}
+use Rattle.std.specs.FinMap as names
 use Rattle.std.specs.List.{AllByRecursion, AllZip}
-use Rattle.std.specs.Prelude.{OnErr, OnOk, codes}
+use Rattle.std.specs.Prelude.{OnErr, OnOk, Option, codes, is_some}
 use Rattle.std.specs.Result.{is_err}
 use Rattle.std.proofs.lemmas.Bool.{false≢true}
 use Rattle.std.proofs.lemmas.List.{length-append}
@@ -15,11 +16,11 @@ use Rattle.rs_contents.specs.Contents.{Contents}
 use Rattle.rs_contents.specs.declared.opened.OpenedFile.{OpenedFile}
 use Rattle.rs_definitions.specs.Listing.{listing_of}
 use Rattle.rs_disk.specs.declared.disk.Disk as disk
-use Rattle.rs_facts.specs.Fact.{Name}
+use Rattle.rs_facts.specs.Fact.{Name, Names}
 use Rattle.rs_file_changes.specs.Calls.{ChangesDefinitions}
 use Rattle.rs_machine.specs.Lawful.{AreColumnsOfTable, AreViewsMeant, Each}
 use Rattle.rs_machine.specs.Request.{Asks, command}
-use Rattle.rs_machine.specs.State.{State}
+use Rattle.rs_machine.specs.State.{State, has}
 use Rattle.rs_machine.specs.declared.limits.TheConstants.{CHANGES}
 use Rattle.rs_machine_laws.specs.ViewLines.{IsReadable, shortest_view_line}
 use Rattle.rs_pager.specs.Maps.{committed}
@@ -62,6 +63,13 @@ can_be_kept readable oldest old next held after gives = record {
   texts = All-from_recursion (λ (view : ViewItem). length view.text < 2 ^ 16) (listing_of next).views
       (texts_short readable (listing_of next).views _ gives.memory.catalog.views);
 }
+
+-- what has a name is there
+pub stood_there : {X : Type 0} (values : Names X) (name : Name) → has values name ≡ true → (x : X) × (names.get values name ≡ Some x)
+stood_there values name is = found (names.get values name) is where
+  found : {X : Type 0} (one : Option X) → is_some one ≡ true → (x : X) × (one ≡ Some x)
+  found None none = absurd (false≢true none)
+  found (Some x) some = (x, refl)
 
 -- ---- answers
 

@@ -1,7 +1,9 @@
 //! This module defines and drops the views of a store: each call is one change of the state, whole or not at all.
 
-ghost use Rattle.std.specs.Prelude.{◌≡◌, ◌≤◌, ◌<◌, ◌+◌, ℕ, true, false, OnOk, string_bytes};
+ghost use Rattle.std.specs.Prelude.{◌≡◌, ◌≤◌, ◌<◌, ◌+◌, ℕ, true, false, IfOk, OnOk, string_bytes};
 ghost use Rattle.rs_catalog.specs.Changes as changes;
+ghost use Rattle.rs_catalog_pages.specs.Said.{said_catalogue};
+ghost use Rattle.rs_definitions.specs.Listing.{listing_of};
 ghost use Rattle.rs_machine.specs.Lawful.{IsLawful};
 ghost use Rattle.rs_machine.specs.State.{State, has};
 ghost use Rattle.rs_machine.specs.Step.{with_view, without_view};
@@ -12,10 +14,12 @@ ghost use Rattle.rs_store.specs.Kept.{IsAtRest, StandsIn};
 ghost use Rattle.rs_store.specs.Rewriting.{Redefines};
 ghost use Rattle.rs_syntax.specs.QueryView.{query_tree};
 
-use crate::rewriting::write_definitions_of;
+use crate::rewriting::{is_name, rewrite, write_definitions_of};
 use crate::store::Store;
 use rs_catalog::Catalog;
+use rs_catalog_pages::StoredCatalogue;
 use rs_contents::OpenedFile;
+use rs_definitions::stored_of;
 use rs_disk::Disk;
 use rs_machine_laws::view_lines::shortest_line_defines_the_view;
 use rs_methods::Name;
@@ -23,7 +27,7 @@ use rs_pager::Pager;
 use rs_refusal::Refusal;
 use rs_state_laws::definitions::view_listed_gives_its_state;
 use rs_syntax::Query;
-use std::alloc::Global;
+use std::alloc::{AllocError, Global};
 
 impl<D: Disk> Store<D> {
     /// Defines a view by its query and the query's text. Versions from `oldest` on see what they saw. It is refused with 90, with 91, and
@@ -59,6 +63,28 @@ impl<D: Disk> Store<D> {
             text,
         )
     }
+
+    /// Drops a view. It is refused as `define_view` is.
+    pub fn drop_view(&mut self, alloc: Global, oldest: u64, name: &Name) -> Result<(), Refusal>
+        requires there { has self.old.catalog.views name.now.bytes ≡ true }
+        requires room { self.old.file.accepted < CHANGES }
+        ensures leaves { LeavesStore D.Disk (λ (state : State). IsLawful (without_view state name.now.bytes)) result self.old self.new }
+        ensures drops { (from : ℕ) (state : State) (stands : StandsIn D.Disk from self.old state) → from ≤ oldest → oldest ≤ self.old.file.accepted + 1
+            → IsLawful (without_view state name.now.bytes)
+            → OnOk result (HasBecome D.Disk oldest stands.contents self.new (without_view state name.now.bytes)) }
+    {
+        shortest_line_defines_the_view();
+        view_listed_gives_its_state();
+        self.mark()?;
+        drop_view_from_both(
+            alloc,
+            &mut self.pager,
+            &mut self.file,
+            &mut self.catalog,
+            oldest,
+            name,
+        )
+    }
 }
 
 /// Puts a new view into memory and then into the file; where the file refuses it, it goes out of memory again.
@@ -86,4 +112,40 @@ fn define_view_in_both<D: Disk>(
         catalog.drop_view(&name);
     }
     made
+}
+
+/// Takes a view out of the file and then out of memory; where the file refuses that, it stays in both.
+fn drop_view_from_both<D: Disk>(
+    alloc: Global,
+    pager: &mut Pager<D>,
+    file: &mut OpenedFile,
+    catalog: &mut Catalog,
+    oldest: u64,
+    name: &Name,
+) -> Result<(), Refusal>
+    requires shut { pager.old.is_begun ≡ false }
+    requires rests { IsAtRest file.old catalog.old }
+    requires room { file.old.accepted < CHANGES }
+    ensures redefines { Redefines D.Disk oldest (changes.without_view catalog.old name.now.bytes) result pager.old pager.new file.old file.new catalog.old catalog.new }
+    ensures shut { pager.new.is_begun ≡ false }
+{
+    let definitions = definitions_without_view(alloc, catalog, name)?;
+    rewrite(alloc, pager, file, oldest, definitions)?;
+    catalog.drop_view(name);
+    Ok(())
+}
+
+/// The definitions of the catalogue as a file keeps them, without this view. The only refusal is for want of memory.
+fn definitions_without_view(
+    alloc: Global,
+    catalog: &Catalog,
+    name: &Name,
+) -> Result<StoredCatalogue, AllocError>
+    ensures { IfOk result (λ stored. said_catalogue stored ≡ listing_of (changes.without_view catalog.now name.now.bytes)) }
+{
+    let mut definitions = stored_of(alloc, catalog)?;
+    definitions
+        .views
+        .retain(|view| !is_name(name, view.name.as_str()));
+    Ok(definitions)
 }

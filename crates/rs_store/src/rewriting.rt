@@ -5,6 +5,7 @@ ghost use Rattle.std.specs.List.{AllByRecursion};
 ghost use Rattle.rs_catalog_pages.specs.Fitting.{FitsCatalogue, IsShort};
 ghost use Rattle.rs_catalog_pages.specs.Said.{said_catalogue};
 ghost use Rattle.rs_definitions.specs.Listing.{listing_of};
+ghost use Rattle.rs_facts.specs.Insert.{same_name};
 ghost use Rattle.rs_file_changes.specs.Calls.{ChangesDefinitions};
 ghost use Rattle.rs_file_changes.specs.Parts.{IsCommitted};
 ghost use Rattle.rs_machine.specs.declared.limits.TheConstants.{CHANGES};
@@ -19,6 +20,7 @@ use rs_catalog_pages::{StoredCatalogue, StoredView};
 use rs_contents::OpenedFile;
 use rs_definitions::stored_of;
 use rs_disk::Disk;
+use rs_methods::Name;
 use rs_pager::Pager;
 use rs_refusal::Refusal;
 use rs_state_changes::redefine;
@@ -68,6 +70,13 @@ pub(crate) fn rewrite<D: Disk>(
     pager.begin()?;
     let made = redefine(alloc, pager, file, oldest, definitions);
     settle(pager, file, made)
+}
+
+/// Whether a name is this text.
+pub(crate) fn is_name(name: &Name, text: &str) -> bool
+    ensures { result ≡ same_name name.now.bytes text.now }
+{
+    text == name.as_str()
 }
 
 /// Checks that a file can keep these definitions; 94 where not. It takes no memory.
