@@ -1,5 +1,5 @@
 -- A store whose definitions were written anew, or were refused.
-use Rattle.std.proofs.Common.{◌≡◌, ◌≤◌, ◌<◌, ◌+◌, ◌⊎◌, ◌∙◌, ℕ, Bool, Result, Ok, Err, ap, inl, inr, refl, subst, sym, arith}
+use Rattle.std.proofs.Common.{◌≡◌, ◌≤◌, ◌<◌, ◌+◌, ◌⊎◌, ◌∙◌, ℕ, Bool, Result, Ok, Err, ap, inl, inr, subst, sym, arith}
 use Rattle.std.specs.List.{AllByRecursion}
 use Rattle.std.specs.Prelude.{OnErr, OnOk}
 use Rattle.rs_catalog.specs.Definitions.{Definitions, Numbered}
@@ -22,10 +22,10 @@ use Rattle.rs_refusal.specs.declared.refusal.Refusal.TheVariants as refusal
 use Rattle.rs_state_changes.specs.Calls.{IsNext}
 use Rattle.rs_state_laws.specs.Changing.{ChangesFile, HoldsNoFile}
 use Rattle.rs_store.specs.Changing.{LeavesStore}
-use Rattle.rs_store.specs.Kept.{StandsIn, StoreState}
-use Rattle.rs_store.specs.Rewriting.{CanBeKept, GoesOn, Rewrites, WhereKept}
+use Rattle.rs_store.specs.Kept.{StoreState}
+use Rattle.rs_store.specs.Rewriting.{GoesOn, Rewrites, WhereKept}
 use Rattle.rs_store.specs.Settling.{HasBegun, Settles}
-use Rattle.rs_store.proofs.Keeping.{keeps_store-refl, store_over}
+use Rattle.rs_store.proofs.Keeping.{store_over}
 use Rattle.rs_store.proofs.Rows.{KeptGives, by_part}
 use Rattle.rs_store.proofs.Settled.{begins, begun_keeps, left_settled, left_unbegun, rests_made, rests_refused}
 
@@ -43,19 +43,19 @@ module _ {D : Type 0} (d : disk.Ghosts D) where
   pub left_unmade : {may : State → Type 0} {T : Type 0} (why : Refusal) (old new : StoreState D) → GoesOn d old new → IsUnmade may why → LeavesStore d may {T = T} (Err why) old new
   left_unmade why old new goes unmade = record {
     stays = goes.keeps.contents;
-    cause = elim unmade [ | inl memory ↦ inl memory | inr damaged ↦ inr (inr (inr damaged.0)) ];
+    cause = elim unmade [ inl memory ↦ inl memory | inr damaged ↦ inr (inr (inr damaged.0)) ];
     sound = λ from state stands allowed is.
         let e : why ≡ refusal.DamagedFile = cc in
-        elim unmade [ | inl memory ↦ absurd (cc (e, memory)) | inr damaged ↦ damaged.1 state allowed ];
+        elim unmade [ inl memory ↦ absurd (cc (e, memory)) | inr damaged ↦ damaged.1 state allowed ];
     catalog = goes.keeps.catalog;
     referents = λ route. ap (λ (held : Numbered HeldReferents). referents_on held route) goes.keeps.referents;
     accepted = ap (λ (file : OpenedFile). file.accepted) goes.keeps.file;
     failures = record {
-      disk = λ is. elim unmade [ | inl memory ↦ absurd (cc (is, memory)) | inr damaged ↦ absurd (cc (is, damaged.0)) ];
+      disk = λ is. elim unmade [ inl memory ↦ absurd (cc (is, memory)) | inr damaged ↦ absurd (cc (is, damaged.0)) ];
       other = λ isnt. goes.failures;
     };
     full = record {
-      full = λ is. elim unmade [ | inl memory ↦ absurd (cc (is, memory)) | inr damaged ↦ absurd (cc (is, damaged.0)) ];
+      full = λ is. elim unmade [ inl memory ↦ absurd (cc (is, memory)) | inr damaged ↦ absurd (cc (is, damaged.0)) ];
       other = λ isnt. omega (arith, goes.keeps.full);
     };
     honesty = goes.keeps.honesty;

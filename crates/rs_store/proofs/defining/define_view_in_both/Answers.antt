@@ -1,6 +1,5 @@
 -- What came into memory and was refused by the file is out of it again.
-use Rattle.std.proofs.Common.{◌≡◌, ◌∙◌, ap, refl, subst, string_bytes, sym}
-use Rattle.std.specs.FinMap as names
+use Rattle.std.proofs.Common.{◌≡◌, ◌∙◌, ap, subst, string_bytes, sym}
 use Rattle.rs_catalog.specs.Changes as changes
 use Rattle.rs_catalog.specs.Definitions.{Definitions, ViewItem}
 use Rattle.rs_definitions.specs.Listing.{listing_of}

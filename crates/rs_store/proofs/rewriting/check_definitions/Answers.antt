@@ -1,5 +1,5 @@
 -- What meaning leaves to the types of the fields is said by the numbers and by the texts.
-use Rattle.std.proofs.Common.{◌≡◌, ◌<◌, ◌^◌, ◌∙◌, All, IsTrue, List, false, length, string_bytes, subst, sym}
+use Rattle.std.proofs.Common.{◌<◌, ◌^◌, ◌∙◌, All, length, string_bytes, subst, sym}
 use Rattle.std.proofs.lemmas.Bool.{false≢true}
 use Rattle.std.proofs.lemmas.List.Elements.{All-map}
 use Rattle.rs_catalog_pages.specs.Items.{ViewItem}

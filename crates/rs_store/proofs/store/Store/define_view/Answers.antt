@@ -1,5 +1,5 @@
 -- The view is in the file and in memory, and so it is in the state.
-use Rattle.std.proofs.Common.{◌≡◌, ◌∙◌, false, ap, string_bytes, subst, sym}
+use Rattle.std.proofs.Common.{◌∙◌, ap, string_bytes, subst, sym}
 use Rattle.rs_catalog.specs.Changes as changes
 use Rattle.rs_catalog.specs.Definitions.{Definitions, ViewItem}
 use Rattle.rs_machine.specs.Lawful.{IsLawful}
