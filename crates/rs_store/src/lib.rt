@@ -1,6 +1,7 @@
 //! The state of the machine in the pages of a file: which disk stands for which state, and the calls that keep it so.
 #![tactic(auto)]
 
+mod aligning;
 mod changing;
 mod closing;
 mod creating;

@@ -1,0 +1,62 @@
+-- The alignment is in the file and in memory, and so it is in the state.
+use Rattle.std.proofs.Common.{◌∙◌, List, Ok, Result, ap, refl, subst, sym}
+use Rattle.rs_catalog.specs.Changes as changes
+use Rattle.rs_catalog.specs.Definitions.{AreDefinitions, Definitions, pieces_of}
+use Rattle.rs_catalog.proofs.DefinitionLaws.{are_definitions-tried}
+use Rattle.rs_facts.specs.Query.{Piece}
+use Rattle.rs_machine.specs.Lawful.{IsLawful}
+use Rattle.rs_machine.specs.State.{State, has}
+use Rattle.rs_machine.specs.Step.{with_alignment}
+use Rattle.rs_pager.specs.Maps.{committed}
+use Rattle.rs_store.specs.Calls.{KeepsStore}
+use Rattle.rs_store.specs.Kept.{StoreState}
+use Rattle.rs_store.specs.Rewriting.{GoesOn}
+use Rattle.rs_store.proofs.Keeping.{store_over}
+use Rattle.rs_store.proofs.Redefined.{Gives, become_redefined, left_redefined, next_lives, stands_still}
+use Rattle.rs_store.proofs.store.Store.define_alignment.Given.{Over}
+use Rattle.rs_store.proofs.store.Store.define_alignment.Goals as goal
+
+module _ (g : Over) (c : goal.After-define_alignment_in_both g) where
+  abbrev was : StoreState g.row.D.Denot
+  was = store_over g.D.Disk c.self-2.inside.pager c.self-2.inside.file c.self-2.inside.catalog c.self-2.inside.referents c.self-2.inside.is_marked
+
+  goes : GoesOn g.D.Disk c.args.self.now was
+  goes = record {
+    keeps = subst (λ (s : StoreState g.row.D.Denot). KeepsStore g.D.Disk c.args.self.now s) (sym c.self-2.view_is) c.mark.ensures.keeps;
+    failures = ap (λ (s : StoreState g.row.D.Denot). g.D.Disk.failures s.pager.disk) c.self-2.view_is ∙ c.in_ok-mark.ensures.count;
+  }
+
+  abbrev pieces : List Piece
+  pieces = pieces_of c.args.pieces.items
+
+  abbrev next : Definitions
+  next = changes.with_alignment was.catalog c.args.name.bytes pieces
+
+  abbrev after : State → State
+  after state = with_alignment state c.args.name.bytes pieces
+
+  abbrev may : State → Type 0
+  may state = IsLawful (after state)
+
+  stood : AreDefinitions c.args.self.now.catalog
+  stood = subst (λ (s : StoreState g.row.D.Denot). AreDefinitions s.catalog) c.self.view_is c.stand.ensures
+
+  are : AreDefinitions next
+  are = subst (λ (k : Definitions). AreDefinitions (changes.with_alignment k c.args.name.bytes pieces)) (sym goes.keeps.catalog)
+      (are_definitions-tried {E = Unit {0}} (Ok (tt {0})) c.args.self.now.catalog c.args.name.bytes pieces _ stood c.requires.lie refl tt)
+
+  gives : Gives g.D.Disk c.args.self.now was goes next may after
+  gives from oldest state stands low lawful part changed =
+      c.alignment_listed_gives_its_state.ensures.defined from oldest (committed g.D.Disk was.pager) was.file was.catalog was.referents state
+      (stands_still g.D.Disk c.args.self.now was goes from state stands) low (next_lives g.D.Disk c.args.self.now was goes from state stands c.requires.room) c.args.name.bytes pieces part
+      are (ap (λ (k : Definitions). has k.alignments c.args.name.bytes) goes.keeps.catalog ∙ c.requires.new) changed lawful
+
+pub returns-clause-leaves : goal.returns-clause-leaves
+returns-clause-leaves g c =
+    left_redefined g.D.Disk c.args.self.now (was g c) (goes g c) c.define_alignment_in_both.new.pager c.define_alignment_in_both.new.file c.define_alignment_in_both.new.catalog (next g c) c.args.oldest
+    c.define_alignment_in_both.result c.define_alignment_in_both.ensures.redefines (may g c) (after g c) (gives g c) c.shortest_line_defines_the_view.ensures.readable
+
+pub returns-clause-defines : goal.returns-clause-defines
+returns-clause-defines g c = λ from state stands low high lawful.
+    become_redefined g.D.Disk c.args.self.now (was g c) (goes g c) c.define_alignment_in_both.new.pager c.define_alignment_in_both.new.file c.define_alignment_in_both.new.catalog (next g c) c.args.oldest
+    c.define_alignment_in_both.result c.define_alignment_in_both.ensures.redefines (may g c) (after g c) (gives g c) from state stands low high lawful lawful.views
