@@ -1,5 +1,5 @@
 -- What the file was refused stays in memory, and what went out of it goes out of memory.
-use Rattle.std.proofs.Common.{◌≡◌, Err, Ok, Result, refl, subst}
+use Rattle.std.proofs.Common.{Err, Ok, Result, refl, subst}
 use Rattle.std.proofs.lemmas.Result.{err_from_is_err_and}
 use Rattle.rs_catalog.specs.Changes as changes
 use Rattle.rs_catalog_pages.specs.Items.{CatalogueItems}
