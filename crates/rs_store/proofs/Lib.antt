@@ -11,6 +11,7 @@ pub mod Redefined
 pub mod Referred
 pub mod Results
 pub mod Rewritten
+pub mod Routed
 pub mod Rows
 pub mod Same
 pub mod Settled

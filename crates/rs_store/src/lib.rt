@@ -14,6 +14,7 @@ mod placing;
 mod reading;
 mod referring;
 mod rewriting;
+mod routing;
 mod settling;
 pub mod store;
 

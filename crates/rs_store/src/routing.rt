@@ -1,0 +1,102 @@
+//! This module defines and drops the routes of a store: each call is one change of the state, whole or not at all.
+
+ghost use Rattle.std.specs.Prelude.{◌≡◌, ◌≤◌, ◌<◌, ◌+◌, ℕ, false, OnErr, OnOk};
+ghost use Rattle.std.specs.FinMap as names;
+ghost use Rattle.std.specs.List.{AllByRecursion};
+ghost use Rattle.rs_catalog.specs.Changes as changes;
+ghost use Rattle.rs_catalog.specs.Uses.{some_piece_on};
+ghost use Rattle.rs_catalog_pages.specs.Said.{said_catalogue};
+ghost use Rattle.rs_definitions.specs.Listing.{listing_of};
+ghost use Rattle.rs_file_changes.specs.Calls.{ChangesDefinitions};
+ghost use Rattle.rs_file_changes.specs.Parts.{IsCommitted};
+ghost use Rattle.rs_machine.specs.Lawful.{IsLawful};
+ghost use Rattle.rs_machine.specs.State.{State, has};
+ghost use Rattle.rs_machine.specs.Step.{with_route};
+ghost use Rattle.rs_machine.specs.declared.limits.TheConstants.{CHANGES, ROUTES};
+ghost use Rattle.rs_state_changes.specs.Calls.{MayChange};
+ghost use Rattle.rs_store.specs.Changing.{HasBecome, LeavesStore};
+ghost use Rattle.rs_store.specs.Kept.{StandsIn};
+ghost use Rattle.rs_store.specs.Rewriting.{HasTablesOf, Rewrites};
+
+use crate::rewriting::write_definitions_of;
+use crate::store::Store;
+use rs_catalog::Catalog;
+use rs_contents::OpenedFile;
+use rs_definitions::listing_laws::one_route_is_listed_more_or_less;
+use rs_disk::Disk;
+use rs_machine_laws::view_lines::shortest_line_defines_the_view;
+use rs_measure::Measure;
+use rs_methods::Name;
+use rs_pager::Pager;
+use rs_refusal::Refusal;
+use rs_state_laws::definitions::route_defined_gives_its_state;
+use std::alloc::Global;
+
+impl<D: Disk> Store<D> {
+    /// Defines a route between two measures, without referents, under the least number that no route has. Versions from `oldest` on see
+    /// what they saw. It is refused with 90, with 91, and with 92 where the file is full; with 94 only where the disk does not give back
+    /// what was written. A refusal changes nothing.
+    pub fn define_route(
+        &mut self,
+        alloc: Global,
+        oldest: u64,
+        name: Name,
+        start: Measure,
+        finish: Measure,
+    ) -> Result<(), Refusal>
+        requires new { has self.old.catalog.routes name.bytes ≡ false }
+        requires ordered { start < finish }
+        requires few { names.len self.old.catalog.routes < ROUTES }
+        requires room { self.old.file.accepted < CHANGES }
+        ensures leaves { LeavesStore D.Disk (λ (state : State). IsLawful (with_route state name.bytes start finish)) result self.old self.new }
+        ensures defines { (from : ℕ) (state : State) (stands : StandsIn D.Disk from self.old state) → from ≤ oldest → oldest ≤ self.old.file.accepted + 1
+            → IsLawful (with_route state name.bytes start finish)
+            → OnOk result (HasBecome D.Disk oldest stands.contents self.new (with_route state name.bytes start finish)) }
+    {
+        route_defined_gives_its_state();
+        one_route_is_listed_more_or_less();
+        shortest_line_defines_the_view();
+        self.mark()?;
+        self.catalog.stand();
+        let born = self.file.accepted + 1;
+        let _number = self.catalog.define_route(name, born, start, finish)?;
+        self.catalog.stand();
+        write_route_of(
+            alloc,
+            &mut self.pager,
+            &mut self.file,
+            &mut self.catalog,
+            oldest,
+            &name,
+        )
+    }
+}
+
+/// Writes the definitions of this catalogue, to which a route of this name has come, into the file; where the file refuses them, the
+/// route goes out of memory again. It is refused as `write_definitions_of` is.
+fn write_route_of<D: Disk>(
+    alloc: Global,
+    pager: &mut Pager<D>,
+    file: &mut OpenedFile,
+    catalog: &mut Catalog,
+    oldest: u64,
+    name: &Name,
+) -> Result<(), Refusal>
+    requires shut { pager.old.is_begun ≡ false }
+    requires may { MayChange file.old }
+    requires committed { IsCommitted file.old }
+    requires room { file.old.accepted < CHANGES }
+    requires tables { HasTablesOf (said_catalogue file.old.definitions) (listing_of catalog.old) }
+    requires births { AllByRecursion (λ route. route.born ≤ file.old.accepted + 1) (listing_of catalog.old).routes }
+    requires unused { some_piece_on catalog.old name.now.bytes ≡ false }
+    ensures rewrites { Rewrites D.Disk oldest (ChangesDefinitions (listing_of catalog.old)) (listing_of catalog.old) result pager.old pager.new file.old file.new }
+    ensures made { OnOk result (catalog.new ≡ catalog.old) }
+    ensures back { OnErr result (catalog.new ≡ changes.without_route catalog.old name.now.bytes) }
+    ensures shut { pager.new.is_begun ≡ false }
+{
+    let made = write_definitions_of(alloc, pager, file, oldest, catalog);
+    if made.is_err() {
+        catalog.drop_route(name);
+    }
+    made
+}
