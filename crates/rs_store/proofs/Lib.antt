@@ -1,6 +1,9 @@
 pub mod Beside
 pub mod Brought
 pub mod Files
+pub mod Given
+pub mod IndexStates
+pub mod Indexed
 pub mod Keeping
 pub mod Listed
 pub mod Loaded
@@ -15,4 +18,7 @@ pub mod Routed
 pub mod Rows
 pub mod Same
 pub mod Settled
+pub mod TableLess
+pub mod TableMore
 pub mod TableReads
+pub mod Tabled

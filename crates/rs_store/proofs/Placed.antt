@@ -38,17 +38,17 @@ pub record ComesFrom {X Y : Type 0} (said : X → Y) (xs : List X) (place : ℕ)
   pub there : slice_get xs place ≡ Some one
   pub is : said one ≡ y
 
-comes_from : {X Y : Type 0} (said : X → Y) (xs : List X) (place : ℕ) (y : Y) → slice_get (map said xs) place ≡ Some y → ComesFrom said xs place y
+pub comes_from : {X Y : Type 0} (said : X → Y) (xs : List X) (place : ℕ) (y : Y) → slice_get (map said xs) place ≡ Some y → ComesFrom said xs place y
 comes_from said [] place y is = absurd (none-some y is)
 comes_from said (x ∷ xs) zero y is = record { one = x; there = refl; is = same_Some (said x) y is }
 comes_from said (x ∷ xs) (suc place) y is = let rest = comes_from said xs place y is in record { one = rest.one; there = rest.there; is = rest.is }
 
-at_place : {X : Type 0} (xs : List X) (x : X) → Contains xs x → (place : ℕ) × (slice_get xs place ≡ Some x)
+pub at_place : {X : Type 0} (xs : List X) (x : X) → Contains xs x → (place : ℕ) × (slice_get xs place ≡ Some x)
 at_place [] x has = absurd (omega (arith, has.1))
 at_place (y ∷ ys) x (zero, inside, is) = (0, ap Some is)
 at_place (y ∷ ys) x (suc place, inside, is) = let rest = at_place ys x (place, omega arith, is) in (suc rest.0, rest.1)
 
-each_at : {X : Type 0} (P : X → Type 0) (xs : List X) (place : ℕ) (x : X) → AllByRecursion P xs → slice_get xs place ≡ Some x → P x
+pub each_at : {X : Type 0} (P : X → Type 0) (xs : List X) (place : ℕ) (x : X) → AllByRecursion P xs → slice_get xs place ≡ Some x → P x
 each_at P [] place x all is = absurd (none-some x is)
 each_at P (y ∷ ys) zero x all is = subst P (same_Some y x is) all.0
 each_at P (y ∷ ys) (suc place) x all is = each_at P ys place x all.1 is
@@ -88,7 +88,7 @@ has_one {X} values name there = of (names.get values name) there where
 -- ---- columns
 
 -- a column that a table may have is listed as a column of its type
-columns_listed : (columns : List Column) → AreColumns columns → map type_of (map listed_column columns) ≡ column_types columns
+pub columns_listed : (columns : List Column) → AreColumns columns → map type_of (map listed_column columns) ≡ column_types columns
 columns_listed [] are = refl
 columns_listed ((name, Int) ∷ columns) are = ap (λ (types : List ColumnType). Int ∷ types) (columns_listed columns are.2)
 columns_listed ((name, Text most) ∷ columns) are =

@@ -48,7 +48,7 @@ text_short readable name query text has =
     let few = (readable has.line has.session name query text has.asks).few in
     omega (arith, few, length-append (codes "0 DEFINE VIEW ") (name ++ (codes " AS " ++ text)), length-append name (codes " AS " ++ text), length-append (codes " AS ") text)
 
-texts_short : IsLineReadable → (views : List ViewItem) (entries : List (Name × catalog.ViewItem)) → AllZip IsViewOf views entries → AllByRecursion (λ view. length view.text < 2 ^ 16) views
+pub texts_short : IsLineReadable → (views : List ViewItem) (entries : List (Name × catalog.ViewItem)) → AllZip IsViewOf views entries → AllByRecursion (λ view. length view.text < 2 ^ 16) views
 texts_short readable [] entries are = tt
 texts_short readable (view ∷ views) [] are = absurd are
 texts_short readable (view ∷ views) (entry ∷ entries) are =

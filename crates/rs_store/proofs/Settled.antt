@@ -461,7 +461,7 @@ rests_refused file changed settled catalog rests keeps back =
       bound = omega (arith, rests.bound, restored.accepted);
     }
 
-born_later : (one other : ℕ) (routes : List RouteItem) → one ≤ other → AllByRecursion (λ route. route.born ≤ one) routes → AllByRecursion (λ route. route.born ≤ other) routes
+pub born_later : (one other : ℕ) (routes : List RouteItem) → one ≤ other → AllByRecursion (λ route. route.born ≤ one) routes → AllByRecursion (λ route. route.born ≤ other) routes
 born_later one other [] later born = tt
 born_later one other (r ∷ rs) later born = (omega (arith, later, born.0), born_later one other rs later born.1)
 

@@ -1,5 +1,6 @@
 pub mod Calls
 pub mod Changing
+pub mod Indexing
 pub mod Kept
 pub mod Loading
 pub mod Making
@@ -7,3 +8,4 @@ pub mod Placing
 pub mod Reading
 pub mod Rewriting
 pub mod Settling
+pub mod Tabling

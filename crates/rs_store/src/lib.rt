@@ -6,6 +6,7 @@ mod changing;
 mod closing;
 mod creating;
 mod defining;
+mod indexing;
 pub mod laws;
 mod loading;
 mod marking;
@@ -17,5 +18,6 @@ mod rewriting;
 mod routing;
 mod settling;
 pub mod store;
+mod tabling;
 
 pub use store::Store;

@@ -80,7 +80,7 @@ pub(crate) fn is_name(name: &Name, text: &str) -> bool
 }
 
 /// Checks that a file can keep these definitions; 94 where not. It takes no memory.
-fn check_definitions(definitions: &StoredCatalogue) -> Result<(), Refusal>
+pub(crate) fn check_definitions(definitions: &StoredCatalogue) -> Result<(), Refusal>
     requires small { AreNumbersSmall (said_catalogue definitions.now) }
     ensures fits { OnOk result (FitsCatalogue (said_catalogue definitions.now)) }
     ensures short { OnOk result (IsShort (said_catalogue definitions.now)) }

@@ -1,0 +1,117 @@
+-- The table goes out of the file, and then out of memory, or stays in both.
+use Rattle.std.proofs.Common.{◌≡◌, ◌≤◌, ◌<◌, ◌+◌, ◌∙◌, ℕ, Result, Ok, Err, Some, ap, refl, slice_get, subst, sym, true}
+use Rattle.std.specs.FinMap as names
+use Rattle.std.proofs.lemmas.Result.{err_from_is_err_and}
+use Rattle.rs_catalog.specs.Changes as changes
+use Rattle.rs_catalog.specs.Definitions.{Definitions}
+use Rattle.rs_catalog_pages.specs.Items.{CatalogueItems}
+use Rattle.rs_contents.specs.Contents.{table_numbers}
+use Rattle.rs_definitions.specs.Listing.{listing_of}
+use Rattle.rs_machine.specs.Lawful.{AreColumnsOfTable, Each, IsLawful}
+use Rattle.rs_machine.specs.State.{State, has}
+use Rattle.rs_machine.specs.Step.{without_table}
+use Rattle.rs_store.specs.Calls.{KeepsStore}
+use Rattle.rs_store.specs.Changing.{HasBecome, LeavesStore}
+use Rattle.rs_store.specs.Kept.{IsAtRest, StoreState}
+use Rattle.rs_store.specs.Rewriting.{GoesOn, WhereKept}
+use Rattle.rs_store.proofs.Keeping.{store_over}
+use Rattle.rs_store.proofs.Placed.{has_one}
+use Rattle.rs_store.proofs.Redefined.{left_where}
+use Rattle.rs_store.proofs.TableLess.{columns_less, less_gives, less_kept, placed_listed}
+use Rattle.rs_store.proofs.store.Store.drop_table.Goals as goal
+
+pub invariant_of-self : goal.invariant_of-self
+invariant_of-self g c =
+    let d = g.D.Disk in
+    let old = c.args.self.now in
+    let was = c.self.inside in
+    let name = c.args.name.now.bytes in
+    let fewer = changes.without_table was.catalog name in
+    let file = c.erase_table.new.file in
+    let last = c.erase_table.new.pager in
+    record {
+      shut = c.erase_table.ensures.shut;
+      rests = c.in_err-erase_table.ensures.rewrites.rests was.catalog fewer c.self.invariant.rests refl (columns_less was.catalog.tables name c.self.invariant.rests.columns);
+    }
+
+pub returns-in_err-erase_table-clause-leaves : goal.returns-in_err-erase_table-clause-leaves
+returns-in_err-erase_table-clause-leaves g c =
+    let d = g.D.Disk in
+    let old = c.args.self.now in
+    let was = c.self.inside in
+    let name = c.args.name.now.bytes in
+    let fewer = changes.without_table was.catalog name in
+    let file = c.erase_table.new.file in
+    let last = c.erase_table.new.pager in
+    let at = store_over d was.pager was.file was.catalog was.referents was.is_marked in
+    let goes : GoesOn d old at = record {
+      keeps = subst (λ (s : StoreState g.row.D.Denot). KeepsStore d old s) (sym c.self.view_is) c.mark.ensures.keeps;
+      failures = ap (λ (s : StoreState g.row.D.Denot). d.failures s.pager.disk) c.self.view_is ∙ c.in_ok-mark.ensures.count;
+    } in
+    let listed : was.catalog ≡ old.catalog = ap (λ (s : StoreState g.row.D.Denot). s.catalog) c.self.view_is ∙ c.mark.ensures.keeps.catalog in
+    let one = has_one was.catalog.tables name (ap (λ (k : Definitions). has k.tables name) listed ∙ c.requires.there) in
+    let placed = placed_listed was.catalog name one.0 one.1 in
+    let may : State → Type 0 = λ state. IsLawful (without_table state name) in
+    let kept = less_kept d old at goes c.requires.room c.table_dropped_gives_its_state.ensures name c.stand.ensures c.shortest_line_defines_the_view.ensures.readable one.0 placed.0 one.1
+    (ap (λ (items : CatalogueItems). slice_get (table_numbers items) placed.0) (sym c.self.invariant.rests.listing) ∙ placed.1) in
+    let why = c.in_err-erase_table.field-0.0 in
+    let p = err_from_is_err_and c.from_residual-in_err-erase_table.result c.from_residual-in_err-erase_table.ensures.1 in
+    rw (p.1, p.2) (left_where d {may = may} {other = WhereKept (listing_of fewer)} (Err why) old (store_over d last file was.catalog was.referents was.is_marked) kept
+    (c.in_err-erase_table.ensures.rewrites.leaves old was.catalog was.catalog was.referents was.referents was.is_marked goes refl refl))
+
+pub invariant_of-self-2 : goal.invariant_of-self-2
+invariant_of-self-2 g c =
+    let d = g.D.Disk in
+    let old = c.args.self.now in
+    let was = c.self.inside in
+    let name = c.args.name.now.bytes in
+    let fewer = changes.without_table was.catalog name in
+    let file = c.erase_table.new.file in
+    let last = c.erase_table.new.pager in
+    record {
+      shut = c.erase_table.ensures.shut;
+      rests = subst (λ (k : Definitions). IsAtRest file k) (sym c.drop_table.ensures)
+          (c.in_ok-erase_table.ensures.rewrites.rests was.catalog fewer c.self.invariant.rests refl (columns_less was.catalog.tables name c.self.invariant.rests.columns));
+    }
+
+pub returns-clause-leaves : goal.returns-clause-leaves
+returns-clause-leaves g c =
+    let d = g.D.Disk in
+    let old = c.args.self.now in
+    let was = c.self.inside in
+    let name = c.args.name.now.bytes in
+    let fewer = changes.without_table was.catalog name in
+    let file = c.erase_table.new.file in
+    let last = c.erase_table.new.pager in
+    let at = store_over d was.pager was.file was.catalog was.referents was.is_marked in
+    let goes : GoesOn d old at = record {
+      keeps = subst (λ (s : StoreState g.row.D.Denot). KeepsStore d old s) (sym c.self.view_is) c.mark.ensures.keeps;
+      failures = ap (λ (s : StoreState g.row.D.Denot). d.failures s.pager.disk) c.self.view_is ∙ c.in_ok-mark.ensures.count;
+    } in
+    let listed : was.catalog ≡ old.catalog = ap (λ (s : StoreState g.row.D.Denot). s.catalog) c.self.view_is ∙ c.mark.ensures.keeps.catalog in
+    let one = has_one was.catalog.tables name (ap (λ (k : Definitions). has k.tables name) listed ∙ c.requires.there) in
+    let placed = placed_listed was.catalog name one.0 one.1 in
+    let may : State → Type 0 = λ state. IsLawful (without_table state name) in
+    let kept = less_kept d old at goes c.requires.room c.table_dropped_gives_its_state.ensures name c.stand.ensures c.shortest_line_defines_the_view.ensures.readable one.0 placed.0 one.1
+    (ap (λ (items : CatalogueItems). slice_get (table_numbers items) placed.0) (sym c.self.invariant.rests.listing) ∙ placed.1) in
+    let now = c.drop_table.new.self in
+    left_where d {may = may} {other = WhereKept (listing_of fewer)} (Ok tt) old (store_over d last file now was.referents was.is_marked) kept
+    (c.in_ok-erase_table.ensures.rewrites.leaves old was.catalog now was.referents was.referents was.is_marked goes tt tt)
+
+pub returns-clause-drops : goal.returns-clause-drops
+returns-clause-drops g c = λ from state stands low high past lawful.
+    let d = g.D.Disk in
+    let old = c.args.self.now in
+    let was = c.self.inside in
+    let name = c.args.name.now.bytes in
+    let fewer = changes.without_table was.catalog name in
+    let file = c.erase_table.new.file in
+    let last = c.erase_table.new.pager in
+    let at = store_over d was.pager was.file was.catalog was.referents was.is_marked in
+    let goes : GoesOn d old at = record {
+      keeps = subst (λ (s : StoreState g.row.D.Denot). KeepsStore d old s) (sym c.self.view_is) c.mark.ensures.keeps;
+      failures = ap (λ (s : StoreState g.row.D.Denot). d.failures s.pager.disk) c.self.view_is ∙ c.in_ok-mark.ensures.count;
+    } in
+    subst (λ (k : Definitions). HasBecome d c.args.oldest stands.contents (store_over d last file k was.referents was.is_marked) (without_table state name)) (sym c.drop_table.ensures)
+    (c.in_ok-erase_table.ensures.rewrites.becomes old was.catalog fewer was.referents was.referents was.is_marked goes from state (without_table state name) stands low high
+    (less_gives d old at goes c.requires.room c.table_dropped_gives_its_state.ensures name c.stand.ensures from c.args.oldest state stands past lawful) lawful.views)

@@ -1,0 +1,231 @@
+//! This module defines and drops the indexes of a store: each call is one change of the state, whole or not at all.
+
+ghost use Rattle.std.specs.Prelude.{◌≡◌, ◌≤◌, ◌<◌, ◌+◌, ℕ, true, false, map, IfOk, OnOk, Some};
+ghost use Rattle.std.specs.FinMap as names;
+ghost use Rattle.std.specs.List.{AllByRecursion};
+
+ghost use Rattle.rs_catalog.specs.Changes as changes;
+ghost use Rattle.rs_catalog.specs.Definitions.{IndexItem, IsColumnOf};
+ghost use Rattle.rs_catalog_pages.specs.Said.{said_catalogue, said_index};
+ghost use Rattle.rs_definitions.specs.Listing.{listing_of};
+ghost use Rattle.rs_file_changes.specs.Parts.{IsCommitted};
+ghost use Rattle.rs_machine.specs.Lawful.{IsLawful};
+ghost use Rattle.rs_machine.specs.State.{State, has};
+ghost use Rattle.rs_machine.specs.Step.{with_index, without_index};
+ghost use Rattle.rs_machine.specs.declared.limits.TheConstants.{CHANGES, INDEXES};
+ghost use Rattle.rs_state_changes.specs.Calls.{MayChange};
+ghost use Rattle.rs_store.specs.Changing.{HasBecome, LeavesStore};
+ghost use Rattle.rs_store.specs.Indexing.{ChangesListed, HasIndexListed, position_among, without_index_numbered};
+ghost use Rattle.rs_store.specs.Kept.{IsAtRest, StandsIn};
+ghost use Rattle.rs_store.specs.Rewriting.{Rewrites};
+
+use crate::placing::table_place;
+use crate::rewriting::check_definitions;
+use crate::settling::{kept_change_gives_its_state, settle};
+use crate::store::Store;
+use rs_catalog::Catalog;
+use rs_catalog_pages::{StoredCatalogue, StoredIndex, StoredRoute};
+use rs_contents::OpenedFile;
+use rs_contents::laws::tables_of_lines_fit_pages;
+use rs_definitions::listing_laws::one_index_is_listed_more_or_less;
+use rs_definitions::stored_of;
+use rs_disk::Disk;
+use rs_machine_laws::view_lines::shortest_line_defines_the_view;
+use rs_methods::Name;
+use rs_pager::Pager;
+use rs_refusal::Refusal;
+use rs_state_changes::IndexPlace;
+use rs_state_laws::tables::index_listed_gives_its_state;
+use std::alloc::{AllocError, Global};
+
+impl<D: Disk> Store<D> {
+    /// Defines an index of a column of a table, by its name and its number, under the least number that no index has. Versions from
+    /// `oldest` on see what they saw. It is refused with 90, with 91, and with 92 where the file is full; with 94 only where the disk
+    /// does not give back what was written. A refusal changes nothing.
+    pub fn define_index(
+        &mut self,
+        alloc: Global,
+        oldest: u64,
+        name: Name,
+        table: Name,
+        table_number: u32,
+        column: u8,
+    ) -> Result<(), Refusal>
+        requires new { has self.old.catalog.indexes name.bytes ≡ false }
+        requires of { IsColumnOf self.old.catalog.tables table.bytes table_number column }
+        requires few { names.len self.old.catalog.indexes < INDEXES }
+        requires room { self.old.file.accepted < CHANGES }
+        ensures leaves { LeavesStore D.Disk (λ (state : State). IsLawful (with_index state name.bytes (record { table = table.bytes; column = column }))) result self.old self.new }
+        ensures defines { (from : ℕ) (state : State) (stands : StandsIn D.Disk from self.old state) → from ≤ oldest → oldest ≤ self.old.file.accepted + 1
+            → IsLawful (with_index state name.bytes (record { table = table.bytes; column = column }))
+            → OnOk result (HasBecome D.Disk oldest stands.contents self.new (with_index state name.bytes (record { table = table.bytes; column = column }))) }
+    {
+        index_listed_gives_its_state();
+        one_index_is_listed_more_or_less();
+        tables_of_lines_fit_pages();
+        shortest_line_defines_the_view();
+        self.mark()?;
+        self.catalog.stand();
+        let place = table_place(&self.file, &self.catalog, &table);
+        self.catalog
+            .define_index(name, table, table_number, column)?;
+        self.catalog.stand();
+        let made = write_index(
+            alloc,
+            &mut self.pager,
+            &mut self.file,
+            &self.catalog,
+            oldest,
+            place,
+            &name,
+        );
+        if made.is_err() {
+            self.catalog.drop_index(&name);
+        }
+        made
+    }
+
+    /// Drops an index. It is refused as `define_index` is.
+    pub fn drop_index(&mut self, alloc: Global, oldest: u64, name: &Name) -> Result<(), Refusal>
+        requires there { has self.old.catalog.indexes name.now.bytes ≡ true }
+        requires room { self.old.file.accepted < CHANGES }
+        ensures leaves { LeavesStore D.Disk (λ (state : State). IsLawful (without_index state name.now.bytes)) result self.old self.new }
+        ensures drops { (from : ℕ) (state : State) (stands : StandsIn D.Disk from self.old state) → from ≤ oldest → oldest ≤ self.old.file.accepted + 1
+            → IsLawful (without_index state name.now.bytes)
+            → OnOk result (HasBecome D.Disk oldest stands.contents self.new (without_index state name.now.bytes)) }
+    {
+        index_listed_gives_its_state();
+        shortest_line_defines_the_view();
+        self.mark()?;
+        self.catalog.stand();
+        erase_index(
+            alloc,
+            &mut self.pager,
+            &mut self.file,
+            &self.catalog,
+            oldest,
+            name,
+        )?;
+        self.catalog.drop_index(name);
+        Ok(())
+    }
+}
+
+/// Writes the definitions of this catalogue into the file, which has all its indexes but the one of this name, and makes that of the
+/// table at the place. It is refused with 90, with 91, with 92 where the file is full, and with 94 where a file can't keep the
+/// definitions or the disk does not give back what was written.
+fn write_index<D: Disk>(
+    alloc: Global,
+    pager: &mut Pager<D>,
+    file: &mut OpenedFile,
+    catalog: &Catalog,
+    oldest: u64,
+    place: usize,
+    name: &Name,
+) -> Result<(), Refusal>
+    requires shut { pager.old.is_begun ≡ false }
+    requires may { MayChange file.old }
+    requires committed { IsCommitted file.old }
+    requires room { file.old.accepted < CHANGES }
+    requires births { AllByRecursion (λ route. route.born ≤ file.old.accepted + 1) (listing_of catalog.now).routes }
+    requires there { has catalog.now.indexes name.now.bytes ≡ true }
+    requires more { (item : IndexItem) → names.get catalog.now.indexes name.now.bytes ≡ Some item
+        → HasIndexListed name.now.bytes item place (said_catalogue file.old.definitions) (listing_of catalog.now) }
+    ensures rewrites { Rewrites D.Disk oldest (ChangesListed (listing_of catalog.now)) (listing_of catalog.now) result pager.old pager.new file.old file.new }
+    ensures shut { pager.new.is_begun ≡ false }
+{
+    kept_change_gives_its_state::<D>();
+    catalog.stand();
+    let index = catalog.index(name).unwrap();
+    let stored = stored_of(alloc, catalog)?;
+    check_definitions(&stored)?;
+    let position = position_of(
+        stored.indexes.as_slice(),
+        index.number(),
+        index.table_number(),
+    );
+    let routes = numbers_of(alloc, stored.routes.as_slice())?;
+    pager.begin()?;
+    let at = IndexPlace {
+        table: place,
+        position,
+    };
+    let column = usize::from(index.column());
+    let made =
+        rs_state_changes::define_index(alloc, pager, file, oldest, stored, at, column, &routes);
+    settle(pager, file, made)
+}
+
+/// Takes the index of this name out of the file, whose definitions this catalogue lists, and writes those without it. It is refused as
+/// `write_index` is.
+fn erase_index<D: Disk>(
+    alloc: Global,
+    pager: &mut Pager<D>,
+    file: &mut OpenedFile,
+    catalog: &Catalog,
+    oldest: u64,
+    name: &Name,
+) -> Result<(), Refusal>
+    requires shut { pager.old.is_begun ≡ false }
+    requires rests { IsAtRest file.old catalog.now }
+    requires room { file.old.accepted < CHANGES }
+    requires there { has catalog.now.indexes name.now.bytes ≡ true }
+    ensures rewrites { Rewrites D.Disk oldest (ChangesListed (listing_of (changes.without_index catalog.now name.now.bytes)))
+        (listing_of (changes.without_index catalog.now name.now.bytes)) result pager.old pager.new file.old file.new }
+    ensures shut { pager.new.is_begun ≡ false }
+{
+    kept_change_gives_its_state::<D>();
+    one_index_is_listed_more_or_less();
+    catalog.stand();
+    let index = catalog.index(name).unwrap();
+    let number = index.number();
+    let place = table_place(file, catalog, index.table());
+    let position = position_of(
+        file.definitions.indexes.as_slice(),
+        number,
+        index.table_number(),
+    );
+    let stored = stored_without_index(alloc, catalog, number)?;
+    check_definitions(&stored)?;
+    pager.begin()?;
+    let at = IndexPlace {
+        table: place,
+        position,
+    };
+    let made = rs_state_changes::drop_index(alloc, pager, file, oldest, stored, at);
+    settle(pager, file, made)
+}
+
+/// The definitions of the catalogue as a file keeps them, without the index of this number. The only refusal is for want of memory.
+fn stored_without_index(
+    alloc: Global,
+    catalog: &Catalog,
+    number: u32,
+) -> Result<StoredCatalogue, AllocError>
+    ensures { IfOk result (λ stored. said_catalogue stored ≡ without_index_numbered number (listing_of catalog.now)) }
+{
+    let mut stored = stored_of(alloc, catalog)?;
+    stored.indexes.retain(|index| index.number != number);
+    Ok(stored)
+}
+
+/// How many indexes of the table come before the one of this number.
+fn position_of(indexes: &[StoredIndex], number: u32, table: u32) -> usize
+    ensures { result ≡ position_among number table (map said_index indexes.now) }
+{
+    let mut position = 0;
+    for index in indexes {
+        if index.number == number {
+            return position;
+        }
+        if index.table == table {
+            position += 1;
+        }
+    }
+    position
+}
+
+/// The numbers of the routes.
+fn numbers_of(alloc: Global, routes: &[StoredRoute]) -> Result<Vec<u32>, AllocError> {
+    routes.iter().map(|route| route.number).collect(alloc)
+}
