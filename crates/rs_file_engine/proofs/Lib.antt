@@ -1,3 +1,6 @@
+pub mod Columns
 pub mod Filing
 pub mod Machines
+pub mod Naming
 pub mod Stepping
+pub mod Tables

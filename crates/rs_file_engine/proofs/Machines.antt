@@ -57,6 +57,16 @@ module _ {D : Type 0} (d : disk.Ghosts D) where
       ∙ (λ i. state_from (sym are.catalog i) (referents_on (sym are.referents i)) (spans_of engine machine is)
       (record { changes = sym are.changes i; cursors = cursors_of (sym are.cursors i) }))
 
+  -- what is so of what commands are checked against, whichever spans tables have, is so of the machine's state
+  pub at_machine : StoresState d → (engine : EngineState D) (checks : Checks) (machine : Machine) → IsMachine d engine machine → AreChecksOf engine checks → (P : State → Type 0)
+      → ((spans : ℕ → ℕ → List Stretch) → P (state_by checks spans)) → P machine.state
+  at_machine states engine checks machine is are P each = subst P (sym (checked_state states engine checks machine is are)) (each (spans_of engine machine is))
+
+  -- and of the file's, where cursors don't matter
+  pub at_file : StoresState d → (engine : EngineState D) (checks : Checks) (machine : Machine) (is : IsMachine d engine machine) → AreChecksOf engine checks → (P : State → Type 0)
+      → ((state : State) → P (with_cursors engine.cursors state) → P state) → ((spans : ℕ → ℕ → List Stretch) → P (state_by checks spans)) → P is.state
+  at_file states engine checks machine is are P alone each = alone is.state (subst P is.is (at_machine states engine checks machine is are P each))
+
   -- ---- what is served
 
   -- a command that its checks refuse changes nothing

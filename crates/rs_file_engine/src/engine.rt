@@ -7,7 +7,11 @@ ghost use Rattle.std.specs.Prelude.{◌≡◌, ◌<◌, ◌+◌};
 ghost use Rattle.rs_file_engine.specs.Kept.{AreChecksOf};
 ghost use Rattle.rs_machine.specs.declared.limits.TheConstants.{CHANGES};
 
+mod definitions;
+mod drops;
+mod events;
 mod files;
+mod referents;
 
 use rs_command_checks::Checks;
 use rs_cursor::Cursors;

@@ -24,7 +24,7 @@ use Rattle.rs_machine.specs.Lawful.{AreColumnsOfTable}
 use Rattle.rs_page_owners.specs.Counts.{one_at, times}
 use Rattle.rs_page_owners.proofs.Moving.{one_at-same}
 use Rattle.rs_state_changes.specs.Tables.{HasIndexAt, HasIndexOfAt}
-use Rattle.rs_store.specs.Indexing.{HasIndexListed, position_among, those_before}
+use Rattle.rs_store.specs.Indexing.{HasIndexListed, position_among, those_before, without_index_numbered}
 use Rattle.rs_store.proofs.Given.{found_once}
 use Rattle.rs_store.proofs.Placed.{at_place, columns_listed, entry_there}
 use Rattle.rs_store.proofs.Tabled.{none_wider}
@@ -122,6 +122,15 @@ index_of_at name item place old now listed once = record {
   below = listed.below;
   fits = listed.fits;
 }
+
+-- a catalogue without an index lists the definitions without its number
+pub index_less : (was now : CatalogueItems) (one : IndexItem) → HasIndexMore one now was → ((n : ℕ) → times (index_numbers was) n ≤ 1) → without_index_numbered one.number was ≡ now
+index_less was now one more once =
+    let put = more.indexes in
+    let left : filter (λ (x : IndexItem). not (x.number == one.number)) was.indexes ≡ now.indexes =
+    ap (filter (λ (x : IndexItem). not (x.number == one.number))) put.is
+    ∙ indexes_left put.before one put.after (subst (λ (items : List IndexItem). times (numbers_in items) one.number ≤ 1) put.is (once one.number)) ∙ sym put.was in
+    (λ i. record was { indexes = left i }) ∙ ap (λ (items : CatalogueItems). record items { indexes = now.indexes }) more.others
 
 -- ---- the table of an index
 

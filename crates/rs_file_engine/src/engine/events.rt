@@ -1,0 +1,72 @@
+//! The commands that put a row into a table and that take rows away.
+
+ghost use Rattle.rs_file_engine.specs.Replied.{count_reply_of};
+ghost use Rattle.rs_file_engine.specs.Serving.{Serves};
+ghost use Rattle.rs_machine.specs.Step.{row_inserted, rows_removed};
+ghost use Rattle.rs_syntax.specs.QueryView.{window_tree};
+ghost use Rattle.rs_syntax.specs.Sound.{IsSound};
+ghost use Rattle.rs_syntax.specs.Tree as tree;
+ghost use Rattle.rs_syntax.specs.View.{location_tree, removal_tree};
+ghost use Rattle.rs_value.specs.View.{literal_row};
+
+use crate::engine::Engine;
+use rs_command_checks::Removal;
+use rs_disk::Disk;
+use rs_machine_laws::lawful::accepted_step_leaves_the_state_lawful;
+use rs_methods::Name;
+use rs_refusal::Refusal;
+use rs_store::laws::store_stands_in_one_state;
+use rs_syntax::{Atom, EventLocation, Window};
+use rs_value::Literal;
+
+impl<D: Disk> Engine<D> {
+    /// Puts a row along a span or at a point. Checks, in order: 20; 21; 25, 30; 31; 32; 33; 34; 27. Its answer is how many facts are new.
+    pub(crate) fn insert(
+        &mut self,
+        table: &Name,
+        route: &Name,
+        place: &EventLocation,
+        values: &[Literal],
+    ) -> Result<u128, Refusal>
+        requires sound { IsSound (tree.insert table.now.bytes route.now.bytes (location_tree place.now) (literal_row values.now)) }
+        ensures serves { Serves D.Disk (λ state. row_inserted state table.now.bytes route.now.bytes (location_tree place.now) (literal_row values.now)) (count_reply_of result) self.old self.new }
+    {
+        store_stands_in_one_state::<D>();
+        accepted_step_leaves_the_state_lawful();
+        let span = self
+            .checks()
+            .checked_insertion(table, route, place, values)?;
+        let oldest = self.oldest();
+        let new_facts = self
+            .store
+            .insert(self.alloc, oldest, table, route, span)?;
+        Ok(u128::from(new_facts))
+    }
+
+    /// Takes the rows that meet a condition away, all rows where none is written, inside a window. Checks, in order: 20; 21; 25, 30; 31;
+    /// the condition (22, 33); 27. Its answer is how many facts went.
+    pub(crate) fn remove(
+        &mut self,
+        table: &Name,
+        window: &Window,
+        condition: &Option<Vec<Vec<Atom>>>,
+    ) -> Result<u128, Refusal>
+        requires sound { IsSound (tree.remove table.now.bytes (window_tree window.now) (removal_tree condition.now)) }
+        ensures serves { Serves D.Disk (λ state. rows_removed state table.now.bytes (window_tree window.now) (removal_tree condition.now)) (count_reply_of result) self.old self.new }
+    {
+        store_stands_in_one_state::<D>();
+        accepted_step_leaves_the_state_lawful();
+        let removal = self.checks().checked_removal(table, window, condition)?;
+        let Removal {
+            route,
+            lo,
+            hi,
+            goes,
+        } = removal;
+        let oldest = self.oldest();
+        let gone = self
+            .store
+            .remove(self.alloc, oldest, table, &route, lo, hi, goes)?;
+        Ok(gone)
+    }
+}
