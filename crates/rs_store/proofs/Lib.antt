@@ -14,6 +14,8 @@ pub mod Redefined
 pub mod Referred
 pub mod Results
 pub mod Rewritten
+pub mod RouteFacts
+pub mod RouteLess
 pub mod Routed
 pub mod Rows
 pub mod Same

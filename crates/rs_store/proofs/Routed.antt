@@ -11,13 +11,23 @@ use Rattle.rs_catalog.proofs.MapLaws.{none_some, same_name-true}
 use Rattle.rs_catalog.proofs.Names.{each_entry, get-map_values}
 use Rattle.rs_catalog_pages.specs.Items as items
 use Rattle.rs_catalog_pages.specs.Items.{CatalogueItems}
+use Rattle.rs_contents.specs.declared.opened.OpenedFile.{OpenedFile}
+use Rattle.rs_definitions.specs.Listing.{listing_of}
 use Rattle.rs_definitions.specs.Relisting.{HasRouteMore}
+use Rattle.rs_disk.specs.declared.disk.Disk as disk
 use Rattle.rs_facts.specs.Fact.{Name}
 use Rattle.rs_facts.specs.Insert.{same_name}
 use Rattle.rs_facts.specs.Query.{Piece, RouteEnds}
 use Rattle.rs_facts.specs.WellFormed.{ArePiecesOn}
+use Rattle.rs_machine.specs.Lawful.{AreColumnsOfTable, Each}
 use Rattle.rs_machine.specs.Opening.{piece_on}
 use Rattle.rs_machine.specs.State.{has}
+use Rattle.rs_pager.specs.Paged.{Paged}
+use Rattle.rs_refusal.specs.declared.refusal.Refusal.{Refusal}
+use Rattle.rs_state_laws.specs.Parts.{DropsRoute}
+use Rattle.rs_store.specs.Kept.{IsAtRest}
+use Rattle.rs_store.specs.Rewriting.{Rewrites}
+use Rattle.rs_store.specs.Routing.{ErasesRoute}
 
 -- ---- answers
 
@@ -45,6 +55,40 @@ births_more route old now accepted more born births =
     subst (AllByRecursion (λ (r : items.RouteItem). r.born ≤ accepted + 1)) (sym more.routes.is)
     (all_with_one (λ (r : items.RouteItem). r.born ≤ accepted) (λ (r : items.RouteItem). r.born ≤ accepted + 1) (λ r early. omega (arith, early)) more.routes.before more.routes.after route
     (subst (AllByRecursion (λ (r : items.RouteItem). r.born ≤ accepted)) more.routes.was births) (omega (arith, born)))
+
+all_without_one : {X : Type 0} (P Q : X → Type 0) → ((x : X) → P x → Q x) → (before after : List X) (one : X) → AllByRecursion P (before ++ one ∷ after) → AllByRecursion Q (before ++ after)
+all_without_one P Q gives [] after one all = each after all.1 where
+  each : (xs : List _) → AllByRecursion P xs → AllByRecursion Q xs
+  each [] all = tt
+  each (x ∷ xs) all = (gives x all.0, each xs all.1)
+all_without_one P Q gives (x ∷ before) after one all = (gives x all.0, all_without_one P Q gives before after one all.1)
+
+-- a route less
+pub births_less : (route : items.RouteItem) (old now : CatalogueItems) (accepted : ℕ) → HasRouteMore route now old
+    → AllByRecursion (λ r. r.born ≤ accepted) old.routes → AllByRecursion (λ r. r.born ≤ accepted + 1) now.routes
+births_less route old now accepted more births =
+    subst (AllByRecursion (λ (r : items.RouteItem). r.born ≤ accepted + 1)) (sym more.routes.was)
+    (all_without_one (λ (r : items.RouteItem). r.born ≤ accepted) (λ (r : items.RouteItem). r.born ≤ accepted + 1) (λ r early. omega (arith, early)) more.routes.before more.routes.after route
+    (subst (AllByRecursion (λ (r : items.RouteItem). r.born ≤ accepted)) more.routes.is births))
+
+-- ---- a route that goes from the file and from memory
+
+module _ {D : Type 0} (d : disk.Ghosts D) where
+  pub erases : (oldest number : ℕ) (next : Definitions) (result : Result (Unit {0}) Refusal) (old new : Paged D) (was is : OpenedFile) (catalog now : Definitions)
+      → Rewrites d oldest (DropsRoute number (listing_of next)) (listing_of next) result old new was is → IsAtRest was catalog → Each next.tables (λ name table. AreColumnsOfTable table.columns)
+      → OnOk result (now ≡ next) → OnErr result (now ≡ catalog) → ErasesRoute d oldest number next result old new was is catalog now
+  erases oldest number next (Ok answer) old new was is catalog now rewrites rests columns made stays = record {
+    rewrites = rewrites;
+    made = made;
+    stays = tt;
+    rests = subst (λ (n : Definitions). IsAtRest is n) (sym made) (rewrites.rests catalog next rests refl columns);
+  }
+  erases oldest number next (Err why) old new was is catalog now rewrites rests columns made stays = record {
+    rewrites = rewrites;
+    made = tt;
+    stays = stays;
+    rests = subst (λ (n : Definitions). IsAtRest is n) (sym stays) (rewrites.rests catalog next rests refl columns);
+  }
 
 -- ---- pieces
 

@@ -7,5 +7,6 @@ pub mod Making
 pub mod Placing
 pub mod Reading
 pub mod Rewriting
+pub mod Routing
 pub mod Settling
 pub mod Tabling
