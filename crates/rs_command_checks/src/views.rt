@@ -1,8 +1,9 @@
 //! The checks of a view that is to be defined or dropped.
 
-ghost use Rattle.std.specs.Prelude.{◌≡◌, ◌<◌, ◌⊎◌, ℕ, List, Ok, Err, IfErr, OnOk};
+ghost use Rattle.std.specs.Prelude.{◌≡◌, ◌<◌, ◌⊎◌, ℕ, List, Ok, Err, IfErr, OnOk, true, false};
 ghost use Rattle.rs_facts.specs.Runs.{Stretch};
 ghost use Rattle.rs_syntax.specs.QueryView.{query_tree};
+ghost use Rattle.rs_machine.specs.State.{has};
 ghost use Rattle.rs_machine.specs.Step.{counted, view_defined, view_dropped, with_view, without_view};
 ghost use Rattle.rs_machine.specs.declared.limits.TheConstants.{CHANGES};
 ghost use Rattle.rs_command_checks.specs.States.{state_by};
@@ -19,6 +20,7 @@ impl Checks<'_> {
     pub fn check_new_view(&self, name: &Name, query: &Query) -> Result<(), Refusal>
         ensures accepted { (spans : ℕ → ℕ → List Stretch) → OnOk result (view_defined (state_by self.now spans) name.now.bytes (query_tree query.now) ≡ Ok (counted 0 (with_view (state_by self.now spans) name.now.bytes (query_tree query.now)))) }
         ensures refused { (spans : ℕ → ℕ → List Stretch) → IfErr result (λ refusal. (refusal ≡ Refusal.OutOfMemory) ⊎ (view_defined (state_by self.now spans) name.now.bytes (query_tree query.now) ≡ Err refusal)) }
+        ensures new { OnOk result (has self.now.catalog.now.views name.now.bytes ≡ false) }
         ensures may_change { OnOk result (self.now.changes < CHANGES) }
     {
         check(self.alloc, self.catalog, self.referents, query)?;
@@ -35,6 +37,7 @@ impl Checks<'_> {
     pub fn check_old_view(&self, name: &Name) -> Result<(), Refusal>
         ensures accepted { (spans : ℕ → ℕ → List Stretch) → OnOk result (view_dropped (state_by self.now spans) name.now.bytes ≡ Ok (counted 0 (without_view (state_by self.now spans) name.now.bytes))) }
         ensures refused { (spans : ℕ → ℕ → List Stretch) → IfErr result (λ refusal. view_dropped (state_by self.now spans) name.now.bytes ≡ Err refusal) }
+        ensures there { OnOk result (has self.now.catalog.now.views name.now.bytes ≡ true) }
         ensures may_change { OnOk result (self.now.changes < CHANGES) }
     {
         if self.catalog.view(name).is_none() {

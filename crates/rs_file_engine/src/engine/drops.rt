@@ -1,8 +1,8 @@
-//! The commands that drop a route, a table, an index, a view and an alignment.
+//! The commands that drop a table, an index, a view and an alignment.
 
 ghost use Rattle.rs_file_engine.specs.Replied.{count_reply_of};
 ghost use Rattle.rs_file_engine.specs.Serving.{Serves};
-ghost use Rattle.rs_machine.specs.Step.{alignment_dropped, index_dropped, route_dropped, table_dropped, view_dropped};
+ghost use Rattle.rs_machine.specs.Step.{alignment_dropped, index_dropped, table_dropped, view_dropped};
 ghost use Rattle.rs_syntax.specs.Sound.{IsSound};
 ghost use Rattle.rs_syntax.specs.Tree as tree;
 
@@ -12,20 +12,8 @@ use rs_machine_laws::lawful::accepted_step_leaves_the_state_lawful;
 use rs_methods::Name;
 use rs_refusal::Refusal;
 use rs_store::laws::store_stands_in_one_state;
-use rs_store_reads::has_facts_on;
 
 impl<D: Disk> Engine<D> {
-    /// Drops a route with its referents. Checks, in order: 20; a table has a fact on it, an alignment has a piece on it or a view's window
-    /// is on it, or a session has a cursor (23); 27.
-    pub(crate) fn drop_route(&mut self, name: &Name) -> Result<u128, Refusal>
-        requires sound { IsSound (tree.drop_route name.now.bytes) }
-        ensures serves { Serves D.Disk (λ state. route_dropped state name.now.bytes) (count_reply_of result) self.old self.new }
-    {
-        let route = self.store.catalog().named_route(name)?;
-        let has_facts = has_facts_on(self.alloc, &mut self.store, route.number())?;
-        self.take_route(name, has_facts)
-    }
-
     /// Drops a table with its facts and its indexes. Checks, in order: 21; a view names it, or a session has a cursor (23); 27.
     pub(crate) fn drop_table(&mut self, name: &Name) -> Result<u128, Refusal>
         requires sound { IsSound (tree.drop_table name.now.bytes) }
