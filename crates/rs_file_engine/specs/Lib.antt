@@ -2,3 +2,4 @@ pub mod Files
 pub mod Kept
 pub mod Serving
 pub mod Replied
+pub mod Reads

@@ -7,11 +7,15 @@ ghost use Rattle.std.specs.Prelude.{◌≡◌, ◌<◌, ◌+◌};
 ghost use Rattle.rs_file_engine.specs.Kept.{AreChecksOf};
 ghost use Rattle.rs_machine.specs.declared.limits.TheConstants.{CHANGES};
 
+mod cursors;
 mod definitions;
 mod drops;
 mod events;
 mod files;
+mod laws;
+mod queries;
 mod referents;
+mod source;
 
 use rs_command_checks::Checks;
 use rs_cursor::Cursors;

@@ -1,0 +1,31 @@
+//! These laws say which state an engine stands for as a source, and that its plans are chosen by that state.
+
+ghost use Rattle.std.specs.Prelude.{List};
+ghost use Rattle.rs_answers.specs.Counts.{AreCounted};
+ghost use Rattle.rs_file_engine.specs.Kept.{EngineState, IsMachine};
+ghost use Rattle.rs_file_engine.specs.Reads.{StandsNow, counted_of};
+ghost use Rattle.rs_machine.specs.Served.{Machine};
+ghost use Rattle.rs_plan.specs.declared.counts.Index.{Index};
+
+use rs_disk::Disk;
+use rs_store::laws::store_stands_in_one_state;
+use rs_store_reads::laws::{
+    living_records_are_the_runs_of_the_state, store_shows_the_facts_of_its_state,
+};
+
+/// At the version that was accepted last an engine stands for the state of the machine that it is.
+pub(crate) fn engine_stands_for_its_state<D: Disk>()
+    ensures { (engine : EngineState D) (machine : Machine) → IsMachine D.Disk engine machine → StandsNow D.Disk engine machine.state }
+{
+    store_stands_in_one_state::<D>();
+    store_shows_the_facts_of_its_state::<D>();
+}
+
+/// Its plans are chosen by the maximal runs of the tables of that state.
+pub(crate) fn plans_are_chosen_by_its_state<D: Disk>()
+    ensures { (engine : EngineState D) (machine : Machine) → IsMachine D.Disk engine machine
+        → (indexes : List Index) → AreCounted engine.store.catalog machine.state (counted_of engine.store indexes) }
+{
+    store_stands_in_one_state::<D>();
+    living_records_are_the_runs_of_the_state::<D>();
+}
