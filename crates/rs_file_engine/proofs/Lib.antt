@@ -5,4 +5,5 @@ pub mod Naming
 pub mod Stepping
 pub mod Present
 pub mod Reading
+pub mod Checking
 pub mod Tables

@@ -1,9 +1,14 @@
 -- What reads of an engine leave, and what is served by them.
-use Rattle.std.proofs.Common.{◌≡◌, ◌≤◌, ◌⊎◌, ℕ, List, Result, Ok, Err, arith, ap, inl, inr, refl, subst, sym}
+use Rattle.std.proofs.Common.{◌≡◌, ◌∙◌, ◌≤◌, ◌⊎◌, ℕ, List, Result, Ok, Err, arith, ap, inl, inr, refl, subst, sym}
+use Rattle.std.proofs.lemmas.List.{length-map}
+use Rattle.std.specs.Prelude.{IfErr, IfOk, String, Vec, length, string_bytes}
+use Rattle.std.specs.declared.alloc.Global.{Global}
+use Rattle.rs_contents.specs.declared.opened.OpenedFile.{OpenedFile}
 use Rattle.rs_disk.specs.declared.disk.Disk as disk
 use Rattle.rs_exec.specs.Snapshot.{Snapshots}
 use Rattle.rs_file_engine.specs.Kept.{EngineState, IsMachine}
-use Rattle.rs_file_engine.specs.Reads.{ReadsEngine, ShowsPresent, WantsRead}
+use Rattle.rs_file_engine.specs.Reads.{ReadsEngine, WantsRead}
+use Rattle.rs_file_engine.specs.Replied.{rows_reply_of}
 use Rattle.rs_file_engine.specs.Serving.{IsServed}
 use Rattle.rs_file_engine.proofs.Filing.{stays}
 use Rattle.rs_machine.specs.Served.{CountsOn, IsUnchanged, Machine, done, refused}
@@ -11,17 +16,24 @@ use Rattle.rs_machine.specs.State.{RowText}
 use Rattle.rs_machine.specs.Step.{Effect, effect}
 use Rattle.rs_refusal.specs.Counts.{Rose}
 use Rattle.rs_refusal.specs.declared.refusal.Refusal.{Refusal}
-use Rattle.rs_store_reads.proofs.Passing.{shows_on}
+use Rattle.rs_refusal.specs.declared.refusal.Refusal.TheVariants as refusal
+use Rattle.rs_serve.specs.ReplyView.{rows_of}
+use Rattle.rs_store.specs.Kept.{StoreState}
+use Rattle.rs_store_reads.specs.Reads.{Passes}
+use Rattle.rs_store_reads.proofs.Passing.{passes_refl, shows_on}
 use Rattle.rs_store_reads.specs.Shown.{Shows}
 
 module _ {D : Type 0} (d : disk.Ghosts D) where
   -- ---- what passes
 
-  -- the engine shows what it showed
-  pub shows_still : (old new : EngineState D) → ReadsEngine d old new → (snapshots : Snapshots) → ShowsPresent d old snapshots → ShowsPresent d new snapshots
-  shows_still old new reads snapshots shows =
-      subst (λ (oldest : ℕ). Shows d oldest new.store snapshots) (sym (ap (λ file. file.accepted) reads.store.keeps.file))
-      (shows_on d old.store.file.accepted old.store new.store reads.store snapshots shows)
+  pub reads_refl : (engine : EngineState D) → ReadsEngine d engine engine
+  reads_refl engine = record { store = passes_refl d engine.store; cursors = refl }
+
+  -- the store shows what it showed
+  pub shows_still : (old new : StoreState D) → Passes d old new → (snapshots : Snapshots) → Shows d old.file.accepted old snapshots → Shows d new.file.accepted new snapshots
+  shows_still old new passes snapshots shows =
+      subst (λ (oldest : ℕ). Shows d oldest new snapshots) (sym (ap (λ (file : OpenedFile). file.accepted) passes.keeps.file))
+      (shows_on d old.file.accepted old new passes snapshots shows)
 
   -- ---- what is served
 
@@ -63,3 +75,26 @@ module _ {D : Type 0} (d : disk.Ghosts D) where
           answer = inr (unchanged, inr (inl (ap refused failed.0, subst (λ (count : ℕ). Rose count (d.failures new.store.pager.disk)) (sym is.failures) failed.1)));
         }
     read_wanted outcome why (inr (inr damaged)) = absurd (damaged.1.none old.store.file.accepted is.state is.stands)
+
+    -- it answers lines, or is refused
+    pub served_rows : (outcome : Result Effect Refusal) (result : Result (Vec (String Global) Global) Refusal)
+        → IfOk result (λ rows. outcome ≡ Ok (effect (rows_of rows.items) (length (rows_of rows.items)) machine.state))
+        → IfErr result (λ why. WantsRead d why old new ⊎ (outcome ≡ Err why)) → IsServed d outcome machine (rows_reply_of result) new
+    served_rows outcome (Ok rows) is_done off =
+        read_answered outcome (rows_of rows.items) (length rows.items) (is_done ∙ ap (λ (count : ℕ). Ok (effect (rows_of rows.items) count machine.state)) (length-map rows.items string_bytes))
+    served_rows outcome (Err why) is_done (inl wanted) = read_wanted outcome why wanted
+    served_rows outcome (Err why) is_done (inr off) = read_refused outcome why off
+
+  -- ---- what is served at once
+
+  module _ (engine : EngineState D) (machine : Machine) (is : IsMachine d engine machine) where
+    -- a check refuses it, or memory is wanting
+    pub refused_at_once : (outcome : Result Effect Refusal) (why : Refusal) → (why ≡ refusal.OutOfMemory) ⊎ (outcome ≡ Err why) → IsServed d outcome machine (refused why) engine
+    refused_at_once outcome why (inl memory) = read_wanted engine engine machine is (reads_refl engine) outcome why (inl memory)
+    refused_at_once outcome why (inr off) = read_refused engine engine machine is (reads_refl engine) outcome why off
+
+    pub rows_at_once : (outcome : Result Effect Refusal) (result : Result (Vec (String Global) Global) Refusal)
+        → IfOk result (λ rows. outcome ≡ Ok (effect (rows_of rows.items) (length (rows_of rows.items)) machine.state))
+        → IfErr result (λ why. (why ≡ refusal.OutOfMemory) ⊎ (outcome ≡ Err why)) → IsServed d outcome machine (rows_reply_of result) engine
+    rows_at_once outcome (Ok rows) is_done off = served_rows engine engine machine is (reads_refl engine) outcome (Ok rows) is_done tt
+    rows_at_once outcome (Err why) is_done off = refused_at_once outcome why off

@@ -3,7 +3,7 @@
 //! It promises the machine's checks in their order, that a cursor gives the lines that SELECT would have printed when it was
 //! opened, and that a refusal changes nothing.
 
-ghost use Rattle.std.specs.Prelude.{◌≡◌, ◌⊎◌, Ok, Err, IfErr, IfOk, OnErr, OnOk};
+ghost use Rattle.std.specs.Prelude.{◌≡◌, ◌⊎◌, Ok, Err, IfErr, IfOk};
 ghost use Rattle.std.specs.FinMap as names;
 ghost use Rattle.rs_answers.specs.Plans.{CanBePlanned};
 ghost use Rattle.rs_checker.specs.CheckedView.{query_of};
@@ -28,7 +28,6 @@ use rs_refusal::Refusal;
 use rs_serve::Session;
 use rs_store::laws::store_stands_in_one_state;
 use rs_syntax::Query;
-use std::alloc::AllocError;
 
 impl<D: Disk> Engine<D> {
     /// Opens a cursor of a session on the lines of a query. Checks, in order: its query; its name is taken (61); the session
@@ -46,8 +45,7 @@ impl<D: Disk> Engine<D> {
         accepted_step_leaves_the_state_lawful();
         let checked = self.check_new_cursor(session, &name, query, method)?;
         let lines = self.lines_of_checked(checked, method)?;
-        self.put_cursor(session, name, lines)?;
-        Ok(0)
+        self.put_cursor(session, name, lines)
     }
 
     /// The next lines of a cursor of a session, so many or as many as are left (60). For want of memory the cursor stays where it
@@ -86,11 +84,11 @@ impl<D: Disk> Engine<D> {
         query: &Query,
         method: Method,
     ) -> Result<Checked, Refusal>
-        ensures accepted { IfOk result (λ checked. (machine : Machine) → IsMachine D.Disk self.now machine
-            → cursor_opened machine.state session name.now.bytes (query_tree query.now) method
+        ensures accepted { (machine : Machine) → IsMachine D.Disk self.now machine
+            → IfOk result (λ checked. cursor_opened machine.state session name.now.bytes (query_tree query.now) method
             ≡ Ok (counted 0 (with_cursor machine.state session name.now.bytes (lines_of machine.state (query_of checked.query) method)))) }
-        ensures refused { IfErr result (λ why. (why ≡ Refusal.OutOfMemory) ⊎ ((machine : Machine) → IsMachine D.Disk self.now machine
-            → cursor_opened machine.state session name.now.bytes (query_tree query.now) method ≡ Err why)) }
+        ensures refused { (machine : Machine) → IsMachine D.Disk self.now machine
+            → IfErr result (λ why. (why ≡ Refusal.OutOfMemory) ⊎ (cursor_opened machine.state session name.now.bytes (query_tree query.now) method ≡ Err why)) }
         ensures can { IfOk result (CanBePlanned self.now.store.catalog) }
     {
         store_stands_in_one_state::<D>();
@@ -98,18 +96,19 @@ impl<D: Disk> Engine<D> {
             .check_new_cursor(session, name, query, method)
     }
 
-    /// Keeps a cursor of a session that has to give these lines. For want of memory it changes nothing.
+    /// Keeps a cursor of a session that has to give these lines, and answers 0. For want of memory it changes nothing.
     fn put_cursor(
         &mut self,
         session: Session,
         name: Name,
         lines: Vec<String>,
-    ) -> Result<(), AllocError>
-        ensures put { OnOk result (cursors_of self.new.cursors
-            ≡ cursors_at session (names.insert (cursors_of self.old.cursors session) name.bytes (rows_of lines.items)) (cursors_of self.old.cursors)) }
+    ) -> Result<u128, Refusal>
+        ensures put { IfOk result (λ count. (count ≡ 0) × (cursors_of self.new.cursors
+            ≡ cursors_at session (names.insert (cursors_of self.old.cursors session) name.bytes (rows_of lines.items)) (cursors_of self.old.cursors))) }
         ensures store { self.new.store ≡ self.old.store }
-        ensures err { OnErr result (self.new ≡ self.old) }
+        ensures wants { IfErr result (λ why. why ≡ Refusal.OutOfMemory) }
     {
-        self.cursors.open(session, name, lines)
+        self.cursors.open(session, name, lines)?;
+        Ok(0)
     }
 }

@@ -101,18 +101,33 @@ impl<D: Disk> Engine<D> {
     pub(crate) fn explain(&self, query: &Query) -> Result<Vec<String>, Refusal>
         ensures serves { Serves D.Disk (λ (state : State). plan_printed state (query_tree query.now)) (rows_reply_of result) self.now self.now }
     {
-        plans_are_chosen_by_its_state::<D>();
         let checked = self.checked(query)?;
+        self.lines_of_plan(checked)
+    }
+
+    /// The lines of the plan of a checked query. The only refusal is for want of memory.
+    fn lines_of_plan(&self, checked: Checked) -> Result<Vec<String>, Refusal>
+        requires can { CanBePlanned self.now.store.catalog checked }
+        ensures lines { (machine : Machine) → IsMachine D.Disk self.now machine
+            → IfOk result (λ rows. rows_of rows.items ≡ explained (world_of machine.state) machine.state.indexes (query_of checked.query)) }
+        ensures wants { IfErr result (λ why. why ≡ Refusal.OutOfMemory) }
+    {
+        plans_are_chosen_by_its_state::<D>();
         let counts = self.counts()?;
-        Ok(explain_lines(self.alloc, self.store.catalog(), checked, &counts)?)
+        Ok(explain_lines(
+            self.alloc,
+            self.store.catalog(),
+            checked,
+            &counts,
+        )?)
     }
 
     /// The checked query, which can be planned; or the refusal of the first check that fails.
     fn checked(&self, query: &Query) -> Result<Checked, Refusal>
-        ensures is { IfOk result (λ made. (machine : Machine) → IsMachine D.Disk self.now machine → IsChecked machine.state (query_tree query.now) made) }
+        ensures is { (machine : Machine) → IsMachine D.Disk self.now machine → IfOk result (IsChecked machine.state (query_tree query.now)) }
         ensures can { IfOk result (CanBePlanned self.now.store.catalog) }
-        ensures refused { IfErr result (λ why. (why ≡ Refusal.OutOfMemory)
-            ⊎ ((machine : Machine) → IsMachine D.Disk self.now machine → checked machine.state (query_tree query.now) ≡ Err why)) }
+        ensures refused { (machine : Machine) → IsMachine D.Disk self.now machine
+            → IfErr result (λ why. (why ≡ Refusal.OutOfMemory) ⊎ (checked machine.state (query_tree query.now) ≡ Err why)) }
     {
         store_stands_in_one_state::<D>();
         self.checks().checked(query)
@@ -125,8 +140,8 @@ impl<D: Disk> Engine<D> {
         method: Method,
     ) -> Result<Vec<String>, Refusal>
         requires can { CanBePlanned self.old.store.catalog checked }
-        ensures lines { IfOk result (λ rows. (machine : Machine) → IsMachine D.Disk self.old machine
-            → rows_of rows.items ≡ lines_of machine.state (query_of checked.query) method) }
+        ensures lines { (machine : Machine) → IsMachine D.Disk self.old machine
+            → IfOk result (λ rows. rows_of rows.items ≡ lines_of machine.state (query_of checked.query) method) }
         ensures reads { ReadsEngine D.Disk self.old self.new }
         ensures wants { IfErr result (λ why. WantsRead D.Disk why self.old self.new) }
     {
@@ -151,12 +166,12 @@ impl<D: Disk> Engine<D> {
         summed: &Option<Name>,
     ) -> Result<Vec<String>, Refusal>
         requires can { CanBePlanned self.old.store.catalog checked }
-        ensures done { IfOk result (λ rows. (machine : Machine) → IsMachine D.Disk self.old machine
-            → map column_tree checked.columns.items ≡ columns_in machine.state (query_of checked.query)
-            → totals_of_query machine.state (query_of checked.query) (map (λ name. name.bytes) by.now) (summed_tree summed.now) ≡ Ok (effect (rows_of rows.items) (length (rows_of rows.items)) machine.state)) }
-        ensures refused { IfErr result (λ why. WantsRead D.Disk why self.old self.new ⊎ ((machine : Machine) → IsMachine D.Disk self.old machine
-            → map column_tree checked.columns.items ≡ columns_in machine.state (query_of checked.query)
-            → totals_of_query machine.state (query_of checked.query) (map (λ name. name.bytes) by.now) (summed_tree summed.now) ≡ Err why)) }
+        ensures done { (machine : Machine) → IsMachine D.Disk self.old machine → map column_tree checked.columns.items ≡ columns_in machine.state (query_of checked.query)
+            → IfOk result (λ rows. totals_of_query machine.state (query_of checked.query) (map (λ name. name.bytes) by.now) (summed_tree summed.now)
+            ≡ Ok (effect (rows_of rows.items) (length (rows_of rows.items)) machine.state)) }
+        ensures refused { (machine : Machine) → IsMachine D.Disk self.old machine → map column_tree checked.columns.items ≡ columns_in machine.state (query_of checked.query)
+            → IfErr result (λ why. WantsRead D.Disk why self.old self.new
+            ⊎ (totals_of_query machine.state (query_of checked.query) (map (λ name. name.bytes) by.now) (summed_tree summed.now) ≡ Err why)) }
         ensures reads { ReadsEngine D.Disk self.old self.new }
     {
         engine_stands_for_its_state::<D>();
