@@ -10,8 +10,8 @@ use Rattle.rs_refusal.specs.declared.refusal.Refusal.TheVariants.{OutOfMemory}
 use Rattle.rs_serve.specs.ReplyView.{rows_of}
 use Rattle.rs_file_engine.proofs.engine.Engine.translate.Goals as goal
 
-pub returns-clause-serves : goal.returns-clause-serves
-returns-clause-serves g c = λ machine is.
+pub returns : goal.returns
+returns g c = record { serves = λ machine is.
     let route = c.args.route.now.bytes in
     let position = expression_of c.args.position.now in
     let result = c.translate.result in
@@ -22,4 +22,4 @@ returns-clause-serves g c = λ machine is.
     c.translate.ensures.done machine is)
     (on_machine g.D.Disk states c.args.self.now c.checks.result c.checks.ensures
     (λ (state : State). IfErr result (λ why. (why ≡ OutOfMemory) ⊎ (position_translated state route position c.args.method ≡ Err why)))
-    c.translate.ensures.refused machine is)
+    c.translate.ensures.refused machine is) }
