@@ -6,4 +6,5 @@ pub mod Stepping
 pub mod Present
 pub mod Reading
 pub mod Checking
+pub mod CursorSteps
 pub mod Tables

@@ -3,7 +3,7 @@
 //! It promises the machine's checks in their order, that a cursor gives the lines that SELECT would have printed when it was
 //! opened, and that a refusal changes nothing.
 
-ghost use Rattle.std.specs.Prelude.{◌≡◌, ◌⊎◌, Ok, Err, IfErr, IfOk};
+ghost use Rattle.std.specs.Prelude.{◌≡◌, ◌⊎◌, Ok, Err, IfErr, IfOk, OnErr};
 ghost use Rattle.std.specs.FinMap as names;
 ghost use Rattle.rs_answers.specs.Plans.{CanBePlanned};
 ghost use Rattle.rs_checker.specs.CheckedView.{query_of};
@@ -20,6 +20,7 @@ ghost use Rattle.rs_syntax.specs.Sound.{IsSound};
 ghost use Rattle.rs_syntax.specs.Tree as tree;
 
 use crate::engine::Engine;
+use crate::engine::laws::session_is_in_range;
 use rs_checker::Checked;
 use rs_disk::Disk;
 use rs_machine_laws::lawful::accepted_step_leaves_the_state_lawful;
@@ -43,6 +44,7 @@ impl<D: Disk> Engine<D> {
         ensures serves { Serves D.Disk (λ (state : State). cursor_opened state session name.bytes (query_tree query.now) method) (count_reply_of result) self.old self.new }
     {
         accepted_step_leaves_the_state_lawful();
+        session_is_in_range(session);
         let checked = self.check_new_cursor(session, &name, query, method)?;
         let lines = self.lines_of_checked(checked, method)?;
         self.put_cursor(session, name, lines)
@@ -60,6 +62,7 @@ impl<D: Disk> Engine<D> {
         ensures serves { Serves D.Disk (λ (state : State). rows_fetched state session name.now.bytes rows) (rows_reply_of result) self.old self.new }
     {
         accepted_step_leaves_the_state_lawful();
+        session_is_in_range(session);
         self.cursors.fetch(session, name, rows as usize)
     }
 
@@ -69,6 +72,7 @@ impl<D: Disk> Engine<D> {
         ensures serves { Serves D.Disk (λ (state : State). cursor_closed state session name.now.bytes) (count_reply_of result) self.old self.new }
     {
         accepted_step_leaves_the_state_lawful();
+        session_is_in_range(session);
         if !self.cursors.has(session, name) {
             return Err(Refusal::NoSuchCursor);
         }
@@ -106,6 +110,7 @@ impl<D: Disk> Engine<D> {
         ensures put { IfOk result (λ count. (count ≡ 0) × (cursors_of self.new.cursors
             ≡ cursors_at session (names.insert (cursors_of self.old.cursors session) name.bytes (rows_of lines.items)) (cursors_of self.old.cursors))) }
         ensures store { self.new.store ≡ self.old.store }
+        ensures stay { OnErr result (self.new.cursors ≡ self.old.cursors) }
         ensures wants { IfErr result (λ why. why ≡ Refusal.OutOfMemory) }
     {
         self.cursors.open(session, name, lines)?;

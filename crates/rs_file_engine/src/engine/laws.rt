@@ -1,13 +1,16 @@
-//! These laws say which state an engine stands for as a source, and that its plans are chosen by that state.
+//! These laws say which state an engine stands for as a source, that its plans are chosen by that state, and that a session has a
+//! number in its range.
 
-ghost use Rattle.std.specs.Prelude.{List};
+ghost use Rattle.std.specs.Prelude.{◌<◌, List};
 ghost use Rattle.rs_answers.specs.Counts.{AreCounted};
 ghost use Rattle.rs_file_engine.specs.Kept.{EngineState, IsMachine};
 ghost use Rattle.rs_file_engine.specs.Reads.{StandsNow, counted_of};
 ghost use Rattle.rs_machine.specs.Served.{Machine};
+ghost use Rattle.rs_machine.specs.declared.limits.TheConstants.{SESSIONS};
 ghost use Rattle.rs_plan.specs.declared.counts.Index.{Index};
 
 use rs_disk::Disk;
+use rs_serve::Session;
 use rs_store::laws::store_stands_in_one_state;
 use rs_store_reads::laws::{
     living_records_are_the_runs_of_the_state, store_shows_the_facts_of_its_state,
@@ -28,4 +31,11 @@ pub(crate) fn plans_are_chosen_by_its_state<D: Disk>()
 {
     store_stands_in_one_state::<D>();
     living_records_are_the_runs_of_the_state::<D>();
+}
+
+/// The number of a session is below the number of sessions.
+pub(crate) fn session_is_in_range(session: Session)
+    ensures { session < SESSIONS }
+{
+    session.number();
 }
