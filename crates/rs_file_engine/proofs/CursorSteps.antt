@@ -1,11 +1,10 @@
 -- The commands of cursors: what the machine answers, and the machine that the engine is then.
-use Rattle.std.proofs.Common.{◌≡◌, ◌∙◌, ◌<◌, ℕ, List, [], Option, None, Some, Result, Ok, Err, true, false, ap, arith, drop, inl, length, refl, subst, sym, take}
+use Rattle.std.proofs.Common.{◌≡◌, ◌∙◌, ℕ, List, Option, None, Some, Result, Ok, Err, true, false, ap, arith, drop, inl, length, refl, subst, sym, take}
 use Rattle.std.specs.FinMap as names
 use Rattle.std.specs.Prelude.{is_some}
 use Rattle.rs_cursor.specs.Held.{Gives, HeldCursors, cursors_of}
 use Rattle.rs_disk.specs.declared.disk.Disk as disk
 use Rattle.rs_facts.specs.Fact.{Name}
-use Rattle.rs_facts.specs.Query.{Query}
 use Rattle.rs_file_engine.specs.Kept.{EngineState, IsMachine}
 use Rattle.rs_file_engine.specs.Reads.{ReadsEngine}
 use Rattle.rs_file_engine.specs.Serving.{IsServed}
@@ -14,12 +13,10 @@ use Rattle.rs_machine.specs.Checks.{◌>>=◌, found}
 use Rattle.rs_machine.specs.Lawful.{IsLawful}
 use Rattle.rs_machine.specs.Served.{Machine, done}
 use Rattle.rs_machine.specs.State.{Cursors, RowText, State, cursors_at, has}
-use Rattle.rs_machine.specs.Step.{Effect, counted, cursor_closed, cursor_opened, effect, lines_of, rows_fetched, with_cursor}
-use Rattle.rs_methods.specs.declared.position.Method.{Method}
+use Rattle.rs_machine.specs.Step.{Effect, counted, cursor_closed, effect, rows_fetched, with_cursor}
 use Rattle.rs_refusal.specs.declared.refusal.Refusal.{Refusal}
 use Rattle.rs_refusal.specs.declared.refusal.Refusal.TheVariants.{NoSuchCursor}
 use Rattle.rs_store.specs.Kept.{StandsIn, StoreState}
-use Rattle.rs_syntax.specs.Tree.{QueryTree}
 
 -- the state with other cursors
 abbrev pub beside : (ℕ → Cursors) → State → State
@@ -98,8 +95,12 @@ module _ {D : Type 0} (d : disk.Ghosts D) where
           failures = refl;
           full_refusals = refl;
         };
-        answer = inl (refl, refl, record {
-          failures = omega (arith, is.failures, reads.store.failures, failures);
-          full_refusals = omega (arith, was.full_refusals, full);
-        });
+        answer = inl (
+          refl,
+          refl,
+          record {
+            failures = omega (arith, is.failures, reads.store.failures, failures);
+            full_refusals = omega (arith, was.full_refusals, full);
+          },
+        );
       })

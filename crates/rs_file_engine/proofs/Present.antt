@@ -1,5 +1,5 @@
 -- The state that an engine stands for as a source, and what its plans are chosen by.
-use Rattle.std.proofs.Common.{◌≡◌, ◌∙◌, ℕ, List, Some, ap, refl, sym}
+use Rattle.std.proofs.Common.{◌≡◌, ◌∙◌, ℕ, List, Some, ap, sym}
 use Rattle.std.specs.FinMap as names
 use Rattle.rs_answers.specs.Counts.{AreCounted}
 use Rattle.rs_answers.specs.Present.{IsDefinedBy}
@@ -60,10 +60,12 @@ module _ {D : Type 0} (d : disk.Ghosts D) where
           is = shows;
           present = record {
             defined = defined;
-            rows = record { rows = λ name item there route on at k.
-                facts accepted engine.store (shown_from engine.store.catalog is.stands.contents accepted accepted) shows name item there route on at k
-                ∙ ap (λ (state : State). facts_of (names.get state.tables name) route k) (once accepted accepted engine.store shows.state is.state shows.stands is.stands)
-                ∙ sym (ap (λ (state : State). facts_of (names.get state.tables name) route k) is.is) };
+            rows = record {
+              rows = λ name item there route on at k.
+                  facts accepted engine.store (shown_from engine.store.catalog is.stands.contents accepted accepted) shows name item there route on at k
+                  ∙ ap (λ (state : State). facts_of (names.get state.tables name) route k) (once accepted accepted engine.store shows.state is.state shows.stands is.stands)
+                  ∙ sym (ap (λ (state : State). facts_of (names.get state.tables name) route k) is.is);
+            };
             lawful = is.lawful;
           };
         }

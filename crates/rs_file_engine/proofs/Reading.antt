@@ -1,5 +1,5 @@
 -- What reads of an engine leave, and what is served by them.
-use Rattle.std.proofs.Common.{◌≡◌, ◌∙◌, ◌≤◌, ◌⊎◌, ℕ, List, Result, Ok, Err, arith, ap, inl, inr, refl, subst, sym}
+use Rattle.std.proofs.Common.{◌≡◌, ◌∙◌, ◌⊎◌, ℕ, List, Result, Ok, Err, arith, ap, inl, inr, refl, subst, sym}
 use Rattle.std.proofs.lemmas.List.{length-map}
 use Rattle.std.specs.Prelude.{IfErr, IfOk, String, Vec, length, string_bytes}
 use Rattle.std.specs.declared.alloc.Global.{Global}

@@ -96,8 +96,7 @@ impl<D: Disk> Engine<D> {
         ensures can { IfOk result (CanBePlanned self.now.store.catalog) }
     {
         store_stands_in_one_state::<D>();
-        self.checks()
-            .check_new_cursor(session, name, query, method)
+        self.checks().check_new_cursor(session, name, query, method)
     }
 
     /// Keeps a cursor of a session that has to give these lines, and answers 0. For want of memory it changes nothing.

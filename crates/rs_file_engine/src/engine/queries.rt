@@ -114,12 +114,7 @@ impl<D: Disk> Engine<D> {
     {
         plans_are_chosen_by_its_state::<D>();
         let counts = self.counts()?;
-        Ok(explain_lines(
-            self.alloc,
-            self.store.catalog(),
-            checked,
-            &counts,
-        )?)
+        Ok(explain_lines(self.alloc, self.store.catalog(), checked, &counts)?)
     }
 
     /// The checked query, which can be planned; or the refusal of the first check that fails.

@@ -2,8 +2,6 @@
 //!
 //! It shows the version that was accepted last. A read leaves all that the engine keeps as it was, whatever it answers.
 
-ghost use Rattle.std.specs.Prelude.{◌≡◌};
-
 use crate::engine::Engine;
 use rs_answers::InMemory;
 use rs_catalog::{Catalog, RouteReferents};

@@ -16,17 +16,21 @@ returns-in_err-checked g c =
     let summed = summed_tree c.args.summed.now in
     let why = c.in_err-checked.field-0.0 in
     let p = err_from_is_err_and c.from_residual.result c.from_residual.ensures.1 in
-    rw (p.1, p.2) (record { serves = λ machine is. refused_at_once g.D.Disk c.args.self.now machine is (totals_printed machine.state tree by summed) why
-    (⊎_elim (λ memory. inl memory) (λ off. inr (total_unchecked machine.state tree by summed why off)) (c.in_err-checked.ensures.refused machine is)) })
+    rw (p.1, p.2) (record {
+      serves = λ machine is. refused_at_once g.D.Disk c.args.self.now machine is (totals_printed machine.state tree by summed) why
+          (⊎_elim (λ memory. inl memory) (λ off. inr (total_unchecked machine.state tree by summed why off)) (c.in_err-checked.ensures.refused machine is));
+    })
 
 pub returns : goal.returns
-returns g c = record { serves = λ machine is.
-    let tree = query_tree c.args.query.now in
-    let by = map (λ name. name.bytes) c.args.by.now in
-    let summed = summed_tree c.args.summed.now in
-    let result = c.total_of_checked.result in
-    let made = c.in_ok-checked.ensures.is machine is in
-    let checked = total_checked machine.state tree by summed (query_of c.in_ok-checked.checked.query) made.is in
-    served_rows g.D.Disk c.args.self.now c.total_of_checked.new.self machine is c.total_of_checked.ensures.reads (totals_printed machine.state tree by summed) result
-    (IfOk-weaker result _ _ (λ rows done. checked ∙ done) (c.total_of_checked.ensures.done machine is made.columns))
-    (IfErr-weaker result _ _ (λ why. ⊎_elim (λ wanted. inl wanted) (λ off. inr (checked ∙ off))) (c.total_of_checked.ensures.refused machine is made.columns)) }
+returns g c = record {
+  serves = λ machine is.
+      let tree = query_tree c.args.query.now in
+      let by = map (λ name. name.bytes) c.args.by.now in
+      let summed = summed_tree c.args.summed.now in
+      let result = c.total_of_checked.result in
+      let made = c.in_ok-checked.ensures.is machine is in
+      let checked = total_checked machine.state tree by summed (query_of c.in_ok-checked.checked.query) made.is in
+      served_rows g.D.Disk c.args.self.now c.total_of_checked.new.self machine is c.total_of_checked.ensures.reads (totals_printed machine.state tree by summed) result
+      (IfOk-weaker result _ _ (λ rows done. checked ∙ done) (c.total_of_checked.ensures.done machine is made.columns))
+      (IfErr-weaker result _ _ (λ why. ⊎_elim (λ wanted. inl wanted) (λ off. inr (checked ∙ off))) (c.total_of_checked.ensures.refused machine is made.columns));
+}

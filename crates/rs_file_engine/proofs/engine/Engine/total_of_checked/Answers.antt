@@ -1,9 +1,8 @@
 -- They are those of the state for which the engine stands.
-use Rattle.std.proofs.Common.{◌≡◌, ◌∙◌, ⊎_elim, ℕ, List, ap, inl, inr, map, subst, sym}
+use Rattle.std.proofs.Common.{◌≡◌, ◌∙◌, ⊎_elim, ℕ, ap, inl, inr, map, subst, sym}
 use Rattle.std.proofs.lemmas.Result.{IfErr-weaker, IfOk-weaker}
 use Rattle.rs_answers.specs.Standing.{StandsAt}
 use Rattle.rs_checker.specs.CheckedView.{query_of}
-use Rattle.rs_facts.specs.Fact.{Name}
 use Rattle.rs_file_engine.specs.Kept.{EngineState}
 use Rattle.rs_file_engine.specs.Reads.{ShowsPresent, definitions_of, referents_of}
 use Rattle.rs_syntax.specs.View.{column_tree, summed_tree}
