@@ -3,7 +3,6 @@
 ghost use Rattle.std.specs.Prelude.{◌≡◌, ◌≤◌, ◌<◌, ◌+◌, ℕ, true, false, map, IfOk, OnOk, Some};
 ghost use Rattle.std.specs.FinMap as names;
 ghost use Rattle.std.specs.List.{AllByRecursion};
-
 ghost use Rattle.rs_catalog.specs.Changes as changes;
 ghost use Rattle.rs_catalog.specs.Definitions.{IndexItem, IsColumnOf};
 ghost use Rattle.rs_catalog_pages.specs.Said.{said_catalogue, said_index};
@@ -151,8 +150,9 @@ fn write_index<D: Disk>(
         position,
     };
     let column = usize::from(index.column());
-    let made =
-        rs_state_changes::define_index(alloc, pager, file, oldest, stored, at, column, &routes);
+    let made = rs_state_changes::define_index(
+        alloc, pager, file, oldest, stored, at, column, &routes,
+    );
     settle(pager, file, made)
 }
 
