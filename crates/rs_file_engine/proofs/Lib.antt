@@ -1,4 +1,6 @@
+pub mod AfterReads
 pub mod Columns
+pub mod Facts
 pub mod Filing
 pub mod Machines
 pub mod Naming

@@ -88,6 +88,13 @@ module _ (steps : StepsAreLawful) {D : Type 0} (d : disk.Ghosts D) (states : Sto
   found_of : (is : IsMachine d old machine) → FoundOf is.state
   found_of is P alone each = alone is.state (subst P is.is (found P each))
 
+  -- the machine refuses it, and so did the checks
+  pub check_refused_at : (result : Result ℕ Refusal) (answer : Result ℕ Refusal → Reply) (why : Refusal) (new : EngineState D) → new ≡ was → result ≡ Err why → answer (Err why) ≡ refused why
+      → outcome machine.state 0 tree ≡ Err why → IsServed d (outcome machine.state 0 tree) machine (answer result) new
+  check_refused_at result answer why new unchanged is says refuses =
+      subst (λ (reply : Reply). IsServed d (outcome machine.state 0 tree) machine reply new) (sym (ap answer is ∙ says))
+      (refused_by_checks d was new machine here unchanged (outcome machine.state 0 tree) why refuses)
+
   -- the checks refused it
   pub check_refused : (result : Result ℕ Refusal) (answer : Result ℕ Refusal → Reply) (why : Refusal) (new : EngineState D) → new ≡ was → result ≡ Err why → answer (Err why) ≡ refused why
       → ((spans : ℕ → ℕ → List Stretch) → outcome (state_by checks spans) 0 tree ≡ Err why) → IsServed d (outcome machine.state 0 tree) machine (answer result) new

@@ -1,8 +1,13 @@
-//! The commands that drop a table, an index, a view and an alignment.
+//! The commands that drop a route, a table, an index, a view and an alignment.
 
+ghost use Rattle.std.specs.Prelude.{IfErr, IfOk};
+ghost use Rattle.rs_command_checks.specs.Facts.{TellsOfFacts};
+ghost use Rattle.rs_file_engine.specs.Kept.{IsMachine};
+ghost use Rattle.rs_file_engine.specs.Reads.{ReadsEngine, WantsRead};
 ghost use Rattle.rs_file_engine.specs.Replied.{count_reply_of};
-ghost use Rattle.rs_file_engine.specs.Serving.{Serves};
-ghost use Rattle.rs_machine.specs.Step.{alignment_dropped, index_dropped, table_dropped, view_dropped};
+ghost use Rattle.rs_file_engine.specs.Serving.{IsServed, Serves};
+ghost use Rattle.rs_machine.specs.Served.{Machine};
+ghost use Rattle.rs_machine.specs.Step.{alignment_dropped, index_dropped, route_dropped, table_dropped, view_dropped};
 ghost use Rattle.rs_syntax.specs.Sound.{IsSound};
 ghost use Rattle.rs_syntax.specs.Tree as tree;
 
@@ -12,8 +17,46 @@ use rs_machine_laws::lawful::accepted_step_leaves_the_state_lawful;
 use rs_methods::Name;
 use rs_refusal::Refusal;
 use rs_store::laws::store_stands_in_one_state;
+use rs_store_reads::has_facts_on;
 
 impl<D: Disk> Engine<D> {
+    /// Drops a route with its referents. Checks, in order: 20; a table has a fact on it, an alignment has a piece on it or a view's window
+    /// is on it, or a session has a cursor (23); 27.
+    pub(crate) fn drop_route(&mut self, name: &Name) -> Result<u128, Refusal>
+        requires sound { IsSound (tree.drop_route name.now.bytes) }
+        ensures serves { Serves D.Disk (λ state. route_dropped state name.now.bytes) (count_reply_of result) self.old self.new }
+    {
+        let has_facts = self.has_facts(name)?;
+        self.take_route(name, has_facts)
+    }
+
+    /// Whether some table has a fact on the route of this name, where it is there.
+    fn has_facts(&mut self, name: &Name) -> Result<bool, Refusal>
+        ensures tells { (machine : Machine) → IsMachine D.Disk self.old machine → IfOk result (TellsOfFacts machine.state name.now.bytes) }
+        ensures reads { ReadsEngine D.Disk self.old self.new }
+        ensures wants { IfErr result (λ why. WantsRead D.Disk why self.old self.new) }
+    {
+        store_stands_in_one_state::<D>();
+        let Some(route) = self.store.catalog().route(name) else {
+            return Ok(false);
+        };
+        has_facts_on(self.alloc, &mut self.store, route.number())
+    }
+
+    /// Drops a route, of which the caller says whether some table has a fact on it.
+    fn take_route(&mut self, name: &Name, has_facts: bool) -> Result<u128, Refusal>
+        requires sound { IsSound (tree.drop_route name.now.bytes) }
+        ensures serves { (machine : Machine) → IsMachine D.Disk self.old machine → TellsOfFacts machine.state name.now.bytes has_facts
+            → IsServed D.Disk (route_dropped machine.state name.now.bytes) machine (count_reply_of result) self.new }
+    {
+        store_stands_in_one_state::<D>();
+        accepted_step_leaves_the_state_lawful();
+        self.checks().check_old_route(name, has_facts)?;
+        let oldest = self.oldest();
+        self.store.drop_route(self.alloc, oldest, name)?;
+        Ok(0)
+    }
+
     /// Drops a table with its facts and its indexes. Checks, in order: 21; a view names it, or a session has a cursor (23); 27.
     pub(crate) fn drop_table(&mut self, name: &Name) -> Result<u128, Refusal>
         requires sound { IsSound (tree.drop_table name.now.bytes) }

@@ -29,7 +29,7 @@ is_step kind name columns = record { beside = λ cursors state. refl; none = λ 
 
 pub define_table-requires-clause-columns : goal.define_table-requires-clause-columns
 define_table-requires-clause-columns g c = columns_accepted _ c.args.kind c.args.name.bytes (map column_tree c.args.columns.items) _ c.requires.sound.1 c.requires.sound.2
-    (subst (λ (n : ℕ). n ≤ COLUMNS) (sym (length-map column_tree c.args.columns.items)) (subst (λ (xs : List ColumnDefinition). length xs ≤ COLUMNS) c.deref.ensures.value c.in_ok-check_new_table.ensures.few_columns)) ((subst (λ (xs : List ColumnDefinition). (spans : ℕ → ℕ → List Stretch) → outcome (state_by c.checks.result spans) 0 (tree.define_table c.args.kind c.args.name.bytes (map column_tree xs)) ≡ Ok (counted 0 (next_of c.args.kind c.args.name.bytes (map column_tree xs) (state_by c.checks.result spans)))) c.deref.ensures.value c.in_ok-check_new_table.ensures.accepted) (λ table route. []))
+    (subst (λ (n : ℕ). n ≤ COLUMNS) (sym (length-map c.args.columns.items column_tree)) (subst (λ (xs : List ColumnDefinition). length xs ≤ COLUMNS) c.deref.ensures.value c.in_ok-check_new_table.ensures.few_columns)) ((subst (λ (xs : List ColumnDefinition). (spans : ℕ → ℕ → List Stretch) → outcome (state_by c.checks.result spans) 0 (tree.define_table c.args.kind c.args.name.bytes (map column_tree xs)) ≡ Ok (counted 0 (next_of c.args.kind c.args.name.bytes (map column_tree xs) (state_by c.checks.result spans)))) c.deref.ensures.value c.in_ok-check_new_table.ensures.accepted) (λ table route. []))
 
 pub returns-in_err-check_new_table : goal.returns-in_err-check_new_table
 returns-in_err-check_new_table g c =
