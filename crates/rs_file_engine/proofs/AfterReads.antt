@@ -28,15 +28,18 @@ module _ {D : Type 0} (d : disk.Ghosts D) (old new : EngineState D) (machine : M
   answers_from (Err why) reply next answers = (answers.0, unchanged_from next answers.1)
 
   wants_from : (reply : Reply) (next : Machine) → NamesAWant read_machine reply next → NamesAWant machine reply next
-  wants_from reply next wants = (unchanged_from next wants.0, elim wants.1 [
-    | inl memory ↦ inl memory
-    | inr (inl failed) ↦ inr (inl (failed.0, rose_from machine.failures _ next.failures (omega (arith, is.failures, reads.store.failures)) failed.1))
-    | inr (inr full) ↦ inr (inr full)
-  ])
+  wants_from reply next wants = (
+    unchanged_from next wants.0,
+    elim wants.1 [
+      | inl memory ↦ inl memory
+      | inr (inl failed) ↦ inr (inl (failed.0, rose_from machine.failures _ next.failures (omega (arith, is.failures, reads.store.failures)) failed.1))
+      | inr (inr full) ↦ inr (inr full)
+    ],
+  )
 
   pub served_after : (outcome : Result Effect Refusal) (reply : Reply) (final : EngineState D) → IsServed d outcome read_machine reply final → IsServed d outcome machine reply final
   served_after outcome reply final served = record {
     next = served.next;
     is = served.is;
-    answer = elim served.answer [ | inl answers ↦ inl (answers_from outcome reply served.next answers) | inr wants ↦ inr (wants_from reply served.next wants) ];
+    answer = elim served.answer [ inl answers ↦ inl (answers_from outcome reply served.next answers) | inr wants ↦ inr (wants_from reply served.next wants) ];
   }

@@ -27,7 +27,7 @@ use Rattle.rs_store.specs.Kept.{StandsIn, StoreState}
 
 pub counted_later : (count : ℕ) → count ≤ counted_on count
 unfolding counted_on
-counted_later count = elim (count == last_count) as (λ b. count ≤ (if b then count else count + 1)) [ | true ↦ omega arith | false ↦ omega arith ]
+counted_later count = elim (count == last_count) as (λ b. count ≤ (if b then count else count + 1)) [ true ↦ omega arith | false ↦ omega arith ]
 
 pub counted_rose : (count : ℕ) → Rose count (counted_on count)
 unfolding counted_on
@@ -124,14 +124,23 @@ module _ {D : Type 0} (d : disk.Ghosts D) where
           failures = refl;
           full_refusals = refl;
         };
-        answer = inr (record { state = refl; counts = record { failures = later; full_refusals = fuller } }, elim leaves.cause [
-          | inl memory ↦ inl (ap refused memory)
-          | inr (inl failed) ↦ inr (inl (ap refused failed, subst (λ (count : ℕ). Rose count next.failures) (sym is.failures)
-              (subst (λ (count : ℕ). Rose (d.failures old.store.pager.disk) count) (sym (leaves.failures.disk failed)) (counted_rose (d.failures old.store.pager.disk)))))
-          | inr (inr (inl full)) ↦ inr (inr (ap refused full, subst (λ (count : ℕ). Rose count next.full_refusals) (sym is.full_refusals)
-              (subst (λ (count : ℕ). Rose old.store.pager.full_refusals count) (sym (leaves.full.full full)) (counted_rose old.store.pager.full_refusals))))
-          | inr (inr (inr damaged)) ↦ absurd (leaves.sound old.store.file.accepted is.state is.stands allowed (ap Err damaged))
-        ]);
+        answer = inr (
+          record { state = refl; counts = record { failures = later; full_refusals = fuller } },
+          elim leaves.cause [
+            | inl memory ↦ inl (ap refused memory)
+            | inr (inl failed) ↦ inr (inl (
+              ap refused failed,
+              subst (λ (count : ℕ). Rose count next.failures) (sym is.failures)
+                  (subst (λ (count : ℕ). Rose (d.failures old.store.pager.disk) count) (sym (leaves.failures.disk failed)) (counted_rose (d.failures old.store.pager.disk))),
+            ))
+            | inr (inr (inl full)) ↦ inr (inr (
+              ap refused full,
+              subst (λ (count : ℕ). Rose count next.full_refusals) (sym is.full_refusals)
+                  (subst (λ (count : ℕ). Rose old.store.pager.full_refusals count) (sym (leaves.full.full full)) (counted_rose old.store.pager.full_refusals)),
+            ))
+            | inr (inr (inr damaged)) ↦ absurd (leaves.sound old.store.file.accepted is.state is.stands allowed (ap Err damaged))
+          ],
+        );
       }
 
   -- a change that is made has the machine's next state, beside the same cursors
@@ -151,8 +160,12 @@ module _ {D : Type 0} (d : disk.Ghosts D) where
           failures = refl;
           full_refusals = refl;
         };
-        answer = inl (refl, refl, record {
-          failures = omega (arith, is.failures, leaves.failures);
-          full_refusals = omega (arith, is.full_refusals, leaves.full);
-        });
+        answer = inl (
+          refl,
+          refl,
+          record {
+            failures = omega (arith, is.failures, leaves.failures);
+            full_refusals = omega (arith, is.full_refusals, leaves.full);
+          },
+        );
       })

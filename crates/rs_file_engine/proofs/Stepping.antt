@@ -33,7 +33,7 @@ module _ (steps : StepsAreLawful) where
   pub lawful_alone : (cursors : HeldCursors) (state : State) → state.cursors ≡ no_cursors → IsLawful (with_cursors cursors state) → IsLawful state
   lawful_alone cursors state none lawful =
       let without : IsLawful (record state { cursors = no_cursors }) =
-          steps (with_cursors cursors state) 0 reopen (counted 0 (record state { cursors = no_cursors })) (omega arith) tt lawful refl in
+      steps (with_cursors cursors state) 0 reopen (counted 0 (record state { cursors = no_cursors })) (omega arith) tt lawful refl in
       subst (λ (c : ℕ → Cursors). IsLawful (record state { cursors = c })) (sym none) without
 
   module _ {D : Type 0} (d : disk.Ghosts D) (states : StoresState d) (old : EngineState D) (machine : Machine) (is : IsMachine d old machine) (tree : CommandTree) (sound : IsSound tree)

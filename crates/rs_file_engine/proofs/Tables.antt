@@ -25,7 +25,7 @@ pub table_so : (checks : Checks) (name : Name) (item : TableItem) → names.get 
 table_so checks name item there so spans each =
     let table = table_from checks.catalog.now.routes spans item in
     let known : names.get (state_by checks spans).tables name ≡ Some table =
-        get-tables_from checks.catalog.now spans name ∙ ap (option_map (table_from checks.catalog.now.routes spans)) there in
+    get-tables_from checks.catalog.now spans name ∙ ap (option_map (table_from checks.catalog.now.routes spans)) there in
     record { table = table; there = known; is = each table known }
 
 abbrev pub with_table_named : Name → Table → State → State

@@ -37,9 +37,7 @@ impl<D: Disk> Engine<D> {
             .checks()
             .checked_insertion(table, route, place, values)?;
         let oldest = self.oldest();
-        let new_facts = self
-            .store
-            .insert(self.alloc, oldest, table, route, span)?;
+        let new_facts = self.store.insert(self.alloc, oldest, table, route, span)?;
         Ok(u128::from(new_facts))
     }
 

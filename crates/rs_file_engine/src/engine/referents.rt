@@ -46,7 +46,9 @@ impl<D: Disk> Engine<D> {
     {
         store_stands_in_one_state::<D>();
         accepted_step_leaves_the_state_lawful();
-        let measure = self.checks().place_of_moved_referent(route, &name, position)?;
+        let measure = self
+            .checks()
+            .place_of_moved_referent(route, &name, position)?;
         let oldest = self.oldest();
         self.store
             .put_referent(self.alloc, oldest, route, name, measure)?;
@@ -62,8 +64,7 @@ impl<D: Disk> Engine<D> {
         accepted_step_leaves_the_state_lawful();
         self.checks().check_old_referent(route, name)?;
         let oldest = self.oldest();
-        self.store
-            .drop_referent(self.alloc, oldest, route, name)?;
+        self.store.drop_referent(self.alloc, oldest, route, name)?;
         Ok(0)
     }
 }

@@ -46,9 +46,9 @@ returns-in_err-new_facts g c =
     record {
       serves = λ machine here.
           let so : State → Table → Type 0 = λ state table. outcome state 0 said
-              ≡ Ok (counted (new_facts table.facts route span.lo span.hi span.row) (with_table_named name (with_facts_along table route span.lo span.hi span.row) state)) in
+          ≡ Ok (counted (new_facts table.facts route span.lo span.hi span.row) (with_table_named name (with_facts_along table route span.lo span.hi span.row) state)) in
           let t = found laws g.D.Disk states old c.args.self.now c.self.view_is c.checks.result c.checks.ensures machine here said (HasTableSo name so)
-              (λ spans. table_so c.checks.result name event.table event.table_there so spans (c.in_ok-span.ensures.accepted spans)) in
+          (λ spans. table_so c.checks.result name event.table event.table_there so spans (c.in_ok-span.ensures.accepted spans)) in
           let next = with_facts_along t.table route span.lo span.hi span.row in
           refused_at laws g.D.Disk states old c.args.self.now c.self.view_is c.checks.result c.checks.ensures machine here said c.requires.sound
           (with_table_named name next) (table_step name next) (new_facts t.table.facts route span.lo span.hi span.row) t.is
@@ -71,15 +71,15 @@ returns g c =
     record {
       serves = λ machine here.
           let so : State → Table → Type 0 = λ state table. outcome state 0 said
-              ≡ Ok (counted (new_facts table.facts route span.lo span.hi span.row) (with_table_named name (with_facts_along table route span.lo span.hi span.row) state)) in
+          ≡ Ok (counted (new_facts table.facts route span.lo span.hi span.row) (with_table_named name (with_facts_along table route span.lo span.hi span.row) state)) in
           let t = found laws d states old c.args.self.now c.self.view_is c.checks.result c.checks.ensures machine here said (HasTableSo name so)
-              (λ spans. table_so c.checks.result name event.table event.table_there so spans (c.in_ok-span.ensures.accepted spans)) in
+          (λ spans. table_so c.checks.result name event.table event.table_there so spans (c.in_ok-span.ensures.accepted spans)) in
           let next = with_facts_along t.table route span.lo span.hi span.row in
           let count = new_facts t.table.facts route span.lo span.hi span.row in
           let there : (is : IsMachine d old machine) → names.get is.state.tables name ≡ Some t.table = λ is.
-              subst (λ (state : State). names.get state.tables name ≡ Some t.table) is.is t.there in
+          subst (λ (state : State). names.get state.tables name ≡ Some t.table) is.is t.there in
           let counted_so : c.in_ok-new_facts.new_facts ≡ count = by_step laws d states old c.args.self.now c.self.view_is c.checks.result c.checks.ensures machine here said c.requires.sound
-              (with_table_named name next) (table_step name next) count t.is c.oldest-oldest.result c.oldest-oldest.ensures (λ is low high lawful. (c.in_ok-new_facts.ensures.inserts old.store.file.accepted is.state is.stands low high t.table (there is) lawful).1) in
+          (with_table_named name next) (table_step name next) count t.is c.oldest-oldest.result c.oldest-oldest.ensures (λ is low high lawful. (c.in_ok-new_facts.ensures.inserts old.store.file.accepted is.state is.stands low high t.table (there is) lawful).1) in
           subst (λ (n : ℕ). IsServed d (outcome machine.state 0 said) machine (done [] n) now) (sym (c.from.ensures ∙ counted_so))
           (made_at laws d states old c.args.self.now c.self.view_is c.checks.result c.checks.ensures machine here said c.requires.sound
           (with_table_named name next) (table_step name next) count t.is Always now c.in_ok-new_facts.new_facts c.in_ok-new_facts.ensures.leaves refl

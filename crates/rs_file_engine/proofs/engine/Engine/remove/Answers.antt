@@ -46,9 +46,9 @@ returns-in_err-gone g c =
     record {
       serves = λ machine here.
           let so : State → Table → Type 0 = λ state table. outcome state 0 said
-              ≡ Ok (counted (removed_facts table.facts removal.route.bytes removal.lo removal.hi goes) (with_table_named name (without_facts table removal.route.bytes removal.lo removal.hi goes) state)) in
+          ≡ Ok (counted (removed_facts table.facts removal.route.bytes removal.lo removal.hi goes) (with_table_named name (without_facts table removal.route.bytes removal.lo removal.hi goes) state)) in
           let t = found laws g.D.Disk states old c.args.self.now c.self.view_is c.checks.result c.checks.ensures machine here said (HasTableSo name so)
-              (λ spans. table_so c.checks.result name event.table event.table_there so spans (c.in_ok-removal.ensures.accepted spans)) in
+          (λ spans. table_so c.checks.result name event.table event.table_there so spans (c.in_ok-removal.ensures.accepted spans)) in
           let next = without_facts t.table removal.route.bytes removal.lo removal.hi goes in
           refused_at laws g.D.Disk states old c.args.self.now c.self.view_is c.checks.result c.checks.ensures machine here said c.requires.sound
           (with_table_named name next) (table_step name next) (removed_facts t.table.facts removal.route.bytes removal.lo removal.hi goes) t.is
@@ -71,15 +71,15 @@ returns g c =
     record {
       serves = λ machine here.
           let so : State → Table → Type 0 = λ state table. outcome state 0 said
-              ≡ Ok (counted (removed_facts table.facts removal.route.bytes removal.lo removal.hi goes) (with_table_named name (without_facts table removal.route.bytes removal.lo removal.hi goes) state)) in
+          ≡ Ok (counted (removed_facts table.facts removal.route.bytes removal.lo removal.hi goes) (with_table_named name (without_facts table removal.route.bytes removal.lo removal.hi goes) state)) in
           let t = found laws d states old c.args.self.now c.self.view_is c.checks.result c.checks.ensures machine here said (HasTableSo name so)
-              (λ spans. table_so c.checks.result name event.table event.table_there so spans (c.in_ok-removal.ensures.accepted spans)) in
+          (λ spans. table_so c.checks.result name event.table event.table_there so spans (c.in_ok-removal.ensures.accepted spans)) in
           let next = without_facts t.table removal.route.bytes removal.lo removal.hi goes in
           let count = removed_facts t.table.facts removal.route.bytes removal.lo removal.hi goes in
           let there : (is : IsMachine d old machine) → names.get is.state.tables name ≡ Some t.table = λ is.
-              subst (λ (state : State). names.get state.tables name ≡ Some t.table) is.is t.there in
+          subst (λ (state : State). names.get state.tables name ≡ Some t.table) is.is t.there in
           let counted_so : c.in_ok-gone.gone ≡ count = by_step laws d states old c.args.self.now c.self.view_is c.checks.result c.checks.ensures machine here said c.requires.sound
-              (with_table_named name next) (table_step name next) count t.is c.oldest-oldest.result c.oldest-oldest.ensures (λ is low high lawful. (c.in_ok-gone.ensures.removes old.store.file.accepted is.state is.stands low high t.table (there is) lawful).1) in
+          (with_table_named name next) (table_step name next) count t.is c.oldest-oldest.result c.oldest-oldest.ensures (λ is low high lawful. (c.in_ok-gone.ensures.removes old.store.file.accepted is.state is.stands low high t.table (there is) lawful).1) in
           subst (λ (n : ℕ). IsServed d (outcome machine.state 0 said) machine (done [] n) now) (sym counted_so)
           (made_at laws d states old c.args.self.now c.self.view_is c.checks.result c.checks.ensures machine here said c.requires.sound
           (with_table_named name next) (table_step name next) count t.is Always now c.in_ok-gone.gone c.in_ok-gone.ensures.leaves refl

@@ -50,7 +50,7 @@ returns-in_err-drop_route g c =
     record {
       serves = λ machine here tells.
           let out = found laws g.D.Disk states old c.args.self.now c.self.view_is c.checks.result c.checks.ensures machine here (tree.drop_route name)
-              (λ (state : State). TellsOfFacts state name c.args.has_facts → route_dropped state name ≡ Ok (counted 0 (next_of name state))) c.in_ok-check_old_route.ensures.accepted tells in
+          (λ (state : State). TellsOfFacts state name c.args.has_facts → route_dropped state name ≡ Ok (counted 0 (next_of name state))) c.in_ok-check_old_route.ensures.accepted tells in
           refused_at laws g.D.Disk states old c.args.self.now c.self.view_is c.checks.result c.checks.ensures machine here (tree.drop_route name) c.requires.sound (next_of name) (is_step name) 0 out
           (λ (state : State). HasNoFactOn name state × IsLawful (next_of name state)) (record { store = c.drop_route.new.self; cursors = old.cursors }) c.from_residual-in_err-drop_route.result count_reply_of
           c.in_err-drop_route.field-0.0 c.in_err-drop_route.ensures.leaves refl
@@ -66,7 +66,7 @@ returns g c =
     record {
       serves = λ machine here tells.
           let out = found laws g.D.Disk states old c.args.self.now c.self.view_is c.checks.result c.checks.ensures machine here (tree.drop_route name)
-              (λ (state : State). TellsOfFacts state name c.args.has_facts → route_dropped state name ≡ Ok (counted 0 (next_of name state))) c.in_ok-check_old_route.ensures.accepted tells in
+          (λ (state : State). TellsOfFacts state name c.args.has_facts → route_dropped state name ≡ Ok (counted 0 (next_of name state))) c.in_ok-check_old_route.ensures.accepted tells in
           made_at laws g.D.Disk states old c.args.self.now c.self.view_is c.checks.result c.checks.ensures machine here (tree.drop_route name) c.requires.sound (next_of name) (is_step name) 0 out
           (λ (state : State). HasNoFactOn name state × IsLawful (next_of name state)) (record { store = c.drop_route.new.self; cursors = old.cursors }) c.in_ok-drop_route.field-0
           c.in_ok-drop_route.ensures.leaves refl c.oldest-oldest.result c.oldest-oldest.ensures
