@@ -4,6 +4,7 @@ pub mod Facts
 pub mod Filing
 pub mod Machines
 pub mod Naming
+pub mod Replying
 pub mod Stepping
 pub mod Present
 pub mod Reading

@@ -15,6 +15,7 @@ mod files;
 mod laws;
 mod queries;
 mod referents;
+mod serving;
 mod source;
 
 use rs_command_checks::Checks;
