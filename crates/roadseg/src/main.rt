@@ -13,7 +13,7 @@ fn main(rt: HostRuntime) -> ExitCode {
     let status = match own_words(&rt) {
         Ok(words) => {
             let words = words.as_slice();
-            program(rt.alloc(), words, &mut input, &mut output, &mut errors)
+            program(&rt, words, &mut input, &mut output, &mut errors)
         }
         Err(error) => report_unread_words(&mut errors, &error),
     };

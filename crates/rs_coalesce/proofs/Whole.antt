@@ -2,7 +2,6 @@
 use Rattle.std.proofs.Common.{◌≡◌, suc, ◌+◌, ◌<◌, true, false, inl, inr, List, [], ◌∷◌, map, get_or, Less, Equal, Greater, is_lt, refl, sym, ap, ◌∙◌, subst, arith}
 use Rattle.std.proofs.lemmas.List.Elements.{All-from_recursion, recursion_from_All}
 use Rattle.std.proofs.lemmas.List.Sorted.{IsPermutation-map, All-permutation}
-use Rattle.std.specs.Borrow.{Bor}
 use Rattle.std.specs.List.Sorted.{IsSortedBy, IsPermutation}
 use Rattle.rs_value.specs.declared.column.Kind.{Kind}
 use Rattle.rs_facts.specs.declared.fact.Span.{Span}
@@ -14,7 +13,6 @@ use Rattle.rs_facts.proofs.KeptLaws.{placed-some, kept-placed, every-weaker}
 use Rattle.rs_facts.proofs.RunLaws.{IsApart, LieApart, runs-from_apart}
 use Rattle.rs_facts.proofs.Apart.{apart-permutation, kept-apart}
 use Rattle.rs_coalesce.specs.Joined.{joined}
-use Rattle.rs_coalesce.specs.Lent.{seen_lent}
 use Rattle.rs_coalesce.proofs.Joining.{BySorted, kept-from_sorted, means-from_sorted}
 
 abbrev pub ByPlace : {X : Type 0} → (X → Stretch) → List X → Type 0
@@ -83,14 +81,3 @@ made kind given sorted left runs placed moved by_row are_joined moved_again by_p
       placed = placed_runs;
       same = means;
     }
-
--- ---- from kept spans to the runs
-
-pub kept_by_place : (kind : Kind) (spans : List Stretch) (lent runs : List (Bor Span)) → AreKept kind spans → map seen_lent lent ≡ spans
-    → IsPermutation lent runs → ByPlace seen_lent runs → AreRunsOf kind (places_of spans) (map seen_lent runs)
-kept_by_place kind spans lent runs kept same moved by_place =
-    let over : IsPermutation spans (map seen_lent runs) = subst (λ spans. IsPermutation spans (map seen_lent runs)) same (IsPermutation-map seen_lent lent runs moved) in
-    let placed = placed-permutation kind spans (map seen_lent runs) over (kept-placed kind spans kept) in
-    let apart = apart-permutation kind spans (map seen_lent runs) over (kept-apart kind spans kept) in
-    subst (λ p. AreRunsOf kind p (map seen_lent runs)) (sym (places_of-permutation spans (map seen_lent runs) over))
-    (runs-from_apart kind (map seen_lent runs) placed apart (ordered-from_sorted seen_lent kind runs by_place placed apart))

@@ -7,7 +7,6 @@ ghost use Rattle.std.specs.List.Sorted.{IsSortedBy};
 ghost use Rattle.rs_facts.specs.Runs.{stretch_cmp};
 ghost use Rattle.rs_facts.specs.Spans.{seen};
 ghost use Rattle.rs_coalesce.specs.Joined.{row_place_cmp, AreApart};
-ghost use Rattle.rs_coalesce.specs.Lent.{seen_lent};
 
 use rs_facts::Span;
 use rs_value::compare_rows;
@@ -51,12 +50,4 @@ pub fn sort_by_place(spans: &mut Vec<Span>)
     ensures sorted { IsSortedBy (λ a b. is_lt (stretch_cmp (seen a) (seen b))) spans.new.items }
 {
     spans.sort_unstable_by(|left, right| by_place(left, right));
-}
-
-/// Sorts lent spans by place, and those that begin at one place by row.
-pub fn lent_by_place(lent: &mut Vec<&Span>)
-    ensures moved { IsPermutation lent.old.items lent.new.items }
-    ensures sorted { IsSortedBy (λ a b. is_lt (stretch_cmp (seen_lent a) (seen_lent b))) lent.new.items }
-{
-    lent.sort_unstable_by(|first, second| by_place(first, second));
 }

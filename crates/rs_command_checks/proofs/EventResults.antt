@@ -18,7 +18,7 @@ use Rattle.rs_machine.specs.Checks.{◌>>=◌, same_kind, location_kind, column_
 use Rattle.rs_machine.specs.Step.{Effect, counted, may_change, row_inserted, rows_removed, with_table, with_facts_along, without_facts}
 use Rattle.rs_catalog.specs.Events.{behind}
 use Rattle.rs_catalog.specs.Referents.{referents_on}
-use Rattle.rs_event_lists.specs.Removal.{goes_by}
+use Rattle.rs_spans.specs.Removal.{goes_by}
 use Rattle.rs_command_checks.specs.declared.checks.Checks.{Checks}
 use Rattle.rs_command_checks.specs.declared.events.Removal.{Removal}
 use Rattle.rs_command_checks.specs.States.{state_by}

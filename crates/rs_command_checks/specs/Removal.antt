@@ -7,7 +7,7 @@ use Rattle.rs_machine.specs.Checks.{window_route}
 use Rattle.rs_machine.specs.Checking.{removal_checked}
 use Rattle.rs_catalog.specs.Definitions.{RouteItem, TableItem, Definitions}
 use Rattle.rs_catalog.specs.Referents.{referents_on}
-use Rattle.rs_event_lists.specs.Removal.{goes_by}
+use Rattle.rs_spans.specs.Removal.{goes_by}
 use Rattle.rs_command_checks.specs.declared.checks.Checks.{Checks}
 use Rattle.rs_command_checks.specs.declared.events.Removal.{Removal}
 use Rattle.rs_command_checks.specs.Located.{window_span_by}

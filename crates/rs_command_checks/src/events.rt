@@ -17,7 +17,7 @@ ghost use Rattle.rs_machine.specs.Checking.{removal_checked};
 ghost use Rattle.rs_machine.specs.Step.{counted, row_inserted, rows_removed, with_facts_along, with_table, without_facts};
 ghost use Rattle.rs_machine.specs.declared.limits.TheConstants.{CHANGES};
 ghost use Rattle.rs_catalog.specs.Referents.{referents_on};
-ghost use Rattle.rs_event_lists.specs.Removal.{goes_by};
+ghost use Rattle.rs_spans.specs.Removal.{goes_by};
 ghost use Rattle.rs_command_checks.specs.Insertion.{IsEventOn, MayBePut};
 ghost use Rattle.rs_command_checks.specs.Located.{span_by, event_span_by, window_span_by};
 ghost use Rattle.rs_command_checks.specs.Removal.{AreThere, MayBeTaken};

@@ -1,20 +1,14 @@
-mod RouteSteps
-mod TableSteps
-mod EventSteps
-mod SpansOnRoutes
-mod Outcomes
-mod CursorSteps
-mod ReferentSteps
-mod ColumnNames
-mod Beginning
-mod Positions
-mod EventChecks
-mod EventResults
-mod QueryRows
-mod LineTexts
-mod Printing
-mod QueryAnswers
-mod TotalRows
-mod Plans
-mod PlannedRows
-mod PresentSpans
+pub mod AfterReads
+pub mod Columns
+pub mod Facts
+pub mod Filing
+pub mod Machines
+pub mod Naming
+pub mod Replying
+pub mod Stepping
+pub mod Present
+pub mod Reading
+pub mod Checking
+pub mod CursorSteps
+pub mod Tables
+pub mod Saving

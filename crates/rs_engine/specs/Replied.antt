@@ -14,3 +14,8 @@ count_reply_of (Err refusal) = machine.refused refusal
 abbrev pub rows_reply_of : Result (Vec (String Global) Global) Refusal → machine.Reply
 rows_reply_of (Ok rows) = machine.done (rows_of rows.items) (length rows.items)
 rows_reply_of (Err refusal) = machine.refused refusal
+
+-- nothing, or the refusal
+abbrev pub nothing_reply_of : Result (Unit {0}) Refusal → machine.Reply
+nothing_reply_of (Ok nothing) = machine.done [] 0
+nothing_reply_of (Err refusal) = machine.refused refusal

@@ -1,10 +1,8 @@
-//! The engine: what the routes, the tables and the views are, and one step, which serves one command of one session.
+//! The engine: one step, which serves one command of one session over the store of a file.
 //!
-//! It promises that each answer is the reference machine's, or that it names want of memory and changes nothing.
+//! It promises that each answer is the reference machine's, or names a want and changes nothing.
 #![tactic(auto)]
 
 pub mod engine;
-mod printer;
-mod row_text;
 
 pub use engine::Engine;

@@ -5,8 +5,8 @@ use Rattle.std.proofs.lemmas.List.Sorted.{IsPermutation-sym, IsPermutation-trans
 use Rattle.std.specs.List.{AllByRecursion}
 use Rattle.std.specs.List.Sorted.{IsPermutation}
 use Rattle.std.specs.Prelude.{nat_lt}
-use Rattle.rs_event_lists.specs.Inner.{gone_of, gone_of_all, left_of, left_of_all}
-use Rattle.rs_event_lists.proofs.RemovedSpans.{going-spans, places_of-left}
+use Rattle.rs_spans.specs.Left.{gone_of, gone_of_all, left_of, left_of_all}
+use Rattle.rs_spans.proofs.RemovedSpans.{going-spans, places_of-left}
 use Rattle.rs_facts.specs.Remove.{going, without_rows}
 use Rattle.rs_facts.specs.Runs.{Stretch, stretch}
 use Rattle.rs_facts.specs.Spans.{AreAllRunsOf, IsPlaced, places_of}

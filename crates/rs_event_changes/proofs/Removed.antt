@@ -7,7 +7,7 @@ use Rattle.rs_attr.proofs.Placing.{later_table}
 use Rattle.rs_attr.specs.Tables.{BecomesTable, ChangesTable, HoldsTable, IndexState, all_of}
 use Rattle.rs_cell_versions.specs.Versioned.{Standing}
 use Rattle.rs_cell_versions.specs.declared.cell.TheConstants.{LIVING}
-use Rattle.rs_event_lists.specs.Removal.{goes_by}
+use Rattle.rs_spans.specs.Removal.{goes_by}
 use Rattle.rs_facts.specs.Runs.{Stretch}
 use Rattle.rs_facts.specs.declared.condition.Condition.{Condition}
 use Rattle.rs_page_owners.specs.Counts.{◌&◌}

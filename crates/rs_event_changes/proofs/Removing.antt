@@ -5,7 +5,7 @@ use Rattle.std.proofs.lemmas.List.Sorted.{IsPermutation-refl, IsPermutation-sym}
 use Rattle.std.specs.List.{AllByRecursion, Contains}
 use Rattle.std.specs.List.Sorted.{IsPermutation}
 use Rattle.rs_cell_versions.specs.declared.cell.TheConstants.{LIVING}
-use Rattle.rs_event_lists.proofs.RemovedSpans.{going-empty, without_rows-empty}
+use Rattle.rs_spans.proofs.RemovedSpans.{going-empty, without_rows-empty}
 use Rattle.rs_facts.specs.Remove.{going, without_rows}
 use Rattle.rs_facts.specs.Runs.{Stretch}
 use Rattle.rs_facts.specs.Spans.{AreAllRunsOf, IsPlaced, places_of}

@@ -2,7 +2,7 @@
 use Rattle.std.specs.Prelude.{◌≡◌, ◌≢◌, ◌≤◌, ◌<◌, ℕ, IsPermutation, List, Option}
 use Rattle.rs_attr.specs.Tables.{ChangesTable}
 use Rattle.rs_contents.specs.declared.opened.OpenedTable.{OpenedTable}
-use Rattle.rs_event_lists.specs.Removal.{goes_by}
+use Rattle.rs_spans.specs.Removal.{goes_by}
 use Rattle.rs_facts.specs.Insert.{missing, with_row}
 use Rattle.rs_facts.specs.Remove.{going, without_rows}
 use Rattle.rs_facts.specs.Runs.{Stretch}

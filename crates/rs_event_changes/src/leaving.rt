@@ -4,7 +4,7 @@ ghost use Rattle.std.specs.Prelude.{◌≡◌, ◌⊎◌, ◌++◌, IfErr, IfOk,
 ghost use Rattle.std.specs.List.{AllByRecursion};
 ghost use Rattle.std.specs.Option.{option_copied};
 ghost use Rattle.rs_event_changes.specs.Picked.{SayNone, Takes, back_of, front_of, outside_all, shared_by};
-ghost use Rattle.rs_event_lists.specs.Removal.{goes_by};
+ghost use Rattle.rs_spans.specs.Removal.{goes_by};
 ghost use Rattle.rs_facts.proofs.Counting.{overlap};
 ghost use Rattle.rs_facts.specs.Spans.{seen};
 ghost use Rattle.rs_records.specs.Listed.{listed, record_width};

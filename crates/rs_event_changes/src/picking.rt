@@ -4,7 +4,7 @@ ghost use Rattle.std.specs.Prelude.{◌≡◌, ◌⊎◌, IfErr, IfOk, map};
 ghost use Rattle.std.specs.List.{AllByRecursion};
 ghost use Rattle.std.specs.Option.{option_copied};
 ghost use Rattle.rs_event_changes.specs.Picked.{Picks, SayNone};
-ghost use Rattle.rs_event_lists.specs.Removal.{goes_by};
+ghost use Rattle.rs_spans.specs.Removal.{goes_by};
 ghost use Rattle.rs_facts.proofs.Rows.{same_row};
 ghost use Rattle.rs_facts.specs.Spans.{seen};
 ghost use Rattle.rs_records.specs.Listed.{listed, record_width};

@@ -31,8 +31,8 @@ pub struct Exchange<'a> {
     pub sent: &'a [u8],
     /// What must be answered.
     pub wanted: &'a [u8],
-    /// What is answered where memory is wanting.
-    pub refused: &'a [u8],
+    /// What is answered where memory is wanting, to the engine or to its disk.
+    pub refused: [&'a [u8]; 2],
 }
 
 /// What is left of the input.
@@ -60,13 +60,13 @@ impl<'a> Fields<'a> {
         Some(field)
     }
 
-    /// The next exchange, if its four fields are there.
+    /// The next exchange, if its five fields are there.
     pub fn take_exchange(&mut self) -> Option<Exchange<'a>> {
         Some(Exchange {
             is_look: self.take()? == b"look".as_slice(),
             sent: self.take()?,
             wanted: self.take()?,
-            refused: self.take()?,
+            refused: [self.take()?, self.take()?],
         })
     }
 }

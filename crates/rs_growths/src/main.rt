@@ -1,7 +1,8 @@
 //! Holds a conversation line by line and judges each reply itself, for runs in which a growth is refused.
 //!
-//! A line is answered as wanted, or 90; then all is as it was, and the line sent again is answered as wanted. What is
-//! printed is the same whichever growth of the conversation was refused.
+//! A line is answered as wanted, or refused for want of memory: 90, and 91 where the disk, which is in memory, wanted it. Then all is
+//! as it was, and the line sent again is answered as wanted. What is printed is the same whichever growth of the
+//! conversation was refused.
 #![tactic(auto)]
 
 mod input;
@@ -9,14 +10,16 @@ mod reply;
 
 use crate::input::{Exchange, Fields, INPUT_BYTES, read_whole};
 use crate::reply::{Answer, Reply};
+use rs_disk::MemoryDisk;
 use rs_engine::Engine;
 use rs_growth_offset::{ask_for_each_dot, is_given};
 use rs_protocol::run;
+use rs_refusal::Refusal;
 use std::alloc::Global;
 use std::io;
 
 /// Sends a line to the engine.
-fn answer_to(alloc: Global, engine: &mut Engine, exchange: Exchange<'_>) -> Answer {
+fn answer_to(alloc: Global, engine: &mut Engine<MemoryDisk>, exchange: Exchange<'_>) -> Answer {
     let mut reader = exchange.sent;
     let mut reply = Reply::new(exchange.wanted, exchange.refused);
     let _ = run(alloc, engine, &mut reader, &mut reply);
@@ -24,7 +27,7 @@ fn answer_to(alloc: Global, engine: &mut Engine, exchange: Exchange<'_>) -> Answ
 }
 
 /// Whether a line is answered as wanted.
-fn is_as_wanted(alloc: Global, engine: &mut Engine, exchange: Exchange<'_>) -> bool {
+fn is_as_wanted(alloc: Global, engine: &mut Engine<MemoryDisk>, exchange: Exchange<'_>) -> bool {
     matches!(answer_to(alloc, engine, exchange), Answer::AsWanted)
 }
 
@@ -32,13 +35,13 @@ fn is_as_wanted(alloc: Global, engine: &mut Engine, exchange: Exchange<'_>) -> b
 /// as before, if that one changed nothing.
 fn is_held(
     alloc: Global,
-    engine: &mut Engine,
+    engine: &mut Engine<MemoryDisk>,
     exchange: Exchange<'_>,
     look: Option<Exchange<'_>>,
 ) -> bool {
     match answer_to(alloc, engine, exchange) {
         Answer::AsWanted => true,
-        Answer::OutOfMemory => {
+        Answer::Refused => {
             let is_unchanged = match look {
                 Some(look) => is_as_wanted(alloc, engine, look),
                 None => true,
@@ -49,10 +52,21 @@ fn is_held(
     }
 }
 
+/// An engine over a disk in memory with nothing defined, made at once or the second time.
+fn fresh_engine(alloc: Global) -> Option<Engine<MemoryDisk>> {
+    match Engine::create(alloc, MemoryDisk::new(alloc)) {
+        Ok(engine) => Some(engine),
+        Err((disk, Refusal::OutOfMemory | Refusal::Disk)) => Engine::create(alloc, disk).ok(),
+        Err(_) => None,
+    }
+}
+
 /// Holds the conversation with a fresh engine, and gives the number of the line that was answered otherwise than
-/// wanted, if there is one.
+/// wanted, if there is one; 0 where there is no engine.
 fn first_fault(alloc: Global, fields: &mut Fields<'_>) -> Option<u64> {
-    let mut engine = Engine::fresh(alloc);
+    let Some(mut engine) = fresh_engine(alloc) else {
+        return Some(0);
+    };
     let mut look = None;
     for number in 1..u64::MAX {
         let exchange = fields.take_exchange()?;

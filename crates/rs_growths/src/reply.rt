@@ -1,4 +1,4 @@
-//! A writer that compares what it is given with the two answers that a line may have.
+//! A writer that compares what it is given with the answers that a line may have.
 
 use std::io;
 use std::io::Write;
@@ -7,7 +7,7 @@ use std::io::Write;
 #[derive(Clone, Copy)]
 pub enum Answer {
     AsWanted,
-    OutOfMemory,
+    Refused,
     Otherwise,
 }
 
@@ -15,7 +15,7 @@ pub enum Answer {
 #[derive(Drop)]
 pub struct Reply<'a> {
     wanted: Option<&'a [u8]>,
-    refused: Option<&'a [u8]>,
+    refused: [Option<&'a [u8]>; 2],
 }
 
 /// What is left of an answer after these bytes; none where it doesn't go on with them.
@@ -25,10 +25,11 @@ fn after<'a>(rest: Option<&'a [u8]>, bytes: &[u8]) -> Option<&'a [u8]> {
 
 impl<'a> Reply<'a> {
     /// Nothing of the reply was written.
-    pub fn new(wanted: &'a [u8], refused: &'a [u8]) -> Self {
+    pub fn new(wanted: &'a [u8], refused: [&'a [u8]; 2]) -> Self {
+        let [memory, disk] = refused;
         Reply {
             wanted: Some(wanted),
-            refused: Some(refused),
+            refused: [Some(memory), Some(disk)],
         }
     }
 
@@ -36,8 +37,8 @@ impl<'a> Reply<'a> {
     pub fn answer(&self) -> Answer {
         if matches!(self.wanted, Some([])) {
             Answer::AsWanted
-        } else if matches!(self.refused, Some([])) {
-            Answer::OutOfMemory
+        } else if matches!(self.refused, [Some([]), _] | [_, Some([])]) {
+            Answer::Refused
         } else {
             Answer::Otherwise
         }
@@ -47,7 +48,8 @@ impl<'a> Reply<'a> {
 impl Write for Reply<'_> {
     fn write(&mut self, buf: &[u8]) -> io::Result<usize> {
         self.wanted = after(self.wanted, buf);
-        self.refused = after(self.refused, buf);
+        let [memory, disk] = self.refused;
+        self.refused = [after(memory, buf), after(disk, buf)];
         Ok(buf.len())
     }
 

@@ -3,8 +3,10 @@
 //! A client connects, sends all that it has to send, and shuts its writing side before the connection is accepted; it
 //! reads once the connection was served. The replies are written by hand.
 
+use crate::engines::fresh_engine;
 use crate::pieces::Pieces;
 use crate::streams::BrokenWriter;
+use rs_disk::MemoryDisk;
 use rs_engine::Engine;
 use rs_protocol::{End, Fault};
 use rs_server::{Connection, serve_one};
@@ -86,7 +88,7 @@ fn client_of(rt: &HostRuntime, listener: &TcpListener, sent: &[u8]) -> io::Resul
 fn serve_next(
     alloc: Global,
     listener: &TcpListener,
-    engine: &mut Engine,
+    engine: &mut Engine<MemoryDisk>,
 ) -> io::Result<Result<End, Fault>> {
     let (stream, _) = listener.accept()?;
     Ok(serve_one(alloc, engine, &mut Connection::over(&stream)))
@@ -96,7 +98,7 @@ fn serve_next(
 fn expect_served(
     rt: &HostRuntime,
     listener: &TcpListener,
-    engine: &mut Engine,
+    engine: &mut Engine<MemoryDisk>,
     sent: &[u8],
     received: &[u8],
     end: End,
@@ -117,7 +119,7 @@ fn cursors_outlive_their_connection(rt: HostRuntime) -> Result<(), Fail> {
     let listener = listen(&rt)?;
     let rows = cursor_rows();
     for count in 0..=rows.len() {
-        let mut engine = Engine::fresh(alloc);
+        let mut engine = fresh_engine(alloc)?;
         let (first, second) = rows.split_at(count);
         for part in [first, second] {
             let sent = lines(alloc, part)?;
@@ -131,7 +133,7 @@ fn cursors_outlive_their_connection(rt: HostRuntime) -> Result<(), Fail> {
 #[test]
 fn a_cut_line_is_not_answered_and_not_joined_to_the_next(rt: HostRuntime) -> Result<(), Fail> {
     let listener = listen(&rt)?;
-    let mut engine = Engine::fresh(rt.alloc());
+    let mut engine = fresh_engine(rt.alloc())?;
     let sent =
         b"0 DEFINE ROUTE A FROM 0 TO 10\n0 DEFINE LINE TABLE pave (surf TEXT(8))\n0 SELECT pa";
     let received = b"0 OK 0\n0 OK 0\n";
@@ -144,7 +146,7 @@ fn a_cut_line_is_not_answered_and_not_joined_to_the_next(rt: HostRuntime) -> Res
 #[test]
 fn a_peer_may_send_nothing(rt: HostRuntime) -> Result<(), Fail> {
     let listener = listen(&rt)?;
-    let mut engine = Engine::fresh(rt.alloc());
+    let mut engine = fresh_engine(rt.alloc())?;
     expect_served(&rt, &listener, &mut engine, b"", b"", End::Whole)?;
     let sent = b"0 DEFINE ROUTE A FROM 0 TO 10\n";
     expect_served(&rt, &listener, &mut engine, sent, b"0 OK 0\n", End::Whole)?;
@@ -155,7 +157,11 @@ fn a_peer_may_send_nothing(rt: HostRuntime) -> Result<(), Fail> {
 }
 
 /// Serves a peer that has gone when its 1,000 lines are answered: no reply is read.
-fn serve_gone(rt: &HostRuntime, listener: &TcpListener, engine: &mut Engine) -> Result<(), Fail> {
+fn serve_gone(
+    rt: &HostRuntime,
+    listener: &TcpListener,
+    engine: &mut Engine<MemoryDisk>,
+) -> Result<(), Fail> {
     let mut sent = Vec::new(rt.alloc());
     for _ in 0..1_000u16 {
         sent.extend_from_slice(b"0 SELECT pave\n")?;
@@ -168,7 +174,7 @@ fn serve_gone(rt: &HostRuntime, listener: &TcpListener, engine: &mut Engine) -> 
 #[test]
 fn a_peer_that_has_gone_ends_its_connection_alone(rt: HostRuntime) -> Result<(), Fail> {
     let listener = listen(&rt)?;
-    let mut engine = Engine::fresh(rt.alloc());
+    let mut engine = fresh_engine(rt.alloc())?;
     serve_gone(&rt, &listener, &mut engine)?;
     let sent = b"0 SELECT pave\n";
     let received = b"0 ERR 21 no such name\n";
@@ -178,7 +184,7 @@ fn a_peer_that_has_gone_ends_its_connection_alone(rt: HostRuntime) -> Result<(),
 #[test]
 fn a_fault_ends_its_connection_alone(rt: HostRuntime) -> Result<(), Fail> {
     let alloc = rt.alloc();
-    let mut engine = Engine::fresh(alloc);
+    let mut engine = fresh_engine(alloc)?;
     let mut unwritable = Connection {
         reader: b"0 DEFINE ROUTE A FROM 0 TO 10\n".as_slice(),
         writer: BrokenWriter,

@@ -2,9 +2,12 @@
 //!
 //! The replies are written by hand. Where a read or a write fails, what was answered before stays as it was.
 
+use crate::engines::fresh_engine;
 use crate::pieces::{Narrow, Pieces};
+use rs_disk::MemoryDisk;
 use rs_engine::Engine;
 use rs_protocol::{End, Fault, answer, run};
+use rs_refusal::Refusal;
 use rs_serve::Session;
 use std::alloc::{AllocError, Global};
 use std::io::ErrorKind;
@@ -84,12 +87,12 @@ fn in_pieces(read_size: usize, write_size: usize) -> Streams {
 struct Outcome {
     ended: Result<End, Fault>,
     written: Vec<u8>,
-    engine: Engine,
+    engine: Engine<MemoryDisk>,
 }
 
 /// Runs an engine that holds nothing.
-fn outcome_of(alloc: Global, input: &[u8], streams: Streams) -> Outcome {
-    let mut engine = Engine::fresh(alloc);
+fn outcome_of(alloc: Global, input: &[u8], streams: Streams) -> Result<Outcome, Refusal> {
+    let mut engine = fresh_engine(alloc)?;
     let mut reader = Pieces {
         rest: input,
         size: streams.read_size,
@@ -103,11 +106,11 @@ fn outcome_of(alloc: Global, input: &[u8], streams: Streams) -> Outcome {
         fault: streams.write_fault,
     };
     let ended = run(alloc, &mut engine, &mut reader, &mut writer);
-    Outcome {
+    Ok(Outcome {
         ended,
         written: writer.written,
         engine,
-    }
+    })
 }
 
 /// Whether a run ends so, with these bytes written.
@@ -117,9 +120,9 @@ fn ends(
     streams: Streams,
     ended: Result<End, Fault>,
     written: &[u8],
-) -> bool {
-    let outcome = outcome_of(alloc, input, streams);
-    outcome.ended == ended && outcome.written.as_slice() == written
+) -> Result<bool, Refusal> {
+    let outcome = outcome_of(alloc, input, streams)?;
+    Ok(outcome.ended == ended && outcome.written.as_slice() == written)
 }
 
 /// Fails the test, and says where, unless all is right.
@@ -144,7 +147,7 @@ fn expect_alike(alloc: Global, rest: &[u8], end: End) -> Result<(), Fail> {
             streams,
             Ok(end),
             replies.as_slice(),
-        );
+        )?;
         expect(is_right, "in pieces of", size)?;
     }
     Ok(())
@@ -170,7 +173,7 @@ fn expect_answered(
     };
     let told = input.get(..reads).unwrap_or(&[]);
     let wanted = replies(alloc, feeds(told))?;
-    let is_right = ends(alloc, input, streams, Err(Fault::Read), wanted.as_slice());
+    let is_right = ends(alloc, input, streams, Err(Fault::Read), wanted.as_slice())?;
     expect(is_right, "at read", reads)
 }
 
@@ -196,7 +199,12 @@ fn selected_after(written: usize) -> &'static [u8] {
 }
 
 /// Whether the engine answers so.
-fn answers(alloc: Global, engine: &mut Engine, line: &[u8], wanted: &[u8]) -> Result<bool, Fault> {
+fn answers(
+    alloc: Global,
+    engine: &mut Engine<MemoryDisk>,
+    line: &[u8],
+    wanted: &[u8],
+) -> Result<bool, Fault> {
     let answered = answer(alloc, engine, line)?;
     Ok(answered.as_slice() == wanted)
 }
@@ -213,7 +221,7 @@ fn expect_cut(
         write_fault,
         ..in_pieces(7, usize::MAX)
     };
-    let mut outcome = outcome_of(alloc, input, streams);
+    let mut outcome = outcome_of(alloc, input, streams)?;
     let replies = replies(alloc, 10)?;
     let is_cut = replies.as_slice().get(..room) == Some(outcome.written.as_slice());
     let is_right = is_cut && outcome.ended == Err(Fault::Write);
@@ -256,7 +264,7 @@ fn seventy_thousand_bytes_are_read_one_by_one(rt: HostRuntime) -> Result<(), Fai
     let input = repeated(alloc, line)?;
     let wanted = repeated(alloc, b"0 ERR 21 no such name\n")?;
     expect(input.len() > 70_000, "bytes", input.len())?;
-    let mut outcome = outcome_of(alloc, input.as_slice(), in_pieces(1, 1));
+    let mut outcome = outcome_of(alloc, input.as_slice(), in_pieces(1, 1))?;
     let is_right = outcome.ended == Ok(End::Whole)
         && outcome.written.as_slice() == wanted.as_slice();
     expect(is_right, "in pieces of", 1)?;

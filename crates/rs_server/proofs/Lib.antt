@@ -1,2 +1,3 @@
 mod Saying
 mod Ending
+mod Closing

@@ -1,46 +1,86 @@
 -- How the program ends.
-use Rattle.std.specs.Prelude.{◌≡◌, ◌≢◌, ◌⊎◌, ℕ, List, [], ◌∷◌, Option, Result, Ok, Err}
-use Rattle.std.specs.Io.KnownBytes.{Consumes, Keeps}
+use Rattle.std.specs.Prelude.{◌≡◌, ◌≢◌, ◌⊎◌, ℕ, List, [], ◌∷◌, Option, Some, None, Result, Ok, Err}
+use Rattle.std.specs.Io.KnownBytes.{Keeps}
 use Rattle.clap.specs.Words.{IsAmong, Kinds}
 use Rattle.clap.specs.declared.error.kind.ErrorKind.{ErrorKind}
-use Rattle.clap.specs.declared.error.kind.ErrorKind.TheVariants.{DisplayHelp, OutOfMemory}
+use Rattle.clap.specs.declared.error.kind.ErrorKind.TheVariants.{DisplayHelp, DisplayVersion, OutOfMemory}
 use Rattle.clap.specs.declared.error.Error.{Error}
 use Rattle.clap.specs.Values.{kind_of}
-use Rattle.rs_refusal.specs.declared.refusal.Refusal.TheVariants as refusals
+use Rattle.rs_command_line.specs.declared.command_line.Asked.{Asked}
+use Rattle.rs_command_line.specs.declared.command_line.Asked.TheVariants.{Create, Run, RunFile, Serve}
 use Rattle.rs_machine.specs.Served.{Machine}
-use Rattle.rs_machine.specs.Fresh.{fresh_machine}
-use Rattle.rs_protocol.specs.Ends.{Ends}
+use Rattle.rs_machine.specs.State.{fresh}
 use Rattle.rs_protocol.specs.declared.stream.End.{End}
 use Rattle.rs_protocol.specs.declared.stream.Fault.{Fault}
 use Rattle.rs_protocol.specs.declared.stream.Fault.TheVariants.{Write}
-use Rattle.rs_server.specs.Saying.{refusal_line, fault_line, SaysFront}
-use Rattle.rs_server.specs.declared.report.TheConstants.{SUCCESS, FAULT, MISUSE}
+use Rattle.rs_refusal.specs.declared.refusal.Refusal.{Refusal}
+use Rattle.rs_refusal.specs.declared.refusal.Refusal.TheVariants as refusals
+use Rattle.rs_server.specs.Disks.{ServesInput, failure_of}
+use Rattle.rs_server.specs.Saying.{SaysFront, failure_line}
+use Rattle.rs_server.specs.declared.report.Failure.{Failure}
+use Rattle.rs_server.specs.declared.report.Failure.TheVariants.{Refused, Stream}
+use Rattle.rs_server.specs.declared.report.TheConstants.{FAILED, MISUSE, SUCCESS}
+use Rattle.rs_store.specs.Calls.{WantsCreating}
 
--- the status after a service: a fault alone is no success, and an end inside a line is none
-abbrev pub status_of : Result End Fault → ℕ
-status_of (Ok _) = SUCCESS
-status_of (Err _) = FAULT
+-- ---- failures
 
--- what is said of a service that ended so: nothing, or the fault
-abbrev pub SaysEnd : Result End Fault → Option (List ℕ) → Option (List ℕ) → Type 0
-SaysEnd (Ok _) before after = Keeps before after
-SaysEnd (Err fault) before after = SaysFront (fault_line fault) before after
+-- the status of a program that failed so, or did not
+abbrev pub status_of : Option Failure → ℕ
+status_of None = SUCCESS
+status_of (Some failure) = FAILED
 
--- What the input told was served by a new machine, on the output. The status says how that ended, and so does the
--- errors stream.
-pub record Serves (status : ℕ) (unread unread_now before after errors errors_now : Option (List ℕ)) : Type 0 where
+-- what it says of that on the errors stream: nothing, or the failure
+abbrev pub SaysFailure : Option Failure → Option (List ℕ) → Option (List ℕ) → Type 0
+SaysFailure None before after = Keeps before after
+SaysFailure (Some failure) before after = SaysFront (failure_line failure) before after
+
+-- it ends by this failure, or by none
+pub record EndsWith (failure : Option Failure) (status : ℕ) (errors errors_now : Option (List ℕ)) : Type 0 where
+  pub status_is : status ≡ status_of failure
+  pub said : SaysFailure failure errors errors_now
+
+-- ---- what the words ask
+
+-- what the input told was served by a new machine, on the output
+pub record ServesLines (failure : Option Failure) (unread unread_now before after : Option (List ℕ)) : Type 0 where
   pub outcome : Result End Fault
-  pub told : List ℕ
+  pub first : Machine
+  pub new : first.state ≡ fresh
   pub last : Machine
-  pub consumed : Consumes unread unread_now told
-  pub ended : Ends outcome told unread_now fresh_machine last before after
-  pub status_is : status ≡ status_of outcome
-  pub said : SaysEnd outcome errors errors_now
+  pub served : ServesInput outcome first last unread unread_now before after
+  pub told : failure ≡ failure_of outcome
 
--- Help was asked for. Nothing is read, and a fault is one of the output, of which the errors stream says so.
+-- there was no memory for a machine, and nothing was read or written
+pub record LacksMachine (failure : Option Failure) (unread unread_now before after : Option (List ℕ)) : Type 0 where
+  pub why : Refusal
+  pub wants : WantsCreating why
+  pub sound : why ≢ refusals.DamagedFile
+  pub told : failure ≡ Some (Refused why)
+  pub input : Keeps unread unread_now
+  pub output : Keeps before after
+
+-- `run` without a file
+abbrev pub Runs : Option Failure → Option (List ℕ) → Option (List ℕ) → Option (List ℕ) → Option (List ℕ) → Type 0
+Runs failure unread unread_now before after = ServesLines failure unread unread_now before after ⊎ LacksMachine failure unread unread_now before after
+
+-- What is done as it is asked, where this failed or nothing did. Of a file and of the network nothing is known.
+abbrev pub Does : Asked → Option Failure → Option (List ℕ) → Option (List ℕ) → Option (List ℕ) → Option (List ℕ) → Type 0
+Does Run failure unread unread_now before after = Runs failure unread unread_now before after
+Does (RunFile file) failure unread unread_now before after = Unit {0}
+Does (Create file) failure unread unread_now before after = Keeps unread unread_now × Keeps before after
+Does (Serve file address connections) failure unread unread_now before after = Keeps unread unread_now
+
+-- the program does what is asked, and its status and the errors stream say what failed
+abbrev pub EndsDoing : Asked → ℕ → Option (List ℕ) → Option (List ℕ) → Option (List ℕ) → Option (List ℕ) → Option (List ℕ) → Option (List ℕ) → Type 0
+EndsDoing asked status unread unread_now before after errors errors_now =
+    (failure : Option Failure) × Does asked failure unread unread_now before after × EndsWith failure status errors errors_now
+
+-- ---- other words
+
+-- Help or the version was asked for. Nothing is read, and a failure is one of the output, of which the errors stream says so.
 pub record ShowsHelp (kinds : Kinds) (status : ℕ) (unread unread_now errors errors_now : Option (List ℕ)) : Type 0 where
-  pub asked : IsAmong DisplayHelp kinds
-  pub status_is : ((status ≡ SUCCESS) × Keeps errors errors_now) ⊎ ((status ≡ FAULT) × SaysFront (fault_line Write) errors errors_now)
+  pub asked : IsAmong DisplayHelp kinds ⊎ IsAmong DisplayVersion kinds
+  pub ends : EndsWith None status errors errors_now ⊎ EndsWith (Some (Stream Write)) status errors errors_now
   pub input : Keeps unread unread_now
 
 -- The words are refused, of one of their kinds of fault. Nothing is read or written.
@@ -48,32 +88,33 @@ pub record RefusesWords (kinds : Kinds) (status : ℕ) (unread unread_now before
   pub kind : ErrorKind
   pub is_fault : IsAmong kind kinds
   pub no_help : kind ≢ DisplayHelp
+  pub no_version : kind ≢ DisplayVersion
   pub status_is : status ≡ MISUSE
   pub input : Keeps unread unread_now
   pub output : Keeps before after
 
 -- Memory was wanting in reading the words. Nothing is read or written, and the errors stream says so.
 pub record LacksMemory (status : ℕ) (unread unread_now before after errors errors_now : Option (List ℕ)) : Type 0 where
-  pub status_is : status ≡ FAULT
   pub input : Keeps unread unread_now
   pub output : Keeps before after
-  pub said : SaysFront (refusal_line refusals.OutOfMemory) errors errors_now
+  pub ends : EndsWith (Some (Refused refusals.OutOfMemory)) status errors errors_now
 
--- How the program ends on words with these kinds of fault, none of them where they ask to serve.
-abbrev pub EndsBy : Kinds → ℕ → Option (List ℕ) → Option (List ℕ) → Option (List ℕ) → Option (List ℕ) → Option (List ℕ) → Option (List ℕ) → Type 0
-EndsBy kinds status unread unread_now before after errors errors_now =
-    ((kinds ≡ []) × Serves status unread unread_now before after errors errors_now)
-    ⊎ ShowsHelp kinds status unread unread_now errors errors_now
-    ⊎ RefusesWords kinds status unread unread_now before after
-    ⊎ LacksMemory status unread unread_now before after errors errors_now
-
--- How it ends on a kind of fault in reading the words: want of memory has this cause alone.
+-- how it ends on a kind of fault in reading the words: want of memory has this cause alone
 abbrev pub EndsOn : ErrorKind → ℕ → Option (List ℕ) → Option (List ℕ) → Option (List ℕ) → Option (List ℕ) → Option (List ℕ) → Option (List ℕ) → Type 0
 EndsOn OutOfMemory status unread unread_now before after errors errors_now = LacksMemory status unread unread_now before after errors errors_now
 EndsOn DisplayHelp status unread unread_now before after errors errors_now = ShowsHelp (DisplayHelp ∷ []) status unread unread_now errors errors_now
+EndsOn DisplayVersion status unread unread_now before after errors errors_now = ShowsHelp (DisplayVersion ∷ []) status unread unread_now errors errors_now
 EndsOn kind status unread unread_now before after errors errors_now = RefusesWords (kind ∷ []) status unread unread_now before after
 
--- How it ends as the words were read: it serves wherever they ask to.
-abbrev pub EndsAs : Result (Unit {0}) Error → ℕ → Option (List ℕ) → Option (List ℕ) → Option (List ℕ) → Option (List ℕ) → Option (List ℕ) → Option (List ℕ) → Type 0
-EndsAs (Ok _) status unread unread_now before after errors errors_now = Serves status unread unread_now before after errors errors_now
+-- how it ends as the words were read: it does what they ask wherever they ask it
+abbrev pub EndsAs : Result Asked Error → ℕ → Option (List ℕ) → Option (List ℕ) → Option (List ℕ) → Option (List ℕ) → Option (List ℕ) → Option (List ℕ) → Type 0
+EndsAs (Ok asked) status unread unread_now before after errors errors_now = EndsDoing asked status unread unread_now before after errors errors_now
 EndsAs (Err error) status unread unread_now before after errors errors_now = EndsOn (kind_of error) status unread unread_now before after errors errors_now
+
+-- how it ends on words with these kinds of fault, none of them where they ask this
+abbrev pub EndsBy : Kinds → (Asked → Type 0) → ℕ → Option (List ℕ) → Option (List ℕ) → Option (List ℕ) → Option (List ℕ) → Option (List ℕ) → Option (List ℕ) → Type 0
+EndsBy kinds Asks status unread unread_now before after errors errors_now =
+    ((kinds ≡ []) × ((asked : Asked) × Asks asked × EndsDoing asked status unread unread_now before after errors errors_now))
+    ⊎ ShowsHelp kinds status unread unread_now errors errors_now
+    ⊎ RefusesWords kinds status unread unread_now before after
+    ⊎ LacksMemory status unread unread_now before after errors errors_now

@@ -1,3 +1,4 @@
-pub mod CommandLine
 pub mod Saying
+pub mod Disks
+pub mod Connections
 pub mod Ending

@@ -1,19 +1,24 @@
--- What the program says of a fault on its errors stream.
+-- What the program says of a failure on its errors stream.
 use Rattle.std.specs.Prelude.{◌≡◌, ℕ, List, ◌++◌, Option, codes, decimal}
 use Rattle.std.specs.Io.KnownBytes.{Appends}
+use Rattle.rs_protocol.specs.declared.stream.Fault.TheVariants.{Read, Write}
 use Rattle.rs_refusal.specs.declared.refusal.Refusal.{Refusal}
 use Rattle.rs_refusal.specs.Refusal.{number_of, words_of}
-use Rattle.rs_protocol.specs.declared.stream.Fault.{Fault}
-use Rattle.rs_protocol.specs.declared.stream.Fault.TheVariants.{Read, Write}
+use Rattle.rs_server.specs.declared.report.Failure.{Failure}
+use Rattle.rs_server.specs.declared.report.Failure.TheVariants.{CannotListen, CannotOpen, FileExists, Refused, Stream}
 
 -- `roadseg: ERR n words` and an LF
 abbrev pub refusal_line : Refusal → List ℕ
 refusal_line refusal = codes "roadseg: ERR " ++ decimal (number_of refusal) ++ codes " " ++ words_of refusal ++ codes "\n"
 
--- `roadseg: read fault` or `roadseg: write fault` and an LF
-abbrev pub fault_line : Fault → List ℕ
-fault_line Read = codes "roadseg: read fault\n"
-fault_line Write = codes "roadseg: write fault\n"
+-- `roadseg: ` and what failed, and an LF
+abbrev pub failure_line : Failure → List ℕ
+failure_line (Refused refusal) = refusal_line refusal
+failure_line FileExists = codes "roadseg: file exists\n"
+failure_line CannotOpen = codes "roadseg: cannot open file\n"
+failure_line CannotListen = codes "roadseg: cannot listen\n"
+failure_line (Stream Read) = codes "roadseg: read fault\n"
+failure_line (Stream Write) = codes "roadseg: write fault\n"
 
 -- a writer has grown by the text, or by a front of it
 pub record SaysFront (text : List ℕ) (before after : Option (List ℕ)) : Type 0 where

@@ -1,18 +1,19 @@
-//! One connection: its lines are served by an engine that outlives it.
+//! Connections: the lines of each are served by an engine that outlives it.
 //!
 //! Sessions and cursors are the engine's, so what one connection did the next one finds. A fault ends the
 //! connection alone.
 
-ghost use Rattle.std.specs.Prelude.{◌≡◌, ℕ, List};
+ghost use Rattle.std.specs.Prelude.{◌≡◌, ◌⊎◌, ℕ, List};
 ghost use Rattle.std.specs.Io.KnownBytes.{Consumes};
 ghost use Rattle.rs_machine.specs.Served.{Machine};
 ghost use Rattle.rs_protocol.specs.Ends.{Ends};
+ghost use Rattle.rs_server.specs.Connections.{ServesInTurn, ServesPeer};
 
 use rs_protocol::{End, Fault, run};
 use rs_serve::Serve;
 use std::alloc::Global;
 use std::io::{Read, Write};
-use std::net::TcpStream;
+use std::net::{TcpListener, TcpStream};
 
 /// The two halves of one stream: a peer's bytes are read from the one, and its replies written to the other.
 #[derive(Drop)]
@@ -57,4 +58,29 @@ pub fn serve_one<E: Serve, R: Read, W: Write>(
         &mut connection.reader,
         &mut connection.writer,
     )
+}
+
+/// Accepts so many connections, one after another, and serves each to its end or to a fault. One that fails counts, and the next one is
+/// served; what it had done by then stays.
+pub fn serve_connections<E: Serve>(
+    alloc: Global,
+    engine: &mut E,
+    listener: &TcpListener,
+    connections: u32,
+)
+    ensures { (old : Machine) → E.is engine.old old → (new : Machine) × E.is engine.new new × ServesInTurn connections old new }
+{
+    for _ in 0..connections {
+        serve_next(alloc, engine, listener);
+    }
+}
+
+/// Accepts one connection, and serves it to its end or to a fault.
+fn serve_next<E: Serve>(alloc: Global, engine: &mut E, listener: &TcpListener)
+    ensures { (old : Machine) → E.is engine.old old → (new : Machine) × E.is engine.new new × ((new ≡ old) ⊎ ServesPeer old new) }
+{
+    if let Ok((stream, _)) = listener.accept() {
+        let mut connection = Connection::over(&stream);
+        let _ = serve_one(alloc, engine, &mut connection);
+    }
 }

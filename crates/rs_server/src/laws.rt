@@ -1,28 +1,28 @@
-//! Laws of the command line: what some words ask.
-//!
-//! It promises which words ask to serve, which ask for help, and what is at fault where a word is missing.
+//! Laws of services on one disk, one after another: a clean end and a new beginning lose nothing but cursors.
 
-ghost use Rattle.std.specs.Prelude.{◌≡◌, List, ℕ, [], ◌∷◌, codes};
-ghost use Rattle.clap.specs.Words.{fault_of};
-ghost use Rattle.clap.specs.declared.error.kind.ErrorKind.TheVariants.{DisplayHelp, MissingSubcommand};
-ghost use Rattle.rs_server.specs.CommandLine.{command_line};
+ghost use Rattle.std.specs.Prelude.{◌≡◌, ◌⊎◌, ℕ, List, Ok, Option, Result};
+ghost use Rattle.rs_disk.specs.Content.{Content};
+ghost use Rattle.rs_machine.specs.State.{State};
+ghost use Rattle.rs_machine.specs.Step.{without_cursors};
+ghost use Rattle.rs_server.specs.Disks.{IsClosedAs, RefusesFile, ServesState};
+ghost use Rattle.rs_server.specs.declared.report.Failure.{Failure};
 
-/// The word `run` after the program's name asks to serve.
-pub fn run_asks_to_serve()
-    ensures { (name : List ℕ) → fault_of command_line (name ∷ codes "run" ∷ []) ≡ [] }
-{}
+use rs_disk::Disk;
+use rs_refusal::Refusal;
+use rs_standing::standing::disk_stands_for_one_state;
 
-/// The program's name alone asks nothing: a command is missing.
-pub fn no_word_lacks_a_command()
-    ensures { (name : List ℕ) → fault_of command_line (name ∷ []) ≡ MissingSubcommand ∷ [] }
-{}
+/// What one service left, the next one on its disk begins with: the same state, without cursors.
+pub fn next_service_goes_on<D: Disk>()
+    ensures { (limit : ℕ) (content : Content) (disk : D) (next : Result D (Option D × Failure)) (a b c d e f g h : Option (List ℕ))
+        → (one : ServesState D.Disk limit content (Ok disk) a b c d) → (other : ServesState D.Disk limit (D.seen disk) next e f g h)
+        → other.first.state ≡ without_cursors one.serves.last.state }
+{
+    disk_stands_for_one_state();
+}
 
-/// `--help` after the program's name asks for help.
-pub fn help_is_asked_for()
-    ensures { (name : List ℕ) → fault_of command_line (name ∷ codes "--help" ∷ []) ≡ DisplayHelp ∷ [] }
-{}
-
-/// `run --help` after the program's name asks for help.
-pub fn help_on_run_is_asked_for()
-    ensures { (name : List ℕ) → fault_of command_line (name ∷ codes "run" ∷ codes "--help" ∷ []) ≡ DisplayHelp ∷ [] }
+/// A disk that was closed is refused only for want of memory or of the disk.
+pub fn closed_disk_is_opened<D: Disk>()
+    ensures { (limit : ℕ) (disk : D) (state : State) (next : Result D (Option D × Failure)) (a b c d : Option (List ℕ))
+        → IsClosedAs D.Disk limit state disk → (refuses : RefusesFile D.Disk limit disk next a b c d)
+        → (refuses.why ≡ Refusal.OutOfMemory) ⊎ (refuses.why ≡ Refusal.Disk) }
 {}

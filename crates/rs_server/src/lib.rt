@@ -1,15 +1,16 @@
-//! The program over its words and streams: it reads what is asked, serves it, and ends with a status.
+//! The program over its words and streams: it does what the words ask, and ends with a status.
 //!
-//! `program` takes the words of the command line, `serve` the streams alone, `serve_one` the two halves of one
-//! connection. None of them knows the process that it runs in, so that all can be called over memory.
+//! `program` takes the words and the streams, `serve_disk` any disk in place of a file, `serve_one` the two halves of one
+//! connection. All of them can be called over memory.
 #![tactic(auto)]
 
-pub mod command_line;
 pub mod connection;
+pub mod disks;
 pub mod laws;
 pub mod report;
 pub mod service;
 
-pub use connection::{Connection, serve_one};
-pub use report::{report_refusal, report_unread_words};
-pub use service::{do_as_asked, program, serve, show_help};
+pub use connection::{Connection, serve_connections, serve_one};
+pub use disks::{create_on, serve_disk};
+pub use report::{Failure, report_failure, report_unread_words};
+pub use service::{do_as_asked, program};

@@ -1,13 +1,14 @@
-//! What the program says of a fault: one line on the errors stream.
+//! What the program says of a failure: one line on the errors stream.
 //!
 //! The status does not depend on that stream: a write to it that fails is ignored.
 
 ghost use Rattle.std.specs.Prelude.{◌≡◌, ◌≢◌};
 ghost use Rattle.std.specs.IoError.{error_kind};
 ghost use Rattle.rs_protocol.specs.Puts.{Puts};
-ghost use Rattle.rs_server.specs.Saying.{refusal_line, fault_line, SaysFront};
+ghost use Rattle.rs_server.specs.Saying.{failure_line, refusal_line, SaysFront};
 
 use itoa::Buffer;
+use rs_disk::OpenError;
 use rs_protocol::{Fault, put_parts};
 use rs_refusal::Refusal;
 use std::io;
@@ -16,29 +17,56 @@ use std::io::{ErrorKind, Write};
 /// The status of a program that did what was asked.
 pub const SUCCESS: u8 = 0;
 
-/// The status of a program that a fault ended.
-pub const FAULT: u8 = 1;
+/// The status of a program that a failure ended.
+pub const FAILED: u8 = 1;
 
 /// The status of a program whose command line is refused.
 pub const MISUSE: u8 = 2;
 
-/// Says `roadseg: ERR n words` on the errors stream, and gives the status of a fault.
-pub fn report_refusal<E: Write>(errors: &mut E, refusal: &Refusal) -> u8
-    ensures status { result ≡ FAULT }
-    ensures said { SaysFront (refusal_line refusal.now) (E.contents errors.old) (E.contents errors.new) }
-{
-    let _ = say_refusal(errors, refusal);
-    FAULT
+/// Why the program did not do all that its words ask.
+#[derive(Drop)]
+pub enum Failure {
+    /// A file was not made, opened, or closed: want of memory, of the disk or of room, a damaged file, or one that was not closed.
+    Refused(Refusal),
+    /// There is something at the path where a file was to be made.
+    FileExists,
+    /// There is no file at the path, another program has it open, or the system refuses it.
+    CannotOpen,
+    /// The address was not bound.
+    CannotListen,
+    /// The input or the output failed.
+    Stream(Fault),
 }
 
-/// Says `roadseg: read fault` or `roadseg: write fault` on the errors stream, and gives the status of
-/// a fault.
-pub(crate) fn report_fault<E: Write>(errors: &mut E, fault: Fault) -> u8
-    ensures status { result ≡ FAULT }
-    ensures said { SaysFront (fault_line fault) (E.contents errors.old) (E.contents errors.new) }
+/// Why a file was not made or opened, as the program says it.
+pub(crate) fn failure_to_open(error: OpenError) -> Failure {
+    match error {
+        OpenError::Exists => Failure::FileExists,
+        _ => Failure::CannotOpen,
+    }
+}
+
+/// Says on the errors stream why the program failed, in one line that begins with `roadseg: `, and gives the status of a failure.
+pub fn report_failure<E: Write>(errors: &mut E, failure: &Failure) -> u8
+    ensures status { result ≡ FAILED }
+    ensures said { SaysFront (failure_line failure.now) (E.contents errors.old) (E.contents errors.new) }
 {
-    let _ = say_fault(errors, fault);
-    FAULT
+    let _ = say_failure(errors, failure);
+    FAILED
+}
+
+/// Writes the line of a failure.
+fn say_failure<E: Write>(errors: &mut E, failure: &Failure) -> Result<(), Fault>
+    ensures { Puts result (failure_line failure.now) (E.contents errors.old) (E.contents errors.new) }
+{
+    match failure {
+        Failure::Refused(refusal) => say_refusal(errors, refusal),
+        Failure::FileExists => put_parts(errors, &[b"roadseg: file exists\n"]),
+        Failure::CannotOpen => put_parts(errors, &[b"roadseg: cannot open file\n"]),
+        Failure::CannotListen => put_parts(errors, &[b"roadseg: cannot listen\n"]),
+        Failure::Stream(Fault::Read) => put_parts(errors, &[b"roadseg: read fault\n"]),
+        Failure::Stream(Fault::Write) => put_parts(errors, &[b"roadseg: write fault\n"]),
+    }
 }
 
 /// Writes the line of a refusal.
@@ -52,26 +80,16 @@ fn say_refusal<E: Write>(errors: &mut E, refusal: &Refusal) -> Result<(), Fault>
     put_parts(errors, &[b"roadseg: ERR ", number, b" ", words_text, b"\n"])
 }
 
-/// Writes the line of a fault.
-fn say_fault<E: Write>(errors: &mut E, fault: Fault) -> Result<(), Fault>
-    ensures { Puts result (fault_line fault) (E.contents errors.old) (E.contents errors.new) }
-{
-    match fault {
-        Fault::Read => put_parts(errors, &[b"roadseg: read fault\n"]),
-        Fault::Write => put_parts(errors, &[b"roadseg: write fault\n"]),
-    }
-}
-
 /// Says why the process gave no words, and gives the status: want of memory is the refusal 90 and a
-/// fault, and words that are not text are no command line.
+/// failure, and words that are not text are no command line.
 pub fn report_unread_words<E: Write>(errors: &mut E, error: &io::Error) -> u8
-    ensures wanting { error_kind error.now ≡ ErrorKind.OutOfMemory → result ≡ FAULT }
+    ensures wanting { error_kind error.now ≡ ErrorKind.OutOfMemory → result ≡ FAILED }
     ensures said { error_kind error.now ≡ ErrorKind.OutOfMemory
         → SaysFront (refusal_line Refusal.OutOfMemory) (E.contents errors.old) (E.contents errors.new) }
     ensures mistaken { error_kind error.now ≢ ErrorKind.OutOfMemory → result ≡ MISUSE }
 {
     if error.kind() == ErrorKind::OutOfMemory {
-        return report_refusal(errors, &Refusal::OutOfMemory);
+        return report_failure(errors, &Failure::Refused(Refusal::OutOfMemory));
     }
     let _ = errors.write_all(b"error: the command line is not text\n");
     MISUSE

@@ -1,90 +1,192 @@
 //! The program: its words are read, then what they ask is done.
 //!
-//! The status says how it ended: 0, 1 for a fault, 2 for a command line that is refused.
+//! The status says how it ended: 0, 1 for a failure, 2 for a command line that is refused. The first failure alone is told.
 
-ghost use Rattle.std.specs.Prelude.{◌≡◌, ◌⊎◌, map, OnOk, IfSome};
+ghost use Rattle.std.specs.Prelude.{◌≡◌, ◌⊎◌, None, Some, map, IfSome, OnOk};
 ghost use Rattle.std.specs.Io.KnownBytes.{Appends, Keeps};
 ghost use Rattle.clap.specs.Words.{fault_of};
-ghost use Rattle.rs_server.specs.CommandLine.{command_line};
-ghost use Rattle.rs_server.specs.Saying.{fault_line, SaysFront};
-ghost use Rattle.rs_server.specs.Ending.{Serves, EndsBy, EndsAs};
+ghost use Rattle.rs_command_line.specs.Asked.{asked_of, said_by};
+ghost use Rattle.rs_command_line.specs.CommandLine.{command_line};
+ghost use Rattle.rs_command_line.specs.declared.command_line.Asked.{Asked};
+ghost use Rattle.rs_server.specs.Ending.{Does, EndsAs, EndsBy, EndsWith, Runs};
 
-use crate::command_line::read_words;
-use crate::report::{FAULT, MISUSE, SUCCESS, report_fault, report_refusal};
+use crate::connection::serve_connections;
+use crate::disks::{close_after, create_on, failure_after, serve_disk};
+use crate::report::{FAILED, Failure, MISUSE, SUCCESS, failure_to_open, report_failure};
 use clap::Error;
 use clap::error::ErrorKind;
+use rs_command_line::{Asked, read_words};
+use rs_disk::{FileDisk, MemoryDisk};
 use rs_engine::Engine;
-use rs_protocol::{Fault, run};
+use rs_engine::engine::laws::machine_is_the_only_one;
+use rs_protocol::{Fault, put_parts, run};
 use rs_refusal::Refusal;
-use std::alloc::Global;
+use rs_serve::Serve;
+use std::alloc::{AllocGlobal, Global};
 use std::convert::AsStr;
 use std::fmt::Display;
+use std::fs::File;
 use std::io;
 use std::io::{Read, Write};
+use std::net::{Net, TcpListener, TcpStream};
+use std::rt::Files;
 
 /// Runs the program on its words, the program's own name first, and gives its exit status.
 ///
-/// 0 also after help, which is shown on the output, and after an input that ends inside a line; 1 for
-/// a fault, and for want of memory in reading the words; 2 where the words are no command line, of
-/// which `clap` says on the errors stream what is wrong. A write to the errors stream that fails
-/// changes nothing.
-pub fn program<S: AsStr, R: Read, W: Write, E: Write>(
-    alloc: Global,
-    words: &[S],
-    input: &mut R,
-    output: &mut W,
-    errors: &mut E,
-) -> u8
-    ensures ends { EndsBy (fault_of command_line (map S.text words.now)) result
+/// 0 also after help or the version, which are shown on the output, and after an input that ends inside a line; 1 for a failure, which
+/// is said in one line on the errors stream, and for want of memory in reading the words; 2 where the words are no command line, of
+/// which `clap` says on the errors stream what is wrong. A write to the errors stream that fails changes nothing.
+pub fn program<
+    P: AllocGlobal + Files<File = File> + Net<Listener = TcpListener, Stream = TcpStream>,
+    S: AsStr,
+    R: Read,
+    W: Write,
+    E: Write,
+>(rt: &P, words: &[S], input: &mut R, output: &mut W, errors: &mut E) -> u8
+    ensures ends { EndsBy (fault_of command_line (map S.text words.now)) (λ asked. asked_of (map S.text words.now) ≡ Some (said_by asked)) result
         (R.remaining input.old) (R.remaining input.new) (W.contents output.old) (W.contents output.new)
         (E.contents errors.old) (E.contents errors.new) }
     ensures quiet { result ≡ SUCCESS → Keeps (E.contents errors.old) (E.contents errors.new) }
 {
-    let asked = read_words(alloc, words);
-    do_as_asked(alloc, asked, input, output, errors)
+    let asked = read_words(rt.alloc(), words);
+    do_as_asked(rt, asked, input, output, errors)
 }
 
 /// Does what the words ask, as they were read, and gives the exit status.
 ///
-/// It serves wherever they ask to; want of memory is said where reading them answered it, and nowhere else.
-pub fn do_as_asked<R: Read, W: Write, E: Write>(
-    alloc: Global,
-    asked: Result<(), Error>,
-    input: &mut R,
-    output: &mut W,
-    errors: &mut E,
-) -> u8
-    ensures ends { EndsAs asked result (R.remaining input.old) (R.remaining input.new)
+/// It does it wherever they ask it; want of memory is said where reading them answered it, and nowhere else.
+pub fn do_as_asked<
+    P: AllocGlobal + Files<File = File> + Net<Listener = TcpListener, Stream = TcpStream>,
+    R: Read,
+    W: Write,
+    E: Write,
+>(rt: &P, asked: Result<Asked<'_>, Error>, input: &mut R, output: &mut W, errors: &mut E) -> u8
+    ensures ends { EndsAs asked.entry result (R.remaining input.old) (R.remaining input.new)
         (W.contents output.old) (W.contents output.new) (E.contents errors.old) (E.contents errors.new) }
     ensures quiet { result ≡ SUCCESS → Keeps (E.contents errors.old) (E.contents errors.new) }
 {
     match asked {
-        Ok(()) => serve(alloc, input, output, errors),
+        Ok(asked) => {
+            let failure = do_it(rt, asked, input, output);
+            end_with(errors, failure)
+        }
         Err(error) => match error.kind() {
-            ErrorKind::OutOfMemory => report_refusal(errors, &Refusal::OutOfMemory),
-            ErrorKind::DisplayHelp => show_help(&error, output, errors),
+            ErrorKind::OutOfMemory => end_with(
+                errors,
+                Some(Failure::Refused(Refusal::OutOfMemory)),
+            ),
+            ErrorKind::DisplayHelp | ErrorKind::DisplayVersion => {
+                let failure = show_help(&error, output);
+                end_with(errors, failure)
+            }
             _ => refuse_words(&error, errors),
         },
     }
 }
 
-/// Serves the input on the output with an engine of its own, and gives the exit status.
-///
-/// 0 at the end of the input, also inside a line; 1 after a read fault or a write fault.
-pub fn serve<R: Read, W: Write, E: Write>(
-    alloc: Global,
+/// Does what is asked, and gives what failed, if anything did.
+fn do_it<
+    P: AllocGlobal + Files<File = File> + Net<Listener = TcpListener, Stream = TcpStream>,
+    R: Read,
+    W: Write,
+>(rt: &P, asked: Asked<'_>, input: &mut R, output: &mut W) -> Option<Failure>
+    ensures { Does asked.entry result (R.remaining input.old) (R.remaining input.new) (W.contents output.old) (W.contents output.new) }
+{
+    match asked {
+        Asked::Create { file } => create_file(rt, file),
+        Asked::Run => run_in_memory(rt.alloc(), input, output),
+        Asked::RunFile { file } => run_file(rt, file, input, output),
+        Asked::Serve {
+            file,
+            address,
+            connections,
+        } => serve_file(rt, file, address, connections, output),
+    }
+}
+
+/// Makes a file in which nothing is defined.
+fn create_file<P: AllocGlobal + Files<File = File>>(rt: &P, file: &str) -> Option<Failure> {
+    match FileDisk::create(rt, file) {
+        Ok(disk) => failure_in(create_on(rt.alloc(), disk)),
+        Err(error) => Some(failure_to_open(error)),
+    }
+}
+
+/// Serves the input on the output over a disk in memory, in which nothing is defined at first.
+fn run_in_memory<R: Read, W: Write>(alloc: Global, input: &mut R, output: &mut W) -> Option<Failure>
+    ensures { Runs result (R.remaining input.old) (R.remaining input.new) (W.contents output.old) (W.contents output.new) }
+{
+    machine_is_the_only_one::<MemoryDisk>();
+    match Engine::create(alloc, MemoryDisk::new(alloc)) {
+        Ok(mut engine) => failure_after(run(alloc, &mut engine, input, output)),
+        Err((_, refusal)) => Some(Failure::Refused(refusal)),
+    }
+}
+
+/// Serves the input on the output over a file, and closes it.
+fn run_file<P: AllocGlobal + Files<File = File>, R: Read, W: Write>(
+    rt: &P,
+    file: &str,
     input: &mut R,
     output: &mut W,
-    errors: &mut E,
-) -> u8
-    ensures serves { Serves result (R.remaining input.old) (R.remaining input.new)
-        (W.contents output.old) (W.contents output.new) (E.contents errors.old) (E.contents errors.new) }
-    ensures quiet { result ≡ SUCCESS → Keeps (E.contents errors.old) (E.contents errors.new) }
+) -> Option<Failure> {
+    match FileDisk::open(rt, file) {
+        Ok(disk) => failure_in(serve_disk(rt.alloc(), disk, input, output)),
+        Err(error) => Some(failure_to_open(error)),
+    }
+}
+
+/// Serves so many connections over a file, one after another, and closes it.
+fn serve_file<
+    P: AllocGlobal + Files<File = File> + Net<Listener = TcpListener, Stream = TcpStream>,
+    W: Write,
+>(rt: &P, file: &str, address: &str, connections: u32, output: &mut W) -> Option<Failure> {
+    let disk = match FileDisk::open(rt, file) {
+        Ok(disk) => disk,
+        Err(error) => return Some(failure_to_open(error)),
+    };
+    match Engine::open(rt.alloc(), disk) {
+        Ok(mut engine) => {
+            let failure = serve_address(rt, &mut engine, address, connections, output);
+            failure_in(close_after(engine, failure))
+        }
+        Err((_, refusal)) => Some(Failure::Refused(refusal)),
+    }
+}
+
+/// Binds the address, says so on the output, and serves so many connections.
+fn serve_address<
+    P: AllocGlobal + Net<Listener = TcpListener, Stream = TcpStream>,
+    E: Serve,
+    W: Write,
+>(rt: &P, engine: &mut E, address: &str, connections: u32, output: &mut W) -> Option<Failure> {
+    let Ok(listener) = TcpListener::bind(rt, address) else {
+        return Some(Failure::CannotListen);
+    };
+    match put_parts(output, &[b"listening\n"]) {
+        Ok(()) => {
+            serve_connections(rt.alloc(), engine, &listener, connections);
+            None
+        }
+        Err(fault) => Some(Failure::Stream(fault)),
+    }
+}
+
+/// What failed, if anything did.
+fn failure_in<D: Drop>(ended: Result<D, (Option<D>, Failure)>) -> Option<Failure> {
+    match ended {
+        Ok(_) => None,
+        Err((_, failure)) => Some(failure),
+    }
+}
+
+/// Says what failed, if anything did, and gives the exit status.
+fn end_with<E: Write>(errors: &mut E, failure: Option<Failure>) -> u8
+    ensures { EndsWith failure result (E.contents errors.old) (E.contents errors.new) }
 {
-    let mut engine = Engine::fresh(alloc);
-    match run(alloc, &mut engine, input, output) {
-        Ok(_) => SUCCESS,
-        Err(fault) => report_fault(errors, fault),
+    match failure {
+        None => SUCCESS,
+        Some(failure) => report_failure(errors, &failure),
     }
 }
 
@@ -96,19 +198,14 @@ fn refuse_words<E: Write>(error: &Error, errors: &mut E) -> u8
     MISUSE
 }
 
-/// Shows the help that was asked for, and gives the exit status: a fault where it is not out whole.
-pub fn show_help<W: Write, E: Write, D: Display + Drop>(
-    help: D,
-    output: &mut W,
-    errors: &mut E,
-) -> u8
-    ensures status { ((result ≡ SUCCESS) × Keeps (E.contents errors.old) (E.contents errors.new))
-        ⊎ ((result ≡ FAULT) × SaysFront (fault_line Fault.Write) (E.contents errors.old) (E.contents errors.new)) }
-    ensures whole { result ≡ SUCCESS → IfSome (D.output help) (Appends (W.contents output.old) (W.contents output.new)) }
+/// Shows the help or the version that was asked for. It is a write fault where it is not out whole.
+fn show_help<W: Write, D: Display + Drop>(help: D, output: &mut W) -> Option<Failure>
+    ensures failure { (result ≡ None) ⊎ (result ≡ Some (Failure.Stream Fault.Write)) }
+    ensures whole { result ≡ None → IfSome (D.output help) (Appends (W.contents output.old) (W.contents output.new)) }
 {
     match write_whole(help, output) {
-        Ok(()) => SUCCESS,
-        Err(_) => report_fault(errors, Fault::Write),
+        Ok(()) => None,
+        Err(_) => Some(Failure::Stream(Fault::Write)),
     }
 }
 

@@ -1,4 +1,2 @@
-mod Standing
-mod Widening
-mod Putting
-pub mod WithinLaws
+pub mod SpanSums
+pub mod RemovedSpans

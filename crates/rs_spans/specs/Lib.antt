@@ -1,2 +1,3 @@
-pub mod Inner
+pub mod Removal
+pub mod Left
 pub mod Within

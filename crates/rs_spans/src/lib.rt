@@ -1,13 +1,8 @@
-//! The spans that are kept of one table on one route.
+//! The spans of one table on one route: copies of them, where they lie, and what a removal leaves of them.
 //!
-//! A kept list holds each maximal run once, by row and then by place. Insertion keeps it so, says how
-//! many facts are new, and looks only at the spans that the new one meets.
+//! It promises that copies mean the same, and its definitions say which rows a removal takes and what is left of each span.
 #![tactic(auto)]
 
 mod copies;
-mod insertion;
-mod meeting;
-mod order;
 
 pub use copies::copy_spans;
-pub use insertion::insert;

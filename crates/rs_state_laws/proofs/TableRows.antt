@@ -18,7 +18,7 @@ use Rattle.rs_catalog_pages.specs.Items.{CatalogueItems, RouteItem, TableItem}
 use Rattle.rs_cell_versions.specs.declared.cell.TheConstants.{LIVING}
 use Rattle.rs_contents.specs.Contents.{AreGivenOnce, Contents, HoldsAll, TableContents, table_numbers}
 use Rattle.rs_event_changes.specs.Changes.{ChangesRoute, Inserts, Removes}
-use Rattle.rs_event_lists.specs.Removal.{goes_by}
+use Rattle.rs_spans.specs.Removal.{goes_by}
 use Rattle.rs_facts.specs.Fact.{Name, Names, Places}
 use Rattle.rs_facts.specs.Insert.{missing, new_facts, with_row}
 use Rattle.rs_facts.specs.Query.{RouteEnds, Table}

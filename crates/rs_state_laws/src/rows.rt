@@ -8,7 +8,7 @@ ghost use Rattle.rs_catalog.specs.Referents.{HeldReferents};
 ghost use Rattle.rs_cell_versions.specs.declared.cell.TheConstants.{LIVING};
 ghost use Rattle.rs_contents.specs.Contents.{Contents, table_numbers};
 ghost use Rattle.rs_contents.specs.declared.opened.OpenedFile.{OpenedFile};
-ghost use Rattle.rs_event_lists.specs.Removal.{goes_by};
+ghost use Rattle.rs_spans.specs.Removal.{goes_by};
 ghost use Rattle.rs_facts.specs.Fact.{Name};
 ghost use Rattle.rs_facts.specs.Insert.{new_facts};
 ghost use Rattle.rs_facts.specs.Query.{Table};

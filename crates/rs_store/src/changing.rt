@@ -3,7 +3,7 @@
 ghost use Rattle.std.specs.Prelude.{◌≡◌, ◌≤◌, ◌<◌, ◌+◌, ℕ, true, IfOk, Some};
 ghost use Rattle.std.specs.FinMap as names;
 ghost use Rattle.rs_catalog.specs.Definitions.{RouteItem, TableItem};
-ghost use Rattle.rs_event_lists.specs.Removal.{goes_by};
+ghost use Rattle.rs_spans.specs.Removal.{goes_by};
 ghost use Rattle.rs_facts.specs.Insert.{new_facts};
 ghost use Rattle.rs_facts.specs.Query.{Table};
 ghost use Rattle.rs_facts.specs.Remove.{removed_facts};

@@ -1,28 +1,26 @@
-//! The commands that define a route and a table.
-//!
-//! It promises the machine's checks in their order, and that a refusal changes nothing.
+//! The commands that define a route, a table, an index, a view and an alignment.
 
-ghost use Rattle.std.specs.Prelude.{◌≡◌, ◌<◌, ◌≤◌, ◌⊎◌, length, vec_len, map, None, Ok, Err, IfOk, IfErr, OnOk, OnErr};
-ghost use Rattle.std.specs.List.{list_any};
-ghost use Rattle.std.specs.FinMap as names;
-ghost use Rattle.rs_facts.specs.Insert.{same_name};
-ghost use Rattle.rs_syntax.specs.View.{column_tree};
-ghost use Rattle.rs_machine.specs.Checks.{column_names, some_name_twice};
-ghost use Rattle.rs_machine.specs.Step.{counted, route_defined, table_defined, with_route, with_table, empty_table};
-ghost use Rattle.rs_machine.specs.declared.limits.TheConstants.{CHANGES};
+ghost use Rattle.std.specs.Prelude.{ℕ, map, string_bytes};
+ghost use Rattle.rs_engine.specs.Replied.{count_reply_of};
+ghost use Rattle.rs_engine.specs.Serving.{Serves};
+ghost use Rattle.rs_machine.specs.Step.{alignment_defined, index_defined, route_defined, table_defined, view_defined};
+ghost use Rattle.rs_serve.specs.Said.{IsSaid};
+ghost use Rattle.rs_syntax.specs.QueryView.{query_tree};
+ghost use Rattle.rs_syntax.specs.Sound.{IsSound};
+ghost use Rattle.rs_syntax.specs.Tree as tree;
+ghost use Rattle.rs_syntax.specs.View.{column_tree, piece_tree};
 
 use crate::engine::Engine;
-use rs_machine::limits::{ROUTES, TABLES};
+use rs_disk::Disk;
+use rs_machine_laws::lawful::accepted_step_leaves_the_state_lawful;
 use rs_measure::Measure;
 use rs_methods::Name;
 use rs_refusal::Refusal;
-use rs_syntax::ColumnDefinition;
-use rs_value::{COLUMNS, Kind};
-use std::alloc::AllocError;
+use rs_store::laws::store_stands_in_one_state;
+use rs_syntax::{ColumnDefinition, Piece, Query};
+use rs_value::Kind;
 
-impl Engine {
-    ghost use Rattle.rs_engine.specs.Held.{state_of};
-
+impl<D: Disk> Engine<D> {
     /// Defines a route. Checks, in order: its name is taken (24), it is empty (31), limits (27).
     pub(crate) fn define_route(
         &mut self,
@@ -30,50 +28,16 @@ impl Engine {
         start: Measure,
         finish: Measure,
     ) -> Result<u128, Refusal>
-        ensures done { IfOk result (λ count. route_defined (state_of self.old) name.bytes start finish ≡ Ok (counted count (state_of self.new))) }
-        ensures refused { IfErr result (λ refusal. (refusal ≡ Refusal.OutOfMemory) ⊎ (route_defined (state_of self.old) name.bytes start finish ≡ Err refusal)) }
-        ensures err { OnErr result (self.new ≡ self.old) }
+        requires sound { IsSound (tree.define_route name.bytes start finish) }
+        ensures serves { Serves D.Disk (λ state. route_defined state name.bytes start finish) (count_reply_of result) self.old self.new }
     {
-        self.check_new_route(&name, start, finish)?;
-        self.put_route(name, start, finish)?;
+        store_stands_in_one_state::<D>();
+        accepted_step_leaves_the_state_lawful();
+        self.checks().check_new_route(&name, start, finish)?;
+        let oldest = self.oldest();
+        self.store
+            .define_route(self.alloc, oldest, name, start, finish)?;
         Ok(0)
-    }
-
-    /// Whether a route may be defined (24; 31; 27).
-    fn check_new_route(&self, name: &Name, start: Measure, finish: Measure) -> Result<(), Refusal>
-        ensures accepted { OnOk result (route_defined (state_of self.now) name.now.bytes start finish ≡ Ok (counted 0 (with_route (state_of self.now) name.now.bytes start finish))) }
-        ensures refused { IfErr result (λ refusal. route_defined (state_of self.now) name.now.bytes start finish ≡ Err refusal) }
-        ensures new { OnOk result (names.get self.now.definitions.routes name.now.bytes ≡ None) }
-        ensures ordered { OnOk result (start < finish) }
-        ensures room { OnOk result (names.len self.now.definitions.routes < ROUTES) }
-        ensures may_change { OnOk result (self.now.changes < CHANGES) }
-    {
-        if self.catalog.route(name).is_some() {
-            return Err(Refusal::NameTaken);
-        }
-        if start.thousandths() >= finish.thousandths() {
-            return Err(Refusal::EmptySpan);
-        }
-        if self.catalog.routes_len() >= ROUTES {
-            return Err(Refusal::Limit);
-        }
-        self.may_change()
-    }
-
-    /// Puts a route under its name, and counts the change. For want of memory it changes nothing.
-    fn put_route(&mut self, name: Name, start: Measure, finish: Measure) -> Result<(), AllocError>
-        requires new { names.get self.old.definitions.routes name.bytes ≡ None }
-        requires ordered { start < finish }
-        requires room { names.len self.old.definitions.routes < ROUTES }
-        requires may_change { self.old.changes < CHANGES }
-        ensures ok { OnOk result (state_of self.new ≡ with_route (state_of self.old) name.bytes start finish) }
-        ensures err { OnErr result (self.new ≡ self.old) }
-    {
-        self.catalog
-            .define_route(name, self.changes + 1, start, finish)?;
-        self.catalog.stand();
-        self.changes += 1;
-        Ok(())
     }
 
     /// Defines a table. Checks, in order: its name is taken (24), two columns have one name (41), limits (27).
@@ -83,94 +47,73 @@ impl Engine {
         name: Name,
         columns: Vec<ColumnDefinition>,
     ) -> Result<u128, Refusal>
-        ensures done { IfOk result (λ count. table_defined (state_of self.old) kind name.bytes (map column_tree columns.items) ≡ Ok (counted count (state_of self.new))) }
-        ensures refused { IfErr result (λ refusal. (refusal ≡ Refusal.OutOfMemory) ⊎ (table_defined (state_of self.old) kind name.bytes (map column_tree columns.items) ≡ Err refusal)) }
-        ensures err { OnErr result (self.new ≡ self.old) }
+        requires sound { IsSound (tree.define_table kind name.bytes (map column_tree columns.items)) }
+        ensures serves { Serves D.Disk (λ state. table_defined state kind name.bytes (map column_tree columns.items)) (count_reply_of result) self.old self.new }
     {
-        self.check_new_table(kind, &name, &columns)?;
-        self.put_table(kind, name, columns)?;
+        store_stands_in_one_state::<D>();
+        accepted_step_leaves_the_state_lawful();
+        self.checks().check_new_table(kind, &name, &columns)?;
+        let oldest = self.oldest();
+        self.store
+            .define_table(self.alloc, oldest, kind, name, columns)?;
         Ok(0)
     }
 
-    /// Whether a table may be defined (24; 41; 27).
-    fn check_new_table(
-        &self,
-        kind: Kind,
-        name: &Name,
-        columns: &[ColumnDefinition],
-    ) -> Result<(), Refusal>
-        ensures accepted { OnOk result (table_defined (state_of self.now) kind name.now.bytes (map column_tree columns.now) ≡ Ok (counted 0 (with_table (state_of self.now) name.now.bytes (empty_table kind (map column_tree columns.now))))) }
-        ensures refused { IfErr result (λ refusal. table_defined (state_of self.now) kind name.now.bytes (map column_tree columns.now) ≡ Err refusal) }
-        ensures new { OnOk result (names.get self.now.definitions.tables name.now.bytes ≡ None) }
-        ensures few_columns { OnOk result (length columns.now ≤ COLUMNS) }
-        ensures room { OnOk result (names.len self.now.definitions.tables < TABLES) }
-        ensures may_change { OnOk result (self.now.changes < CHANGES) }
-    {
-        if self.catalog.has_table_or_view(name) {
-            return Err(Refusal::NameTaken);
-        }
-        if has_name_twice(columns) {
-            return Err(Refusal::ColumnTwice);
-        }
-        if columns.len() > COLUMNS {
-            return Err(Refusal::Limit);
-        }
-        if self.catalog.tables_len() >= TABLES {
-            return Err(Refusal::Limit);
-        }
-        self.may_change()
-    }
-
-    /// Puts a table with no spans under its name, and counts the change. For want of memory it changes nothing: where the
-    /// lists have no room, the table is taken out of the catalogue again.
-    fn put_table(
+    /// Defines an index. Checks, in order: there is no such table (21); it has no such column (22); the index's name is taken (24);
+    /// limits (27).
+    pub(crate) fn define_index(
         &mut self,
-        kind: Kind,
         name: Name,
-        columns: Vec<ColumnDefinition>,
-    ) -> Result<(), AllocError>
-        requires new { names.get self.old.definitions.tables name.bytes ≡ None }
-        requires few_columns { vec_len columns ≤ COLUMNS }
-        requires room { names.len self.old.definitions.tables < TABLES }
-        requires may_change { self.old.changes < CHANGES }
-        ensures ok { OnOk result (state_of self.new ≡ with_table (state_of self.old) name.bytes (empty_table kind (map column_tree columns.items))) }
-        ensures err { OnErr result (self.new ≡ self.old) }
+        table: Name,
+        column: &Name,
+    ) -> Result<u128, Refusal>
+        requires sound { IsSound (tree.define_index name.bytes table.bytes column.now.bytes) }
+        ensures serves { Serves D.Disk (λ state. index_defined state name.bytes table.bytes column.now.bytes) (count_reply_of result) self.old self.new }
     {
-        let number = self.catalog.define_table(name, kind, columns)?;
-        match self.events.define(number, kind) {
-            Ok(()) => {
-                self.catalog.stand();
-                self.changes += 1;
-                Ok(())
-            }
-            Err(error) => {
-                self.catalog.drop_table(&name);
-                Err(error)
-            }
-        }
+        store_stands_in_one_state::<D>();
+        accepted_step_leaves_the_state_lawful();
+        let of = self.checks().check_new_index(&name, &table, column)?;
+        let oldest = self.oldest();
+        self.store
+            .define_index(self.alloc, oldest, name, table, of.table, of.place)?;
+        Ok(0)
     }
-}
 
-/// Whether two columns have one name.
-fn has_name_twice(columns: &[ColumnDefinition]) -> bool
-    ensures { result ≡ some_name_twice (column_names (map column_tree columns.now)) }
-{
-    for (i, column) in columns.iter().enumerate() {
-        if has_name(&columns[i + 1..], &column.name) {
-            return true;
-        }
+    /// Defines a view. Checks, in order: its query; its name is taken (24); limits (27).
+    pub(crate) fn define_view(
+        &mut self,
+        name: Name,
+        query: Query,
+        text: String,
+    ) -> Result<u128, Refusal>
+        requires sound { IsSound (tree.define_view name.bytes (query_tree query) (string_bytes text)) }
+        ensures serves { (session : ℕ) → IsSaid session (tree.define_view name.bytes (query_tree query) (string_bytes text))
+            → Serves D.Disk (λ state. view_defined state name.bytes (query_tree query)) (count_reply_of result) self.old self.new }
+    {
+        store_stands_in_one_state::<D>();
+        accepted_step_leaves_the_state_lawful();
+        self.checks().check_new_view(&name, &query)?;
+        let oldest = self.oldest();
+        self.store
+            .define_view(self.alloc, oldest, name, query, text)?;
+        Ok(0)
     }
-    false
-}
 
-/// Whether a column has this name.
-fn has_name(columns: &[ColumnDefinition], name: &Name) -> bool
-    ensures { result ≡ list_any (same_name name.now.bytes) (column_names (map column_tree columns.now)) }
-{
-    for column in columns {
-        if *name == column.name {
-            return true;
-        }
+    /// Defines an alignment. Checks, in order: its name is taken (24); limits (27); its pieces (20, 30, 31); 27.
+    pub(crate) fn define_alignment(
+        &mut self,
+        name: Name,
+        pieces: Vec<Piece>,
+    ) -> Result<u128, Refusal>
+        requires sound { IsSound (tree.define_alignment name.bytes (map piece_tree pieces.items)) }
+        ensures serves { Serves D.Disk (λ state. alignment_defined state name.bytes (map piece_tree pieces.items)) (count_reply_of result) self.old self.new }
+    {
+        store_stands_in_one_state::<D>();
+        accepted_step_leaves_the_state_lawful();
+        self.checks().check_new_alignment(&name, &pieces)?;
+        let oldest = self.oldest();
+        self.store
+            .define_alignment(self.alloc, oldest, name, pieces)?;
+        Ok(0)
     }
-    false
 }

@@ -1,114 +1,111 @@
-//! The commands that drop a route and a table.
-//!
-//! It promises the machine's checks in their order, and that a refusal changes nothing. Neither takes memory.
+//! The commands that drop a route, a table, an index, a view and an alignment.
 
-ghost use Rattle.std.specs.Prelude.{◌≡◌, ◌<◌, false, Some, Ok, Err, IfOk, IfErr, OnOk, OnErr};
-ghost use Rattle.std.specs.FinMap as names;
-ghost use Rattle.rs_machine.specs.Step.{counted, route_dropped, table_dropped, without_route, without_table};
-ghost use Rattle.rs_machine.specs.declared.limits.TheConstants.{CHANGES};
-ghost use Rattle.rs_catalog.specs.Uses.{some_piece_on};
-ghost use Rattle.rs_event_lists.specs.Changed.{HasNoSpansOn};
-ghost use Rattle.rs_engine.specs.Tables.{HasTable};
+ghost use Rattle.std.specs.Prelude.{IfErr, IfOk};
+ghost use Rattle.rs_command_checks.specs.Facts.{TellsOfFacts};
+ghost use Rattle.rs_engine.specs.Kept.{IsMachine};
+ghost use Rattle.rs_engine.specs.Reads.{ReadsEngine, WantsRead};
+ghost use Rattle.rs_engine.specs.Replied.{count_reply_of};
+ghost use Rattle.rs_engine.specs.Serving.{IsServed, Serves};
+ghost use Rattle.rs_machine.specs.Served.{Machine};
+ghost use Rattle.rs_machine.specs.Step.{alignment_dropped, index_dropped, route_dropped, table_dropped, view_dropped};
+ghost use Rattle.rs_syntax.specs.Sound.{IsSound};
+ghost use Rattle.rs_syntax.specs.Tree as tree;
 
 use crate::engine::Engine;
-use rs_catalog::RouteEntry;
+use rs_disk::Disk;
+use rs_machine_laws::lawful::accepted_step_leaves_the_state_lawful;
 use rs_methods::Name;
 use rs_refusal::Refusal;
+use rs_store::laws::store_stands_in_one_state;
+use rs_store_reads::has_facts_on;
 
-impl Engine {
-    ghost use Rattle.rs_engine.specs.Held.{state_of};
-
-    /// Drops a route with its referents. Checks, in order: 20; a table has a fact on it, an alignment has a piece on it or
-    /// a view's window is on it, or a session has a cursor (23); 27.
+impl<D: Disk> Engine<D> {
+    /// Drops a route with its referents. Checks, in order: 20; a table has a fact on it, an alignment has a piece on it or a view's window
+    /// is on it, or a session has a cursor (23); 27.
     pub(crate) fn drop_route(&mut self, name: &Name) -> Result<u128, Refusal>
-        ensures done { IfOk result (λ count. route_dropped (state_of self.old) name.now.bytes ≡ Ok (counted count (state_of self.new))) }
-        ensures refused { IfErr result (λ refusal. route_dropped (state_of self.old) name.now.bytes ≡ Err refusal) }
-        ensures err { OnErr result (self.new ≡ self.old) }
+        requires sound { IsSound (tree.drop_route name.now.bytes) }
+        ensures serves { Serves D.Disk (λ state. route_dropped state name.now.bytes) (count_reply_of result) self.old self.new }
     {
-        let route = self.check_old_route(name)?;
-        self.take_route(name, route);
+        let has_facts = self.has_facts(name)?;
+        self.take_route(name, has_facts)
+    }
+
+    /// Whether some table has a fact on the route of this name, where it is there.
+    fn has_facts(&mut self, name: &Name) -> Result<bool, Refusal>
+        ensures tells { (machine : Machine) → IsMachine D.Disk self.old machine → IfOk result (TellsOfFacts machine.state name.now.bytes) }
+        ensures reads { ReadsEngine D.Disk self.old self.new }
+        ensures wants { IfErr result (λ why. WantsRead D.Disk why self.old self.new) }
+    {
+        store_stands_in_one_state::<D>();
+        let Some(route) = self.store.catalog().route(name) else {
+            return Ok(false);
+        };
+        has_facts_on(self.alloc, &mut self.store, route.number())
+    }
+
+    /// Drops a route, of which the caller says whether some table has a fact on it.
+    fn take_route(&mut self, name: &Name, has_facts: bool) -> Result<u128, Refusal>
+        requires sound { IsSound (tree.drop_route name.now.bytes) }
+        ensures serves { (machine : Machine) → IsMachine D.Disk self.old machine → TellsOfFacts machine.state name.now.bytes has_facts
+            → IsServed D.Disk (route_dropped machine.state name.now.bytes) machine (count_reply_of result) self.new }
+    {
+        store_stands_in_one_state::<D>();
+        accepted_step_leaves_the_state_lawful();
+        self.checks().check_old_route(name, has_facts)?;
+        let oldest = self.oldest();
+        self.store.drop_route(self.alloc, oldest, name)?;
         Ok(0)
-    }
-
-    /// A route that may be dropped (20; 23; 27).
-    fn check_old_route(&self, name: &Name) -> Result<RouteEntry, Refusal>
-        ensures accepted { OnOk result (route_dropped (state_of self.now) name.now.bytes ≡ Ok (counted 0 (without_route (state_of self.now) name.now.bytes))) }
-        ensures refused { IfErr result (λ refusal. route_dropped (state_of self.now) name.now.bytes ≡ Err refusal) }
-        ensures there { IfOk result (λ route. names.get self.now.definitions.routes name.now.bytes ≡ Some route) }
-        ensures no_spans { IfOk result (λ route. HasNoSpansOn self.now.events route.number) }
-        ensures unused { OnOk result (some_piece_on self.now.definitions name.now.bytes ≡ false) }
-        ensures may_change { OnOk result (self.now.changes < CHANGES) }
-    {
-        let route = self.catalog.named_route(name)?;
-        if self.events.has_events_on(route.number()) {
-            return Err(Refusal::InUse);
-        }
-        if self.catalog.is_route_aligned(name) {
-            return Err(Refusal::InUse);
-        }
-        if self.catalog.is_route_named(name) {
-            return Err(Refusal::InUse);
-        }
-        if self.cursors.any() {
-            return Err(Refusal::InUse);
-        }
-        self.may_change()?;
-        Ok(route)
-    }
-
-    /// Takes a route on which no table has a span and no alignment a piece out with its referents, and counts the change.
-    fn take_route(&mut self, name: &Name, route: RouteEntry)
-        requires there { names.get self.old.definitions.routes name.now.bytes ≡ Some route }
-        requires no_spans { HasNoSpansOn self.old.events route.number }
-        requires unused { some_piece_on self.old.definitions name.now.bytes ≡ false }
-        requires may_change { self.old.changes < CHANGES }
-        ensures { state_of self.new ≡ without_route (state_of self.old) name.now.bytes }
-    {
-        self.catalog.drop_route(name);
-        self.catalog.stand();
-        self.referents.drop_route(route.number());
-        self.events.drop_route(route.number());
-        self.changes += 1;
     }
 
     /// Drops a table with its facts and its indexes. Checks, in order: 21; a view names it, or a session has a cursor (23); 27.
     pub(crate) fn drop_table(&mut self, name: &Name) -> Result<u128, Refusal>
-        ensures done { IfOk result (λ count. table_dropped (state_of self.old) name.now.bytes ≡ Ok (counted count (state_of self.new))) }
-        ensures refused { IfErr result (λ refusal. table_dropped (state_of self.old) name.now.bytes ≡ Err refusal) }
-        ensures err { OnErr result (self.new ≡ self.old) }
+        requires sound { IsSound (tree.drop_table name.now.bytes) }
+        ensures serves { Serves D.Disk (λ state. table_dropped state name.now.bytes) (count_reply_of result) self.old self.new }
     {
-        let number = self.check_old_table(name)?;
-        self.take_table(name, number);
+        store_stands_in_one_state::<D>();
+        accepted_step_leaves_the_state_lawful();
+        self.checks().check_old_table(name)?;
+        let oldest = self.oldest();
+        self.store.drop_table(self.alloc, oldest, name)?;
         Ok(0)
     }
 
-    /// The number of a table that may be dropped (21; 23; 27).
-    fn check_old_table(&self, name: &Name) -> Result<u32, Refusal>
-        ensures accepted { OnOk result (table_dropped (state_of self.now) name.now.bytes ≡ Ok (counted 0 (without_table (state_of self.now) name.now.bytes))) }
-        ensures refused { IfErr result (λ refusal. table_dropped (state_of self.now) name.now.bytes ≡ Err refusal) }
-        ensures there { IfOk result (λ number. HasTable self.now.definitions name.now.bytes number) }
-        ensures may_change { OnOk result (self.now.changes < CHANGES) }
+    /// Drops an index. Checks, in order: 21; a session has a cursor (23); 27.
+    pub(crate) fn drop_index(&mut self, name: &Name) -> Result<u128, Refusal>
+        requires sound { IsSound (tree.drop_index name.now.bytes) }
+        ensures serves { Serves D.Disk (λ state. index_dropped state name.now.bytes) (count_reply_of result) self.old self.new }
     {
-        let number = self.catalog.named_table(name)?.number();
-        if self.catalog.is_query_named(name) {
-            return Err(Refusal::InUse);
-        }
-        if self.cursors.any() {
-            return Err(Refusal::InUse);
-        }
-        self.may_change()?;
-        Ok(number)
+        store_stands_in_one_state::<D>();
+        accepted_step_leaves_the_state_lawful();
+        self.checks().check_old_index(name)?;
+        let oldest = self.oldest();
+        self.store.drop_index(self.alloc, oldest, name)?;
+        Ok(0)
     }
 
-    /// Takes a table out with its spans and its indexes, and counts the change.
-    fn take_table(&mut self, name: &Name, number: u32)
-        requires there { HasTable self.old.definitions name.now.bytes number }
-        requires may_change { self.old.changes < CHANGES }
-        ensures { state_of self.new ≡ without_table (state_of self.old) name.now.bytes }
+    /// Drops a view. Checks, in order: 21; a view names it (23); 27.
+    pub(crate) fn drop_view(&mut self, name: &Name) -> Result<u128, Refusal>
+        requires sound { IsSound (tree.drop_view name.now.bytes) }
+        ensures serves { Serves D.Disk (λ state. view_dropped state name.now.bytes) (count_reply_of result) self.old self.new }
     {
-        self.catalog.drop_table(name);
-        self.catalog.stand();
-        self.events.drop_table(number);
-        self.changes += 1;
+        store_stands_in_one_state::<D>();
+        accepted_step_leaves_the_state_lawful();
+        self.checks().check_old_view(name)?;
+        let oldest = self.oldest();
+        self.store.drop_view(self.alloc, oldest, name)?;
+        Ok(0)
+    }
+
+    /// Drops an alignment. Checks, in order: 21; a view names it (23); 27.
+    pub(crate) fn drop_alignment(&mut self, name: &Name) -> Result<u128, Refusal>
+        requires sound { IsSound (tree.drop_alignment name.now.bytes) }
+        ensures serves { Serves D.Disk (λ state. alignment_dropped state name.now.bytes) (count_reply_of result) self.old self.new }
+    {
+        store_stands_in_one_state::<D>();
+        accepted_step_leaves_the_state_lawful();
+        self.checks().check_old_alignment(name)?;
+        let oldest = self.oldest();
+        self.store.drop_alignment(self.alloc, oldest, name)?;
+        Ok(0)
     }
 }

@@ -1,52 +1,26 @@
 //! The commands that put a row into a table and that take rows away.
-//!
-//! It promises the machine's checks in their order, and that a refusal changes nothing.
 
-ghost use Rattle.std.specs.Prelude.{◌≡◌, ◌⊎◌, ◌≤◌, length, map, Ok, Err, IfOk, IfErr, OnOk, OnErr};
-ghost use Rattle.rs_methods.specs.Position.{expression_of};
-ghost use Rattle.rs_value.specs.View.{row_of, literal_row};
-ghost use Rattle.rs_facts.specs.Spans.{seen};
-ghost use Rattle.rs_syntax.specs.View.{column_tree, location_tree, removal_tree};
+ghost use Rattle.rs_engine.specs.Replied.{count_reply_of};
+ghost use Rattle.rs_engine.specs.Serving.{Serves};
+ghost use Rattle.rs_machine.specs.Step.{row_inserted, rows_removed};
 ghost use Rattle.rs_syntax.specs.QueryView.{window_tree};
-ghost use Rattle.rs_machine.specs.Checks.{same_kind, location_kind, window_route, row_fits, column_types};
-ghost use Rattle.rs_machine.specs.Checking.{removal_checked};
-ghost use Rattle.rs_machine.specs.Step.{counted, row_inserted, rows_removed};
-ghost use Rattle.rs_catalog.specs.Referents.{referents_on};
-ghost use Rattle.rs_event_lists.specs.Removal.{goes_by};
-ghost use Rattle.rs_engine.specs.Located.{span_by, event_span_by, window_span_by};
-ghost use Rattle.rs_engine.specs.Insertion.{MayBePut};
-ghost use Rattle.rs_engine.specs.Removal.{MayBeTaken};
+ghost use Rattle.rs_syntax.specs.Sound.{IsSound};
+ghost use Rattle.rs_syntax.specs.Tree as tree;
+ghost use Rattle.rs_syntax.specs.View.{location_tree, removal_tree};
+ghost use Rattle.rs_value.specs.View.{literal_row};
 
 use crate::engine::Engine;
-use rs_catalog::RouteEntry;
-use rs_checker::check_condition;
-use rs_facts::{Condition, Span};
-use rs_methods::{Name, Position};
+use rs_command_checks::Removal;
+use rs_disk::Disk;
+use rs_machine_laws::lawful::accepted_step_leaves_the_state_lawful;
+use rs_methods::Name;
 use rs_refusal::Refusal;
-use rs_syntax::{Atom, ColumnDefinition, EventLocation, Window};
-use rs_value::{COLUMNS, Kind, Literal, Schema, Tuple, fits};
-use std::alloc::Global;
+use rs_store::laws::store_stands_in_one_state;
+use rs_syntax::{Atom, EventLocation, Window};
+use rs_value::Literal;
 
-/// Rows that a removal takes away, of a table and on a route by their numbers.
-#[derive(Drop)]
-pub struct Removal {
-    /// The table's number.
-    pub table: u32,
-    /// The route's number.
-    pub route: u32,
-    /// The first thousandth of the window.
-    pub lo: u32,
-    /// The first thousandth after it.
-    pub hi: u32,
-    /// Which rows go; all where there is no condition.
-    pub goes: Option<Condition>,
-}
-
-impl Engine {
-    ghost use Rattle.rs_engine.specs.Held.{state_of};
-
-    /// Puts a row along a span or at a point. Checks, in order: 20; 21; 25, 30; 31; 32; 33; 34; 27. Its answer is how many
-    /// facts are new.
+impl<D: Disk> Engine<D> {
+    /// Puts a row along a span or at a point. Checks, in order: 20; 21; 25, 30; 31; 32; 33; 34; 27. Its answer is how many facts are new.
     pub(crate) fn insert(
         &mut self,
         table: &Name,
@@ -54,195 +28,43 @@ impl Engine {
         place: &EventLocation,
         values: &[Literal],
     ) -> Result<u128, Refusal>
-        ensures done { IfOk result (λ count. row_inserted (state_of self.old) table.now.bytes route.now.bytes (location_tree place.now) (literal_row values.now) ≡ Ok (counted count (state_of self.new))) }
-        ensures refused { IfErr result (λ refusal. (refusal ≡ Refusal.OutOfMemory) ⊎ (row_inserted (state_of self.old) table.now.bytes route.now.bytes (location_tree place.now) (literal_row values.now) ≡ Err refusal)) }
-        ensures err { OnErr result (self.new ≡ self.old) }
+        requires sound { IsSound (tree.insert table.now.bytes route.now.bytes (location_tree place.now) (literal_row values.now)) }
+        ensures serves { Serves D.Disk (λ state. row_inserted state table.now.bytes route.now.bytes (location_tree place.now) (literal_row values.now)) (count_reply_of result) self.old self.new }
     {
-        let (number, on, span) = self.checked_insertion(table, route, place, values)?;
-        self.may_change()?;
-        let new_facts = self.events.insert(number, on, span)?;
-        self.events.stand_kept();
-        self.changes += 1;
+        store_stands_in_one_state::<D>();
+        accepted_step_leaves_the_state_lawful();
+        let span = self
+            .checks()
+            .checked_insertion(table, route, place, values)?;
+        let oldest = self.oldest();
+        let new_facts = self.store.insert(self.alloc, oldest, table, route, span)?;
         Ok(u128::from(new_facts))
     }
 
-    /// The table's number, the route's number, and the row along its span, where all fit each other and there is memory
-    /// for the row.
-    fn checked_insertion(
-        &self,
-        name: &Name,
-        route: &Name,
-        place: &EventLocation,
-        values: &[Literal],
-    ) -> Result<(u32, u32, Span), Refusal>
-        ensures done { IfOk result (λ put. MayBePut self.now name.now.bytes route.now.bytes (location_tree place.now) (literal_row values.now) put.0 put.1 (seen put.2)) }
-        ensures refused { IfErr result (λ refusal. (refusal ≡ Refusal.OutOfMemory) ⊎ (row_inserted (state_of self.now) name.now.bytes route.now.bytes (location_tree place.now) (literal_row values.now) ≡ Err refusal)) }
-    {
-        let on = self.catalog.named_route(route)?;
-        let table = self.catalog.named_table(name)?;
-        let (lo, hi) = self.located_event(on, place)?;
-        if !is_of_kind(place, table.kind()) {
-            return Err(Refusal::PointOrLineWanted);
-        }
-        self.catalog.stand();
-        let row = fitted(table.columns(), values)?;
-        let tuple = Box::new(self.alloc, row)?;
-        Ok((table.number(), on.number(), Span { lo, hi, tuple }))
-    }
-
-    /// Takes the rows that meet a condition away, all rows where none is written, inside a window. Checks, in order: 20; 21;
-    /// 25, 30; 31; the condition (22, 33); 27. Its answer is how many facts went.
+    /// Takes the rows that meet a condition away, all rows where none is written, inside a window. Checks, in order: 20; 21; 25, 30; 31;
+    /// the condition (22, 33); 27. Its answer is how many facts went.
     pub(crate) fn remove(
         &mut self,
         table: &Name,
         window: &Window,
         condition: &Option<Vec<Vec<Atom>>>,
     ) -> Result<u128, Refusal>
-        ensures done { IfOk result (λ count. rows_removed (state_of self.old) table.now.bytes (window_tree window.now) (removal_tree condition.now) ≡ Ok (counted count (state_of self.new))) }
-        ensures refused { IfErr result (λ refusal. (refusal ≡ Refusal.OutOfMemory) ⊎ (rows_removed (state_of self.old) table.now.bytes (window_tree window.now) (removal_tree condition.now) ≡ Err refusal)) }
-        ensures err { OnErr result (self.new ≡ self.old) }
+        requires sound { IsSound (tree.remove table.now.bytes (window_tree window.now) (removal_tree condition.now)) }
+        ensures serves { Serves D.Disk (λ state. rows_removed state table.now.bytes (window_tree window.now) (removal_tree condition.now)) (count_reply_of result) self.old self.new }
     {
-        let removal = self.checked_removal(table, window, condition)?;
-        self.may_change()?;
-        let gone = self.events.remove(
-            removal.table,
-            removal.route,
-            removal.lo,
-            removal.hi,
-            removal.goes.as_ref(),
-        )?;
-        self.events.stand_kept();
-        self.changes += 1;
-        Ok(gone)
-    }
-
-    /// What a removal takes away, where its table and its window are there and its condition fits the columns.
-    fn checked_removal(
-        &self,
-        name: &Name,
-        window: &Window,
-        condition: &Option<Vec<Vec<Atom>>>,
-    ) -> Result<Removal, Refusal>
-        ensures done { IfOk result (λ removal. MayBeTaken self.now name.now.bytes (window_tree window.now) (removal_tree condition.now) removal) }
-        ensures refused { IfErr result (λ refusal. (refusal ≡ Refusal.OutOfMemory) ⊎ (rows_removed (state_of self.now) name.now.bytes (window_tree window.now) (removal_tree condition.now) ≡ Err refusal)) }
-    {
-        let on = self.catalog.named_route(route_of(window))?;
-        let table = self.catalog.named_table(name)?;
-        let (lo, hi) = self.located_window(on, window)?;
-        self.catalog.stand();
-        let goes = checked_rows(self.alloc, table.columns(), condition)?;
-        Ok(Removal {
-            table: table.number(),
-            route: on.number(),
+        store_stands_in_one_state::<D>();
+        accepted_step_leaves_the_state_lawful();
+        let removal = self.checks().checked_removal(table, window, condition)?;
+        let Removal {
+            route,
             lo,
             hi,
             goes,
-        })
-    }
-
-    /// Where an event is put on a route, in thousandths (25, 30; 31).
-    fn located_event(&self, on: RouteEntry, place: &EventLocation) -> Result<(u32, u32), Refusal>
-        ensures { result ≡ event_span_by on.ends (referents_on self.now.referents on.number) (location_tree place.now) }
-    {
-        match place {
-            EventLocation::Along { from, to } => self.located_span(on, from, to),
-            EventLocation::At { position } => {
-                let k = self.referents.located(on, position)?.thousandths();
-                Ok((k, k + 1))
-            }
-        }
-    }
-
-    /// Where a window lies on its route, in thousandths (25, 30; 31). A whole route has its end, at which a point may stand.
-    fn located_window(&self, on: RouteEntry, window: &Window) -> Result<(u32, u32), Refusal>
-        ensures { result ≡ window_span_by on.ends (referents_on self.now.referents on.number) (window_tree window.now) }
-    {
-        match window {
-            Window::Whole { .. } => {
-                let from = on.ends().start().thousandths();
-                let to = on.ends().finish().thousandths();
-                Ok((from, to + 1))
-            }
-            Window::Part { from, to, .. } => self.located_span(on, from, to),
-        }
-    }
-
-    /// Two positions of a route in thousandths: 25 or 30 for the first, 25 or 30 for the second, then 31 unless the
-    /// first is below the second.
-    fn located_span(
-        &self,
-        on: RouteEntry,
-        from: &Position,
-        to: &Position,
-    ) -> Result<(u32, u32), Refusal>
-        ensures { result ≡ span_by on.ends (referents_on self.now.referents on.number) (expression_of from.now) (expression_of to.now) }
-    {
-        let lo = self.referents.located(on, from)?.thousandths();
-        let hi = self.referents.located(on, to)?.thousandths();
-        if lo < hi {
-            Ok((lo, hi))
-        } else {
-            Err(Refusal::EmptySpan)
-        }
-    }
-}
-
-/// The route of a window.
-fn route_of(window: &Window) -> &Name
-    ensures { result.now.bytes ≡ window_route (window_tree window.now) }
-{
-    match window {
-        Window::Whole { route } => route,
-        Window::Part { route, .. } => route,
-    }
-}
-
-/// Whether an event so placed is of this kind.
-fn is_of_kind(place: &EventLocation, kind: Kind) -> bool
-    ensures { result ≡ same_kind kind (location_kind (location_tree place.now)) }
-{
-    match (kind, place) {
-        (Kind::Line, EventLocation::Along { .. }) => true,
-        (Kind::Point, EventLocation::At { .. }) => true,
-        (Kind::Line, EventLocation::At { .. }) => false,
-        (Kind::Point, EventLocation::Along { .. }) => false,
-    }
-}
-
-/// The row that the literals write, or the refusal that it does not fit the columns (33, then 34).
-fn fitted(columns: &[ColumnDefinition], values: &[Literal]) -> Result<Tuple, Refusal>
-    requires { length columns.now ≤ COLUMNS }
-    ensures ok { OnOk result (row_fits (map column_tree columns.now) (literal_row values.now) ≡ Ok tt) }
-    ensures row { IfOk result (λ tuple. row_of tuple ≡ literal_row values.now) }
-    ensures refused { IfErr result (λ refusal. row_fits (map column_tree columns.now) (literal_row values.now) ≡ Err refusal) }
-{
-    fits(&schema_of(columns), values)
-}
-
-/// The types of the columns, from the left.
-fn schema_of(columns: &[ColumnDefinition]) -> Schema
-    requires { length columns.now ≤ COLUMNS }
-    ensures { result.items ≡ column_types (map column_tree columns.now) }
-{
-    let mut schema = Schema::new();
-    for column in columns {
-        schema.push(column.column_type);
-    }
-    schema
-}
-
-/// The condition that rows of these columns are to meet, where one is written.
-fn checked_rows(
-    alloc: Global,
-    columns: &[ColumnDefinition],
-    condition: &Option<Vec<Vec<Atom>>>,
-) -> Result<Option<Condition>, Refusal>
-    requires { length columns.now ≤ COLUMNS }
-    ensures done { IfOk result (λ goes. removal_checked (map column_tree columns.now) (removal_tree condition.now) ≡ Ok (goes_by goes)) }
-    ensures refused { IfErr result (λ refusal. (refusal ≡ Refusal.OutOfMemory) ⊎ (removal_checked (map column_tree columns.now) (removal_tree condition.now) ≡ Err refusal)) }
-{
-    match condition {
-        None => Ok(None),
-        Some(parts) => Ok(Some(check_condition(alloc, columns, parts.as_slice())?)),
+        } = removal;
+        let oldest = self.oldest();
+        let gone = self
+            .store
+            .remove(self.alloc, oldest, table, &route, lo, hi, goes)?;
+        Ok(gone)
     }
 }

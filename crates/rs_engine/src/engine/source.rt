@@ -1,45 +1,34 @@
-//! The engine as a source of spans: what plans are evaluated over.
+//! An engine as a source of spans, with its definitions and referents in memory.
 //!
-//! It promises the spans that are kept now, whatever version is asked for.
-
-ghost use Rattle.std.specs.Prelude.{◌≡◌, map};
-ghost use Rattle.rs_refusal.specs.declared.refusal.Refusal.TheVariants.{OutOfMemory};
-ghost use Rattle.rs_facts.specs.Spans.{seen, AreKept};
-ghost use Rattle.rs_sweep.specs.Lists.{AreWide};
-ghost use Rattle.rs_exec.specs.Given.{table_asked};
-ghost use Rattle.rs_engine.specs.Present.{is_of_kind, starts_wide, spans_of_table};
+//! It shows the version that was accepted last. A read leaves all that the engine keeps as it was, whatever it answers.
 
 use crate::engine::Engine;
-use rs_exec::{Asked, Part, SoughtValue, Source, copies_inside};
+use rs_answers::InMemory;
+use rs_catalog::{Catalog, RouteReferents};
+use rs_disk::Disk;
+use rs_exec::{Asked, Part, SoughtValue, Source};
 use rs_facts::Span;
 use rs_refusal::Refusal;
-use rs_value::Kind;
+use rs_store_reads::{spans_asked, spans_of_value_asked};
 use std::alloc::Global;
 
-/// The version that is asked for; each is the present.
-pub(crate) const PRESENT: u64 = 0;
+impl<D: Disk> Source for Engine<D> {
+    ghost use Rattle.std.specs.Prelude.{false, refl};
+    ghost use Rattle.std.proofs.Common.{◌∙◌};
+    ghost use Rattle.rs_engine.specs.Reads.{ReadsEngine, ShowsPresent, WantsRead};
+    ghost use Rattle.rs_store_reads.proofs.Passing.{passes_refl, passes_trans, wants_later, wants_memory};
 
-/// The spans that an engine keeps, as a source.
-#[derive(Drop)]
-pub(crate) struct KeptSpans<'a> {
-    pub(crate) engine: &'a Engine,
-}
+    ghost is = { λ engine snapshots. ShowsPresent D.Disk engine snapshots };
 
-impl Source for KeptSpans<'_> {
-    ghost use Rattle.std.specs.Prelude.{refl, true};
-    ghost use Rattle.rs_engine.specs.Present.{ArePresent};
+    ghost passes = { λ old new. ReadsEngine D.Disk old new };
 
-    ghost is = { λ source snapshots. ArePresent source.engine.now.events snapshots };
+    ghost wants = { λ why old new. WantsRead D.Disk why old new };
 
-    ghost passes = { λ old new. Unit {0} };
-
-    ghost wants = { λ why old new. why ≡ OutOfMemory };
-
-    ghost lends = { true };
+    ghost lends = { false };
 
     fn spans(&mut self, alloc: Global, asked: &Asked, part: Part) -> Result<Vec<Span>, Refusal> {
-        let spans = copies_inside(alloc, self.engine.spans_asked(asked), part)?;
-        Ok(spans)
+        let oldest = self.store.accepted();
+        spans_asked(alloc, &mut self.store, oldest, asked, part)
     }
 
     fn spans_of_value(
@@ -47,65 +36,44 @@ impl Source for KeptSpans<'_> {
         alloc: Global,
         asked: &Asked,
         part: Part,
-        _sought: SoughtValue<'_>,
+        sought: SoughtValue<'_>,
     ) -> Result<Vec<Span>, Refusal> {
-        let spans = copies_inside(alloc, self.engine.spans_asked(asked), part)?;
-        Ok(spans)
+        let oldest = self.store.accepted();
+        spans_of_value_asked(alloc, &mut self.store, oldest, asked, part, sought)
     }
 
-    fn lent(&self, asked: &Asked) -> Option<&[Span]> {
-        Some(self.engine.spans_asked(asked))
+    fn lent(&self, _asked: &Asked) -> Option<&[Span]> {
+        None
     }
 
-    // no list is by value
+    // no index is looked at
     fn indexed_column(&self, _index: u32) -> Option<u8> {
         None
     }
 
-    ghost passes_refl = { λ source. tt };
+    ghost passes_refl = { λ engine. record { store = passes_refl _ engine.store; cursors = refl } };
 
-    ghost passes_trans = { λ a b c one more. tt };
+    ghost passes_trans = { λ a b c one more. record { store = passes_trans _ a.store b.store c.store one.store more.store; cursors = more.cursors ∙ one.cursors } };
 
-    ghost wants_later = { λ why a b c passed wanted. wanted };
+    ghost wants_later = { λ why a b c passed wanted. wants_later _ why a.store b.store c.store passed.store wanted };
 
-    ghost wants_memory = { λ a b passed. refl };
+    ghost wants_memory = { λ a b passed. wants_memory _ a.store b.store };
 }
 
-impl Engine {
-    /// The spans that are kept of a table on a route, lent; none where the table of its number is of another kind or width.
-    pub(crate) fn spans_asked(&self, asked: &Asked) -> &[Span]
-        ensures same { map seen result.now ≡ spans_of_table self.now.events (table_asked asked.now) asked.now.route }
-        ensures kept { AreKept asked.now.kind (map seen result.now) }
-        ensures wide { AreWide asked.now.width (map seen result.now) }
-    {
-        if !is_of_kind(self.events.kind(asked.table), asked.kind) {
-            return &[];
-        }
-        self.events.stand_kept();
-        let spans = self.events.spans(asked.table, asked.route);
-        if !starts_wide(spans, asked.width) {
-            return &[];
-        }
-        spans
-    }
-}
+impl<D: Disk> InMemory for Engine<D> {
+    ghost definitions = { λ engine. engine.store.catalog };
 
-/// Whether a table is there and of this kind.
-fn is_of_kind(there: Option<Kind>, kind: Kind) -> bool
-    ensures { result ≡ is_of_kind there kind }
-{
-    match (there, kind) {
-        (Some(Kind::Line), Kind::Line) | (Some(Kind::Point), Kind::Point) => true,
-        (Some(Kind::Line), Kind::Point) | (Some(Kind::Point), Kind::Line) | (None, _) => false,
-    }
-}
+    ghost held_referents = { λ engine. engine.store.referents };
 
-/// Whether the first row has so many values, if there is one. Those of one table are all as wide.
-fn starts_wide(spans: &[Span], width: u8) -> bool
-    ensures { result ≡ starts_wide width (map seen spans.now) }
-{
-    match spans.first() {
-        Some(span) => span.tuple.len() == usize::from(width),
-        None => true,
+    fn catalog(&self) -> &Catalog {
+        self.store.catalog()
     }
+
+    fn referents(&self) -> &RouteReferents {
+        self.store.referents()
+    }
+
+    ghost definitions_stay = { λ old new reads. reads.store.keeps.catalog };
+
+    ghost referents_stay = { λ old new reads. reads.store.keeps.referents };
 }

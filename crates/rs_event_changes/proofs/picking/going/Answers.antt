@@ -11,7 +11,7 @@ use Rattle.rs_value.specs.Values.{IsRowOf}
 use Rattle.rs_value.specs.View.{row_of}
 use Rattle.rs_event_changes.specs.Picked.{Picks}
 use Rattle.rs_event_changes.proofs.PickLaws.{all_more, none_at, picks_more, picks_same, row_said}
-use Rattle.rs_event_lists.specs.Removal.{goes_by}
+use Rattle.rs_spans.specs.Removal.{goes_by}
 use Rattle.std.specs.Option.{option_copied}
 use Rattle.rs_event_changes.proofs.picking.going.Goals.{then-is_going+in_ok-push+in_ok-push-2, else-is_going}
 use Rattle.rs_event_changes.proofs.picking.going.Goals as goal

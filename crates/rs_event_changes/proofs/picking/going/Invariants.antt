@@ -3,7 +3,7 @@ use Rattle.std.proofs.Common.{◌≡◌, map, take}
 use Rattle.std.specs.List.{AllByRecursion}
 use Rattle.std.specs.Option.{option_copied}
 use Rattle.rs_event_changes.specs.Picked.{Picks}
-use Rattle.rs_event_lists.specs.Removal.{goes_by}
+use Rattle.rs_spans.specs.Removal.{goes_by}
 use Rattle.rs_facts.specs.Spans.{seen}
 use Rattle.rs_records.specs.Listed.{listed, record_width}
 use Rattle.rs_value.specs.Values.{IsRowOf}

@@ -1,7 +1,7 @@
 -- What was found is taken out, and the edit is made.
 use Rattle.std.proofs.Common.{ℕ, Ok, Err, map, sym, subst, inl, inr, arith}
 use Rattle.std.specs.Option.{option_copied}
-use Rattle.rs_event_lists.specs.Removal.{goes_by}
+use Rattle.rs_spans.specs.Removal.{goes_by}
 use Rattle.std.specs.List.{AllByRecursion}
 use Rattle.std.proofs.lemmas.Result.{err_from_is_err_and}
 use Rattle.rs_facts.specs.Runs.{Stretch}

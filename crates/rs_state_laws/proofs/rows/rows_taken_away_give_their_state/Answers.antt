@@ -1,6 +1,6 @@
 use Rattle.std.proofs.Common.{subst, sym}
 use Rattle.rs_catalog.specs.Events.{behind}
-use Rattle.rs_event_lists.specs.Removal.{goes_by}
+use Rattle.rs_spans.specs.Removal.{goes_by}
 use Rattle.rs_contents.specs.Contents.{Contents}
 use Rattle.rs_machine.specs.Step.{with_table, without_facts}
 use Rattle.rs_state_laws.specs.Changing.{GivesState}

@@ -1,23 +1,34 @@
-use Rattle.std.proofs.Common.{◌≡◌, Ok, Err, sym, subst}
-use Rattle.rs_refusal.specs.declared.refusal.Refusal.TheVariants.{NoSuchCursor}
-use Rattle.rs_machine.specs.Step.{counted, cursor_closed}
-use Rattle.rs_engine.specs.Held.{Held, state_of}
-use Rattle.rs_engine.proofs.CursorSteps.{held_other_cursors, close_none, close_there}
+-- The disk of the store that was put away, or the store that keeps what it kept.
+use Rattle.std.proofs.Common.{Ok, Err, refl, subst, sym}
+use Rattle.rs_engine.specs.Files.{Closes}
+use Rattle.rs_engine.specs.Kept.{EngineState}
+use Rattle.rs_engine.proofs.Filing.{engine_with, stays, without}
+use Rattle.rs_machine.specs.State.{State}
+use Rattle.rs_standing.specs.Standing.{Stands}
 use Rattle.rs_engine.proofs.engine.Engine.close.Goals as goal
 
-pub returns-then-not-has-clause-refused : goal.returns-then-not-has-clause-refused
-returns-then-not-has-clause-refused c =
-    let held : Held = record { definitions = c.self.inside.catalog; referents = c.self.inside.referents; events = c.self.inside.events; cursors = c.self.inside.cursors; changes = c.self.inside.changes } in
-    subst (λ (h : Held). cursor_closed (state_of h) c.args.session c.args.name.now.bytes ≡ Err NoSuchCursor) c.self.view_is
-    (close_none held c.args.session c.args.name.now.bytes (sym c.if-not-has.ensures))
+pub returns-in-Ok-clause-closes : goal.returns-in-Ok-clause-closes
+returns-in-Ok-clause-closes g c =
+    let d = g.D.Disk in
+    let was = engine_with c.self.inside.store c.self.inside.cursors in
+    subst (λ (e : EngineState g.row.D.Denot). Closes d e (Ok c.in-Ok.disk)) c.self.view_is (record {
+      stands = λ machine is. subst (λ (state : State). Stands was.store.pager.limit (d.seen c.in-Ok.disk) state) (sym (without d was machine is))
+          (c.in-Ok.ensures.closes.stands was.store.file.accepted is.state is.stands);
+      synced = c.in-Ok.ensures.closes.synced;
+      stays = λ machine is. tt;
+      honesty = c.in-Ok.ensures.closes.honesty;
+      limit = tt;
+    })
 
-pub invariant_of-self : goal.invariant_of-self
-invariant_of-self c =
-    let held : Held = record { definitions = c.self.inside.catalog; referents = c.self.inside.referents; events = c.self.inside.events; cursors = c.self.inside.cursors; changes = c.self.inside.changes } in
-    held_other_cursors held c.close.new.self c.self.invariant
-
-pub returns-clause-done : goal.returns-clause-done
-returns-clause-done c =
-    let held : Held = record { definitions = c.self.inside.catalog; referents = c.self.inside.referents; events = c.self.inside.events; cursors = c.self.inside.cursors; changes = c.self.inside.changes } in
-    subst (λ (h : Held). cursor_closed (state_of h) c.args.session c.args.name.now.bytes ≡ Ok (counted 0 (state_of (record held { cursors = c.close.new.self })))) c.self.view_is
-    (close_there held c.args.session c.args.name.now.bytes c.close.new.self (sym c.if-not-has.ensures) c.close.ensures)
+pub returns-in-Err-clause-closes : goal.returns-in-Err-clause-closes
+returns-in-Err-clause-closes g c =
+    let d = g.D.Disk in
+    let was = engine_with c.self.inside.store c.self.inside.cursors in
+    let now = engine_with c.in-Err.store c.self.inside.cursors in
+    subst (λ (e : EngineState g.row.D.Denot). Closes d e (Err (now, c.in-Err.refusal))) c.self.view_is (record {
+      stands = λ machine is. tt;
+      synced = tt;
+      stays = λ machine is. stays d was now machine is c.in-Err.ensures.closes.keeps.contents c.in-Err.ensures.closes.keeps.full c.in-Err.ensures.closes.keeps.limit refl;
+      honesty = c.in-Err.ensures.closes.keeps.honesty;
+      limit = c.in-Err.ensures.closes.keeps.limit;
+    })

@@ -1,41 +1,83 @@
-use Rattle.std.proofs.Common.{◌≡◌, ◌+◌, inr, Ok, Err, sym, ap, subst, ◌∙◌}
+-- A row that is put into a table.
+use Rattle.std.proofs.Common.{◌≡◌, ◌∙◌, ℕ, [], Err, Ok, Some, ap, refl, subst, sym}
 use Rattle.std.proofs.lemmas.Result.{err_from_is_err_and}
-use Rattle.rs_value.specs.View.{literal_row}
+use Rattle.std.specs.FinMap as names
+use Rattle.rs_facts.specs.Insert.{new_facts}
+use Rattle.rs_facts.specs.Query.{Table}
 use Rattle.rs_facts.specs.Spans.{seen}
+use Rattle.rs_engine.specs.Kept.{EngineState, IsMachine}
+use Rattle.rs_engine.specs.Replied.{count_reply_of}
+use Rattle.rs_engine.specs.Serving.{IsServed}
+use Rattle.rs_engine.proofs.Stepping.{by_step, check_wanting, found, made_at, refused_at}
+use Rattle.rs_engine.proofs.Tables.{HasTableSo, table_so, table_step, with_table_named}
+use Rattle.rs_machine.specs.Served.{done}
+use Rattle.rs_machine.specs.State.{State}
+use Rattle.rs_machine.specs.Step.{counted, outcome, with_facts_along}
+use Rattle.rs_store.specs.Changing.{Always}
+use Rattle.rs_syntax.specs.Tree as tree
 use Rattle.rs_syntax.specs.View.{location_tree}
-use Rattle.rs_machine.specs.Step.{counted, may_change, row_inserted}
-use Rattle.rs_engine.specs.Held.{Held, state_of}
-use Rattle.rs_engine.specs.Insertion.{MayBePut}
-use Rattle.rs_engine.proofs.Outcomes.{may_ok}
-use Rattle.rs_engine.proofs.EventResults.{put_placed, row_put, held_put, row_no_change}
+use Rattle.rs_value.specs.View.{literal_row}
 use Rattle.rs_engine.proofs.engine.Engine.insert.Goals as goal
 
-pub returns-in_err-may_change-clause-refused : goal.returns-in_err-may_change-clause-refused
-returns-in_err-may_change-clause-refused c =
-    let held : Held = record { definitions = c.self.inside.catalog; referents = c.self.inside.referents; events = c.self.inside.events; cursors = c.self.inside.cursors; changes = c.self.inside.changes } in
-    let p = err_from_is_err_and c.from_residual-in_err-may_change.result c.from_residual-in_err-may_change.ensures.1 in
-    let may = subst (λ (h : Held). MayBePut h c.args.table.now.bytes c.args.route.now.bytes (location_tree c.args.place.now) (literal_row c.args.values.now) c.in_ok-number.number c.in_ok-number.on (seen c.in_ok-number.span)) (sym c.self.view_is) c.in_ok-number.ensures.done in
-    rw (p.1, p.2) (inr (subst (λ (h : Held). row_inserted (state_of h) c.args.table.now.bytes c.args.route.now.bytes (location_tree c.args.place.now) (literal_row c.args.values.now) ≡ Err c.in_err-may_change.field-0.0) c.self.view_is
-    (row_no_change held c.self.invariant c.args.table.now.bytes c.args.route.now.bytes (location_tree c.args.place.now) (literal_row c.args.values.now) c.in_ok-number.number c.in_ok-number.on (seen c.in_ok-number.span) may _ (c.in_err-may_change.ensures.answer ∙ ap (λ (h : Held). may_change (state_of h)) (sym c.self.view_is)))))
+pub returns-in_err-span : goal.returns-in_err-span
+returns-in_err-span g c =
+    let p = err_from_is_err_and c.from_residual.result c.from_residual.ensures.1 in
+    record {
+      serves = λ machine here. check_wanting c.accepted_step_leaves_the_state_lawful.ensures g.D.Disk c.store_stands_in_one_state.ensures.state c.args.self.now c.args.self.now refl
+          c.checks.result c.checks.ensures machine here (tree.insert c.args.table.now.bytes c.args.route.now.bytes (location_tree c.args.place.now) (literal_row c.args.values.now))
+          c.from_residual.result count_reply_of c.in_err-span.field-0.0 c.args.self.now refl (p.1 ∙ ap Err p.2) refl c.in_err-span.ensures.refused;
+    }
 
-pub insert-requires-clause-placed : goal.insert-requires-clause-placed
-insert-requires-clause-placed c =
-    let held : Held = record { definitions = c.self.inside.catalog; referents = c.self.inside.referents; events = c.self.inside.events; cursors = c.self.inside.cursors; changes = c.self.inside.changes } in
-    let may = subst (λ (h : Held). MayBePut h c.args.table.now.bytes c.args.route.now.bytes (location_tree c.args.place.now) (literal_row c.args.values.now) c.in_ok-number.number c.in_ok-number.on (seen c.in_ok-number.span)) (sym c.self.view_is) c.in_ok-number.ensures.done in
-    put_placed held c.self.invariant c.args.table.now.bytes c.args.route.now.bytes (location_tree c.args.place.now) (literal_row c.args.values.now) c.in_ok-number.number c.in_ok-number.on (seen c.in_ok-number.span) may
+pub returns-in_err-new_facts : goal.returns-in_err-new_facts
+returns-in_err-new_facts g c =
+    let old : EngineState g.row.D.Denot = record { store = c.self.inside.store; cursors = c.self.inside.cursors } in
+    let laws = c.accepted_step_leaves_the_state_lawful.ensures in
+    let states = c.store_stands_in_one_state.ensures.state in
+    let name = c.args.table.now.bytes in
+    let route = c.args.route.now.bytes in
+    let span = seen c.in_ok-span.span in
+    let said = tree.insert name route (location_tree c.args.place.now) (literal_row c.args.values.now) in
+    let event = c.in_ok-span.ensures.event c.requires.sound.4 in
+    let p = err_from_is_err_and c.from_residual-in_err-new_facts.result c.from_residual-in_err-new_facts.ensures.1 in
+    record {
+      serves = λ machine here.
+          let so : State → Table → Type 0 = λ state table. outcome state 0 said
+          ≡ Ok (counted (new_facts table.facts route span.lo span.hi span.row) (with_table_named name (with_facts_along table route span.lo span.hi span.row) state)) in
+          let t = found laws g.D.Disk states old c.args.self.now c.self.view_is c.checks.result c.checks.ensures machine here said (HasTableSo name so)
+          (λ spans. table_so c.checks.result name event.table event.table_there so spans (c.in_ok-span.ensures.accepted spans)) in
+          let next = with_facts_along t.table route span.lo span.hi span.row in
+          refused_at laws g.D.Disk states old c.args.self.now c.self.view_is c.checks.result c.checks.ensures machine here said c.requires.sound
+          (with_table_named name next) (table_step name next) (new_facts t.table.facts route span.lo span.hi span.row) t.is
+          Always (record { store = c.insert.new.self; cursors = old.cursors }) c.from_residual-in_err-new_facts.result count_reply_of c.in_err-new_facts.field-0.0
+          c.in_err-new_facts.ensures.leaves refl (λ is known lawful. tt) (p.1 ∙ ap Err p.2) refl;
+    }
 
-pub invariant_of-self-2 : goal.invariant_of-self-2
-invariant_of-self-2 c =
-    let held : Held = record { definitions = c.self.inside.catalog; referents = c.self.inside.referents; events = c.self.inside.events; cursors = c.self.inside.cursors; changes = c.self.inside.changes } in
-    let may = subst (λ (h : Held). MayBePut h c.args.table.now.bytes c.args.route.now.bytes (location_tree c.args.place.now) (literal_row c.args.values.now) c.in_ok-number.number c.in_ok-number.on (seen c.in_ok-number.span)) (sym c.self.view_is) c.in_ok-number.ensures.done in
-    held_put held c.self.invariant c.args.table.now.bytes c.args.route.now.bytes (location_tree c.args.place.now) (literal_row c.args.values.now) c.in_ok-number.number c.in_ok-number.on (seen c.in_ok-number.span) may c.insert.new.self c.in_ok-new_facts.new_facts c.in_ok-new_facts.ensures.ok c.stand_kept.ensures
-
-pub returns-clause-done : goal.returns-clause-done
-returns-clause-done c =
-    let held : Held = record { definitions = c.self.inside.catalog; referents = c.self.inside.referents; events = c.self.inside.events; cursors = c.self.inside.cursors; changes = c.self.inside.changes } in
-    let may = subst (λ (h : Held). MayBePut h c.args.table.now.bytes c.args.route.now.bytes (location_tree c.args.place.now) (literal_row c.args.values.now) c.in_ok-number.number c.in_ok-number.on (seen c.in_ok-number.span)) (sym c.self.view_is) c.in_ok-number.ensures.done in
-    let after : Held = record held { events = c.insert.new.self; changes = c.self.inside.changes + 1 } in
-    ap (λ (h : Held). row_inserted (state_of h) c.args.table.now.bytes c.args.route.now.bytes (location_tree c.args.place.now) (literal_row c.args.values.now)) (sym c.self.view_is)
-    ∙ row_put held c.self.invariant c.args.table.now.bytes c.args.route.now.bytes (location_tree c.args.place.now) (literal_row c.args.values.now) c.in_ok-number.number c.in_ok-number.on (seen c.in_ok-number.span) may c.insert.new.self c.in_ok-new_facts.new_facts c.in_ok-new_facts.ensures.ok c.stand_kept.ensures
-    ∙ may_ok held _ (c.in_ok-may_change.ensures.answer ∙ ap (λ (h : Held). may_change (state_of h)) (sym c.self.view_is))
-    ∙ ap (λ count. Ok (counted count (state_of after))) (sym c.from.ensures)
+pub returns : goal.returns
+returns g c =
+    let d = g.D.Disk in
+    let old : EngineState g.row.D.Denot = record { store = c.self.inside.store; cursors = c.self.inside.cursors } in
+    let now : EngineState g.row.D.Denot = record { store = c.insert.new.self; cursors = old.cursors } in
+    let laws = c.accepted_step_leaves_the_state_lawful.ensures in
+    let states = c.store_stands_in_one_state.ensures.state in
+    let name = c.args.table.now.bytes in
+    let route = c.args.route.now.bytes in
+    let span = seen c.in_ok-span.span in
+    let said = tree.insert name route (location_tree c.args.place.now) (literal_row c.args.values.now) in
+    let event = c.in_ok-span.ensures.event c.requires.sound.4 in
+    record {
+      serves = λ machine here.
+          let so : State → Table → Type 0 = λ state table. outcome state 0 said
+          ≡ Ok (counted (new_facts table.facts route span.lo span.hi span.row) (with_table_named name (with_facts_along table route span.lo span.hi span.row) state)) in
+          let t = found laws d states old c.args.self.now c.self.view_is c.checks.result c.checks.ensures machine here said (HasTableSo name so)
+          (λ spans. table_so c.checks.result name event.table event.table_there so spans (c.in_ok-span.ensures.accepted spans)) in
+          let next = with_facts_along t.table route span.lo span.hi span.row in
+          let count = new_facts t.table.facts route span.lo span.hi span.row in
+          let there : (is : IsMachine d old machine) → names.get is.state.tables name ≡ Some t.table = λ is.
+          subst (λ (state : State). names.get state.tables name ≡ Some t.table) is.is t.there in
+          let counted_so : c.in_ok-new_facts.new_facts ≡ count = by_step laws d states old c.args.self.now c.self.view_is c.checks.result c.checks.ensures machine here said c.requires.sound
+          (with_table_named name next) (table_step name next) count t.is c.oldest-oldest.result c.oldest-oldest.ensures (λ is low high lawful. (c.in_ok-new_facts.ensures.inserts old.store.file.accepted is.state is.stands low high t.table (there is) lawful).1) in
+          subst (λ (n : ℕ). IsServed d (outcome machine.state 0 said) machine (done [] n) now) (sym (c.from.ensures ∙ counted_so))
+          (made_at laws d states old c.args.self.now c.self.view_is c.checks.result c.checks.ensures machine here said c.requires.sound
+          (with_table_named name next) (table_step name next) count t.is Always now c.in_ok-new_facts.new_facts c.in_ok-new_facts.ensures.leaves refl
+          c.oldest-oldest.result c.oldest-oldest.ensures (λ is known low high level lawful. (c.in_ok-new_facts.ensures.inserts old.store.file.accepted is.state is.stands low high t.table (there is) lawful).0));
+    }

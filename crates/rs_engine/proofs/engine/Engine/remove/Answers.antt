@@ -1,36 +1,83 @@
-use Rattle.std.proofs.Common.{◌≡◌, inr, Err, sym, ap, subst, ◌∙◌}
+-- Rows that are taken away from a table.
+use Rattle.std.proofs.Common.{◌≡◌, ◌∙◌, ℕ, [], Err, Ok, Some, ap, refl, subst, sym}
 use Rattle.std.proofs.lemmas.Result.{err_from_is_err_and}
-use Rattle.rs_syntax.specs.View.{removal_tree}
+use Rattle.std.specs.FinMap as names
+use Rattle.rs_spans.specs.Removal.{goes_by}
+use Rattle.rs_facts.specs.Query.{Table}
+use Rattle.rs_facts.specs.Remove.{removed_facts}
+use Rattle.rs_engine.specs.Kept.{EngineState, IsMachine}
+use Rattle.rs_engine.specs.Replied.{count_reply_of}
+use Rattle.rs_engine.specs.Serving.{IsServed}
+use Rattle.rs_engine.proofs.Stepping.{by_step, check_wanting, found, made_at, refused_at}
+use Rattle.rs_engine.proofs.Tables.{HasTableSo, table_so, table_step, with_table_named}
+use Rattle.rs_machine.specs.Served.{done}
+use Rattle.rs_machine.specs.State.{State}
+use Rattle.rs_machine.specs.Step.{counted, outcome, without_facts}
+use Rattle.rs_store.specs.Changing.{Always}
 use Rattle.rs_syntax.specs.QueryView.{window_tree}
-use Rattle.rs_machine.specs.Step.{may_change, rows_removed}
-use Rattle.rs_event_lists.specs.Changed.{LosesRows}
-use Rattle.rs_event_lists.specs.Removal.{goes_by}
-use Rattle.rs_engine.specs.Held.{Held, state_of}
-use Rattle.rs_engine.specs.Removal.{MayBeTaken}
-use Rattle.rs_engine.proofs.Outcomes.{may_ok}
-use Rattle.rs_engine.proofs.EventResults.{rows_taken, held_without, removal_no_change}
+use Rattle.rs_syntax.specs.Tree as tree
+use Rattle.rs_syntax.specs.View.{removal_tree}
 use Rattle.rs_engine.proofs.engine.Engine.remove.Goals as goal
 
-pub returns-in_err-may_change-clause-refused : goal.returns-in_err-may_change-clause-refused
-returns-in_err-may_change-clause-refused c =
-    let held : Held = record { definitions = c.self.inside.catalog; referents = c.self.inside.referents; events = c.self.inside.events; cursors = c.self.inside.cursors; changes = c.self.inside.changes } in
-    let p = err_from_is_err_and c.from_residual-in_err-may_change.result c.from_residual-in_err-may_change.ensures.1 in
-    let may = subst (λ (h : Held). MayBeTaken h c.args.table.now.bytes (window_tree c.args.window.now) (removal_tree c.args.condition.now) c.in_ok-removal.removal) (sym c.self.view_is) c.in_ok-removal.ensures.done in
-    rw (p.1, p.2) (inr (subst (λ (h : Held). rows_removed (state_of h) c.args.table.now.bytes (window_tree c.args.window.now) (removal_tree c.args.condition.now) ≡ Err c.in_err-may_change.field-0.0) c.self.view_is
-    (removal_no_change held c.self.invariant c.args.table.now.bytes (window_tree c.args.window.now) (removal_tree c.args.condition.now) c.in_ok-removal.removal may _ (c.in_err-may_change.ensures.answer ∙ ap (λ (h : Held). may_change (state_of h)) (sym c.self.view_is)))))
+pub returns-in_err-removal : goal.returns-in_err-removal
+returns-in_err-removal g c =
+    let p = err_from_is_err_and c.from_residual.result c.from_residual.ensures.1 in
+    record {
+      serves = λ machine here. check_wanting c.accepted_step_leaves_the_state_lawful.ensures g.D.Disk c.store_stands_in_one_state.ensures.state c.args.self.now c.args.self.now refl
+          c.checks.result c.checks.ensures machine here (tree.remove c.args.table.now.bytes (window_tree c.args.window.now) (removal_tree c.args.condition.now))
+          c.from_residual.result count_reply_of c.in_err-removal.field-0.0 c.args.self.now refl (p.1 ∙ ap Err p.2) refl c.in_err-removal.ensures.refused;
+    }
 
-pub invariant_of-self-2 : goal.invariant_of-self-2
-invariant_of-self-2 c =
-    let held : Held = record { definitions = c.self.inside.catalog; referents = c.self.inside.referents; events = c.self.inside.events; cursors = c.self.inside.cursors; changes = c.self.inside.changes } in
-    let may = subst (λ (h : Held). MayBeTaken h c.args.table.now.bytes (window_tree c.args.window.now) (removal_tree c.args.condition.now) c.in_ok-removal.removal) (sym c.self.view_is) c.in_ok-removal.ensures.done in
-    let lost = subst (λ goes. LosesRows c.self.inside.events c.in_ok-removal.removal.table c.in_ok-removal.removal.route c.in_ok-removal.removal.lo c.in_ok-removal.removal.hi (goes_by goes) c.remove.new.self c.in_ok-gone.gone) c.as_ref.ensures.value c.in_ok-gone.ensures.ok in
-    held_without held c.self.invariant c.args.table.now.bytes (window_tree c.args.window.now) (removal_tree c.args.condition.now) c.in_ok-removal.removal may c.remove.new.self c.in_ok-gone.gone lost c.stand_kept.ensures
+pub returns-in_err-gone : goal.returns-in_err-gone
+returns-in_err-gone g c =
+    let old : EngineState g.row.D.Denot = record { store = c.self.inside.store; cursors = c.self.inside.cursors } in
+    let laws = c.accepted_step_leaves_the_state_lawful.ensures in
+    let states = c.store_stands_in_one_state.ensures.state in
+    let name = c.args.table.now.bytes in
+    let removal = c.in_ok-removal.removal in
+    let goes = goes_by removal.goes in
+    let said = tree.remove name (window_tree c.args.window.now) (removal_tree c.args.condition.now) in
+    let event = c.in_ok-removal.ensures.there in
+    let p = err_from_is_err_and c.from_residual-in_err-gone.result c.from_residual-in_err-gone.ensures.1 in
+    record {
+      serves = λ machine here.
+          let so : State → Table → Type 0 = λ state table. outcome state 0 said
+          ≡ Ok (counted (removed_facts table.facts removal.route.bytes removal.lo removal.hi goes) (with_table_named name (without_facts table removal.route.bytes removal.lo removal.hi goes) state)) in
+          let t = found laws g.D.Disk states old c.args.self.now c.self.view_is c.checks.result c.checks.ensures machine here said (HasTableSo name so)
+          (λ spans. table_so c.checks.result name event.table event.table_there so spans (c.in_ok-removal.ensures.accepted spans)) in
+          let next = without_facts t.table removal.route.bytes removal.lo removal.hi goes in
+          refused_at laws g.D.Disk states old c.args.self.now c.self.view_is c.checks.result c.checks.ensures machine here said c.requires.sound
+          (with_table_named name next) (table_step name next) (removed_facts t.table.facts removal.route.bytes removal.lo removal.hi goes) t.is
+          Always (record { store = c.remove.new.self; cursors = old.cursors }) c.from_residual-in_err-gone.result count_reply_of c.in_err-gone.field-0.0
+          c.in_err-gone.ensures.leaves refl (λ is known lawful. tt) (p.1 ∙ ap Err p.2) refl;
+    }
 
-pub returns-clause-done : goal.returns-clause-done
-returns-clause-done c =
-    let held : Held = record { definitions = c.self.inside.catalog; referents = c.self.inside.referents; events = c.self.inside.events; cursors = c.self.inside.cursors; changes = c.self.inside.changes } in
-    let may = subst (λ (h : Held). MayBeTaken h c.args.table.now.bytes (window_tree c.args.window.now) (removal_tree c.args.condition.now) c.in_ok-removal.removal) (sym c.self.view_is) c.in_ok-removal.ensures.done in
-    let lost = subst (λ goes. LosesRows c.self.inside.events c.in_ok-removal.removal.table c.in_ok-removal.removal.route c.in_ok-removal.removal.lo c.in_ok-removal.removal.hi (goes_by goes) c.remove.new.self c.in_ok-gone.gone) c.as_ref.ensures.value c.in_ok-gone.ensures.ok in
-    ap (λ (h : Held). rows_removed (state_of h) c.args.table.now.bytes (window_tree c.args.window.now) (removal_tree c.args.condition.now)) (sym c.self.view_is)
-    ∙ rows_taken held c.self.invariant c.args.table.now.bytes (window_tree c.args.window.now) (removal_tree c.args.condition.now) c.in_ok-removal.removal may c.remove.new.self c.in_ok-gone.gone lost c.stand_kept.ensures
-    ∙ may_ok held _ (c.in_ok-may_change.ensures.answer ∙ ap (λ (h : Held). may_change (state_of h)) (sym c.self.view_is))
+pub returns : goal.returns
+returns g c =
+    let d = g.D.Disk in
+    let old : EngineState g.row.D.Denot = record { store = c.self.inside.store; cursors = c.self.inside.cursors } in
+    let now : EngineState g.row.D.Denot = record { store = c.remove.new.self; cursors = old.cursors } in
+    let laws = c.accepted_step_leaves_the_state_lawful.ensures in
+    let states = c.store_stands_in_one_state.ensures.state in
+    let name = c.args.table.now.bytes in
+    let removal = c.in_ok-removal.removal in
+    let goes = goes_by removal.goes in
+    let said = tree.remove name (window_tree c.args.window.now) (removal_tree c.args.condition.now) in
+    let event = c.in_ok-removal.ensures.there in
+    record {
+      serves = λ machine here.
+          let so : State → Table → Type 0 = λ state table. outcome state 0 said
+          ≡ Ok (counted (removed_facts table.facts removal.route.bytes removal.lo removal.hi goes) (with_table_named name (without_facts table removal.route.bytes removal.lo removal.hi goes) state)) in
+          let t = found laws d states old c.args.self.now c.self.view_is c.checks.result c.checks.ensures machine here said (HasTableSo name so)
+          (λ spans. table_so c.checks.result name event.table event.table_there so spans (c.in_ok-removal.ensures.accepted spans)) in
+          let next = without_facts t.table removal.route.bytes removal.lo removal.hi goes in
+          let count = removed_facts t.table.facts removal.route.bytes removal.lo removal.hi goes in
+          let there : (is : IsMachine d old machine) → names.get is.state.tables name ≡ Some t.table = λ is.
+          subst (λ (state : State). names.get state.tables name ≡ Some t.table) is.is t.there in
+          let counted_so : c.in_ok-gone.gone ≡ count = by_step laws d states old c.args.self.now c.self.view_is c.checks.result c.checks.ensures machine here said c.requires.sound
+          (with_table_named name next) (table_step name next) count t.is c.oldest-oldest.result c.oldest-oldest.ensures (λ is low high lawful. (c.in_ok-gone.ensures.removes old.store.file.accepted is.state is.stands low high t.table (there is) lawful).1) in
+          subst (λ (n : ℕ). IsServed d (outcome machine.state 0 said) machine (done [] n) now) (sym counted_so)
+          (made_at laws d states old c.args.self.now c.self.view_is c.checks.result c.checks.ensures machine here said c.requires.sound
+          (with_table_named name next) (table_step name next) count t.is Always now c.in_ok-gone.gone c.in_ok-gone.ensures.leaves refl
+          c.oldest-oldest.result c.oldest-oldest.ensures (λ is known low high level lawful. (c.in_ok-gone.ensures.removes old.store.file.accepted is.state is.stands low high t.table (there is) lawful).0));
+    }

@@ -1,23 +1,74 @@
-use Rattle.std.proofs.Common.{◌≡◌, ◌+◌, Some, sym, ap, subst, ◌∙◌}
-use Rattle.std.specs.FinMap as names
-use Rattle.rs_catalog.specs.Definitions.{Definitions, AreDefinitions}
-use Rattle.rs_catalog.specs.Referents.{referents_on, at_number}
-use Rattle.rs_event_lists.specs.Changed.{DropsRoute, HasNoSpansOn}
-use Rattle.rs_machine.specs.Step.{without_route}
-use Rattle.rs_engine.specs.Held.{Held, state_of, IsHeld}
-use Rattle.rs_engine.proofs.RouteSteps.{state_dropped_route, held_dropped_route}
+-- A route that is dropped, where it is known whether some table has a fact on it.
+use Rattle.std.proofs.Common.{◌≡◌, ◌∙◌, ℕ, Bool, List, Err, Ok, ap, false, refl, subst, sym}
+use Rattle.std.proofs.lemmas.Result.{err_from_is_err_and}
+use Rattle.rs_command_checks.specs.Facts.{TellsOfFacts}
+use Rattle.rs_disk.specs.declared.disk.Disk as disk
+use Rattle.rs_engine.specs.Kept.{EngineState, IsMachine}
+use Rattle.rs_engine.specs.Replied.{count_reply_of}
+use Rattle.rs_engine.proofs.Stepping.{IsStep, check_refused_at, found, made_at, refused_at}
+use Rattle.rs_machine.specs.Lawful.{IsLawful}
+use Rattle.rs_machine.specs.Served.{Machine}
+use Rattle.rs_machine.specs.State.{State}
+use Rattle.rs_machine.specs.Step.{counted, route_dropped, without_route}
+use Rattle.rs_store.specs.Routing.{HasNoFactOn}
+use Rattle.rs_syntax.specs.Tree as tree
 use Rattle.rs_engine.proofs.engine.Engine.take_route.Goals as goal
 
-pub invariant_of-self : goal.invariant_of-self
-invariant_of-self c =
-    let held : Held = record { definitions = c.self.inside.catalog; referents = c.self.inside.referents; events = c.self.inside.events; cursors = c.self.inside.cursors; changes = c.self.inside.changes } in
-    subst (λ (d : Definitions). IsHeld (record { definitions = d; referents = c.drop_route-2.new.self; events = c.drop_route-3.new.self; cursors = c.self.inside.cursors; changes = held.changes + 1 })) (sym c.drop_route.ensures)
-    (held_dropped_route held c.args.name.now.bytes c.args.route c.drop_route-2.new.self c.drop_route-3.new.self c.self.invariant (subst (λ (h : Held). names.get h.definitions.routes c.args.name.now.bytes ≡ Some c.args.route) (sym c.self.view_is) c.requires.there) (subst (λ (h : Held). HasNoSpansOn h.events c.args.route.number) (sym c.self.view_is) c.requires.no_spans) (c.drop_route-2.ensures ∙ ap (λ n. at_number n names.empty (referents_on c.self.inside.referents)) c.number.ensures) (subst (λ n. DropsRoute c.self.inside.events n c.drop_route-3.new.self) c.number-2.ensures c.drop_route-3.ensures)
-    (subst AreDefinitions c.drop_route.ensures c.stand.ensures))
+abbrev next_of : List ℕ → State → State
+next_of name state = without_route state name
+
+is_step : (name : List ℕ) → IsStep (next_of name)
+is_step name = record { beside = λ cursors state. refl; none = λ state. refl }
+
+-- the file's state has no fact on the route where that is told of the machine's
+none_on : {D : Type 0} (d : disk.Ghosts D) (engine : EngineState D) (machine : Machine) (is : IsMachine d engine machine) (name : List ℕ) (has_facts : Bool)
+    → TellsOfFacts machine.state name has_facts → has_facts ≡ false → HasNoFactOn name is.state
+none_on d engine machine is name has_facts tells none ends there =
+    sym (subst (λ (state : State). TellsOfFacts state name has_facts) is.is tells ends there) ∙ none
+
+pub returns-in_err-check_old_route : goal.returns-in_err-check_old_route
+returns-in_err-check_old_route g c =
+    let name = c.args.name.now.bytes in
+    let p = err_from_is_err_and c.from_residual.result c.from_residual.ensures.1 in
+    record {
+      serves = λ machine here tells. check_refused_at c.accepted_step_leaves_the_state_lawful.ensures g.D.Disk c.store_stands_in_one_state.ensures.state c.args.self.now c.args.self.now refl
+          c.checks.result c.checks.ensures machine here (tree.drop_route name) c.from_residual.result count_reply_of c.in_err-check_old_route.field-0.0
+          c.args.self.now refl (p.1 ∙ ap Err p.2) refl
+          (found c.accepted_step_leaves_the_state_lawful.ensures g.D.Disk c.store_stands_in_one_state.ensures.state c.args.self.now c.args.self.now refl c.checks.result c.checks.ensures machine here
+          (tree.drop_route name) (λ (state : State). TellsOfFacts state name c.args.has_facts → route_dropped state name ≡ Err c.in_err-check_old_route.field-0.0)
+          c.in_err-check_old_route.ensures.refused tells);
+    }
+
+pub returns-in_err-drop_route : goal.returns-in_err-drop_route
+returns-in_err-drop_route g c =
+    let old : EngineState g.row.D.Denot = record { store = c.self.inside.store; cursors = c.self.inside.cursors } in
+    let laws = c.accepted_step_leaves_the_state_lawful.ensures in
+    let states = c.store_stands_in_one_state.ensures.state in
+    let name = c.args.name.now.bytes in
+    let p = err_from_is_err_and c.from_residual-in_err-drop_route.result c.from_residual-in_err-drop_route.ensures.1 in
+    record {
+      serves = λ machine here tells.
+          let out = found laws g.D.Disk states old c.args.self.now c.self.view_is c.checks.result c.checks.ensures machine here (tree.drop_route name)
+          (λ (state : State). TellsOfFacts state name c.args.has_facts → route_dropped state name ≡ Ok (counted 0 (next_of name state))) c.in_ok-check_old_route.ensures.accepted tells in
+          refused_at laws g.D.Disk states old c.args.self.now c.self.view_is c.checks.result c.checks.ensures machine here (tree.drop_route name) c.requires.sound (next_of name) (is_step name) 0 out
+          (λ (state : State). HasNoFactOn name state × IsLawful (next_of name state)) (record { store = c.drop_route.new.self; cursors = old.cursors }) c.from_residual-in_err-drop_route.result count_reply_of
+          c.in_err-drop_route.field-0.0 c.in_err-drop_route.ensures.leaves refl
+          (λ is known lawful. (none_on g.D.Disk old machine is name c.args.has_facts tells c.in_ok-check_old_route.ensures.no_facts, lawful)) (p.1 ∙ ap Err p.2) refl;
+    }
 
 pub returns : goal.returns
-returns c =
-    let held : Held = record { definitions = c.self.inside.catalog; referents = c.self.inside.referents; events = c.self.inside.events; cursors = c.self.inside.cursors; changes = c.self.inside.changes } in
-    ap (λ (d : Definitions). state_of (record { definitions = d; referents = c.drop_route-2.new.self; events = c.drop_route-3.new.self; cursors = c.self.inside.cursors; changes = held.changes + 1 })) c.drop_route.ensures
-    ∙ state_dropped_route held c.args.name.now.bytes c.args.route c.drop_route-2.new.self c.drop_route-3.new.self c.self.invariant (subst (λ (h : Held). names.get h.definitions.routes c.args.name.now.bytes ≡ Some c.args.route) (sym c.self.view_is) c.requires.there) (subst (λ (h : Held). HasNoSpansOn h.events c.args.route.number) (sym c.self.view_is) c.requires.no_spans) (c.drop_route-2.ensures ∙ ap (λ n. at_number n names.empty (referents_on c.self.inside.referents)) c.number.ensures) (subst (λ n. DropsRoute c.self.inside.events n c.drop_route-3.new.self) c.number-2.ensures c.drop_route-3.ensures)
-    ∙ ap (λ (h : Held). without_route (state_of h) c.args.name.now.bytes) c.self.view_is
+returns g c =
+    let old : EngineState g.row.D.Denot = record { store = c.self.inside.store; cursors = c.self.inside.cursors } in
+    let laws = c.accepted_step_leaves_the_state_lawful.ensures in
+    let states = c.store_stands_in_one_state.ensures.state in
+    let name = c.args.name.now.bytes in
+    record {
+      serves = λ machine here tells.
+          let out = found laws g.D.Disk states old c.args.self.now c.self.view_is c.checks.result c.checks.ensures machine here (tree.drop_route name)
+          (λ (state : State). TellsOfFacts state name c.args.has_facts → route_dropped state name ≡ Ok (counted 0 (next_of name state))) c.in_ok-check_old_route.ensures.accepted tells in
+          made_at laws g.D.Disk states old c.args.self.now c.self.view_is c.checks.result c.checks.ensures machine here (tree.drop_route name) c.requires.sound (next_of name) (is_step name) 0 out
+          (λ (state : State). HasNoFactOn name state × IsLawful (next_of name state)) (record { store = c.drop_route.new.self; cursors = old.cursors }) c.in_ok-drop_route.field-0
+          c.in_ok-drop_route.ensures.leaves refl c.oldest-oldest.result c.oldest-oldest.ensures
+          (λ is known low high level lawful. c.in_ok-drop_route.ensures.drops old.store.file.accepted is.state is.stands low high level
+          (none_on g.D.Disk old machine is name c.args.has_facts tells c.in_ok-check_old_route.ensures.no_facts) lawful);
+    }

@@ -4,7 +4,7 @@ use Rattle.std.specs.FinMap as names
 use Rattle.std.proofs.lemmas.Result.{err_from_is_err_and}
 use Rattle.rs_catalog.specs.Definitions.{Definitions}
 use Rattle.rs_contents.specs.declared.opened.OpenedFile.{OpenedFile}
-use Rattle.rs_event_lists.specs.Removal.{goes_by}
+use Rattle.rs_spans.specs.Removal.{goes_by}
 use Rattle.rs_facts.specs.Remove.{removed_facts}
 use Rattle.rs_machine.specs.Step.{with_table, without_facts}
 use Rattle.rs_machine.specs.declared.limits.TheConstants.{CHANGES}

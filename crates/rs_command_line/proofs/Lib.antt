@@ -1,0 +1,5 @@
+pub mod Rows
+pub mod Walks
+pub mod Asking
+pub mod Reading
+pub mod Values

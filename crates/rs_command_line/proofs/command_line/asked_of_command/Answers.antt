@@ -1,0 +1,44 @@
+use Rattle.std.proofs.Common.{◌≡◌, ◌∙◌, Option, Some, None, IsSome, ap, codes, option_map, refl, subst, sym}
+use Rattle.std.specs.Prelude.{option_and_then}
+use Rattle.std.specs.Option.{option_map_or}
+use Rattle.std.specs.Str.Parse.{ExplainsUnsignedError, HasUnsignedDigitsIfOk, ParsesUnsigned}
+use Rattle.clap.specs.Words.{Text, found_of, rows_of}
+use Rattle.clap.proofs.WalkLemmas.{first_value-rows, one_text-rows}
+use Rattle.rs_command_line.specs.Asked.{asked_by, connections_in, file_in, address_in, number_in, runs, runs_over, serves}
+use Rattle.rs_command_line.proofs.Reading.{last_of_three, number_read, number_text, number_worth}
+use Rattle.rs_command_line.proofs.command_line.asked_of_command.Goals as goal
+
+pub returns-in-Some : goal.returns-in-Some
+returns-in-Some c =
+    let rows = rows_of (found_of c.args.given.now) in
+    let given : file_in rows ≡ Some c.in-Some.file.now =
+    sym (first_value-rows (found_of c.args.given.now) (codes "file")) ∙ sym c.get_str.ensures ∙ ap (option_map (λ s. s.now)) c.in-Some.is in
+    subst (λ (name : Text). asked_by (name, rows) ≡ Some (runs_over c.in-Some.file.now)) (sym c.in-run.is) (ap (λ (file : Option Text). Some (option_map_or runs_over file runs)) given)
+
+pub returns-in-None : goal.returns-in-None
+returns-in-None c =
+    let rows = rows_of (found_of c.args.given.now) in
+    let given : file_in rows ≡ None =
+    sym (first_value-rows (found_of c.args.given.now) (codes "file")) ∙ sym c.get_str.ensures ∙ ap (option_map (λ s. s.now)) c.in-None.is in
+    subst (λ (name : Text). asked_by (name, rows) ≡ Some runs) (sym c.in-run.is) (ap (λ (file : Option Text). Some (option_map_or runs_over file runs)) given)
+
+pub unwrap-requires : goal.unwrap-requires
+unwrap-requires c =
+    let rows = rows_of (found_of c.args.given.now) in
+    let asks = subst (λ (name : Text). IsSome (asked_by (name, rows))) c.in-serve.is c.requires in
+    let number = number_text _ (last_of_three (file_in rows) (address_in rows) (connections_in rows) asks) in
+    let text = one_text-rows (found_of c.args.given.now) (codes "connections") ∙ number.1 in
+    let read = number_read (λ bs r. ParsesUnsigned 32 10 bs r × ExplainsUnsignedError 10 bs r × HasUnsignedDigitsIfOk bs r) number.0 c.get_one.result (λ u x h. h.0) number.2 (c.get_one.ensures.value number.0 text) in
+    rw read refl
+
+pub returns-in-serve : goal.returns-in-serve
+returns-in-serve c =
+    let rows = rows_of (found_of c.args.given.now) in
+    let asks = subst (λ (name : Text). IsSome (asked_by (name, rows))) c.in-serve.is c.requires in
+    let number = number_text _ (last_of_three (file_in rows) (address_in rows) (connections_in rows) asks) in
+    let text = one_text-rows (found_of c.args.given.now) (codes "connections") ∙ number.1 in
+    let read = number_read (λ bs r. ParsesUnsigned 32 10 bs r × ExplainsUnsignedError 10 bs r × HasUnsignedDigitsIfOk bs r) number.0 c.get_one.result (λ u x h. h.0) number.2 (c.get_one.ensures.value number.0 text) in
+    let connections : connections_in rows ≡ Some c.unwrap.result =
+    ap (option_and_then number_in) number.1 ∙ number_worth number.0 number.2 ∙ sym read ∙ c.unwrap.ensures in
+    subst (λ (name : Text). asked_by (name, rows) ≡ Some (serves c.text_of-in-serve.result.now c.text_of-in-serve-2.result.now c.unwrap.result)) (sym c.in-serve.is)
+    (rw (c.text_of-in-serve.ensures, c.text_of-in-serve-2.ensures, connections) refl)

@@ -1,0 +1,30 @@
+use Rattle.std.proofs.Common.{map, ◌≡◌, refl, subst, sym, true, []}
+use Rattle.std.specs.Prelude.{IsSome, option_and_then}
+use Rattle.clap.specs.Words.{App, fault_of, is_simple, is_simple_and_free, subcommand_of, subcommand_rows_of}
+use Rattle.clap.proofs.OnLiterals.{clap_on_literals}
+use Rattle.rs_command_line.specs.CommandLine.{command_line}
+use Rattle.rs_command_line.specs.Asked.{asked_by}
+use Rattle.rs_command_line.proofs.Asking.{words_ask}
+use Rattle.rs_command_line.proofs.command_line.read_words.Goals as goal
+
+is_plain : is_simple_and_free command_line ≡ true
+unfolding clap_on_literals
+is_plain = refl
+
+is_easy : is_simple command_line ≡ true
+unfolding clap_on_literals
+is_easy = refl
+
+pub returns-clause-fails : goal.returns-clause-fails
+returns-clause-fails g c =
+    let P : App → Type 0 = λ a. is_simple_and_free a ≡ true → fault_of a (map g.S.AsStr.text c.args.words.now) ≡ [] in
+    subst P c.in_ok-command.ensures c.in_ok-matches.ensures.kinds is_plain
+
+pub asked_in-requires : goal.asked_in-requires
+asked_in-requires g c =
+    let words = map g.S.AsStr.text c.args.words.now in
+    let P : App → Type 0 = λ a. is_simple_and_free a ≡ true → fault_of a words ≡ [] in
+    let passed = subst P c.in_ok-command.ensures c.in_ok-matches.ensures.kinds is_plain in
+    let M : App → Type 0 = λ a. is_simple a ≡ true → subcommand_rows_of c.in_ok-matches.matches ≡ subcommand_of a words in
+    let met = subst M c.in_ok-command.ensures (λ easy. (c.in_ok-matches.ensures.matches easy).1) is_easy in
+    subst (λ o. IsSome (option_and_then asked_by o)) (sym met) (words_ask words passed)

@@ -1,0 +1,73 @@
+-- What the words of the command line ask.
+use Rattle.std.specs.Prelude.{◌≤◌, ◌==◌, ⊤, ℕ, Bool, false, List, [], ◌∷◌, Option, Some, None, codes, if◌then◌else◌}
+use Rattle.std.specs.Prelude.{option_map, option_and_then}
+use Rattle.std.specs.Option.{option_map_or}
+use Rattle.std.specs.Str.{bytes_eq}
+use Rattle.std.specs.Str.Parse.{digits_value, without_leading_plus}
+use Rattle.clap.specs.ValueTests.{is_unsigned_in}
+use Rattle.clap.specs.Words.{Row, Text, first_of, one_of, subcommand_of}
+use Rattle.rs_command_line.specs.CommandLine.{command_line}
+use Rattle.rs_command_line.specs.declared.command_line.Asked.{Asked}
+use Rattle.rs_command_line.specs.declared.command_line.Asked.TheVariants as asked
+
+-- What is asked, with its texts and its number: a file is made, lines are answered over memory or over a file, or
+-- so many connections on an address are served over a file.
+pub data Said : Type 0 where
+  creates : Text → Said
+  runs : Said
+  runs_over : Text → Said
+  serves : Text → Text → ℕ → Said
+
+-- the number that a text writes in digits, where it is from 1 to 1000000
+abbrev pub number_in : Text → Option ℕ
+number_in text =
+    if is_unsigned_in 1 1000000 text then Some (digits_value 10 (without_leading_plus text)) else None
+
+-- the texts of `--file` and `--listen`, and the number of `--connections`, as they were given or by default
+abbrev pub file_in : List Row → Option Text
+file_in = first_of (codes "file")
+
+abbrev pub address_in : List Row → Option Text
+address_in = first_of (codes "listen")
+
+abbrev pub connections_in : List Row → Option ℕ
+connections_in rows = option_and_then number_in (one_of (codes "connections") rows)
+
+-- what each command asks, by what was found of its arguments
+abbrev pub asked_by_create : List Row → Option Said
+asked_by_create rows = option_map creates (file_in rows)
+
+abbrev pub asked_by_run : List Row → Option Said
+asked_by_run rows = Some (option_map_or runs_over (file_in rows) runs)
+
+abbrev pub asked_by_serve : List Row → Option Said
+asked_by_serve rows = option_and_then (λ file. option_and_then (λ address.
+    option_map (serves file address) (connections_in rows)) (address_in rows)) (file_in rows)
+
+-- what a command of this name asks
+abbrev pub asked_by : Text × List Row → Option Said
+asked_by command = if bytes_eq command.0 (codes "create") then asked_by_create command.1
+    else (if bytes_eq command.0 (codes "run") then asked_by_run command.1
+    else (if bytes_eq command.0 (codes "serve") then asked_by_serve command.1 else None))
+
+-- what the words ask, the program's own name first: that of the command that they name
+abbrev pub asked_of : List Text → Option Said
+asked_of words = option_and_then asked_by (subcommand_of command_line words)
+
+-- what an answer says is asked
+abbrev pub said_by : Asked → Said
+said_by (asked.Create file) = creates file.now
+said_by asked.Run = runs
+said_by (asked.RunFile file) = runs_over file.now
+said_by (asked.Serve file address connections) = serves file.now address.now connections
+
+-- from 1 to 1000000 connections are served
+abbrev pub HasConnectionsInRange : Asked → Type 0
+HasConnectionsInRange (asked.Serve file address connections) =
+    (1 ≤ connections) × (connections ≤ 1000000)
+HasConnectionsInRange _ = ⊤
+
+-- the text begins with `-`, so that it is read as a flag and not as a value
+abbrev pub begins_with_hyphen : Text → Bool
+begins_with_hyphen [] = false
+begins_with_hyphen (x ∷ xs) = x == 45

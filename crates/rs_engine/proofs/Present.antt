@@ -1,0 +1,81 @@
+-- The state that an engine stands for as a source, and what its plans are chosen by.
+use Rattle.std.proofs.Common.{◌≡◌, ◌∙◌, ℕ, List, Some, ap, sym}
+use Rattle.std.specs.FinMap as names
+use Rattle.rs_answers.specs.Counts.{AreCounted}
+use Rattle.rs_answers.specs.Present.{IsDefinedBy}
+use Rattle.rs_catalog.specs.Definitions.{RouteItem, TableItem}
+use Rattle.rs_catalog.specs.Referents.{referents_on}
+use Rattle.rs_cursor.specs.Held.{cursors_of}
+use Rattle.rs_disk.specs.declared.disk.Disk as disk
+use Rattle.rs_exec.specs.Snapshot.{Snapshots}
+use Rattle.rs_facts.specs.Fact.{Name, Names}
+use Rattle.rs_facts.specs.Query.{facts_of}
+use Rattle.rs_engine.specs.Kept.{EngineState, IsMachine, with_cursors}
+use Rattle.rs_engine.specs.Reads.{StandsNow, counted_of}
+use Rattle.rs_engine.proofs.Machines.{StoresState, spans_of}
+use Rattle.rs_machine.specs.Served.{Machine}
+use Rattle.rs_machine.specs.State.{State, world_of}
+use Rattle.rs_plan.specs.declared.counts.Index.{Index}
+use Rattle.rs_planning.specs.Basis.{IndexedColumn, present_basis, runs_counted}
+use Rattle.rs_store.specs.Kept.{StandsIn, StoreState}
+use Rattle.rs_store.specs.Reading.{living_of}
+use Rattle.rs_store_reads.specs.Shown.{Shows, numbered_as, shown_from}
+
+module _ {D : Type 0} (d : disk.Ghosts D) where
+  -- what laws say of a store that stands in a state
+  abbrev pub StandsOnce : Type 0
+  StandsOnce = (oldest from : ℕ) (store : StoreState D) (one other : State) → StandsIn d oldest store one → StandsIn d from store other → one ≡ other
+
+  abbrev pub ShowsState : Type 0
+  ShowsState = (oldest : ℕ) (store : StoreState D) (state : State) (stands : StandsIn d oldest store state)
+      → Shows d oldest store (shown_from store.catalog stands.contents oldest store.file.accepted)
+
+  abbrev pub ShowsFacts : Type 0
+  ShowsFacts = (oldest : ℕ) (store : StoreState D) (snapshots : Snapshots) (shows : Shows d oldest store snapshots)
+      → (name : Name) (item : TableItem) → names.get store.catalog.tables name ≡ Some item
+      → (route : Name) (on : RouteItem) → names.get store.catalog.routes route ≡ Some on → (k : ℕ)
+      → (snapshots store.file.accepted).rows (numbered_as item) on.number k ≡ facts_of (names.get shows.state.tables name) route k
+
+  abbrev pub CountsRuns : Type 0
+  CountsRuns = (oldest : ℕ) (store : StoreState D) (state : State) → StandsIn d oldest store state
+      → (name : Name) (item : TableItem) → names.get store.catalog.tables name ≡ Some item → (indexes : Names IndexedColumn)
+      → (present_basis (world_of state) indexes).record_count name ≡ living_of store.file item.number
+
+  module _ (states : StoresState d) (engine : EngineState D) (machine : Machine) (is : IsMachine d engine machine) where
+    -- the machine's state is that of what is in memory
+    pub defined : IsDefinedBy engine.store.catalog (referents_on engine.store.referents) machine.state
+    defined = record {
+      spans = spans_of d engine machine is;
+      rest = record { changes = engine.store.file.accepted; cursors = cursors_of engine.cursors };
+      made = is.is ∙ ap (with_cursors engine.cursors) (states engine.store.file.accepted engine.store is.state is.stands);
+    }
+
+    -- the engine stands for it at the version that was accepted last
+    pub stands_at : StandsOnce → ShowsState → ShowsFacts → StandsNow d engine machine.state
+    stands_at once shown facts =
+        let accepted = engine.store.file.accepted in
+        let shows = shown accepted engine.store is.state is.stands in
+        record {
+          snapshots = shown_from engine.store.catalog is.stands.contents accepted accepted;
+          is = shows;
+          present = record {
+            defined = defined;
+            rows = record {
+              rows = λ name item there route on at k.
+                  facts accepted engine.store (shown_from engine.store.catalog is.stands.contents accepted accepted) shows name item there route on at k
+                  ∙ ap (λ (state : State). facts_of (names.get state.tables name) route k) (once accepted accepted engine.store shows.state is.state shows.stands is.stands)
+                  ∙ sym (ap (λ (state : State). facts_of (names.get state.tables name) route k) is.is);
+            };
+            lawful = is.lawful;
+          };
+        }
+
+    -- its plans are chosen by the runs of its tables
+    pub are_counted : CountsRuns → (indexes : List Index) → AreCounted engine.store.catalog machine.state (counted_of engine.store indexes)
+    are_counted counts indexes = record {
+      referents = referents_on engine.store.referents;
+      defined = defined;
+      records = λ name item there.
+          sym (counts engine.store.file.accepted engine.store is.state is.stands name item there names.empty)
+          ∙ sym (ap (λ (state : State). runs_counted (world_of state) name) is.is);
+    }

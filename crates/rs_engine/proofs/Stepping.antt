@@ -1,0 +1,158 @@
+-- A change of the state: its step is taken beside the cursors, and the machine's step is lawful.
+use Rattle.std.proofs.Common.{◌≡◌, ◌∙◌, ◌<◌, ◌≤◌, ◌+◌, ◌⊎◌, ℕ, List, Result, Ok, Err, [], ap, inl, inr, refl, subst, sym, arith}
+use Rattle.rs_command_checks.specs.States.{state_by}
+use Rattle.rs_command_checks.specs.declared.checks.Checks.{Checks}
+use Rattle.rs_cursor.specs.Held.{HeldCursors}
+use Rattle.rs_disk.specs.declared.disk.Disk as disk
+use Rattle.rs_facts.specs.Runs.{Stretch}
+use Rattle.rs_engine.specs.Kept.{AreChecksOf, EngineState, IsMachine, with_cursors}
+use Rattle.rs_engine.specs.Serving.{IsServed}
+use Rattle.rs_engine.proofs.Machines.{StoresState, at_machine, made_by_store, refused_by_checks, refused_by_store, wanting_memory}
+use Rattle.rs_machine.specs.Lawful.{IsLawful}
+use Rattle.rs_machine.specs.Served.{Machine, Reply, done, refused}
+use Rattle.rs_machine.specs.State.{Cursors, State, no_cursors}
+use Rattle.rs_machine.specs.Step.{Effect, counted, outcome}
+use Rattle.rs_machine.specs.declared.limits.TheConstants.{SESSIONS}
+use Rattle.rs_refusal.specs.declared.refusal.Refusal.{Refusal}
+use Rattle.rs_refusal.specs.declared.refusal.Refusal.TheVariants.{OutOfMemory}
+use Rattle.rs_store.specs.Changing.{HasBecome, LeavesStore}
+use Rattle.rs_syntax.specs.Sound.{IsSound}
+use Rattle.rs_syntax.specs.Tree.{CommandTree, reopen}
+
+-- what the law of a step says
+abbrev pub StepsAreLawful : Type 0
+StepsAreLawful = (state : State) (session : ℕ) (tree : CommandTree) (effect : Effect) → session < SESSIONS → IsSound tree → IsLawful state → outcome state session tree ≡ Ok effect → IsLawful effect.state
+
+-- a change of the state, which does not look at cursors
+pub record IsStep (step : State → State) : Type 0 where
+  pub beside : (cursors : HeldCursors) (state : State) → step (with_cursors cursors state) ≡ with_cursors cursors (step state)
+  pub none : (state : State) → (step state).cursors ≡ state.cursors
+
+module _ (steps : StepsAreLawful) where
+  -- a state without cursors is lawful where it is so beside some
+  pub lawful_alone : (cursors : HeldCursors) (state : State) → state.cursors ≡ no_cursors → IsLawful (with_cursors cursors state) → IsLawful state
+  lawful_alone cursors state none lawful =
+      let without : IsLawful (record state { cursors = no_cursors }) =
+      steps (with_cursors cursors state) 0 reopen (counted 0 (record state { cursors = no_cursors })) (omega arith) tt lawful refl in
+      subst (λ (c : ℕ → Cursors). IsLawful (record state { cursors = c })) (sym none) without
+
+  module _ {D : Type 0} (d : disk.Ghosts D) (states : StoresState d) (old : EngineState D) (machine : Machine) (is : IsMachine d old machine) (tree : CommandTree) (sound : IsSound tree)
+      (step : State → State) (takes : IsStep step) where
+    -- the state of a file has no cursors
+    pub no_cursors_there : is.state.cursors ≡ no_cursors
+    no_cursors_there = ap (λ (state : State). state.cursors) (states old.store.file.accepted old.store is.state is.stands)
+
+    module _ (count : ℕ) (out : outcome machine.state 0 tree ≡ Ok (counted count (step machine.state))) where
+      -- the machine's next state is that of the file beside the cursors
+      pub next_beside : step machine.state ≡ with_cursors old.cursors (step is.state)
+      next_beside = ap step is.is ∙ takes.beside old.cursors is.state
+
+      pub next_lawful : IsLawful (with_cursors old.cursors (step is.state))
+      next_lawful = subst IsLawful next_beside (steps machine.state 0 tree (counted count (step machine.state)) (omega arith) sound is.lawful out)
+
+      -- and it is lawful without them
+      pub next_lawful_alone : IsLawful (step is.state)
+      next_lawful_alone = lawful_alone old.cursors (step is.state) (takes.none is.state ∙ no_cursors_there) next_lawful
+
+      -- the store made the change
+      pub step_made : {T : Type 0} (may : State → Type 0) (new : EngineState D) (answer : T) → LeavesStore d may {T = T} (Ok answer) old.store new.store → new.cursors ≡ old.cursors
+          → HasBecome d (old.store.file.accepted + 1) is.stands.contents new.store (step is.state) → IsServed d (outcome machine.state 0 tree) machine (done [] count) new
+      step_made may new answer leaves same becomes =
+          made_by_store d may old new machine is (outcome machine.state 0 tree) answer count (step is.state) leaves same becomes
+          (out ∙ ap (λ (state : State). Ok (counted count state)) next_beside) next_lawful
+
+      -- the store refused it
+      pub step_refused : {T : Type 0} (may : State → Type 0) (new : EngineState D) (why : Refusal) → LeavesStore d may {T = T} (Err why) old.store new.store → new.cursors ≡ old.cursors
+          → (IsLawful (step is.state) → may is.state) → IsServed d (outcome machine.state 0 tree) machine (refused why) new
+      step_refused may new why leaves same allowed =
+          refused_by_store d may old new machine is (outcome machine.state 0 tree) why leaves same (allowed next_lawful_alone)
+
+-- ---- a call that checks its command, and then has the store make the change
+
+module _ (steps : StepsAreLawful) {D : Type 0} (d : disk.Ghosts D) (states : StoresState d) (old was : EngineState D) (same : old ≡ was) (checks : Checks) (are : AreChecksOf was checks)
+    (machine : Machine) (here : IsMachine d was machine) (tree : CommandTree) where
+  abbrev before : IsMachine d old machine
+  before = subst (λ (engine : EngineState D). IsMachine d engine machine) (sym same) here
+
+  -- what is so whichever spans tables have is so of the machine's state
+  abbrev pub Found : Type 1
+  Found = (P : State → Type 0) → ((spans : ℕ → ℕ → List Stretch) → P (state_by checks spans)) → P machine.state
+
+  pub found : Found
+  found P each = at_machine d states was checks machine here are P each
+
+  -- and of the file's state, where cursors don't matter
+  abbrev pub FoundOf : State → Type 1
+  FoundOf state = (P : State → Type 0) → ((one : State) → P (with_cursors old.cursors one) → P one) → ((spans : ℕ → ℕ → List Stretch) → P (state_by checks spans)) → P state
+
+  found_of : (is : IsMachine d old machine) → FoundOf is.state
+  found_of is P alone each = alone is.state (subst P is.is (found P each))
+
+  -- the machine refuses it, and so did the checks
+  pub check_refused_at : (result : Result ℕ Refusal) (answer : Result ℕ Refusal → Reply) (why : Refusal) (new : EngineState D) → new ≡ was → result ≡ Err why → answer (Err why) ≡ refused why
+      → outcome machine.state 0 tree ≡ Err why → IsServed d (outcome machine.state 0 tree) machine (answer result) new
+  check_refused_at result answer why new unchanged is says refuses =
+      subst (λ (reply : Reply). IsServed d (outcome machine.state 0 tree) machine reply new) (sym (ap answer is ∙ says))
+      (refused_by_checks d was new machine here unchanged (outcome machine.state 0 tree) why refuses)
+
+  -- the checks refused it
+  pub check_refused : (result : Result ℕ Refusal) (answer : Result ℕ Refusal → Reply) (why : Refusal) (new : EngineState D) → new ≡ was → result ≡ Err why → answer (Err why) ≡ refused why
+      → ((spans : ℕ → ℕ → List Stretch) → outcome (state_by checks spans) 0 tree ≡ Err why) → IsServed d (outcome machine.state 0 tree) machine (answer result) new
+  check_refused result answer why new unchanged is says out =
+      subst (λ (reply : Reply). IsServed d (outcome machine.state 0 tree) machine reply new) (sym (ap answer is ∙ says))
+      (refused_by_checks d was new machine here unchanged (outcome machine.state 0 tree) why (found (λ (state : State). outcome state 0 tree ≡ Err why) out))
+
+  -- they did, or memory was wanting
+  pub check_wanting : (result : Result ℕ Refusal) (answer : Result ℕ Refusal → Reply) (why : Refusal) (new : EngineState D) → new ≡ was → result ≡ Err why → answer (Err why) ≡ refused why
+      → ((spans : ℕ → ℕ → List Stretch) → (why ≡ OutOfMemory) ⊎ (outcome (state_by checks spans) 0 tree ≡ Err why)) → IsServed d (outcome machine.state 0 tree) machine (answer result) new
+  check_wanting result answer why new unchanged is says out =
+      subst (λ (reply : Reply). IsServed d (outcome machine.state 0 tree) machine reply new) (sym (ap answer is ∙ says))
+      (elim (found (λ (state : State). (why ≡ OutOfMemory) ⊎ (outcome state 0 tree ≡ Err why)) out) [
+        | inl memory ↦ subst (λ (w : Refusal). IsServed d (outcome machine.state 0 tree) machine (refused w) new) (sym memory)
+            (wanting_memory d was new machine here unchanged (outcome machine.state 0 tree))
+        | inr refuses ↦ refused_by_checks d was new machine here unchanged (outcome machine.state 0 tree) why refuses
+      ])
+
+  module _ (sound : IsSound tree) (step : State → State) (takes : IsStep step) (count : ℕ) where
+    module _ (out : outcome machine.state 0 tree ≡ Ok (counted count (step machine.state))) where
+      -- what follows of the file's state and of the next one
+      pub by_step : {X : Type 0} (oldest : ℕ) → oldest ≡ was.store.file.accepted + 1
+          → ((is : IsMachine d old machine) → old.store.file.accepted ≤ oldest → oldest ≤ old.store.file.accepted + 1 → IsLawful (step is.state) → X) → X
+      by_step oldest later follows =
+          let level : oldest ≡ old.store.file.accepted + 1 = later ∙ ap (λ (engine : EngineState D). engine.store.file.accepted + 1) (sym same) in
+          follows before (omega (arith, level)) (omega (arith, level)) (next_lawful_alone steps d states old machine before tree sound step takes count out)
+
+      -- the store made what the checks accepted
+      pub made_at : {T : Type 0} (may : State → Type 0) (new : EngineState D) (answer : T) → LeavesStore d may {T = T} (Ok answer) old.store new.store → new.cursors ≡ old.cursors
+          → (oldest : ℕ) → oldest ≡ was.store.file.accepted + 1
+          → ((is : IsMachine d old machine) → FoundOf is.state → old.store.file.accepted ≤ oldest → oldest ≤ old.store.file.accepted + 1 → oldest ≡ old.store.file.accepted + 1
+          → IsLawful (step is.state) → HasBecome d oldest is.stands.contents new.store (step is.state)) → IsServed d (outcome machine.state 0 tree) machine (done [] count) new
+      made_at may new answer leaves cursors oldest later becomes =
+          let level : oldest ≡ old.store.file.accepted + 1 = later ∙ ap (λ (engine : EngineState D). engine.store.file.accepted + 1) (sym same) in
+          step_made steps d states old machine before tree sound step takes count out may new answer leaves cursors
+          (subst (λ (n : ℕ). HasBecome d n before.stands.contents new.store (step before.state)) level
+          (becomes before (found_of before) (omega (arith, level)) (omega (arith, level)) level (next_lawful_alone steps d states old machine before tree sound step takes count out)))
+
+      -- the store refused it
+      pub refused_at : {T : Type 0} (may : State → Type 0) (new : EngineState D) (result : Result ℕ Refusal) (answer : Result ℕ Refusal → Reply) (why : Refusal)
+          → LeavesStore d may {T = T} (Err why) old.store new.store → new.cursors ≡ old.cursors → ((is : IsMachine d old machine) → FoundOf is.state → IsLawful (step is.state) → may is.state)
+          → result ≡ Err why → answer (Err why) ≡ refused why → IsServed d (outcome machine.state 0 tree) machine (answer result) new
+      refused_at may new result answer why leaves cursors allowed is says =
+          subst (λ (reply : Reply). IsServed d (outcome machine.state 0 tree) machine reply new) (sym (ap answer is ∙ says))
+          (step_refused steps d states old machine before tree sound step takes count out may new why leaves cursors (allowed before (found_of before)))
+
+    -- the same where the checks accept it whichever spans tables have
+    module _ (accepted : (spans : ℕ → ℕ → List Stretch) → outcome (state_by checks spans) 0 tree ≡ Ok (counted count (step (state_by checks spans)))) where
+      out : outcome machine.state 0 tree ≡ Ok (counted count (step machine.state))
+      out = found (λ (state : State). outcome state 0 tree ≡ Ok (counted count (step state))) accepted
+
+      pub change_made : {T : Type 0} (may : State → Type 0) (new : EngineState D) (answer : T) → LeavesStore d may {T = T} (Ok answer) old.store new.store → new.cursors ≡ old.cursors
+          → (oldest : ℕ) → oldest ≡ was.store.file.accepted + 1
+          → ((is : IsMachine d old machine) → FoundOf is.state → old.store.file.accepted ≤ oldest → oldest ≤ old.store.file.accepted + 1 → oldest ≡ old.store.file.accepted + 1
+          → IsLawful (step is.state) → HasBecome d oldest is.stands.contents new.store (step is.state)) → IsServed d (outcome machine.state 0 tree) machine (done [] count) new
+      change_made = made_at out
+
+      pub change_refused : {T : Type 0} (may : State → Type 0) (new : EngineState D) (result : Result ℕ Refusal) (answer : Result ℕ Refusal → Reply) (why : Refusal)
+          → LeavesStore d may {T = T} (Err why) old.store new.store → new.cursors ≡ old.cursors → ((is : IsMachine d old machine) → FoundOf is.state → IsLawful (step is.state) → may is.state)
+          → result ≡ Err why → answer (Err why) ≡ refused why → IsServed d (outcome machine.state 0 tree) machine (answer result) new
+      change_refused = refused_at out

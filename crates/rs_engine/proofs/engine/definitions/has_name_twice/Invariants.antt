@@ -1,6 +1,0 @@
-use Rattle.std.proofs.Common.{◌≡◌, drop}
-use Rattle.rs_engine.proofs.ColumnNames.{twice_in}
-use Rattle.rs_engine.proofs.engine.definitions.has_name_twice.Given as goal
-
-abbrev pub invariant-loop-i : goal.invariant-loop-i
-invariant-loop-i l = twice_in l.columns ≡ twice_in (drop l.i l.columns)

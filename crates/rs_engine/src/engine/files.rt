@@ -1,0 +1,162 @@
+//! How an engine comes to be over a disk, is saved, read anew and put away.
+//!
+//! It promises that the file it leaves stands for the state that it was in, without cursors, and that it opens a file as the state
+//! that the file stands for.
+
+ghost use Rattle.std.specs.Prelude.{◌≡◌, ◌≤◌, ◌-◌, ◌^◌, IfErr, IsOkUnless, IsTrue, MatchResult, Ok, OnErr, length, min};
+ghost use Rattle.rs_contents.specs.Calls.{RefusesToLoad};
+ghost use Rattle.rs_cursor.specs.Held.{cursors_of};
+ghost use Rattle.rs_disk.specs.Counts.{Counts};
+ghost use Rattle.rs_engine.specs.Files.{Closes, Creates, Opens, Saves, stores_back, stores_of};
+ghost use Rattle.rs_engine.specs.Replied.{count_reply_of, nothing_reply_of};
+ghost use Rattle.rs_engine.specs.Serving.{Serves};
+ghost use Rattle.rs_machine.specs.State.{State, no_cursors};
+ghost use Rattle.rs_machine.specs.Step.{counted, without_cursors};
+ghost use Rattle.rs_page_cache.specs.Changes.{ListsHeld};
+ghost use Rattle.rs_page_cache.specs.declared.clean.TheConstants.{MOST_CLEAN};
+ghost use Rattle.rs_pager.specs.Opened.{CountsFault};
+ghost use Rattle.rs_store.specs.Calls.{CountsClosing, HandsOver, WantsCreating, WantsOpening};
+ghost use Rattle.rs_store.specs.Kept.{garbage_of};
+
+use crate::engine::Engine;
+use rs_cursor::Cursors;
+use rs_disk::Disk;
+use rs_machine_laws::lawful::{accepted_step_leaves_the_state_lawful, fresh_state_is_lawful};
+use rs_pages::{GREATEST_LIMIT, LEAST_LIMIT};
+use rs_refusal::Refusal;
+use rs_standing::standing::what_stands_is_lawful;
+use rs_store::Store;
+use std::alloc::Global;
+
+impl<D: Disk> Engine<D> {
+    /// Writes a file in which nothing is defined in place of all that the disk holds, and marks it as open, as `create_within` does
+    /// with the greatest limit.
+    pub fn create(alloc: Global, disk: D) -> Result<Engine<D>, (D, Refusal)>
+        ensures creates { IsTrue (D.is_honest disk) → Creates D.Disk result }
+        ensures hands { HandsOver D.Disk GREATEST_LIMIT disk (stores_of result) }
+        ensures refused { IfErr result (λ refused. WantsCreating refused.1) }
+    {
+        Engine::create_within(alloc, disk, GREATEST_LIMIT)
+    }
+
+    /// Writes a file in which nothing is defined in place of all that the disk holds, and marks it as open. `limit` is the greatest
+    /// number of pages. It is refused with 90, 91 and 92, and with 94 only where the disk does not give back what was written. A
+    /// refusal hands the disk back, with any part of this done.
+    pub fn create_within(alloc: Global, disk: D, limit: u32) -> Result<Engine<D>, (D, Refusal)>
+        requires least { LEAST_LIMIT ≤ limit }
+        requires greatest { limit ≤ GREATEST_LIMIT }
+        ensures creates { IsTrue (D.is_honest disk) → Creates D.Disk result }
+        ensures hands { HandsOver D.Disk limit disk (stores_of result) }
+        ensures refused { IfErr result (λ refused. WantsCreating refused.1) }
+    {
+        fresh_state_is_lawful();
+        let store = Store::create(alloc, disk, limit)?;
+        Ok(engine_over(alloc, store))
+    }
+
+    /// Opens the file that the disk holds, checks it as a whole, and marks the disk as open, as `open_within` does with the greatest
+    /// limit.
+    pub fn open(alloc: Global, disk: D) -> Result<Engine<D>, (D, Refusal)>
+        ensures opens { IsTrue (D.is_honest disk) → Opens D.Disk GREATEST_LIMIT disk result }
+        ensures hands { HandsOver D.Disk GREATEST_LIMIT disk (stores_of result) }
+        ensures refused { IfErr result (λ refused. WantsOpening refused.1) }
+    {
+        Engine::open_within(alloc, disk, GREATEST_LIMIT)
+    }
+
+    /// Opens the file that the disk holds, checks it as a whole, and marks the disk as open. `limit` is the greatest number of pages.
+    /// It is refused with 94 only where the disk is a file of no state, closed or not, and with 95 only where it is one and was
+    /// not closed; it may be refused with 90 or 91 instead. A refusal hands the disk back: as it was, but that after 91 its open flag
+    /// may be any.
+    pub fn open_within(alloc: Global, disk: D, limit: u32) -> Result<Engine<D>, (D, Refusal)>
+        requires least { LEAST_LIMIT ≤ limit }
+        requires greatest { limit ≤ GREATEST_LIMIT }
+        ensures opens { IsTrue (D.is_honest disk) → Opens D.Disk limit disk result }
+        ensures hands { HandsOver D.Disk limit disk (stores_of result) }
+        ensures refused { IfErr result (λ refused. WantsOpening refused.1) }
+    {
+        what_stands_is_lawful();
+        let store = Store::open(alloc, disk, limit)?;
+        Ok(engine_over(alloc, store))
+    }
+
+    /// Saves, marks the disk as closed, waits until that is on the medium, and gives the disk back. Cursors are closed. A refusal (91)
+    /// hands back the engine as it was.
+    pub fn close(self) -> Result<D, (Engine<D>, Refusal)>
+        ensures closes { Closes D.Disk self result }
+        ensures count { CountsClosing D.Disk self.store (stores_back result) }
+    {
+        let Engine {
+            alloc,
+            store,
+            cursors,
+        } = self;
+        match store.close() {
+            Ok(disk) => Ok(disk),
+            Err((store, refusal)) => Err((
+                Engine {
+                    alloc,
+                    store,
+                    cursors,
+                },
+                refusal,
+            )),
+        }
+    }
+
+    /// Writes all that the disk lacks, and waits until it is on the medium. It is refused with 91 alone, and otherwise answers 0.
+    pub(crate) fn save(&mut self) -> Result<u128, Refusal>
+        ensures serves { Serves D.Disk (λ (state : State). Ok (counted 0 state)) (count_reply_of result) self.old self.new }
+        ensures saves { Saves D.Disk result self.old self.new }
+        ensures refused { IsOkUnless result Refusal.Disk }
+        ensures count { Counts result (D.failures self.old.store.pager.disk) (D.failures self.new.store.pager.disk) }
+    {
+        self.store.save()?;
+        Ok(0)
+    }
+
+    /// Saves, reads and checks the whole file anew beside what is in use, which it then takes the place of, and closes all cursors. It
+    /// is refused with 90, with 91, and with 94 only where the disk does not give back what was written; a refusal changes nothing.
+    pub fn reopen(&mut self) -> Result<(), Refusal>
+        ensures serves { Serves D.Disk (λ (state : State). Ok (counted 0 (without_cursors state))) (nothing_reply_of result) self.old self.new }
+        ensures saves { Saves D.Disk result self.old self.new }
+        ensures cursors { OnErr result (self.new.cursors ≡ self.old.cursors) }
+        ensures refused { RefusesToLoad result }
+        ensures count { MatchResult result (λ _. D.failures self.new.store.pager.disk ≡ D.failures self.old.store.pager.disk)
+            (λ why. CountsFault why (D.failures self.old.store.pager.disk) (D.failures self.new.store.pager.disk)) }
+    {
+        accepted_step_leaves_the_state_lawful();
+        self.store.reopen(self.alloc)?;
+        self.cursors.close_all();
+        Ok(())
+    }
+
+    /// How many changed pages (2^32 - 1 at the most) and how many clean ones are held in memory.
+    pub fn held(&self) -> (u32, u32)
+        ensures changed { result.0 ≡ min (length self.now.store.pager.changes) (2 ^ 32 - 1) }
+        ensures pages { ListsHeld self.now.store.pager.changes }
+        ensures clean { result.1 ≡ length self.now.store.pager.clean }
+        ensures bound { result.1 ≤ MOST_CLEAN }
+    {
+        self.store.held()
+    }
+
+    /// How many records of all tables and of the referents are dead and not cleared (2^64 - 1 at the most).
+    pub fn garbage(&self) -> u64
+        ensures { result ≡ min (garbage_of self.now.store.file) (2 ^ 64 - 1) }
+    {
+        self.store.garbage()
+    }
+}
+
+/// An engine over the store, with no cursors.
+fn engine_over<D: Disk>(alloc: Global, store: Store<D>) -> Engine<D>
+    ensures store { result.store ≡ store }
+    ensures cursors { cursors_of result.cursors ≡ no_cursors }
+{
+    Engine {
+        alloc,
+        store,
+        cursors: Cursors::new(alloc),
+    }
+}

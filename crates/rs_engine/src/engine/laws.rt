@@ -1,0 +1,49 @@
+//! These laws say that an engine is one machine, which state it stands for as a source, that its plans are chosen by that state, and
+//! that a session has a number in its range.
+
+ghost use Rattle.std.specs.Prelude.{◌<◌, List};
+ghost use Rattle.rs_answers.specs.Counts.{AreCounted};
+ghost use Rattle.rs_engine.specs.Kept.{EngineState, IsMachine};
+ghost use Rattle.rs_engine.specs.Reads.{StandsNow, counted_of};
+ghost use Rattle.rs_engine.specs.Single.{IsOneMachine};
+ghost use Rattle.rs_machine.specs.Served.{Machine};
+ghost use Rattle.rs_machine.specs.declared.limits.TheConstants.{SESSIONS};
+ghost use Rattle.rs_plan.specs.declared.counts.Index.{Index};
+
+use rs_disk::Disk;
+use rs_serve::Session;
+use rs_store::laws::store_stands_in_one_state;
+use rs_store_reads::laws::{
+    living_records_are_the_runs_of_the_state, store_shows_the_facts_of_its_state,
+};
+
+/// An engine that is a machine is that one as it serves.
+pub fn machine_is_the_only_one<D: Disk>()
+    ensures { (engine : EngineState D) (machine : Machine) → IsMachine D.Disk engine machine → IsOneMachine D.Disk engine machine }
+{
+    store_stands_in_one_state::<D>();
+}
+
+/// At the version that was accepted last an engine stands for the state of the machine that it is.
+pub(crate) fn engine_stands_for_its_state<D: Disk>()
+    ensures { (engine : EngineState D) (machine : Machine) → IsMachine D.Disk engine machine → StandsNow D.Disk engine machine.state }
+{
+    store_stands_in_one_state::<D>();
+    store_shows_the_facts_of_its_state::<D>();
+}
+
+/// Its plans are chosen by the maximal runs of the tables of that state.
+pub(crate) fn plans_are_chosen_by_its_state<D: Disk>()
+    ensures { (engine : EngineState D) (machine : Machine) → IsMachine D.Disk engine machine
+        → (indexes : List Index) → AreCounted engine.store.catalog machine.state (counted_of engine.store indexes) }
+{
+    store_stands_in_one_state::<D>();
+    living_records_are_the_runs_of_the_state::<D>();
+}
+
+/// The number of a session is below the number of sessions.
+pub(crate) fn session_is_in_range(session: Session)
+    ensures { session < SESSIONS }
+{
+    session.number();
+}

@@ -1,5 +1,0 @@
-pub mod Files
-pub mod Kept
-pub mod Serving
-pub mod Replied
-pub mod Reads

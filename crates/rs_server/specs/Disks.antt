@@ -1,0 +1,105 @@
+-- What comes of a file on a disk: it is made, or opened, served and closed.
+use Rattle.std.specs.Prelude.{◌≡◌, ◌≢◌, ◌⊎◌, ℕ, true, List, Option, Some, None, Result, Ok, Err, IfSome}
+use Rattle.std.specs.Io.KnownBytes.{Consumes, Keeps}
+use Rattle.rs_disk.specs.Content.{Content}
+use Rattle.rs_disk.specs.declared.disk.Disk as disk
+use Rattle.rs_machine.specs.Served.{Machine}
+use Rattle.rs_machine.specs.State.{State, fresh}
+use Rattle.rs_machine.specs.Step.{without_cursors}
+use Rattle.rs_protocol.specs.Ends.{Ends}
+use Rattle.rs_protocol.specs.declared.stream.End.{End}
+use Rattle.rs_protocol.specs.declared.stream.Fault.{Fault}
+use Rattle.rs_refusal.specs.declared.refusal.Refusal.{Refusal}
+use Rattle.rs_refusal.specs.declared.refusal.Refusal.TheVariants as refusal
+use Rattle.rs_server.specs.declared.report.Failure.{Failure}
+use Rattle.rs_server.specs.declared.report.Failure.TheVariants.{Refused, Stream}
+use Rattle.rs_standing.specs.Standing.{Stands}
+use Rattle.rs_store.specs.Calls.{IsLeftOpen, IsNoFileOfAny, StaysFile, WantsCreating, WantsOpening}
+
+-- ---- failures
+
+-- the disk that was closed or handed back, where it was
+abbrev pub disk_of : {D : Type 0} → Result D (Option D × Failure) → Option D
+disk_of (Ok disk) = Some disk
+disk_of (Err failed) = failed.0
+
+-- the failure that is told, where there was one
+abbrev pub told_of : {T F : Type 0} → Result T (F × Failure) → Option Failure
+told_of (Ok done) = None
+told_of (Err failed) = Some failed.1
+
+-- the failure of a service
+abbrev pub failure_of : Result End Fault → Option Failure
+failure_of (Ok end) = None
+failure_of (Err fault) = Some (Stream fault)
+
+-- the first of it and a disk that was not closed
+abbrev pub first_failure : {D : Type 0} → Option Failure → Option D → Option Failure
+first_failure (Some failure) closed = Some failure
+first_failure None (Some disk) = None
+first_failure None None = Some (Refused refusal.Disk)
+
+-- ---- services
+
+-- What the input told was served on the output by a machine, which was the first one at the beginning and the last one at the end.
+pub record ServesInput (outcome : Result End Fault) (first last : Machine) (unread unread_now before after : Option (List ℕ)) : Type 0 where
+  pub told : List ℕ
+  pub consumed : Consumes unread unread_now told
+  pub ended : Ends outcome told unread_now first last before after
+
+module _ {D : Type 0} (d : disk.Ghosts D) where
+  -- the disk stands for the state, and that is on the medium
+  pub record IsClosedAs (limit : ℕ) (state : State) (disk : D) : Type 0 where
+    pub stands : Stands limit (d.seen disk) state
+    pub synced : d.is_synced disk ≡ true
+
+  -- a file of a machine was closed, as that machine's state without its cursors; or its disk failed, where nothing had failed before
+  pub record Closes (limit : ℕ) (machine : Machine) (before : Option Failure) (result : Result D (Option D × Failure)) : Type 0 where
+    pub closed : IfSome (disk_of result) (IsClosedAs limit (without_cursors machine.state))
+    pub told : told_of result ≡ first_failure before (disk_of result)
+
+  -- the input was served by this machine, and then the file was closed
+  pub record ServesAndCloses (limit : ℕ) (first : Machine) (result : Result D (Option D × Failure)) (unread unread_now before after : Option (List ℕ)) : Type 0 where
+    pub outcome : Result End Fault
+    pub last : Machine
+    pub served : ServesInput outcome first last unread unread_now before after
+    pub closes : Closes limit last (failure_of outcome) result
+
+  -- the disk stood for a state, from which on it was served
+  pub record ServesState (limit : ℕ) (content : Content) (result : Result D (Option D × Failure)) (unread unread_now before after : Option (List ℕ)) : Type 0 where
+    pub first : Machine
+    pub stood : Stands limit content first.state
+    pub serves : ServesAndCloses limit first result unread unread_now before after
+
+  -- The disk was not opened, and is handed back: it is a file of no state, or one that was not closed, or memory or the disk gave out.
+  -- But after a failure of the disk it is as it was, and after that one it is a file of what it was. Nothing was read or written.
+  pub record RefusesFile (limit : ℕ) (old : D) (result : Result D (Option D × Failure)) (unread unread_now before after : Option (List ℕ)) : Type 0 where
+    pub disk : D
+    pub why : Refusal
+    pub refused : result ≡ Err (Some disk, Refused why)
+    pub wants : WantsOpening why
+    pub damaged : why ≡ refusal.DamagedFile → IsNoFileOfAny limit (d.seen old)
+    pub left_open : why ≡ refusal.FileNotClosed → IsLeftOpen limit (d.seen old)
+    pub seen : why ≢ refusal.Disk → d.seen disk ≡ d.seen old
+    pub stays : StaysFile limit (d.seen old) (d.seen disk)
+    pub input : Keeps unread unread_now
+    pub output : Keeps before after
+
+  -- what comes of the file that an honest disk holds
+  abbrev pub ServesFile : ℕ → D → Result D (Option D × Failure) → Option (List ℕ) → Option (List ℕ) → Option (List ℕ) → Option (List ℕ) → Type 0
+  ServesFile limit old result unread unread_now before after =
+      ServesState limit (d.seen old) result unread unread_now before after ⊎ RefusesFile limit old result unread unread_now before after
+
+  -- ---- a file that is made
+
+  -- it wasn't made, for this reason
+  pub record RefusesToCreate (result : Result D (Option D × Failure)) : Type 0 where
+    pub disk : D
+    pub why : Refusal
+    pub refused : result ≡ Err (Some disk, Refused why)
+    pub wants : WantsCreating why
+    pub sound : why ≢ refusal.DamagedFile
+
+  -- what comes of a file that is made: it was closed with nothing in it, or it was not made or not closed
+  abbrev pub CreatesFile : ℕ → Result D (Option D × Failure) → Type 0
+  CreatesFile limit result = ((machine : Machine) × (machine.state ≡ fresh) × Closes limit machine None result) ⊎ RefusesToCreate result

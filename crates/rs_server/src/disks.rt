@@ -1,0 +1,85 @@
+//! The file, over any disk in its place: it is made, or opened, served and closed.
+//!
+//! A disk is handed back where it was closed, or not opened at all. The first failure alone is told: a file that is not closed after
+//! another failure is no second one.
+
+ghost use Rattle.std.specs.Prelude.{◌≡◌, IsTrue};
+ghost use Rattle.rs_engine.specs.Single.{IsOneMachine};
+ghost use Rattle.rs_machine.specs.Served.{Machine};
+ghost use Rattle.rs_pages.specs.declared.pages.TheConstants.{GREATEST_LIMIT};
+ghost use Rattle.rs_server.specs.Disks.{Closes, CreatesFile, ServesAndCloses, ServesFile, failure_of};
+
+use crate::report::Failure;
+use rs_disk::Disk;
+use rs_engine::Engine;
+use rs_engine::engine::laws::machine_is_the_only_one;
+use rs_protocol::{End, Fault, run};
+use std::alloc::Global;
+use std::io::{Read, Write};
+
+/// Writes the file in which nothing is defined in place of all that the disk holds, and closes it.
+pub fn create_on<D: Disk + Drop>(alloc: Global, disk: D) -> Result<D, (Option<D>, Failure)>
+    ensures { IsTrue (D.is_honest disk) → CreatesFile D.Disk GREATEST_LIMIT result }
+{
+    machine_is_the_only_one::<D>();
+    match Engine::create(alloc, disk) {
+        Ok(engine) => close_after(engine, None),
+        Err((disk, refusal)) => Err((Some(disk), Failure::Refused(refusal))),
+    }
+}
+
+/// Opens the file that the disk holds, serves the lines of the input on the output, and closes it, after a fault too.
+pub fn serve_disk<D: Disk + Drop, R: Read, W: Write>(
+    alloc: Global,
+    disk: D,
+    input: &mut R,
+    output: &mut W,
+) -> Result<D, (Option<D>, Failure)>
+    ensures { IsTrue (D.is_honest disk) → ServesFile D.Disk GREATEST_LIMIT disk result (R.remaining input.old) (R.remaining input.new)
+        (W.contents output.old) (W.contents output.new) }
+{
+    machine_is_the_only_one::<D>();
+    match Engine::open(alloc, disk) {
+        Ok(engine) => serve_and_close(alloc, engine, input, output),
+        Err((disk, refusal)) => Err((Some(disk), Failure::Refused(refusal))),
+    }
+}
+
+/// Serves the lines of the input on the output, and closes the file, after a fault too.
+fn serve_and_close<D: Disk + Drop, R: Read, W: Write>(
+    alloc: Global,
+    mut engine: Engine<D>,
+    input: &mut R,
+    output: &mut W,
+) -> Result<D, (Option<D>, Failure)>
+    ensures { (machine : Machine) → IsOneMachine D.Disk engine machine → ServesAndCloses D.Disk GREATEST_LIMIT machine result
+        (R.remaining input.old) (R.remaining input.new) (W.contents output.old) (W.contents output.new) }
+{
+    let outcome = run(alloc, &mut engine, input, output);
+    close_after(engine, failure_after(outcome))
+}
+
+/// The failure of a service, where there was one.
+pub(crate) fn failure_after(outcome: Result<End, Fault>) -> Option<Failure>
+    ensures { result ≡ failure_of outcome }
+{
+    match outcome {
+        Ok(_) => None,
+        Err(fault) => Some(Failure::Stream(fault)),
+    }
+}
+
+/// Closes the file. The failure of its disk is told where there was none before.
+pub(crate) fn close_after<D: Disk + Drop>(
+    engine: Engine<D>,
+    failure: Option<Failure>,
+) -> Result<D, (Option<D>, Failure)>
+    ensures { (machine : Machine) → IsOneMachine D.Disk engine machine → Closes D.Disk GREATEST_LIMIT machine failure result }
+{
+    match (engine.close(), failure) {
+        (Ok(disk), None) => Ok(disk),
+        (Ok(disk), Some(failure)) => Err((Some(disk), failure)),
+        (Err(_), Some(failure)) => Err((None, failure)),
+        (Err((_, refusal)), None) => Err((None, Failure::Refused(refusal))),
+    }
+}
