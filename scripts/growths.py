@@ -12,7 +12,7 @@ more. `--count` writes the numbers into the list. The runs of each program are M
 
 `rt try --fail-alloc N --cases FOLDER` builds a program once and always refuses the growth with number N; a program asks
 for as many growths before its own as its input has dots at first, so that the refused one is another of its own in each
-case. There is a line for each program, and the last line is `N passed, M failed` for all runs.
+case. There is a line for each conversation and each program of parts, and the last line is `N passed, M failed` for all runs.
 """
 
 import concurrent.futures
@@ -37,7 +37,7 @@ FILE = "rs_file_growths"
 PARTS = {"pager-calls": (STORAGE, b"p"), "tree-calls": (STORAGE, b"t"), "file-steps": (FILE, b"f")}
 
 # How many runs of each there are in which a growth is refused, at the most.
-MOST_RUNS = {CONVERSED: 700, STORAGE: 400, FILE: 700}
+MOST_RUNS = {CONVERSED: 1_600, STORAGE: 400, FILE: 700}
 
 # The commands that change nothing, where they are accepted.
 QUERIES = (b"SELECT ", b"TOTAL ", b"TRANSLATE ", b"EXPLAIN ")
@@ -45,8 +45,8 @@ QUERIES = (b"SELECT ", b"TOTAL ", b"TRANSLATE ", b"EXPLAIN ")
 # More growths than any program asks for.
 NONE_REFUSED = 1_000_000
 
-# More steps of the interpreter than any counted run takes, some twenty seconds of it.
-MOST_STEPS = 100_000_000
+# More steps of the interpreter than any counted run takes, some ten minutes of it.
+MOST_STEPS = 3_000_000_000
 
 # A line of the list: a name and a number.
 LISTED = re.compile(r"^(?P<name>[\w-]+) +(?P<count>\d+)$", re.MULTILINE)
@@ -70,6 +70,11 @@ class Case:
 
 def program_of(name):
     return PARTS[name][0] if name in PARTS else CONVERSED
+
+
+def group_of(name):
+    """What a run is counted with. The runs of a conversation are many, so that they follow a build of their own."""
+    return program_of(name) if name in PARTS else name
 
 
 def listed():
@@ -109,13 +114,14 @@ def is_look(sent, wanted):
 
 
 def fields_of(name):
-    """What a program reads after the dots: of a conversation each line with its answer and the one without memory."""
+    """What a program reads after the dots: of a conversation each line with its answer and those without memory."""
     if name in PARTS:
         return PARTS[name][1]
     fields = []
     for sent, wanted in exchanges(name):
         session = wanted.partition(b" ")[0]
-        fields += [b"look" if is_look(sent, wanted) else b"", sent, wanted, session + b" ERR 90 out of memory\n"]
+        refused = [session + b" ERR 90 out of memory\n", session + b" ERR 91 disk\n"]
+        fields += [b"look" if is_look(sent, wanted) else b"", sent, wanted] + refused
     return b"".join(field + b"\0" for field in fields)
 
 
@@ -158,8 +164,9 @@ def counted(names):
     return counts
 
 
-def refused_in(program, cases):
-    """Runs each case of a program after one build; gives for each whether it went as wanted."""
+def refused_in(cases):
+    """Runs each case of a group after one build; gives for each whether it went as wanted."""
+    program = program_of(cases[0].name)
     number = max(case.refused for case in cases)
     texts = {name: fields_of(name) for name in {case.name for case in cases}}
     given = [
@@ -177,36 +184,38 @@ def refused_in(program, cases):
 
 
 def refused_in_turn(counts):
-    """Each growth of each, and the one after its last, refused in a run; the runs of a program follow its one build."""
+    """Each growth of each, and the one after its last, refused in a run; each group of runs follows a build."""
     cases = [Case(name, count, own) for name, count in counts.items() for own in range(1, count + 2)]
-    groups = {program: [case for case in cases if program_of(case.name) == program] for program in MOST_RUNS}
-    for program, own in groups.items():
-        most = MOST_RUNS[program]
-        print("%s: %d runs in which a growth is refused, of %d at the most" % (program, len(own), most), flush=True)
-        if len(own) > most:
+    for program, most in MOST_RUNS.items():
+        runs = sum(program_of(case.name) == program for case in cases)
+        print("%s: %d runs in which a growth is refused, of %d at the most" % (program, runs, most), flush=True)
+        if runs > most:
             sys.exit(" ".join("%s:%d" % item for item in counts.items()))
+    groups = {}
+    for case in cases:
+        groups.setdefault(group_of(case.name), []).append(case)
     with concurrent.futures.ThreadPoolExecutor(len(groups)) as pool:
-        told = dict(zip(groups, pool.map(refused_in, groups, groups.values())))
-    return {program: results for program, (results, _said) in told.items()}, "".join(said for _results, said in told.values())
+        told = dict(zip(groups, pool.map(refused_in, groups.values())))
+    return {group: results for group, (results, _said) in told.items()}, "".join(said for _results, said in told.values())
 
 
 def is_stale(results):
     """Whether the runs about the last growth of one of them went otherwise than wanted, as where the list is old."""
-    every = [item for of_program in results.values() for item in of_program.items()]
+    every = [item for of_group in results.values() for item in of_group.items()]
     return any(not is_right and case.refused >= case.count for case, is_right in every)
 
 
 def report(results, said):
-    """Prints how many runs of each program went as wanted, and of all; gives how many did not."""
-    rights = [is_right for of_program in results.values() for is_right in of_program.values()]
+    """Prints how many runs of each group went as wanted, and of all; gives how many did not."""
+    rights = [is_right for of_group in results.values() for is_right in of_group.values()]
     failed = rights.count(False)
     if failed:
-        wrong = [case.key() for of_program in results.values() for case, is_right in of_program.items() if not is_right]
+        wrong = [case.key() for of_group in results.values() for case, is_right in of_group.items() if not is_right]
         print(said[-4_000:])
         print("otherwise than wanted: %s" % " ".join(wrong))
-    for program, of_program in results.items():
-        right = list(of_program.values()).count(True)
-        print("%s: %d passed, %d failed" % (program, right, len(of_program) - right))
+    for group, of_group in results.items():
+        right = list(of_group.values()).count(True)
+        print("%s: %d passed, %d failed" % (group, right, len(of_group) - right))
     print("%d passed, %d failed" % (len(rights) - failed, failed))
     return failed
 

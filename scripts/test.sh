@@ -1,7 +1,7 @@
 #!/usr/bin/env bash
 # The gate: the kit's `rt ci` proves every crate, tries the must-fail edits and runs the tests and the programs. Then the
-# programs that it built hold the conversations, answer pseudo-random lines beside the slow machine, open files beside the slow
-# reader of files, and have their growths refused in turn.
+# programs that it built hold the conversations, answer pseudo-random lines beside the slow machine, are run on files of all
+# sorts and for peers over TCP, open files beside the slow reader of files, and have their growths refused in turn.
 set -eu
 cd "$(dirname "$0")/.."
 # each check by one process: several for one check take a fifth more of the processors
@@ -14,5 +14,6 @@ if [ ! -x crates/rs_file_driver/out/rs_file_driver ]; then
 fi
 python3 tests/conversations.py
 python3 tests/compare.py
+python3 tests/files_and_peers.py
 python3 tests/files.py
 python3 scripts/growths.py

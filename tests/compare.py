@@ -1,14 +1,16 @@
 #!/usr/bin/env python3
 """Compares the program with the slow machine over pseudo-random lines, byte for byte.
 
-    compare.py [--program CMD] [--slow CMD] [--lines N] [--rounds N] [--seed S] [--only R] [--counts]
+    compare.py [--program CMD] [--create CMD] [--ways WAYS] [--slow CMD]
+               [--lines N] [--rounds N] [--seed S] [--only R] [--counts]
 
-Each round is a fresh run of both on the same lines. Where the answers differ, the lines
-are shortened to a few that still differ, and these are printed with both answers. How
-many lines of each sort there were is asserted too (tally.py), and that positions are read
-back as they are printed (positions.py). The same numbers give the same lines each time;
-`--lines 200000 --rounds 400` is the long run.
-The last line is `N passed, M failed`: rounds, sorts and checks of positions.
+The slow machine answers the lines of a round once, and the program in three ways: in one run
+over memory, in one over a file, and in several over one file (ways.py). Where the answers
+differ, the lines are shortened to a few that still differ, and these are printed with both
+answers. How many lines of each sort there were is asserted too (tally.py), and that positions
+are read back as they are printed (positions.py). The same numbers give the same lines each
+time; `--lines 300000 --rounds 600` is the long run.
+The last line is `N passed, M failed`: rounds, once in each way, sorts and checks of positions.
 """
 
 import argparse
@@ -23,9 +25,9 @@ from positions import check_positions
 from programs import answer_of, replies_of
 from random_lines import RandomLines
 from tally import Tally
+from ways import WAYS, Roadseg, add_options, answer_in, program_of
 
 HERE = os.path.dirname(os.path.abspath(__file__))
-PROGRAM = "%s run" % os.path.join(os.path.dirname(HERE), "crates", "roadseg", "out", "roadseg")
 SLOW = "%s %s" % (sys.executable, os.path.join(HERE, "slow_machine.py"))
 
 LONGEST_SHORTENING = 60  # seconds
@@ -35,9 +37,9 @@ FEWEST_TALLIED = 10_000  # lines
 
 
 class Programs(NamedTuple):
-    """The commands of the program and of the slow machine."""
+    """The program, and the command of the slow machine."""
 
-    fast: str
+    fast: Roadseg
     slow: str
 
 
@@ -55,11 +57,11 @@ class Round(NamedTuple):
 
 
 class Compared(NamedTuple):
-    """A round, its tally, and what was wrong or None."""
+    """A round, its tally, and for each way what was wrong or None."""
 
     made: Round
     tally: Tally
-    fault: str | None
+    faults: dict
 
 
 def rounds_of(seed, lines, rounds):
@@ -73,16 +75,22 @@ def rounds_of(seed, lines, rounds):
 
 
 def compare_round(task):
-    programs, made = task
+    programs, ways, made = task
     lines = made.lines()
-    data = b"".join(line.sent for line in lines)
-    fast, slow = answer_of(programs.fast, data), answer_of(programs.slow, data)
+    sent = [line.sent for line in lines]
+    slow = answer_of(programs.slow, b"".join(sent))
+    faults = {way: fault_of(answer_beside(slow, way, programs, sent), slow) for way in ways}
     whole = [line for line in lines if line.sent.endswith(b"\n")]
     tally = Tally()
     for line, reply in zip(whole, replies_of(slow.out)):
         if "fixed" not in line.marks:
             tally.count(line.sent[:-1], line.marks, reply)
-    return Compared(made, tally, fault_of(fast, slow))
+    return Compared(made, tally, faults)
+
+
+def answer_beside(slow, way, programs, lines):
+    """What the program answers in one way to lines that the slow machine has answered."""
+    return answer_in(way, programs.fast, lines, replies_of(slow.out))
 
 
 def fault_of(fast, slow):
@@ -106,15 +114,19 @@ def first_difference(mine, wanted):
 class Shortener:
     """Leaves out of lists what isn't needed for a difference, as long as there is time."""
 
-    def __init__(self, programs):
-        self.programs = programs
+    def __init__(self, programs, way):
+        self.programs, self.way = programs, way
         self.end = time.monotonic() + LONGEST_SHORTENING
 
     def differ(self, lines):
-        """Whether the program answers these lines in another way than the slow machine."""
-        data = b"".join(lines)
-        slow = answer_of(self.programs.slow, data)
-        return slow.complaint is None and answer_of(self.programs.fast, data) != slow
+        """Whether the program answers these lines otherwise than the slow machine."""
+        fast, slow = self.answers(lines)
+        return slow.complaint is None and fast != slow
+
+    def answers(self, lines):
+        """What the program and the slow machine answer."""
+        slow = answer_of(self.programs.slow, b"".join(lines))
+        return answer_beside(slow, self.way, self.programs, lines), slow
 
     def shortened(self, items, is_enough):
         """Some of the items for which the test still holds: halves go first, then quarters, single items at last."""
@@ -147,7 +159,7 @@ class Shortener:
         return put(self.shortened(words, lambda rest: self.differ(put(rest))))
 
     def shortened_lines(self, lines):
-        fast, slow = (answer_of(program, b"".join(lines)) for program in self.programs)
+        fast, slow = self.answers(lines)
         if fast.out != slow.out:
             front = lines[: first_difference(fast.out, slow.out) + 1]
             lines = front if self.differ(front) else lines
@@ -159,10 +171,12 @@ class Shortener:
 
 def shorten_round(task):
     """The lines of a round, shortened, with both answers, as text."""
-    programs, made = task
-    lines = Shortener(programs).shortened_lines([line.sent for line in made.lines()])
-    fast, slow = (answer_of(program, b"".join(lines)) for program in programs)
-    text = ["%s: %d lines are enough (=: both answer, -: the slow machine, +: the program)" % (made.title(), len(lines))]
+    programs, way, made = task
+    shortener = Shortener(programs, way)
+    lines = shortener.shortened_lines([line.sent for line in made.lines()])
+    fast, slow = shortener.answers(lines)
+    title = WAYS[way] + made.title()
+    text = ["%s: %d lines are enough (=: both answer, -: the slow machine, +: the program)" % (title, len(lines))]
     rows = list(zip_longest(lines, replies_of(slow.out), replies_of(fast.out), fillvalue=b""))
     if len(rows) > MOST_PRINTED:
         text.append("... %d lines before" % (len(rows) - MOST_PRINTED))
@@ -188,14 +202,15 @@ def shown(line):
 
 
 def report_rounds(pool, programs, compared):
-    """Prints what differs, the first few shortened; says how many rounds passed and failed."""
-    faulty = [one for one in compared if one.fault]
-    for one in faulty:
-        print("%s: %s" % (one.made.title(), one.fault))
-    worth = [(programs, one.made) for one in faulty if "slow machine" not in one.fault]
+    """Prints what differs, the first few shortened; says how many rounds passed and failed, once in each way."""
+    every = [(way, one.made, fault) for one in compared for way, fault in one.faults.items()]
+    faulty = [one for one in every if one[2]]
+    for way, made, fault in faulty:
+        print("%s%s: %s" % (WAYS[way], made.title(), fault))
+    worth = [(programs, way, made) for way, made, fault in faulty if "slow machine" not in fault]
     for text in pool.imap(shorten_round, worth[:MOST_SHORTENED]):
         print(text)
-    return len(compared) - len(faulty), len(faulty)
+    return len(every) - len(faulty), len(faulty)
 
 
 def report_tally(tally, is_asserted, is_printed):
@@ -212,7 +227,7 @@ def report_tally(tally, is_asserted, is_printed):
 def report_positions(programs):
     """Prints which positions are wrong."""
     passed = failed = 0
-    for name, program in (("the program", programs.fast), ("the slow machine", programs.slow)):
+    for name, program in (("the program", programs.fast.run), ("the slow machine", programs.slow)):
         for fault in check_positions(program):
             passed, failed = passed + (fault is None), failed + (fault is not None)
             if fault:
@@ -222,9 +237,9 @@ def report_positions(programs):
 
 def options():
     parser = argparse.ArgumentParser(description="Compares the program with the slow machine.")
-    parser.add_argument("--program", default=PROGRAM, help="what is compared (default: the program that the gate built)")
+    add_options(parser)
     parser.add_argument("--slow", default=SLOW, help="what it is compared with (default: the slow machine)")
-    parser.add_argument("--lines", type=int, default=26_000, help="pseudo-random lines in all")
+    parser.add_argument("--lines", type=int, default=20_000, help="pseudo-random lines in all")
     parser.add_argument("--rounds", type=int, default=40, help="fresh runs that share the lines")
     parser.add_argument("--seed", type=int, default=0)
     parser.add_argument("--only", type=int, help="the number of one round, which is run alone")
@@ -234,13 +249,13 @@ def options():
 
 def main():
     chosen = options()
-    programs = Programs(chosen.program, chosen.slow)
+    programs = Programs(program_of(chosen), chosen.slow)
     rounds = rounds_of(chosen.seed, chosen.lines, chosen.rounds)
     if chosen.only is not None:
         rounds = [rounds[chosen.only]]
     tally = Tally()
     with Pool() as pool:
-        compared = list(pool.imap(compare_round, [(programs, made) for made in rounds]))
+        compared = list(pool.imap(compare_round, [(programs, chosen.ways, made) for made in rounds]))
         for one in compared:
             tally.add(one.tally)
         results = [report_rounds(pool, programs, compared)]

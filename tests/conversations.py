@@ -1,17 +1,22 @@
 #!/usr/bin/env python3
-"""Runs conversations: each sends its lines to a fresh run of the program, and compares the answers byte for byte.
+"""Holds conversations: each sends its lines to the program, and compares the answers byte for byte.
 
-    tests/conversations.py [--program CMD] [--timeout SECONDS] [--jobs N] [FILE ..]
+    tests/conversations.py [--program CMD] [--create CMD] [--ways WAYS] [--timeout SECONDS] [--jobs N] [FILE ..]
     tests/conversations.py --expand FILE
 
-Without files it runs every tests/conversations/*.txt and every example of README.md, docs/LANGUAGE.md and
+Each is held in three ways, and answered alike: `memory` is one run without a file, `file` one run over a file that was
+just created, `cut` several runs over such a file, which end at pseudo-random lines where no cursor is open (ways.py).
+WAYS are some of these names, with commas between them. CMD answers lines without a file, and is
+`crates/roadseg/out/roadseg run` by default; what creates a file is its first word and `create` by default. Over a file
+both are given `--file` and a path.
+
+Without files it takes every tests/conversations/*.txt and every example of README.md, docs/LANGUAGE.md and
 docs/COOKBOOK.md. An example is a fenced or indented block whose first line begins with `> `; other blocks of a `.md`
 file are skipped. Where the file has a line `<!-- each example follows FILE -->`, the lines of FILE, a path from the
-repository's root, are sent before each of its examples, and each of them must be accepted. CMD is
-`crates/roadseg/out/roadseg run` by default. For each line that is answered otherwise it prints the file, the number of
-the line in the file, the line sent, and the first line of the reply that differs, as wanted and as got. A run that
-does not end with status 0, or writes to standard error, fails too. The last line is `N passed, M failed`, counted in
-conversations; the exit status is 0 only where none failed.
+repository's root, are sent before each of its examples, and each of them must be accepted. For each line that is answered otherwise it
+prints the file, the number of the line in the file, the line sent, and the first line of the reply that differs, as
+wanted and as got. A run that does not end with status 0, or writes to standard error, fails too. The last line is
+`N passed, M failed`, counted in conversations, once in each way; the exit status is 0 only where none failed.
 
 Each line of a conversation begins with a mark:
 
@@ -40,11 +45,11 @@ import os
 import re
 import shlex
 import shutil
-import subprocess
 import sys
 
+from ways import WAYS, add_options, answer_in, program_of
+
 ROOT = os.path.dirname(os.path.dirname(os.path.abspath(__file__)))
-PROGRAM = shlex.quote(os.path.join(ROOT, "crates", "roadseg", "out", "roadseg")) + " run"
 DOCUMENTS = ["README.md", os.path.join("docs", "LANGUAGE.md"), os.path.join("docs", "COOKBOOK.md")]
 
 # What a document says where its examples follow the lines of a file.
@@ -311,21 +316,19 @@ def differences(conversation, out):
     return found
 
 
-def complaints(conversation, program, timeout):
-    """What is wrong with a run of the program on the conversation."""
-    sent = b"".join(exchange.sent for exchange in conversation.exchanges)
-    try:
-        done = subprocess.run(program, input=sent, stdout=subprocess.PIPE, stderr=subprocess.PIPE, timeout=timeout)
-    except subprocess.TimeoutExpired:
-        return ["%s: the program did not end within %g seconds" % (conversation.name, timeout)]
-    found = differences(conversation, done.stdout)
+def complaints(conversation, way, program, timeout):
+    """What is wrong with the conversation as the program holds it in one way."""
+    exchanges = conversation.exchanges
+    lines = [bytes(exchange.sent) for exchange in exchanges]
+    wanted = [b"0 OK 0\n" if exchange.is_answer_free else bytes(exchange.wanted) for exchange in exchanges]
+    answer = answer_in(way, program, lines, wanted, timeout)
+    found = differences(conversation, answer.out) if answer.out or not answer.complaint else []
     if len(found) > DIFFERENCES_SHOWN:
         more = "%s: %d lines more were answered otherwise" % (conversation.name, len(found) - DIFFERENCES_SHOWN)
         found = found[:DIFFERENCES_SHOWN] + [more]
-    if done.returncode != 0 or done.stderr:
-        found.append("%s: exit status %d, standard error: %s"
-                     % (conversation.name, done.returncode, shown(done.stderr) or "nothing"))
-    return found
+    if answer.complaint:
+        found.append("%s: %s" % (conversation.name, answer.complaint))
+    return [WAYS[way] + one for one in found]
 
 
 def read_all(files):
@@ -339,23 +342,25 @@ def read_all(files):
     return conversations, faults
 
 
-def run_all(conversations, faults, program, timeout, jobs):
-    """Runs the conversations side by side, prints what is wrong, and answers whether all passed."""
+def hold_all(conversations, faults, words):
+    """Holds the conversations side by side, prints what is wrong, and answers whether all passed."""
     failed = len(faults)
     for fault in faults:
         print(fault)
-    with concurrent.futures.ThreadPoolExecutor(jobs) as pool:
-        for found in pool.map(lambda one: complaints(one, program, timeout), conversations):
+    program = program_of(words)
+    turns = [(conversation, way) for conversation in conversations for way in words.ways]
+    with concurrent.futures.ThreadPoolExecutor(words.jobs) as pool:
+        for found in pool.map(lambda turn: complaints(*turn, program, words.timeout), turns):
             if found:
                 failed += 1
                 print("\n".join(found), flush=True)
-    print("%d passed, %d failed" % (len(conversations) + len(faults) - failed, failed))
+    print("%d passed, %d failed" % (len(turns) + len(faults) - failed, failed))
     return failed == 0
 
 
 def main():
-    parser = argparse.ArgumentParser(description="Runs conversations, or prints one without loops and escapes.")
-    parser.add_argument("--program", default=PROGRAM, metavar="CMD")
+    parser = argparse.ArgumentParser(description="Holds conversations, or prints one without loops and escapes.")
+    add_options(parser)
     parser.add_argument("--timeout", type=float, default=120, metavar="SECONDS")
     parser.add_argument("--jobs", type=int, default=os.cpu_count() or 1, metavar="N")
     parser.add_argument("--expand", action="store_true")
@@ -370,7 +375,7 @@ def main():
     program = shlex.split(words.program)
     if not program or not shutil.which(program[0]):
         sys.exit("there is no program %s" % words.program)
-    return 0 if run_all(conversations, faults, program, words.timeout, words.jobs) else 1
+    return 0 if hold_all(conversations, faults, words) else 1
 
 
 if __name__ == "__main__":

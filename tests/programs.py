@@ -14,13 +14,13 @@ class Answer(NamedTuple):
     complaint: str | None
 
 
-def answer_of(program, data):
+def answer_of(program, data, longest=LONGEST_RUN):
     """The answer of a fresh run of a program to these bytes."""
     try:
-        done = subprocess.run(shlex.split(program), input=data, capture_output=True, timeout=LONGEST_RUN)
+        done = subprocess.run(shlex.split(program), input=data, capture_output=True, timeout=longest)
     except subprocess.TimeoutExpired:
-        return Answer(b"", "no end within %d seconds" % LONGEST_RUN)
-    if done.returncode != 0:
+        return Answer(b"", "no end within %g seconds" % longest)
+    if done.returncode != 0 or done.stderr:
         error = done.stderr[-300:].decode(errors="replace")
         return Answer(done.stdout, "ended with status %d %s" % (done.returncode, error))
     return Answer(done.stdout, None)

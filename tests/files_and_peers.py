@@ -1,0 +1,524 @@
+#!/usr/bin/env python3
+"""Runs the program on files and for peers over TCP: its status, what it writes, and what becomes of the file.
+
+    files_and_peers.py [--program PATH] [--jobs N] [TEST ..]
+
+Files are made, opened, refused, kept in use, and left by a program that is killed; peers connect over TCP on 127.0.0.1,
+one after another, and some of them cut, stall, or send junk. What is wanted was written by hand, and what a new file
+holds comes from the format (file_writer.py). PATH is `crates/roadseg/out/roadseg` by default; a TEST is the name of a
+function of the list TESTS. It prints what is not as wanted, and at last `N passed, M failed`.
+"""
+
+import argparse
+import concurrent.futures
+import os
+import random
+import signal
+import socket
+import struct
+import subprocess
+import sys
+import tempfile
+import time
+from contextlib import contextmanager, suppress
+from typing import NamedTuple
+
+from conversations import conversations_of
+from file_writer import written
+from whole_files import SOUND
+
+HERE = os.path.dirname(os.path.abspath(__file__))
+PROGRAM = os.path.join(os.path.dirname(HERE), "crates", "roadseg", "out", "roadseg")
+CURSORS = os.path.join(HERE, "conversations", "a-cursor-keeps-its-opening.txt")
+KEPT = os.path.join(HERE, "kept")  # files that an earlier build closed, each beside a conversation over it
+LONGEST = 60  # seconds that anything may take
+STALL = 1  # seconds
+OPEN_FLAG = 28  # the place of its byte
+FULL = "/dev/full"  # each write to it fails
+
+DEFINED = b"0 DEFINE ROUTE A FROM 0 TO 10\n0 DEFINE LINE TABLE pave (surf TEXT(8))\n"
+INSERTED = b"0 INSERT INTO pave ON A FROM 0 TO 1 VALUES ('AC')\n"
+SELECTED = b"0 SELECT pave\n"
+ROWS = b"0 ROW A 0.000 1.000 'AC'\n0 OK 1\n"
+TRANSLATED = b"0 TRANSLATE A 4 AS ABSOLUTE\n"
+PLACE = b"0 ROW 4.000\n0 OK 1\n"
+
+EXISTS = b"roadseg: file exists\n"
+NOT_OPENED = b"roadseg: cannot open file\n"
+NOT_BOUND = b"roadseg: cannot listen\n"
+READ_FAULT = b"roadseg: read fault\n"
+WRITE_FAULT = b"roadseg: write fault\n"
+DAMAGED = b"roadseg: ERR 94 damaged file\n"
+NOT_CLOSED = b"roadseg: ERR 95 file not closed\n"
+
+
+class Unexpected(Exception):
+    """Something is not as wanted."""
+
+
+def expect(what, got, wanted):
+    if got != wanted:
+        raise Unexpected("%s: wanted %.300r, got %.300r" % (what, wanted, got))
+
+
+class Ended(NamedTuple):
+    """The status of a run, and what it wrote to standard output and standard error."""
+
+    status: int
+    out: bytes
+    errors: bytes
+
+
+class Program(NamedTuple):
+    """The program, and a folder for the files of one test."""
+
+    path: str
+    folder: str
+
+    def file(self, name="file"):
+        return os.path.join(self.folder, name)
+
+    def run(self, *words, sent=b""):
+        done = subprocess.run([self.path, *words], input=sent, capture_output=True, timeout=LONGEST)
+        return Ended(done.returncode, done.stdout, done.stderr)
+
+    def expect(self, words, sent, out, said=b""):
+        """Expects that a run writes this, and fails where it has to say something."""
+        expect(" ".join(words), self.run(*words, sent=sent), Ended(1 if said else 0, out, said))
+
+    def created(self, sent=b"", out=b""):
+        """The path of a file that is created, and then told these lines."""
+        file = self.file()
+        self.expect(["create", "--file", file], b"", b"")
+        if sent:
+            self.expect(["run", "--file", file], sent, out)
+        return file
+
+
+def bytes_at(path):
+    with open(path, "rb") as file:
+        return file.read()
+
+
+def put(path, data, place=0):
+    """Puts bytes into a file, which is made if need be."""
+    with open(path, "r+b" if os.path.exists(path) else "wb") as file:
+        file.seek(place)
+        file.write(data)
+
+
+# Files.
+
+
+def a_file_is_created_once(program):
+    file = program.created()
+    data = bytes_at(file)
+    expect("a new file", data, bytes(written(SOUND["empty"]()).data))
+    program.expect(["create", "--file", file], b"", b"", EXISTS)
+    expect("the file after that", bytes_at(file), data)
+    program.expect(["create", "--file", program.folder], b"", b"", EXISTS)
+    program.expect(["create", "--file", program.file("none/file")], b"", b"", NOT_OPENED)
+
+
+def a_file_keeps_what_it_was_told(program):
+    file = program.created(DEFINED + INSERTED, b"0 OK 0\n0 OK 0\n0 OK 1000\n")
+    words = ["run", "--file", file]
+    program.expect(words, b"1 OPEN c FOR pave\n" + SELECTED, b"1 OK 0\n" + ROWS)
+    program.expect(words, b"1 FETCH c 1\n" + SELECTED, b"1 ERR 60 no such cursor\n" + ROWS)
+    program.expect(words, b"0 REMOVE pave ON A\n" + SELECTED[:-1], b"0 OK 1000\n")
+    program.expect(words, SELECTED, b"0 OK 0\n")
+
+
+def a_missing_file_is_not_opened(program):
+    for path in (program.file(), program.folder, program.file("none/file"), ""):
+        program.expect(["run", "--file", path], DEFINED, b"", NOT_OPENED)
+        program.expect(["serve", "--file", path], b"", b"", NOT_OPENED)
+    expect("files that were made", os.listdir(program.folder), [])
+
+
+def a_damaged_file_is_refused(program):
+    whole = bytes(written(SOUND["various"]()).data)
+    for data in (bytes(100), b"", b"0 SELECT pave\n" * 1000, whole[:-1], b"r" + whole[1:]):
+        file = program.file("%d" % len(data))
+        put(file, data)
+        program.expect(["run", "--file", file], SELECTED, b"", DAMAGED)
+        program.expect(["serve", "--file", file, "--listen", "nowhere"], b"", b"", DAMAGED)
+        expect("the file after that", bytes_at(file), data)
+
+
+def a_file_that_was_not_closed_is_refused(program):
+    file = program.created(DEFINED, b"0 OK 0\n0 OK 0\n")
+    put(file, b"\x01", OPEN_FLAG)
+    data = bytes_at(file)
+    program.expect(["run", "--file", file], SELECTED, b"", NOT_CLOSED)
+    program.expect(["serve", "--file", file, "--listen", "nowhere"], b"", b"", NOT_CLOSED)
+    expect("the file after that", bytes_at(file), data)
+    put(file, b"\x00", OPEN_FLAG)
+    program.expect(["run", "--file", file], SELECTED, b"0 OK 0\n")
+
+
+def a_file_of_each_kind_of_definition_is_opened(program):
+    for name in ("inserted", "various"):
+        file = program.file(name)
+        put(file, bytes(written(SOUND[name]()).data))
+        program.expect(["run", "--file", file], b"0 SAVE\n", b"0 OK 0\n")
+        program.expect(["run", "--file", file], b"0 REOPEN\n", b"0 OK 0\n")
+
+
+def files_of_earlier_builds_are_answered_from(program):
+    names = sorted(name[: -len(".road")] for name in os.listdir(KEPT) if name.endswith(".road"))
+    expect("how many files are kept", len(names) >= 2, True)
+    for name in names:
+        file = program.file(name)
+        put(file, bytes_at(os.path.join(KEPT, name + ".road")))
+        (conversation,) = conversations_of(os.path.join(KEPT, name + ".txt"))
+        sent = b"".join(exchange.sent for exchange in conversation.exchanges)
+        wanted = b"".join(bytes(exchange.wanted) for exchange in conversation.exchanges)
+        program.expect(["run", "--file", file], sent, wanted)
+        program.expect(["run", "--file", file], b"0 REOPEN\n", b"0 OK 0\n")
+
+
+def a_file_in_use_is_not_opened(program):
+    file = program.created()
+    with started(program, "run", "--file", file) as process:
+        process.stdin.write(DEFINED)
+        expect("the first answer", process.stdout.readline(), b"0 OK 0\n")
+        program.expect(["run", "--file", file], SELECTED, b"", NOT_OPENED)
+        program.expect(["serve", "--file", file], b"", b"", NOT_OPENED)
+        program.expect(["create", "--file", file], b"", b"", EXISTS)
+        expect("the program that has it", ended(process), Ended(0, b"0 OK 0\n", b""))
+    program.expect(["run", "--file", file], SELECTED, b"0 OK 0\n")
+
+
+def a_fault_of_the_streams_closes_the_file(program):
+    file = program.created()
+    expect("no room for answers", run_into_full(program, DEFINED, "run", "--file", file), (1, WRITE_FAULT))
+    program.expect(["run", "--file", file], TRANSLATED + SELECTED, PLACE + b"0 ERR 21 no such name\n")
+    folder = os.open(program.folder, os.O_RDONLY)
+    words = [program.path, "run", "--file", file]
+    done = subprocess.run(words, stdin=folder, capture_output=True, timeout=LONGEST)
+    os.close(folder)
+    expect("no lines to read", Ended(done.returncode, done.stdout, done.stderr), Ended(1, b"", READ_FAULT))
+    words = ["serve", "--file", file, "--listen", "127.0.0.1:%d" % free_port()]
+    expect("no room to say that it listens", run_into_full(program, b"", *words), (1, WRITE_FAULT))
+    program.expect(["run", "--file", file], b"", b"")
+
+
+def run_into_full(program, sent, *words):
+    """The status of a run that can write nothing to standard output, and what it says of that."""
+    with open(FULL, "wb") as full:
+        words = [program.path, *words]
+        done = subprocess.run(words, input=sent, stdout=full, stderr=subprocess.PIPE, timeout=LONGEST)
+    return done.returncode, done.stderr
+
+
+# Words.
+
+
+def words_are_looked_at_first(program):
+    file = program.file()
+    for words in (
+        ["serve", "--file", file, "--connections", "0"],
+        ["serve", "--file", file, "--connections", "1000001"],
+        ["serve", "--file", file, "--connections", "-1"],
+        ["serve", "--file", file, "--connections", "x"],
+        ["serve", "--listen", "127.0.0.1:0"],
+        ["serve", "--file"],
+        ["create"],
+        ["create", file],
+        ["run", file],
+        ["run", "--file", file, "--listen", "127.0.0.1:0"],
+        ["load", "--file", file],
+        [],
+    ):
+        done = program.run(*words, sent=DEFINED)
+        expect(" ".join(words), (done.status, done.out, done.errors != b""), (2, b"", True))
+    expect("files that were made", os.listdir(program.folder), [])
+
+
+def help_and_the_version_are_shown(program):
+    done = program.run("--version")
+    expect("--version", (done.status, done.out.split(b" ")[0], done.errors), (0, b"roadseg", b""))
+    expect("the address in its help", b"127.0.0.1:7400" in program.run("serve", "--help").out, True)
+    for words in (["--help"], ["create", "--help"], ["run", "--help"], ["serve", "--help"]):
+        done = program.run(*words, sent=DEFINED)
+        expect(" ".join(words), (done.status, b"--help" in done.out, done.errors), (0, True, b""))
+
+
+# Peers.
+
+
+def free_port():
+    """A port at which nothing listens, below those that peers are given."""
+    while True:
+        port = random.randrange(20_000, 32_000)
+        with socket.socket() as probe, suppress(OSError):
+            probe.bind(("127.0.0.1", port))
+            return port
+
+
+@contextmanager
+def started(program, *words):
+    """A run of the program that goes on; it is ended where nothing else has done so."""
+    pipe = subprocess.PIPE
+    process = subprocess.Popen([program.path, *words], stdin=pipe, stdout=pipe, stderr=pipe, bufsize=0)
+    try:
+        yield process
+    finally:
+        process.kill()
+        process.communicate()
+
+
+def ended(process):
+    """How the process ends by itself once its input does."""
+    out, errors = process.communicate(timeout=LONGEST)
+    return Ended(process.returncode, out, errors)
+
+
+class Server(NamedTuple):
+    """A run of `serve`, and its port."""
+
+    process: subprocess.Popen
+    port: int
+
+    def connected(self):
+        return socket.create_connection(("127.0.0.1", self.port), timeout=LONGEST)
+
+    def answers(self, *pieces):
+        """What a peer receives that sends these pieces, and stalls between them."""
+        with self.connected() as peer:
+            for place, piece in enumerate(pieces):
+                time.sleep(STALL if place else 0)
+                peer.sendall(piece)
+            peer.shutdown(socket.SHUT_WR)
+            return received(peer)
+
+    def expect_answers(self, sent, wanted):
+        expect("a peer that sends %.100r" % sent, self.answers(sent), wanted)
+
+    def expect_end(self):
+        expect("the end of the server", ended(self.process), Ended(0, b"", b""))
+
+
+def received(peer):
+    """All that is still sent to a peer."""
+    out = b""
+    while piece := peer.recv(65_536):
+        out += piece
+    return out
+
+
+def line_sent_to(peer):
+    """The next line that is sent to a peer."""
+    line = b""
+    while not line.endswith(b"\n"):
+        line += peer.recv(1) or b"the end\n"
+    return line
+
+
+@contextmanager
+def serving(program, file, connections):
+    """A run of `serve` that listens."""
+    port = free_port()
+    words = ["serve", "--file", file, "--listen", "127.0.0.1:%d" % port, "--connections", str(connections)]
+    with started(program, *words) as process:
+        expect("what it says first", process.stdout.readline(), b"listening\n")
+        yield Server(process, port)
+
+
+def cursors_outlive_their_connection(program):
+    [conversation] = conversations_of(CURSORS)
+    exchanges = conversation.exchanges
+    for cut in (0, 2, len(exchanges) - 4, len(exchanges) - 2, len(exchanges)):
+        file = program.file(str(cut))
+        program.expect(["create", "--file", file], b"", b"")
+        with serving(program, file, 2) as server:
+            for part in (exchanges[:cut], exchanges[cut:]):
+                server.expect_answers(b"".join(one.sent for one in part), b"".join(one.wanted for one in part))
+            server.expect_end()
+        program.expect(["run", "--file", file], b"1 FETCH c 1\n", b"1 ERR 60 no such cursor\n")
+
+
+def one_connection_is_served_where_no_number_is_said(program):
+    file, port = program.created(), free_port()
+    with started(program, "serve", "--file", file, "--listen", "127.0.0.1:%d" % port) as process:
+        expect("what it says first", process.stdout.readline(), b"listening\n")
+        server = Server(process, port)
+        server.expect_answers(DEFINED, b"0 OK 0\n0 OK 0\n")
+        server.expect_end()
+    program.expect(["run", "--file", file], SELECTED, b"0 OK 0\n")
+
+
+def a_peer_is_answered_line_by_line(program):
+    file = program.created()
+    answers = b""
+    with serving(program, file, 1) as server, server.connected() as peer:
+        for line in (DEFINED + INSERTED + INSERTED).splitlines(keepends=True):
+            peer.sendall(line)
+            answers += line_sent_to(peer)
+        expect("what is answered", answers, b"0 OK 0\n0 OK 0\n0 OK 1000\n0 OK 0\n")
+        peer.close()
+        server.expect_end()
+    program.expect(["run", "--file", file], SELECTED, ROWS)
+
+
+def peers_may_cut_and_stall(program):
+    file = program.created()
+    with serving(program, file, 6) as server:
+        server.expect_answers(b"", b"")
+        server.expect_answers(DEFINED + INSERTED[:20], b"0 OK 0\n0 OK 0\n")
+        server.expect_answers(INSERTED[20:], b"0 ERR 3 session number\n")
+        answers = server.answers(INSERTED[:20], INSERTED[20:] + SELECTED[:5], SELECTED[5:])
+        expect("a peer that stalls", answers, b"0 OK 1000\n" + ROWS)
+        reset(server, SELECTED[:-3])
+        server.expect_answers(SELECTED, ROWS)
+        server.expect_end()
+    program.expect(["run", "--file", file], SELECTED, ROWS)
+
+
+def reset(server, sent):
+    """A peer that sends this, or as much of it as it can, and whose connection is then reset."""
+    with server.connected() as peer:
+        peer.settimeout(STALL)
+        with suppress(TimeoutError):
+            peer.sendall(sent)
+        peer.setsockopt(socket.SOL_SOCKET, socket.SO_LINGER, struct.pack("ii", 1, 0))
+
+
+def peers_may_send_junk(program):
+    file = program.created(DEFINED + INSERTED, b"0 OK 0\n0 OK 0\n0 OK 1000\n")
+    junk = random.Random(0).randbytes(100_000)
+    with serving(program, file, 5) as server:
+        answers = server.answers(junk + b"\n").split(b"\n")
+        expect("refused lines of junk", {b" ".join(line.split(b" ")[:2]) for line in answers[:-1]}, {b"0 ERR"})
+        expect("how many they are", len(answers), junk.count(b"\n") + 2)
+        server.expect_answers(bytes(1_000_000), b"")
+        server.expect_answers(b"x" * 100_000 + b"\n" + SELECTED, b"0 ERR 2 line too long\n" + ROWS)
+        server.expect_answers(b"GET / HTTP/1.1\r\n\r\n", b"0 ERR 3 session number\n" * 2)
+        server.expect_answers(SELECTED, ROWS)
+        server.expect_end()
+    program.expect(["run", "--file", file], SELECTED, ROWS)
+
+
+def peers_may_read_nothing(program):
+    file = program.created(DEFINED + INSERTED, b"0 OK 0\n0 OK 0\n0 OK 1000\n")
+    with serving(program, file, 3) as server:
+        reset(server, SELECTED * 20_000)
+        reset(server, b"0 REMOVE pave ON A FROM 0 TO 0.5\n")
+        server.answers(SELECTED)
+        server.expect_end()
+    program.expect(["run", "--file", file], TRANSLATED, PLACE)
+
+
+def a_hundred_peers_are_served_one_after_another(program):
+    file = program.created(DEFINED, b"0 OK 0\n0 OK 0\n")
+    with serving(program, file, 100) as server:
+        for k in range(100):
+            line = b"%d INSERT INTO pave ON A FROM 0.%03d TO 0.%03d VALUES ('AC')\n" % (k % 64, k, k + 1)
+            server.expect_answers(line, b"%d OK 1\n" % (k % 64))
+        server.expect_end()
+        expect("one peer more", connects(server.port), False)
+    program.expect(["run", "--file", file], SELECTED, b"0 ROW A 0.000 0.100 'AC'\n0 OK 1\n")
+
+
+def connects(port):
+    try:
+        socket.create_connection(("127.0.0.1", port), timeout=LONGEST).close()
+    except ConnectionRefusedError:
+        return False
+    return True
+
+
+def peers_wait_for_their_turn(program):
+    file = program.created(DEFINED, b"0 OK 0\n0 OK 0\n")
+    with serving(program, file, 2) as server, server.connected() as first, server.connected() as second:
+        second.sendall(INSERTED)
+        second.shutdown(socket.SHUT_WR)
+        first.sendall(SELECTED)
+        expect("the first peer's answer", line_sent_to(first), b"0 OK 0\n")
+        first.shutdown(socket.SHUT_WR)
+        expect("the second peer's answer", received(second), b"0 OK 1000\n")
+        server.expect_end()
+
+
+def an_address_in_use_closes_the_file(program):
+    file = program.created(DEFINED + INSERTED, b"0 OK 0\n0 OK 0\n0 OK 1000\n")
+    with socket.socket() as other:
+        other.bind(("127.0.0.1", 0))
+        other.listen()
+        address = "127.0.0.1:%d" % other.getsockname()[1]
+        program.expect(["serve", "--file", file, "--listen", address], b"", b"", NOT_BOUND)
+        program.expect(["serve", "--file", program.file("none"), "--listen", address], b"", b"", NOT_OPENED)
+    for address in ("nowhere", "", "127.0.0.1", "127.0.0.1:65536"):
+        program.expect(["serve", "--file", file, "--listen", address], b"", b"", NOT_BOUND)
+    program.expect(["run", "--file", file], SELECTED, ROWS)
+
+
+def a_killed_server_leaves_its_file_open(program):
+    file = program.created(DEFINED, b"0 OK 0\n0 OK 0\n")
+    for sign in (signal.SIGKILL, signal.SIGTERM):
+        with serving(program, file, 2) as server:
+            server.expect_answers(SELECTED + b"0 SAVE\n", b"0 OK 0\n0 OK 0\n")
+            server.process.send_signal(sign)
+            expect("the end of the server", ended(server.process).status, -sign)
+        data = bytes_at(file)
+        program.expect(["run", "--file", file], SELECTED, b"", NOT_CLOSED)
+        program.expect(["serve", "--file", file], b"", b"", NOT_CLOSED)
+        program.expect(["create", "--file", file], b"", b"", EXISTS)
+        expect("the file after that", bytes_at(file), data)
+        put(file, b"\x00", OPEN_FLAG)
+
+
+TESTS = [
+    a_file_is_created_once,
+    a_file_keeps_what_it_was_told,
+    a_missing_file_is_not_opened,
+    a_damaged_file_is_refused,
+    a_file_that_was_not_closed_is_refused,
+    a_file_of_each_kind_of_definition_is_opened,
+    files_of_earlier_builds_are_answered_from,
+    a_file_in_use_is_not_opened,
+    a_fault_of_the_streams_closes_the_file,
+    words_are_looked_at_first,
+    help_and_the_version_are_shown,
+    cursors_outlive_their_connection,
+    one_connection_is_served_where_no_number_is_said,
+    a_peer_is_answered_line_by_line,
+    peers_may_cut_and_stall,
+    peers_may_send_junk,
+    peers_may_read_nothing,
+    a_hundred_peers_are_served_one_after_another,
+    peers_wait_for_their_turn,
+    an_address_in_use_closes_the_file,
+    a_killed_server_leaves_its_file_open,
+]
+
+
+def fault_of(test, path):
+    """What is wrong in one test, or None."""
+    with tempfile.TemporaryDirectory(prefix="roadseg-") as folder:
+        try:
+            test(Program(path, folder))
+        except (Unexpected, OSError, subprocess.SubprocessError) as fault:
+            return "%s: %s" % (test.__name__, fault)
+    return None
+
+
+def main():
+    parser = argparse.ArgumentParser(description="Runs the program on files and for peers of a network.")
+    parser.add_argument("--program", default=PROGRAM, metavar="PATH")
+    parser.add_argument("--jobs", type=int, default=os.cpu_count() or 1, metavar="N")
+    parser.add_argument("names", nargs="*", metavar="TEST")
+    words = parser.parse_args()
+    path = os.path.abspath(words.program)
+    tests = [test for test in TESTS if not words.names or test.__name__ in words.names]
+    with concurrent.futures.ThreadPoolExecutor(words.jobs) as pool:
+        faults = [fault for fault in pool.map(lambda test: fault_of(test, path), tests) if fault]
+    for fault in faults:
+        print(fault)
+    print("%d passed, %d failed" % (len(tests) - len(faults), len(faults)))
+    return 1 if faults else 0
+
+
+if __name__ == "__main__":
+    sys.exit(main())

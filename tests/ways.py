@@ -1,0 +1,94 @@
+"""The ways in which the program answers the same lines: `memory` is one run without a file, `file` one run over a file
+that was just created, and `cut` several runs, one after another, over such a file.
+
+Cursors end with their run, so a run ends only where none is open.
+"""
+
+import argparse
+import os
+import random
+import shlex
+import tempfile
+from bisect import bisect_right
+from typing import NamedTuple
+
+from programs import LONGEST_RUN, Answer, answer_of
+
+HERE = os.path.dirname(os.path.abspath(__file__))
+PROGRAM = shlex.quote(os.path.join(os.path.dirname(HERE), "crates", "roadseg", "out", "roadseg")) + " run"
+SHARED_MEMORY = "/dev/shm"
+
+# The ways, and what is said before a fault of each.
+WAYS = {"memory": "", "file": "over a file: ", "cut": "in several runs: "}
+
+# After how many pseudo-random lines a run ends at the most, and the seed of these lines.
+MOST_CUTS = 5
+SEED = 0
+
+
+class Roadseg(NamedTuple):
+    """The commands that answer lines and that create a file. Over a file both are given `--file` and its path."""
+
+    run: str
+    create: str
+
+
+def add_options(parser):
+    """Adds the options that say which program it is, and in which ways it answers."""
+    names = ",".join(WAYS)
+    parser.add_argument("--program", default=PROGRAM, metavar="CMD", help="answers lines (default: as the gate built it)")
+    parser.add_argument("--create", metavar="CMD", help="creates a file (default: the first word of CMD, and `create`)")
+    parser.add_argument("--ways", type=ways_named, default=list(WAYS), metavar="WAYS", help="some of %s" % names)
+
+
+def ways_named(text):
+    """The ways of an argument."""
+    ways = text.split(",")
+    if not set(ways) <= set(WAYS):
+        raise argparse.ArgumentTypeError("the ways are %s" % ", ".join(WAYS))
+    return ways
+
+
+def program_of(options):
+    """The program that the options say."""
+    return Roadseg(options.program, options.create or shlex.quote(shlex.split(options.program)[0]) + " create")
+
+
+def answer_in(way, program, lines, replies, longest=LONGEST_RUN):
+    """What is answered to the lines in one way. Where they are cut is said by the replies that are wanted."""
+    if way == "memory":
+        return answer_of(program.run, b"".join(lines), longest)
+    bounds = [0, *(cuts_of(lines, replies) if way == "cut" else []), len(lines)]
+    parts = [b"".join(lines[first:end]) for first, end in zip(bounds, bounds[1:])]
+    folder = SHARED_MEMORY if os.path.isdir(SHARED_MEMORY) else None
+    with tempfile.TemporaryDirectory(prefix="roadseg-", dir=folder) as folder:
+        over = " --file " + shlex.quote(os.path.join(folder, "file"))
+        answers = [answer_of(program.create + over, b"", longest)]
+        answers += [answer_of(program.run + over, part, longest) for part in parts]
+    complaint = next((answer.complaint for answer in answers if answer.complaint), None)
+    return Answer(b"".join(answer.out for answer in answers), complaint)
+
+
+def cuts_of(lines, replies):
+    """The places of the lines with which further runs begin: pseudo-random, moved back to where no cursor is open."""
+    chosen = random.Random(SEED).sample(range(1, len(lines)), min(len(lines) - 1, MOST_CUTS))
+    places = places_without_cursors(lines, replies)
+    return sorted({places[bisect_right(places, place) - 1] for place in chosen} - {0})
+
+
+def places_without_cursors(lines, replies):
+    """The places of the lines before which no cursor is open, the first one among them. The last may have no reply."""
+    places, cursors = [], set()
+    for place, (line, reply) in enumerate(zip(lines, [*replies, b""])):
+        if not cursors:
+            places.append(place)
+        words = line.split()
+        if reply.split()[1:2] != [b"OK"] or len(words) < 2:
+            continue
+        if words[1] == b"OPEN":
+            cursors.add((int(words[0]), words[2]))
+        elif words[1] == b"CLOSE":
+            cursors.discard((int(words[0]), words[2]))
+        elif words[1] == b"REOPEN":
+            cursors.clear()
+    return places
