@@ -25,6 +25,7 @@ from load import inserts, setup
 
 INSERT = re.compile(r"\d+ INSERT INTO pave ON (R\d+) FROM (\d+)\.(\d+) TO (\d+)\.(\d+) VALUES \((.*)\)")
 SAVED = 200
+ASKED = "R%d" % 7  # a route of the load
 SCHEMA = "PRAGMA synchronous=FULL; CREATE TABLE pave (route TEXT, lo INT, hi INT, surf TEXT, lanes INT, PRIMARY KEY (route, lo, hi, surf, lanes)) WITHOUT ROWID;"
 INDEX = "CREATE INDEX ps ON pave (surf);"
 
@@ -72,8 +73,8 @@ def load(files, routes, rows, is_indexed):
 
 def window(files):
     """The times of one window, each asked by a new process."""
-    ours, found = files.run(["0 SELECT WINDOW(pave, R7 FROM 0.100 TO 0.200)"], subprocess.PIPE)
-    theirs, rows = files.shell("SELECT * FROM pave WHERE route = 'R7' AND lo < 200 AND hi > 100;", subprocess.PIPE)
+    ours, found = files.run(["0 SELECT WINDOW(pave, %s FROM 0.100 TO 0.200)" % ASKED], subprocess.PIPE)
+    theirs, rows = files.shell("SELECT * FROM pave WHERE route = '%s' AND lo < 200 AND hi > 100;" % ASKED, subprocess.PIPE)
     assert found.count(b"ROW") == rows.count(b"\n"), (found, rows)
     return ours, theirs
 
