@@ -109,20 +109,20 @@ impl Disk for MemoryDisk {
 fn read_out(bytes: &[u8], at: usize, buffer: &mut [u8])
     ensures { Gives (content_of bytes.now) at buffer.new }
 {
-    for (k, byte) in buffer.iter_mut().enumerate() {
-        *byte = byte_at(bytes, at, k);
+    let from = at.min(bytes.len());
+    let held = (bytes.len() - from).min(buffer.len());
+    if held < buffer.len() {
+        clear(buffer);
     }
+    overwrite(buffer, 0, &bytes[from..from + held]);
 }
 
-/// The byte at `at + k`, 0 past the end.
-fn byte_at(bytes: &[u8], at: usize, k: usize) -> u8
-    ensures { result ≡ slice_index bytes.now (at + k) }
+/// Makes all bytes zeros.
+fn clear(bytes: &mut [u8])
+    ensures zeros { (k : ℕ) → slice_index bytes.new k ≡ 0 }
+    ensures length { length bytes.new ≡ length bytes.old }
 {
-    if at < bytes.len() && k < bytes.len() - at {
-        bytes[at + k]
-    } else {
-        0
-    }
+    bytes.fill(0);
 }
 
 /// Writes in bytes from `at` on, after making room for them. A refused growth changes nothing.
