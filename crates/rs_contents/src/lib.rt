@@ -17,5 +17,5 @@ pub use definitions::{indexes_of, schema_of};
 pub use directory::directory_of;
 pub use free_pages::reach_free;
 pub use loading::load;
-pub use numbers::{check_numbers, free_index_number};
+pub use numbers::check_numbers;
 pub use opened::{OpenedFile, OpenedTable};

@@ -1,6 +1,6 @@
 //! This module checks the numbers of tables and indexes: each is given once, and the directory has nothing under the others.
 
-ghost use Rattle.std.specs.Prelude.{◌≡◌, ◌<◌, ◌≤◌, ◌↔◌, ℕ, Some, IfNone, IfSome, IsTrue, IsOkUnless, OnErr, OnOk, length, map, slice_get};
+ghost use Rattle.std.specs.Prelude.{◌≡◌, ◌<◌, ◌≤◌, ◌↔◌, ℕ, Some, IsTrue, IsOkUnless, OnErr, OnOk, length, map, slice_get};
 ghost use Rattle.std.specs.List.{AllByRecursion};
 ghost use Rattle.rs_catalog_pages.specs.Said.{said_catalogue, said_directory, said_tree};
 ghost use Rattle.rs_contents.specs.Contents.{AreNumbered, no_tree};
@@ -114,22 +114,6 @@ fn has_no_other_index(indexes: &[StoredIndex], roots: &[StoredRoot]) -> bool
         }
     }
     true
-}
-
-/// The least number that none of these indexes has, which the next index is given; none where each number below the limit is
-/// given, which takes as many indexes.
-pub fn free_index_number(indexes: &[StoredIndex]) -> Option<u32>
-    ensures free { IfSome result (λ number. (number < INDEXES) × (times (map (λ index. index.number) indexes.now) number ≡ 0)) }
-    ensures least { IfSome result (λ number. (lesser : ℕ) → lesser < number → 0 < times (map (λ index. index.number) indexes.now) lesser) }
-    ensures none { IfNone result ((number : ℕ) → number < INDEXES → 0 < times (map (λ index. index.number) indexes.now) number) }
-    ensures many { IfNone result (INDEXES ≤ length indexes.now) }
-{
-    for number in 0..INDEXES {
-        if indexes_with(indexes, number) == 0 {
-            return Some(number);
-        }
-    }
-    None
 }
 
 /// How many tables have this number.
