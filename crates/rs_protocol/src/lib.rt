@@ -5,6 +5,7 @@
 #![tactic(auto)]
 
 pub mod laws;
+pub mod limits;
 mod lines;
 pub mod put;
 mod replies;

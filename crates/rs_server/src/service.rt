@@ -8,6 +8,7 @@ ghost use Rattle.clap.specs.Words.{fault_of};
 ghost use Rattle.rs_command_line.specs.Asked.{asked_of, said_by};
 ghost use Rattle.rs_command_line.specs.CommandLine.{command_line};
 ghost use Rattle.rs_command_line.specs.declared.command_line.Asked.{Asked};
+ghost use Rattle.rs_server.specs.Disks.{told_of};
 ghost use Rattle.rs_server.specs.Ending.{Does, EndsAs, EndsBy, EndsWith, Runs};
 
 use crate::connection::serve_connections;
@@ -173,7 +174,9 @@ fn serve_address<
 }
 
 /// What failed, if anything did.
-fn failure_in<D: Drop>(ended: Result<D, (Option<D>, Failure)>) -> Option<Failure> {
+fn failure_in<D: Drop>(ended: Result<D, (Option<D>, Failure)>) -> Option<Failure>
+    ensures { result ≡ told_of ended }
+{
     match ended {
         Ok(_) => None,
         Err((_, failure)) => Some(failure),
