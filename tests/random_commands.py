@@ -367,7 +367,9 @@ class Commands(Queries):
 
     def select(self):
         """A table's or a view's name."""
-        tokens = [b"SELECT"] + self.named(None).tokens
+        query = self.named(None)
+        self.explained_next(query)
+        tokens = [b"SELECT"] + query.tokens
         if self.chance(0.8):
             tokens += [b"AS", self.pick(METHODS)]
         return tokens, lambda: None
