@@ -1,12 +1,13 @@
 #!/usr/bin/env python3
-"""Times an office's file beside the sqlite3 shell: loads, a new process that asks one window, and rows that are saved one by one.
+"""Times an office's file beside the sqlite3 shell and bedtools: loads, a new process that asks one window, and rows that are saved
+one by one.
 
     bench/files.py [--program crates/roadseg/out/roadseg] [--spans 100000] [--smaller 25000] [--routes 400] [--rounds 5] [--folder FOLDER]
 
 Each job is timed in turn by the program and by the shell, and the best of the rounds counts. A load is timed from the start of
 `run --file` on a file just created to its exit, with SAVE as the last line; the shell reads the same rows as statements in one
 transaction, with the like key and, in the third load, the like index, on the same file system, with `synchronous=FULL`. The window is
-asked of the loaded file by a new process, which checks the whole file first; the shell asks it of its own. Rows saved one by one are
+asked of the loaded file by a new process, which checks the whole file first; bedtools reads the same rows as text, and the one span. Rows saved one by one are
 INSERT and SAVE, 200 times, each answered before the next is sent; the shell commits each, in WAL. Then the growth exponent of the load
 in order, and the program's memory at its most. Figures of one run: nothing of time is promised.
 """
@@ -25,6 +26,7 @@ from load import inserts, setup
 
 INSERT = re.compile(r"\d+ INSERT INTO pave ON (R\d+) FROM (\d+)\.(\d+) TO (\d+)\.(\d+) VALUES \((.*)\)")
 SAVED = 200
+WINDOW = "a new process, one window"
 ASKED = "R%d" % 7  # a route of the load
 SCHEMA = "PRAGMA synchronous=FULL; CREATE TABLE pave (route TEXT, lo INT, hi INT, surf TEXT, lanes INT, PRIMARY KEY (route, lo, hi, surf, lanes)) WITHOUT ROWID;"
 INDEX = "CREATE INDEX ps ON pave (surf);"
@@ -71,11 +73,22 @@ def load(files, routes, rows, is_indexed):
     return ours, theirs
 
 
-def window(files):
+def bed(line):
+    """The row of a line that inserts, with tabs between its fields."""
+    route, lo, lo_part, hi, hi_part, values = INSERT.fullmatch(line).groups()
+    return "\t".join([route, str(int(lo + lo_part)), str(int(hi + hi_part)), *values.split(", ")]) + "\n"
+
+
+def window(files, folder, rows):
     """The times of one window, each asked by a new process."""
+    texts = {"pave.bed": "".join(map(bed, rows)), "one.bed": "%s\t100\t200\n" % ASKED}
+    for name, text in texts.items():
+        with open(os.path.join(folder, name), "w", encoding="ascii") as file:
+            file.write(text)
     ours, found = files.run(["0 SELECT WINDOW(pave, %s FROM 0.100 TO 0.200)" % ASKED], subprocess.PIPE)
-    theirs, rows = files.shell("SELECT * FROM pave WHERE route = '%s' AND lo < 200 AND hi > 100;" % ASKED, subprocess.PIPE)
-    assert found.count(b"ROW") == rows.count(b"\n"), (found, rows)
+    paths = [os.path.join(folder, name) for name in texts]
+    theirs, cut = timed(["bedtools", "intersect", "-a", paths[0], "-b", paths[1]], "", subprocess.PIPE)
+    assert found.count(b"ROW") == cut.count(b"\n"), (found, cut)
     return ours, theirs
 
 
@@ -125,14 +138,15 @@ def main():
             "load, with one index": lambda: load(files, words.routes, rows, True),
             "%d rows saved one by one" % SAVED: lambda: saved(files, SAVED, words.routes),
             "load, in order": lambda: load(files, words.routes, rows, False),
-            "a new process, one window": lambda: window(files),
+            WINDOW: lambda: window(files, folder, rows),
         }
         best = {job: (math.inf, math.inf) for job in jobs}
         for _ in range(words.rounds):
             for job, measure in jobs.items():
                 best[job] = tuple(map(min, best[job], measure()))
     for job, (ours, theirs) in best.items():
-        print("%-28s %8.1f ms   sqlite3 %8.1f ms   ratio %.2f" % (job, 1000 * ours, 1000 * theirs, ours / theirs))
+        other = "bedtools" if job == WINDOW else "sqlite3"
+        print("%-28s %8.1f ms   %-8s %8.1f ms   ratio %.2f" % (job, 1000 * ours, other, 1000 * theirs, ours / theirs))
     small, large = best["load of %d, in order" % len(few)][0], best["load, in order"][0]
     print("growth exponent of the load in order: %.2f" % (math.log(large / small) / math.log(words.spans / words.smaller)))
     print("memory at its most, of any process: %d KB" % resource.getrusage(resource.RUSAGE_CHILDREN).ru_maxrss)

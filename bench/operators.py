@@ -72,6 +72,17 @@ def over_one_another(choices, count):
     return spans
 
 
+def touching(choices, count, values):
+    """Twice as many spans, each from where the one before it ends, with another value than that one."""
+    place, value, spans = 0, 0, []
+    for _ in range(2 * count):
+        length = choices.randint(5, 40)
+        value = (value + choices.randrange(1, values)) % values
+        spans.append((place, place + length, (value,)))
+        place += length
+    return spans
+
+
 def in_groups(choices, count):
     """Spans that touch, by fours alike in the first column and never in the second."""
     place, spans = 0, []
@@ -87,6 +98,8 @@ TABLES = {
     "speed": Table("speed", ("m",), lambda choices, count: apart(choices, count, 10)),
     "works": Table("works", ("k",), over_one_another),
     "parts": Table("parts", ("n", "x"), in_groups),
+    "road": Table("road", ("n",), lambda choices, count: touching(choices, count, 10)),
+    "side": Table("side", ("m",), lambda choices, count: touching(choices, count, 10)),
     "one": Table("one", ("n",), lambda choices, count: apart(choices, count, 1)),
     "two": Table("two", ("n",), lambda choices, count: apart(choices, count, 1)),
 }
@@ -163,10 +176,19 @@ DISSOLVING = """mawk -F '\\t' -v OFS='\\t' '
 
 INTERSECT = "bedtools intersect -sorted -a one.bed -b two.bed"
 
+# the spans of one table with a value, and those of another along them
+SELECTING = Tool("bedtools", "mawk -F '\\t' '$4 == 3' pave.bed | bedtools intersect -sorted -wb -a - -b speed.bed", (0, 1, 2, 3, 7))
+
 QUESTIONS = [
     Question("overlay", ("pave", "speed"), ["OVERLAY(pave, speed)"], [
         Tool("bedtools", "bedtools intersect -sorted -wb -a pave.bed -b speed.bed", (0, 1, 2, 3, 7)),
     ]),
+    Question("overlay of touching spans", ("road", "side"), ["OVERLAY(road, side)"], [
+        Tool("bedtools", "bedtools intersect -sorted -wb -a road.bed -b side.bed", (0, 1, 2, 3, 7)),
+    ]),
+    Question("a value, by its table", ("pave", "speed"), ["OVERLAY(WHERE(pave, n = 3), speed)"], [SELECTING]),
+    Question("a value, by the plan", ("pave", "speed"), ["WHERE(OVERLAY(pave, speed), n = 3)"], [SELECTING]),
+    Question("a value, by each row", ("pave", "speed"), ["WHERE(OVERLAY(pave, speed), (n = 3 OR m < 0))"], [SELECTING]),
     Question("overlay of itself", ("works",), ["OVERLAY(works, RENAME(works, k TO j))"], [
         Tool("bedtools", "bedtools intersect -sorted -wb -a works.bed -b works.bed", (0, 1, 2, 3, 7)),
     ]),
