@@ -13,6 +13,8 @@ import argparse
 import concurrent.futures
 import os
 import random
+import re
+import resource
 import signal
 import socket
 import struct
@@ -21,10 +23,13 @@ import sys
 import tempfile
 import time
 from contextlib import contextmanager, suppress
+from functools import partial
 from typing import NamedTuple
 
 from conversations import conversations_of
 from file_writer import written
+from slow_file import answer_of
+from slow_pages import MOST_PAGES, Pages
 from whole_files import SOUND
 
 HERE = os.path.dirname(os.path.abspath(__file__))
@@ -33,13 +38,20 @@ CURSORS = os.path.join(HERE, "conversations", "a-cursor-keeps-its-opening.txt")
 KEPT = os.path.join(HERE, "kept")  # files that an earlier build closed, each beside a conversation over it
 LONGEST = 60  # seconds that anything may take
 STALL = 1  # seconds
+PIECE_PAUSE = 0.001  # seconds between pieces of a line
 OPEN_FLAG = 28  # the place of its byte
 FULL = "/dev/full"  # each write to it fails
 
 DEFINED = b"0 DEFINE ROUTE A FROM 0 TO 10\n0 DEFINE LINE TABLE pave (surf TEXT(8))\n"
 INSERTED = b"0 INSERT INTO pave ON A FROM 0 TO 1 VALUES ('AC')\n"
 SELECTED = b"0 SELECT pave\n"
+FOUR_TIMES = b"".join(
+    b"0 INSERT INTO pave ON A FROM %s VALUES ('AC')\n" % span for span in (b"0 TO 1", b"1 TO 2", b"0 TO 1", b"0.5 TO 2.5")
+)
 ROWS = b"0 ROW A 0.000 1.000 'AC'\n0 OK 1\n"
+WIDE_ROUTE = b"0 DEFINE ROUTE A FROM 0 TO 10000\n"
+WIDE_TABLE = b"0 DEFINE LINE TABLE wide (%s)\n" % b", ".join(b"c%d TEXT(40)" % k for k in range(12))
+WIDE_ROWS = 3_000  # seven of them in a page
 TRANSLATED = b"0 TRANSLATE A 4 AS ABSOLUTE\n"
 PLACE = b"0 ROW 4.000\n0 OK 1\n"
 
@@ -129,6 +141,66 @@ def a_file_keeps_what_it_was_told(program):
     program.expect(words, SELECTED, b"0 OK 0\n")
 
 
+def a_closed_file_is_as_the_format_says(program):
+    """The slow reader of files finds what it finds in the file that was written by hand from the format."""
+    file = program.created(DEFINED + FOUR_TIMES, b"0 OK 0\n0 OK 0\n0 OK 1000\n0 OK 1000\n0 OK 0\n0 OK 500\n")
+    found, why = answer_of(bytes_at(file))
+    expect("why it is none", why, None)
+    expect("what is in it", found, answer_of(bytes(written(SOUND["inserted"]()).data))[0])
+
+
+def a_line_reads_few_pages(program):
+    """Of a tree of some 450 pages, more than are held, a line reads those on its way to what it meets."""
+    file = program.created()
+    with started(program, "run", "--file", file) as process:
+        answers_to(process, [WIDE_ROUTE, WIDE_TABLE])
+        answers_to(process, [wide_row(place) for place in range(WIDE_ROWS)])
+        answers_to(process, [b"0 REOPEN\n"])
+        height = height_of(bytes_at(file))
+        expect("a tree of some levels", height > 2, True)
+        for line, most, fewest in (
+            (b"0 SELECT WINDOW(wide, A FROM 100 TO 110)\n", height * (10 + 2), height),
+            (b"0 SELECT WINDOW(wide, A FROM 100 TO 110)\n", 0, 0),
+            (wide_row(200.5), height + 2, 1),
+            (wide_row(200.25), 0, 0),
+            (b"0 REMOVE wide ON A FROM 300 TO 300.001\n", 2 * height + 2, 1),
+            (b"0 REMOVE wide ON A FROM 300 TO 300.001\n", 0, 0),
+        ):
+            before = reads_of(process)
+            answers_to(process, [line])
+            reads = reads_of(process) - before - 1  # the line itself is read too
+            expect("%d reads of pages for %.60r, %d to %d" % (reads, line, fewest, most), fewest <= reads <= most, True)
+        expect("the end", ended(process), Ended(0, b"", b""))
+
+
+def wide_row(place):
+    """A line that inserts a row of the widest table along a thousandth."""
+    values = b", ".join(b"'%040d'" % k for k in range(12))
+    return b"0 INSERT INTO wide ON A FROM %.3f TO %.3f VALUES (%s)\n" % (place, place + 0.001, values)
+
+
+def answers_to(process, lines):
+    """Has lines answered, one after another, and expects that none is refused."""
+    for line in lines:
+        process.stdin.write(line)
+        reply = process.stdout.readline()
+        while reply.split(b" ")[1] == b"ROW":
+            reply = process.stdout.readline()
+        expect("the end of the answer to %.60r" % line, reply.split(b" ")[:2], [b"0", b"OK"])
+
+
+def reads_of(process):
+    """How many reads the process has made."""
+    with open("/proc/%d/io" % process.pid, encoding="ascii") as file:
+        return int(re.search(r"syscr: (\d+)", file.read())[1])
+
+
+def height_of(data):
+    """The levels of the first table's tree, which is of the widest rows."""
+    pages = Pages(data, MOST_PAGES)
+    return len(pages.levels(pages.directory().tables[0].root, 28 + 12 * 41, 4))
+
+
 def a_missing_file_is_not_opened(program):
     for path in (program.file(), program.folder, program.file("none/file"), ""):
         program.expect(["run", "--file", path], DEFINED, b"", NOT_OPENED)
@@ -204,6 +276,44 @@ def a_fault_of_the_streams_closes_the_file(program):
     program.expect(["run", "--file", file], b"", b"")
 
 
+def each_line_is_answered_before_the_next_is_read(program):
+    file = program.created()
+    replies = [b"0 OK 0\n", b"0 OK 0\n", b"0 OK 1000\n", b"0 OK 0\n"]
+    for words in (["run"], ["run", "--file", file]):
+        with started(program, *words) as process:
+            for line, reply in zip((DEFINED + INSERTED + INSERTED).splitlines(keepends=True), replies):
+                process.stdin.write(line)
+                expect("the answer to %r" % line, process.stdout.readline(), reply)
+            expect("the end", ended(process), Ended(0, b"", b""))
+
+
+def lines_may_come_in_pieces(program):
+    sent = DEFINED + INSERTED + b"1 SELECT\n" + SELECTED + SELECTED[:-1]
+    wanted = b"0 OK 0\n0 OK 0\n0 OK 1000\n1 ERR 11 syntax at 9\n" + ROWS
+    for size in (1, 2, 7):
+        with started(program, "run") as process:
+            for place in range(0, len(sent), size):
+                process.stdin.write(sent[place : place + size])
+                time.sleep(PIECE_PAUSE)
+            expect("lines in pieces of %d bytes" % size, ended(process), Ended(0, wanted, b""))
+
+
+def answers_are_cut_where_there_is_no_room(program):
+    """A file that may not grow past some size takes the answers up to there, whatever they are."""
+    sent = DEFINED + INSERTED + SELECTED
+    wanted = b"0 OK 0\n0 OK 0\n0 OK 1000\n" + ROWS
+    file = program.file()
+    for room in range(len(wanted)):
+        with open(file, "wb") as output:
+            limited = partial(resource.setrlimit, resource.RLIMIT_FSIZE, (room, room))
+            done = subprocess.run(
+                [program.path, "run"], input=sent, stdout=output, stderr=subprocess.PIPE, timeout=LONGEST,
+                preexec_fn=limited, restore_signals=False,
+            )
+        expect("room for %d bytes" % room, (done.returncode, done.stderr), (1, WRITE_FAULT))
+        expect("what was written there", bytes_at(file), wanted[:room])
+
+
 def run_into_full(program, sent, *words):
     """The status of a run that can write nothing to standard output, and what it says of that."""
     with open(FULL, "wb") as full:
@@ -243,6 +353,41 @@ def help_and_the_version_are_shown(program):
     for words in (["--help"], ["create", "--help"], ["run", "--help"], ["serve", "--help"]):
         done = program.run(*words, sent=DEFINED)
         expect(" ".join(words), (done.status, b"--help" in done.out, done.errors), (0, True, b""))
+
+
+def words_that_ask_nothing_read_nothing(program):
+    for words, status in (
+        (["-h"], 0),
+        (["help"], 0),
+        (["walk"], 2),
+        (["Run"], 2),
+        (["create", program.file()], 2),
+        (["run", "more"], 2),
+        (["run", "--connections", "1"], 2),
+        (["--file", "run"], 2),
+        (["serve"], 2),
+        (["run", b"\xff"], 2),
+        ([b"\xff"], 2),
+    ):
+        with open(CURSORS, "rb") as lines:
+            done = subprocess.run([program.path, *words], stdin=lines, capture_output=True, timeout=LONGEST)
+            place = os.lseek(lines.fileno(), 0, os.SEEK_CUR)
+        said = (done.returncode, done.stdout != b"", done.stderr != b"", place)
+        expect(repr(words), said, (status, status == 0, status == 2, 0))
+    not_text = subprocess.run([program.path, b"\xff"], capture_output=True, timeout=LONGEST)
+    expect("words that are no text", not_text.stderr, b"error: the command line is not text\n")
+
+
+def the_status_is_the_same_where_errors_go_nowhere(program):
+    for words, sent, status in (
+        (["run"], SELECTED, 0),
+        (["run", "--file", program.file("none")], SELECTED, 1),
+        (["walk"], b"", 2),
+    ):
+        with open(FULL, "wb") as full:
+            done = subprocess.run([program.path, *words], input=sent, stdout=subprocess.PIPE, stderr=full, timeout=LONGEST)
+        answered = b"0 ERR 21 no such name\n" if status == 0 else b""
+        expect(" ".join(words), (done.returncode, done.stdout), (status, answered))
 
 
 # Peers.
@@ -472,6 +617,8 @@ def a_killed_server_leaves_its_file_open(program):
 TESTS = [
     a_file_is_created_once,
     a_file_keeps_what_it_was_told,
+    a_closed_file_is_as_the_format_says,
+    a_line_reads_few_pages,
     a_missing_file_is_not_opened,
     a_damaged_file_is_refused,
     a_file_that_was_not_closed_is_refused,
@@ -479,8 +626,13 @@ TESTS = [
     files_of_earlier_builds_are_answered_from,
     a_file_in_use_is_not_opened,
     a_fault_of_the_streams_closes_the_file,
+    each_line_is_answered_before_the_next_is_read,
+    lines_may_come_in_pieces,
+    answers_are_cut_where_there_is_no_room,
     words_are_looked_at_first,
     help_and_the_version_are_shown,
+    words_that_ask_nothing_read_nothing,
+    the_status_is_the_same_where_errors_go_nowhere,
     cursors_outlive_their_connection,
     one_connection_is_served_where_no_number_is_said,
     a_peer_is_answered_line_by_line,

@@ -2,16 +2,12 @@
 //!
 //! The replies are written by hand.
 
-use crate::engines::fresh_engine;
+use crate::engines::{Row, closed, expect_answered, fresh_engine, opened};
 use rs_disk::{Disk, FailedCut, FailingDisk, MemoryDisk};
 use rs_engine::Engine;
-use rs_protocol::answer;
 use rs_refusal::Refusal;
 use std::alloc::Global;
 use std::test::Fail;
-
-/// A line with its LF, and its reply.
-type Row = (&'static [u8], &'static [u8]);
 
 /// A row that is inserted four times, and a cursor that a reopening closes.
 static ENTERED: [Row; 9] = [
@@ -53,39 +49,8 @@ fn selected() -> &'static [Row] {
 /// The place of the open flag.
 const OPEN_FLAG: u64 = 28;
 
-/// As many bytes as a file has in which nothing is defined.
-const FILE_BYTES: usize = 12_288;
-
-/// Expects that each line is answered so.
-fn expect_answered<D: Disk + Drop>(
-    alloc: Global,
-    engine: &mut Engine<D>,
-    rows: &[Row],
-) -> Result<(), Fail> {
-    for (line, reply) in rows {
-        let answered = answer(alloc, engine, line)?;
-        if answered.as_slice() != *reply {
-            return Err(Fail::new(format_args!("not so: {answered:?}")));
-        }
-    }
-    Ok(())
-}
-
-/// The disk of an engine that is closed.
-fn closed<D: Disk + Drop>(engine: Engine<D>) -> Result<D, Refusal> {
-    match engine.close() {
-        Ok(disk) => Ok(disk),
-        Err((_, refusal)) => Err(refusal),
-    }
-}
-
-/// An engine over the file that a disk holds.
-fn opened<D: Disk + Drop>(alloc: Global, disk: D) -> Result<Engine<D>, Refusal> {
-    match Engine::open(alloc, disk) {
-        Ok(engine) => Ok(engine),
-        Err((_, refusal)) => Err(refusal),
-    }
-}
+/// More bytes than a file of these tests has.
+const FILE_BYTES: usize = 32_768;
 
 /// A disk with the file that was closed with a row in it.
 fn file_with_a_row(alloc: Global) -> Result<MemoryDisk, Fail> {
@@ -163,4 +128,45 @@ fn an_engine_whose_close_is_refused_serves_on(rt: HostRuntime) -> Result<(), Fai
     }
     assert!(rt; was_refused);
     Ok(())
+}
+
+/// The disk of a file that is not opened, since a call of it fails; none where it is opened.
+fn disk_not_opened(alloc: Global, failing_call: u64) -> Result<Option<MemoryDisk>, Fail> {
+    let disk = FailingDisk::new(file_with_a_row(alloc)?, failing_call, FailedCut::NotDone);
+    match Engine::open(alloc, disk) {
+        Ok(_) => Ok(None),
+        Err((disk, Refusal::Disk)) => Ok(Some(disk.into_disk())),
+        Err((_, refusal)) => Err(Fail::new(format_args!("not so: {refusal:?}"))),
+    }
+}
+
+/// Whether the flag of a disk is as it was. All its other bytes have to be.
+fn is_flag_kept(alloc: Global, disk: &mut MemoryDisk, whole: &[u8]) -> Result<bool, Fail> {
+    let bytes = bytes_of(alloc, disk)?;
+    let is_kept = bytes.get(OPEN_FLAG as usize) == whole.get(OPEN_FLAG as usize);
+    disk.write(OPEN_FLAG, &[0])?;
+    if bytes_of(alloc, disk)?.as_slice() == whole {
+        return Ok(is_kept);
+    }
+    Err(Fail::new("a refused disk is another one"))
+}
+
+/// Only the last two calls of an opening, which write the flag and wait for it, may leave another flag where they fail.
+#[test]
+fn a_disk_that_fails_before_its_flag_is_written_stays_closed(rt: HostRuntime) -> Result<(), Fail> {
+    let alloc = rt.alloc();
+    let whole = bytes_of(alloc, &mut file_with_a_row(alloc)?)?;
+    let mut kept = 0_u64;
+    for failing_call in 1..100 {
+        let Some(mut disk) = disk_not_opened(alloc, failing_call)? else {
+            assert!(rt; kept + 2 >= failing_call - 1);
+            assert!(rt; kept > 3);
+            return Ok(());
+        };
+        if is_flag_kept(alloc, &mut disk, whole.as_slice())? {
+            assert_eq!(rt; kept, failing_call - 1);
+            kept += 1;
+        }
+    }
+    Err(Fail::new("it is never opened"))
 }

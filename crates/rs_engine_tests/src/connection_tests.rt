@@ -3,21 +3,16 @@
 //! A client connects, sends all that it has to send, and shuts its writing side before the connection is accepted; it
 //! reads once the connection was served. The replies are written by hand.
 
-use crate::engines::fresh_engine;
-use crate::pieces::Pieces;
-use crate::streams::BrokenWriter;
-use rs_disk::MemoryDisk;
-use rs_engine::Engine;
+use crate::engines::{Row, fresh_engine};
+use crate::streams::{BrokenWriter, OneRead};
 use rs_protocol::{End, Fault};
+use rs_serve::Serve;
 use rs_server::{Connection, serve_one};
 use std::alloc::{AllocError, Global};
 use std::io;
-use std::io::{ErrorKind, Read, Write};
+use std::io::{Read, Write};
 use std::net::{Ipv4Addr, Shutdown, SocketAddr, TcpListener, TcpStream};
 use std::test::Fail;
-
-/// A line with its LF, and its reply.
-type Row = (&'static [u8], &'static [u8]);
 
 /// A cursor keeps what was there when it was opened.
 static CURSOR_ROWS: [Row; 13] = [
@@ -85,20 +80,20 @@ fn client_of(rt: &HostRuntime, listener: &TcpListener, sent: &[u8]) -> io::Resul
 }
 
 /// Accepts one connection, serves it and closes it.
-fn serve_next(
+fn serve_next<E: Serve>(
     alloc: Global,
     listener: &TcpListener,
-    engine: &mut Engine<MemoryDisk>,
+    engine: &mut E,
 ) -> io::Result<Result<End, Fault>> {
     let (stream, _) = listener.accept()?;
     Ok(serve_one(alloc, engine, &mut Connection::over(&stream)))
 }
 
 /// Expects that a client that sends these bytes receives these, and that its connection ends so.
-fn expect_served(
+fn expect_served<E: Serve>(
     rt: &HostRuntime,
     listener: &TcpListener,
-    engine: &mut Engine<MemoryDisk>,
+    engine: &mut E,
     sent: &[u8],
     received: &[u8],
     end: End,
@@ -113,54 +108,55 @@ fn expect_served(
     Err(Fail::new(format_args!("not so: {ended:?} {got:?}")))
 }
 
-#[test]
-fn cursors_outlive_their_connection(rt: HostRuntime) -> Result<(), Fail> {
+/// Expects that the rows are served over two connections, so many of them over the first.
+fn expect_rows_served<E: Serve>(
+    rt: &HostRuntime,
+    listener: &TcpListener,
+    engine: &mut E,
+    count: usize,
+) -> Result<(), Fail> {
     let alloc = rt.alloc();
-    let listener = listen(&rt)?;
     let rows = cursor_rows();
-    for count in 0..=rows.len() {
-        let mut engine = fresh_engine(alloc)?;
-        let (first, second) = rows.split_at(count);
-        for part in [first, second] {
-            let sent = lines(alloc, part)?;
-            let received = replies(alloc, part)?;
-            expect_served(&rt, &listener, &mut engine, &sent, &received, End::Whole)?;
-        }
+    let (first, second) = rows.split_at(count.min(rows.len()));
+    for part in [first, second] {
+        let sent = lines(alloc, part)?;
+        let received = replies(alloc, part)?;
+        expect_served(rt, listener, engine, &sent, &received, End::Whole)?;
     }
     Ok(())
 }
 
 #[test]
-fn a_cut_line_is_not_answered_and_not_joined_to_the_next(rt: HostRuntime) -> Result<(), Fail> {
+fn cursors_outlive_their_connection(rt: HostRuntime) -> Result<(), Fail> {
     let listener = listen(&rt)?;
-    let mut engine = fresh_engine(rt.alloc())?;
+    for count in 0..=cursor_rows().len() {
+        expect_rows_served(&rt, &listener, &mut fresh_engine(rt.alloc())?, count)?;
+    }
+    Ok(())
+}
+
+/// Expects that a line that is cut is not answered, and not joined to the next one.
+fn expect_cut_line<E: Serve>(rt: &HostRuntime, engine: &mut E) -> Result<(), Fail> {
+    let listener = listen(rt)?;
     let sent =
         b"0 DEFINE ROUTE A FROM 0 TO 10\n0 DEFINE LINE TABLE pave (surf TEXT(8))\n0 SELECT pa";
     let received = b"0 OK 0\n0 OK 0\n";
-    expect_served(&rt, &listener, &mut engine, sent, received, End::CutLine)?;
+    expect_served(rt, &listener, engine, sent, received, End::CutLine)?;
     let sent = b"ve\n0 SELECT pave\n";
     let received = b"0 ERR 3 session number\n0 OK 0\n";
-    expect_served(&rt, &listener, &mut engine, sent, received, End::Whole)
+    expect_served(rt, &listener, engine, sent, received, End::Whole)
 }
 
 #[test]
-fn a_peer_may_send_nothing(rt: HostRuntime) -> Result<(), Fail> {
-    let listener = listen(&rt)?;
-    let mut engine = fresh_engine(rt.alloc())?;
-    expect_served(&rt, &listener, &mut engine, b"", b"", End::Whole)?;
-    let sent = b"0 DEFINE ROUTE A FROM 0 TO 10\n";
-    expect_served(&rt, &listener, &mut engine, sent, b"0 OK 0\n", End::Whole)?;
-    expect_served(&rt, &listener, &mut engine, b"", b"", End::Whole)?;
-    let sent = b"0 TRANSLATE A 4 AS ABSOLUTE\n";
-    let received = b"0 ROW 4.000\n0 OK 1\n";
-    expect_served(&rt, &listener, &mut engine, sent, received, End::Whole)
+fn a_cut_line_is_not_answered_and_not_joined_to_the_next(rt: HostRuntime) -> Result<(), Fail> {
+    expect_cut_line(&rt, &mut fresh_engine(rt.alloc())?)
 }
 
 /// Serves a peer that has gone when its 1,000 lines are answered: no reply is read.
-fn serve_gone(
+fn serve_gone<E: Serve>(
     rt: &HostRuntime,
     listener: &TcpListener,
-    engine: &mut Engine<MemoryDisk>,
+    engine: &mut E,
 ) -> Result<(), Fail> {
     let mut sent = Vec::new(rt.alloc());
     for _ in 0..1_000u16 {
@@ -171,39 +167,48 @@ fn serve_gone(
     Ok(())
 }
 
-#[test]
-fn a_peer_that_has_gone_ends_its_connection_alone(rt: HostRuntime) -> Result<(), Fail> {
-    let listener = listen(&rt)?;
-    let mut engine = fresh_engine(rt.alloc())?;
-    serve_gone(&rt, &listener, &mut engine)?;
-    let sent = b"0 SELECT pave\n";
-    let received = b"0 ERR 21 no such name\n";
-    expect_served(&rt, &listener, &mut engine, sent, received, End::Whole)
+/// Expects that peers that send nothing, or have gone, end their connections alone.
+fn expect_peers<E: Serve>(rt: &HostRuntime, engine: &mut E) -> Result<(), Fail> {
+    let listener = listen(rt)?;
+    expect_served(rt, &listener, engine, b"", b"", End::Whole)?;
+    let sent = b"0 DEFINE ROUTE A FROM 0 TO 10\n";
+    expect_served(rt, &listener, engine, sent, b"0 OK 0\n", End::Whole)?;
+    serve_gone(rt, &listener, engine)?;
+    let sent = b"0 TRANSLATE A 4 AS ABSOLUTE\n";
+    let received = b"0 ROW 4.000\n0 OK 1\n";
+    expect_served(rt, &listener, engine, sent, received, End::Whole)
 }
 
 #[test]
-fn a_fault_ends_its_connection_alone(rt: HostRuntime) -> Result<(), Fail> {
+fn peers_may_send_nothing_or_go(rt: HostRuntime) -> Result<(), Fail> {
+    expect_peers(&rt, &mut fresh_engine(rt.alloc())?)
+}
+
+/// Expects that a fault of a stream ends its connection, and that the engine keeps what was accepted before.
+fn expect_faults<E: Serve>(rt: &HostRuntime, engine: &mut E) -> Result<(), Fail> {
     let alloc = rt.alloc();
-    let mut engine = fresh_engine(alloc)?;
     let mut unwritable = Connection {
         reader: b"0 DEFINE ROUTE A FROM 0 TO 10\n".as_slice(),
         writer: BrokenWriter,
     };
-    let ended = serve_one(alloc, &mut engine, &mut unwritable);
+    let ended = serve_one(alloc, engine, &mut unwritable);
     assert_eq!(rt; ended, Err(Fault::Write));
     let mut unreadable = Connection {
-        reader: Pieces {
-            rest: b"0 DEFINE LINE TABLE pave (surf TEXT(8))\n0 SELECT pa",
-            size: 64,
-            reads_before_fault: 1,
-            kind: ErrorKind::ConnectionReset,
+        reader: OneRead {
+            told: b"0 DEFINE LINE TABLE pave (surf TEXT(8))\n0 SELECT pa",
+            is_done: false,
         },
         writer: Vec::new(alloc),
     };
-    let ended = serve_one(alloc, &mut engine, &mut unreadable);
+    let ended = serve_one(alloc, engine, &mut unreadable);
     assert_eq!(rt; ended, Err(Fault::Read));
     assert_eq!(rt; unreadable.writer.as_slice(), b"0 OK 0\n".as_slice());
     let sent = b"0 INSERT INTO pave ON A FROM 0 TO 1 VALUES ('AC')\n";
     let received = b"0 OK 1000\n";
-    expect_served(&rt, &listen(&rt)?, &mut engine, sent, received, End::Whole)
+    expect_served(rt, &listen(rt)?, engine, sent, received, End::Whole)
+}
+
+#[test]
+fn a_fault_ends_its_connection_alone(rt: HostRuntime) -> Result<(), Fail> {
+    expect_faults(&rt, &mut fresh_engine(rt.alloc())?)
 }

@@ -10,12 +10,3 @@ pub fn expect(is_right: bool, wanted: &str) -> Result<(), Fail> {
         Err(Fail::new(format_args!("not so: {wanted}")))
     }
 }
-
-/// Fails with these words and a number, unless all is right.
-pub fn expect_at(is_right: bool, wanted: &str, number: usize) -> Result<(), Fail> {
-    if is_right {
-        Ok(())
-    } else {
-        Err(Fail::new(format_args!("not so: {wanted} {number}")))
-    }
-}

@@ -1,0 +1,21 @@
+//! What no contract of a disk says: what the system does with a real file, its short and failing calls, and disks that fail once.
+//!
+//! Everything here is for the tests alone.
+#![tactic(auto)]
+
+#[cfg(test)]
+mod balky;
+#[cfg(test)]
+mod balky_tests;
+#[cfg(test)]
+mod disk_steps;
+#[cfg(test)]
+mod expect;
+#[cfg(test)]
+mod failing_disk_tests;
+#[cfg(test)]
+mod file_disk_tests;
+#[cfg(test)]
+mod fresh_path;
+#[cfg(test)]
+mod path_tests;
