@@ -1,5 +1,5 @@
 #!/usr/bin/env python3
-"""Tries the client in Python against the program.
+"""Tries the client in Python, and the diagrams that are drawn with it, against the program.
 
     clients.py [--program PATH] [--jobs N] [TEST ..]
 
@@ -24,6 +24,7 @@ from decimal import Decimal as D
 
 from client_parts import CLIENTS, DEFINED, expect_error, expect_refused, measures, roadseg, running
 from client_rows import ROW_TESTS, is_a_cursor_open
+from diagrams import DIAGRAM_TESTS
 from files_and_peers import LONGEST, NOT_OPENED, PROGRAM, Program, Unexpected, expect, put, serving
 
 # Servers that fail.
@@ -385,6 +386,7 @@ TESTS = [
     a_client_that_is_interrupted_or_killed_leaves_its_file_closed,
     a_server_is_asked_over_the_network,
     an_error_of_the_caller_closes_the_cursors,
+    *DIAGRAM_TESTS,
 ]
 
 
@@ -399,7 +401,7 @@ def fault_of(test, path):
 
 
 def main():
-    parser = argparse.ArgumentParser(description="Tries the client in Python against the program.")
+    parser = argparse.ArgumentParser(description="Tries the client in Python and its diagrams against the program.")
     parser.add_argument("--program", default=PROGRAM, metavar="PATH")
     parser.add_argument("--jobs", type=int, default=os.cpu_count() or 1, metavar="N")
     parser.add_argument("names", nargs="*", metavar="TEST")
