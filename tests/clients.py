@@ -1,5 +1,5 @@
 #!/usr/bin/env python3
-"""Tries the client in Python, and the diagrams that are drawn with it, against the program.
+"""Tries the client in Python, the diagrams that are drawn with it, and the scripts of README and COOKBOOK that use them.
 
     clients.py [--program PATH] [--jobs N] [TEST ..]
 
@@ -25,6 +25,7 @@ from decimal import Decimal as D
 from client_parts import CLIENTS, DEFINED, expect_error, expect_refused, measures, roadseg, running
 from client_rows import ROW_TESTS, is_a_cursor_open
 from diagrams import DIAGRAM_TESTS
+from document_scripts import DOCUMENT_TESTS
 from files_and_peers import LONGEST, NOT_OPENED, PROGRAM, Program, Unexpected, expect, put, serving
 
 # Servers that fail.
@@ -387,6 +388,7 @@ TESTS = [
     a_server_is_asked_over_the_network,
     an_error_of_the_caller_closes_the_cursors,
     *DIAGRAM_TESTS,
+    *DOCUMENT_TESTS,
 ]
 
 
