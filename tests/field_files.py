@@ -37,6 +37,8 @@ def header_changes(at):
     return {
         "fewer pages": {"file pages": 3},
         "a page more": {"file pages": at.file.value("file pages") + 1},
+        "the most pages": {"file pages": 1_048_576},
+        "more than the most pages": {"file pages": 1_048_577},
         "a byte after page 0's number": {"page 0 last": 1},
         "a second byte of a leaf": {"page %d zero" % leaf: 1},
         "a last number of a leaf": {"page %d last" % leaf: 1},

@@ -1,15 +1,19 @@
 #!/usr/bin/env python3
-"""Opens files with the file driver and with the slow reader of files, and compares what both say.
+"""Opens files with the built program and with the slow reader of files, and compares what both say.
 
     files.py [--program PATH] [--seed S] [--turns N] [--turns-alone] [--only TURN]
 
-The driver (crates/rs_file_driver) opens each file through the store and says its state or a refusal; the slow reader
-(slow_file.py) does so from the bytes alone. Three groups of files are compared: those written by hand (whole_files.py),
-of which it is known what is wanted; the closed file of a row that was inserted four times, with each byte changed in
-turn, to all 255 other values where a field is, and to one other value elsewhere; and pseudo-random ones
-(random_files.py), as many as there are turns. After a file was opened and closed, or refused, its bytes have to be what
-they were. It prints what differs, for each group how many files were OK, 94 and 95, and how many differ, and at last
-`N passed, M failed`. `--turns 200000 --turns-alone` is the long run.
+`roadseg run --file F` opens each file, or refuses it 94 or 95 as the slow reader (slow_file.py) has to do from the bytes
+alone. An opened file is asked for what it holds (file_questions.py), and the answers have to be those of the slow
+machine in the state that the slow reader read. After that, or after a refusal, its bytes have to be what they were. What
+no line asks for, such as the number of a route and its birth, is looked at after a change: a second run defines a route,
+and the slow reader has to find the same state with this route more.
+
+Three groups of files are compared: those written by hand (whole_files.py), of which it is known what is wanted; the
+closed file of a row that was inserted four times, with each byte changed in turn, to all 255 other values where a field
+is, and to one other value elsewhere; and pseudo-random ones (random_files.py), as many as there are turns. It prints
+what differs, for each group how many files were OK, 94 and 95, how many differ, and how many lines were compared, and at
+last `N passed, M failed`. `--turns 200000 --turns-alone` is the long run.
 """
 
 import argparse
@@ -19,31 +23,41 @@ import sys
 import tempfile
 from collections import Counter
 from functools import partial
-from itertools import islice
+from itertools import chain, islice, repeat
 from multiprocessing import Pool
 from typing import NamedTuple
 
-from file_writer import written
+from file_questions import Exchange, exchanges_of, route_defined
+from file_writer import DAMAGED, NOT_CLOSED, OK, written
+from programs import replies_of
 from random_files import RandomFile
-from slow_file import answer_of
-from slow_pages import MOST_PAGES
+from slow_file import lines_of, read
 from whole_files import SOUND, files
 
 HERE = os.path.dirname(os.path.abspath(__file__))
-PROGRAM = os.path.join(os.path.dirname(HERE), "crates", "rs_file_driver", "out", "rs_file_driver")
+PROGRAM = os.path.join(os.path.dirname(HERE), "crates", "roadseg", "out", "roadseg")
 SHARED_MEMORY = "/dev/shm"
-BATCH = 250  # files of one run of the driver
+BATCH = 25  # files that a process compares before it gives its counts
 LONGEST_RUN = 120  # seconds
 MOST_PRINTED = 20  # differences
-MOST_LINES = 12  # of an answer that is printed
+MOST_LINES = 12  # of a state or a reply that is printed
+
+SAID = {
+    OK: b"",
+    DAMAGED: b"roadseg: ERR 94 damaged file\n",
+    NOT_CLOSED: b"roadseg: ERR 95 file not closed\n",
+}
+
+
+# A line that is sent to a file that is refused.
+UNANSWERED = Exchange(b"0 SAVE", b"")
 
 
 class Case(NamedTuple):
-    """A file, the limit of pages that it is opened with, and what is wanted where that is known beforehand."""
+    """A file, and what is wanted where that is known beforehand."""
 
     title: str
     data: bytes
-    limit: int = MOST_PAGES
     wanted: bytes | None = None
 
 
@@ -51,13 +65,7 @@ class Case(NamedTuple):
 
 
 def written_cases():
-    return [Case(file.name, file.data, wanted=file.wanted) for file in files()] + limit_cases()
-
-
-def limit_cases():
-    """A file of four pages is opened with a limit of four, and not with one of three."""
-    data = bytes(written(SOUND["inserted"]()).data)
-    return [Case("a limit of four pages", data, 4, b"OK"), Case("a limit of three pages", data, 3, b"ERR 94")]
+    return [Case(file.name, file.data, file.wanted) for file in files()]
 
 
 def byte_cases():
@@ -80,81 +88,130 @@ def is_like_another(name):
 
 def random_case(seed, turn):
     file = RandomFile(seed, turn)
-    return Case("turn %d of seed %d: %s" % (turn, seed, file.title()), file.data, file.limit)
+    return Case("turn %d of seed %d: %s" % (turn, seed, file.title()), file.data)
+
+
+# Runs of the program.
+
+
+class Differs(Exception):
+    """The program says something else than the slow reader or the slow machine."""
+
+
+class Program(NamedTuple):
+    """The built program, and the file that it opens, which is written anew for each case."""
+
+    path: str
+    file: str
+
+    def put(self, data):
+        with open(self.file, "wb") as file:
+            file.write(data)
+
+    def bytes(self):
+        with open(self.file, "rb") as file:
+            return file.read()
+
+    def compare(self, exchanges, answer):
+        """Sends lines, whose replies have to be as they are wanted. The run has to end as the answer to the file asks."""
+        words = [self.path, "run", "--file", self.file]
+        sent = b"".join(line + b"\n" for line, _ in exchanges)
+        try:
+            done = subprocess.run(words, input=sent, capture_output=True, timeout=LONGEST_RUN, close_fds=False)
+        except subprocess.TimeoutExpired:
+            raise Differs("the program does not end within %d seconds" % LONGEST_RUN) from None
+        if (done.returncode, done.stderr) != (0 if answer == OK else 1, SAID[answer]):
+            said = (done.returncode, text_of(done.stderr[-300:]), text_of(answer))
+            raise Differs("the program ends with status %d and says %r, the slow reader says %s" % said)
+        if done.stdout != b"".join(reply for _, reply in exchanges):
+            raise Differs(first_difference(exchanges, replies_of(done.stdout)))
+
+
+def first_difference(exchanges, replies):
+    for (line, wanted), reply in zip(exchanges, chain(replies, repeat(b""))):
+        if reply != wanted:
+            said = (text_of(line), shown(reply.splitlines()), shown(wanted.splitlines()))
+            return "to %s the program answers %s, and %s is wanted" % said
+    return "the program answers more lines than it was sent"
+
+
+def shown(lines):
+    return text_of(b" / ".join(lines[:MOST_LINES])) or "nothing"
+
+
+def text_of(data):
+    return data.decode(errors="backslashreplace")
 
 
 # Comparing.
 
 
-def answers_of(program, folder, cases):
-    """What the driver says of each file, as lists of lines, and the bytes of each file after that."""
-    paths = [os.path.join(folder, str(place)) for place in range(len(cases))]
-    for path, case in zip(paths, cases):
-        with open(path, "wb") as file:
-            file.write(case.data)
-    lines = "".join("open %s %d\n" % (path, case.limit) for path, case in zip(paths, cases))
-    done = subprocess.run([program], input=lines.encode(), capture_output=True, timeout=LONGEST_RUN)
-    if done.returncode != 0:
-        error = done.stderr[-300:].decode(errors="replace")
-        raise RuntimeError("the driver ended with status %d %s" % (done.returncode, error))
-    return cut(done.stdout), [bytes_at(path) for path in paths]
+class Asked:
+    """What is asked of a state. Many files in a row stand for the same one."""
 
+    def __init__(self):
+        self.state, self.exchanges = None, []
 
-def bytes_at(path):
-    with open(path, "rb") as file:
-        return file.read()
-
-
-def cut(out):
-    """The answers one by one: each begins with OK or ERR."""
-    answers = []
-    for line in out.split(b"\n")[:-1]:
-        if line == b"OK" or line.startswith(b"ERR "):
-            answers.append([])
-        answers[-1].append(line)
-    return answers
+    def exchanges_for(self, state):
+        if state != self.state:
+            self.state, self.exchanges = state, exchanges_of(state)
+        return self.exchanges
 
 
 class Compared(NamedTuple):
-    counts: Counter  # of the first lines of the slow reader's answers
+    counts: Counter  # of the slow reader's answers, and of the lines that were compared
     faults: list
 
 
-def compare(program, cases):
-    """Compares the answers to some files."""
+def compare(path, cases):
+    """Compares what is said of some files."""
+    counts, faults, asked = Counter(), [], Asked()
     folder = SHARED_MEMORY if os.path.isdir(SHARED_MEMORY) else None
     with tempfile.TemporaryDirectory(prefix="roadseg-files-", dir=folder) as folder:
-        answers, afterwards = answers_of(program, folder, cases)
-    if len(answers) != len(cases):
-        raise RuntimeError("the driver answered %d of %d files" % (len(answers), len(cases)))
-    counts, faults = Counter(), []
-    for case, answer, after in zip(cases, answers, afterwards):
-        wanted, why = answer_of(case.data, case.limit)
-        counts[wanted[0]] += 1
-        fault = fault_of(case, answer, wanted, after)
-        if fault:
-            faults.append("%s: %s%s" % (case.title, fault, " (%s)" % why if why else ""))
+        program = Program(path, os.path.join(folder, "file"))
+        for case in cases:
+            found = read(case.data)
+            counts[found.answer] += 1
+            try:
+                counts["lines"] += compare_one(program, case, found, asked)
+            except Differs as differs:
+                faults.append("%s: %s%s" % (case.title, differs, " (%s)" % found.why if found.why else ""))
     return Compared(counts, faults)
 
 
-def fault_of(case, answer, wanted, after):
-    """What is wrong with an answer, or None."""
-    if case.wanted is not None and wanted[0] != case.wanted:
-        return "the slow reader says %r, and %r is wanted" % (wanted[0], case.wanted)
-    if answer != wanted:
-        return "the driver says %s, the slow reader %s" % (shown(answer, wanted), shown(wanted, answer))
-    return None if after == case.data else "its bytes have changed"
+def compare_one(program, case, found, asked):
+    """Compares what is said of a file: how many lines were answered."""
+    if case.wanted not in (None, found.answer):
+        raise Differs("the slow reader says %s, and %s is wanted" % (text_of(found.answer), text_of(case.wanted)))
+    exchanges = asked.exchanges_for(found.state) if found.state else []
+    program.put(case.data)
+    program.compare(exchanges or [UNANSWERED], found.answer)
+    if program.bytes() != case.data:
+        raise Differs("its bytes have changed")
+    if found.state:
+        compare_change(program, found.state)
+    return len(exchanges)
 
 
-def shown(answer, other):
-    """An answer, without the lines that the other has too where both are states."""
-    if len(answer) > 1 and len(other) > 1:
-        answer = [line for line in answer if line not in other]
-    return b" / ".join(answer[:MOST_LINES]).decode(errors="backslashreplace")
+def compare_change(program, state):
+    """Defines a route, and compares what the file then stands for."""
+    exchange, wanted = route_defined(state)
+    program.compare([exchange], OK)
+    found = read(program.bytes())
+    if found.state is None:
+        raise Differs("after a change the file is %s: %s" % (text_of(found.answer), found.why))
+    if found.state != wanted:
+        lines, wanted_lines = list(lines_of(found.state)), list(lines_of(wanted))
+        said = (shown(without(lines, wanted_lines)), shown(without(wanted_lines, lines)))
+        raise Differs("after a change the file stands for %s, and for %s is wanted" % said)
 
 
-def compare_turns(program, seed, turns):
-    return compare(program, [random_case(seed, turn) for turn in turns])
+def without(lines, others):
+    return [line for line in lines if line not in others]
+
+
+def compare_turns(path, seed, turns):
+    return compare(path, [random_case(seed, turn) for turn in turns])
 
 
 def batches_of(items):
@@ -171,14 +228,14 @@ def report(title, compared):
         faults += one.faults
     for fault in faults[:MOST_PRINTED]:
         print(fault)
-    numbers = tuple(counts[answer] for answer in (b"OK", b"ERR 94", b"ERR 95"))
-    print("%s: %d OK, %d 94, %d 95, %d differ" % ((title,) + numbers + (len(faults),)))
+    numbers = tuple(counts[answer] for answer in SAID)
+    print("%s: %d OK, %d 94, %d 95, %d differ; %d lines" % ((title,) + numbers + (len(faults), counts["lines"])))
     return sum(numbers) - len(faults), len(faults)
 
 
 def options():
     parser = argparse.ArgumentParser(description="Compares what is said of files.")
-    parser.add_argument("--program", default=PROGRAM, help="the file driver (default: the one that the gate built)")
+    parser.add_argument("--program", default=PROGRAM, metavar="PATH", help="(default: as the gate built it)")
     parser.add_argument("--seed", type=int, default=0)
     parser.add_argument("--turns", type=int, default=300, help="pseudo-random files")
     parser.add_argument("--only", type=int, help="one turn alone")
@@ -188,14 +245,15 @@ def options():
 
 def main():
     chosen = options()
+    path = os.path.abspath(chosen.program)
     turns = range(chosen.turns) if chosen.only is None else [chosen.only]
     results = []
     with Pool() as pool:
+        these = partial(compare, path)
         if chosen.only is None and not chosen.turns_alone:
-            these = partial(compare, chosen.program)
             results.append(report("written by hand", pool.imap(these, batches_of(written_cases()))))
             results.append(report("each byte changed", pool.imap(these, batches_of(byte_cases()))))
-        these = partial(compare_turns, chosen.program, chosen.seed)
+        these = partial(compare_turns, path, chosen.seed)
         results.append(report("pseudo-random, seed %d" % chosen.seed, pool.imap(these, batches_of(turns))))
     passed, failed = (sum(numbers) for numbers in zip(*results))
     print("%d passed, %d failed" % (passed, failed))

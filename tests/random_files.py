@@ -46,7 +46,7 @@ TOKEN = re.compile(rb"[A-Za-z0-9_.]+|'[^']*'|.", re.DOTALL)
 
 
 class RandomFile:
-    """A file by a seed and a turn: its title, its bytes, and the greatest number of pages with which it is opened."""
+    """A file by a seed and a turn: its title and its bytes."""
 
     def __init__(self, seed, turn):
         self.by = random.Random("file %d %d" % (seed, turn))
@@ -58,14 +58,9 @@ class RandomFile:
         self.description = SOUND[self.name]()
         self.shape(self.description)
         self.data = change()
-        self.limit = self.limit_of(len(self.data) // PAGE_BYTES)
 
     def title(self):
         return "%s, changed in %s" % (self.name, self.way)
-
-    def limit_of(self, pages):
-        """Mostly ample, now and then about as many as the file has."""
-        return 1_048_576 if self.by.random() < 0.96 else max(3, pages + self.by.randint(-1, 1))
 
     def shape(self, said):
         """How the file is spread over its pages."""

@@ -1,7 +1,7 @@
 #!/usr/bin/env python3
 """The slow reader of files: which state the bytes of a file stand for.
 
-    python3 tests/slow_file.py FILE [--limit PAGES] [--why]
+    python3 tests/slow_file.py FILE [--why]
 
 It prints `OK` and then the state, or `ERR 94` where the file stands for none, or `ERR 95` where it stands for one and
 was not closed. It is written from the format and the definitions alone and shares nothing with the crates: pages are
@@ -28,7 +28,7 @@ from typing import NamedTuple
 
 from slow_catalogue import Catalogue, catalogue_of, is_name
 from slow_commands import DefineView, Named, Refused, Relative, parts_of, refuse_if
-from slow_pages import MOST_PAGES, NO_TREE, Damaged, Pages, want
+from slow_pages import NO_TREE, Damaged, Pages, want
 from slow_queries import View, opened, size_of
 from slow_reader import GREATEST_NUMBER, command_of, session_of, text_of_line
 from slow_tables import Table
@@ -293,9 +293,27 @@ def check_views(catalogue, referents):
 # The whole file.
 
 
-def state_of(data, limit=MOST_PAGES):
+class Read(NamedTuple):
+    """What is answered to a file: OK and the state that it stands for, ERR 94 and why it stands for none, or ERR 95."""
+
+    answer: bytes
+    state: State | None = None
+    why: str | None = None
+
+
+def read(data):
+    """What the bytes of a file say."""
+    try:
+        return Read(b"OK", state=state_of(data))
+    except Damaged as damaged:
+        return Read(b"ERR 94", why=str(damaged))
+    except NotClosed:
+        return Read(b"ERR 95")
+
+
+def state_of(data):
     """The state that the bytes of a file stand for: else `Damaged`, or `NotClosed` where the flag alone is wrong."""
-    pages = Pages(data, limit)
+    pages = Pages(data)
     directory = pages.directory()
     catalogue = catalogue_of(pages.catalogue())
     want(directory.accepted <= MOST_CHANGES, "the accepted changes")
@@ -351,27 +369,17 @@ def definition_lines(catalogue):
             yield b"piece %b %d %d %b %d" % (routes[route], start, finish, routes[onto_route], onto)
 
 
-def answer_of(data, limit=MOST_PAGES):
-    """What the program prints of a file, as lines without their ends, and why the file is damaged, if it is."""
-    try:
-        return [b"OK"] + list(lines_of(state_of(data, limit))), None
-    except Damaged as damaged:
-        return [b"ERR 94"], str(damaged)
-    except NotClosed:
-        return [b"ERR 95"], None
-
-
 def main():
     parser = argparse.ArgumentParser(description="Says which state a file stands for.")
     parser.add_argument("file")
-    parser.add_argument("--limit", type=int, default=MOST_PAGES, help="the greatest number of pages")
     parser.add_argument("--why", action="store_true", help="say on standard error what is damaged")
     chosen = parser.parse_args()
     with open(chosen.file, "rb") as file:
-        lines, why = answer_of(file.read(), chosen.limit)
+        found = read(file.read())
+    lines = [found.answer] + (list(lines_of(found.state)) if found.state else [])
     sys.stdout.buffer.write(b"".join(line + b"\n" for line in lines))
-    if chosen.why and why:
-        print(why, file=sys.stderr)
+    if chosen.why and found.why:
+        print(found.why, file=sys.stderr)
 
 
 if __name__ == "__main__":

@@ -71,7 +71,7 @@ class Directory(NamedTuple):
 class Pages:
     """The pages of a file up to the count that page 0 tells, and which of them were taken."""
 
-    def __init__(self, data, limit):
+    def __init__(self, data):
         self.data = data
         self.taken = set()
         self.count = 1
@@ -81,7 +81,7 @@ class Pages:
         self.first_free, self.free, self.first_catalogue, self.catalogue_bytes = numbers
         want(mark == MARK and form == FORMAT, "the mark and the format")
         want(is_zeros(zeros) and is_zeros(content[PAGE_0_END - HEADER_BYTES :]), "the rest of page 0 is zeros")
-        want(self.count <= limit, "no more pages than the limit")
+        want(self.count <= MOST_PAGES, "no more pages than the limit")
         want(self.count <= len(data) // PAGE_BYTES, "the file has its pages")
 
     def take(self, number, *kinds):
