@@ -10,9 +10,6 @@ RT_JOBS="${RT_JOBS:-$(nproc)}" rt ci
 if [ ! -x crates/roadseg/out/roadseg ]; then
     (cd crates/roadseg && rt run -- --help > /dev/null)
 fi
-if [ ! -x crates/rs_file_driver/out/rs_file_driver ]; then
-    (cd crates/rs_file_driver && rt run > /dev/null < stdin)
-fi
 python3 tests/conversations.py
 python3 tests/compare.py
 python3 tests/files_and_peers.py
