@@ -1,14 +1,15 @@
 """Lines that ask for what a file holds, each with its reply: `exchanges_of(state)`.
 
-They ask for the ends of routes and their referents, for the kind, the columns and the rows of tables, for indexes, views
-and alignments, and for which names are taken. Many are changes that have to be refused: for a name that is taken, a row
-that doesn't fit, something that is in use, or a limit. The replies are the slow machine's. What it would carry out as a
-change is left out, so no line changes anything.
+They ask for the ends of routes and their referents, for the kind, the columns and the rows of tables, for indexes,
+views and alignments, and for which names are taken. Many are changes that have to be refused: for a name that is taken,
+a row that doesn't fit, something that is in use, or a limit. The replies are the slow machine's. What it would carry out
+as a change is left out, so no line changes anything.
 
-No such line shows the numbers of routes, tables and indexes, the births of routes, how many changes were accepted where
-more may come, how long a text a column takes, which column an index is of where a lesser name is of the same one, how a
-view's text is written, and pieces of an alignment that carry no row. All of these are in a file that was changed since:
-`route_defined(state)` is a change, and the state after it.
+No line shows the numbers of routes, tables and indexes, the births of routes, how many changes were accepted where more
+may come, that a column takes a text of its full length, which column an index is of where a lesser name is of the same
+one, how a view's text is written, pieces of an alignment that carry no row, and what has a name that is not asked for.
+After a change of its definitions a file has all of these anew: `route_defined(state)` is such a change, with the state
+after it.
 """
 
 from itertools import groupby, pairwise
@@ -153,7 +154,8 @@ def commands_of_spans(table, spans):
     for _, route, start, finish, _ in some_of(spans):
         yield b"SELECT WINDOW(%b, %b)" % (table, route)
         for place in (start, finish):
-            yield b"SELECT WINDOW(%b, %b FROM %b TO %b)" % (table, route, measure(max(place - 1, 0)), measure(place + 1))
+            first, last = measure(max(place - 1, 0)), measure(place + 1)
+            yield b"SELECT WINDOW(%b, %b FROM %b TO %b)" % (table, route, first, last)
 
 
 def some_of(items):

@@ -3,17 +3,17 @@
 
     files.py [--program PATH] [--seed S] [--turns N] [--turns-alone] [--only TURN]
 
-`roadseg run --file F` opens each file, or refuses it 94 or 95 as the slow reader (slow_file.py) has to do from the bytes
-alone. An opened file is asked for what it holds (file_questions.py), and the answers have to be those of the slow
-machine in the state that the slow reader read. After that, or after a refusal, its bytes have to be what they were. What
-no line asks for, such as the number of a route and its birth, is looked at after a change: a second run defines a route,
-and the slow reader has to find the same state with this route more.
+`roadseg run --file F` opens each file or refuses it 94 or 95, as the slow reader (slow_file.py) does from the bytes
+alone. A file that is opened is asked for what it holds (file_questions.py), and the answers have to be those of the slow
+machine in the state that the slow reader read. After that, or after a refusal, its bytes have to be what they were.
+What no line asks for, such as the number of a route and its birth, is read after a change: a second run defines a
+route, and the slow reader has to find the same state with this route more.
 
 Three groups of files are compared: those written by hand (whole_files.py), of which it is known what is wanted; the
 closed file of a row that was inserted four times, with each byte changed in turn, to all 255 other values where a field
 is, and to one other value elsewhere; and pseudo-random ones (random_files.py), as many as there are turns. It prints
-what differs, for each group how many files were OK, 94 and 95, how many differ, and how many lines were compared, and at
-last `N passed, M failed`. `--turns 200000 --turns-alone` is the long run.
+what differs, for each group how many files were OK, 94 and 95, how many differ, and how many lines were answered, and
+at last `N passed, M failed`. `--turns 200000 --turns-alone` is the long run.
 """
 
 import argparse
@@ -113,11 +113,11 @@ class Program(NamedTuple):
             return file.read()
 
     def compare(self, exchanges, answer):
-        """Sends lines, whose replies have to be as they are wanted. The run has to end as the answer to the file asks."""
+        """Sends lines, whose replies have to be as wanted, in a run that has to end as the answer to the file asks."""
         words = [self.path, "run", "--file", self.file]
         sent = b"".join(line + b"\n" for line, _ in exchanges)
         try:
-            done = subprocess.run(words, input=sent, capture_output=True, timeout=LONGEST_RUN, close_fds=False)
+            done = subprocess.run(words, input=sent, capture_output=True, timeout=LONGEST_RUN)
         except subprocess.TimeoutExpired:
             raise Differs("the program does not end within %d seconds" % LONGEST_RUN) from None
         if (done.returncode, done.stderr) != (0 if answer == OK else 1, SAID[answer]):
@@ -159,7 +159,7 @@ class Asked:
 
 
 class Compared(NamedTuple):
-    counts: Counter  # of the slow reader's answers, and of the lines that were compared
+    counts: Counter  # of the slow reader's answers, and of the lines that were answered
     faults: list
 
 
