@@ -1,9 +1,9 @@
 """Lines that ask for what a file holds, each with its reply: `exchanges_of(state)`.
 
 They ask for the ends of routes and their referents, for the kind, the columns and the rows of tables, for indexes,
-views and alignments, and for which names are taken. Many are changes that have to be refused: for a name that is taken,
-a row that doesn't fit, something that is in use, or a limit. The replies are the slow machine's. What it would carry out
-as a change is left out, so no line changes anything.
+views and alignments, and for which names are taken. Many are changes that have to be refused: for a name that is
+taken, a row that doesn't fit, something that is in use, or a limit. The replies are the slow machine's. What it would
+carry out as a change is left out, so no line changes anything.
 
 No line shows the numbers of routes, tables and indexes, the births of routes, how many changes were accepted where more
 may come, that a column takes a text of its full length, which column an index is of where a lesser name is of the same

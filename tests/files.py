@@ -4,9 +4,9 @@
     files.py [--program PATH] [--seed S] [--turns N] [--turns-alone] [--only TURN]
 
 `roadseg run --file F` opens each file or refuses it 94 or 95, as the slow reader (slow_file.py) does from the bytes
-alone. A file that is opened is asked for what it holds (file_questions.py), and the answers have to be those of the slow
-machine in the state that the slow reader read. After that, or after a refusal, its bytes have to be what they were.
-What no line asks for, such as the number of a route and its birth, is read after a change: a second run defines a
+alone. A file that is opened is asked for what it holds (file_questions.py), and the answers have to be those of the
+slow machine in the state that the slow reader read. After that, or after a refusal, its bytes have to be what they
+were. What no line asks for, such as the number of a route and its birth, is read after a change: a second run defines a
 route, and the slow reader has to find the same state with this route more.
 
 Three groups of files are compared: those written by hand (whole_files.py), of which it is known what is wanted; the

@@ -1,8 +1,8 @@
 """The slow machine in the state that the slow reader read of a file: `machine_of(state)`.
 
 It shares nothing with the crates. This machine is asked and never changed: a command that it would carry out as a
-change is `Changing`. Of a table with a span too long for a set of rows at each of its thousandths it knows the runs that
-were read, and no more: a command whose answer comes of such thousandths is `TooLong`.
+change is `Changing`. Of a table with a span too long for a set of rows at each of its thousandths it knows the runs
+that were read, and no more: a command whose answer comes of such thousandths is `TooLong`.
 """
 
 from slow_commands import DefineIndex, Named, Piece, parts_of, refuse_if
