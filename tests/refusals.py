@@ -1,0 +1,491 @@
+#!/usr/bin/env python3
+"""Refuses in turn each growth and each device call of the built program, and judges what it does then.
+
+    refusals.py [--program PATH] [--jobs N] [--all] [--most N] [CONVERSATION ..]
+
+A growth asks the C library for memory; a device call reads, writes, syncs or shortens the file. The program runs with a
+library loaded before it (refusing.c) that refuses one of them, in each run another one: the first, the second, and so on up
+to as many as there are in a run in which none is refused. PATH is `crates/roadseg/out/roadseg` by default. Conversations are
+held line by line in three ways: in memory; over a file that was just created; and over the file that the conversation left,
+where its queries are asked again. And files are created.
+
+- A line is answered as wanted. Or one line of a run is refused, the one in whose step something was refused: by 90 for a
+  growth, or by 91 where it was the disk in memory that asked for it; by 91 for a device call, which has to be told. Then
+  the line before it, where it changed nothing, is answered as before, and each query of the conversation as in a run that was
+  sent only what comes before the refused line. Sent again, the line is answered as wanted, and so is all that follows.
+- Where the program can't start it says so, with status 1, and answers nothing. The file is what it was, and a further run
+  answers all. Only where the open flag's own write or sync failed that flag may be set, and the file then refused by 95.
+- Where it can't close the file it says so, with status 1. A further run refuses the file by 94 or 95, or, where the flag is
+  no longer set, answers each query as before.
+- Else it ends with status 0, and a further run answers each query as before.
+- Where it can't create a file it says so, with status 1. What is left is refused, or is the file that was to be.
+- With all reads and writes of the file cut short nothing changes, neither a reply nor a byte of the file that is left.
+
+MOST says which conversations are taken, and how many growths and device calls of each way are refused, evenly spread where
+that isn't each. --all takes all conversations, and so is taken one that is named: each growth and each device call is refused,
+or of long ones fewer. --most says how many of each way. It prints how refusals were told, what is not as wanted, and at last
+`N passed, M failed`, counted in runs.
+"""
+
+import argparse
+import itertools
+import multiprocessing
+import os
+import re
+import sys
+import tempfile
+from collections import Counter
+from typing import NamedTuple
+
+from conversations import conversations_of
+from refusing import NOTHING, Counts, Ended, Program, Refusal, Wrong, build, expect
+
+HERE = os.path.dirname(os.path.abspath(__file__))
+FOLDER = os.path.join(HERE, "conversations")
+PROGRAM = os.path.join(os.path.dirname(HERE), "crates", "roadseg", "out", "roadseg")
+SHARED_MEMORY = "/dev/shm"
+FAULTS_SHOWN = 20
+RUNS_OF_A_TASK = 25
+OPEN_FLAG = 28  # the place of its byte
+SHORT = 1_000  # bytes of a short read or write
+
+
+# The conversations that are taken, and how many growths, and how many device calls, of each way are refused at the most.
+EACH = sys.maxsize
+MOST = {
+    "each-command-once": EACH,
+    "each-operator-once": EACH,
+    "a-cursor-keeps-its-opening": EACH,
+    "definitions-of-each-kind-come-and-go": EACH,
+    "definitions-over-several-pages": 300,
+    "trees-split-join-and-empty": 300,
+    "more-changed-pages-than-are-held": 20,
+}
+
+# How many lines the runs of one way send in all where every conversation is taken.
+MOST_LINES = 1_000_000
+
+WAYS = {"memory": "in memory", "file": "over a new file", "again": "its queries over the file that it left"}
+
+# The kinds of calls that may be half done, or done, before they fail.
+HALVES = {"write": "half a write", "cut": "cut that is done"}
+
+EXHAUSTED = b"roadseg: ERR 90 out of memory\n"
+DISK_FAULT = b"roadseg: ERR 91 disk\n"
+DAMAGED = b"roadseg: ERR 94 damaged file\n"
+NOT_CLOSED = b"roadseg: ERR 95 file not closed\n"
+WELL = Ended(0, b"", b"")
+
+# The commands that change nothing where they are accepted, and the refusals of lines that are no text with a session.
+QUERY = re.compile(rb"[0-9]+ +(SELECT|TOTAL|TRANSLATE|EXPLAIN) ")
+NO_COMMAND = re.compile(rb"0 ERR [123] ")
+
+
+# Conversations.
+
+
+class Line(NamedTuple):
+    """A line that is sent, and its reply. The last one may be cut, and has none."""
+
+    sent: bytes
+    wanted: bytes
+
+    def __str__(self):
+        return "%.200r" % self.sent
+
+    def is_whole(self):
+        return self.sent.endswith(b"\n")
+
+    def is_query(self):
+        return self.is_whole() and QUERY.match(self.sent) is not None
+
+    def changes_nothing(self):
+        return self.is_query() or self.wanted.split(b" ")[1:2] == [b"ERR"]
+
+    def refused_by(self, fault):
+        """Its reply where it is refused for what the program says so on standard error; none where it has no session."""
+        if NO_COMMAND.match(self.wanted):
+            return None
+        return self.wanted.split(b" ")[0] + fault.removeprefix(b"roadseg:")
+
+    def expect_reply(self, run):
+        expect(self, run.ask(self.sent), self.wanted)
+
+
+class Script:
+    """The lines of a conversation, and each query among them once."""
+
+    def __init__(self, name, lines):
+        self.name, self.lines = name, lines
+        self.queries = list(dict.fromkeys(line.sent for line in lines if line.is_query()))
+        self.known = {}
+
+    def queries_at(self, program, place):
+        """The queries, each with its reply in a run in memory that was sent the lines before this place alone."""
+        if place not in self.known:
+            with program.run() as run:
+                for line in self.lines[:place]:
+                    line.expect_reply(run)
+                self.known[place] = [Line(query, run.ask(query)) for query in self.queries]
+                expect("the end", run.end(), WELL)
+        return self.known[place]
+
+
+def is_answered_over(program, lines, faults):
+    """Whether a further run over the file answers these lines; else it has to refuse the file with one of these faults."""
+    with program.run(program.file()) as run:
+        replies = [run.ask(line.sent) for line in lines]
+        ended = run.end()
+    if ended in [Ended(1, b"", fault) for fault in faults]:
+        expect("replies from a file that is refused", b"".join(replies), b"")
+        return False
+    expect("the end of a further run", ended, WELL)
+    for line, reply in zip(lines, replies):
+        expect("%s in a further run" % (line,), reply, line.wanted)
+    return True
+
+
+class Held:
+    """A conversation that is held in one way, over a file with these bytes or, with none, in memory."""
+
+    def __init__(self, script, way, lines, data=None):
+        self.script, self.way, self.lines, self.data = script, way, lines, data
+        self.name = "%s, %s" % (script.name, WAYS[way])
+
+    def is_over_file(self):
+        return self.data is not None
+
+    def start(self, program, refusal=NOTHING):
+        return program.run(program.file_of(self.data) if self.is_over_file() else None, refusal)
+
+    def queries_at(self, program, place):
+        """The queries of the conversation, each with its reply where just the lines before this place were sent."""
+        return self.script.queries_at(program, len(self.script.lines) if self.way == "again" else place)
+
+    def faults(self, refusal):
+        """What may be told where this is refused."""
+        if refusal.call:
+            return [DISK_FAULT]
+        return [EXHAUSTED] if self.is_over_file() else [EXHAUSTED, DISK_FAULT]
+
+    def counted(self, program, refusal=NOTHING):
+        """The counts of a run in which nothing is refused, and the file that it leaves."""
+        with self.start(program, refusal) as run:
+            for line in self.lines:
+                line.expect_reply(run)
+            expect("the end", run.end(), WELL)
+            return run.counts(), program.bytes_left() if self.is_over_file() else None
+
+    def judged(self, program, refusal):
+        """The kind of call that is refused in a run, and how that is told."""
+        with self.start(program, refusal) as run:
+            return Judge(self, program, refusal, run).judge()
+
+
+class Judge:
+    """A run in which something is refused: the kind of call, and how it was told."""
+
+    def __init__(self, held, program, refusal, run):
+        self.held, self.program, self.refusal, self.run = held, program, refusal, run
+        self.kind, self.how = None, None
+
+    def judge(self):
+        """Judges the run from its start to its end."""
+        for place, line in enumerate(self.held.lines):
+            reply = self.run.ask(line.sent)
+            if place == 0 and line.is_whole() and not reply:
+                self.judge_start()
+                return self.kind, self.how
+            if line.is_whole():
+                self.judge_line(place, reply)
+        self.judge_end()
+        return self.kind, self.how
+
+    def note(self, how, refused):
+        """Notes how what was refused just now is told."""
+        if refused is None:
+            raise Wrong("refused %s, and nothing was refused just then" % how)
+        self.kind, self.how = refused, how
+
+    def pass_over(self, refused):
+        """Nothing is told. That may be where a growth can be done without, as room for a page that would be kept for later."""
+        if refused and self.refusal.call:
+            raise Wrong("a %s failed, and nothing is told" % refused)
+        if refused:
+            self.note("not at all", refused)
+
+    def judge_line(self, place, reply):
+        """A line is answered, or refused. After a refusal all is as before, and sent again it is answered."""
+        line, refused = self.held.lines[place], self.run.refused_now()
+        if reply == line.wanted:
+            self.pass_over(refused)
+            return
+        if reply not in [line.refused_by(fault) for fault in self.held.faults(self.refusal)]:
+            expect(line, reply, line.wanted)
+        self.note("by %s" % reply.split(b" ")[2].decode(), refused)
+        if place > 0 and self.held.lines[place - 1].changes_nothing():
+            self.held.lines[place - 1].expect_reply(self.run)
+        for query in self.held.queries_at(self.program, place):
+            query.expect_reply(self.run)
+        line.expect_reply(self.run)
+
+    def judge_fault(self, ended, how):
+        """The program can't go on, and says so."""
+        if ended not in [Ended(1, b"", fault) for fault in self.held.faults(self.refusal)]:
+            expect(how, ended, WELL)
+        self.note(how, self.run.refused_now())
+
+    def judge_start(self):
+        """The program can't start. It has answered nothing, and the file is what it was."""
+        self.judge_fault(self.run.end(), "at the start")
+        if not self.held.is_over_file():
+            return
+        left, data = self.program.bytes_left(), self.held.data
+        if self.kind in ("write", "sync"):
+            put_back = left[:OPEN_FLAG] + data[OPEN_FLAG:OPEN_FLAG + 1] + left[OPEN_FLAG + 1:]
+            expect("the file but for its flag", put_back == data, True)
+            self.how += ", the file as it was" if left == data else ", the flag set"
+        else:
+            expect("the file", left == data, True)
+        is_opened = is_answered_over(self.program, self.held.lines, [NOT_CLOSED])
+        expect("whether the file is opened", is_opened, left == data)
+
+    def judge_end(self):
+        """The program ends by itself."""
+        ended = self.run.end()
+        if ended == WELL:
+            self.pass_over(self.run.refused_now())
+        elif self.held.is_over_file():
+            self.judge_fault(ended, "at the end")
+        else:
+            expect("the end", ended, WELL)
+        expect("whether something was refused", self.kind is not None, True)
+        if self.held.is_over_file():
+            self.judge_left(ended == WELL)
+
+    def judge_left(self, is_well):
+        """The file that is left is closed, as it has to be where all is well, and answered from as before; or it is refused."""
+        is_closed = self.program.bytes_left()[OPEN_FLAG] == 0
+        expect("whether the file is closed", is_closed or not is_well, True)
+        queries = self.held.queries_at(self.program, len(self.held.lines))
+        is_answered = is_answered_over(self.program, queries, [DAMAGED, NOT_CLOSED])
+        expect("whether the file is answered from", is_answered, is_closed)
+        if not is_well:
+            self.how += ", the file closed" if is_closed else ", the file not closed"
+
+
+class Creation:
+    """The creation of a file with these bytes."""
+
+    name = "a file is created"
+
+    def __init__(self, data=None):
+        self.data = data
+
+    def start(self, program, refusal=NOTHING):
+        if os.path.exists(program.file()):
+            os.remove(program.file())
+        return program.create(program.file(), refusal)
+
+    def counted(self, program):
+        """The counts of a run in which nothing is refused, and the file that it makes."""
+        with self.start(program) as run:
+            expect("the end", run.end(), WELL)
+            return run.counts(), program.bytes_left()
+
+    def judged(self, program, refusal):
+        """The kind of call that is refused in a run, and how that is told."""
+        with self.start(program, refusal) as run:
+            ended, refused = run.end(), run.refused_now()
+        expect("whether something was refused", refused is not None, True)
+        if ended == WELL and refusal.growth:
+            expect("whether the file is the one that was to be", program.bytes_left() == self.data, True)
+            return refused, "not at all"
+        expect("the end", ended, Ended(1, b"", DISK_FAULT if refusal.call else EXHAUSTED))
+        return refused, self.left(program)
+
+    def left(self, program):
+        """What is left where a file was not created."""
+        if not os.path.exists(program.file()):
+            return "no file left"
+        with program.run(program.file()) as run:
+            ended = run.end()
+        if ended in [Ended(1, b"", fault) for fault in (DAMAGED, NOT_CLOSED)]:
+            return "what is left refused"
+        expect("a run over what is left", ended, WELL)
+        expect("whether what is left is the file that was to be", program.bytes_left() == self.data, True)
+        return "the file left"
+
+
+# What is refused.
+
+
+class Turn(NamedTuple):
+    """A conversation in one way, or the creation, with the counts of a run in which nothing is refused."""
+
+    held: object
+    counts: Counts
+
+
+class Work:
+    """What this process, and those that it starts, work on."""
+
+    program = None
+    turns = []
+
+
+def refused_in_turn(held, refusal):
+    """The kind of call that is refused, and how that is told; in a second run also of one that is half done before it fails."""
+    kind, how = held.judged(Work.program, refusal)
+    yield kind, how
+    if kind in HALVES:
+        yield HALVES[kind], held.judged(Work.program, refusal._replace(is_half_done=True))[1]
+
+
+def judged(task):
+    """Makes the runs of a task: of the turn at a place, with each of these refusals. Gives how often they were told in which
+    way, and what is not as wanted."""
+    place, refusals = task
+    held = Work.turns[place].held
+    told, faults = Counter(), []
+    for refusal in refusals:
+        try:
+            told.update(refused_in_turn(held, refusal))
+        except Wrong as fault:
+            faults.append("%s, %s: %s" % (held.name, refusal, fault))
+    return told, faults
+
+
+def turns_of(script):
+    """A conversation in each way, or what is not as wanted where nothing is refused."""
+    try:
+        return list(ways_of(script)), []
+    except Wrong as fault:
+        return [], ["%s, nothing refused: %s" % (script.name, fault)]
+
+
+def ways_of(script):
+    """A conversation in each way."""
+    program, [created, *_others] = Work.program, Work.turns
+    in_memory = Held(script, "memory", script.lines)
+    yield Turn(in_memory, in_memory.counted(program)[0])
+    over_file = Held(script, "file", script.lines, created.held.data)
+    counts, left = over_file.counted(program)
+    _counts, left_by_short_calls = over_file.counted(program, Refusal(longest=SHORT))
+    expect("whether short calls leave the same file", left_by_short_calls == left, True)
+    yield Turn(over_file, counts)
+    again = Held(script, "again", script.queries_at(program, len(script.lines)), left)
+    if again.lines:
+        yield Turn(again, again.counted(program)[0])
+
+
+def prepare(scripts, jobs):
+    """Sets up the turns, and gives what is not as wanted."""
+    creation = Creation()
+    counts, creation.data = creation.counted(Work.program)
+    Work.turns = [Turn(creation, counts)]
+    faults = []
+    with multiprocessing.Pool(jobs) as pool:
+        for turns, found in pool.imap(turns_of, scripts):
+            Work.turns += turns
+            faults += found
+    seen = [sum(parts) for parts in zip(*(turn.counts for turn in Work.turns))]
+    if min(seen[:-1]) == 0:
+        faults.append("refusing.c does not see each kind of call of the program: %s" % Counts(*seen)._asdict())
+    return faults
+
+
+def most_of(turn, words):
+    """How many growths, and how many device calls, of a turn are refused at the most."""
+    if isinstance(turn.held, Creation):
+        return EACH
+    if words.most:
+        return words.most
+    return max(1, MOST_LINES // len(turn.held.lines)) if words.is_all else MOST[turn.held.script.name]
+
+
+def numbers_of(count, most):
+    """The numbers from 1 to a count, or so many of them that are evenly spread."""
+    stride = max(1, -(-count // most))
+    return range(stride, count + 1, stride)
+
+
+def tasks_of(place, turn, most):
+    """The refusals of a turn, some at a time."""
+    refusals = [Refusal(growth=number) for number in numbers_of(turn.counts.growths, most)]
+    refusals += [Refusal(call=number) for number in numbers_of(turn.counts.calls(), most)]
+    return [(place, refusals[first:first + RUNS_OF_A_TASK]) for first in range(0, len(refusals), RUNS_OF_A_TASK)]
+
+
+def told_of(turn, most, told):
+    """What is printed of a turn."""
+    refused = [len(numbers_of(count, most)) for count in (turn.counts.growths, turn.counts.calls())]
+    ways = ", ".join("%s %s %d" % (*key, count) for key, count in sorted(told.items()))
+    return "%s: %d of %d growths, %d of %d device calls: %s" % (
+        turn.held.name, refused[0], turn.counts.growths, refused[1], turn.counts.calls(), ways)
+
+
+def refuse_all(words):
+    """Makes the runs of all turns, and prints how refusals were told in each. Gives that of all, and what is not as wanted."""
+    mosts = [most_of(turn, words) for turn in Work.turns]
+    tasks = [tasks_of(place, turn, most) for place, (turn, most) in enumerate(zip(Work.turns, mosts))]
+    every, faults = Counter(), []
+    with multiprocessing.Pool(words.jobs) as pool:
+        results = pool.imap(judged, [task for some in tasks for task in some])
+        for turn, most, some in zip(Work.turns, mosts, tasks):
+            told = Counter()
+            for ways, found in itertools.islice(results, len(some)):
+                told.update(ways)
+                faults += found
+            print(told_of(turn, most, told), flush=True)
+            every.update(told)
+    return every, faults
+
+
+def script_at(path):
+    """The conversation of a file."""
+    [conversation] = conversations_of(path)
+    lines = [Line(bytes(exchange.sent), bytes(exchange.wanted)) for exchange in conversation.exchanges]
+    return Script(os.path.basename(path).removesuffix(".txt"), lines)
+
+
+def names_of(words):
+    """The names of the conversations that are taken."""
+    if words.names:
+        return words.names
+    if words.is_all:
+        return sorted(name.removesuffix(".txt") for name in os.listdir(FOLDER) if name.endswith(".txt"))
+    return list(MOST)
+
+
+def arguments():
+    parser = argparse.ArgumentParser(description=__doc__, formatter_class=argparse.RawDescriptionHelpFormatter)
+    parser.add_argument("--program", default=PROGRAM, metavar="PATH")
+    parser.add_argument("--jobs", type=int, default=os.cpu_count() or 1, metavar="N")
+    parser.add_argument("--all", action="store_true", dest="is_all")
+    parser.add_argument("--most", type=int, metavar="N")
+    parser.add_argument("names", nargs="*", metavar="CONVERSATION")
+    words = parser.parse_args()
+    words.is_all = words.is_all or bool(words.names)
+    return words
+
+
+def main():
+    words = arguments()
+    folder = SHARED_MEMORY if os.path.isdir(SHARED_MEMORY) else None
+    with tempfile.TemporaryDirectory(prefix="roadseg-", dir=folder) as folder:
+        Work.program = Program(os.path.abspath(words.program), build(folder), folder)
+        scripts = [script_at(os.path.join(FOLDER, name + ".txt")) for name in names_of(words)]
+        faults = prepare(scripts, words.jobs)
+        told, found = refuse_all(words)
+        faults += found
+    for fault in faults[:FAULTS_SHOWN]:
+        print(fault)
+    for kind in sorted({kind for kind, _how in told}):
+        print("%s: %s" % (kind, ", ".join("%s %d" % (how, count) for (one, how), count in sorted(told.items()) if one == kind)))
+    print("%d passed, %d failed" % (len(Work.turns) + sum(told.values()), len(faults)))
+    return 1 if faults else 0
+
+
+if __name__ == "__main__":
+    sys.exit(main())
