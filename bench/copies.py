@@ -37,10 +37,9 @@ def needed(below, stands_on):
     return found
 
 
-def make_repository(folder, program, stands_on, source, files, shared=()):
-    """Copies the crates and the program's files (`NAME.in` in a folder beside this file, those shared with a program of the
-    repository by their paths in `crates`; lemmas, which end in `.antt`, go to its proofs), and answers the program's folder.
-    Work that is kept there stays."""
+def make_repository(folder, program, stands_on, source, files):
+    """Copies the crates and the program's files (`NAME.in` in a folder beside this file; lemmas, which end in `.antt`, go to its
+    proofs), and answers the program's folder. Work that is kept there stays."""
     below = dependencies()
     crates = needed(below, stands_on)
     for name in crates:
@@ -55,8 +54,6 @@ def make_repository(folder, program, stands_on, source, files, shared=()):
         part = os.path.join(place, "proofs" if name in lemmas else "src")
         os.makedirs(part, exist_ok=True)
         shutil.copy(os.path.join(ROOT, "bench", source, name + ".in"), os.path.join(part, name))
-    for path in shared:
-        shutil.copy(os.path.join(ROOT, "crates", path), os.path.join(place, "src"))
     if lemmas:
         with open(os.path.join(place, "proofs", "Lib.antt"), "w", encoding="utf-8") as file:
             file.writelines("mod %s\n" % name.removesuffix(".antt") for name in lemmas)

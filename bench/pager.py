@@ -3,7 +3,7 @@
 
     bench/pager.py [--sizes 1000,10000,100000] [--rounds 7] [--folder FOLDER] [--unproved]
 
-It makes a repository of its own, of copies of the crates that `bench/pager/main.rt.in` stands on and of that program, builds it
+It makes a repository of its own, of copies of the crates that the program in `bench/pager` stands on and of that program, builds it
 there with `rt run`, and runs it for each size of the file, in pages. The disk is memory: 100,000 pages take some 800 MB. For
 each size it prints the nanoseconds of a step, the best of the rounds, and at last the ratios of the largest size to the
 smallest one.
@@ -27,7 +27,7 @@ from copies import make_repository, output_of
 
 PROGRAM = "pager_bench"
 STANDS_ON = ["rs_disk", "rs_page", "rs_pager", "rs_pages", "rs_refusal"]
-DRIVER = "rs_storage_growths/src/driver.rt"
+FILES = ["main.rt", "driver.rt"]
 LINE = re.compile(r"pages=(\d+) scattered=(\d+) in_runs=(\d+)")
 
 
@@ -60,7 +60,7 @@ def main():
     sizes = [int(size) for size in words.sizes.split(",")]
     folder = words.folder or tempfile.mkdtemp(prefix="pager-bench-")
     try:
-        program = make_repository(folder, PROGRAM, STANDS_ON, "pager", ["main.rt"], [DRIVER])
+        program = make_repository(folder, PROGRAM, STANDS_ON, "pager", FILES)
         command = command_of(program, not words.unproved)
         best = {}
         for _round in range(words.rounds):

@@ -1,2 +1,0 @@
-pub mod Dying
-pub mod Indexed
