@@ -2,7 +2,7 @@
 # The gate: the kit's `rt ci` proves every crate, tries the must-fail edits and runs the tests and the programs. Then the
 # programs that it built hold the conversations, answer pseudo-random lines beside the slow machine, are run on files of all
 # sorts, for peers over TCP and by the client in Python, open files beside the slow reader of files, and have their growths
-# refused in turn.
+# and the calls of their file refused in turn.
 set -eu
 cd "$(dirname "$0")/.."
 # each check by one process: several for one check take a fifth more of the processors
@@ -15,4 +15,4 @@ python3 tests/compare.py
 python3 tests/files_and_peers.py
 python3 tests/clients.py
 python3 tests/files.py
-python3 scripts/growths.py
+python3 tests/refusals.py
