@@ -28,8 +28,8 @@ from typing import NamedTuple
 
 from conversations import conversations_of
 from file_writer import written
-from slow_file import answer_of
-from slow_pages import MOST_PAGES, Pages
+from slow_file import lines_of, read
+from slow_pages import Pages
 from whole_files import SOUND
 
 HERE = os.path.dirname(os.path.abspath(__file__))
@@ -144,9 +144,9 @@ def a_file_keeps_what_it_was_told(program):
 def a_closed_file_is_as_the_format_says(program):
     """The slow reader of files finds what it finds in the file that was written by hand from the format."""
     file = program.created(DEFINED + FOUR_TIMES, b"0 OK 0\n0 OK 0\n0 OK 1000\n0 OK 1000\n0 OK 0\n0 OK 500\n")
-    found, why = answer_of(bytes_at(file))
-    expect("why it is none", why, None)
-    expect("what is in it", found, answer_of(bytes(written(SOUND["inserted"]()).data))[0])
+    found, wanted = read(bytes_at(file)), read(bytes(written(SOUND["inserted"]()).data))
+    expect("why it is none", found.why, None)
+    expect("what is in it", list(lines_of(found.state)), list(lines_of(wanted.state)))
 
 
 def a_line_reads_few_pages(program):
@@ -197,7 +197,7 @@ def reads_of(process):
 
 def height_of(data):
     """The levels of the first table's tree, which is of the widest rows."""
-    pages = Pages(data, MOST_PAGES)
+    pages = Pages(data)
     return len(pages.levels(pages.directory().tables[0].root, 28 + 12 * 41, 4))
 
 

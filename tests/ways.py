@@ -1,7 +1,7 @@
 """The ways in which the program answers the same lines: `memory` is one run without a file, `file` one run over a file
 that was just created, and `cut` several runs, one after another, over such a file.
 
-Cursors end with their run, so a run ends only where none is open.
+Cursors end with their run, so a run ends only where none is open. A file that is left is read by the slow reader of files.
 """
 
 import argparse
@@ -13,6 +13,8 @@ from bisect import bisect_right
 from typing import NamedTuple
 
 from programs import LONGEST_RUN, Answer, answer_of
+from slow_file import read
+from slow_pages import Pages
 
 HERE = os.path.dirname(os.path.abspath(__file__))
 PROGRAM = shlex.quote(os.path.join(os.path.dirname(HERE), "crates", "roadseg", "out", "roadseg")) + " run"
@@ -62,11 +64,24 @@ def answer_in(way, program, lines, replies, longest=LONGEST_RUN):
     parts = [b"".join(lines[first:end]) for first, end in zip(bounds, bounds[1:])]
     folder = SHARED_MEMORY if os.path.isdir(SHARED_MEMORY) else None
     with tempfile.TemporaryDirectory(prefix="roadseg-", dir=folder) as folder:
-        over = " --file " + shlex.quote(os.path.join(folder, "file"))
+        file = os.path.join(folder, "file")
+        over = " --file " + shlex.quote(file)
         answers = [answer_of(program.create + over, b"", longest)]
         answers += [answer_of(program.run + over, part, longest) for part in parts]
-    complaint = next((answer.complaint for answer in answers if answer.complaint), None)
+        complaint = next((answer.complaint for answer in answers if answer.complaint), None) or complaint_of(file)
     return Answer(b"".join(answer.out for answer in answers), complaint)
+
+
+def complaint_of(path):
+    """What is wrong with a file that was closed: it stands for no state, or has records that no version sees any more."""
+    with open(path, "rb") as file:
+        data = file.read()
+    found = read(data)
+    if found.state is None:
+        return "the slow reader says of the file %s, %s" % (found.answer.decode(), found.why)
+    directory = Pages(data).directory()
+    dead = sum(item.dead for item in [*directory.tables, directory.referents])
+    return "the file has %d dead records" % dead if dead else None
 
 
 def cuts_of(lines, replies):
