@@ -22,14 +22,16 @@ import subprocess
 import sys
 import tempfile
 import time
+from collections import Counter
 from contextlib import contextmanager, suppress
 from functools import partial
 from typing import NamedTuple
 
 from conversations import conversations_of
-from file_writer import written
+from file_writer import PAGE_BYTES, written
 from slow_file import lines_of, read
 from slow_pages import Pages
+from stored_machine import machine_of
 from whole_files import SOUND
 
 HERE = os.path.dirname(os.path.abspath(__file__))
@@ -149,6 +151,47 @@ def a_closed_file_is_as_the_format_says(program):
     expect("what is in it", list(lines_of(found.state)), list(lines_of(wanted.state)))
 
 
+def a_file_that_changes_in_use_is_judged_anew(program):
+    """Each byte of a file is another one when its page is read again: REOPEN says what the slow reader says of these bytes.
+
+    Page 0 alone is not read again: what it says is kept from the opening on.
+    """
+    file = program.created(DEFINED + FOUR_TIMES, b"0 OK 0\n0 OK 0\n0 OK 1000\n0 OK 1000\n0 OK 0\n0 OK 500\n")
+    data = bytes_at(file)
+    judged = Counter()
+    with started(program, "run", "--file", file) as process:
+        rows = answer_to(process, SELECTED)
+        expect("the rows before", rows, b"0 ROW A 0.000 2.500 'AC'\n0 OK 1\n")
+        for place in range(PAGE_BYTES, len(data)):
+            byte = bytes([data[place] ^ 1 << place % 8])
+            found = read(data[:place] + byte + data[place + 1 :])
+            put(file, byte, place)
+            wanted = b"0 OK 0\n" if found.state else b"0 ERR 94 damaged file\n"
+            expect("REOPEN with byte %d changed" % place, answer_to(process, b"0 REOPEN\n"), wanted)
+            reply = answer_to(process, SELECTED)
+            if found.state:
+                expect("the rows with byte %d changed" % place, reply, machine_of(found.state).answer(SELECTED[:-1]))
+            else:
+                is_served = reply.splitlines()[-1].split(b" ")[1:3] in ([b"OK", b"%d" % reply.count(b" ROW ")], [b"ERR", b"94"])
+                expect("rows or a refusal with byte %d changed: %.100r" % (place, reply), is_served, True)
+            put(file, data[place : place + 1], place)
+            expect("REOPEN with byte %d put back" % place, answer_to(process, b"0 REOPEN\n"), b"0 OK 0\n")
+            expect("the rows with byte %d put back" % place, answer_to(process, SELECTED), rows)
+            judged[wanted] += 1
+        expect("the end", ended(process), Ended(0, b"", b""))
+    expect("the file after that", bytes_at(file), data)
+    expect("files of both sorts", min(judged.values()) > 100 and len(judged) == 2, True)
+
+
+def answer_to(process, line):
+    """What is answered to a line."""
+    process.stdin.write(line)
+    reply = process.stdout.readline()
+    while reply.splitlines()[-1].split(b" ")[1] == b"ROW":
+        reply += process.stdout.readline()
+    return reply
+
+
 def a_line_reads_few_pages(program):
     """Of a tree of some 450 pages, more than are held, a line reads those on its way to what it meets."""
     file = program.created()
@@ -182,11 +225,8 @@ def wide_row(place):
 def answers_to(process, lines):
     """Has lines answered, one after another, and expects that none is refused."""
     for line in lines:
-        process.stdin.write(line)
-        reply = process.stdout.readline()
-        while reply.split(b" ")[1] == b"ROW":
-            reply = process.stdout.readline()
-        expect("the end of the answer to %.60r" % line, reply.split(b" ")[:2], [b"0", b"OK"])
+        end = answer_to(process, line).splitlines()[-1]
+        expect("the end of the answer to %.60r" % line, end.split(b" ")[:2], [b"0", b"OK"])
 
 
 def reads_of(process):
@@ -618,6 +658,7 @@ TESTS = [
     a_file_is_created_once,
     a_file_keeps_what_it_was_told,
     a_closed_file_is_as_the_format_says,
+    a_file_that_changes_in_use_is_judged_anew,
     a_line_reads_few_pages,
     a_missing_file_is_not_opened,
     a_damaged_file_is_refused,
