@@ -23,6 +23,9 @@ from slow_queries import MOST_COLUMNS
 from slow_tables import measure_text
 from stored_machine import Unanswered, machine_of
 
+# Where a row is put on the whole of a route, by whether its table is one of lines.
+ENDS = {True: b"FROM 0% TO 100%", False: b"AT 0%"}
+
 
 class Exchange(NamedTuple):
     """A line that is sent, without its LF, and its reply."""
@@ -139,14 +142,13 @@ def commands_of_table(said, table):
 
 
 def rows_that_do_not_fit(table, insert):
-    """A row of too many values, at a point and at a span; and for each column of texts one with a text too long."""
-    ends = {True: b"FROM 0% TO 100%", False: b"AT 0%"}
-    for place in ends.values():
-        yield b"%b %b VALUES %b" % (insert, place, listed([b"NULL"] * (MOST_COLUMNS + 1)))
+    """A row of too many values, at a point and at a span; and for each column one with a text too long."""
+    for ends in ENDS.values():
+        yield b"%b %b VALUES %b" % (insert, ends, listed([b"NULL"] * (MOST_COLUMNS + 1)))
     for place, (_, longest) in enumerate(table.columns):
         values = [b"NULL"] * len(table.columns)
         values[place] = value_text(b"x" * (longest + 1))
-        yield b"%b %b VALUES %b" % (insert, ends[table.is_line], listed(values))
+        yield b"%b %b VALUES %b" % (insert, ENDS[table.is_line], listed(values))
 
 
 def commands_of_spans(table, spans):
@@ -213,7 +215,7 @@ def piece_within(route):
 
 
 def commands_of_names(state):
-    """What each name is, for names of all kinds and some that nothing has; and whether there is room for more."""
+    """What each name is, of any kind or of none; and whether there is room for more."""
     said = state.catalogue
     names = all_names_of(state)
     for name in sorted(names | {b"none"}):
@@ -223,6 +225,9 @@ def commands_of_names(state):
         for table in said.tables[:1]:
             yield b"EXPLAIN TRANSFORM(%b, %b)" % (table.name, name)
     yield from commands_of_new_name(said, new_name_beside(names))
+    for table in said.tables[:1]:
+        for route in said.routes[:1]:
+            yield from changes_of_rows(table, route.name)
 
 
 def all_names_of(state):
@@ -237,7 +242,7 @@ def new_name_beside(names):
 
 
 def commands_of_new_name(said, name):
-    """A definition of each kind under a name that nothing has, a row and no row: refused at a limit alone."""
+    """A definition of each kind under a name that nothing has, refused at a limit alone."""
     yield b"DEFINE ROUTE %b FROM 0 TO 1" % name
     yield b"DEFINE LINE TABLE %b (c INT)" % name
     for route in said.routes:
@@ -247,3 +252,10 @@ def commands_of_new_name(said, name):
     for table in said.tables[:1]:
         yield b"DEFINE INDEX %b ON %b (%b)" % (name, table.name, table.columns[0][0])
         yield b"DEFINE VIEW %b AS %b" % (name, table.name)
+
+
+def changes_of_rows(table, route):
+    """A row with the longest texts put, and all rows taken away: refused where no more changes are counted."""
+    values = listed([value_text(b"x" * longest if longest else 0) for _, longest in table.columns])
+    yield b"INSERT INTO %b ON %b %b VALUES %b" % (table.name, route, ENDS[table.is_line], values)
+    yield b"REMOVE %b ON %b" % (table.name, route)
