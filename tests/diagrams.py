@@ -302,7 +302,7 @@ def texts_are_escaped(_program):
     bands = [diagram.Band(text, [("R", D("0.000"), D("9.000"), text)]) for text in NASTY]
     bands += [diagram.Band("Points", [("R", measure(900 * k), text) for k, text in enumerate(NASTY)])]
     read = Read(diagram.draw("R", 0, 9_000, bands, [], "<miles> & \x01"))
-    kept = [text.replace("\ufffe", "\ufffd").replace("\uffff", "\ufffd") for text in NASTY]
+    kept = [re.sub("[\x85\u2028\ufffe\uffff]", "\ufffd", text) for text in NASTY]
     for text in kept:
         expect("whether %r is a label" % text, read.has(text), True)
         title = "R 0.000 to 9.000: " + roadseg.literal(text)

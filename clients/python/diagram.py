@@ -18,6 +18,7 @@ import sys
 from collections import Counter
 from decimal import Decimal
 from typing import NamedTuple
+from unicodedata import category
 from xml.sax.saxutils import escape, quoteattr
 
 import roadseg
@@ -130,8 +131,8 @@ def short_measure(place):
 
 
 def clean(text):
-    """A text without the characters that XML can't hold."""
-    return "".join(c if c >= " " and c not in "\ufffe\uffff" and not "\ud800" <= c <= "\udfff" else "\ufffd" for c in text)
+    """A text without the characters that XML can't hold, or that would break its line."""
+    return "".join("\ufffd" if c in "\ufffe\uffff" or category(c) in ("Cc", "Cs", "Zl", "Zp") else c for c in text)
 
 
 def shown(value):
