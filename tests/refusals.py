@@ -57,13 +57,13 @@ MOST = {
     "each-operator-once": EACH,
     "a-cursor-keeps-its-opening": EACH,
     "definitions-of-each-kind-come-and-go": EACH,
-    "definitions-over-several-pages": 300,
-    "trees-split-join-and-empty": 300,
-    "more-changed-pages-than-are-held": 20,
+    "definitions-over-several-pages": 2_000,
+    "trees-split-join-and-empty": EACH,
+    "more-changed-pages-than-are-held": 60,
 }
 
 # How many lines the runs of one way send in all where every conversation is taken.
-MOST_LINES = 1_000_000
+MOST_LINES = 300_000
 
 WAYS = {"memory": "in memory", "file": "over a new file", "again": "its queries over the file that it left"}
 
@@ -124,7 +124,7 @@ class Script:
         """The queries, each with its reply in a run in memory that was sent the lines before this place alone."""
         if place not in self.known:
             with program.run() as run:
-                for line in self.lines[:place]:
+                for line in filter(Line.is_whole, self.lines[:place]):
                     line.expect_reply(run)
                 self.known[place] = [Line(query, run.ask(query)) for query in self.queries]
                 expect("the end", run.end(), WELL)

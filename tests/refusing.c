@@ -229,6 +229,7 @@ int ftruncate(int file, off_t length)
     return (int)syscall(SYS_ftruncate, file, length);
 }
 
+ssize_t __write(int file, const void *bytes, size_t length) __attribute__((alias("write")));
 ssize_t pread64(int file, void *bytes, size_t length, off64_t at) __attribute__((alias("pread")));
 ssize_t pwrite64(int file, const void *bytes, size_t length, off64_t at) __attribute__((alias("pwrite")));
 int ftruncate64(int file, off64_t length) __attribute__((alias("ftruncate")));
