@@ -23,7 +23,7 @@ where its queries are asked again. And files are created.
 
 MOST says which conversations are taken, and how many growths and device calls of each way are refused, evenly spread where
 that isn't each. --all takes all conversations, and so is taken one that is named: each growth and each device call is refused,
-or of long ones fewer. --most says how many of each way. It prints how refusals were told, what is not as wanted, and at last
+or of long ones fewer. --most says how many at the most. It prints how refusals were told, what is not as wanted, and at last
 `N passed, M failed`, counted in runs.
 """
 
@@ -399,9 +399,9 @@ def most_of(turn, words):
     """How many growths, and how many device calls, of a turn are refused at the most."""
     if isinstance(turn.held, Creation):
         return EACH
-    if words.most:
-        return words.most
-    return max(1, MOST_LINES // len(turn.held.lines)) if words.is_all else MOST[turn.held.script.name]
+    if words.is_all:
+        return min(words.most, max(1, MOST_LINES // len(turn.held.lines)))
+    return min(words.most, MOST[turn.held.script.name])
 
 
 def numbers_of(count, most):
@@ -463,7 +463,7 @@ def arguments():
     parser.add_argument("--program", default=PROGRAM, metavar="PATH")
     parser.add_argument("--jobs", type=int, default=os.cpu_count() or 1, metavar="N")
     parser.add_argument("--all", action="store_true", dest="is_all")
-    parser.add_argument("--most", type=int, metavar="N")
+    parser.add_argument("--most", type=int, default=EACH, metavar="N")
     parser.add_argument("names", nargs="*", metavar="CONVERSATION")
     words = parser.parse_args()
     words.is_all = words.is_all or bool(words.names)
