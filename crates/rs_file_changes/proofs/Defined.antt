@@ -1,10 +1,11 @@
 -- Definitions with the same tables and indexes leave what is open ready to be changed.
 use Rattle.std.proofs.Common.{◌≡◌, ◌<◌, ◌≤◌, List, map, subst, sym}
 use Rattle.std.specs.List.{AllByRecursion, AllZip}
+use Rattle.rs_catalog_pages.specs.Directory.{DirectoryItems}
 use Rattle.rs_catalog_pages.specs.Items.{CatalogueItems, IndexItem, TableItem}
 use Rattle.rs_catalog_pages.specs.Said.{said_catalogue}
 use Rattle.rs_catalog_pages.specs.declared.directory_items.TheConstants.{INDEXES, TABLES}
-use Rattle.rs_contents.specs.Contents.{AreGivenOnce}
+use Rattle.rs_contents.specs.Contents.{AreGivenOnce, AreNumbered}
 use Rattle.rs_contents.specs.Slots.{IsIndexOf, IsOfItem, indexes_on}
 use Rattle.rs_contents.specs.declared.opened.OpenedFile.{OpenedFile}
 use Rattle.rs_contents.specs.declared.opened.OpenedTable.{OpenedTable}
@@ -21,6 +22,14 @@ module _ (one other : CatalogueItems) (tables : other.tables ≡ one.tables) (in
     indexes_once = λ n. subst (λ (is : List IndexItem). times (map (λ index. index.number) is) n ≤ 1) (sym indexes) (given.indexes_once n);
     of_tables = subst (λ (ts : List TableItem). AllByRecursion (λ index. 0 < times (map (λ table. table.number) ts) index.table) other.indexes) (sym tables)
         (subst (AllByRecursion (λ (index : IndexItem). 0 < times (map (λ table. table.number) one.tables) index.table)) (sym indexes) given.of_tables);
+  }
+
+  -- and the directory has nothing under the numbers of others
+  pub numbered_too : (directory : DirectoryItems) → AreNumbered one directory → AreNumbered other directory
+  numbered_too directory numbered = record {
+    given = given_too numbered.given;
+    no_table = λ n below none. numbered.no_table n below (subst (λ (ts : List TableItem). times (map (λ table. table.number) ts) n ≡ 0) tables none);
+    no_index = λ n below none. numbered.no_index n below (subst (λ (is : List IndexItem). times (map (λ index. index.number) is) n ≡ 0) indexes none);
   }
 
   of_item_too : (item : TableItem) (opened : OpenedTable) → IsOfItem one item opened → IsOfItem other item opened

@@ -8,3 +8,6 @@ pub mod Ended
 pub mod Named
 pub mod Placed
 pub mod Written
+pub mod Overwritten
+pub mod SlotBytes
+pub mod Slotted

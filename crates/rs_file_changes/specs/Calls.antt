@@ -6,7 +6,7 @@ use Rattle.rs_catalog_pages.specs.Items.{CatalogueItems}
 use Rattle.rs_catalog_pages.specs.Storing.{StoresAfter}
 use Rattle.rs_catalog_pages.specs.declared.items.StoredCatalogue.{StoredCatalogue}
 use Rattle.rs_cell_versions.specs.declared.cell.TheConstants.{LIVING}
-use Rattle.rs_contents.specs.Contents.{Contents, HoldsAll, HoldsParts, SameContents}
+use Rattle.rs_contents.specs.Contents.{AreNumbered, Contents, HoldsAll, HoldsParts, SameContents}
 use Rattle.rs_contents.specs.declared.opened.OpenedFile.{OpenedFile}
 use Rattle.rs_file_changes.specs.declared.definitions.Former.{Former}
 use Rattle.rs_file_changes.specs.Clearing.{ClearsAsMany, ClearsFirst}
@@ -28,6 +28,19 @@ pub record WritesDirectory (old new : PageMap) (file : OpenedFile) (version : �
   pub holds : (from : ℕ) (contents : Contents) (was : DirectoryItems) → from ≤ version → version < 2 ^ 63 → HasDirectory old was
       → HoldsParts old from contents → IsOpenedFile file contents → AllByRecursion (λ route. route.born ≤ version) contents.definitions.routes
       → HoldsAll new (record contents { directory = directory })
+
+-- the file holds these contents with a directory that has the version as the accepted one
+pub record HoldsWith (map : PageMap) (version : ℕ) (contents : Contents) : Type 0 where
+  pub directory : DirectoryItems
+  pub accepted : directory.accepted ≡ version
+  pub holds : HoldsAll map (record contents { directory = directory })
+
+-- the same where the slots of what is open were written into the directory that was there: it had nothing under the numbers of other
+-- tables and indexes
+pub record RewritesDirectory (old new : PageMap) (file : OpenedFile) (version : ℕ) : Type 0 where
+  pub each : (from : ℕ) (contents : Contents) (was : DirectoryItems) → from ≤ version → version < 2 ^ 63 → HasDirectory old was
+      → AreNumbered contents.definitions was → HoldsParts old from contents → IsOpenedFile file contents
+      → AllByRecursion (λ route. route.born ≤ version) contents.definitions.routes → HoldsWith new version contents
 
 -- no contents lie there beside a directory
 pub record HoldsNoDirectory (map : PageMap) : Type 0 where
@@ -88,6 +101,9 @@ module _ {P : Type 0} (pages : Ghosts P) (was : OpenedFile) where
   -- what the calls do and answer on the pages of an honest disk
   abbrev pub Writes : ℕ → Result (Unit {0}) Refusal → P → P → Type 0
   Writes version result old new = pages.is_tied old → OnOk result (WritesDirectory (pages.store old).map (pages.store new).map was version)
+
+  abbrev pub Rewrites : ℕ → Result (Unit {0}) Refusal → P → P → Type 0
+  Rewrites version result old new = pages.is_tied old → OnOk result (RewritesDirectory (pages.store old).map (pages.store new).map was version)
 
   abbrev pub Clears : OpenedFile → ℕ → ℕ → Result ℕ Refusal → P → P → Type 0
   Clears is oldest most result old new = pages.is_tied old → IfOk result (λ gone. (accepted : ℕ)

@@ -10,9 +10,12 @@ pub mod directory;
 pub mod ending;
 pub mod laws;
 pub mod referents;
+mod slot;
+pub mod slots;
 
 pub use clearing::clear;
 pub use definitions::{Former, restore_definitions, write_definitions};
 pub use directory::write_directory;
 pub use ending::{keep, take_back};
 pub use referents::{end_referent, put_referent};
+pub use slots::write_slots;

@@ -1,11 +1,11 @@
--- Records are cleared and the directory is written: that completes a change.
+-- Records are cleared and the slots of the directory are written: that completes a change.
 use Rattle.std.proofs.Common.{◌≡◌, ◌≤◌, ◌<◌, ◌+◌, ◌-◌, ◌^◌, ℕ, min, refl, sym, ◌∙◌, subst, arith}
 use Rattle.std.specs.List.{AllByRecursion}
 use Rattle.rs_catalog_pages.specs.Directory.{HasDirectory}
 use Rattle.rs_catalog_pages.specs.Items.{RouteItem}
-use Rattle.rs_contents.specs.Contents.{Contents}
+use Rattle.rs_contents.specs.Contents.{AreNumbered, Contents}
 use Rattle.rs_contents.specs.declared.opened.OpenedFile.{OpenedFile}
-use Rattle.rs_file_changes.specs.Calls.{HoldsNoDirectory, WritesDirectory}
+use Rattle.rs_file_changes.specs.Calls.{HoldsNoDirectory, RewritesDirectory}
 use Rattle.rs_file_changes.specs.Clearing.{ClearsAsMany}
 use Rattle.rs_file_changes.specs.Parts.{HasMade, HaveAllDiedBy, HoldsNoParts, IsReady, KeepsCommitted, Makes}
 use Rattle.rs_file_changes.proofs.Ready.{ready_after}
@@ -40,16 +40,19 @@ module _ (oldest most gone : ℕ) (old mid : PageMap) (was between : OpenedFile)
   -- what lay there is completed
   pub completes_from : (before : ℕ) (new : PageMap) → was.accepted < CHANGES → 64 ≤ most
       → ((dead : ℕ) → before ≡ min dead (2 ^ 64 - 1) → most ≤ 64 + (garbage_of was - dead))
-      → WritesDirectory mid new between (was.accepted + 1)
+      → RewritesDirectory mid new between (was.accepted + 1)
       → CompletesFrom oldest before old new was (record between { accepted = was.accepted + 1 })
   completes_from before new room least few writes = record {
-    each = λ contents directory has holds opened routes.
+    each = λ contents directory has numbered holds opened routes.
         let version = was.accepted + 1 in
         let made = (makes version).each contents holds opened in
         let parts = made.changed.parts in
         let limit : version < 2 ^ 63 = omega (arith, room) in
+        let written = writes.each version made.contents directory (omega arith) limit (directory_of contents version directory made has)
+        (subst (λ d. AreNumbered d directory) (sym parts.definitions) numbered) made.holds made.opened
+        (subst (λ (d : _). AllByRecursion (λ (route : RouteItem). route.born ≤ version) d.routes) (sym parts.definitions) routes) in
         record {
-          contents = record made.contents { directory = writes.directory };
+          contents = record made.contents { directory = written.directory };
           most = most;
           gone = gone;
           least = least;
@@ -59,15 +62,14 @@ module _ (oldest most gone : ℕ) (old mid : PageMap) (was between : OpenedFile)
             many = made.changed.many;
             as_many = made.changed.as_many;
           };
-          next = writes.accepted;
-          holds = writes.holds version made.contents directory (omega arith) limit (directory_of contents version directory made has) made.holds made.opened
-              (subst (λ (d : _). AllByRecursion (λ (route : RouteItem). route.born ≤ version) d.routes) (sym parts.definitions) routes);
+          next = written.accepted;
+          holds = written.holds;
           opened = record {
             definitions = made.opened.definitions;
             pages = made.opened.pages;
             tables = made.opened.tables;
             referents = made.opened.referents;
-            accepted = writes.accepted;
+            accepted = written.accepted;
           };
         };
   }

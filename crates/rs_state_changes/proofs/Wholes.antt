@@ -7,12 +7,13 @@ use Rattle.rs_catalog_pages.specs.Items.{RouteItem}
 use Rattle.rs_catalog_pages.specs.Said.{said_catalogue}
 use Rattle.rs_catalog_pages.specs.Storing.{StoresAfter}
 use Rattle.rs_catalog_pages.specs.declared.items.StoredCatalogue.{StoredCatalogue}
-use Rattle.rs_contents.specs.Contents.{Contents, HoldsAll, HoldsParts, TableContents}
+use Rattle.rs_contents.specs.Contents.{AreNumbered, Contents, HoldsAll, HoldsParts, TableContents}
 use Rattle.rs_contents.specs.Opening.{IsOpened}
 use Rattle.rs_contents.specs.declared.opened.OpenedFile.{OpenedFile}
 use Rattle.rs_contents.specs.declared.opened.OpenedTable.{OpenedTable}
 use Rattle.rs_file_changes.specs.Parts.{HasMade, HoldsNoParts, KeepsCommitted, Makes}
 use Rattle.rs_file_changes.specs.Parts as parts
+use Rattle.rs_file_changes.proofs.Defined.{numbered_too}
 use Rattle.rs_page_owners.specs.Calls.{Leaves}
 use Rattle.rs_page_owners.specs.Changes.{CountsNothing, WorksAfter}
 use Rattle.rs_page_owners.proofs.Working.{CountsNothing-refl, CountsNothing-trans, wants_after}
@@ -125,6 +126,20 @@ routes_stay map contents was is stay holds opened =
       later version [] all = tt
       later version (r ∷ rs) all = (omega (arith, all.0), later version rs all.1)
 
+-- the numbers of the definitions, where these have the same tables and indexes
+pub numbers_same : (map : PageMap) (contents : Contents) (was is : OpenedFile) → (said_catalogue is.definitions).tables ≡ (said_catalogue was.definitions).tables
+    → (said_catalogue is.definitions).indexes ≡ (said_catalogue was.definitions).indexes → HoldsAll map contents → IsOpenedFile was contents
+    → AreNumbered (said_catalogue is.definitions) contents.directory
+numbers_same map contents was is tables indexes holds opened =
+    numbered_too (said_catalogue was.definitions) (said_catalogue is.definitions) tables indexes contents.directory
+    (subst (λ d. AreNumbered d contents.directory) opened.definitions holds.said.numbered)
+
+-- and where they stay
+pub numbers_stay : (map : PageMap) (contents : Contents) (was is : OpenedFile) → is.definitions ≡ was.definitions → HoldsAll map contents → IsOpenedFile was contents
+    → AreNumbered (said_catalogue is.definitions) contents.directory
+numbers_stay map contents was is stay =
+    numbers_same map contents was is (ap (λ d. (said_catalogue d).tables) stay) (ap (λ d. (said_catalogue d).indexes) stay)
+
 -- ---- the whole
 
 module _ (old mid : PageMap) (was between : OpenedFile) (change : Contents → Contents → Type 0) (accepted : between.accepted ≡ was.accepted)
@@ -152,14 +167,16 @@ module _ (old mid : PageMap) (was between : OpenedFile) (change : Contents → C
       → ((contents now : Contents) → change contents now → now.directory ≡ contents.directory)
       → ((contents : Contents) → HoldsAll old contents → IsOpenedFile was contents
       → AllByRecursion (λ route. route.born ≤ was.accepted + 1) (said_catalogue between.definitions).routes)
+      → ((contents : Contents) → HoldsAll old contents → IsOpenedFile was contents → AreNumbered (said_catalogue between.definitions) contents.directory)
       → CompletesFrom oldest before mid new between is → ChangesFile oldest old new was is change
-  changes_file oldest before new is count stays births completes = record {
+  changes_file oldest before new is count stays births numbers completes = record {
     each = λ contents holds opened.
         let made = made_of contents holds opened in
         let routes : AllByRecursion (λ (route : RouteItem). route.born ≤ between.accepted + 1) made.contents.definitions.routes =
         subst (λ n. AllByRecursion (λ (route : RouteItem). route.born ≤ n + 1) made.contents.definitions.routes) (sym accepted)
         (subst (λ d. AllByRecursion (λ (route : RouteItem). route.born ≤ was.accepted + 1) d.routes) (sym made.opened.definitions) (births contents holds opened)) in
-        let done = completes.each made.contents contents.directory (directory_of contents holds made.directory) made.holds made.opened routes in
+        let numbered = subst (λ d. AreNumbered d contents.directory) (sym made.opened.definitions) (numbers contents holds opened) in
+        let done = completes.each made.contents contents.directory (directory_of contents holds made.directory) numbered made.holds made.opened routes in
         record {
           between = made.contents;
           changed = made.changed;

@@ -2,7 +2,7 @@
 use Rattle.std.specs.Prelude.{◌≡◌, ◌≤◌, ◌+◌, ◌-◌, ◌^◌, ℕ, min}
 use Rattle.std.specs.List.{AllByRecursion}
 use Rattle.rs_catalog_pages.specs.Directory.{DirectoryItems, HasDirectory}
-use Rattle.rs_contents.specs.Contents.{Contents, HoldsAll, HoldsParts}
+use Rattle.rs_contents.specs.Contents.{AreNumbered, Contents, HoldsAll, HoldsParts}
 use Rattle.rs_contents.specs.declared.opened.OpenedFile.{OpenedFile}
 use Rattle.rs_file_changes.specs.Clearing.{ClearsAsMany}
 use Rattle.rs_file_changes.specs.Parts as parts
@@ -22,9 +22,10 @@ pub record Completed (oldest before : ℕ) (was : OpenedFile) (between : Content
   pub holds : HoldsAll new contents
   pub opened : IsOpenedFile is contents
 
--- whatever contents lie there with what was open, up to the next version, beside a directory
+-- whatever contents lie there with what was open, up to the next version, beside a directory that has nothing under the numbers of other
+-- tables and indexes
 pub record CompletesFrom (oldest before : ℕ) (old new : PageMap) (was is : OpenedFile) : Type 0 where
-  pub each : (between : Contents) (directory : DirectoryItems) → HasDirectory old directory → HoldsParts old (was.accepted + 1) between
+  pub each : (between : Contents) (directory : DirectoryItems) → HasDirectory old directory → AreNumbered between.definitions directory → HoldsParts old (was.accepted + 1) between
       → parts.IsOpenedFile was between → AllByRecursion (λ route. route.born ≤ was.accepted + 1) between.definitions.routes
       → Completed oldest before was between new is
 

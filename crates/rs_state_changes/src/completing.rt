@@ -1,4 +1,4 @@
-//! What completes a change once its part has changed: records are cleared, and the directory is written with the next version.
+//! What completes a change once its part has changed: records are cleared, and the slots of the directory are written with the next version.
 
 ghost use Rattle.std.specs.Prelude.{◌≡◌, ◌≢◌, ◌<◌, ◌+◌, true, Err, OnErr, OnOk};
 ghost use Rattle.rs_file_changes.specs.Parts.{HaveAllDiedBy, IsReady, KeepsCommitted};
@@ -9,7 +9,7 @@ ghost use Rattle.rs_state_changes.specs.Completing.{CompletesFrom, HoldsNoneToCo
 
 use crate::counting::garbage;
 use rs_contents::OpenedFile;
-use rs_file_changes::{clear, write_directory};
+use rs_file_changes::{clear, write_slots};
 use rs_pages::Pages;
 use rs_refusal::Refusal;
 use std::alloc::Global;
@@ -17,8 +17,8 @@ use std::alloc::Global;
 /// How many records that no live version sees are cleared at the least, where there are so many.
 const LEAST_CLEARED: u64 = 64;
 
-/// Clears records that no version from `oldest` on sees, and writes the directory with the next version as the one that was accepted
-/// last. `before` is how many records were dead before the change: as many more may go as the change has ended. The tables take turns
+/// Clears records that no version from `oldest` on sees, and writes the slots of the directory with the next version as the one
+/// that was accepted last. `before` is how many records were dead before the change: as many more may go as the change has ended. The tables take turns
 /// in being first. It is refused with 90, with 91, and with 94 only where no contents lie there with what is open.
 pub(crate) fn complete<P: Pages>(
     alloc: Global,
@@ -41,7 +41,7 @@ pub(crate) fn complete<P: Pages>(
     let ended = garbage(file).saturating_sub(before);
     let most = ended.saturating_add(LEAST_CLEARED);
     clear(alloc, pages, file, oldest, most, version as usize)?;
-    write_directory(alloc, pages, file, version)?;
+    write_slots(pages, file, version)?;
     file.accepted = version;
     Ok(())
 }

@@ -1,5 +1,5 @@
 -- The route's referents end, the definitions are written, and the change is completed.
-use Rattle.std.proofs.Common.{◌+◌, Err, refl, sym, subst, arith}
+use Rattle.std.proofs.Common.{◌+◌, Err, refl, sym, subst, arith, ◌∙◌, ap}
 use Rattle.std.proofs.lemmas.Result.{err_from_is_err_and}
 use Rattle.rs_catalog_pages.specs.Said.{said_catalogue}
 use Rattle.rs_contents.specs.declared.opened.OpenedFile.{OpenedFile}
@@ -8,7 +8,7 @@ use Rattle.rs_file_changes.proofs.Made.{referents_made}
 use Rattle.rs_file_changes.proofs.Ready.{ready_after}
 use Rattle.rs_state_changes.specs.Ending.{HoldsNoReferents}
 use Rattle.rs_state_changes.proofs.Redefined.{accepted_stays, births_then, drops_stay, keeps_ended, makes_dropped, no_referents_no_file, none_ended, order_ended, order_then, ready_then}
-use Rattle.rs_state_changes.proofs.Wholes.{changes_file, completion_refused, leaves_refused, storing_by_works, stored_by_storing, stored_by_works, stored_none, stored_then}
+use Rattle.rs_state_changes.proofs.Wholes.{changes_file, completion_refused, leaves_refused, numbers_same, stored_by_storing, stored_by_works, stored_none, stored_then, storing_by_works}
 use Rattle.rs_state_laws.specs.Parts.{DropsRoute, EndsAllOn}
 use Rattle.rs_state_changes.proofs.definitions.drop_route.Goals as goal
 
@@ -84,6 +84,8 @@ returns-in-Ok-clause-drops g c = λ tied.
     c.args.oldest c.garbage-before.result (g.P.Pages.store c.complete.new.pages).map c.complete.new.file c.garbage-before.ensures
     (drops_stay c.args.route listing)
     (λ contents holds opened. births_then c.args.definitions first between former gives (was.accepted + 1) c.requires.births)
+    (λ contents holds opened. numbers_same old contents was between (ap (λ d. (said_catalogue d).tables) gives.definitions_are ∙ c.requires.tables)
+    (ap (λ d. (said_catalogue d).indexes) gives.definitions_are ∙ c.requires.indexes) holds opened)
     (c.in-Ok.ensures.completes (g.met.P.Pages.keeps_tied c.end_referents_on.new.pages c.write_definitions.new.pages c.in_ok-former.ensures.leaves.keeps tied_half))
 
 pub returns-in-Err-clause-leaves : goal.returns-in-Err-clause-leaves

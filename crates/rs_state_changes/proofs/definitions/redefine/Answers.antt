@@ -1,5 +1,5 @@
 -- The definitions are written, and the change is completed.
-use Rattle.std.proofs.Common.{◌+◌, sym, ap, subst, arith}
+use Rattle.std.proofs.Common.{◌+◌, sym, ap, subst, arith, ◌∙◌}
 use Rattle.std.proofs.lemmas.Result.{err_from_is_err_and}
 use Rattle.rs_catalog_pages.specs.Said.{said_catalogue}
 use Rattle.rs_contents.specs.Contents.{Contents}
@@ -7,7 +7,7 @@ use Rattle.rs_file_changes.specs.Calls.{ChangesDefinitions}
 use Rattle.rs_file_changes.specs.Parts.{HoldsNoParts, KeepsCommitted}
 use Rattle.rs_file_changes.proofs.Ready.{keeps_none}
 use Rattle.rs_state_changes.proofs.Redefined.{accepted_stays, births_then, order_later, order_then, ready_then}
-use Rattle.rs_state_changes.proofs.Wholes.{changes_file, completion_refused, leaves_refused, makes_next, no_file, stored_by_storing, stored_none}
+use Rattle.rs_state_changes.proofs.Wholes.{changes_file, completion_refused, leaves_refused, makes_next, no_file, numbers_same, stored_by_storing, stored_none}
 use Rattle.rs_state_changes.proofs.definitions.redefine.Goals as goal
 
 pub returns-in_err-former-clause-leaves : goal.returns-in_err-former-clause-leaves
@@ -46,6 +46,8 @@ returns-in-Ok-clause-defines g c = λ tied.
     c.args.oldest c.garbage-before.result (g.P.Pages.store c.complete.new.pages).map c.complete.new.file c.garbage-before.ensures
     (λ contents now change. ap (λ (c : Contents). c.directory) change.rest)
     (λ contents holds opened. births_then c.args.definitions was between c.in_ok-former.former gives (was.accepted + 1) c.requires.births)
+    (λ contents holds opened. numbers_same old contents was between (ap (λ d. (said_catalogue d).tables) gives.definitions_are ∙ c.requires.tables)
+    (ap (λ d. (said_catalogue d).indexes) gives.definitions_are ∙ c.requires.indexes) holds opened)
     (c.in-Ok.ensures.completes (g.met.P.Pages.keeps_tied c.args.pages.now c.write_definitions.new.pages c.in_ok-former.ensures.leaves.keeps tied))
 
 pub returns-in-Err-clause-leaves : goal.returns-in-Err-clause-leaves

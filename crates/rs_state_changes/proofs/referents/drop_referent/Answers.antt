@@ -3,7 +3,7 @@ use Rattle.std.proofs.lemmas.Result.{err_from_is_err_and}
 use Rattle.rs_file_changes.specs.Parts.{HaveAllDiedBy, HoldsNoParts}
 use Rattle.rs_file_changes.proofs.Ready.{keeps_then, ready_after}
 use Rattle.rs_state_changes.proofs.ReferentWholes.{ends_beside, ends_next}
-use Rattle.rs_state_changes.proofs.Wholes.{changes_file, completion_refused, part_refused, routes_stay, stored_by_works}
+use Rattle.rs_state_changes.proofs.Wholes.{changes_file, completion_refused, numbers_stay, part_refused, routes_stay, stored_by_works}
 use Rattle.rs_state_laws.specs.Parts.{EndsReferent}
 use Rattle.rs_state_changes.proofs.referents.drop_referent.Goals as goal
 
@@ -49,4 +49,5 @@ returns-clause-ends g c = λ tied.
     (ends_next old.map mid.map was between c.args.route c.args.name.now.bytes c.in_ok-end_referent.field-0 (c.in_ok-end_referent.ensures.ends tied))
     c.args.oldest c.garbage-before.result (g.P.Pages.store c.complete.new.pages).map c.complete.new.file c.garbage-before.ensures (ends_beside c.args.route c.args.name.now.bytes)
     (λ contents holds opened. routes_stay old.map contents was between c.in_ok-end_referent.ensures.keeps.definitions holds opened)
+    (λ contents holds opened. numbers_stay old.map contents was between c.in_ok-end_referent.ensures.keeps.definitions holds opened)
     (c.in_ok-complete.ensures.completes (g.met.P.Pages.keeps_tied c.args.pages.now c.end_referent.new.pages c.in_ok-end_referent.ensures.leaves.keeps tied))

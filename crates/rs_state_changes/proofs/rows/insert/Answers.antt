@@ -7,7 +7,7 @@ use Rattle.rs_facts.specs.Spans.{seen}
 use Rattle.rs_file_changes.proofs.Ready.{keeps_then, ready_after}
 use Rattle.rs_pages.specs.PageMap.{PageMap}
 use Rattle.rs_state_changes.proofs.TablesPlaced.{ChangesBy, made_next, same_directory}
-use Rattle.rs_state_changes.proofs.Wholes.{changes_file, completion_refused, routes_stay, stored_by_storing}
+use Rattle.rs_state_changes.proofs.Wholes.{changes_file, completion_refused, numbers_stay, routes_stay, stored_by_storing}
 use Rattle.rs_state_laws.specs.Changing.{HoldsNoFile}
 use Rattle.rs_versioned.specs.Events.{Event}
 use Rattle.rs_state_changes.proofs.rows.insert.Goals as goal
@@ -48,4 +48,5 @@ returns-clause-inserts g c = λ tied.
     changes_file old mid was between (ChangesBy place by) c.in_ok-count.ensures.keeps.accepted (made_next place by old mid was between (c.in_ok-count.ensures.inserts tied))
     c.args.oldest c.garbage-before.result new c.complete.new.file c.garbage-before.ensures (same_directory place by)
     (λ contents holds opened. routes_stay old contents was between c.in_ok-count.ensures.keeps.definitions holds opened)
+    (λ contents holds opened. numbers_stay old contents was between c.in_ok-count.ensures.keeps.definitions holds opened)
     (c.in_ok-complete.ensures.completes (g.met.P.Pages.keeps_tied c.args.pages.now c.insert_in_place.new.pages c.in_ok-count.ensures.leaves.keeps tied))
