@@ -88,6 +88,7 @@ fn put_roots_on(page: &mut Page, items: &[StoredIndex], table: u32, indexes: &[A
     requires once { (number : ℕ) → times (map (λ index. index.number) (map said_index items.now)) number ≤ 1 }
     ensures { PutsRootsOn (indexes_on (map said_index items.now) table) indexes.now page.old.bytes page.new.bytes }
 {
+    // Most tables have none, and need no walk over the items of all.
     if indexes.is_empty() {
         return;
     }

@@ -1,11 +1,10 @@
 -- What a change of a file leaves of the pages and of what is open.
 use Rattle.std.specs.Prelude.{◌≡◌, ◌+◌, ℕ, List, Result, Some, slice_get}
-use Rattle.rs_catalog_pages.specs.Said.{said_catalogue}
 use Rattle.rs_catalog_pages.specs.Storing.{StoresAfter}
 use Rattle.rs_catalog_pages.specs.declared.items.StoredCatalogue.{StoredCatalogue}
 use Rattle.rs_contents.specs.declared.opened.OpenedFile.{OpenedFile}
 use Rattle.rs_contents.specs.declared.opened.OpenedTable.{OpenedTable}
-use Rattle.rs_file_changes.specs.Parts.{HaveAllDiedBy, IsReady, KeepsCommitted}
+use Rattle.rs_file_changes.specs.Parts.{HaveAllDiedBy, IsReady}
 use Rattle.rs_pages.specs.declared.pages.Pages.{Ghosts}
 use Rattle.rs_refusal.specs.declared.refusal.Refusal.{Refusal}
 use Rattle.rs_state_laws.specs.Changing.{HoldsNoFile}
