@@ -1,3 +1,6 @@
-mod Finding
-mod Placing
+mod Entries
+mod Indexed
+mod Overlaps
+mod Picks
+mod Places
 mod Within

@@ -1,14 +1,14 @@
 -- What is read of a table's events.
-use Rattle.std.specs.Prelude.{◌≡◌, ◌+◌, ℕ, Bool, List, filter, map, nat_eq, nat_lt}
-use Rattle.std.specs.List.{AllZip}
+use Rattle.std.specs.Prelude.{◌≡◌, ◌≤◌, ◌+◌, ◌*◌, ◌==◌, ◌&&◌, ℕ, Bool, List, count_by, filter, map, nat_eq, nat_lt}
 use Rattle.rs_facts.specs.Runs.{Stretch}
 use Rattle.rs_pages.specs.PageMap.{PageMap}
 use Rattle.rs_value.specs.declared.column.ColumnType.{ColumnType}
 use Rattle.rs_value.specs.declared.column.Kind.{Kind}
 use Rattle.rs_value.specs.declared.column.Kind.TheVariants.{Line, Point}
 use Rattle.rs_cell_versions.specs.Versioned.{Standing}
-use Rattle.rs_versioned.specs.Events.{Event, SaysEvent, is_visible, kept_events, span_of}
+use Rattle.rs_versioned.specs.Events.{Event, is_visible, kept_events, span_of}
 use Rattle.rs_versioned.specs.Records.{HoldsRecords}
+use Rattle.rs_event_reads.specs.declared.window.RouteWindow.{RouteWindow}
 
 -- a span of a line has a thousandth at least, and one of a point has just one
 abbrev pub is_placed : Kind → Stretch → Bool
@@ -19,19 +19,22 @@ is_placed Point span = nat_eq span.hi (span.lo + 1)
 abbrev pub spans_within : Kind → ℕ → ℕ → ℕ → ℕ → List Event → List Stretch
 spans_within kind version route from to events = filter (is_placed kind) (map span_of (filter (is_visible version route from to) events))
 
--- whatever events lie there, these are their spans
-pub record AreSpansWithin (types : List ColumnType) (pages : PageMap) (standing : Standing) (kind : Kind) (version route from to : ℕ) (spans : List Stretch) : Type 0 where
+-- the same of the window
+abbrev pub spans_in : RouteWindow → List Event → List Stretch
+spans_in window = spans_within window.kind window.version window.route window.from window.to
+
+-- the event overlaps the window, whatever version sees it
+abbrev pub touches : RouteWindow → Event → Bool
+touches window event = event.route == window.route && (nat_lt event.lo window.to && nat_lt window.from event.hi)
+
+-- Whatever events lie there, these are their spans in the window. No more pages were read than two for each level of their tree and as
+-- many more for each event that overlaps the window, of whatever version.
+pub record ReadsSpans (types : List ColumnType) (pages : PageMap) (standing : Standing) (window : RouteWindow) (spans : List Stretch) (reads : ℕ) : Type 0 where
   pub each : (events : List Event) (used : ℕ → ℕ) (accepted : ℕ) → HoldsRecords (kept_events types) pages standing accepted events used
-      → spans ≡ spans_within kind version route from to events
+      → spans ≡ spans_in window events
+  pub bounded : (events : List Event) (used : ℕ → ℕ) (accepted : ℕ) → (records : HoldsRecords (kept_events types) pages standing accepted events used)
+      → reads ≤ records.holds.tree.height * (count_by (touches window) events + 2)
 
 -- no events lie there
 pub record HoldsNoEvents (types : List ColumnType) (pages : PageMap) (standing : Standing) : Type 0 where
   pub none : (events : List Event) (used : ℕ → ℕ) (accepted : ℕ) → HoldsRecords (kept_events types) pages standing accepted events used → ⊥
-
--- where the cells say events, these are their spans, but for those that are not placed as the kind asks
-pub record SayPlaced (types : List ColumnType) (kind : Kind) (cells : List (List ℕ)) (spans : List Stretch) : Type 0 where
-  pub are : (events : List Event) → AllZip (SaysEvent types) cells events → spans ≡ filter (is_placed kind) (map span_of events)
-
--- the cells say no events
-pub record SayNone (types : List ColumnType) (cells : List (List ℕ)) : Type 0 where
-  pub none : (events : List Event) → AllZip (SaysEvent types) cells events → ⊥

@@ -1,0 +1,101 @@
+//! The bytes that entries of an index begin with: those of a value, then a route and a place on it.
+
+ghost use Rattle.std.specs.Prelude.{◌≡◌, ◌≤◌, ◌<◌, ◌^◌, ◌++◌, ℕ, IfNone, IfOk, IfSome, List, length, min};
+ghost use Rattle.std.specs.List.{list_any};
+ghost use Rattle.rs_interval.specs.Finding.{route_from};
+ghost use Rattle.rs_value.specs.Encoding.{SaysDatum, width};
+ghost use Rattle.rs_value.specs.Row as rows;
+ghost use Rattle.rs_value.specs.Values.{IsOfType, IsValue, is_control};
+ghost use Rattle.rs_value.specs.declared.column.TheConstants.{TEXT_BYTES};
+ghost use Rattle.rs_value.specs.View.{datum_of, literal_datum};
+
+use arrayvec::ArrayString;
+use rs_value::{ColumnType, Literal, Schema, Tuple, Value, column_width, encode};
+use std::alloc::{AllocError, Global};
+
+/// The greatest number of a value, and the least with its sign turned.
+const GREATEST_NUMBER: u64 = 1_000_000_000_000;
+
+/// The literal as a value of the column; None where no value of the column is the same.
+pub(crate) fn value_of(column: ColumnType, literal: &Literal) -> Option<Value>
+    ensures value { IfSome result (λ value. datum_of value ≡ literal_datum literal.now) }
+    ensures of_type { IfSome result (λ value. IsOfType column (datum_of value)) }
+    ensures none { IfNone result ((bytes : List ℕ) → SaysDatum column bytes (literal_datum literal.now) → ⊥) }
+{
+    match (column, literal) {
+        (_, Literal::Null) => Some(Value::Null),
+        (ColumnType::Int, Literal::Int(number)) => number_of(*number),
+        (ColumnType::Text(most), Literal::Text(text)) => text_of(most, text.as_str()),
+        _ => None,
+    }
+}
+
+/// The value of a number, if it has one.
+fn number_of(number: i64) -> Option<Value>
+    ensures value { IfSome result (λ value. datum_of value ≡ rows.number number) }
+    ensures is_one { IfSome result (λ _. IsValue (rows.number number)) }
+    ensures none { IfNone result (IsValue (rows.number number) → ⊥) }
+{
+    if number.unsigned_abs() > GREATEST_NUMBER {
+        return None;
+    }
+    Some(Value::Int(number))
+}
+
+/// The value of a text of at most so many bytes, if it has one.
+fn text_of(most: u8, text: &str) -> Option<Value>
+    ensures value { IfSome result (λ value. datum_of value ≡ rows.text text.now) }
+    ensures is_one { IfSome result (λ _. IsValue (rows.text text.now) × (length text.now ≤ most)) }
+    ensures none { IfNone result (IsValue (rows.text text.now) → length text.now ≤ min most TEXT_BYTES → ⊥) }
+{
+    if text.len() > usize::from(most) || has_control(text.as_bytes()) {
+        return None;
+    }
+    match ArrayString::from(text) {
+        Ok(bytes) => Some(Value::Text(bytes)),
+        Err(_) => None,
+    }
+}
+
+/// Whether a byte among these may not be in a text.
+fn has_control(bytes: &[u8]) -> bool
+    ensures { result ≡ list_any is_control bytes.now }
+{
+    bytes.iter().any(|byte| *byte < 32 || *byte == 127)
+}
+
+/// The bytes of a value in a column of its type.
+pub(crate) fn value_bytes(
+    alloc: Global,
+    column: ColumnType,
+    value: &Value,
+) -> Result<Vec<u8>, AllocError>
+    requires of_type { IsOfType column (datum_of value.now) }
+    ensures says { IfOk result (λ bytes. SaysDatum column bytes.items (datum_of value.now)) }
+{
+    let mut schema = Schema::new();
+    schema.push(column);
+    let mut tuple = Tuple::new();
+    tuple.push(*value);
+    let mut bytes = Vec::new(alloc);
+    bytes.resize(column_width(column), 0)?;
+    encode(&schema, &tuple, &mut bytes);
+    Ok(bytes)
+}
+
+/// The bytes, then a route and a place on it.
+pub(crate) fn with_place(
+    alloc: Global,
+    bytes: &[u8],
+    route: u32,
+    place: u32,
+) -> Result<Vec<u8>, AllocError>
+    ensures key { IfOk result (λ key. key.items ≡ bytes.now ++ route_from route place) }
+    ensures fits { (route < 2 ^ 32) × (place < 2 ^ 32) }
+{
+    let mut key = Vec::new(alloc);
+    key.extend_from_slice(bytes)?;
+    key.extend_from_slice(&route.to_be_bytes())?;
+    key.extend_from_slice(&place.to_be_bytes())?;
+    Ok(key)
+}
