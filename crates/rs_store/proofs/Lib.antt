@@ -10,6 +10,7 @@ pub mod Loaded
 pub mod Numbered
 pub mod OneState
 pub mod Placed
+pub mod Positions
 pub mod Redefined
 pub mod Referred
 pub mod Results

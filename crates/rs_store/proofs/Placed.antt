@@ -59,7 +59,7 @@ pub record GoesWith {X Y : Type 0} (R : X → Y → Type 0) (x : X) (ys : List Y
   pub there : slice_get ys place ≡ Some one
   pub goes : R x one
 
-goes_with : {X Y : Type 0} (R : X → Y → Type 0) (xs : List X) (ys : List Y) (place : ℕ) (x : X) → AllZip R xs ys → slice_get xs place ≡ Some x → GoesWith R x ys place
+pub goes_with : {X Y : Type 0} (R : X → Y → Type 0) (xs : List X) (ys : List Y) (place : ℕ) (x : X) → AllZip R xs ys → slice_get xs place ≡ Some x → GoesWith R x ys place
 goes_with R [] ys place x all is = absurd (none-some x is)
 goes_with R (y ∷ xs) [] place x all is = absurd all
 goes_with R (y ∷ xs) (z ∷ zs) zero x all is = record { one = z; there = refl; goes = subst (λ (w : _). R w z) (same_Some y x is) all.0 }

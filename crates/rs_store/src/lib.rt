@@ -12,7 +12,7 @@ mod loading;
 mod marking;
 mod opening;
 mod placing;
-mod reading;
+pub mod reading;
 mod referring;
 mod rewriting;
 mod routing;
@@ -20,4 +20,5 @@ mod settling;
 pub mod store;
 mod tabling;
 
+pub use reading::IndexKey;
 pub use store::Store;
