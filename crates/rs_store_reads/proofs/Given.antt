@@ -1,15 +1,16 @@
 -- What is asked of a store and given.
-use Rattle.std.proofs.Common.{◌≡◌, ◌≤◌, ◌&&◌, ◌||◌, ◌==◌, ◌∙◌, ℕ, suc, Bool, true, false, cond, nat_le, Vec, Result, Ok, Err, Some, List, [], ◌∷◌, ap, length, map, refl, subst, sym, arith}
+use Rattle.std.proofs.Common.{◌≡◌, ◌≤◌, ◌&&◌, ◌||◌, ◌==◌, ◌∙◌, ℕ, suc, Bool, true, false, cond, nat_le, Some, List, [], ◌∷◌, ap, inl, inr, length, refl, subst, sym, arith}
 use Rattle.std.specs.FinMap as names
 use Rattle.std.specs.List.{AllByRecursion, list_any}
-use Rattle.std.specs.Prelude.{IfOk}
 use Rattle.std.proofs.lemmas.Bool.{and_parts, eqb-true, false≢true, le-leb, leb-true}
 use Rattle.std.proofs.lemmas.List.{length-map}
 use Rattle.rs_catalog.specs.Definitions.{Definitions, TableItem, no_places}
 use Rattle.rs_catalog.proofs.Names.{each_entry}
 use Rattle.rs_contents.specs.Contents.{Contents}
 use Rattle.rs_disk.specs.declared.disk.Disk as disk
-use Rattle.rs_event_reads.specs.Read.{spans_within}
+use Rattle.rs_event_reads.specs.Found.{spans_with}
+use Rattle.rs_event_reads.specs.Read.{spans_in}
+use Rattle.rs_event_reads.specs.declared.window.RouteWindow.{RouteWindow}
 use Rattle.rs_exec.specs.Given.{AreGiven, AreGivenOfValue, has_value, inside, rows_asked, table_asked}
 use Rattle.rs_exec.specs.Snapshot.{NumberedTable, Snapshot, Snapshots}
 use Rattle.rs_exec.specs.declared.source.Asked.{Asked}
@@ -18,20 +19,22 @@ use Rattle.rs_exec.specs.declared.source.SoughtValue.{SoughtValue}
 use Rattle.rs_facts.specs.Fact.{Name, keep, none}
 use Rattle.rs_facts.specs.Query.{Column}
 use Rattle.rs_facts.specs.Runs.{Stretch}
-use Rattle.rs_facts.specs.Spans.{ArePlaced, places_of, seen}
-use Rattle.rs_facts.specs.declared.fact.Span.{Span}
+use Rattle.rs_facts.specs.Spans.{ArePlaced, places_of}
 use Rattle.rs_machine.specs.Checks.{column_types}
 use Rattle.rs_pager.specs.Maps.{committed}
-use Rattle.rs_refusal.specs.declared.refusal.Refusal.{Refusal}
 use Rattle.rs_standing.specs.Seen.{events_of, routes_at}
 use Rattle.rs_store.specs.Kept.{Keeps, StoreState}
+use Rattle.rs_store.specs.Reading.{GivesValue}
+use Rattle.rs_store.specs.declared.reading.IndexKey.{IndexKey}
 use Rattle.rs_sweep.specs.Lists.{AreWide}
 use Rattle.rs_value.specs.Row.{Row}
 use Rattle.rs_value.specs.Values.{IsRowOf}
+use Rattle.rs_value.specs.View.{literal_datum}
 use Rattle.rs_value.specs.declared.column.ColumnType.{ColumnType}
 use Rattle.rs_value.specs.declared.column.Kind.{Kind}
 use Rattle.rs_versioned.specs.Meant.{AreEventsMeant}
-use Rattle.rs_store_reads.specs.Shown.{Shows, behind_of, first_of, is_shown, is_table, places_seen, same_kind, table_there}
+use Rattle.rs_store_reads.specs.Shown.{Shows, is_shown, is_table, places_seen, same_kind, table_there, window_of}
+use Rattle.rs_store_reads.proofs.OfValue.{keep_inside, kept_of_value}
 use Rattle.rs_store_reads.proofs.SameKind.{kind_same}
 use Rattle.rs_store_reads.proofs.Tables.{all_lie, events_meant}
 use Rattle.rs_store_reads.proofs.Within.{NoneLeftOut, RowsWithin, means_inside}
@@ -125,12 +128,10 @@ module _ {D : Type 0} (d : disk.Ghosts D) (oldest : ℕ) (store : StoreState D) 
     there : table_there store.catalog (table_asked asked) ≡ true
     there = (and_parts (nat_le asked.version store.file.accepted) (table_there store.catalog (table_asked asked)) upper).1
 
-    abbrev Reads : List Stretch → Type 0
-    Reads spans = (contents : Contents) → Keeps d store contents → spans ≡ spans_within asked.kind asked.version asked.route (first_of part) (behind_of part) (events_of contents asked.table)
-
-    means : (spans : List Stretch) → Reads spans → (snapshots : Snapshots) → Shows d oldest store snapshots → (k : ℕ)
-        → inside part k (places_of spans k) ≡ inside part k (rows_asked snapshots asked k)
-    means spans reads snapshots shows k =
+    -- what the version sees in the part is what the snapshot has there
+    means : (snapshots : Snapshots) → (shows : Shows d oldest store snapshots) → (k : ℕ)
+        → inside part k (places_of (spans_in (window_of asked part) (events_of shows.stands.contents asked.table)) k) ≡ inside part k (rows_asked snapshots asked k)
+    means snapshots shows k =
         let stands = shows.stands in
         let contents = stands.contents in
         let has = table_found store.catalog (table_asked asked) there in
@@ -144,35 +145,59 @@ module _ {D : Type 0} (d : disk.Ghosts D) (oldest : ℕ) (store : StoreState D) 
         let shown : rows_asked snapshots asked k ≡ places_seen contents asked.version asked.table asked.route k =
         ap (λ (s : Snapshot). s.rows (table_asked asked) asked.route k) (shows.live asked.version low high)
         ∙ ap (λ (b : Bool). (cond b (places_seen contents asked.version asked.table asked.route) no_places) k) there in
-        ap (λ (s : List Stretch). inside part k (places_of s k)) (reads contents stands.keeps)
-        ∙ means_inside left rows asked.kind asked.version asked.route events (meant.runs asked.route) lie part k
-        ∙ ap (inside part k) (sym shown)
+        means_inside left rows asked.kind asked.version asked.route events (meant.runs asked.route) lie part k ∙ ap (inside part k) (sym shown)
 
-    pub given_shown : {Z : Type 0} (from to : ℕ) → from ≡ first_of part → to ≡ behind_of part → (result : Result (Vec Span Z) Refusal)
-        → ((contents : Contents) → Keeps d store contents → IfOk result (λ spans. map seen spans.items ≡ spans_within asked.kind asked.version asked.route from to (events_of contents asked.table)))
-        → IfOk result (λ spans. ArePlaced asked.kind (map seen spans.items))
-        → ((name : Name) (item : TableItem) → names.get store.catalog.tables name ≡ Some item → item.number ≡ asked.table
-        → IfOk result (λ spans. AllByRecursion (λ (span : Stretch). IsRowOf (column_types item.columns) span.row) (map seen spans.items)))
-        → IfOk result (λ spans. AreGiven (Shows d oldest store) asked part (map seen spans.items))
-    given_shown from to first behind (Err why) reads placed typed = tt
-    given_shown from to first behind (Ok spans) reads placed typed =
+    -- rows of the table's columns are as wide as these
+    wide_rows : (spans : List Stretch) → ((name : Name) (item : TableItem) → names.get store.catalog.tables name ≡ Some item → item.number ≡ asked.table
+        → AllByRecursion (λ (span : Stretch). IsRowOf (column_types item.columns) span.row) spans) → AreWide asked.width spans
+    wide_rows spans typed =
         let has = table_found store.catalog (table_asked asked) there in
-        record {
-          means = means (map seen spans.items) (λ contents keeps.
-              reads contents keeps
-              ∙ ap (λ (n : ℕ). spans_within asked.kind asked.version asked.route n to (events_of contents asked.table)) first
-              ∙ ap (λ (n : ℕ). spans_within asked.kind asked.version asked.route (first_of part) n (events_of contents asked.table)) behind);
-          placed = placed;
-          wide = rows_wide (column_types has.item.columns) asked.width (length-map has.item.columns (λ (column : Column). column.1) ∙ has.width) (map seen spans.items)
-              (typed has.name has.item has.there has.number);
-        }
+        rows_wide (column_types has.item.columns) asked.width (length-map has.item.columns (λ (column : Column). column.1) ∙ has.width) spans (typed has.name has.item has.there has.number)
 
--- those that have a value are among all
-pub given_of_value : {Z : Type 0} (stands : Snapshots → Type 0) (asked : Asked) (part : Part) (sought : SoughtValue) (result : Result (Vec Span Z) Refusal)
-    → IfOk result (λ spans. AreGiven stands asked part (map seen spans.items)) → IfOk result (λ spans. AreGivenOfValue stands asked part sought (map seen spans.items))
-given_of_value stands asked part sought (Ok spans) given = record {
+    pub given_shown : (window : RouteWindow) → window ≡ window_of asked part → (spans : List Stretch)
+        → ((contents : Contents) → Keeps d store contents → spans ≡ spans_in window (events_of contents asked.table)) → ArePlaced window.kind spans
+        → ((name : Name) (item : TableItem) → names.get store.catalog.tables name ≡ Some item → item.number ≡ asked.table
+        → AllByRecursion (λ (span : Stretch). IsRowOf (column_types item.columns) span.row) spans)
+        → AreGiven (Shows d oldest store) asked part spans
+    given_shown window is spans reads placed typed = record {
+      means = λ snapshots shows k.
+          ap (λ (s : List Stretch). inside part k (places_of s k))
+          (reads shows.stands.contents shows.stands.keeps ∙ ap (λ (w : RouteWindow). spans_in w (events_of shows.stands.contents asked.table)) is)
+          ∙ means snapshots shows k;
+      placed = subst (λ (w : RouteWindow). ArePlaced w.kind spans) is placed;
+      wide = wide_rows spans typed;
+    }
+
+    -- the same of those that have a value
+    pub value_shown : (window : RouteWindow) → window ≡ window_of asked part → (key : IndexKey) (sought : SoughtValue) → key.table ≡ asked.table → key.column ≡ sought.column → (spans : List Stretch)
+        → ((contents : Contents) → Keeps d store contents → GivesValue store.file key (literal_datum sought.value.now) window (events_of contents key.table) spans) → ArePlaced window.kind spans
+        → ((name : Name) (item : TableItem) → names.get store.catalog.tables name ≡ Some item → item.number ≡ key.table
+        → AllByRecursion (λ (span : Stretch). IsRowOf (column_types item.columns) span.row) spans)
+        → AreGivenOfValue (Shows d oldest store) asked part sought spans
+    value_shown window is key sought of_table of_column spans gives placed typed = record {
+      means = λ snapshots shows k.
+          let contents = shows.stands.contents in
+          let events = events_of contents asked.table in
+          let datum = literal_datum sought.value.now in
+          let all = ap (keep (has_value sought)) (ap (λ (w : RouteWindow). inside part k (places_of (spans_in w events) k)) is ∙ means snapshots shows k) in
+          elim (gives contents shows.stands.keeps) [
+            | inl those ↦
+                ap (λ (s : List Stretch). keep (has_value sought) (inside part k (places_of s k)))
+                (those ∙ ap (λ (n : ℕ). spans_with key.column datum window (events_of contents n)) of_table ∙ ap (λ (n : ℕ). spans_with n datum window events) of_column)
+                ∙ keep_inside (has_value sought) part k (places_of (spans_with sought.column datum window events) k) (places_of (spans_in window events) k) (kept_of_value sought window events k)
+                ∙ all
+            | inr every ↦
+                ap (λ (s : List Stretch). keep (has_value sought) (inside part k (places_of s k))) (every.1 ∙ ap (λ (n : ℕ). spans_in window (events_of contents n)) of_table)
+                ∙ all
+          ];
+      placed = subst (λ (w : RouteWindow). ArePlaced w.kind spans) is placed;
+      wide = wide_rows spans (λ name item at same. typed name item at (same ∙ sym of_table));
+    }
+
+-- where nothing is given, nothing has the value
+pub none_of_value : (stands : Snapshots → Type 0) (asked : Asked) (part : Part) (sought : SoughtValue) (spans : List Stretch) → AreGiven stands asked part spans → AreGivenOfValue stands asked part sought spans
+none_of_value stands asked part sought spans given = record {
   means = λ snapshots is k. ap (keep (has_value sought)) (given.means snapshots is k);
   placed = given.placed;
   wide = given.wide;
 }
-given_of_value stands asked part sought (Err why) given = tt

@@ -3,6 +3,7 @@ pub mod Listed
 pub mod States
 pub mod Tables
 pub mod Within
+pub mod OfValue
 pub mod Given
 pub mod Passing
 pub mod Counted

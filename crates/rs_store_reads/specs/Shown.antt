@@ -5,6 +5,7 @@ use Rattle.std.specs.List.{list_any}
 use Rattle.rs_catalog.specs.Definitions.{Definitions, TableItem, no_places}
 use Rattle.rs_contents.specs.Contents.{Contents}
 use Rattle.rs_disk.specs.declared.disk.Disk as disk
+use Rattle.rs_event_reads.specs.declared.window.RouteWindow.{RouteWindow}
 use Rattle.rs_exec.specs.Given.{table_asked}
 use Rattle.rs_exec.specs.Snapshot.{NumberedTable, Snapshot, Snapshots}
 use Rattle.rs_exec.specs.declared.source.Asked.{Asked}
@@ -86,3 +87,7 @@ first_of (parts.Between from to) = from
 abbrev pub behind_of : Part → ℕ
 behind_of parts.Whole = 2 ^ 32 - 1
 behind_of (parts.Between from to) = to
+
+-- what is read of a store where this part of a route is asked for
+abbrev pub window_of : Asked → Part → RouteWindow
+window_of asked part = record { kind = asked.kind; version = asked.version; route = asked.route; from = first_of part; to = behind_of part }

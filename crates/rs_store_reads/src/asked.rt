@@ -8,15 +8,16 @@ ghost use Rattle.rs_exec.specs.Given.{AreGiven, AreGivenOfValue, table_asked};
 ghost use Rattle.rs_exec.specs.Snapshot.{Snapshots};
 ghost use Rattle.rs_facts.specs.Spans.{seen};
 ghost use Rattle.rs_store_reads.specs.Reads.{Passes, WantsReading};
-ghost use Rattle.rs_store_reads.specs.Shown.{Shows, behind_of, first_of, is_shown, is_table, same_kind, table_there};
+ghost use Rattle.rs_store_reads.specs.Shown.{Shows, behind_of, first_of, is_shown, is_table, same_kind, table_there, window_of};
 
 use rs_catalog::{Catalog, TableEntry};
 use rs_disk::Disk;
+use rs_event_reads::RouteWindow;
 use rs_event_reads::laws::spans_within_hold_what_the_table_holds;
 use rs_exec::{Asked, Part, SoughtValue};
 use rs_facts::Span;
 use rs_refusal::Refusal;
-use rs_store::Store;
+use rs_store::{IndexKey, Store};
 use rs_value::Kind;
 use std::alloc::Global;
 
@@ -40,33 +41,36 @@ pub fn spans_asked<D: Disk>(
     if !is_shown(store, oldest, asked) {
         return Ok(Vec::new(alloc));
     }
-    store.spans(
-        alloc,
-        asked.table,
-        asked.kind,
-        asked.version,
-        asked.route,
-        first_of(part),
-        behind_of(part),
-    )
+    let (spans, _reads) = store.spans(alloc, asked.table, window_of(asked, part))?;
+    Ok(spans)
 }
 
-/// The same of the rows that have a value in a column. Rows without it are among them: an index is a hint, and for now all spans
-/// within the part are given.
+/// The same of the rows that have a value in a column, found by an index. Where the file has no index of this number on that column of
+/// the table, rows without the value are among them. A value that the column can't have finds nothing.
 pub fn spans_of_value_asked<D: Disk>(
     alloc: Global,
     store: &mut Store<D>,
     oldest: u64,
     asked: &Asked,
     part: Part,
-    _sought: SoughtValue<'_>,
+    sought: SoughtValue<'_>,
 ) -> Result<Vec<Span>, Refusal>
-    ensures gives { IfOk result (λ spans. AreGivenOfValue (Shows D.Disk oldest store.old) asked.now part _sought.entry (map seen spans.items)) }
+    ensures gives { IfOk result (λ spans. AreGivenOfValue (Shows D.Disk oldest store.old) asked.now part sought.entry (map seen spans.items)) }
     ensures stays { (snapshots : Snapshots) → Shows D.Disk oldest store.old snapshots → Shows D.Disk oldest store.new snapshots }
     ensures passes { Passes D.Disk store.old store.new }
     ensures wants { IfErr result (λ why. WantsReading D.Disk why store.old store.new) }
 {
-    spans_asked(alloc, store, oldest, asked, part)
+    spans_within_hold_what_the_table_holds();
+    if !is_shown(store, oldest, asked) {
+        return Ok(Vec::new(alloc));
+    }
+    let key = IndexKey {
+        table: asked.table,
+        number: sought.index,
+        column: sought.column,
+    };
+    let (spans, _reads) = store.spans_with(alloc, key, sought.value, window_of(asked, part))?;
+    Ok(spans)
 }
 
 /// Whether the version is live and the table is there.
@@ -107,6 +111,19 @@ fn same_kind(one: Kind, other: Kind) -> bool
     match (one, other) {
         (Kind::Line, Kind::Line) | (Kind::Point, Kind::Point) => true,
         (Kind::Line, Kind::Point) | (Kind::Point, Kind::Line) => false,
+    }
+}
+
+/// What is read of a store where this part of a route is asked for.
+fn window_of(asked: &Asked, part: Part) -> RouteWindow
+    ensures { result ≡ window_of asked.now part }
+{
+    RouteWindow {
+        kind: asked.kind,
+        version: asked.version,
+        route: asked.route,
+        from: first_of(part),
+        to: behind_of(part),
     }
 }
 

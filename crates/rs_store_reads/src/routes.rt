@@ -9,6 +9,7 @@ ghost use Rattle.rs_store_reads.specs.Shown.{Shows};
 
 use rs_catalog::Catalog;
 use rs_disk::Disk;
+use rs_event_reads::RouteWindow;
 use rs_event_reads::laws::spans_within_hold_what_the_table_holds;
 use rs_refusal::Refusal;
 use rs_store::Store;
@@ -59,15 +60,14 @@ fn has_spans_of<D: Disk>(
 {
     spans_within_hold_what_the_table_holds();
     let accepted = store.accepted();
-    let spans = store.spans(
-        alloc,
-        table.number,
-        table.kind,
-        accepted,
+    let window = RouteWindow {
+        kind: table.kind,
+        version: accepted,
         route,
-        0,
-        u32::MAX,
-    )?;
+        from: 0,
+        to: u32::MAX,
+    };
+    let (spans, _reads) = store.spans(alloc, table.number, window)?;
     Ok(!spans.is_empty())
 }
 

@@ -46,8 +46,12 @@ impl<D: Disk> Source for Engine<D> {
         None
     }
 
-    // no index is looked at
-    fn indexed_column(&self, _index: u32) -> Option<u8> {
+    fn indexed_column(&self, index: u32) -> Option<u8> {
+        for (_, entry) in self.store.catalog().indexes() {
+            if entry.number() == index {
+                return Some(entry.column());
+            }
+        }
         None
     }
 
