@@ -8,6 +8,7 @@ mod ListedForth
 mod ListedMaps
 mod MeantReferents
 mod MeantViews
+mod OneRoute
 mod PositionsThere
 mod PutReferents
 mod QueryTrees

@@ -110,7 +110,7 @@ abbrev pub HaveThose : List RouteSpan → ℕ → List ReferentRecord → (ℕ �
 HaveThose routes version referents now = (number : ℕ) → now number ≡ held (has_number number routes) (referents_at version number referents)
 
 -- whether they were there before or none was, they are there now
-either_way : (b : Bool) (entries : List (Name × ℕ)) (was is : Names ℕ) → was ≡ held b entries
+pub either_way : (b : Bool) (entries : List (Name × ℕ)) (was is : Names ℕ) → was ≡ held b entries
     → ((q : Name) → names.get is q ≡ option_or (names.find name_cmp q entries) (names.get was q)) → is ≡ names.from_entries entries
 either_way b entries was is before after = names.same_map name_cmp-total name_cmp-antisymmetric is (names.from_entries entries) (λ q.
     after q ∙ ap (λ (m : Names ℕ). option_or (names.find name_cmp q entries) (names.get m q)) before ∙ by_turn b q ∙ sym (names.get-from_entries name_cmp-total entries q)) where

@@ -50,7 +50,7 @@ pub fn referents_of<P: Pages>(
 
 // Brings the referents that the version sees on the route of this number. It is refused with 90, with 91, and with 94 only where
 // the table does not lie there, one of them is no referent, or the number is the greatest.
-fn bring_route<P: Pages>(
+pub(crate) fn bring_route<P: Pages>(
     alloc: Global,
     pages: &mut P,
     table: &ReferentTable,
