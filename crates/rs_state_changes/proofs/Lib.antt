@@ -8,6 +8,7 @@ pub mod ReferentWholes
 pub mod Replaced
 pub mod Tabled
 pub mod Wholes
+mod ClearedOnly
 mod Completion
 mod EndedReferents
 mod Redefined

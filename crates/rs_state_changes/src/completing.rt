@@ -15,7 +15,7 @@ use rs_refusal::Refusal;
 use std::alloc::Global;
 
 /// How many records that no live version sees are cleared at the least, where there are so many.
-const LEAST_CLEARED: u64 = 64;
+pub(crate) const LEAST_CLEARED: u64 = 64;
 
 /// Clears records that no version from `oldest` on sees, and writes the slots of the directory with the next version as the one
 /// that was accepted last. `before` is how many records were dead before the change: as many more may go as the change has ended. The tables take turns

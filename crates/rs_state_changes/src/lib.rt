@@ -5,6 +5,7 @@
 //! is open to be taken back.
 #![tactic(auto)]
 
+pub mod clearing;
 mod completing;
 pub mod counting;
 pub mod definitions;
@@ -12,6 +13,7 @@ pub mod referents;
 pub mod rows;
 pub mod tables;
 
+pub use clearing::clear_only;
 pub use counting::garbage;
 pub use definitions::{drop_route, redefine};
 pub use referents::{define_referent, drop_referent, move_referent};

@@ -90,7 +90,7 @@ one_in_memory one oldest map file definitions held state stands =
 -- ---- records are cleared
 
 -- versions from the oldest on see what they saw
-cleared_keeps : EventsAreCleared → ReferentsAreCleared → (oldest : ℕ) (old now : Contents) → ClearsParts oldest old now → KeepsRecords oldest old now
+pub cleared_keeps : EventsAreCleared → ReferentsAreCleared → (oldest : ℕ) (old now : Contents) → ClearsParts oldest old now → KeepsRecords oldest old now
 cleared_keeps events referents oldest old now clears =
     let accepted = old.directory.accepted in
     record {
@@ -115,7 +115,7 @@ module _ (rows : RowsMakeStates) (named : SeenAreNamed) (facts : SeenHaveRows) (
     (distinct : (route : ℕ) → AreDistinct (map (λ one. one.0) (referents_at version route old.referents.referents)))
     (same : now.definitions ≡ old.definitions) where
   -- a version that sees the same, with the same definitions, has the same state
-  state_stays : (state : State) → IsStateAt version old state → IsStateAt version now state
+  pub state_stays : (state : State) → IsStateAt version old state → IsStateAt version now state
   state_stays state is =
       let rest : Rest = record { changes = version; cursors = no_cursors } in
       record {

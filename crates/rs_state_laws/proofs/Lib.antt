@@ -4,6 +4,7 @@ pub mod ReferentLists
 pub mod ReferentSteps
 mod Completed
 mod DroppedRoutes
+mod Fewer
 mod MoreRoutes
 mod NewDefinitions
 mod NewRoutes

@@ -1,3 +1,4 @@
 pub mod Changing
+pub mod Clearing
 pub mod Parts
 pub mod Standing
