@@ -25,3 +25,4 @@ pub mod TableLess
 pub mod TableMore
 pub mod TableReads
 pub mod Tabled
+pub mod Visible

@@ -105,7 +105,7 @@ module _ {X Y : Type 0} (name_of : X → Name) (value : X → Y) where
   below_values name [] = refl
   below_values name (x ∷ xs) = ap (λ b. is_lt (name_cmp name (name_of x)) && b) (below_values name xs)
 
-  sorted_values : (xs : List X) → is_sorted name_cmp (map (λ x. (name_of x, value x)) xs) ≡ is_sorted name_cmp (named_by name_of xs)
+  pub sorted_values : (xs : List X) → is_sorted name_cmp (map (λ x. (name_of x, value x)) xs) ≡ is_sorted name_cmp (named_by name_of xs)
   sorted_values [] = refl
   sorted_values (x ∷ xs) =
       ap (λ b. b && is_sorted name_cmp (map (λ x. (name_of x, value x)) xs)) (below_values (name_of x) xs)

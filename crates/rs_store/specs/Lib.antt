@@ -10,3 +10,4 @@ pub mod Rewriting
 pub mod Routing
 pub mod Settling
 pub mod Tabling
+pub mod Versions

@@ -19,6 +19,8 @@ mod routing;
 mod settling;
 pub mod store;
 mod tabling;
+pub mod versions;
 
 pub use reading::IndexKey;
 pub use store::Store;
+pub use versions::NamedRoute;
