@@ -7,12 +7,14 @@ pub mod Indexed
 pub mod Keeping
 pub mod Listed
 pub mod Loaded
+pub mod MayGo
 pub mod Numbered
 pub mod OneState
 pub mod Placed
 pub mod Positions
 pub mod Redefined
 pub mod Referred
+pub mod Released
 pub mod Results
 pub mod Rewritten
 pub mod RouteFacts

@@ -111,7 +111,7 @@ holds_same map one other same holds parts_lie = record {
   parts = subst (λ (directory : DirectoryItems). HoldsParts map directory.accepted other) same.directory parts_lie;
 }
 
-memory_same : (now : Definitions) (held : Numbered HeldReferents) (one other : Contents) → SameContents one other → AreInMemory now held one → AreInMemory now held other
+pub memory_same : (now : Definitions) (held : Numbered HeldReferents) (one other : Contents) → SameContents one other → AreInMemory now held one → AreInMemory now held other
 memory_same now held one other same memory =
     let level = same_accepted one other same in
     record {
@@ -122,7 +122,7 @@ memory_same now held one other same memory =
           ∙ ap (λ (n : ℕ). names.from_entries (referents_at n route other.referents.referents)) level;
     }
 
-clears_table : (oldest : ℕ) (was is other : TableContents) → ClearsTable oldest was is → SameTable is other → ClearsTable oldest was other
+pub clears_table : (oldest : ℕ) (was is other : TableContents) → ClearsTable oldest was is → SameTable is other → ClearsTable oldest was other
 clears_table oldest was is other clears same = record {
   types = sym same.types ∙ clears.types;
   cells = clears.cells;
@@ -137,7 +137,7 @@ events_same (x ∷ xs) (y ∷ ys) all =
     let weigh : TableContents → ℕ = λ t. length t.events in
     omega (arith, sum_by-cons weigh x xs, sum_by-cons weigh y ys, ap length all.0.events, events_same xs ys all.1)
 
-records_same : (one other : Contents) → SameContents one other → records_in one ≡ records_in other
+pub records_same : (one other : Contents) → SameContents one other → records_in one ≡ records_in other
 records_same one other same = omega (arith, events_same one.tables other.tables same.tables, ap length same.referents)
 
 clears_same : (oldest : ℕ) (old between one other : Contents) → SameContents one other → ClearsEnough oldest old between one → ClearsEnough oldest old between other
@@ -188,7 +188,7 @@ module _ (events_stay : EventsStay) (referents_stay : ReferentsStay) (by_records
     tables_live oldest accepted is os same.1,
   )
 
-  live_same : (oldest : ℕ) (old one other : Contents) → SameContents one other → KeepsLive oldest old one → old.directory.accepted ≤ one.directory.accepted → KeepsLive oldest old other
+  pub live_same : (oldest : ℕ) (old one other : Contents) → SameContents one other → KeepsLive oldest old one → old.directory.accepted ≤ one.directory.accepted → KeepsLive oldest old other
   live_same oldest old one other same live later =
       let level = one.directory.accepted in
       joined oldest old one other live (by_records oldest one other (record {
@@ -255,7 +255,7 @@ module _ {D : Type 0} (d : disk.Ghosts D) where
         let at = begun.keeps.contents contents kept in
         subst (λ (m : PageMap). HoldsAll m contents) (sym (same_map (working d first) (committed d first) at.same)) at.holds
 
-    flag_stays : (contents : Contents) → Keeps d old contents → last.disk ≡ between.disk → is_marked ≡ true → flag_of d last ≡ 1
+    pub flag_stays : (contents : Contents) → Keeps d old contents → last.disk ≡ between.disk → is_marked ≡ true → flag_of d last ≡ 1
     flag_stays contents kept same is =
         let at = begun.keeps.contents contents kept in
         ap (λ (disk : D). (d.seen disk).byte FLAG_OFFSET) same ∙ ap (λ (content : Content). content.byte FLAG_OFFSET) (below.unwritten at.tied.honest) ∙ at.marked is

@@ -6,6 +6,7 @@ pub mod Loading
 pub mod Making
 pub mod Placing
 pub mod Reading
+pub mod Releasing
 pub mod Rewriting
 pub mod Routing
 pub mod Settling

@@ -3,9 +3,11 @@
 ghost use Rattle.std.specs.Prelude.{◌≡◌, ℕ};
 ghost use Rattle.rs_catalog.specs.Definitions.{state_from};
 ghost use Rattle.rs_catalog.specs.Referents.{referents_on};
+ghost use Rattle.rs_contents.specs.Contents.{Contents};
+ghost use Rattle.rs_file_changes.specs.Clearing.{clearable};
 ghost use Rattle.rs_machine.specs.State.{State, no_cursors};
 ghost use Rattle.rs_standing.specs.Seen.{spans_seen};
-ghost use Rattle.rs_store.specs.Kept.{StandsIn, StoreState};
+ghost use Rattle.rs_store.specs.Kept.{Keeps, StandsIn, StoreState, garbage_of};
 
 use rs_contents::laws::file_holds_one_thing;
 use rs_disk::Disk;
@@ -25,3 +27,8 @@ pub fn store_stands_in_one_state<D: Disk>()
     contents_have_one_state();
     meant_contents_stay_meant();
 }
+
+/// Where no version before the one that was accepted last is live, just the dead records may be cleared.
+pub fn dead_records_may_be_cleared<D: Disk>()
+    ensures { (store : StoreState D) (contents : Contents) → Keeps D.Disk store contents → clearable store.file.accepted contents ≡ garbage_of store.file }
+{}

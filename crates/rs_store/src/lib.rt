@@ -14,6 +14,7 @@ mod opening;
 mod placing;
 pub mod reading;
 mod referring;
+mod releasing;
 mod rewriting;
 mod routing;
 mod settling;
