@@ -45,6 +45,7 @@ FOLDER = os.path.join(HERE, "conversations")
 PROGRAM = os.path.join(os.path.dirname(HERE), "crates", "roadseg", "out", "roadseg")
 SHARED_MEMORY = "/dev/shm"
 FAULTS_SHOWN = 20
+FORKING = multiprocessing.get_context("fork")  # what is to be done is not sent to the processes: they begin with it
 RUNS_OF_A_TASK = 25
 OPEN_FLAG = 28  # the place of its byte
 SHORT = 1_000  # bytes of a short read or write
@@ -385,7 +386,7 @@ def prepare(scripts, jobs):
     counts, creation.data = creation.counted(Work.program)
     Work.turns = [Turn(creation, counts)]
     faults = []
-    with multiprocessing.Pool(jobs) as pool:
+    with FORKING.Pool(jobs) as pool:
         for turns, found in pool.imap(turns_of, scripts):
             Work.turns += turns
             faults += found
@@ -430,7 +431,7 @@ def refuse_all(words):
     mosts = [most_of(turn, words) for turn in Work.turns]
     tasks = [tasks_of(place, turn, most) for place, (turn, most) in enumerate(zip(Work.turns, mosts))]
     every, faults = Counter(), []
-    with multiprocessing.Pool(words.jobs) as pool:
+    with FORKING.Pool(words.jobs) as pool:
         results = pool.imap(judged, [task for some in tasks for task in some])
         for turn, most, some in zip(Work.turns, mosts, tasks):
             told = Counter()
