@@ -194,7 +194,7 @@ class Judge:
         """Judges the run from its start to its end."""
         for place, line in enumerate(self.held.lines):
             reply = self.run.ask(line.sent)
-            if place == 0 and line.is_whole() and not reply:
+            if place == 0 and not reply:
                 self.judge_start()
                 return self.kind, self.how
             if line.is_whole():
@@ -477,6 +477,8 @@ def main():
     with tempfile.TemporaryDirectory(prefix="roadseg-", dir=folder) as folder:
         Work.program = Program(os.path.abspath(words.program), build(folder), folder)
         scripts = [script_at(os.path.join(FOLDER, name + ".txt")) for name in names_of(words)]
+        # where the first line is cut, no reply tells a start from an end
+        scripts = [script for script in scripts if script.lines[0].is_whole()]
         faults = prepare(scripts, words.jobs)
         told, found = refuse_all(words)
         faults += found
