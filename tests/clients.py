@@ -287,7 +287,8 @@ def a_closed_client_sends_nothing(program):
 
 
 CHILD = """
-import sys, time
+import signal, sys, time
+signal.signal(signal.SIGINT, signal.default_int_handler)  # also where this test was started in the background
 sys.path.insert(0, sys.argv[1])
 import roadseg
 with roadseg.run(sys.argv[2], sys.argv[3]) as road:
