@@ -40,6 +40,7 @@ CURSORS = os.path.join(HERE, "conversations", "a-cursor-keeps-its-opening.txt")
 KEPT = os.path.join(HERE, "kept")  # files that an earlier build closed, each beside a conversation over it
 LONGEST = 60  # seconds that anything may take
 STALL = 1  # seconds
+NEAR = 32  # bytes
 PIECE_PAUSE = 0.001  # seconds between pieces of a line
 OPEN_FLAG = 28  # the place of its byte
 FULL = "/dev/full"  # each write to it fails
@@ -152,7 +153,7 @@ def a_closed_file_is_as_the_format_says(program):
 
 
 def a_file_that_changes_in_use_is_judged_anew(program):
-    """Each byte of a file is another one when its page is read again: REOPEN says what the slow reader says of these bytes.
+    """A byte of a file is another one when its page is read again: REOPEN says what the slow reader says of these bytes.
 
     Page 0 alone is not read again: what it says is kept from the opening on.
     """
@@ -162,7 +163,7 @@ def a_file_that_changes_in_use_is_judged_anew(program):
     with started(program, "run", "--file", file) as process:
         rows = answer_to(process, SELECTED)
         expect("the rows before", rows, b"0 ROW A 0.000 2.500 'AC'\n0 OK 1\n")
-        for place in range(PAGE_BYTES, len(data)):
+        for place in places_near_bytes(data):
             byte = bytes([data[place] ^ 1 << place % 8])
             found = read(data[:place] + byte + data[place + 1 :])
             put(file, byte, place)
@@ -181,6 +182,11 @@ def a_file_that_changes_in_use_is_judged_anew(program):
         expect("the end", ended(process), Ended(0, b"", b""))
     expect("the file after that", bytes_at(file), data)
     expect("files of both sorts", min(judged.values()) > 100 and len(judged) == 2, True)
+
+
+def places_near_bytes(data):
+    """The places after page 0 that are near some byte that is not 0, and each sixteenth of the others."""
+    return [place for place in range(PAGE_BYTES, len(data)) if place % 16 == 0 or any(data[place - NEAR : place + NEAR])]
 
 
 def answer_to(process, line):
