@@ -77,7 +77,7 @@ def commands_for(state):
     for table in said.tables:
         yield from commands_of_table(said, table)
     for table, spans in groupby(state.spans, itemgetter(0)):
-        yield from commands_of_spans(table, list(spans))
+        yield from dict.fromkeys(commands_of_spans(said, table, list(spans)))
     for table, other in pairwise(said.tables):
         yield from commands_of_two(table.name, other.name)
     yield from commands_of_indexes(state)
@@ -151,13 +151,14 @@ def rows_that_do_not_fit(table, insert):
         yield b"%b %b VALUES %b" % (insert, ENDS[table.is_line], listed(values))
 
 
-def commands_of_spans(table, spans):
-    """Windows of a table: on the routes of some spans, and at both of their ends."""
-    for _, route, start, finish, _ in some_of(spans):
-        yield b"SELECT WINDOW(%b, %b)" % (table, route)
+def commands_of_spans(said, table, spans):
+    """Windows of a table: on the routes of some spans, and around both of their ends."""
+    routes = {route.name: route for route in said.routes}
+    for _, name, start, finish, _ in some_of(spans):
+        yield b"SELECT WINDOW(%b, %b)" % (table, name)
         for place in (start, finish):
-            first, last = measure(max(place - 1, 0)), measure(place + 1)
-            yield b"SELECT WINDOW(%b, %b FROM %b TO %b)" % (table, route, first, last)
+            first, last = max(place - 1, routes[name].start), min(place + 1, routes[name].finish)
+            yield b"SELECT WINDOW(%b, %b FROM %b TO %b)" % (table, name, measure(first), measure(last))
 
 
 def some_of(items):
