@@ -43,6 +43,8 @@ SESSIONS = range(64)
 BATCHES = range(1, 1001)
 METHODS = ("ABSOLUTE", "RELATIVE", "INTERPOLATIVE")
 
+CLOSED = "no reply: the other side has closed"
+
 NO_SUCH_CURSOR = 60
 CURSOR_NAME_TAKEN = 61
 WANTS = (90, 91, 92)  # of memory, of the disk, of room in the file
@@ -462,8 +464,10 @@ class Client:
         try:
             self._wire.send(line + b"\n")
             texts, ending = self._reply(session)
+        except (BrokenPipeError, ConnectionResetError) as fault:
+            raise self._failed(CLOSED) from fault
         except OSError as fault:
-            raise self._failed("no reply: %s" % (str(fault) or type(fault).__name__)) from fault
+            raise self._failed("no reply: %s" % fault) from fault
         except BaseException as fault:
             status, said = self._ended()
             if status:
@@ -487,7 +491,7 @@ class Client:
     def _reply_line(self):
         line = self._wire.line()
         if not line.endswith(b"\n") and len(line) < LONGEST_REPLY_LINE:
-            raise self._failed("the reply was cut off" if line else "no reply: the other side has closed")
+            raise self._failed("the reply was cut off" if line else CLOSED)
         try:
             found = REPLY.fullmatch(line.decode())
         except UnicodeDecodeError:
