@@ -6,8 +6,8 @@
 A growth asks the C library for memory; a device call reads, writes, syncs or shortens the file. The program runs with a
 library loaded before it (refusing.c) that refuses one of them, in each run another one: the first, the second, and so on up
 to as many as there are in a run in which none is refused. PATH is `crates/roadseg/out/roadseg` by default. Conversations are
-held line by line in three ways: in memory; over a file that was just created; and over the file that the conversation left,
-where its queries are asked again. And files are created.
+held in three ways: in memory; over a file that was just created; and over the file that the conversation left, where its
+queries are asked again. And files are created.
 
 - A line is answered as wanted. Or one line of a run is refused, the one in whose step something was refused: by 90 for a
   growth, or by 91 where it was the disk in memory that asked for it; by 91 for a device call, which has to be told. Then
@@ -34,6 +34,7 @@ import os
 import re
 import sys
 import tempfile
+from bisect import bisect_left
 from collections import Counter
 from typing import NamedTuple
 
@@ -86,7 +87,7 @@ NO_COMMAND = re.compile(rb"0 ERR [123] ")
 
 
 class Line(NamedTuple):
-    """A line that is sent, and its reply. The last one may be cut, and has none."""
+    """A line that is sent, and its reply."""
 
     sent: bytes
     wanted: bytes
@@ -94,11 +95,8 @@ class Line(NamedTuple):
     def __str__(self):
         return "%.200r" % self.sent
 
-    def is_whole(self):
-        return self.sent.endswith(b"\n")
-
     def is_query(self):
-        return self.is_whole() and QUERY.match(self.sent) is not None
+        return QUERY.match(self.sent) is not None
 
     def changes_nothing(self):
         return self.is_query() or self.wanted.split(b" ")[1:2] == [b"ERR"]
@@ -109,15 +107,18 @@ class Line(NamedTuple):
             return None
         return self.wanted.split(b" ")[0] + fault.removeprefix(b"roadseg:")
 
-    def expect_reply(self, run):
-        expect(self, run.ask(self.sent), self.wanted)
+
+def expect_replies(run, lines):
+    """Expects that lines are answered as wanted."""
+    for line, reply in zip(lines, run.ask_all([line.sent for line in lines])):
+        expect(line, reply, line.wanted)
 
 
 class Script:
-    """The lines of a conversation, and each query among them once."""
+    """The lines of a conversation, each query among them once, and what is sent last without an LF."""
 
-    def __init__(self, name, lines):
-        self.name, self.lines = name, lines
+    def __init__(self, name, lines, tail):
+        self.name, self.lines, self.tail = name, lines, tail
         self.queries = list(dict.fromkeys(line.sent for line in lines if line.is_query()))
         self.known = {}
 
@@ -125,9 +126,8 @@ class Script:
         """The queries, each with its reply in a run in memory that was sent the lines before this place alone."""
         if place not in self.known:
             with program.run() as run:
-                for line in filter(Line.is_whole, self.lines[:place]):
-                    line.expect_reply(run)
-                self.known[place] = [Line(query, run.ask(query)) for query in self.queries]
+                expect_replies(run, self.lines[:place])
+                self.known[place] = [Line(*pair) for pair in zip(self.queries, run.ask_all(self.queries))]
                 expect("the end", run.end(), WELL)
         return self.known[place]
 
@@ -135,7 +135,7 @@ class Script:
 def is_answered_over(program, lines, faults):
     """Whether a further run over the file answers these lines; else it has to refuse the file with one of these faults."""
     with program.run(program.file()) as run:
-        replies = [run.ask(line.sent) for line in lines]
+        replies = run.ask_all([line.sent for line in lines])
         ended = run.end()
     if ended in [Ended(1, b"", fault) for fault in faults]:
         expect("replies from a file that is refused", b"".join(replies), b"")
@@ -147,17 +147,44 @@ def is_answered_over(program, lines, faults):
 
 
 class Held:
-    """A conversation that is held in one way, over a file with these bytes or, with none, in memory."""
+    """A conversation that is held in one way: over a file with these bytes or, with none, in memory."""
 
     def __init__(self, script, way, lines, data=None):
         self.script, self.way, self.lines, self.data = script, way, lines, data
         self.name = "%s, %s" % (script.name, WAYS[way])
+        self.tail = b"" if way == "again" else script.tail
+        self.counts = None
+        self.growths_after, self.calls_after = [], []  # each line, in a run in which nothing is refused
 
     def is_over_file(self):
         return self.data is not None
 
     def start(self, program, refusal=NOTHING):
         return program.run(program.file_of(self.data) if self.is_over_file() else None, refusal)
+
+    def count(self, program):
+        """Counts growths and device calls line by line, where nothing is refused, and gives the bytes of the file then."""
+        with self.start(program) as run:
+            for line in self.lines:
+                expect(line, run.ask(line.sent), line.wanted)
+                self.growths_after.append(run.counts().growths)
+                self.calls_after.append(run.counts().calls())
+            expect("the end", run.end(self.tail), WELL)
+            self.counts = run.counts()
+        return program.bytes_left() if self.is_over_file() else None
+
+    def left_by_short_calls(self, program):
+        """The bytes of the file where each read and write of it is cut short."""
+        with self.start(program, Refusal(longest=SHORT)) as run:
+            expect_replies(run, self.lines)
+            expect("the end", run.end(self.tail), WELL)
+        return program.bytes_left()
+
+    def place_of(self, refusal):
+        """The place of the line in whose step this is refused: the first one's for the start, past the last one's for the end."""
+        if refusal.growth:
+            return bisect_left(self.growths_after, refusal.growth)
+        return bisect_left(self.calls_after, refusal.call)
 
     def queries_at(self, program, place):
         """The queries of the conversation, each with its reply where just the lines before this place were sent."""
@@ -168,14 +195,6 @@ class Held:
         if refusal.call:
             return [DISK_FAULT]
         return [EXHAUSTED] if self.is_over_file() else [EXHAUSTED, DISK_FAULT]
-
-    def counted(self, program, refusal=NOTHING):
-        """The counts of a run in which nothing is refused, and the file that it leaves."""
-        with self.start(program, refusal) as run:
-            for line in self.lines:
-                line.expect_reply(run)
-            expect("the end", run.end(), WELL)
-            return run.counts(), program.bytes_left() if self.is_over_file() else None
 
     def judged(self, program, refusal):
         """The kind of call that is refused in a run, and how that is told."""
@@ -192,49 +211,49 @@ class Judge:
 
     def judge(self):
         """Judges the run from its start to its end."""
-        for place, line in enumerate(self.held.lines):
-            reply = self.run.ask(line.sent)
+        lines, place = self.held.lines, self.held.place_of(self.refusal)
+        if place > 0:
+            expect_replies(self.run, lines[:place])
+            expect("what is refused before its step", self.run.refused_now(), None)
+        if place < len(lines):
+            reply = self.run.ask(lines[place].sent)
             if place == 0 and not reply:
                 self.judge_start()
                 return self.kind, self.how
-            if line.is_whole():
-                self.judge_line(place, reply)
+            self.judge_line(place, reply)
+            expect_replies(self.run, lines[place + 1:])
         self.judge_end()
         return self.kind, self.how
 
-    def note(self, how, refused):
+    def note(self, how):
         """Notes how what was refused just now is told."""
-        if refused is None:
-            raise Wrong("refused %s, and nothing was refused just then" % how)
-        self.kind, self.how = refused, how
+        self.kind, self.how = self.run.refused_now(), how
+        if self.kind is None:
+            raise Wrong("told %s, where nothing was refused" % how)
 
-    def pass_over(self, refused):
+    def pass_over(self):
         """Nothing is told. That may be where a growth can be done without, as room for a page that would be kept for later."""
-        if refused and self.refusal.call:
-            raise Wrong("a %s failed, and nothing is told" % refused)
-        if refused:
-            self.note("not at all", refused)
+        self.note("not at all")
+        if self.refusal.call:
+            raise Wrong("a %s failed, and nothing is told" % self.kind)
 
     def judge_line(self, place, reply):
-        """A line is answered, or refused. After a refusal all is as before, and sent again it is answered."""
-        line, refused = self.held.lines[place], self.run.refused_now()
+        """A line is refused, or answered nevertheless. After a refusal all is as before, and sent again it is answered."""
+        line = self.held.lines[place]
         if reply == line.wanted:
-            self.pass_over(refused)
+            self.pass_over()
             return
         if reply not in [line.refused_by(fault) for fault in self.held.faults(self.refusal)]:
             expect(line, reply, line.wanted)
-        self.note("by %s" % reply.split(b" ")[2].decode(), refused)
-        if place > 0 and self.held.lines[place - 1].changes_nothing():
-            self.held.lines[place - 1].expect_reply(self.run)
-        for query in self.held.queries_at(self.program, place):
-            query.expect_reply(self.run)
-        line.expect_reply(self.run)
+        self.note("by %s" % reply.split(b" ")[2].decode())
+        before = [one for one in self.held.lines[max(0, place - 1):place] if one.changes_nothing()]
+        expect_replies(self.run, [*before, *self.held.queries_at(self.program, place), line])
 
     def judge_fault(self, ended, how):
         """The program can't go on, and says so."""
         if ended not in [Ended(1, b"", fault) for fault in self.held.faults(self.refusal)]:
             expect(how, ended, WELL)
-        self.note(how, self.run.refused_now())
+        self.note(how)
 
     def judge_start(self):
         """The program can't start. It has answered nothing, and the file is what it was."""
@@ -252,15 +271,14 @@ class Judge:
         expect("whether the file is opened", is_opened, left == data)
 
     def judge_end(self):
-        """The program ends by itself."""
-        ended = self.run.end()
-        if ended == WELL:
-            self.pass_over(self.run.refused_now())
-        elif self.held.is_over_file():
+        """The program ends by itself. Where nothing was refused before, something is now."""
+        ended = self.run.end(self.held.tail)
+        if self.kind is None and ended == WELL:
+            self.pass_over()
+        elif self.kind is None and self.held.is_over_file():
             self.judge_fault(ended, "at the end")
         else:
             expect("the end", ended, WELL)
-        expect("whether something was refused", self.kind is not None, True)
         if self.held.is_over_file():
             self.judge_left(ended == WELL)
 
@@ -280,19 +298,20 @@ class Creation:
 
     name = "a file is created"
 
-    def __init__(self, data=None):
-        self.data = data
+    def __init__(self):
+        self.data, self.counts = None, None
 
     def start(self, program, refusal=NOTHING):
         if os.path.exists(program.file()):
             os.remove(program.file())
         return program.create(program.file(), refusal)
 
-    def counted(self, program):
-        """The counts of a run in which nothing is refused, and the file that it makes."""
+    def count(self, program):
+        """Counts growths and device calls where nothing is refused."""
         with self.start(program) as run:
             expect("the end", run.end(), WELL)
-            return run.counts(), program.bytes_left()
+            self.counts = run.counts()
+        self.data = program.bytes_left()
 
     def judged(self, program, refusal):
         """The kind of call that is refused in a run, and how that is told."""
@@ -321,15 +340,8 @@ class Creation:
 # What is refused.
 
 
-class Turn(NamedTuple):
-    """A conversation in one way, or the creation, with the counts of a run in which nothing is refused."""
-
-    held: object
-    counts: Counts
-
-
 class Work:
-    """What this process, and those that it starts, work on."""
+    """What this process, and those that it starts, work on: the program, and what is held, the creation first."""
 
     program = None
     turns = []
@@ -347,7 +359,7 @@ def judged(task):
     """Makes the runs of a task: of the turn at a place, with each of these refusals. Gives how often they were told in which
     way, and what is not as wanted."""
     place, refusals = task
-    held = Work.turns[place].held
+    held = Work.turns[place]
     told, faults = Counter(), []
     for refusal in refusals:
         try:
@@ -366,43 +378,44 @@ def turns_of(script):
 
 
 def ways_of(script):
-    """A conversation in each way."""
-    program, [created, *_others] = Work.program, Work.turns
+    """A conversation in each way, with its counts."""
+    program, [creation, *_others] = Work.program, Work.turns
     in_memory = Held(script, "memory", script.lines)
-    yield Turn(in_memory, in_memory.counted(program)[0])
-    over_file = Held(script, "file", script.lines, created.held.data)
-    counts, left = over_file.counted(program)
-    _counts, left_by_short_calls = over_file.counted(program, Refusal(longest=SHORT))
-    expect("whether short calls leave the same file", left_by_short_calls == left, True)
-    yield Turn(over_file, counts)
+    in_memory.count(program)
+    yield in_memory
+    over_file = Held(script, "file", script.lines, creation.data)
+    left = over_file.count(program)
+    expect("whether short calls leave the same file", over_file.left_by_short_calls(program) == left, True)
+    yield over_file
     again = Held(script, "again", script.queries_at(program, len(script.lines)), left)
     if again.lines:
-        yield Turn(again, again.counted(program)[0])
+        again.count(program)
+        yield again
 
 
 def prepare(scripts, jobs):
     """Sets up the turns, and gives what is not as wanted."""
     creation = Creation()
-    counts, creation.data = creation.counted(Work.program)
-    Work.turns = [Turn(creation, counts)]
+    creation.count(Work.program)
+    Work.turns = [creation]
     faults = []
     with FORKING.Pool(jobs) as pool:
         for turns, found in pool.imap(turns_of, scripts):
             Work.turns += turns
             faults += found
-    seen = [sum(parts) for parts in zip(*(turn.counts for turn in Work.turns))]
-    if min(seen[:-1]) == 0:
-        faults.append("refusing.c does not see each kind of call of the program: %s" % Counts(*seen)._asdict())
+    seen = Counts(*map(sum, zip(*(turn.counts for turn in Work.turns))))
+    if 0 in (seen.growths, seen.reads, seen.writes, seen.syncs):
+        faults.append("refusing.c does not see each kind of call of the program: %s" % (seen,))
     return faults
 
 
 def most_of(turn, words):
     """How many growths, and how many device calls, of a turn are refused at the most."""
-    if isinstance(turn.held, Creation):
+    if isinstance(turn, Creation):
         return EACH
     if words.is_all:
-        return min(words.most, max(1, MOST_LINES // len(turn.held.lines)))
-    return min(words.most, MOST[turn.held.script.name])
+        return min(words.most, max(1, MOST_LINES // len(turn.lines)))
+    return min(words.most, MOST[turn.script.name])
 
 
 def numbers_of(count, most):
@@ -423,7 +436,7 @@ def told_of(turn, most, told):
     refused = [len(numbers_of(count, most)) for count in (turn.counts.growths, turn.counts.calls())]
     ways = ", ".join("%s %s %d" % (*key, count) for key, count in sorted(told.items()))
     return "%s: %d of %d growths, %d of %d device calls: %s" % (
-        turn.held.name, refused[0], turn.counts.growths, refused[1], turn.counts.calls(), ways)
+        turn.name, refused[0], turn.counts.growths, refused[1], turn.counts.calls(), ways)
 
 
 def refuse_all(words):
@@ -440,14 +453,18 @@ def refuse_all(words):
                 faults += found
             print(told_of(turn, most, told), flush=True)
             every.update(told)
+    if 2 * every["growth", "not at all"] > sum(count for (kind, _how), count in every.items() if kind == "growth"):
+        faults.append("most growths that were refused are not told")
     return every, faults
 
 
 def script_at(path):
     """The conversation of a file."""
     [conversation] = conversations_of(path)
-    lines = [Line(bytes(exchange.sent), bytes(exchange.wanted)) for exchange in conversation.exchanges]
-    return Script(os.path.basename(path).removesuffix(".txt"), lines)
+    exchanges = [(bytes(exchange.sent), bytes(exchange.wanted)) for exchange in conversation.exchanges]
+    lines = [Line(sent, wanted) for sent, wanted in exchanges if sent.endswith(b"\n")]
+    tail = b"".join(sent for sent, _wanted in exchanges if not sent.endswith(b"\n"))
+    return Script(os.path.basename(path).removesuffix(".txt"), lines, tail)
 
 
 def names_of(words):
@@ -477,9 +494,8 @@ def main():
     with tempfile.TemporaryDirectory(prefix="roadseg-", dir=folder) as folder:
         Work.program = Program(os.path.abspath(words.program), build(folder), folder)
         scripts = [script_at(os.path.join(FOLDER, name + ".txt")) for name in names_of(words)]
-        # where the first line is cut, no reply tells a start from an end
-        scripts = [script for script in scripts if script.lines[0].is_whole()]
-        faults = prepare(scripts, words.jobs)
+        # one that is a cut line alone has no replies, by which a start is told from an end
+        faults = prepare([script for script in scripts if script.lines], words.jobs)
         told, found = refuse_all(words)
         faults += found
     for fault in faults[:FAULTS_SHOWN]:

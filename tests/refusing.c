@@ -7,7 +7,7 @@
  *     REFUSED_CALL=N      the device call with this number fails (EIO); a read that fails leaves other bytes in its buffer
  *     REFUSED_HALF=1      that call fails after half of it: a write has written the first half of its bytes, a cut is done
  *     LONGEST_CALL=N      no read and no write of a regular file takes more bytes than these
- *     REFUSED_TOLD=FD     where it is told: `refused KIND` at once, and the counts of all calls at the end
+ *     REFUSED_TOLD=FD     a file that is mapped, in which all is told at once (`struct told`)
  *
  * It takes no memory itself: memory comes from the C library's own names for its calls, and files are reached by the system's
  * calls.
@@ -19,9 +19,9 @@
 #include <stdbool.h>
 #include <stddef.h>
 #include <stdint.h>
-#include <stdio.h>
 #include <stdlib.h>
 #include <string.h>
+#include <sys/mman.h>
 #include <sys/stat.h>
 #include <sys/syscall.h>
 #include <sys/types.h>
@@ -34,31 +34,22 @@ extern void *__libc_memalign(size_t alignment, size_t size);
 
 enum kind { GROWTH, READ, WRITE, SYNC, CUT, KINDS };
 
-static const char *const KIND_NAMES[KINDS] = {"growth", "read", "write", "sync", "cut"};
+struct told {
+    atomic_ulong counts[KINDS]; /* how many calls of each kind were made */
+    atomic_ulong refused;       /* 1 more than the kind of the call that was refused, 0 before */
+    atomic_ulong has_ended;     /* 1 where the process has come to its end by itself */
+};
 
+static struct told untold, *told = &untold;
 static bool is_counting;
 static unsigned long refused_growth, refused_call, longest_call;
 static bool is_half_done;
-static int told = -1;
 static atomic_ulong calls; /* of a device, of all kinds */
-static atomic_ulong counts[KINDS];
 
 static unsigned long number_of(const char *name)
 {
     const char *text = getenv(name);
     return text ? strtoul(text, NULL, 10) : 0;
-}
-
-static void tell(const char *line, size_t length)
-{
-    if (told >= 0)
-        syscall(SYS_write, told, line, length);
-}
-
-static void tell_refused(enum kind kind)
-{
-    char line[32];
-    tell(line, (size_t)snprintf(line, sizeof line, "refused %s\n", KIND_NAMES[kind]));
 }
 
 __attribute__((constructor)) static void begin(void)
@@ -67,26 +58,27 @@ __attribute__((constructor)) static void begin(void)
     refused_call = number_of("REFUSED_CALL");
     longest_call = number_of("LONGEST_CALL");
     is_half_done = number_of("REFUSED_HALF") != 0;
-    if (getenv("REFUSED_TOLD"))
-        told = (int)number_of("REFUSED_TOLD");
+    if (getenv("REFUSED_TOLD")) {
+        void *mapped = mmap(NULL, sizeof *told, PROT_READ | PROT_WRITE, MAP_SHARED, (int)number_of("REFUSED_TOLD"), 0);
+        if (mapped != MAP_FAILED)
+            told = mapped;
+    }
     is_counting = true;
 }
 
 __attribute__((destructor)) static void end(void)
 {
-    char line[160];
     is_counting = false;
-    tell(line, (size_t)snprintf(line, sizeof line, "growths %lu reads %lu writes %lu syncs %lu cuts %lu\n", counts[GROWTH],
-                                counts[READ], counts[WRITE], counts[SYNC], counts[CUT]));
+    told->has_ended = 1;
 }
 
 /* Growths. */
 
 static bool is_refused_growth(void)
 {
-    if (!is_counting || atomic_fetch_add(&counts[GROWTH], 1) + 1 != refused_growth)
+    if (!is_counting || atomic_fetch_add(&told->counts[GROWTH], 1) + 1 != refused_growth)
         return false;
-    tell_refused(GROWTH);
+    told->refused = GROWTH + 1;
     errno = ENOMEM;
     return true;
 }
@@ -151,10 +143,10 @@ static bool is_refused_call(enum kind kind, int file)
 {
     if (!is_counting || !is_regular(file))
         return false;
-    atomic_fetch_add(&counts[kind], 1);
+    atomic_fetch_add(&told->counts[kind], 1);
     if (atomic_fetch_add(&calls, 1) + 1 != refused_call)
         return false;
-    tell_refused(kind);
+    told->refused = kind + 1;
     return true;
 }
 

@@ -1,8 +1,10 @@
 """Runs of the program in which a growth is refused or a device call fails: refusing.c is loaded before it, and tells of it."""
 
+import mmap
 import os
 import re
 import select
+import struct
 import subprocess
 from typing import NamedTuple
 
@@ -10,10 +12,14 @@ HERE = os.path.dirname(os.path.abspath(__file__))
 SOURCE = os.path.join(HERE, "refusing.c")
 LONGEST = 60  # seconds that a reply or an end may take
 
-# The last line of a reply, and what the library tells.
-FINISH = re.compile(rb"[0-9]+ (OK|ERR) [^\n]*\n")
-REFUSED = re.compile(rb"refused (\w+)\n")
-COUNTS = re.compile(rb"growths (\d+) reads (\d+) writes (\d+) syncs (\d+) cuts (\d+)\n$")
+SENT_AT_ONCE = 16_384  # bytes of lines: a pipe holds more
+
+# The last line of a reply.
+FINISH = re.compile(rb"^[0-9]+ (?:OK|ERR) [^\n]*\n", re.MULTILINE)
+
+# What the library tells: how many calls of each kind were made, which kind was refused, and whether the program came to its end.
+KINDS = ("growth", "read", "write", "sync", "cut")
+TOLD = struct.Struct("@5L L L")
 
 
 class Wrong(Exception):
@@ -75,13 +81,27 @@ class Ended(NamedTuple):
     errors: bytes
 
 
+def batches(lines):
+    """The lines some at a time, of no more bytes than are sent at once, and at least one."""
+    some, length = [], 0
+    for line in lines:
+        if some and length + len(line) > SENT_AT_ONCE:
+            yield some
+            some, length = [], 0
+        some.append(line)
+        length += len(line)
+    if some:
+        yield some
+
+
 class Run:
-    """A run of the program, to which lines are sent one by one."""
+    """A run of the program, to which lines are sent."""
 
     def __init__(self, program, words, refusal):
-        self.telling, told = os.pipe()
-        os.set_blocking(self.telling, False)
-        self.told, self.is_noted = b"", False
+        told = os.memfd_create("told")
+        os.truncate(told, TOLD.size)
+        self.told = mmap.mmap(told, TOLD.size)
+        self.is_noted = False
         settings = dict(os.environ, LD_PRELOAD=program.library, REFUSED_TOLD=str(told), **refusal.settings())
         pipe = subprocess.PIPE
         self.process = subprocess.Popen([program.path, *words], stdin=pipe, stdout=pipe, stderr=pipe, bufsize=0,
@@ -98,52 +118,66 @@ class Run:
         self.process.wait()
         for stream in (self.process.stdin, self.process.stdout, self.process.stderr):
             stream.close()
-        os.close(self.telling)
+        self.told.close()
 
-    def ask(self, sent):
-        """The reply to a line, or what is written before the program ends; nothing where the line is cut."""
+    def ask(self, line):
+        """The reply to a line, or what is written before the program ends."""
+        self.send(line)
+        return self.replies(1)[0]
+
+    def ask_all(self, lines):
+        """The replies to lines, some of which are sent at once."""
+        found = []
+        for some in batches(lines):
+            self.send(b"".join(some))
+            found += self.replies(len(some))
+        return found
+
+    def send(self, sent):
         try:
             self.process.stdin.write(sent)
         except BrokenPipeError:
             pass
-        reply = b""
-        while sent.endswith(b"\n") and not FINISH.fullmatch(reply, reply.rfind(b"\n", 0, -1) + 1):
+
+    def replies(self, count):
+        """The next replies. Where the program ends before, one is what it had written of it, and others are empty."""
+        data, ends, seen = bytearray(), [0], 0
+        while len(ends) <= count:
             if not self.poll.poll(LONGEST * 1_000):
-                raise Wrong("no reply to %.200r within %d seconds" % (sent, LONGEST))
+                raise Wrong("no reply within %d seconds" % LONGEST)
             piece = os.read(self.process.stdout.fileno(), 65_536)
             if not piece:
                 break
-            reply += piece
-        return reply
+            data += piece
+            ends += [found.end() for found in FINISH.finditer(data, seen)]
+            seen = data.rfind(b"\n") + 1
+        bounds = [*ends[:count], len(data)]
+        replies = [bytes(data[start:end]) for start, end in zip(bounds, bounds[1:])]
+        return replies + [b""] * (count - len(replies))
 
-    def hear(self):
-        """Takes in what the library has told by now."""
-        try:
-            self.told += os.read(self.telling, 4_096)
-        except BlockingIOError:
-            pass
+    def counts(self):
+        """How many growths the run has asked for by now, and how many device calls it has made."""
+        return Counts(*TOLD.unpack(self.told)[:len(KINDS)])
 
     def refused_now(self):
         """The kind of call that was refused since this was asked last, if one was."""
-        self.hear()
-        found = None if self.is_noted else REFUSED.match(self.told)
-        self.is_noted = self.is_noted or found is not None
-        return found[1].decode() if found else None
+        refused = TOLD.unpack(self.told)[len(KINDS)]
+        if self.is_noted or refused == 0:
+            return None
+        self.is_noted = True
+        return KINDS[refused - 1]
 
-    def end(self):
-        """How the run ends by itself once its input does."""
+    def end(self, tail=b""):
+        """How the run ends by itself once its input does, after a cut line."""
+        self.send(tail)
         try:
             out, errors = self.process.communicate(timeout=LONGEST)
         except subprocess.TimeoutExpired:
             raise Wrong("no end within %d seconds" % LONGEST) from None
-        self.hear()
-        if not COUNTS.search(self.told):
-            raise Wrong("ended by status %d without telling its counts: %.300r" % (self.process.returncode, errors))
+        if not TOLD.unpack(self.told)[-1]:
+            how = (self.process.returncode, errors)
+            raise Wrong("it did not end by itself, or without refusing.c: status %d, %.300r" % how)
         return Ended(self.process.returncode, out, errors)
-
-    def counts(self):
-        """The counts of the run, which has ended."""
-        return Counts(*map(int, COUNTS.search(self.told).groups()))
 
 
 class Program(NamedTuple):
