@@ -485,6 +485,8 @@ def arguments():
     parser.add_argument("names", nargs="*", metavar="CONVERSATION")
     words = parser.parse_args()
     words.is_all = words.is_all or bool(words.names)
+    if not os.access(words.program, os.X_OK):
+        sys.exit("there is no program %s" % words.program)
     return words
 
 
