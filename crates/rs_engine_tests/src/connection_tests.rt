@@ -4,7 +4,6 @@
 //! reads once the connection was served. The replies are written by hand.
 
 use crate::engines::{Row, fresh_engine};
-use crate::streams::{BrokenWriter, OneRead};
 use rs_protocol::{End, Fault};
 use rs_serve::Serve;
 use rs_server::{Connection, serve_one};
@@ -135,23 +134,6 @@ fn cursors_outlive_their_connection(rt: HostRuntime) -> Result<(), Fail> {
     Ok(())
 }
 
-/// Expects that a line that is cut is not answered, and not joined to the next one.
-fn expect_cut_line<E: Serve>(rt: &HostRuntime, engine: &mut E) -> Result<(), Fail> {
-    let listener = listen(rt)?;
-    let sent =
-        b"0 DEFINE ROUTE A FROM 0 TO 10\n0 DEFINE LINE TABLE pave (surf TEXT(8))\n0 SELECT pa";
-    let received = b"0 OK 0\n0 OK 0\n";
-    expect_served(rt, &listener, engine, sent, received, End::CutLine)?;
-    let sent = b"ve\n0 SELECT pave\n";
-    let received = b"0 ERR 3 session number\n0 OK 0\n";
-    expect_served(rt, &listener, engine, sent, received, End::Whole)
-}
-
-#[test]
-fn a_cut_line_is_not_answered_and_not_joined_to_the_next(rt: HostRuntime) -> Result<(), Fail> {
-    expect_cut_line(&rt, &mut fresh_engine(rt.alloc())?)
-}
-
 /// Serves a peer that has gone when its 1,000 lines are answered: no reply is read.
 fn serve_gone<E: Serve>(
     rt: &HostRuntime,
@@ -182,41 +164,4 @@ fn expect_peers<E: Serve>(rt: &HostRuntime, engine: &mut E) -> Result<(), Fail> 
 #[test]
 fn peers_may_send_nothing_or_go(rt: HostRuntime) -> Result<(), Fail> {
     expect_peers(&rt, &mut fresh_engine(rt.alloc())?)
-}
-
-/// Expects that a connection ended with this fault.
-fn expect_ended(ended: Result<End, Fault>, fault: Fault) -> Result<(), Fail> {
-    if ended == Err(fault) {
-        return Ok(());
-    }
-    Err(Fail::new(format_args!("not so: {ended:?}")))
-}
-
-/// Expects that a fault of a stream ends its connection, and that the engine keeps what was accepted before.
-fn expect_faults<E: Serve>(rt: &HostRuntime, engine: &mut E) -> Result<(), Fail> {
-    let alloc = rt.alloc();
-    let mut unwritable = Connection {
-        reader: b"0 DEFINE ROUTE A FROM 0 TO 10\n".as_slice(),
-        writer: BrokenWriter,
-    };
-    expect_ended(serve_one(alloc, engine, &mut unwritable), Fault::Write)?;
-    let mut unreadable = Connection {
-        reader: OneRead {
-            told: b"0 DEFINE LINE TABLE pave (surf TEXT(8))\n0 SELECT pa",
-            is_done: false,
-        },
-        writer: Vec::new(alloc),
-    };
-    expect_ended(serve_one(alloc, engine, &mut unreadable), Fault::Read)?;
-    if unreadable.writer.as_slice() != b"0 OK 0\n".as_slice() {
-        return Err(Fail::new("the line before the fault is answered otherwise"));
-    }
-    let sent = b"0 INSERT INTO pave ON A FROM 0 TO 1 VALUES ('AC')\n";
-    let received = b"0 OK 1000\n";
-    expect_served(rt, &listen(rt)?, engine, sent, received, End::Whole)
-}
-
-#[test]
-fn a_fault_ends_its_connection_alone(rt: HostRuntime) -> Result<(), Fail> {
-    expect_faults(&rt, &mut fresh_engine(rt.alloc())?)
 }

@@ -14,5 +14,3 @@ mod file_tests;
 mod refusal_tests;
 #[cfg(test)]
 mod room_tests;
-#[cfg(test)]
-mod streams;
