@@ -133,35 +133,3 @@ fn cursors_outlive_their_connection(rt: HostRuntime) -> Result<(), Fail> {
     }
     Ok(())
 }
-
-/// Serves a peer that has gone when its 1,000 lines are answered: no reply is read.
-fn serve_gone<E: Serve>(
-    rt: &HostRuntime,
-    listener: &TcpListener,
-    engine: &mut E,
-) -> Result<(), Fail> {
-    let mut sent = Vec::new(rt.alloc());
-    for _ in 0..1_000u16 {
-        sent.extend_from_slice(b"0 SELECT pave\n")?;
-    }
-    drop(client_of(rt, listener, &sent)?);
-    let _ = serve_next(rt.alloc(), listener, engine)?;
-    Ok(())
-}
-
-/// Expects that peers that send nothing, or have gone, end their connections alone.
-fn expect_peers<E: Serve>(rt: &HostRuntime, engine: &mut E) -> Result<(), Fail> {
-    let listener = listen(rt)?;
-    expect_served(rt, &listener, engine, b"", b"", End::Whole)?;
-    let sent = b"0 DEFINE ROUTE A FROM 0 TO 10\n";
-    expect_served(rt, &listener, engine, sent, b"0 OK 0\n", End::Whole)?;
-    serve_gone(rt, &listener, engine)?;
-    let sent = b"0 TRANSLATE A 4 AS ABSOLUTE\n";
-    let received = b"0 ROW 4.000\n0 OK 1\n";
-    expect_served(rt, &listener, engine, sent, received, End::Whole)
-}
-
-#[test]
-fn peers_may_send_nothing_or_go(rt: HostRuntime) -> Result<(), Fail> {
-    expect_peers(&rt, &mut fresh_engine(rt.alloc())?)
-}

@@ -1,5 +1,5 @@
-//! What no line shows of the engine: files on disks in memory that are closed, opened again, refused and full; connections over
-//! TCP, one after another, to one engine; and refusals that no line is answered with.
+//! What no line shows of the engine: files on disks in memory that are closed, opened again and refused; connections over TCP,
+//! one after another, to one engine; and refusals that no line is answered with.
 //!
 //! Whatever serves is enough for most of these functions: one that names the engine is proved over all of storage.
 #![tactic(auto)]
@@ -12,5 +12,3 @@ mod engines;
 mod file_tests;
 #[cfg(test)]
 mod refusal_tests;
-#[cfg(test)]
-mod room_tests;
