@@ -24,7 +24,7 @@ use Rattle.rs_event_changes.specs.Changes.{Inserts}
 use Rattle.rs_event_changes.specs.Inner.{HasThese}
 use Rattle.rs_event_changes.specs.Picked.{IsHeld, IsWidened, Joins, passing}
 use Rattle.rs_event_changes.specs.Seen.{GivenWayIsSeen}
-use Rattle.rs_event_changes.specs.Turns.{Turns}
+use Rattle.rs_event_changes.specs.Turns.{EventsTurn}
 use Rattle.rs_event_changes.proofs.Finding.{Finds, has_none, has_passing, live_gone, small_each}
 use Rattle.rs_event_changes.proofs.Inserting.{InsertsHere, held_now, is_one_met, met_are, one_met_on, widened}
 use Rattle.rs_event_changes.proofs.Tables.{same_shares, same_table}
@@ -76,7 +76,7 @@ module _ (types : List ColumnType) (kind : Kind) (version route : ℕ) (below : 
           }
 
       whole : (gs : List Event) (now : List Event) → AllByRecursion (λ (one : Event). one.died ≡ LIVING) gs → GivesWay types version route gs come events now
-          → Turns version events now → InsertsHere kind accepted version route span count events now → Inserts kind accepted version route span count events now
+          → EventsTurn version events now → InsertsHere kind accepted version route span count events now → Inserts kind accepted version route span count events now
       whole gs now live way turns here = record {
         changes = record { live = λ oldest first runs. law types version route gs come events now below live way kind oldest accepted before runs; elsewhere = here.elsewhere; turns = turns };
         facts = here.facts;
@@ -94,7 +94,7 @@ module _ (types : List ColumnType) (kind : Kind) (version route : ℕ) (below : 
       if_held held =
           let here = subst (λ l. IsHeld span l gone come count) (met_are version route from upto span.row events) held in
           become (GivesWay types version route [] come) (made [] (subst (λ l. AllZip (SaysEvent types) l []) (sym held.none_gone) tt)) (λ now way.
-          whole [] now tt way (subst (Turns version events) (sym (nothing held.none_come now way)) (none_turned version events))
+          whole [] now tt way (subst (EventsTurn version events) (sym (nothing held.none_come now way)) (none_turned version events))
           (held_now types kind version route below accepted before events now (dated accepted events used holds.records) fit level span placed from upto reaches ends gone come count here
           (nothing held.none_come now way)))
 

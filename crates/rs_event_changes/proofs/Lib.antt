@@ -1,5 +1,4 @@
 mod Apart
-mod Cancelling
 mod Ending
 mod Finding
 mod GiveWay
@@ -15,5 +14,6 @@ mod Seeing
 mod Shown
 mod StillSeen
 mod Tables
-mod Turning
 mod WideSpans
+pub mod Cancelling
+pub mod Turning

@@ -11,22 +11,22 @@ use Rattle.rs_records.specs.Order.{Ascends, is_below}
 use Rattle.rs_records.proofs.Orders.{is_below-self}
 use Rattle.rs_value.specs.declared.column.ColumnType.{ColumnType}
 use Rattle.rs_versioned.specs.Events.{Event, SaysEvent, ended_event, kept_events}
-use Rattle.rs_versioned.specs.Records.{HasEnded, HasOneMore}
-use Rattle.rs_versioned.proofs.KeptRecords.{events_are_kept}
+use Rattle.rs_versioned.specs.Records.{HasEnded, HasOneMore, Kept}
+use Rattle.rs_versioned.proofs.KeptRecords.{IsKept, events_are_kept}
 use Rattle.rs_versioned.proofs.MeantLists.{all_weaker}
 use Rattle.rs_versioned.proofs.Present.{IsDatedRecord}
 use Rattle.rs_event_changes.specs.Chains.{ComeAll, EndAll, GivesWay, living_event}
-use Rattle.rs_event_changes.specs.Turns.{Turns}
+use Rattle.rs_event_changes.specs.Turns.{EventsTurn, Turns}
 use Rattle.rs_event_changes.proofs.Cancelling.{cancel_first, middle}
 use Rattle.rs_event_changes.proofs.GiveWay.{first_there}
 use Rattle.rs_event_changes.proofs.Seeing.{all_kept}
 
--- ---- each event is there once
+-- ---- each record is there once
 
--- no event is there twice
-abbrev pub AreApart : List Event → Type 0
+-- no record is there twice
+abbrev pub AreApart : {R : Type 0} → List R → Type 0
 AreApart [] = Unit {0}
-AreApart (one ∷ events) = AllByRecursion (λ other. one ≢ other) events × AreApart events
+AreApart (one ∷ records) = AllByRecursion (λ other. one ≢ other) records × AreApart records
 
 not_below_itself : (one other : List ℕ) → IsTrue (is_below one other) → one ≡ other → ⊥
 not_below_itself one other below same =
@@ -34,22 +34,26 @@ not_below_itself one other below same =
     let never : is_below one one ≡ false = is_below-self one in
     cc
 
-one_apart : (types : List ColumnType) (cell : List ℕ) (one : Event) → SaysEvent types cell one → (cells : List (List ℕ)) (events : List Event)
-    → AllByRecursion (λ other. IsTrue (is_below cell other)) cells → AllZip (SaysEvent types) cells events → AllByRecursion (λ other. one ≢ other) events
-one_apart types cell one says [] [] below say = tt
-one_apart types cell one says [] (e ∷ es) below say = absurd say
-one_apart types cell one says (c ∷ cs) [] below say = absurd say
-one_apart types cell one says (c ∷ cs) (e ∷ es) below say = (
-  λ same. not_below_itself cell c below.0 ((events_are_kept types).has_one cell c one says (subst (SaysEvent types c) (sym same) say.0)),
-  one_apart types cell one says cs es below.1 say.1,
-)
+module _ {R : Type 0} (kept : Kept R) (laws : IsKept kept) where
+  one_apart : (cell : List ℕ) (one : R) → kept.says cell one → (cells : List (List ℕ)) (records : List R) → AllByRecursion (λ other. IsTrue (is_below cell other)) cells
+      → AllZip kept.says cells records → AllByRecursion (λ other. one ≢ other) records
+  one_apart cell one says [] [] below say = tt
+  one_apart cell one says [] (r ∷ rs) below say = absurd say
+  one_apart cell one says (c ∷ cs) [] below say = absurd say
+  one_apart cell one says (c ∷ cs) (r ∷ rs) below say = (
+    λ same. not_below_itself cell c below.0 (laws.has_one cell c one says (subst (kept.says c) (sym same) say.0)),
+    one_apart cell one says cs rs below.1 say.1,
+  )
 
--- those of a table are
+  -- those of a table are
+  pub records_apart : (cells : List (List ℕ)) (records : List R) → Ascends cells → AllZip kept.says cells records → AreApart records
+  records_apart [] [] ascends say = tt
+  records_apart [] (r ∷ rs) ascends say = absurd say
+  records_apart (c ∷ cs) [] ascends say = absurd say
+  records_apart (c ∷ cs) (r ∷ rs) ascends say = (one_apart c r say.0 cs rs ascends.0 say.1, records_apart cs rs ascends.1 say.1)
+
 pub events_apart : (types : List ColumnType) (cells : List (List ℕ)) (events : List Event) → Ascends cells → AllZip (SaysEvent types) cells events → AreApart events
-events_apart types [] [] ascends say = tt
-events_apart types [] (e ∷ es) ascends say = absurd say
-events_apart types (c ∷ cs) [] ascends say = absurd say
-events_apart types (c ∷ cs) (e ∷ es) ascends say = (one_apart types c e say.0 cs es ascends.0 say.1, events_apart types cs es ascends.1 say.1)
+events_apart types = records_apart (kept_events types) (events_are_kept types)
 
 apart_kept : (q : Event → Bool) (events : List Event) → AreApart events → AreApart (filter q events)
 apart_kept q [] apart = tt
@@ -170,7 +174,7 @@ module _ (types : List ColumnType) (version : ℕ) (below : version < LIVING) wh
   -- where those that pass a test end
   pub turned : (route accepted : ℕ) → accepted < version → (events now : List Event) → AllByRecursion (IsDatedRecord (kept_events types) accepted) events → AreApart events
       → (q : Event → Bool) → AllByRecursion (λ (one : Event). one.died ≡ LIVING) (filter q events) → (spans : List Stretch) → GivesWay types version route (filter q events) spans events now
-      → Turns version events now
+      → EventsTurn version events now
   turned route accepted before events now dated apart q lives spans way =
       let gone : List Event = filter q events in
       let rest : List Event = filter (λ one. not (q one)) events in
@@ -185,7 +189,7 @@ module _ (types : List ColumnType) (version : ℕ) (below : version < LIVING) wh
         rest = rest;
         come = came.come;
         lived = lives;
-        born = came.born;
+        born_then = came.born;
         were = parted;
         are = subst (IsPermutation now) (append_assoc (map (ended_event version) gone) rest came.come)
             (IsPermutation-trans now (way.between ++ came.come) ((map (ended_event version) gone ++ rest) ++ came.come) came.are
@@ -203,13 +207,13 @@ module _ (types : List ColumnType) (version : ℕ) (below : version < LIVING) wh
       none_done (x ∷ xs) = (λ has. omega (arith, has.1), none_done xs)
 
 -- where nothing changes
-pub none_turned : (version : ℕ) (events : List Event) → Turns version events events
-none_turned version events = record {
+pub none_turned : {R : Type 0} {born died : R → ℕ} {end_at : ℕ → R → R} (version : ℕ) (records : List R) → Turns born died end_at version records records
+none_turned version records = record {
   ended = [];
-  rest = events;
+  rest = records;
   come = [];
   lived = tt;
-  born = tt;
-  were = IsPermutation-refl events;
-  are = subst (IsPermutation events) (sym (append-nil events)) (IsPermutation-refl events);
+  born_then = tt;
+  were = IsPermutation-refl records;
+  are = subst (IsPermutation records) (sym (append-nil records)) (IsPermutation-refl records);
 }

@@ -13,14 +13,14 @@ use Rattle.rs_standing.specs.Live.{KeepsEvents}
 use Rattle.rs_value.specs.declared.column.Kind.{Kind}
 use Rattle.rs_versioned.specs.Events.{Event, facts_at, spans_at}
 use Rattle.rs_versioned.specs.Runs.{AreRunsAt, AreRunsFrom}
-use Rattle.rs_event_changes.specs.Turns.{Turns}
+use Rattle.rs_event_changes.specs.Turns.{EventsTurn}
 
 -- A change of one route at a version: live versions are shown what they were, and this version what the accepted one was on each other
 -- route. Of all events, seen or not, some end at it, some are born at it, and the rest stay.
 pub record ChangesRoute (kind : Kind) (accepted version route : ℕ) (old now : List Event) : Type 0 where
   pub live : (oldest : ℕ) → oldest ≤ accepted → AreRunsFrom kind oldest accepted old → KeepsEvents oldest accepted old now
   pub elsewhere : (other : ℕ) → other ≢ route → IsPermutation (spans_at version other now) (spans_at accepted other old)
-  pub turns : Turns version old now
+  pub turns : EventsTurn version old now
 
 -- Insertion: where the accepted version has just the runs of its facts on the route, this version has the row at each thousandth of the
 -- span beside them, and just the runs of these.

@@ -1,5 +1,5 @@
 -- Changes as wholes: a part changes, and what completes it follows.
-use Rattle.std.proofs.Common.{◌≡◌, ◌≤◌, ◌+◌, ◌-◌, ◌^◌, ℕ, List, [], ◌∷◌, Result, Ok, Err, min, refl, sym, ap, ◌∙◌, subst, arith}
+use Rattle.std.proofs.Common.{◌≡◌, ◌<◌, ◌≤◌, ◌+◌, ◌-◌, ◌^◌, ℕ, length, List, [], ◌∷◌, Result, Ok, Err, min, refl, sym, ap, ◌∙◌, subst, arith}
 use Rattle.std.specs.List.{AllByRecursion, AllZip, sum_by}
 use Rattle.std.proofs.lemmas.List.Sums.{sum_by-cons}
 use Rattle.rs_catalog_pages.specs.Directory.{HasDirectory}
@@ -7,10 +7,13 @@ use Rattle.rs_catalog_pages.specs.Items.{RouteItem}
 use Rattle.rs_catalog_pages.specs.Said.{said_catalogue}
 use Rattle.rs_catalog_pages.specs.Storing.{StoresAfter}
 use Rattle.rs_catalog_pages.specs.declared.items.StoredCatalogue.{StoredCatalogue}
-use Rattle.rs_contents.specs.Contents.{AreNumbered, Contents, HoldsAll, HoldsParts, TableContents}
+use Rattle.rs_cell_versions.specs.Versioned.{Standing}
+use Rattle.rs_cell_versions.specs.declared.cell.TheConstants.{LIVING}
+use Rattle.rs_contents.specs.Contents.{AreNumbered, Contents, HoldsAll, HoldsParts, LiesTable, TableContents}
 use Rattle.rs_contents.specs.Opening.{IsOpened}
 use Rattle.rs_contents.specs.declared.opened.OpenedFile.{OpenedFile}
 use Rattle.rs_contents.specs.declared.opened.OpenedTable.{OpenedTable}
+use Rattle.rs_file_changes.specs.Clearing.{clearable_events}
 use Rattle.rs_file_changes.specs.Parts.{HasMade, HoldsNoParts, KeepsCommitted, Makes}
 use Rattle.rs_file_changes.specs.Parts as parts
 use Rattle.rs_file_changes.proofs.Defined.{numbered_too}
@@ -25,9 +28,13 @@ use Rattle.rs_refusal.specs.declared.refusal.Refusal.{Refusal}
 use Rattle.rs_state_changes.specs.Calls.{IsNext, LeavesFile}
 use Rattle.rs_state_changes.specs.Completing.{CompletesFrom, HoldsNoneToComplete}
 use Rattle.rs_state_changes.specs.Garbage.{dead_of, garbage_of}
-use Rattle.rs_state_laws.specs.Changing.{ChangesFile, ClearsEnough, Completes, HasChanged, HoldsNoFile, dead_in}
-use Rattle.rs_state_laws.specs.Changing as laws
+use Rattle.rs_state_laws.specs.Changing.{ChangesFile, HoldsNoFile, died_by}
 use Rattle.rs_state_laws.specs.Standing.{IsOpenedFile}
+use Rattle.rs_versioned.specs.Events.{kept_events}
+use Rattle.rs_versioned.specs.Referents.{kept_referents}
+use Rattle.rs_versioned.proofs.KeptRecords.{events_are_kept}
+use Rattle.rs_versioned.proofs.KeptReferents.{referents_are_kept}
+use Rattle.rs_versioned.proofs.Present.{held_clearable}
 
 -- ---- what is open and the contents
 
@@ -39,21 +46,23 @@ parts_opened file contents opened = record { definitions = opened.definitions; p
 pub no_file : (map : PageMap) (file : OpenedFile) → HoldsNoParts map file → HoldsNoFile map file
 no_file map file none = record { none = λ contents holds opened. none.none contents.directory.accepted contents holds.parts (parts_opened file contents opened) }
 
--- the tables have as many dead records as what is open
-tables_dead : (opened : List OpenedTable) (tables : List TableContents) → AllZip IsOpened opened tables → sum_by laws.dead_of tables ≡ sum_by dead_of opened
-tables_dead [] [] all = refl
-tables_dead [] (t ∷ ts) all = absurd all
-tables_dead (o ∷ os) [] all = absurd all
-tables_dead (o ∷ os) (t ∷ ts) all =
-    let one : laws.dead_of t ≡ dead_of o = rw all.0.stands refl in
-    let rest = tables_dead os ts all.1 in
-    omega (arith, one, rest, sum_by-cons laws.dead_of t ts, sum_by-cons dead_of o os)
+-- as many events of the tables have died as are dead in what is open
+tables_dead : (map : PageMap) (level : ℕ) → level < LIVING → (opened : List OpenedTable) (tables : List TableContents) → AllZip IsOpened opened tables
+    → AllByRecursion (LiesTable map level) tables → sum_by (λ (table : TableContents). clearable_events level table.events) tables ≡ sum_by dead_of opened
+tables_dead map level before [] [] are lie = refl
+tables_dead map level before [] (t ∷ ts) are lie = absurd are
+tables_dead map level before (o ∷ os) [] are lie = absurd are
+tables_dead map level before (o ∷ os) (t ∷ ts) are lie =
+    let weigh : TableContents → ℕ = λ t. clearable_events level t.events in
+    let first = held_clearable (kept_events t.types) (events_are_kept t.types) map t.standing level t.events t.used lie.0.records before in
+    omega (arith, sum_by-cons weigh t ts, sum_by-cons dead_of o os, first, ap (λ (s : Standing). length s.dead) are.0.stands, tables_dead map level before os ts are.1 lie.1)
 
--- and so have all parts
-pub all_dead : (file : OpenedFile) (contents : Contents) → parts.IsOpenedFile file contents → dead_in contents ≡ garbage_of file
-all_dead file contents opened =
-    let tables = tables_dead file.tables.items contents.tables opened.tables in
-    rw (opened.referents, tables) refl
+-- and as many of all records
+pub all_dead : (map : PageMap) (level : ℕ) → level < LIVING → (file : OpenedFile) (contents : Contents) → HoldsParts map level contents → parts.IsOpenedFile file contents
+    → died_by level contents ≡ garbage_of file
+all_dead map level before file contents holds opened =
+    let referents = held_clearable kept_referents referents_are_kept map contents.referents.standing level contents.referents.referents contents.referents.used holds.referents before in
+    omega (arith, tables_dead map level before file.tables.items contents.tables opened.tables holds.tables, referents, ap (λ (s : Standing). length s.dead) opened.referents)
 
 -- ---- calls that were not refused, and one that was
 
@@ -187,7 +196,7 @@ module _ (old mid : PageMap) (was between : OpenedFile) (change : Contents → C
               most = done.most;
               gone = done.gone;
               least = done.least;
-              few = few contents made.contents done.most opened made.opened (done.few (garbage_of was) count);
+              few = few contents made.contents done.most holds opened made.holds made.opened (done.few (garbage_of was) count);
               cleared = done.cleared;
             };
             next = done.next ∙ ap (λ n. n + 1) (accepted ∙ sym opened.accepted);
@@ -196,9 +205,14 @@ module _ (old mid : PageMap) (was between : OpenedFile) (change : Contents → C
           };
         };
   } where
-    few : (contents now : Contents) (most : ℕ) → IsOpenedFile was contents → parts.IsOpenedFile between now → most ≤ 64 + (garbage_of between - garbage_of was)
-        → most ≤ 64 + (dead_in now - dead_in contents)
-    few contents now most opened made least = rw (all_dead was contents (parts_opened was contents opened), all_dead between now made) least
+    few : (contents now : Contents) (most : ℕ) → HoldsAll old contents → IsOpenedFile was contents → HoldsParts mid (between.accepted + 1) now → parts.IsOpenedFile between now
+        → most ≤ 64 + (garbage_of between - garbage_of was) → most ≤ 64 + (died_by (contents.directory.accepted + 1) now - died_by contents.directory.accepted contents)
+    few contents now most holds opened lies made least =
+        let level = contents.directory.accepted in
+        let below : level + 1 < LIVING = omega (arith, holds.limit) in
+        let first = all_dead old level (omega (arith, below)) was contents holds.parts (parts_opened was contents opened) in
+        let last = all_dead mid (level + 1) below between now (subst (λ n. HoldsParts mid (n + 1) now) (accepted ∙ sym opened.accepted) lies) made in
+        omega (arith, least, first, last)
 
 -- what is open is at the next version, where the part has left the version that was accepted last
 pub next_after : (definitions : StoredCatalogue) (was between is : OpenedFile) → between.accepted ≡ was.accepted → between.definitions ≡ definitions

@@ -176,6 +176,7 @@ module _ (events : EventsAreCleared) (referents : ReferentsAreCleared) (live : R
       (records_meant version begun contents meant (keeps_fewer oldest version begun contents before keeps) at) in
       record {
         between = between;
+        turned = gives.turned;
         stands = record {
           contents = contents;
           holds = completes.holds;

@@ -17,6 +17,7 @@ use Rattle.rs_contents.specs.Contents.{Contents, IsTable, ReferentContents, Tabl
 use Rattle.rs_contents.specs.declared.opened.OpenedFile.{OpenedFile}
 use Rattle.rs_definitions.specs.Listing.{listed_route, listing_of}
 use Rattle.rs_definitions.specs.Relisting.{IsPutBetween}
+use Rattle.rs_event_changes.proofs.Turning.{AreApart}
 use Rattle.rs_facts.specs.Fact.{Name, Names}
 use Rattle.rs_machine.specs.Lawful.{AreDistinct, Each, IsLawful}
 use Rattle.rs_machine.specs.State.{State, no_cursors}
@@ -39,6 +40,7 @@ use Rattle.rs_state_laws.specs.Changing.{GivesState, next_of}
 use Rattle.rs_state_laws.specs.Parts.{DropsRoute, EndsAllOn}
 use Rattle.rs_state_laws.specs.Standing.{StandsAt}
 use Rattle.rs_state_laws.proofs.NewDefinitions.{Laws, are_born, are_lines, each_removed, gives, listed, means, next_is_meant, put_others, tables_listed}
+use Rattle.rs_state_laws.proofs.ReferentTurns.{all_end, held_apart, none_ended, turned}
 use Rattle.rs_state_laws.proofs.OffRoute.{IsOver, at_others, at_route, none_on, others, others_meant, sees_others}
 
 -- ---- facts
@@ -253,10 +255,20 @@ module _ (laws : Laws) (same : SameLaws) (from oldest : ℕ) (pages : PageMap) (
       (tables_listed laws from pages file definitions held state stands below now kept after refl is are lawful lines_then born_then)
       stay
 
+  dated_then : AllByRecursion (IsDatedRecord kept_referents was.directory.accepted) was.referents.referents
+  dated_then = held_dated kept_referents referents_are_kept pages was.referents.standing was.directory.accepted was.referents.referents was.referents.used stands.holds.parts.referents
+
+  apart_then : AreApart was.referents.referents
+  apart_then = held_apart pages was.referents.standing was.directory.accepted was.referents.referents was.referents.used stands.holds.parts.referents
+
   pub gives_less : GivesState oldest was between now kept after
   gives_less =
       subst (λ contents. GivesState oldest was contents now kept after) (sym whole)
       (gives laws from pages file definitions held state stands below now kept after refl is are lawful lines_then born_then oldest between.pages left
+      (turned version was.directory.accepted (omega arith) below was.referents.referents dated_then apart_then left.referents
+      (all_end version was.directory.accepted (omega arith) below was.referents.referents dated_then apart_then drops.1.changed.gone was.referents.referents left.referents
+      (λ one there. (drops.1.changed.are_on one there).1) drops.1.changed.ended
+      (none_ended version was.directory.accepted (omega arith) below was.referents.referents dated_then apart_then)))
       (memory laws same from pages file definitions held kept state stands below item.number no_spans kept_are left drops.1.changed)
       (record { each = λ at low high. absurd (omega (arith, low, high, past)) })
       (record {

@@ -2,6 +2,7 @@ pub mod NamedEntries
 pub mod OtherReferents
 pub mod ReferentLists
 pub mod ReferentSteps
+mod ReferentTurns
 mod Completed
 mod DroppedRoutes
 mod Fewer
@@ -15,3 +16,4 @@ mod OtherIndexes
 mod OtherTables
 mod TableEvents
 mod TableRows
+mod Turned

@@ -21,6 +21,8 @@ use Rattle.rs_contents.specs.Contents.{AreGivenOnce, Contents, HoldsAll, Referen
 use Rattle.rs_contents.specs.declared.opened.OpenedFile.{OpenedFile}
 use Rattle.rs_definitions.specs.Listing.{listed_table, listing_of}
 use Rattle.rs_definitions.specs.Relisting.{AreLawful, IsPutBetween}
+use Rattle.rs_event_changes.specs.Turns.{ReferentsTurn}
+use Rattle.rs_event_changes.proofs.Turning.{none_turned}
 use Rattle.rs_facts.specs.Fact.{Name, Names, name_cmp}
 use Rattle.rs_facts.specs.Runs.{Stretch}
 use Rattle.rs_file_changes.specs.Calls.{ChangesDefinitions}
@@ -38,6 +40,7 @@ use Rattle.rs_standing.proofs.Named.{item_of, later_there, same_name}
 use Rattle.rs_standing.proofs.Picked.{beside, born_all}
 use Rattle.rs_state_laws.specs.Changing.{GivesState, next_of}
 use Rattle.rs_state_laws.specs.Standing.{StandsAt}
+use Rattle.rs_state_laws.proofs.Turned.{turned_beside}
 
 -- ---- lists and maps by name
 
@@ -193,10 +196,13 @@ module _ (laws : Laws) (from : ℕ) (pages : PageMap) (file : OpenedFile) (defin
         sym (laws.next_spans pages old next stands.holds (omega arith) below table route)
         ∙ ap (λ (items : List TableItem). spans_at next route (events_with items old.tables table)) (sym tables_listed)))
 
-    pub gives : (oldest : ℕ) (numbers : List ℕ) (referents : ReferentContents) → ((route : ℕ) → referents_on kept route ≡ referents_seen (contents_then numbers referents) next route)
+    pub gives : (oldest : ℕ) (numbers : List ℕ) (referents : ReferentContents) → ReferentsTurn next old.referents.referents referents.referents
+        → ((route : ℕ) → referents_on kept route ≡ referents_seen (contents_then numbers referents) next route)
         → KeepsLive oldest old (contents_then numbers referents) → IsMeant next (next_of (contents_then numbers referents))
         → GivesState oldest old (contents_then numbers referents) now kept after
-    gives oldest numbers referents memory live meant = record {
+    gives oldest numbers referents turned memory live meant = record {
+      turned = turned_beside next old (contents_then numbers referents) tables_listed
+          (λ number. ap (λ (items : List TableItem). events_with items old.tables number) tables_listed) turned;
       live = live;
       meant = meant;
       memory = record { catalog = laws.listed_seen next now are_lawful born; referents = memory };
@@ -214,7 +220,7 @@ module _ (laws : Laws) (from : ℕ) (pages : PageMap) (file : OpenedFile) (defin
         → ChangesDefinitions (listing_of now) old between → GivesState oldest old between now kept after
     gives_more oldest between same come changes =
         subst (λ contents. GivesState oldest old contents now kept after) (sym whole)
-        (gives oldest between.pages old.referents
+        (gives oldest between.pages old.referents (none_turned next old.referents.referents)
         (λ route. ap (λ (referents : Numbered HeldReferents). referents_on referents route) same ∙ stands.memory.referents route
         ∙ sym (laws.next_referents pages old next stands.holds (omega arith) below route))
         (record {

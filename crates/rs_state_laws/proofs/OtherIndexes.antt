@@ -16,6 +16,7 @@ use Rattle.rs_cell_versions.specs.declared.cell.TheConstants.{LIVING}
 use Rattle.rs_contents.specs.Contents.{Contents, TableContents}
 use Rattle.rs_contents.specs.declared.opened.OpenedFile.{OpenedFile}
 use Rattle.rs_definitions.specs.Listing.{listed_route, listing_of}
+use Rattle.rs_event_changes.specs.Turns.{EventsTurn}
 use Rattle.rs_facts.specs.Fact.{Name, Names}
 use Rattle.rs_machine.specs.Lawful.{Each, IsLawful}
 use Rattle.rs_machine.specs.State.{State}
@@ -99,6 +100,11 @@ module _ (laws : Laws) (said : SaidLaws) (from oldest : ℕ) (pages : PageMap) (
 
     pub gives_indexes : GivesState oldest old between now held after
     gives_indexes = subst (λ contents. GivesState oldest old contents now held after) (sym whole) (record {
+      turned = record {
+        tables = given.turned.tables;
+        events = λ table there. subst (λ (events : List Event). EventsTurn next (events_of old table.number) events) (events_then table.number) (given.turned.events table there);
+        referents = given.turned.referents;
+      };
       live = record {
         each = λ version low high. let sees = given.live.each version low high in record {
           routes = sees.routes;

@@ -19,6 +19,7 @@ use Rattle.rs_catalog_pages.specs.Items.{CatalogueItems, RouteItem}
 use Rattle.rs_cell_versions.specs.declared.cell.TheConstants.{LIVING}
 use Rattle.rs_contents.specs.Contents.{AreGivenOnce, Contents, HoldsAll, ReferentContents}
 use Rattle.rs_contents.specs.declared.opened.OpenedFile.{OpenedFile}
+use Rattle.rs_event_changes.specs.Turns.{ReferentsTurn}
 use Rattle.rs_facts.specs.Fact.{Name, Names}
 use Rattle.rs_facts.specs.Runs.{Stretch}
 use Rattle.rs_machine.specs.Lawful as lawful
@@ -43,6 +44,7 @@ use Rattle.rs_versioned.specs.Referents.{ReferentRecord, is_referent_of, kept_re
 use Rattle.rs_state_laws.specs.Changing.{GivesState, next_of}
 use Rattle.rs_state_laws.specs.Standing.{StandsAt}
 use Rattle.rs_state_laws.proofs.NamedEntries.{each_contained, len_distinct, under_name}
+use Rattle.rs_state_laws.proofs.Turned.{turned_beside}
 use Rattle.rs_state_laws.proofs.ReferentLists.{HasUnder, OwnNames, same_number, under}
 
 -- what is said of contents and states
@@ -264,8 +266,9 @@ module _ (laws : Laws) (from oldest : ℕ) (pages : PageMap) (file : OpenedFile)
           (fun_ext (λ table. fun_ext (λ number. sym (laws.spans_next pages contents next stands.holds (omega arith) below table number))));
     }
 
-    pub gives : GivesState oldest contents between definitions kept (with_referents state route after)
-    gives = record {
+    pub gives : ReferentsTurn next referents now.referents → GivesState oldest contents between definitions kept (with_referents state route after)
+    gives turned = record {
+      turned = turned_beside next contents between refl (λ number. refl) turned;
       live = laws.live_records oldest contents between (laws.live_referents oldest contents now keeps);
       meant = laws.meant_others next (next_of contents) now begins_meant
           (λ version low high. subst (λ (v : ℕ). AreReferentsMeant (routes_at v routes) v now.referents) (omega (arith, low, high)) are_meant);

@@ -1,8 +1,9 @@
 -- A table that comes or goes: the state that a file has then.
-use Rattle.std.proofs.Common.{◌≡◌, ◌<◌, ◌≤◌, ◌+◌, ◌∙◌, ℕ, false, List, [], ◌∷◌, ◌++◌, Some, length, refl, sym, ap, subst, arith}
+use Rattle.std.proofs.Common.{◌≡◌, ◌<◌, ◌≤◌, ◌+◌, ◌∙◌, ℕ, false, List, [], ◌∷◌, ◌++◌, Some, inl, inr, length, refl, sym, ap, subst, arith}
 use Rattle.std.proofs.Math.Path.{fun_ext}
-use Rattle.std.specs.Prelude.{slice_get}
+use Rattle.std.specs.Prelude.{Contains, slice_get}
 use Rattle.std.specs.FinMap as names
+use Rattle.std.proofs.lemmas.Option.{none-some}
 use Rattle.rs_catalog.specs.Changes as changes
 use Rattle.rs_catalog.specs.Definitions as catalog
 use Rattle.rs_catalog.specs.Definitions.{AreDefinitions, Definitions, IsFree, Numbered, state_from}
@@ -17,12 +18,15 @@ use Rattle.rs_contents.specs.Contents.{AreGivenOnce, Contents, TableContents, ta
 use Rattle.rs_contents.specs.declared.opened.OpenedFile.{OpenedFile}
 use Rattle.rs_definitions.specs.Listing.{listed_table, listing_of}
 use Rattle.rs_definitions.specs.Relisting.{AreLawful, HasTableMore, LosesTable}
+use Rattle.rs_event_changes.proofs.Turning.{none_turned}
 use Rattle.rs_facts.specs.Fact.{Name, Names}
 use Rattle.rs_facts.specs.Runs.{Stretch}
 use Rattle.rs_facts.specs.Spans.{places_of}
 use Rattle.rs_machine.specs.Lawful.{Each, IsLawful}
 use Rattle.rs_machine.specs.State.{State, has}
 use Rattle.rs_machine.specs.Step as machine
+use Rattle.rs_page_owners.specs.Counts.{times}
+use Rattle.rs_page_owners.proofs.Moving.{one_at-same}
 use Rattle.rs_pages.specs.PageMap.{PageMap}
 use Rattle.rs_value.specs.declared.column.ColumnType.{ColumnType}
 use Rattle.rs_versioned.specs.Events.{Event, spans_at}
@@ -30,14 +34,15 @@ use Rattle.rs_standing.specs.Changed.{HasTableBetween, HaveOwnNumbers, TableCome
 use Rattle.rs_standing.specs.Live.{KeepsLive}
 use Rattle.rs_standing.specs.Meant.{IsMeant}
 use Rattle.rs_standing.specs.Seen.{events_of, events_with, referents_seen, spans_seen}
-use Rattle.rs_standing.specs.States.{named_table}
+use Rattle.rs_standing.specs.States.{named_table, tables_named}
 use Rattle.rs_standing.proofs.Named.{get_there}
-use Rattle.rs_state_laws.specs.Changing.{GivesState, next_of}
+use Rattle.rs_state_laws.specs.Changing.{GivesState, HasNoTable, HasTurned, next_of}
 use Rattle.rs_state_laws.specs.Parts.{PutsTable, TakesTable}
 use Rattle.rs_state_laws.specs.Standing.{StandsAt}
 use Rattle.rs_state_laws.proofs.DroppedRoutes.{numbers_of}
-use Rattle.rs_state_laws.proofs.NewDefinitions.{Laws, are_born, are_kept, are_lines, listed, next_is_meant, rest, state_is}
-use Rattle.rs_state_laws.proofs.TableEvents.{events_beside, events_come, none_under, place_of}
+use Rattle.rs_state_laws.proofs.NewDefinitions.{Laws, are_born, are_kept, are_lines, listed, next_is_meant, no_value, put_others, put_still, rest, state_is}
+use Rattle.rs_state_laws.proofs.TableEvents.{counted_there, events_beside, events_come, none_under, place_of, times_put}
+use Rattle.rs_state_laws.proofs.Turned.{same_turned}
 
 -- ---- laws
 
@@ -95,9 +100,10 @@ module _ (laws : Laws) (from : ℕ) (pages : PageMap) (file : OpenedFile) (defin
     gives_tables : (oldest : ℕ) → after ≡ state_from now (referents_on held) (spans_seen (next_of (with_tables now numbers tables)) next)
         (one_more (rest laws from pages file definitions held state stands below))
         → KeepsLive oldest old (record old { definitions = listing_of now; tables = tables })
-        → IsMeant next (record (next_of old) { definitions = listing_of now; tables = tables })
+        → IsMeant next (record (next_of old) { definitions = listing_of now; tables = tables }) → HasTurned next old (with_tables now numbers tables)
         → GivesState oldest old (with_tables now numbers tables) now held after
-    gives_tables oldest is live meant = record {
+    gives_tables oldest is live meant turned = record {
+      turned = turned;
       live = record {
         each = λ version low high. let sees = live.each version low high in record { routes = sees.routes; tables = sees.tables; events = sees.events; referents = sees.referents };
       };
@@ -238,11 +244,30 @@ module _ (laws : Laws) (once : ListsOnce) (lists : ListsMore) (stays : StaysMean
       ∙ ap (λ (spans : ℕ → ℕ → List Stretch). state_from more (referents_on held) spans (one_more (rest laws from pages file definitions held state stands below)))
       (fun_ext (λ table. fun_ext (λ route. sym (same_spans laws from pages file definitions held state stands below (next_of made) table route (events_then table)))))
 
+  -- no other table had its name
+  none_named : HasNoTable was.definitions name
+  none_named other there same =
+      let found : names.get definitions.tables name ≡ Some (named_table other).1 =
+      ap (λ (tables : Names catalog.TableItem). names.get tables name) stands.memory.catalog.tables
+      ∙ subst (λ (n : Name). names.get (tables_named was.definitions.tables) n ≡ Some (named_table other).1) same
+      (get_there (λ (table : TableItem). table.name) (λ table. (named_table table).1) was.definitions.tables other stands.meant.definitions.tables.in_order there) in
+      none-some (named_table other).1 (sym (no_value definitions.tables name new) ∙ found)
+
+  turned_then : HasTurned version was made
+  turned_then = record {
+    tables = λ table there. elim (put_others one (listing_of definitions).tables (listing_of more).tables put.tables table there) [
+      | inl is ↦ inr (subst (λ (t : TableItem). HasNoTable was.definitions t.name) is none_named)
+      | inr still ↦ inl (subst (λ (items : CatalogueItems). Contains items.tables table) same still)
+    ];
+    events = λ table there. same_turned version table.number was made (events_then table.number);
+    referents = none_turned version was.referents.referents;
+  }
+
   pub table_gives : GivesState oldest was between more held then
   table_gives =
       subst (λ contents. GivesState oldest was contents more held then) (sym whole)
       (gives_tables laws from pages file definitions held state stands below more then are_lawful (are_born laws from pages file definitions held state stands below)
-      between.pages tables_then oldest is_after live meant)
+      between.pages tables_then oldest is_after live meant turned_then)
 
 -- ---- a table that goes
 
@@ -336,8 +361,24 @@ module _ (laws : Laws) (lists : ListsLess) (stays : StaysMeantWithLess) (from ol
   meant_left = stays following (next_of had) (listing_of fewer) gone takes.before takes.table takes.after (next_is_meant laws from pages file definitions held state stands below)
       (laws.listed_meant fewer lawful_left) (ap (λ (items : CatalogueItems). items.routes) same_listed) has_between loses.tables.was
 
+  -- those that are left have other numbers
+  apart_left : (table : TableItem) → Contains (earlier ++ later) table → table.number ≡ item.number → ⊥
+  apart_left table there same =
+      let once = subst HaveOwnNumbers items_had stands.holds.said.numbered.given.tables_once item.number in
+      let here : 1 ≤ times (numbers_of (earlier ++ later)) item.number = subst (λ (n : ℕ). 1 ≤ times (numbers_of (earlier ++ later)) n) same (counted_there (earlier ++ later) table there) in
+      omega (arith, once, here, times_put earlier gone later item.number, one_at-same item.number)
+
+  turned_left : HasTurned following had made_left
+  turned_left = record {
+    tables = λ table there. inl (subst (λ (items : CatalogueItems). Contains items.tables table) same_listed
+        (put_still gone (listing_of fewer).tables (listing_of definitions).tables loses.tables table there));
+    events = λ table there. same_turned following table.number had made_left
+        (events_left table.number (apart_left table (subst (λ (items : List TableItem). Contains items table) loses.tables.was there)));
+    referents = none_turned following had.referents.referents;
+  }
+
   pub table_goes : GivesState oldest had between fewer held left
   table_goes =
       subst (λ contents. GivesState oldest had contents fewer held left) (sym whole_left)
       (gives_tables laws from pages file definitions held state stands below fewer left lawful_left (are_born laws from pages file definitions held state stands below)
-      between.pages tables_left oldest is_left (record { each = λ at low high. absurd (omega (arith, low, high, past)) }) meant_left)
+      between.pages tables_left oldest is_left (record { each = λ at low high. absurd (omega (arith, low, high, past)) }) meant_left turned_left)

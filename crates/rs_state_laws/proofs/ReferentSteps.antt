@@ -3,6 +3,7 @@ use Rattle.std.proofs.Common.{◌≡◌, ◌<◌, ◌≤◌, ◌+◌, ◌∙◌,
 use Rattle.std.specs.Prelude.{Contains, Option, is_some}
 use Rattle.std.specs.FinMap as names
 use Rattle.std.specs.FinMap.{get-from_entries}
+use Rattle.std.specs.List.{AllByRecursion}
 use Rattle.std.proofs.lemmas.Bool.{and_from, and_parts, eqb-true, false≢true, le-leb, lt-ltb, ltb-true}
 use Rattle.std.proofs.lemmas.List.Elements.{All-contains, All-from_recursion}
 use Rattle.rs_catalog.specs.Definitions as catalog
@@ -12,6 +13,8 @@ use Rattle.rs_catalog.proofs.NameOrder.{name_cmp-total}
 use Rattle.rs_cell_versions.specs.declared.cell.TheConstants.{LIVING}
 use Rattle.rs_contents.specs.Contents.{Contents}
 use Rattle.rs_contents.specs.declared.opened.OpenedFile.{OpenedFile}
+use Rattle.rs_event_changes.specs.Turns.{ReferentsTurn}
+use Rattle.rs_event_changes.proofs.Turning.{AreApart}
 use Rattle.rs_facts.specs.Fact.{Name, Names}
 use Rattle.rs_file_changes.specs.Calls.{EndsNamed}
 use Rattle.rs_machine.specs.Lawful.{IsLawful}
@@ -31,7 +34,8 @@ use Rattle.rs_state_laws.specs.Changing.{GivesState}
 use Rattle.rs_state_laws.specs.Parts.{EndsReferent, MovesReferent, PutsReferent, living_referent}
 use Rattle.rs_state_laws.specs.Standing.{StandsAt}
 use Rattle.rs_state_laws.proofs.OtherReferents as other
-use Rattle.rs_state_laws.proofs.ReferentLists.{HasUnder, NamesStay, OwnNames, SameUnderNames, ended_and_come, none_left, one_comes, one_ends, same_number, under}
+use Rattle.rs_state_laws.proofs.ReferentTurns.{SomeEnded, come_beside, held_apart, none_ended, one_ends, turned}
+use Rattle.rs_state_laws.proofs.ReferentLists.{HasUnder, NamesStay, OwnNames, SameUnderNames, ended_and_come, none_left, one_comes, one_ends as one_ends_under, same_number, under}
 
 -- what is said of the versions that see referents
 pub record Laws : Type 0 where
@@ -67,10 +71,32 @@ module _ (laws : Laws) (from oldest : ℕ) (pages : PageMap) (file : OpenedFile)
   abbrev referents : List ReferentRecord
   referents = contents.referents.referents
 
+  -- ---- what ends and comes
+
+  all_dated : AllByRecursion (IsDatedRecord kept_referents accepted) referents
+  all_dated = held_dated kept_referents referents_are_kept pages contents.referents.standing accepted referents contents.referents.used stands.holds.parts.referents
+
+  all_apart : AreApart referents
+  all_apart = held_apart pages contents.referents.standing accepted referents contents.referents.used stands.holds.parts.referents
+
+  abbrev SomeSo : List ReferentRecord → Type 0
+  SomeSo = SomeEnded next accepted (omega arith) below referents all_dated all_apart
+
+  none_so_far : SomeSo referents
+  none_so_far = none_ended next accepted (omega arith) below referents all_dated all_apart
+
+  end_so : (one : ReferentRecord) (cur now : List ReferentRecord) → one.died ≡ LIVING → HasEnded kept_referents next one cur now → SomeSo cur → SomeSo now
+  end_so = one_ends next accepted (omega arith) below referents all_dated all_apart
+
+  turned_so : (now : List ReferentRecord) → SomeSo now → ReferentsTurn next referents now
+  turned_so = turned next accepted (omega arith) below referents all_dated all_apart
+
+  come_turned : (one : ReferentRecord) (cur now : List ReferentRecord) → one.born ≡ next → one.died ≡ LIVING → HasOneMore one cur now → SomeSo cur → ReferentsTurn next referents now
+  come_turned = come_beside next accepted (omega arith) below referents all_dated all_apart
+
   dated : (one : ReferentRecord) → Contains referents one → IsDatedRecord kept_referents accepted one
   dated one there =
-      All-contains (IsDatedRecord kept_referents accepted) referents one (All-from_recursion (IsDatedRecord kept_referents accepted) referents
-      (held_dated kept_referents referents_are_kept pages contents.referents.standing accepted referents contents.referents.used stands.holds.parts.referents)) there
+      All-contains (IsDatedRecord kept_referents accepted) referents one (All-from_recursion (IsDatedRecord kept_referents accepted) referents all_dated) there
 
   live_names : HaveOwnNames oldest accepted referents
   live_names = record { each = λ version route low high. (stands.meant.records version (omega (arith, later, low)) high).referents.once route }
@@ -124,13 +150,15 @@ module _ (laws : Laws) (from oldest : ℕ) (pages : PageMap) (file : OpenedFile)
     record HasEndedHere (name : Name) (now : List ReferentRecord) : Type 0 where
       under_then : HasUnder next on.number (names.remove here name) referents now
       keeps : KeepsReferents oldest accepted referents now
+      some : SomeSo now
 
     ends : (name : Name) (found : Bool) (now : List ReferentRecord) → EndsNamed next on.number name found referents now → has (state.referents route) name ≡ true → HasEndedHere name now
     ends name true now ended is_there =
         let one = ended.one refl in
         record {
-          under_then = one_ends laws.stay laws.same contents next on.number name referents now below (λ r inside. omega (arith, (dated r inside).0)) one own;
+          under_then = one_ends_under laws.stay laws.same contents next on.number name referents now below (λ r inside. omega (arith, (dated r inside).0)) one own;
           keeps = laws.ended oldest accepted next one.one referents now live_names one.ended one.living (omega arith) below;
+          some = end_so one.one referents now one.living one.ended none_so_far;
         }
     ends name false now ended is_there =
         let some = some_there (names.get here name) (ap (λ (m : Names ℕ). is_some (names.get m name)) (sym state_under) ∙ is_there) in
@@ -140,12 +168,13 @@ module _ (laws : Laws) (from oldest : ℕ) (pages : PageMap) (file : OpenedFile)
 
     module _ (after : Names ℕ → Names ℕ) (holds : referents_on kept ≡ at_number on.number (after (referents_on held on.number)) (referents_on held))
         (is_lawful : IsLawful (with_referents state route (after (state.referents route)))) (between : Contents) (rest : between ≡ record contents { referents = between.referents })
-        (has_under : HasUnder next on.number (after here) referents between.referents.referents) (keeps : KeepsReferents oldest accepted referents between.referents.referents) where
+        (has_under : HasUnder next on.number (after here) referents between.referents.referents) (keeps : KeepsReferents oldest accepted referents between.referents.referents)
+        (turns : ReferentsTurn next referents between.referents.referents) where
       pub becomes : GivesState oldest contents between definitions kept (with_referents state route (after (state.referents route)))
       becomes = subst (λ (b : Contents). GivesState oldest contents b definitions kept (with_referents state route (after (state.referents route)))) (sym rest)
           (other.gives laws.states from oldest pages file definitions held state stands later below route on there between.referents (after (state.referents route)) kept
           (subst (λ (m : Names ℕ). HasUnder next on.number (after m) referents between.referents.referents) (sym state_under) has_under) keeps
-          (subst (λ (m : Names ℕ). referents_on kept ≡ at_number on.number (after m) (referents_on held)) held_under holds) is_lawful)
+          (subst (λ (m : Names ℕ). referents_on kept ≡ at_number on.number (after m) (referents_on held)) held_under holds) is_lawful turns)
 
     pub put : (name : Name) (measure : ℕ) (between : Contents) → has (state.referents route) name ≡ false
         → referents_on kept ≡ at_number on.number (names.insert (referents_on held on.number) name measure) (referents_on held)
@@ -157,6 +186,7 @@ module _ (laws : Laws) (from oldest : ℕ) (pages : PageMap) (file : OpenedFile)
         becomes (λ m. names.insert m name measure) holds is_lawful between puts.rest
         (comes name measure referents between.referents.referents puts.changed own none)
         (laws.come oldest accepted (living_referent next on.number name measure) referents between.referents.referents puts.changed (omega arith))
+        (come_turned (living_referent next on.number name measure) referents between.referents.referents refl refl puts.changed none_so_far)
 
     pub end : (name : Name) (between : Contents) → has (state.referents route) name ≡ true
         → referents_on kept ≡ at_number on.number (names.remove (referents_on held on.number) name) (referents_on held)
@@ -165,7 +195,7 @@ module _ (laws : Laws) (from oldest : ℕ) (pages : PageMap) (file : OpenedFile)
         → GivesState oldest contents between definitions kept (with_referents state route (names.remove (state.referents route) name))
     end name between is_there holds changes is_lawful =
         let ended = ends name changes.changed.0 between.referents.referents changes.changed.1 is_there in
-        becomes (λ m. names.remove m name) holds is_lawful between changes.rest ended.under_then ended.keeps
+        becomes (λ m. names.remove m name) holds is_lawful between changes.rest ended.under_then ended.keeps (turned_so between.referents.referents ended.some)
 
     pub move : (name : Name) (measure : ℕ) (now : Contents) → has (state.referents route) name ≡ true
         → referents_on kept ≡ at_number on.number (names.insert (referents_on held on.number) name measure) (referents_on held)
@@ -188,3 +218,4 @@ module _ (laws : Laws) (from oldest : ℕ) (pages : PageMap) (file : OpenedFile)
         (ended_and_come next on.number measure name referents between.referents.referents now.referents.referents under_then come)
         (laws.joined oldest accepted referents between.referents.referents now.referents.referents ended.keeps
         (laws.come oldest accepted (living_referent next on.number name measure) between.referents.referents now.referents.referents more (omega arith)))
+        (come_turned (living_referent next on.number name measure) between.referents.referents now.referents.referents refl refl more ended.some)

@@ -24,8 +24,16 @@ found_once (n ∷ numbers) zero number is =
     omega (arith, times-cons n numbers number, ap (λ m. one_at m number) same, one_at-same number)
 found_once (n ∷ numbers) (suc k) number is = omega (arith, times-cons n numbers number, found_once numbers k number is)
 
+-- so is that of an item that is listed
+pub counted_there : (items : List TableItem) (table : TableItem) → Contains items table → 1 ≤ times (numbers_of items) table.number
+counted_there [] table there = absurd (omega (arith, there.1))
+counted_there (i ∷ items) table (zero, inside, is) =
+    omega (arith, times-cons i.number (numbers_of items) table.number, ap (λ (t : TableItem). one_at t.number table.number) is, one_at-same table.number)
+counted_there (i ∷ items) table (suc k, inside, is) =
+    omega (arith, times-cons i.number (numbers_of items) table.number, counted_there items table (k, omega arith, is))
+
 -- an item among others counts once more
-times_put : (first : List TableItem) (one : TableItem) (last : List TableItem) (number : ℕ)
+pub times_put : (first : List TableItem) (one : TableItem) (last : List TableItem) (number : ℕ)
     → times (numbers_of (first ++ one ∷ last)) number ≡ one_at one.number number + times (numbers_of (first ++ last)) number
 times_put [] one last number = times-cons one.number (numbers_of last) number
 times_put (f ∷ first) one last number =

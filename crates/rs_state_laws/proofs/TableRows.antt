@@ -18,6 +18,8 @@ use Rattle.rs_catalog_pages.specs.Items.{CatalogueItems, RouteItem, TableItem}
 use Rattle.rs_cell_versions.specs.declared.cell.TheConstants.{LIVING}
 use Rattle.rs_contents.specs.Contents.{AreGivenOnce, Contents, HoldsAll, TableContents, table_numbers}
 use Rattle.rs_event_changes.specs.Changes.{ChangesRoute, Inserts, Removes}
+use Rattle.rs_event_changes.specs.Turns.{EventsTurn}
+use Rattle.rs_event_changes.proofs.Turning.{none_turned}
 use Rattle.rs_spans.specs.Removal.{goes_by}
 use Rattle.rs_facts.specs.Fact.{Name, Names, Places}
 use Rattle.rs_facts.specs.Insert.{missing, new_facts, with_row}
@@ -39,8 +41,9 @@ use Rattle.rs_standing.specs.Seen.{born_by, events_of, referents_seen, routes_at
 use Rattle.rs_standing.specs.States.{AreDefinitionsAt, named_route, named_table, routes_named}
 use Rattle.rs_standing.proofs.Named.{HasItem, item_of}
 use Rattle.rs_standing.proofs.Picked.{born_all, same_numbered}
-use Rattle.rs_state_laws.specs.Changing.{GivesState, next_of}
+use Rattle.rs_state_laws.specs.Changing.{GivesState, HasTurned, next_of}
 use Rattle.rs_state_laws.specs.Standing.{AreInMemory}
+use Rattle.rs_state_laws.proofs.Turned.{same_turned}
 use Rattle.rs_state_laws.proofs.OnRoutes.{LiesOn, StandsAt, among, bound_is, by_route, each_moved, of_routes, on_route, stands_at, within_ends}
 use Rattle.rs_value.specs.declared.column.Kind.{Kind}
 use Rattle.rs_value.specs.Row.{Row}
@@ -286,9 +289,23 @@ module _ (said : AreSaid) (pages : PageMap) (contents : Contents) (holds : Holds
     abbrev pub rest_of : ℕ → Rest
     rest_of version = record { changes = version; cursors = no_cursors }
 
+    -- the events of the table have turned, and nothing else has
+    turned_is : HasTurned next contents changed
+    turned_is = record {
+      tables = λ item there. inl there;
+      events = λ item there. elim (cases_eq item.number at.item.number) [
+        | inl same ↦ subst (λ (n : ℕ). EventsTurn next (events_of contents n) (events_of changed n)) (sym same)
+            (subst (λ (events : List Event). EventsTurn next events (events_of changed at.item.number)) (sym events_were)
+            (subst (λ (events : List Event). EventsTurn next old.events events) (sym (said.is contents at.item before old after between now own)) changes.changes.turns))
+        | inr apart ↦ same_turned next item.number contents changed (said.others contents at.item before old after between now item.number apart)
+      ];
+      referents = none_turned next contents.referents.referents;
+    }
+
     pub gives : (oldest : ℕ) → from ≤ oldest → (state : State) → state ≡ state_from definitions (λ (number : ℕ). referents_on held number) (spans_seen (next_of changed) next) (rest_of next)
         → GivesState oldest contents changed definitions held state
     gives oldest upto state is = record {
+      turned = turned_is;
       live = live_is oldest upto;
       meant = meant_is;
       memory = memory_is;

@@ -1,6 +1,5 @@
 -- What each change makes of its part of a file's contents.
-use Rattle.std.specs.Prelude.{◌≡◌, ◌≢◌, ◌+◌, ◌<◌, ℕ, Bool, Contains, IsPermutation, List, [], ◌∷◌, ◌++◌, Option, Some, length, slice_get}
-use Rattle.std.specs.List.{AllZip}
+use Rattle.std.specs.Prelude.{◌≡◌, ◌≢◌, ◌+◌, ℕ, Bool, Contains, List, [], ◌∷◌, ◌++◌, Option, length}
 use Rattle.rs_catalog_pages.specs.Items.{CatalogueItems}
 use Rattle.rs_cell_versions.specs.declared.cell.TheConstants.{LIVING}
 use Rattle.rs_contents.specs.Contents.{Contents, TableContents}

@@ -380,6 +380,7 @@ module _ {D : Type 0} (d : disk.Ghosts D) where
           let map = same_map (committed d last) (working d between) kept.committed_pages in
           record {
             between = becomes.between;
+            turned = becomes.turned;
             stands = record {
               contents = other;
               keeps = record {

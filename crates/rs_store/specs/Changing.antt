@@ -16,7 +16,7 @@ use Rattle.rs_refusal.specs.Counts.{counted_on}
 use Rattle.rs_refusal.specs.declared.refusal.Refusal.{Refusal}
 use Rattle.rs_refusal.specs.declared.refusal.Refusal.TheVariants as refusal
 use Rattle.rs_standing.specs.Live.{KeepsLive}
-use Rattle.rs_state_laws.specs.Changing.{ClearsEnough}
+use Rattle.rs_state_laws.specs.Changing.{ClearsEnough, HasTurned}
 use Rattle.rs_store.specs.Kept.{Keeps, StandsIn, StoreState}
 use Rattle.rs_value.specs.Values.{IsRowOf}
 
@@ -45,10 +45,11 @@ abbrev pub WantsChanging : Refusal → Type 0
 WantsChanging why = (why ≡ refusal.OutOfMemory) ⊎ (why ≡ refusal.Disk) ⊎ (why ≡ refusal.FileFull) ⊎ (why ≡ refusal.DamagedFile)
 
 module _ {D : Type 0} (d : disk.Ghosts D) where
-  -- the store stands in the state of the next version; versions from the oldest on see what they saw, and of the records that none of
-  -- them sees enough are gone
+  -- The store stands in the state of the next version, and versions from the oldest on see what they saw. Records that lived have ended
+  -- at that version, and others were born at it; of those that no version from the oldest on sees then, enough are gone, and no other.
   pub record HasBecome (oldest : ℕ) (old : Contents) (store : StoreState D) (state : State) : Type 0 where
     pub between : Contents
+    pub turned : HasTurned (old.directory.accepted + 1) old between
     pub stands : StandsIn d oldest store state
     pub clears : ClearsEnough oldest old between stands.contents
     pub next : stands.contents.directory.accepted ≡ old.directory.accepted + 1
