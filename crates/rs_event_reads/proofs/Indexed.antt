@@ -1,5 +1,7 @@
 -- What the search of an index finds.
 use Rattle.std.proofs.Common.{◌≡◌, ◌≤◌, ◌<◌, ◌^◌, ◌+◌, ◌*◌, ℕ, Bool, true, false, ◌&&◌, cond, List, [], ◌∷◌, ◌++◌, Some, get_or, slice_get, length, drop, map, filter, refl, sym, ap, ◌∙◌, subst, arith}
+use Rattle.std.proofs.lemmas.Cmp.{tied_itself}
+use Rattle.std.specs.FinMap.{nat_cmp-IsAntisymmetric, slice_cmp-IsAntisymmetric}
 use Rattle.std.proofs.lemmas.Option.{same_Some, slice_get-get_or, slice_get_within}
 use Rattle.std.specs.List.{AllZip, count_by}
 use Rattle.std.specs.Ordering.{is_eq}
@@ -17,15 +19,15 @@ use Rattle.rs_pages.specs.PageMap.{PageMap}
 use Rattle.rs_tree.specs.Calls.{Finds}
 use Rattle.rs_tree.specs.Cells.{is_within}
 use Rattle.rs_tree.specs.Tree.{IsNoTree}
-use Rattle.rs_value.proofs.EncodingOrder.{datum_wide}
-use Rattle.rs_value.proofs.RowOrder.{datum_antisymmetric}
+use Rattle.rs_value.proofs.EncodingOrder.{datum_wide, datums_cmp}
+use Rattle.rs_value.proofs.RowOrder.{datum_antisymmetric, datum_total}
 use Rattle.rs_value.specs.Encoding.{SaysDatum, width}
 use Rattle.rs_value.specs.Row.{Datum, datum_cmp}
 use Rattle.rs_value.specs.declared.column.ColumnType.{ColumnType}
 use Rattle.rs_versioned.proofs.Lifting.{zip_count, zip_filter}
 use Rattle.rs_versioned.specs.Events.{Event, SaysEvent, event_width, kept_events}
 use Rattle.rs_versioned.specs.Records.{HoldsRecords}
-use Rattle.rs_event_reads.specs.Found.{FindsSpans, HoldsNoEntries, may_have}
+use Rattle.rs_event_reads.specs.Found.{FindsSpans, HoldsNoEntries, may_have, pages_to}
 use Rattle.rs_event_reads.specs.Picked.{PicksSpans, SayNone}
 use Rattle.rs_event_reads.specs.Read.{spans_in}
 use Rattle.rs_event_reads.specs.declared.window.RouteWindow.{RouteWindow}
@@ -58,6 +60,8 @@ module _ (types : List ColumnType) (column : ℕ) (pages : PageMap) (standing : 
   finds_none window none = record {
     each = λ events used uses accepted records entries. sym (ap (spans_in window) (none_have none records.cells events records.say));
     bounded = λ events used uses accepted records entries. omega arith;
+    least = λ bytes says events used uses accepted records entries. absurd (none bytes says);
+    none = λ _. refl;
   }
 
   -- ---- a value that it can have
@@ -105,6 +109,11 @@ module _ (types : List ColumnType) (column : ℕ) (pages : PageMap) (standing : 
             (finds.exact entries.entries uses entries.tree)
             ∙ zip_count (SaysEvent types) (is_between index.field bytes low high) (may_have column datum window) between_alike records.cells events records.say in
             subst (λ (n : ℕ). reads ≤ entries.tree.height * (n + 2)) many (finds.bounded entries.entries uses entries.tree);
+        least = λ other said events used uses accepted records entries.
+            let same : bytes ≡ other =
+            slice_cmp-IsAntisymmetric nat_cmp-IsAntisymmetric bytes other (datums_cmp index.field.column bytes other datum datum says said ∙ tied_itself datum_total datum) in
+            subst (λ (b : List ℕ). pages_to window b pages index records.cells uses entries ≤ reads) same (finds.least entries.entries uses entries.tree);
+        none = λ without. absurd (without bytes says);
       }
 
       -- a cell that was found says no event

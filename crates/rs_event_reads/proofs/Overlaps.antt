@@ -152,6 +152,7 @@ module _ (types : List ColumnType) where
           let many : length found ≡ count_by (touches window) events =
           zip_lengths (SaysEvent types) found (filter (touches window) events) (found_zip events used accepted holds) ∙ length-filter (touches window) events in
           subst (λ (n : ℕ). reads ≤ holds.holds.tree.height * (n + 2)) many (finds.bounded holds.cells used holds.holds.tree);
+      least = λ events used accepted holds. finds.least holds.cells used holds.holds.tree;
     }
 
     -- a cell that was found says no event

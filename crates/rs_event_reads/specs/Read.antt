@@ -2,11 +2,13 @@
 use Rattle.std.specs.Prelude.{◌≡◌, ◌≤◌, ◌+◌, ◌*◌, ◌==◌, ◌&&◌, ℕ, Bool, List, count_by, filter, map, nat_eq, nat_lt}
 use Rattle.rs_facts.specs.Runs.{Stretch}
 use Rattle.rs_pages.specs.PageMap.{PageMap}
+use Rattle.rs_interval.specs.Finding.{ends_after, event_form, route_from}
+use Rattle.rs_tree.specs.Leading.{pages_leading}
 use Rattle.rs_value.specs.declared.column.ColumnType.{ColumnType}
 use Rattle.rs_value.specs.declared.column.Kind.{Kind}
 use Rattle.rs_value.specs.declared.column.Kind.TheVariants.{Line, Point}
 use Rattle.rs_cell_versions.specs.Versioned.{Standing}
-use Rattle.rs_versioned.specs.Events.{Event, is_visible, kept_events, span_of}
+use Rattle.rs_versioned.specs.Events.{Event, event_width, is_visible, kept_events, span_of}
 use Rattle.rs_versioned.specs.Records.{HoldsRecords}
 use Rattle.rs_event_reads.specs.declared.window.RouteWindow.{RouteWindow}
 
@@ -27,13 +29,22 @@ spans_in window = spans_within window.kind window.version window.route window.fr
 abbrev pub touches : RouteWindow → Event → Bool
 touches window event = event.route == window.route && (nat_lt event.lo window.to && nat_lt window.from event.hi)
 
--- Whatever events lie there, these are their spans in the window. No more pages were read than two for each level of their tree and as
--- many more for each event that overlaps the window, of whatever version.
+-- how many pages of the tree lead to cells of events that overlap the window, its root among them
+abbrev pub pages_over : RouteWindow → (types : List ColumnType) (pages : PageMap) (standing : Standing) (accepted : ℕ) (events : List Event) (used : ℕ → ℕ)
+    → HoldsRecords (kept_events types) pages standing accepted events used → ℕ
+pages_over window types pages standing accepted events used records =
+    pages_leading (route_from window.route 0) (route_from window.route window.to) (ends_after window.from) (event_form (event_width types)) pages
+    records.holds.tree.height standing.root records.cells used records.holds.tree.stands
+
+-- Whatever events lie there, these are their spans in the window. Each page that leads to an event that overlaps the window, of whatever
+-- version, was read, and no more pages than two for each level of their tree and as many more for each such event.
 pub record ReadsSpans (types : List ColumnType) (pages : PageMap) (standing : Standing) (window : RouteWindow) (spans : List Stretch) (reads : ℕ) : Type 0 where
   pub each : (events : List Event) (used : ℕ → ℕ) (accepted : ℕ) → HoldsRecords (kept_events types) pages standing accepted events used
       → spans ≡ spans_in window events
   pub bounded : (events : List Event) (used : ℕ → ℕ) (accepted : ℕ) → (records : HoldsRecords (kept_events types) pages standing accepted events used)
       → reads ≤ records.holds.tree.height * (count_by (touches window) events + 2)
+  pub least : (events : List Event) (used : ℕ → ℕ) (accepted : ℕ) → (records : HoldsRecords (kept_events types) pages standing accepted events used)
+      → pages_over window types pages standing accepted events used records ≤ reads
 
 -- no events lie there
 pub record HoldsNoEvents (types : List ColumnType) (pages : PageMap) (standing : Standing) : Type 0 where

@@ -17,9 +17,9 @@ use rs_refusal::Refusal;
 use rs_tree::{Layout, Summary};
 use std::alloc::Global;
 
-/// The spans of the table in the window, in the order in which they are printed, and how many pages were read: two for each level of
-/// the table's tree and as many more for each event that overlaps the window, of whatever version, at the most. Spans that are not
-/// placed as the kind asks are left out. It is refused with 90, with 91, and with 94 only where no events of the table lie there.
+/// The spans of the table in the window, in the order in which they are printed, and how many pages were read: those that lead to events
+/// that overlap the window, of whatever version, and at the most two for each level of the table's tree and as many more for each such
+/// event. Spans that are not placed as the kind asks are left out. It is refused with 90, with 91, and with 94 only where no events of the table lie there.
 pub fn spans<P: Pages>(
     alloc: Global,
     pages: &mut P,

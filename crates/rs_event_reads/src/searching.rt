@@ -30,8 +30,9 @@ use rs_value::{Literal, column_width};
 use std::alloc::Global;
 
 /// The spans of the table in the window that have the value in the column of the index, in the order in which they are printed, and how
-/// many pages were read: two for each level of the index and as many more for each event with the value on the route, of whatever
-/// version, that begins before the window ends, at the most. A value that the column can't have finds nothing, and no page is read.
+/// many pages were read: those that lead to entries of the value on the route before the window ends, and at the most two for each level
+/// of the index and as many more for each event with the value on the route, of whatever version, that begins before the window ends. A
+/// value that the column can't have finds nothing, and no page is read.
 /// It is refused with 90, with 91, and with 94 only where no events of the table lie there with their entries in the index.
 pub fn spans_with<P: Pages>(
     alloc: Global,

@@ -80,7 +80,7 @@ module _ (window : RouteWindow) (map_of : PageMap) (opened : OpenedTable) where
 
   pub pages_open : {Z : Type 0} (file : OpenedFile) (number : ℕ) → IsTableNumbered file number opened → (result : Result (Vec Span Z × ℕ) Refusal)
       → IfOk result (λ found. ReadsSpans opened.records.types map_of opened.records.working window (map seen found.0.items) found.1) → IfOk result (λ found. ReadsTable map_of file number window found.1)
-  pages_open file number at (Ok found) are = record { opened = opened; numbered = at; few = are.bounded }
+  pages_open file number at (Ok found) are = record { opened = opened; numbered = at; few = are.bounded; least = are.least }
   pages_open file number at (Err why) are = tt
 
 pub has_read : {Z : Type 0} (map_of : PageMap) (file : OpenedFile) (number : ℕ) (window : RouteWindow) (result : Result (Vec Span Z × ℕ) Refusal)
@@ -124,7 +124,7 @@ pub index_pages : {Z : Type 0} (map_of : PageMap) (file : OpenedFile) (key : Ind
 index_pages map_of file key opened numbered position at index there column same datum window (Err why) are = tt
 index_pages map_of file key opened numbered position at index there column same datum window (Ok found) are =
     let here = subst (λ (k : ℕ). FindsSpans opened.records.types k map_of opened.records.working index datum window (map seen found.0.items) found.1) same are in
-    inr (inr (record { opened = opened; numbered = numbered; position = position; at = at; index = index; there = there; few = here.bounded }))
+    inr (inr (record { opened = opened; numbered = numbered; position = position; at = at; index = index; there = there; few = here.bounded; least = here.least; none = here.none }))
 
 -- the table is read where the file has no such index
 pub table_pages : {Z : Type 0} (map_of : PageMap) (file : OpenedFile) (key : IndexKey) → HasNoIndex (said_catalogue file.definitions).indexes key → (datum : Datum) (window : RouteWindow)

@@ -11,11 +11,12 @@ use Rattle.rs_contents.specs.declared.opened.OpenedFile.{OpenedFile}
 use Rattle.rs_contents.specs.declared.opened.OpenedTable.{OpenedTable}
 use Rattle.rs_disk.specs.declared.disk.Disk as disk
 use Rattle.rs_pager.specs.Maps.{IsTied, KeepsChanges, committed, working}
-use Rattle.rs_event_reads.specs.Found.{may_have, spans_with}
-use Rattle.rs_event_reads.specs.Read.{spans_in, touches}
+use Rattle.rs_event_reads.specs.Found.{may_have, pages_to, spans_with}
+use Rattle.rs_event_reads.specs.Read.{pages_over, spans_in, touches}
 use Rattle.rs_event_reads.specs.declared.window.RouteWindow.{RouteWindow}
 use Rattle.rs_facts.specs.Runs.{Stretch}
 use Rattle.rs_pages.specs.PageMap.{PageMap, SamePages}
+use Rattle.rs_value.specs.Encoding.{SaysDatum}
 use Rattle.rs_value.specs.Row.{Datum}
 use Rattle.rs_versioned.specs.Events.{Event, kept_events}
 use Rattle.rs_versioned.specs.Records.{HoldsRecords}
@@ -51,16 +52,19 @@ pub record ReadsNone (file : OpenedFile) (number reads : ℕ) : Type 0 where
   pub none : HasNoNumber file.definitions.tables.items number
   pub no_pages : reads ≡ 0
 
--- no more of the table's tree than two for each of its levels and as many more for each event that overlaps the window, of whatever
--- version
+-- of the table's tree each page that leads to an event that overlaps the window, of whatever version, and no more than two for each of
+-- its levels and as many more for each such event
 pub record ReadsTable (map : PageMap) (file : OpenedFile) (number : ℕ) (window : RouteWindow) (reads : ℕ) : Type 0 where
   pub opened : OpenedTable
   pub numbered : IsTableNumbered file number opened
   pub few : (events : List Event) (used : ℕ → ℕ) (accepted : ℕ) → (records : HoldsRecords (kept_events opened.records.types) map opened.records.working accepted events used)
       → reads ≤ records.holds.tree.height * (count_by (touches window) events + 2)
+  pub least : (events : List Event) (used : ℕ → ℕ) (accepted : ℕ) → (records : HoldsRecords (kept_events opened.records.types) map opened.records.working accepted events used)
+      → pages_over window opened.records.types map opened.records.working accepted events used records ≤ reads
 
--- no more of the index's tree than two for each of its levels and as many more for each event with the value on the window's route, of
--- whatever version, that begins before the window ends
+-- of the index's tree each page that leads to an entry of the value on the window's route before the window ends, and no more than two
+-- for each of its levels and as many more for each event with the value on the route, of whatever version, that begins before the window
+-- ends; no page where no bytes of the column say the value
 pub record ReadsIndex (map : PageMap) (file : OpenedFile) (key : IndexKey) (datum : Datum) (window : RouteWindow) (reads : ℕ) : Type 0 where
   pub opened : OpenedTable
   pub numbered : IsTableNumbered file key.table opened
@@ -71,6 +75,10 @@ pub record ReadsIndex (map : PageMap) (file : OpenedFile) (key : IndexKey) (datu
   pub few : (events : List Event) (used uses : ℕ → ℕ) (accepted : ℕ) → (records : HoldsRecords (kept_events opened.records.types) map opened.records.working accepted events used)
       → (entries : HoldsIndex index.field map index.working records.cells uses)
       → reads ≤ entries.tree.height * (count_by (may_have key.column datum window) events + 2)
+  pub least : (bytes : List ℕ) → SaysDatum index.field.column bytes datum → (events : List Event) (used uses : ℕ → ℕ) (accepted : ℕ)
+      → (records : HoldsRecords (kept_events opened.records.types) map opened.records.working accepted events used)
+      → (entries : HoldsIndex index.field map index.working records.cells uses) → pages_to window bytes map index records.cells uses entries ≤ reads
+  pub none : ((bytes : List ℕ) → SaysDatum index.field.column bytes datum → ⊥) → reads ≡ 0
 
 abbrev pub HasRead : PageMap → OpenedFile → ℕ → RouteWindow → ℕ → Type 0
 HasRead map file number window reads = ReadsNone file number reads ⊎ ReadsTable map file number window reads
