@@ -14,4 +14,4 @@ mod picking;
 mod removal;
 
 pub use insertion::insert;
-pub use removal::remove;
+pub use removal::{RouteStretch, remove};

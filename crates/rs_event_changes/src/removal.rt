@@ -20,8 +20,19 @@ use rs_pages::Pages;
 use rs_refusal::Refusal;
 use std::alloc::Global;
 
-/// Takes the rows that meet the condition, or all rows where there is none, away from the route from thousandth `lo` on and below `hi`,
-/// as versions from this one on see it, and answers how many facts went. Where `hi` is not above `lo`, nothing does.
+/// A stretch of a route, in thousandths.
+#[derive(Clone, Copy)]
+pub struct RouteStretch {
+    /// The route's number.
+    pub route: u32,
+    /// The first thousandth inside.
+    pub lo: u32,
+    /// The first thousandth after it.
+    pub hi: u32,
+}
+
+/// Takes the rows that meet the condition, or all rows where there is none, away from the stretch, as versions from this one on see it,
+/// and answers how many facts went. Where the stretch has no thousandth, nothing does.
 ///
 /// It is refused with 90, with 91, with 92 where the file is full, and with 94 only where no such table with its indexes, dated up to
 /// this version, lies there with pages of its own; the table, its indexes and the working pages are to be abandoned then.
@@ -30,9 +41,7 @@ pub fn remove<P: Pages>(
     pages: &mut P,
     table: &mut OpenedTable,
     version: u64,
-    route: u32,
-    lo: u32,
-    hi: u32,
+    stretch: RouteStretch,
     goes: Option<&Condition>,
 ) -> Result<u128, Refusal>
     requires begun { (P.store pages.old).is_begun ≡ true }
@@ -41,11 +50,12 @@ pub fn remove<P: Pages>(
     requires order { HaveDiedBy version table.old.records.working.dead }
     ensures leaves { Leaves P.Pages table.old version result pages.old pages.new }
     ensures removes { P.is_tied pages.old → IfOk result (λ count. Removed (P.store pages.old).map (P.store pages.new).map table.old table.new
-        version route lo hi (option_copied goes.entry) count) }
+        version stretch.route stretch.lo stretch.hi (option_copied goes.entry) count) }
     ensures table { KeepsTable table.old.records table.new.records table.old.indexes.items table.new.indexes.items }
     ensures order { HaveDiedBy version table.new.records.working.dead }
 {
     what_gave_way_is_still_seen();
+    let RouteStretch { route, lo, hi } = stretch;
     if hi <= lo {
         return Ok(0);
     }

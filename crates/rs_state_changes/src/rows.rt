@@ -16,6 +16,7 @@ ghost use Rattle.rs_value.specs.View.{row_of};
 use crate::completing::complete;
 use crate::counting::garbage;
 use rs_contents::OpenedFile;
+use rs_event_changes::RouteStretch;
 use rs_facts::{Condition, Span};
 use rs_pages::Pages;
 use rs_refusal::Refusal;
@@ -155,14 +156,17 @@ fn remove_in_place<P: Pages>(
 {
     let version = file.accepted + 1;
     let goes = removal.goes.as_ref();
+    let stretch = RouteStretch {
+        route: removal.route,
+        lo: removal.lo,
+        hi: removal.hi,
+    };
     rs_event_changes::remove(
         alloc,
         pages,
         &mut file.tables[removal.table],
         version,
-        removal.route,
-        removal.lo,
-        removal.hi,
+        stretch,
         goes,
     )
 }

@@ -63,7 +63,7 @@ returns-in_err-left-clause-leaves g c =
             subst (λ (w : Refusal). WorksAfter {T = ℕ} none (Err w) first mid) (sym damaged.0)
             (damaged_err none first mid read.works read.ends (λ tied.
             none_said was.records.types c.args.version first.map mid.map (rests.rests.keeps.pages tied) was.records.working was.indexes.items
-            (is_visible c.args.version c.args.route c.args.lo c.args.hi) (listed found) (c.in_ok-found.ensures.found tied)
+            (is_visible c.args.version c.args.stretch.route c.args.stretch.lo c.args.stretch.hi) (listed found) (c.in_ok-found.ensures.found tied)
             (subst (λ types. SayNone types (listed found)) c.schema.ensures damaged.1)))
       ]);
     }
@@ -82,7 +82,7 @@ returns-in_err-make-clause-leaves g c =
     let edit = c.in_ok-left.left.edit in
     let rests = c.in_ok-found.ensures.rests in
     let read = rests-work g.P.Pages.is_tied g.P.Pages.store g.P.Pages.keeps (Unit {0}) (Ok found) c.args.pages.now c.visible.new.pages rests tt in
-    let takes = subst (λ types. Takes types c.args.lo c.args.hi (goes_by (option_copied c.args.goes)) (listed found) (listed edit.gone) (map seen edit.come.items) c.in_ok-left.left.count) c.schema.ensures c.in_ok-left.ensures.takes in
+    let takes = subst (λ types. Takes types c.args.stretch.lo c.args.stretch.hi (goes_by (option_copied c.args.goes)) (listed found) (listed edit.gone) (map seen edit.come.items) c.in_ok-left.left.count) c.schema.ensures c.in_ok-left.ensures.takes in
     let p = err_from_is_err_and c.from_residual-in_err-make.result c.from_residual-in_err-make.ensures.1 in
     record {
       keeps = g.met.P.Pages.keeps_trans c.args.pages.now c.visible.new.pages c.make.new.pages rests.below c.in_err-make.ensures.leaves.keeps;
@@ -91,8 +91,8 @@ returns-in_err-make-clause-leaves g c =
           first mid (g.P.Pages.store c.make.new.pages) read.works read.ends
           (λ there tied.
           none_with_these was.records.types c.args.version first.map mid.map (rests.rests.keeps.pages tied) was.records.working was.indexes.items
-          (is_visible c.args.version c.args.route c.args.lo c.args.hi) (listed found) (c.in_ok-found.ensures.found tied) (listed edit.gone)
-          (are_there was.records.types c.args.version c.args.route c.requires.version c.args.lo c.args.hi (option_copied c.args.goes) first.map was.records.working
+          (is_visible c.args.version c.args.stretch.route c.args.stretch.lo c.args.stretch.hi) (listed found) (c.in_ok-found.ensures.found tied) (listed edit.gone)
+          (are_there was.records.types c.args.version c.args.stretch.route c.requires.version c.args.stretch.lo c.args.stretch.hi (option_copied c.args.goes) first.map was.records.working
           (listed found) (listed edit.gone) (map seen edit.come.items) c.in_ok-left.left.count (c.in_ok-found.ensures.found tied) takes)
           (there (g.met.P.Pages.keeps_tied c.args.pages.now c.visible.new.pages rests.below tied)))
           c.in_err-make.ensures.leaves.works);
@@ -101,7 +101,7 @@ returns-in_err-make-clause-leaves g c =
 pub returns-then-hi-lo-clause-removes : goal.returns-then-hi-lo-clause-removes
 returns-then-hi-lo-clause-removes g c = λ tied accepted before.
     let was = c.args.table.now in
-    none_removed was.records.types c.args.version c.args.route c.requires.version c.args.lo c.args.hi (option_copied c.args.goes) (g.P.Pages.store c.args.pages.now).map was.records.working was.indexes.items
+    none_removed was.records.types c.args.version c.args.stretch.route c.requires.version c.args.stretch.lo c.args.stretch.hi (option_copied c.args.goes) (g.P.Pages.store c.args.pages.now).map was.records.working was.indexes.items
     (omega (arith, c.if-hi-lo.true)) accepted before
 
 pub returns-clause-removes : goal.returns-clause-removes
@@ -114,8 +114,8 @@ returns-clause-removes g c = λ tied accepted before.
     let found = c.in_ok-found.found in
     let edit = c.in_ok-left.left.edit in
     let rests = c.in_ok-found.ensures.rests in
-    let takes = subst (λ types. Takes types c.args.lo c.args.hi (goes_by (option_copied c.args.goes)) (listed found) (listed edit.gone) (map seen edit.come.items) c.in_ok-left.left.count) c.schema.ensures c.in_ok-left.ensures.takes in
-    removed_in_pages was.records.types c.args.version c.args.route c.requires.version c.args.lo c.args.hi (option_copied c.args.goes) first.map was.records.working
+    let takes = subst (λ types. Takes types c.args.stretch.lo c.args.stretch.hi (goes_by (option_copied c.args.goes)) (listed found) (listed edit.gone) (map seen edit.come.items) c.in_ok-left.left.count) c.schema.ensures c.in_ok-left.ensures.takes in
+    removed_in_pages was.records.types c.args.version c.args.stretch.route c.requires.version c.args.stretch.lo c.args.stretch.hi (option_copied c.args.goes) first.map was.records.working
     (listed found) (listed edit.gone) (map seen edit.come.items) c.in_ok-left.left.count (c.in_ok-found.ensures.found tied) takes
     (omega (arith, c.if-hi-lo.false)) mid.map last.map (rests.rests.keeps.pages tied) is.records.working was.indexes.items is.indexes.items c.what_gave_way_is_still_seen.ensures
     (c.in_ok-make.ensures.made (g.met.P.Pages.keeps_tied c.args.pages.now c.visible.new.pages rests.below tied)) accepted before
