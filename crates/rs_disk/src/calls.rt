@@ -9,7 +9,7 @@ use std::marker::Model;
 
 /// The calls of a disk so far.
 #[derive(Drop)]
-pub(crate) struct CallLog {
+pub struct CallLog {
     failures: u64,
     is_synced: bool,
 }
@@ -24,7 +24,7 @@ impl Model for CallLog {
 
 impl CallLog {
     /// No call was made yet.
-    pub(crate) fn new() -> CallLog
+    pub fn new() -> CallLog
         ensures { result ≡ no_calls }
     {
         CallLog {
@@ -34,7 +34,7 @@ impl CallLog {
     }
 
     /// How many calls have failed.
-    pub(crate) fn failures(&self) -> u64
+    pub fn failures(&self) -> u64
         ensures { result ≡ self.now.failures }
     {
         self.failures
@@ -42,7 +42,7 @@ impl CallLog {
 
     /// Notes a read, and passes on what it answered.
     #[tactic(auto, unfolding(rs_refusal::specs::Counts::counted_on))]
-    pub(crate) fn note_read(&mut self, outcome: Result<(), DiskFault>) -> Result<(), DiskFault>
+    pub fn note_read(&mut self, outcome: Result<(), DiskFault>) -> Result<(), DiskFault>
         ensures same { result ≡ outcome }
         ensures count { Counts outcome self.old.failures self.new.failures }
         ensures synced { self.new.is_synced ≡ self.old.is_synced }
@@ -54,7 +54,7 @@ impl CallLog {
     }
 
     /// Notes a write or a cut, and passes on what it answered.
-    pub(crate) fn note_change(&mut self, outcome: Result<(), DiskFault>) -> Result<(), DiskFault>
+    pub fn note_change(&mut self, outcome: Result<(), DiskFault>) -> Result<(), DiskFault>
         ensures same { result ≡ outcome }
         ensures count { Counts outcome self.old.failures self.new.failures }
         ensures synced { self.new.is_synced ≡ false }
@@ -64,7 +64,7 @@ impl CallLog {
     }
 
     /// Notes a sync, and passes on what it answered.
-    pub(crate) fn note_sync(&mut self, outcome: Result<(), DiskFault>) -> Result<(), DiskFault>
+    pub fn note_sync(&mut self, outcome: Result<(), DiskFault>) -> Result<(), DiskFault>
         ensures same { result ≡ outcome }
         ensures count { Counts outcome self.old.failures self.new.failures }
         ensures synced { Syncs outcome self.old.is_synced self.new.is_synced }

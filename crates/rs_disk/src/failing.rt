@@ -5,6 +5,7 @@
 ghost use Rattle.std.specs.Prelude.{◌≡◌, ◌==◌, ◌-◌, ◌*◌, false, length, IsTrue, IsErr, OnOk};
 ghost use Rattle.rs_disk.specs.Calls.{no_calls};
 ghost use Rattle.rs_disk.specs.Content.{Gives, Holds, KeepsOthers, CutsTo};
+ghost use Rattle.std.proofs.lemmas.Bool.{false≢true};
 ghost use Rattle.rs_disk.specs.Counts.{Counts, Syncs};
 
 use crate::calls::CallLog;
@@ -79,7 +80,7 @@ impl<D: Disk> FailingDisk<D> {
 }
 
 /// Counts a call, and answers whether it is the one that fails.
-fn is_failing_call(calls_left: &mut u64) -> bool
+pub fn is_failing_call(calls_left: &mut u64) -> bool
     ensures turn { result ≡ (calls_left.old == 1) }
     ensures left { calls_left.new ≡ calls_left.old - 1 }
 {
@@ -99,7 +100,23 @@ impl<D: Disk> Disk for FailingDisk<D> {
 
     ghost is_synced = { λ failing. failing.calls.is_synced };
 
+    ghost keeps_crashes = { λ _. false };
+
+    ghost may_leave = { λ _ _. ⊥ };
+
+    ghost left_since = { λ _ _ _. ⊥ };
+
     ghost zeros_past_the_end = { λ failing. D.Disk.zeros_past_the_end failing.disk };
+
+    ghost zeros_past_an_image = { λ _ keeps. absurd (false≢true keeps) };
+
+    ghost reads_too = { λ _ keeps. absurd (false≢true keeps) };
+
+    ghost starts_now = { λ _ keeps. absurd (false≢true keeps) };
+
+    ghost counts_now = { λ _ _ keeps. absurd (false≢true keeps) };
+
+    ghost only_now = { λ _ keeps. absurd (false≢true keeps) };
 
     fn read(&mut self, at: u64, buffer: &mut [u8]) -> Result<(), DiskFault>
         ensures bytes { IsTrue (D.is_honest self.old.disk)

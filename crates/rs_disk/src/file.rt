@@ -99,7 +99,23 @@ impl<F: FileExt + OpenFile> Disk for FileDisk<F> {
 
     ghost is_synced = { λ calls. calls.is_synced };
 
+    ghost keeps_crashes = { λ _. false };
+
+    ghost may_leave = { λ _ _. ⊥ };
+
+    ghost left_since = { λ _ _ _. ⊥ };
+
     ghost zeros_past_the_end = { λ _ honest. absurd (false≢true honest) };
+
+    ghost zeros_past_an_image = { λ _ keeps. absurd (false≢true keeps) };
+
+    ghost reads_too = { λ _ keeps. absurd (false≢true keeps) };
+
+    ghost starts_now = { λ _ keeps. absurd (false≢true keeps) };
+
+    ghost counts_now = { λ _ _ keeps. absurd (false≢true keeps) };
+
+    ghost only_now = { λ _ keeps. absurd (false≢true keeps) };
 
     fn read(&mut self, at: u64, buffer: &mut [u8]) -> Result<(), DiskFault> {
         let outcome = read_at(&self.file, at, buffer).map_err(|_| DiskFault);

@@ -5,6 +5,7 @@
 ghost use Rattle.std.specs.Prelude.{◌≡◌, ℕ, ◌+◌, ◌<◌, ◌≤◌, max, ◌*◌, true, false, [], length, slice_index, take, IsOk, OnOk, OnErr};
 ghost use Rattle.rs_disk.specs.Calls.{no_calls};
 ghost use Rattle.rs_disk.specs.Content.{content_of, Gives, Holds, KeepsOthers};
+ghost use Rattle.std.proofs.lemmas.Bool.{false≢true};
 ghost use Rattle.rs_disk.specs.Counts.{Counts};
 ghost use Rattle.std.proofs.lemmas.List.{get_or_past};
 
@@ -39,6 +40,31 @@ impl MemoryDisk {
             calls: CallLog::new(),
         }
     }
+
+    /// A disk that holds these bytes.
+    pub fn from_bytes(bytes: Vec<u8>) -> MemoryDisk
+        ensures { result ≡ record { bytes = bytes.items; calls = no_calls } }
+    {
+        MemoryDisk {
+            bytes,
+            calls: CallLog::new(),
+        }
+    }
+
+    /// The bytes that the disk holds.
+    pub fn bytes(&self) -> &[u8]
+        ensures { result.now ≡ self.now.bytes }
+    {
+        &self.bytes
+    }
+
+    /// Gives back the bytes that the disk holds.
+    pub fn into_bytes(self) -> Vec<u8>
+        ensures { result.items ≡ self.bytes }
+    {
+        let MemoryDisk { bytes, calls: _ } = self;
+        bytes
+    }
 }
 
 impl Disk for MemoryDisk {
@@ -50,7 +76,23 @@ impl Disk for MemoryDisk {
 
     ghost is_synced = { λ m. m.calls.is_synced };
 
+    ghost keeps_crashes = { λ _. false };
+
+    ghost may_leave = { λ _ _. ⊥ };
+
+    ghost left_since = { λ _ _ _. ⊥ };
+
     ghost zeros_past_the_end = { λ m _ i past. get_or_past m.bytes i 0 past };
+
+    ghost zeros_past_an_image = { λ _ keeps. absurd (false≢true keeps) };
+
+    ghost reads_too = { λ _ keeps. absurd (false≢true keeps) };
+
+    ghost starts_now = { λ _ keeps. absurd (false≢true keeps) };
+
+    ghost counts_now = { λ _ _ keeps. absurd (false≢true keeps) };
+
+    ghost only_now = { λ _ keeps. absurd (false≢true keeps) };
 
     fn read(&mut self, at: u64, buffer: &mut [u8]) -> Result<(), DiskFault>
         ensures succeeds { IsOk result }
