@@ -1,0 +1,127 @@
+//! A disk for tests that records its calls, one of which may fail.
+
+ghost use Rattle.std.specs.Prelude.{◌≡◌, ◌==◌, ◌-◌, true, [], ◌∷◌, IfOk};
+ghost use Rattle.rs_disk.specs.Calls.{no_calls};
+
+use crate::call::Call;
+use crate::recording::Recording;
+use rs_disk::{CallLog, Disk, DiskFault, FailedCut, is_failing_call};
+use std::alloc::{AllocError, Global};
+use std::marker::Model;
+
+/// A disk in memory that keeps the model of crashes. It records each call, and one call may fail.
+///
+/// Room for the record of a call is made before the call is done; where that is refused, the call fails and nothing
+/// changes.
+#[derive(Drop)]
+pub struct RecordingDisk {
+    recording: Recording,
+    /// How many calls are left up to the one that fails, that one among them; 0: none is left to fail.
+    calls_left: u64,
+    failed_cut: FailedCut,
+    log: CallLog,
+}
+
+impl Model for RecordingDisk {
+    ghost use Rattle.rs_recording_disk.specs.Recorded.{RecordedDisk};
+
+    ghost Value = { RecordedDisk };
+
+    ghost view = { λ m. record {
+      recorded = m.recording;
+      calls_left = m.calls_left;
+      failed_cut = m.failed_cut;
+      calls = m.log;
+    } };
+}
+
+impl RecordingDisk {
+    /// A disk that holds these bytes, and loses none of them in a crash. The call with the number `failing_call`
+    /// fails, the first being 1: a read or a sync does nothing, a write writes the first half of its range, a cut
+    /// does what `failed_cut` says. With 0 no call is made to fail.
+    pub fn new(
+        alloc: Global,
+        bytes: Vec<u8>,
+        failing_call: u64,
+        failed_cut: FailedCut,
+    ) -> Result<RecordingDisk, AllocError>
+        ensures { IfOk result (λ disk. disk ≡ record {
+          recorded = record { start = bytes.items; past = [] };
+          calls_left = failing_call;
+          failed_cut = failed_cut;
+          calls = no_calls;
+        }) }
+    {
+        Ok(RecordingDisk {
+            recording: Recording::new(alloc, bytes)?,
+            calls_left: failing_call,
+            failed_cut,
+            log: CallLog::new(),
+        })
+    }
+}
+
+impl Disk for RecordingDisk {
+    ghost use Rattle.std.specs.Prelude.{true};
+    ghost use Rattle.rs_disk.specs.Content.{content_of};
+    ghost use Rattle.rs_recording_disk.specs.Recorded.{content_now, LeavesNow, LeftSince};
+    ghost use Rattle.rs_recording_disk.specs.Laws as laws;
+
+    ghost seen = { λ m. content_now m.recorded };
+
+    ghost is_honest = { λ _. true };
+
+    ghost failures = { λ m. m.calls.failures };
+
+    ghost is_synced = { λ m. m.calls.is_synced };
+
+    ghost keeps_crashes = { λ _. true };
+
+    ghost may_leave = { λ m. LeavesNow m.recorded };
+
+    ghost left_since = { λ from m. LeftSince from.recorded m.recorded };
+
+    ghost zeros_past_the_end = { λ m _. (laws.replayed_ends (content_of m.recorded.start) m.recorded.past (laws.start_ends m.recorded.start)).zeros };
+
+    ghost zeros_past_an_image = { λ m _ image leaves. (laws.image_ends (content_of m.recorded.start) m.recorded.past (laws.start_ends m.recorded.start) image leaves).zeros };
+
+    ghost reads_too = { λ m _. laws.reads_too (content_of m.recorded.start) m.recorded.past (laws.start_ends m.recorded.start) };
+
+    ghost starts_now = { λ m _. laws.starts_now m.recorded };
+
+    ghost counts_now = { λ from m _ image other left leaves. laws.counts_since from.recorded m.recorded image other left leaves };
+
+    ghost only_now = { λ m _ image. laws.only_now (content_of m.recorded.start) m.recorded.past image };
+
+    fn read(&mut self, at: u64, buffer: &mut [u8]) -> Result<(), DiskFault> {
+        let is_failing = is_failing_call(&mut self.calls_left);
+        let outcome = self.recording.read(at, buffer, is_failing);
+        self.log.note_read(outcome)
+    }
+
+    fn write(&mut self, at: u64, bytes: &[u8]) -> Result<(), DiskFault> {
+        let is_failing = is_failing_call(&mut self.calls_left);
+        let outcome = self.recording.write(at, bytes, is_failing);
+        self.log.note_change(outcome)
+    }
+
+    fn sync(&mut self) -> Result<(), DiskFault> {
+        let is_failing = is_failing_call(&mut self.calls_left);
+        let outcome = self.recording.sync(is_failing);
+        self.log.note_sync(outcome)
+    }
+
+    fn cut(&mut self, pages: u32) -> Result<(), DiskFault> {
+        let is_failing = is_failing_call(&mut self.calls_left);
+        let outcome = self.recording.cut(pages, is_failing, self.failed_cut);
+        self.log.note_change(outcome)
+    }
+
+    fn pages(&self) -> u32 {
+        self.recording.pages()
+    }
+
+    fn failures(&self) -> u64 {
+        self.log.failures()
+    }
+}
