@@ -1,5 +1,5 @@
 -- How the content and the images go on from call to call.
-use Rattle.std.proofs.Common.{◌≡◌, inl, inr, ℕ, ◌+◌, ◌-◌, true, false, Bool, List, [], ◌∷◌, length, reverse, slice_index, arith, refl, sym, ap, subst, ◌∙◌, Result, Ok, Err, OnOk, is_err}
+use Rattle.std.proofs.Common.{◌≡◌, inl, inr, ℕ, ◌+◌, ◌-◌, true, false, Bool, List, [], ◌∷◌, length, reverse, slice_index, arith, refl, sym, ap, subst, ◌∙◌, Result, Ok, Err, OnOk, is_err, is_ok}
 use Rattle.std.proofs.Math.Path.{fun_ext}
 use Rattle.std.proofs.lemmas.Bool.{cases_lt}
 use Rattle.std.proofs.lemmas.Bool.Decides.{nat_tests}
@@ -8,7 +8,7 @@ use Rattle.rs_disk.specs.Crash.{Same, Torn, Follows, Passes}
 use Rattle.rs_recording_disk.specs.declared.call.Call.{Call}
 use Rattle.rs_recording_disk.specs.declared.call.Call.TheVariants.{Read, Write, Sync}
 use Rattle.rs_recording_disk.specs.Range.{Range}
-use Rattle.rs_recording_disk.specs.Recorded.{written, content_after, LeavesAfter, Recorded, content_now, LeavesNow, LeftSince}
+use Rattle.rs_recording_disk.specs.Recorded.{written, content_after, LeavesAfter, Recorded, content_now, LeavesNow, LeftSince, with_call}
 use Rattle.rs_recording_disk.specs.Laws.{written_keeps, reads_too, start_ends}
 
 pub same_content : (a b : Content) → a.size ≡ b.size → ((i : ℕ) → a.byte i ≡ b.byte i) → a ≡ b
@@ -62,7 +62,7 @@ passes_by step not_done old new is_old =
     })
 
 -- one more call
-pub passes_on : (step : Content → Content → Type 0) (call : Call) (old new : Recorded) → new ≡ record { start = old.start; past = call ∷ old.past } → ((image : Content) → LeavesAfter call (content_now old) (LeavesNow old) image → Follows (LeavesNow old) step image) → Passes LeavesNow LeftSince step old new
+pub passes_on : (step : Content → Content → Type 0) (call : Call) (old new : Recorded) → new ≡ with_call call old → ((image : Content) → LeavesAfter call (content_now old) (LeavesNow old) image → Follows (LeavesNow old) step image) → Passes LeavesNow LeftSince step old new
 passes_on step call old new is_called follows =
     subst (λ recorded. Passes LeavesNow LeftSince step old recorded) (sym is_called) (record {
       now = follows;
@@ -84,10 +84,6 @@ sync_passes false old image leaves = record { source = image; was_left = leaves;
 -- what is recorded of a disk of these first bytes by these calls
 abbrev pub recorded_by : List ℕ → List Call → Recorded
 recorded_by start calls = record { start = start; past = reverse calls }
-
--- with one more call
-abbrev pub with_call : Call → Recorded → Recorded
-with_call call recorded = record { start = recorded.start; past = call ∷ recorded.past }
 
 -- the call that was noted is the last of the past
 pub is_noted : (start : List ℕ) (before between after : List Call) (call : Call) (old : Recorded) → recorded_by start before ≡ old → between ≡ before → reverse after ≡ call ∷ reverse between → recorded_by start after ≡ with_call call old
@@ -117,3 +113,10 @@ ok_is_written (Err _) at bytes old new is_ok holds keeps = cc
 pub on_ok_map : {T E P Q : Type 0} (result : Result T E) → (P → Q) → OnOk result P → OnOk result Q
 on_ok_map (Ok _) f p = f p
 on_ok_map (Err _) f p = p
+
+-- the same where what is answered is another fault
+pub if_ok_is_written : {T T' E E' : Type 0} (result : Result T E) (answer : Result T' E') (at : ℕ) (bytes : List ℕ) (old new : Content) → is_ok answer ≡ is_ok result → OnOk result (Holds new at bytes) → KeepsOthers at (length bytes) old new → OnOk answer (new ≡ written at bytes old)
+if_ok_is_written (Ok _) (Ok _) at bytes old new same holds keeps =
+    is_written at bytes old new holds keeps
+if_ok_is_written (Err _) (Ok _) at bytes old new same holds keeps = cc
+if_ok_is_written result (Err _) at bytes old new same holds keeps = tt

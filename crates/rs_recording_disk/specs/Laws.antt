@@ -79,7 +79,7 @@ image_ends start (Sync false ∷ earlier) ends image leaves = image_ends start e
 image_ends start (Cut pages is_done ∷ earlier) ends image leaves = leaves.1
 
 -- the content after a call is among what a crash may leave then
-content_is_left : (call : Call) (content : Content) (before : Content → Type 0) → before content → EndsInZeros content → LeavesAfter call content before (content_after call content)
+pub content_is_left : (call : Call) (content : Content) (before : Content → Type 0) → before content → EndsInZeros content → LeavesAfter call content before (content_after call content)
 content_is_left Read content before was ends = was
 content_is_left (Write range) content before was ends = (
   record {

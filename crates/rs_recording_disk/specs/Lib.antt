@@ -1,3 +1,4 @@
+pub mod Image
 pub mod Laws
 pub mod Range
 pub mod Recorded

@@ -1,5 +1,5 @@
 -- What a disk holds after the calls that were recorded of it, and what a crash may leave.
-use Rattle.std.specs.Prelude.{◌≡◌, ◌⊎◌, ℕ, ◌+◌, ◌-◌, ◌*◌, ◌≤◌, min, max, true, false, List, [], ◌∷◌, length, slice_index, if◌then◌else◌, nat_lt, nat_le, ◌&&◌}
+use Rattle.std.specs.Prelude.{Result, OnOk, IsErr, ◌≡◌, ◌⊎◌, ℕ, ◌+◌, ◌-◌, ◌*◌, ◌≤◌, min, max, true, false, List, [], ◌∷◌, length, slice_index, if◌then◌else◌, nat_lt, nat_le, ◌&&◌}
 use Rattle.rs_page.specs.declared.page.TheConstants.{PAGE_SIZE}
 use Rattle.rs_disk.specs.declared.failing.FailedCut.{FailedCut}
 use Rattle.rs_disk.specs.Calls.{Calls}
@@ -66,6 +66,10 @@ pub record Recorded : Type 0 where
   pub start : List ℕ
   pub past : List Call
 
+-- with one more call
+abbrev pub with_call : Call → Recorded → Recorded
+with_call call recorded = record { start = recorded.start; past = call ∷ recorded.past }
+
 -- what a disk is known by: its record, the calls left up to the one that fails, how its cut fails, and its calls so far
 pub record RecordedDisk : Type 0 where
   pub recorded : Recorded
@@ -84,3 +88,13 @@ LeavesNow recorded = Leaves (content_of recorded.start) recorded.past
 -- what a crash might have left since the first of these
 abbrev pub LeftSince : Recorded → Recorded → Content → Type 0
 LeftSince from recorded = LeftAfter (length from.past) (content_of recorded.start) recorded.past
+
+-- a call that succeeded is recorded as it was asked
+abbrev pub Records : {T E : Type 0} → Result T E → Call → RecordedDisk → RecordedDisk → Type 0
+Records result call old new = OnOk result (new.recorded ≡ with_call call old.recorded)
+
+-- the last of the calls left fails
+pub record FailsInTurn {T E : Type 0} (result : Result T E) (old new : RecordedDisk) : Type 0 where
+  pub fails : old.calls_left ≡ 1 → IsErr result
+  pub left : new.calls_left ≡ old.calls_left - 1
+  pub cut : new.failed_cut ≡ old.failed_cut

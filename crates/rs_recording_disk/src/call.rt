@@ -1,6 +1,6 @@
 //! A call of a disk, as it was done.
 
-ghost use Rattle.std.specs.Prelude.{◌≡◌};
+ghost use Rattle.std.specs.Prelude.{◌≡◌, ◌+◌, ◌^◌, ◌<◌, length, vec_len};
 
 use std::marker::Model;
 
@@ -13,6 +13,7 @@ pub struct WrittenRange {
 }
 
 impl Model for WrittenRange {
+    ghost use Rattle.std.specs.Prelude.{◌+◌, ◌^◌, ◌<◌, vec_len};
     ghost use Rattle.rs_recording_disk.specs.Range.{Range};
 
     ghost Value = { Range };
@@ -22,11 +23,14 @@ impl Model for WrittenRange {
       bytes = range.bytes.items;
       unwritten = range.unwritten;
     } };
+
+    ghost invariant = { λ range. vec_len range.bytes + range.unwritten < 2 ^ 64 };
 }
 
 impl WrittenRange {
     /// These bytes at an offset, the first of a write that was of so many more.
     pub(crate) fn new(at: u64, bytes: Vec<u8>, unwritten: usize) -> WrittenRange
+        requires { vec_len bytes + unwritten < 2 ^ 64 }
         ensures { result ≡ record { at = at; bytes = bytes.items; unwritten = unwritten } }
     {
         WrittenRange {
@@ -50,11 +54,11 @@ impl WrittenRange {
         &self.bytes
     }
 
-    /// How many more bytes the write was of.
-    pub fn unwritten(&self) -> usize
-        ensures { result ≡ self.now.unwritten }
+    /// How many bytes the write was of.
+    pub fn len(&self) -> usize
+        ensures { result ≡ length self.now.bytes + self.now.unwritten }
     {
-        self.unwritten
+        self.bytes.len() + self.unwritten
     }
 }
 

@@ -1,11 +1,18 @@
 //! A disk for tests that records its calls, one of which may fail.
 
-ghost use Rattle.std.specs.Prelude.{◌≡◌, ◌==◌, ◌-◌, true, [], ◌∷◌, IfOk};
+ghost use Rattle.std.specs.Prelude.{◌≡◌, ◌≤◌, ◌*◌, [], false, true, IfOk, OnOk, length, reverse};
+ghost use Rattle.rs_disk.specs.Content.{content_of, CutsTo, Gives, Holds, KeepsOthers};
+ghost use Rattle.rs_disk.specs.Counts.{Counts, Syncs};
+ghost use Rattle.rs_disk.specs.Crash.{CutOrNot, Only, Passes, Same, Torn};
+ghost use Rattle.rs_recording_disk.specs.Image.{image_of, past_at};
+ghost use Rattle.rs_recording_disk.specs.Recorded.{content_now, FailsInTurn, Leaves, LeavesNow, LeftSince, Records};
 ghost use Rattle.rs_disk.specs.Calls.{no_calls};
 
 use crate::call::Call;
+use crate::image::Unsynced;
 use crate::recording::Recording;
 use rs_disk::{CallLog, Disk, DiskFault, FailedCut, is_failing_call};
+use rs_page::PAGE_SIZE;
 use std::alloc::{AllocError, Global};
 use std::marker::Model;
 
@@ -59,12 +66,32 @@ impl RecordingDisk {
             log: CallLog::new(),
         })
     }
+
+    /// The bytes that a crash leaves at the moment after the first so many calls, one of those that it may leave then.
+    pub fn image(
+        &self,
+        alloc: Global,
+        moment: usize,
+        unsynced: Unsynced,
+    ) -> Result<Vec<u8>, AllocError>
+        requires { moment ≤ length self.now.recorded.past }
+        ensures image { IfOk result (λ bytes. content_of bytes.items
+            ≡ image_of unsynced (content_of self.now.recorded.start) (past_at moment self.now.recorded.past)) }
+        ensures left { IfOk result (λ bytes. Leaves (content_of self.now.recorded.start)
+            (past_at moment self.now.recorded.past) (content_of bytes.items)) }
+    {
+        self.recording.image(alloc, moment, unsynced)
+    }
+
+    /// The calls so far, the first of them first.
+    pub fn calls(&self) -> &[Call]
+        ensures { reverse result.now ≡ self.now.recorded.past }
+    {
+        self.recording.calls()
+    }
 }
 
 impl Disk for RecordingDisk {
-    ghost use Rattle.std.specs.Prelude.{true};
-    ghost use Rattle.rs_disk.specs.Content.{content_of};
-    ghost use Rattle.rs_recording_disk.specs.Recorded.{content_now, LeavesNow, LeftSince};
     ghost use Rattle.rs_recording_disk.specs.Laws as laws;
 
     ghost seen = { λ m. content_now m.recorded };
@@ -93,25 +120,61 @@ impl Disk for RecordingDisk {
 
     ghost only_now = { λ m _ image. laws.only_now (content_of m.recorded.start) m.recorded.past image };
 
-    fn read(&mut self, at: u64, buffer: &mut [u8]) -> Result<(), DiskFault> {
+    fn read(&mut self, at: u64, buffer: &mut [u8]) -> Result<(), DiskFault>
+        ensures bytes { OnOk result (Gives (content_now self.old.recorded) at buffer.new) }
+        ensures same { content_now self.new.recorded ≡ content_now self.old.recorded }
+        ensures count { Counts result self.old.calls.failures self.new.calls.failures }
+        ensures synced { self.new.calls.is_synced ≡ self.old.calls.is_synced }
+        ensures crash { Passes LeavesNow LeftSince Same self.old.recorded self.new.recorded }
+        ensures recorded { Records result Call.Read self.old self.new }
+        ensures turn { FailsInTurn result self.old self.new }
+    {
         let is_failing = is_failing_call(&mut self.calls_left);
         let outcome = self.recording.read(at, buffer, is_failing);
         self.log.note_read(outcome)
     }
 
-    fn write(&mut self, at: u64, bytes: &[u8]) -> Result<(), DiskFault> {
+    fn write(&mut self, at: u64, bytes: &[u8]) -> Result<(), DiskFault>
+        ensures written { OnOk result (Holds (content_now self.new.recorded) at bytes.now) }
+        ensures others { KeepsOthers at (length bytes.now)
+            (content_now self.old.recorded) (content_now self.new.recorded) }
+        ensures count { Counts result self.old.calls.failures self.new.calls.failures }
+        ensures synced { self.new.calls.is_synced ≡ false }
+        ensures crash { Passes LeavesNow LeftSince (Torn at (length bytes.now))
+            self.old.recorded self.new.recorded }
+        ensures recorded { Records result
+            (Call.Write (record { at = at; bytes = bytes.now; unwritten = 0 })) self.old self.new }
+        ensures turn { FailsInTurn result self.old self.new }
+    {
         let is_failing = is_failing_call(&mut self.calls_left);
         let outcome = self.recording.write(at, bytes, is_failing);
         self.log.note_change(outcome)
     }
 
-    fn sync(&mut self) -> Result<(), DiskFault> {
+    fn sync(&mut self) -> Result<(), DiskFault>
+        ensures same { content_now self.new.recorded ≡ content_now self.old.recorded }
+        ensures count { Counts result self.old.calls.failures self.new.calls.failures }
+        ensures synced { Syncs result self.old.calls.is_synced self.new.calls.is_synced }
+        ensures crash { Passes LeavesNow LeftSince Same self.old.recorded self.new.recorded }
+        ensures durable { OnOk result (Only (content_now self.new.recorded) (LeavesNow self.new.recorded)) }
+        ensures recorded { Records result (Call.Sync true) self.old self.new }
+        ensures turn { FailsInTurn result self.old self.new }
+    {
         let is_failing = is_failing_call(&mut self.calls_left);
         let outcome = self.recording.sync(is_failing);
         self.log.note_sync(outcome)
     }
 
-    fn cut(&mut self, pages: u32) -> Result<(), DiskFault> {
+    fn cut(&mut self, pages: u32) -> Result<(), DiskFault>
+        ensures cut { CutsTo result (PAGE_SIZE * pages)
+            (content_now self.old.recorded) (content_now self.new.recorded) }
+        ensures count { Counts result self.old.calls.failures self.new.calls.failures }
+        ensures synced { self.new.calls.is_synced ≡ false }
+        ensures crash { Passes LeavesNow LeftSince (CutOrNot (PAGE_SIZE * pages))
+            self.old.recorded self.new.recorded }
+        ensures recorded { Records result (Call.Cut pages true) self.old self.new }
+        ensures turn { FailsInTurn result self.old self.new }
+    {
         let is_failing = is_failing_call(&mut self.calls_left);
         let outcome = self.recording.cut(pages, is_failing, self.failed_cut);
         self.log.note_change(outcome)

@@ -6,7 +6,9 @@
 
 pub mod call;
 pub mod disk;
+pub mod image;
 pub mod recording;
 
 pub use call::{Call, WrittenRange};
 pub use disk::RecordingDisk;
+pub use image::Unsynced;

@@ -4,10 +4,12 @@
 
 ghost use Rattle.std.specs.Prelude.{◌≡◌, ◌+◌, ◌-◌, ◌^◌, ◌/◌, min, ◌*◌, ◌<◌, ◌≤◌, [], ◌∷◌, IfOk, IsErr, IsTrue, OnErr, OnOk, false, true, length, reverse, vec_len, vec_capacity};
 ghost use Rattle.rs_disk.specs.Content.{content_of, CutsTo, Gives, Holds, KeepsOthers};
-ghost use Rattle.rs_recording_disk.specs.Recorded.{content_now, cut_to, LeavesNow, LeftSince, written};
+ghost use Rattle.rs_recording_disk.specs.Image.{image_of, past_at};
+ghost use Rattle.rs_recording_disk.specs.Recorded.{content_now, cut_to, Leaves, LeavesNow, LeftSince, with_call, written};
 ghost use Rattle.rs_disk.specs.Crash.{CutOrNot, Only, Passes, Same, Torn};
 
 use crate::call::{Call, WrittenRange};
+use crate::image::{Unsynced, left_by};
 use rs_disk::{Disk, DiskFault, FailedCut, MemoryDisk};
 use rs_page::PAGE_SIZE;
 use std::alloc::{AllocError, Global};
@@ -54,6 +56,7 @@ impl Recording {
         ensures bytes { OnOk result (Gives (content_now self.old) at buffer.new) }
         ensures same { content_now self.new ≡ content_now self.old }
         ensures crash { Passes LeavesNow LeftSince Same self.old self.new }
+        ensures recorded { OnOk result (self.new ≡ with_call Call.Read self.old) }
         ensures fails { IsTrue is_failing → IsErr result }
     {
         make_room(&mut self.calls)?;
@@ -69,6 +72,8 @@ impl Recording {
         ensures written { OnOk result (Holds (content_now self.new) at bytes.now) }
         ensures others { KeepsOthers at (length bytes.now) (content_now self.old) (content_now self.new) }
         ensures crash { Passes LeavesNow LeftSince (Torn at (length bytes.now)) self.old self.new }
+        ensures recorded { OnOk result (self.new ≡ with_call
+            (Call.Write (record { at = at; bytes = bytes.now; unwritten = 0 })) self.old) }
         ensures fails { IsTrue is_failing → IsErr result }
     {
         if is_failing {
@@ -87,6 +92,8 @@ impl Recording {
             (content_now self.old) (content_now self.new) }
         ensures crash { Passes LeavesNow LeftSince
             (Torn at (length part.now + unwritten)) self.old self.new }
+        ensures recorded { OnOk result (self.new ≡ with_call
+            (Call.Write (record { at = at; bytes = part.now; unwritten = unwritten })) self.old) }
     {
         let mut kept = part.to_vec(self.alloc).map_err(|_| DiskFault)?;
         make_room(&mut self.calls)?;
@@ -102,6 +109,7 @@ impl Recording {
         ensures same { content_now self.new ≡ content_now self.old }
         ensures crash { Passes LeavesNow LeftSince Same self.old self.new }
         ensures durable { OnOk result (Only (content_now self.new) (LeavesNow self.new)) }
+        ensures recorded { OnOk result (self.new ≡ with_call (Call.Sync true) self.old) }
         ensures fails { IsTrue is_failing → IsErr result }
     {
         make_room(&mut self.calls)?;
@@ -119,6 +127,7 @@ impl Recording {
     ) -> Result<(), DiskFault>
         ensures cut { CutsTo result (PAGE_SIZE * pages) (content_now self.old) (content_now self.new) }
         ensures crash { Passes LeavesNow LeftSince (CutOrNot (PAGE_SIZE * pages)) self.old self.new }
+        ensures recorded { OnOk result (self.new ≡ with_call (Call.Cut pages true) self.old) }
         ensures fails { IsTrue is_failing → IsErr result }
     {
         make_room(&mut self.calls)?;
@@ -135,6 +144,22 @@ impl Recording {
         ensures { result ≡ min ((content_now self.now).size / PAGE_SIZE) (2 ^ 32 - 1) }
     {
         self.disk.pages()
+    }
+
+    /// The bytes that a crash leaves at the moment after the first so many calls.
+    pub fn image(
+        &self,
+        alloc: Global,
+        moment: usize,
+        unsynced: Unsynced,
+    ) -> Result<Vec<u8>, AllocError>
+        requires { moment ≤ length self.now.past }
+        ensures image { IfOk result (λ bytes. content_of bytes.items
+            ≡ image_of unsynced (content_of self.now.start) (past_at moment self.now.past)) }
+        ensures left { IfOk result (λ bytes.
+            Leaves (content_of self.now.start) (past_at moment self.now.past) (content_of bytes.items)) }
+    {
+        left_by(alloc, &self.start, &self.calls[..moment], unsynced)
     }
 
     /// The calls so far, the first of them first.
@@ -176,7 +201,7 @@ fn write_or_clear(disk: &mut MemoryDisk, at: u64, bytes: &mut Vec<u8>) -> Result
 }
 
 /// Cuts the bytes to so many pages.
-fn cut_to_pages(disk: &mut MemoryDisk, pages: u32)
+pub(crate) fn cut_to_pages(disk: &mut MemoryDisk, pages: u32)
     ensures { content_of disk.new.bytes ≡ cut_to (PAGE_SIZE * pages) (content_of disk.old.bytes) }
 {
     let _ = disk.cut(pages);
