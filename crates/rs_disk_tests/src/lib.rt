@@ -19,3 +19,5 @@ mod file_disk_tests;
 mod fresh_path;
 #[cfg(test)]
 mod path_tests;
+#[cfg(test)]
+mod recording_disk_tests;
