@@ -128,3 +128,18 @@ starts_now recorded =
 pub counts_since : (from recorded : Recorded) (image other : Content) → LeftSince from recorded other → LeavesNow recorded image → LeftSince from recorded image
 counts_since from recorded image other left leaves =
     counts_now (length from.past) (content_of recorded.start) recorded.past image (no_later (length from.past) (content_of recorded.start) recorded.past other left) leaves
+
+-- the same of what is recorded
+pub seen_ends : (recorded : Recorded) → EndsInZeros (content_now recorded)
+seen_ends recorded =
+    replayed_ends (content_of recorded.start) recorded.past (start_ends recorded.start)
+
+pub left_ends : (recorded : Recorded) (image : Content) → LeavesNow recorded image → EndsInZeros image
+left_ends recorded = image_ends (content_of recorded.start) recorded.past (start_ends recorded.start)
+
+pub reads_now : (recorded : Recorded) → LeavesNow recorded (content_now recorded)
+reads_now recorded =
+    reads_too (content_of recorded.start) recorded.past (start_ends recorded.start)
+
+pub only_left : (recorded : Recorded) (image : Content) → LeftSince recorded recorded image → LeavesNow recorded image
+only_left recorded = only_now (content_of recorded.start) recorded.past

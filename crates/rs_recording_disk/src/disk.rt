@@ -67,7 +67,7 @@ impl RecordingDisk {
         })
     }
 
-    /// The bytes that a crash leaves at the moment after the first so many calls, one of those that it may leave then.
+    /// The bytes that a crash leaves at the moment after the first so many calls. They are an image that it may leave.
     pub fn image(
         &self,
         alloc: Global,
@@ -76,7 +76,8 @@ impl RecordingDisk {
     ) -> Result<Vec<u8>, AllocError>
         requires { moment ≤ length self.now.recorded.past }
         ensures image { IfOk result (λ bytes. content_of bytes.items
-            ≡ image_of unsynced (content_of self.now.recorded.start) (past_at moment self.now.recorded.past)) }
+            ≡ image_of unsynced (content_of self.now.recorded.start)
+            (past_at moment self.now.recorded.past)) }
         ensures left { IfOk result (λ bytes. Leaves (content_of self.now.recorded.start)
             (past_at moment self.now.recorded.past) (content_of bytes.items)) }
     {
@@ -108,17 +109,17 @@ impl Disk for RecordingDisk {
 
     ghost left_since = { λ from m. LeftSince from.recorded m.recorded };
 
-    ghost zeros_past_the_end = { λ m _. (laws.replayed_ends (content_of m.recorded.start) m.recorded.past (laws.start_ends m.recorded.start)).zeros };
+    ghost zeros_past_the_end = { λ m _. (laws.seen_ends m.recorded).zeros };
 
-    ghost zeros_past_an_image = { λ m _ image leaves. (laws.image_ends (content_of m.recorded.start) m.recorded.past (laws.start_ends m.recorded.start) image leaves).zeros };
+    ghost zeros_past_an_image = { λ m _ image left. (laws.left_ends m.recorded image left).zeros };
 
-    ghost reads_too = { λ m _. laws.reads_too (content_of m.recorded.start) m.recorded.past (laws.start_ends m.recorded.start) };
+    ghost reads_too = { λ m _. laws.reads_now m.recorded };
 
     ghost starts_now = { λ m _. laws.starts_now m.recorded };
 
-    ghost counts_now = { λ from m _ image other left leaves. laws.counts_since from.recorded m.recorded image other left leaves };
+    ghost counts_now = { λ from m _. laws.counts_since from.recorded m.recorded };
 
-    ghost only_now = { λ m _ image. laws.only_now (content_of m.recorded.start) m.recorded.past image };
+    ghost only_now = { λ m _. laws.only_left m.recorded };
 
     fn read(&mut self, at: u64, buffer: &mut [u8]) -> Result<(), DiskFault>
         ensures bytes { OnOk result (Gives (content_now self.old.recorded) at buffer.new) }
@@ -156,7 +157,8 @@ impl Disk for RecordingDisk {
         ensures count { Counts result self.old.calls.failures self.new.calls.failures }
         ensures synced { Syncs result self.old.calls.is_synced self.new.calls.is_synced }
         ensures crash { Passes LeavesNow LeftSince Same self.old.recorded self.new.recorded }
-        ensures durable { OnOk result (Only (content_now self.new.recorded) (LeavesNow self.new.recorded)) }
+        ensures durable { OnOk result
+            (Only (content_now self.new.recorded) (LeavesNow self.new.recorded)) }
         ensures recorded { Records result (Call.Sync true) self.old self.new }
         ensures turn { FailsInTurn result self.old self.new }
     {

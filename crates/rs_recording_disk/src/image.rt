@@ -53,7 +53,8 @@ fn redo(
     ensures content { OnOk result (content_of content.new.bytes
         ≡ content_after call.now (content_of content.old.bytes)) }
     ensures image { OnOk result (content_of image.new.bytes
-        ≡ image_after unsynced call.now (content_of content.old.bytes) (content_of image.old.bytes)) }
+        ≡ image_after unsynced call.now
+        (content_of content.old.bytes) (content_of image.old.bytes)) }
 {
     match call {
         Call::Read => Ok(()),
@@ -77,7 +78,8 @@ fn redo(
 
 /// Writes, and fails for want of memory alone.
 fn write_again(disk: &mut MemoryDisk, at: u64, bytes: &[u8]) -> Result<(), AllocError>
-    ensures { OnOk result (content_of disk.new.bytes ≡ written at bytes.now (content_of disk.old.bytes)) }
+    ensures { OnOk result (content_of disk.new.bytes
+        ≡ written at bytes.now (content_of disk.old.bytes)) }
 {
     disk.write(at, bytes).map_err(|_| AllocError)
 }
@@ -104,7 +106,8 @@ fn leave_write(
 
 /// Cuts, if the cut was done.
 fn cut_again(disk: &mut MemoryDisk, pages: u32, is_done: bool)
-    ensures { content_of disk.new.bytes ≡ content_after (Call.Cut pages is_done) (content_of disk.old.bytes) }
+    ensures { content_of disk.new.bytes
+        ≡ content_after (Call.Cut pages is_done) (content_of disk.old.bytes) }
 {
     if is_done {
         cut_to_pages(disk, pages);

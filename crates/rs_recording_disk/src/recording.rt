@@ -70,7 +70,8 @@ impl Recording {
     /// Writes, of a call that is to fail the first half.
     pub fn write(&mut self, at: u64, bytes: &[u8], is_failing: bool) -> Result<(), DiskFault>
         ensures written { OnOk result (Holds (content_now self.new) at bytes.now) }
-        ensures others { KeepsOthers at (length bytes.now) (content_now self.old) (content_now self.new) }
+        ensures others { KeepsOthers at (length bytes.now)
+            (content_now self.old) (content_now self.new) }
         ensures crash { Passes LeavesNow LeftSince (Torn at (length bytes.now)) self.old self.new }
         ensures recorded { OnOk result (self.new ≡ with_call
             (Call.Write (record { at = at; bytes = bytes.now; unwritten = 0 })) self.old) }
@@ -125,8 +126,10 @@ impl Recording {
         is_failing: bool,
         failed_cut: FailedCut,
     ) -> Result<(), DiskFault>
-        ensures cut { CutsTo result (PAGE_SIZE * pages) (content_now self.old) (content_now self.new) }
-        ensures crash { Passes LeavesNow LeftSince (CutOrNot (PAGE_SIZE * pages)) self.old self.new }
+        ensures cut { CutsTo result (PAGE_SIZE * pages)
+            (content_now self.old) (content_now self.new) }
+        ensures crash { Passes LeavesNow LeftSince (CutOrNot (PAGE_SIZE * pages))
+            self.old self.new }
         ensures recorded { OnOk result (self.new ≡ with_call (Call.Cut pages true) self.old) }
         ensures fails { IsTrue is_failing → IsErr result }
     {
@@ -156,8 +159,8 @@ impl Recording {
         requires { moment ≤ length self.now.past }
         ensures image { IfOk result (λ bytes. content_of bytes.items
             ≡ image_of unsynced (content_of self.now.start) (past_at moment self.now.past)) }
-        ensures left { IfOk result (λ bytes.
-            Leaves (content_of self.now.start) (past_at moment self.now.past) (content_of bytes.items)) }
+        ensures left { IfOk result (λ bytes. Leaves (content_of self.now.start)
+            (past_at moment self.now.past) (content_of bytes.items)) }
     {
         left_by(alloc, &self.start, &self.calls[..moment], unsynced)
     }
