@@ -1,0 +1,4 @@
+pub mod Journal
+pub mod Pages
+pub mod Reaches
+pub mod Stages

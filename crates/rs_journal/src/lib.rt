@@ -1,0 +1,15 @@
+//! The journal of a checkpoint: its stages over any disk, each of which a crash or a fault may end.
+//!
+//! A checkpoint writes copies of the changed pages past the file's pages, opens the gate, writes the copies over the
+//! home pages, closes the gate and cuts the file. At each moment a crash leaves the pages kept last or the checkpoint's.
+#![tactic(auto)]
+
+pub mod copies;
+// LAWS
+pub mod limits;
+mod gate;
+// HOME
+mod journal;
+mod writing;
+
+pub use copies::Copies;

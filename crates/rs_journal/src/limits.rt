@@ -1,0 +1,28 @@
+//! Where the gate and the journal's fields are in page 0, and how many numbers a page of the journal has.
+
+ghost use Rattle.std.specs.Prelude.{◌≡◌};
+ghost use Rattle.rs_journal.specs.declared.limits.TheConstants.{GATE, GATE_END, FIELDS, FIELDS_END, NUMBERS_OF_A_PAGE};
+
+/// The offset of the gate byte in page 0. It is open where the byte is 1.
+pub const GATE: u64 = 64;
+
+/// Where the gate byte ends.
+pub const GATE_END: u64 = 65;
+
+/// The offset of the journal's first page in page 0. Its number of copies follows.
+pub const FIELDS: u64 = 68;
+
+/// Where the journal's fields end. No map of pages has the bytes from the gate up to here.
+pub const FIELDS_END: u64 = 76;
+
+/// How many numbers of pages a page of the journal has.
+pub const NUMBERS_OF_A_PAGE: u32 = 1024;
+
+/// The limits are these numbers.
+pub fn limits_are_those()
+    ensures gate { GATE ≡ 64 }
+    ensures gate_end { GATE_END ≡ 65 }
+    ensures fields { FIELDS ≡ 68 }
+    ensures fields_end { FIELDS_END ≡ 76 }
+    ensures numbers_of_a_page { NUMBERS_OF_A_PAGE ≡ 1024 }
+{}

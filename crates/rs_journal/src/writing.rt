@@ -1,0 +1,47 @@
+//! Single calls of the disk, as the stages of a checkpoint make them.
+
+ghost use Rattle.std.specs.Prelude.{◌≡◌, ℕ, ◌+◌, ◌*◌, ◌^◌, ◌<◌, length, IsTrue, OnOk, IsOkUnless};
+ghost use Rattle.rs_disk.specs.Content.{Holds};
+ghost use Rattle.rs_disk.specs.Counts.{Counts};
+ghost use Rattle.rs_disk.specs.Crash.{Same, Only};
+ghost use Rattle.rs_journal.specs.Pages.{IsOutside};
+ghost use Rattle.rs_journal.specs.Reaches.{KeepsWhere, Reaches};
+
+use rs_disk::Disk;
+use rs_page::{PAGE_SIZE, Page};
+use rs_refusal::Refusal;
+
+/// Writes bytes from an offset on.
+pub(crate) fn write_at<D: Disk>(disk: &mut D, at: u64, bytes: &[u8]) -> Result<(), Refusal>
+    ensures written { IsTrue (D.is_honest disk.old) → OnOk result (Holds (D.seen disk.new) at bytes.now) }
+    ensures reaches { Reaches D.Disk (KeepsWhere (IsOutside at (at + length bytes.now))) disk.old disk.new }
+    ensures refused { IsOkUnless result Refusal.Disk }
+    ensures count { Counts result (D.failures disk.old) (D.failures disk.new) }
+{
+    disk.write(at, bytes).map_err(|_| Refusal::Disk)
+}
+
+/// Writes a page where the page with this number lies.
+pub(crate) fn write_page<D: Disk>(disk: &mut D, number: u64, page: &Page) -> Result<(), Refusal>
+    requires { number < 2 ^ 40 }
+    ensures written { IsTrue (D.is_honest disk.old)
+        → OnOk result (Holds (D.seen disk.new) (PAGE_SIZE * number) page.now.bytes) }
+    ensures size { length page.now.bytes ≡ PAGE_SIZE }
+    ensures reaches { Reaches D.Disk
+        (KeepsWhere (IsOutside (PAGE_SIZE * number) (PAGE_SIZE * number + PAGE_SIZE))) disk.old disk.new }
+    ensures refused { IsOkUnless result Refusal.Disk }
+    ensures count { Counts result (D.failures disk.old) (D.failures disk.new) }
+{
+    write_at(disk, PAGE_SIZE as u64 * number, &page.bytes)
+}
+
+/// Waits until what was written is on the medium.
+pub(crate) fn sync<D: Disk>(disk: &mut D) -> Result<(), Refusal>
+    ensures reaches { Reaches D.Disk Same disk.old disk.new }
+    ensures durable { IsTrue (D.keeps_crashes disk.old)
+        → OnOk result (Only (D.seen disk.new) (D.may_leave disk.new)) }
+    ensures refused { IsOkUnless result Refusal.Disk }
+    ensures count { Counts result (D.failures disk.old) (D.failures disk.new) }
+{
+    disk.sync().map_err(|_| Refusal::Disk)
+}
