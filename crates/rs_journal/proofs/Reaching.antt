@@ -1,10 +1,10 @@
 -- Steps one after another.
-use Rattle.std.proofs.Common.{◌≡◌, ◌⊎◌, inl, inr, ℕ, ◌+◌, ◌<◌, ◌≤◌, IsTrue, arith, refl, sym, ◌∙◌, subst, Result, Ok, Err, OnOk}
+use Rattle.std.proofs.Common.{inl, inr, ℕ, ◌+◌, ◌≤◌, IsTrue, arith, refl, sym, ◌∙◌, subst, Result, Ok, Err, OnOk}
 use Rattle.rs_disk.specs.Content.{Content, KeepsOthers}
-use Rattle.rs_disk.specs.Crash.{Same, Torn, Follows, Passes, Only}
+use Rattle.rs_disk.specs.Crash.{Same, Torn, Passes}
 use Rattle.rs_disk.specs.declared.disk.Disk as disk
 use Rattle.rs_journal.specs.Pages.{IsOutside}
-use Rattle.rs_journal.specs.Reaches.{KeepsWhere, Reaches, Through}
+use Rattle.rs_journal.specs.Reaches.{KeepsWhere, Reaches}
 
 pub keeps_all : (stays : ℕ → Type 0) (content : Content) → KeepsWhere stays content content
 keeps_all stays content = record { bytes = λ i _ _. refl; no_shorter = omega arith }

@@ -1,7 +1,6 @@
 -- Numbers and copies on a disk stay where their bytes do.
 use Rattle.std.proofs.lemmas.Bool.{cases_lt}
-use Rattle.std.proofs.Common.{Result, Ok, Err, OnOk, ◌-◌, ◌≡◌, ◌⊎◌, inl, inr, ℕ, zero, suc, ◌+◌, ◌*◌, ◌<◌, ◌≤◌, List, [], ◌∷◌, length, slice_index, arith, refl, sym, ap, ◌∙◌, subst}
-use Rattle.byteorder.specs.Endian.{big_from}
+use Rattle.std.proofs.Common.{Result, Ok, Err, OnOk, ◌-◌, ◌≡◌, inl, inr, ℕ, suc, ◌+◌, ◌*◌, ◌<◌, ◌≤◌, List, [], ◌∷◌, length, slice_index, arith, sym, ap, ◌∙◌, subst}
 use Rattle.rs_disk.specs.Content.{Content, Holds}
 use Rattle.rs_page.specs.Number.{number_at}
 use Rattle.rs_page.specs.declared.page.TheConstants.{PAGE_SIZE}

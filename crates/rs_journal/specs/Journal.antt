@@ -1,5 +1,5 @@
 -- A journal, where it lies in a file, and what it makes of the file's pages.
-use Rattle.std.specs.Prelude.{◌≡◌, ◌≢◌, ◌⊎◌, ℕ, ◌+◌, ◌*◌, ◌/◌, ◌<◌, ◌≤◌}
+use Rattle.std.specs.Prelude.{◌≡◌, ◌≢◌, ℕ, ◌+◌, ◌*◌, ◌/◌, ◌<◌, ◌≤◌}
 use Rattle.rs_disk.specs.Content.{Content}
 use Rattle.rs_page.specs.declared.page.TheConstants.{PAGE_SIZE}
 use Rattle.rs_journal.specs.declared.copies.Copies as copies
@@ -51,15 +51,22 @@ pub record HasJournal (journal : Journal) (content : Content) : Type 0 where
   pub numbers : HasNumbers journal.first (number_pages journal.count) journal.count journal.number content
   pub copies : HasCopies (copies_start journal) journal.count journal.copy content
 
+-- each number is greater than those before it
+abbrev pub Ascends : ℕ → (ℕ → ℕ) → Type 0
+Ascends count number = (j k : ℕ) → j < k → k < count → number j < number k
+
 -- the numbers ascend and lie below the journal's first page
 pub record IsWellFormed (journal : Journal) : Type 0 where
-  pub ascending : (j k : ℕ) → j < k → k < journal.count → journal.number j < journal.number k
+  pub ascending : Ascends journal.count journal.number
   pub below : (k : ℕ) → k < journal.count → journal.number k < journal.first
+
+-- the byte at this offset lies in none of these pages
+abbrev pub IsApart : ℕ → (ℕ → ℕ) → ℕ → Type 0
+IsApart count number i = (k : ℕ) → k < count → IsOutside (PAGE_SIZE * number k) (PAGE_SIZE * number k + PAGE_SIZE) i
 
 -- the byte at this offset lies in no page that is copied
 abbrev pub IsNotCopied : Journal → ℕ → Type 0
-IsNotCopied journal i = (k : ℕ) → k < journal.count
-    → IsOutside (PAGE_SIZE * journal.number k) (PAGE_SIZE * journal.number k + PAGE_SIZE) i
+IsNotCopied journal i = IsApart journal.count journal.number i
 
 -- these pages are the copies in the places of the pages that they copy, and else those of this content
 pub record Overlays (journal : Journal) (pages : Pages) (content : Content) : Type 0 where
@@ -91,7 +98,8 @@ pub record Recovers (image : Content) (pages : Pages) : Type 0 where
 -- The journal of a checkpoint makes of the pages kept last those of the checkpoint. It comes after both.
 pub record Makes (journal : Journal) (kept checkpoint : Pages) : Type 0 where
   pub well_formed : IsWellFormed journal
-  pub some : 0 < kept.count
+  pub some_kept : 0 < kept.count
+  pub some : 0 < checkpoint.count
   pub after_kept : kept.count ≤ journal.first
   pub after : checkpoint.count ≤ journal.first
   pub copied : (k j : ℕ) → k < journal.count → j < PAGE_SIZE

@@ -1,11 +1,11 @@
 -- The stages of a checkpoint, by what a crash may leave in each.
-use Rattle.std.specs.Prelude.{◌≡◌, ◌≢◌, ◌⊎◌, ℕ, ◌+◌, ◌*◌, ◌<◌, ◌≤◌, IsTrue}
+use Rattle.std.specs.Prelude.{◌≡◌, ◌≢◌, ◌⊎◌, ℕ, ◌+◌, ◌*◌, ◌<◌, ◌≤◌, List, slice_index, IsTrue}
 use Rattle.rs_disk.specs.Content.{Content}
 use Rattle.rs_disk.specs.declared.disk.Disk as disk
 use Rattle.rs_page.specs.declared.page.TheConstants.{PAGE_SIZE}
 use Rattle.rs_journal.specs.declared.limits.TheConstants.{GATE, FIELDS, FIELDS_END}
 use Rattle.rs_journal.specs.Pages.{Pages, IsOutside, IsOfPages, HasPages}
-use Rattle.rs_journal.specs.Journal.{Journal, HasJournal, IsNotCopied, Overlays}
+use Rattle.rs_journal.specs.Journal.{Journal, HasJournal, IsApart, IsNotCopied}
 
 -- no checkpoint is under way: the gate is closed, and these are the pages
 pub record IsQuiet (pages : Pages) (image : Content) : Type 0 where
@@ -36,15 +36,28 @@ pub record IsClosing (journal : Journal) (checkpoint : Pages) (image : Content) 
 abbrev pub IsBeforeJournal : ℕ → ℕ → Type 0
 IsBeforeJournal first i = (i < PAGE_SIZE * first) × IsOutside FIELDS FIELDS_END i
 
--- bringing the copies home: the pages that aren't copied, and the gate and the journal's fields
-abbrev pub IsLeftAlone : Journal → ℕ → Type 0
-IsLeftAlone journal i = IsNotCopied journal i ⊎ ((GATE ≤ i) × (i < FIELDS_END))
+-- writing one home page: all outside it, and the gate and the journal's fields
+abbrev pub IsNotInPage : ℕ → ℕ → Type 0
+IsNotInPage number i =
+    IsOutside (PAGE_SIZE * number) (PAGE_SIZE * number + PAGE_SIZE) i ⊎ ((GATE ≤ i) × (i < FIELDS_END))
 
--- the copies are in their home pages
-pub record HasHome (count : ℕ) (journal : Journal) (content : Content) : Type 0 where
-  pub each : (k j : ℕ) → k < count → j < PAGE_SIZE → IsOfPages (PAGE_SIZE * journal.number k + j)
-      → content.byte (PAGE_SIZE * journal.number k + j) ≡ journal.copy k j
-  pub inside : (k : ℕ) → k < count → PAGE_SIZE * journal.number k + PAGE_SIZE ≤ content.size
+-- bringing the copies home: the pages that aren't copied, and the gate and the journal's fields
+abbrev pub IsLeftAlone : ℕ → (ℕ → ℕ) → ℕ → Type 0
+IsLeftAlone count number i = IsApart count number i ⊎ ((GATE ≤ i) × (i < FIELDS_END))
+
+-- What is there once it is written.
+
+-- one home page
+pub record HasHomePage (number : ℕ) (page : List ℕ) (content : Content) : Type 0 where
+  pub each : (j : ℕ) → j < PAGE_SIZE → IsOfPages (PAGE_SIZE * number + j)
+      → content.byte (PAGE_SIZE * number + j) ≡ slice_index page j
+  pub inside : PAGE_SIZE * number + PAGE_SIZE ≤ content.size
+
+-- the first so many copies in their home pages
+pub record HasHome (count : ℕ) (number : ℕ → ℕ) (copy : ℕ → ℕ → ℕ) (content : Content) : Type 0 where
+  pub each : (k j : ℕ) → k < count → j < PAGE_SIZE → IsOfPages (PAGE_SIZE * number k + j)
+      → content.byte (PAGE_SIZE * number k + j) ≡ copy k j
+  pub inside : (k : ℕ) → k < count → PAGE_SIZE * number k + PAGE_SIZE ≤ content.size
 
 module _ {D : Type 0} (d : disk.Ghosts D) where
   -- the disk keeps both models, and this holds of each image that a crash may leave

@@ -52,11 +52,7 @@ pub(crate) fn pages_of_numbers(count: u32) -> u32
 }
 
 /// Writes the numbers of the copies, from a page on.
-fn write_numbers<D: Disk, C: Copies>(
-    disk: &mut D,
-    first: u32,
-    copies: &C,
-) -> Result<(), Refusal>
+fn write_numbers<D: Disk, C: Copies>(disk: &mut D, first: u32, copies: &C) -> Result<(), Refusal>
     ensures written { IsTrue (D.is_honest disk.old) → OnOk result (HasNumbers first
         (number_pages (C.count copies.now)) (C.count copies.now) (C.number copies.now) (D.seen disk.new)) }
     ensures reaches { Reaches D.Disk (KeepsWhere (IsOutside (PAGE_SIZE * first)
@@ -99,7 +95,11 @@ fn put_numbers<C: Copies>(page: &mut Page, copies: &C, start: u32)
 {
     let many = NUMBERS_OF_A_PAGE.min(copies.count() - start);
     for place in 0..many {
-        put_four(&mut page.bytes, 4 * place as usize, copies.number(start + place));
+        put_four(
+            &mut page.bytes,
+            4 * place as usize,
+            copies.number(start + place),
+        );
     }
 }
 

@@ -6,10 +6,10 @@
 
 pub mod copies;
 // LAWS
-pub mod limits;
 mod gate;
-// HOME
+mod home;
 mod journal;
+pub mod limits;
 mod writing;
 
 pub use copies::Copies;

@@ -1,5 +1,5 @@
 -- One write, and a sync.
-use Rattle.std.proofs.Common.{◌≡◌, ◌∙◌, IsTrue, ap, subst, sym, rules}
+use Rattle.std.proofs.Common.{◌∙◌, IsTrue, ap, subst, sym}
 use Rattle.rs_disk.specs.Content.{Content}
 use Rattle.rs_journal.specs.declared.limits.TheConstants.{GATE}
 use Rattle.rs_journal.proofs.Reaching.{reaches_synced, on_ok}

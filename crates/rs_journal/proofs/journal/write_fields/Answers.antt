@@ -1,5 +1,5 @@
 -- Both fields are in the eight bytes that are written.
-use Rattle.std.proofs.Common.{◌≡◌, ◌∙◌, length, rules, arith}
+use Rattle.std.proofs.Common.{◌∙◌, rules, arith}
 use Rattle.rs_journal.proofs.Words.{fields-written, on_ok_map}
 use Rattle.rs_journal.proofs.journal.write_fields.Goals as goal
 

@@ -1,11 +1,9 @@
 -- What was written first is there at the end.
-use Rattle.std.proofs.Common.{◌≡◌, ◌+◌, ◌*◌, ◌<◌, ◌≤◌, ◌∙◌, inl, inr, IsTrue, ℕ, ap, subst, sym, arith, rules}
+use Rattle.std.proofs.Common.{inl, inr, IsTrue, subst, sym, arith, rules}
 use Rattle.rs_disk.specs.Content.{Content}
-use Rattle.rs_journal.specs.Journal.{HasJournal, journal_of, number_pages}
-use Rattle.rs_journal.specs.Reaches.{KeepsWhere, Reaches}
-use Rattle.rs_journal.specs.Stages.{IsBeforeJournal}
+use Rattle.rs_journal.specs.Journal.{HasJournal, journal_of}
 use Rattle.rs_journal.proofs.Reaching.{reaches_on, reaches_synced, reaches_bytes, on_ok}
-use Rattle.rs_journal.proofs.Words.{before-range, journal-written, numbers-kept, copies-kept, fields-kept}
+use Rattle.rs_journal.proofs.Words.{before-range, journal-written, numbers-kept, copies-kept}
 use Rattle.rs_journal.proofs.journal.write_journal.Goals as goal
 
 pub returns-in_err-write_numbers-clause-reaches : goal.returns-in_err-write_numbers-clause-reaches

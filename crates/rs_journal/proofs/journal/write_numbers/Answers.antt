@@ -1,8 +1,5 @@
 -- One page of numbers more.
-use Rattle.std.proofs.Common.{◌≡◌, ◌+◌, ◌*◌, ◌≤◌, ◌∙◌, IsTrue, ap, subst, sym, arith, rules}
-use Rattle.rs_page.specs.declared.page.TheConstants.{PAGE_SIZE}
-use Rattle.rs_journal.specs.Pages.{IsOutside}
-use Rattle.rs_journal.specs.Reaches.{KeepsWhere}
+use Rattle.std.proofs.Common.{◌∙◌, IsTrue, subst, sym, arith, rules}
 use Rattle.rs_journal.proofs.Reaching.{keeps_all, reaches_none, reaches_on}
 use Rattle.rs_journal.proofs.Words.{outside-part, no-numbers, numbers-more}
 use Rattle.rs_journal.proofs.journal.write_numbers.Goals as goal

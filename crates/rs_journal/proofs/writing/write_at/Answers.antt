@@ -1,8 +1,4 @@
 -- One write.
-use Rattle.rs_disk.specs.Crash.{Torn}
-use Rattle.rs_journal.specs.Pages.{IsOutside}
-use Rattle.rs_journal.specs.Reaches.{KeepsWhere}
-use Rattle.std.proofs.Common.{◌+◌, length}
 use Rattle.rs_journal.proofs.Reaching.{torn_keeps, others_keep, passes_less}
 use Rattle.rs_journal.proofs.writing.write_at.Goals as goal
 
