@@ -1,3 +1,5 @@
+pub mod Advancing
 pub mod Homes
 pub mod Reaching
+pub mod Staging
 pub mod Words

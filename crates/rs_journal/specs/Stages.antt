@@ -1,11 +1,14 @@
 -- The stages of a checkpoint, by what a crash may leave in each.
-use Rattle.std.specs.Prelude.{◌≡◌, ◌≢◌, ◌⊎◌, ℕ, ◌+◌, ◌*◌, ◌<◌, ◌≤◌, List, slice_index, IsTrue}
+use Rattle.std.specs.Prelude.{◌≡◌, ◌≢◌, ◌⊎◌, ℕ, ◌+◌, ◌*◌, ◌<◌, ◌≤◌, List, slice_index, IsTrue, Result, OnOk, OnErr}
 use Rattle.rs_disk.specs.Content.{Content}
 use Rattle.rs_disk.specs.declared.disk.Disk as disk
 use Rattle.rs_page.specs.declared.page.TheConstants.{PAGE_SIZE}
+use Rattle.rs_journal.specs.declared.stage.Stage.{Stage}
+use Rattle.rs_journal.specs.declared.stage.Stage.TheVariants.{Fresh, Gate, Home, Closing}
+use Rattle.rs_journal.specs.Reaches.{Through}
 use Rattle.rs_journal.specs.declared.limits.TheConstants.{GATE, FIELDS, FIELDS_END}
 use Rattle.rs_journal.specs.Pages.{Pages, IsOutside, IsOfPages, HasPages}
-use Rattle.rs_journal.specs.Journal.{Journal, HasJournal, IsApart, IsNotCopied}
+use Rattle.rs_journal.specs.Journal.{Journal, HasJournal, IsApart, IsNotCopied, Recovers}
 
 -- no checkpoint is under way: the gate is closed, and these are the pages
 pub record IsQuiet (pages : Pages) (image : Content) : Type 0 where
@@ -59,9 +62,48 @@ pub record HasHome (count : ℕ) (number : ℕ → ℕ) (copy : ℕ → ℕ → 
       → content.byte (PAGE_SIZE * number k + j) ≡ copy k j
   pub inside : (k : ℕ) → k < count → PAGE_SIZE * number k + PAGE_SIZE ≤ content.size
 
+-- what a crash may leave of a checkpoint in each stage, from the pages kept last to its own
+abbrev pub StageImage : Stage → Pages → Journal → Pages → Content → Type 0
+StageImage Fresh kept journal checkpoint = IsQuiet kept
+StageImage Gate kept journal checkpoint = IsGate kept journal
+StageImage Home kept journal checkpoint = IsHome journal checkpoint
+StageImage Closing kept journal checkpoint = IsClosing journal checkpoint
+
+-- the image gives the pages kept last or the checkpoint's
+abbrev pub IsEither : Pages → Pages → Content → Type 0
+IsEither kept checkpoint image = Recovers image kept ⊎ Recovers image checkpoint
+
+-- what a crash leaves from a stage on gives these pages: once the gate is known to be open the checkpoint's
+abbrev pub GivesFrom : Stage → Pages → Pages → Content → Type 0
+GivesFrom Fresh kept checkpoint image = IsEither kept checkpoint image
+GivesFrom Gate kept checkpoint image = IsEither kept checkpoint image
+GivesFrom Home kept checkpoint image = Recovers image checkpoint
+GivesFrom Closing kept checkpoint image = Recovers image checkpoint
+
 module _ {D : Type 0} (d : disk.Ghosts D) where
-  -- the disk keeps both models, and this holds of each image that a crash may leave
+  -- the disk keeps both models, and this holds of each image that a crash may leave, and of what a read gives
   pub record Stands (is_left : Content → Type 0) (disk : D) : Type 0 where
     pub honest : IsTrue (d.is_honest disk)
     pub keeps : IsTrue (d.keeps_crashes disk)
     pub images : (image : Content) → d.may_leave disk image → is_left image
+    pub reads : is_left (d.seen disk)
+
+  -- One stage: it ends as the next begins, or after a fault as it began itself, and meanwhile a crash leaves an image as
+  -- at its beginning.
+  pub record Goes {T E : Type 0} (from to : Content → Type 0) (result : Result T E) (old new : D) : Type 0 where
+    pub done : OnOk result (Stands to new)
+    pub fault : OnErr result (Stands from new)
+    pub meanwhile : Through d from old new
+
+  -- Stages up to the last: after Ok the checkpoint's pages are the ones kept and the stage is the first, after a fault it
+  -- is the one that was reached. A crash meanwhile leaves an image that gives these pages.
+  pub record Ends {T E : Type 0} (kept : Pages) (journal : Journal) (checkpoint : Pages) (gives : Content → Type 0)
+      (result : Result T E) (stage : Stage) (old new : D) : Type 0 where
+    pub done : OnOk result ((stage ≡ Fresh) × Stands (IsQuiet checkpoint) new)
+    pub reached : OnErr result (Stands (StageImage stage kept journal checkpoint) new)
+    pub meanwhile : Through d gives old new
+
+  -- this holds still, and meanwhile a crash leaves an image of which it holds
+  pub record Remains (is_left : Content → Type 0) (old new : D) : Type 0 where
+    pub stands : Stands is_left new
+    pub meanwhile : Through d is_left old new

@@ -1,14 +1,15 @@
 //! The gate: one byte of page 0, written alone, and the cut of the file.
 
-ghost use Rattle.std.specs.Prelude.{◌≡◌, ◌*◌, IsTrue, OnOk, IsOkUnless};
+ghost use Rattle.std.specs.Prelude.{◌≡◌, ◌<◌, ◌≤◌, IsTrue, OnOk, IsOkUnless};
 ghost use Rattle.rs_disk.specs.Counts.{Counts};
-ghost use Rattle.rs_disk.specs.Crash.{Only, CutOrNot, Passes};
-ghost use Rattle.rs_page.specs.declared.page.TheConstants.{PAGE_SIZE};
-ghost use Rattle.rs_journal.specs.declared.limits.TheConstants.{GATE, GATE_END};
-ghost use Rattle.rs_journal.specs.Pages.{IsOutside};
+ghost use Rattle.rs_disk.specs.Crash.{Only};
+ghost use Rattle.rs_journal.specs.Journal.{Journal, Makes};
+ghost use Rattle.rs_journal.specs.Pages.{Pages, IsOutside};
 ghost use Rattle.rs_journal.specs.Reaches.{KeepsWhere, Reaches};
+ghost use Rattle.rs_journal.specs.Stages.{IsQuiet, IsGate, IsHome, IsClosing, Stands, Goes, Remains};
+ghost use Rattle.rs_journal.specs.declared.limits.TheConstants.{GATE, GATE_END};
 
-use crate::limits::GATE;
+use crate::limits::{CLOSED, GATE, OPEN};
 use crate::writing::{sync, write_at};
 use rs_disk::Disk;
 use rs_refusal::Refusal;
@@ -26,12 +27,32 @@ pub(crate) fn write_gate<D: Disk>(disk: &mut D, byte: u8) -> Result<(), Refusal>
     sync(disk)
 }
 
-/// Drops all bytes past so many pages. After a fault it is done or not.
-pub(crate) fn cut_to<D: Disk>(disk: &mut D, pages: u32) -> Result<(), Refusal>
-    ensures passes { IsTrue (D.keeps_crashes disk.old)
-        → Passes D.may_leave D.left_since (CutOrNot (PAGE_SIZE * pages)) disk.old disk.new }
-    ensures honesty { D.is_honest disk.new ≡ D.is_honest disk.old }
-    ensures keeping { D.keeps_crashes disk.new ≡ D.keeps_crashes disk.old }
+/// Opens the gate of a journal that is on the medium. Until that is on the medium too, a crash leaves either pages.
+pub(crate) fn open_gate<D: Disk>(disk: &mut D) -> Result<(), Refusal>
+    ensures goes { (journal : Journal) (kept checkpoint : Pages) → Makes journal kept checkpoint
+        → Stands D.Disk (IsGate kept journal) disk.old
+        → Goes D.Disk (IsGate kept journal) (IsHome journal checkpoint) result disk.old disk.new }
+    ensures refused { IsOkUnless result Refusal.Disk }
+    ensures count { Counts result (D.failures disk.old) (D.failures disk.new) }
+{
+    write_gate(disk, OPEN)
+}
+
+/// Closes the gate once the copies are at home. A crash leaves the checkpoint's pages, whatever becomes of the byte.
+pub(crate) fn close_gate<D: Disk>(disk: &mut D) -> Result<(), Refusal>
+    ensures goes { (journal : Journal) (kept checkpoint : Pages) → Makes journal kept checkpoint
+        → Stands D.Disk (IsClosing journal checkpoint) disk.old
+        → Goes D.Disk (IsClosing journal checkpoint) (IsQuiet checkpoint) result disk.old disk.new }
+    ensures refused { IsOkUnless result Refusal.Disk }
+    ensures count { Counts result (D.failures disk.old) (D.failures disk.new) }
+{
+    write_gate(disk, CLOSED)
+}
+
+/// Drops all bytes past so many pages. The pages that are kept stay, after a fault too.
+pub fn cut<D: Disk>(disk: &mut D, pages: u32) -> Result<(), Refusal>
+    ensures remains { (kept : Pages) → 0 < kept.count → kept.count ≤ pages
+        → Stands D.Disk (IsQuiet kept) disk.old → Remains D.Disk (IsQuiet kept) disk.old disk.new }
     ensures refused { IsOkUnless result Refusal.Disk }
     ensures count { Counts result (D.failures disk.old) (D.failures disk.new) }
 {

@@ -5,9 +5,10 @@
 ghost use Rattle.std.specs.Prelude.{◌≡◌, ℕ, ◌<◌, IsTrue, OnOk, IsOkUnless};
 ghost use Rattle.rs_disk.specs.Counts.{Counts};
 ghost use Rattle.rs_disk.specs.Crash.{Only};
-ghost use Rattle.rs_journal.specs.Journal.{Ascends};
+ghost use Rattle.rs_journal.specs.Journal.{Ascends, Makes, journal_of};
 ghost use Rattle.rs_journal.specs.Reaches.{KeepsWhere, Reaches};
-ghost use Rattle.rs_journal.specs.Stages.{IsNotInPage, IsLeftAlone, HasHomePage, HasHome};
+ghost use Rattle.rs_journal.specs.Stages.{IsNotInPage, IsLeftAlone, HasHomePage, HasHome, IsHome, IsClosing, Stands, Goes};
+ghost use Rattle.rs_journal.specs.Pages.{Pages};
 
 use crate::copies::Copies;
 use crate::limits::{FIELDS_END, GATE};
@@ -16,8 +17,21 @@ use rs_disk::Disk;
 use rs_page::Page;
 use rs_refusal::Refusal;
 
+/// Brings the copies of a checkpoint home. The gate is open, so a crash leaves the checkpoint's pages.
+pub(crate) fn bring_home<D: Disk, C: Copies>(disk: &mut D, copies: &C) -> Result<(), Refusal>
+    requires { Ascends (C.count copies.now) (C.number copies.now) }
+    ensures goes { (first : ℕ) (kept checkpoint : Pages) → Makes (journal_of C.Copies first copies.now) kept checkpoint
+        → Stands D.Disk (IsHome (journal_of C.Copies first copies.now) checkpoint) disk.old
+        → Goes D.Disk (IsHome (journal_of C.Copies first copies.now) checkpoint)
+        (IsClosing (journal_of C.Copies first copies.now) checkpoint) result disk.old disk.new }
+    ensures refused { IsOkUnless result Refusal.Disk }
+    ensures count { Counts result (D.failures disk.old) (D.failures disk.new) }
+{
+    write_home(disk, copies)
+}
+
 /// Writes the copies over their home pages, and waits until they are on the medium.
-pub(crate) fn write_home<D: Disk, C: Copies>(disk: &mut D, copies: &C) -> Result<(), Refusal>
+fn write_home<D: Disk, C: Copies>(disk: &mut D, copies: &C) -> Result<(), Refusal>
     requires { Ascends (C.count copies.now) (C.number copies.now) }
     ensures written { IsTrue (D.is_honest disk.old) → OnOk result
         (HasHome (C.count copies.now) (C.number copies.now) (C.byte copies.now) (D.seen disk.new)) }

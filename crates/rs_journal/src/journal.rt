@@ -8,10 +8,10 @@ ghost use Rattle.rs_disk.specs.Crash.{Only};
 ghost use Rattle.rs_page.specs.Number.{number_at};
 ghost use Rattle.rs_page.specs.declared.page.TheConstants.{PAGE_SIZE};
 ghost use Rattle.rs_journal.specs.declared.limits.TheConstants.{FIELDS, FIELDS_END, NUMBERS_OF_A_PAGE};
-ghost use Rattle.rs_journal.specs.Journal.{number_pages, HasNumbers, HasNumberPage, HasCopies, HasFields, HasJournal, journal_of};
-ghost use Rattle.rs_journal.specs.Pages.{IsOutside};
+ghost use Rattle.rs_journal.specs.Journal.{number_pages, HasNumbers, HasNumberPage, HasCopies, HasFields, HasJournal, Makes, journal_of};
+ghost use Rattle.rs_journal.specs.Pages.{Pages, IsOutside};
 ghost use Rattle.rs_journal.specs.Reaches.{KeepsWhere, Reaches};
-ghost use Rattle.rs_journal.specs.Stages.{IsBeforeJournal};
+ghost use Rattle.rs_journal.specs.Stages.{IsBeforeJournal, IsQuiet, IsGate, Stands, Goes};
 
 use crate::copies::Copies;
 use crate::limits::{FIELDS, NUMBERS_OF_A_PAGE};
@@ -22,7 +22,7 @@ use rs_page::bytes::put_four;
 use rs_refusal::Refusal;
 
 /// Writes the journal of these copies from a page on, and waits until it is on the medium.
-pub(crate) fn write_journal<D: Disk, C: Copies>(
+fn write_journal<D: Disk, C: Copies>(
     disk: &mut D,
     first: u32,
     copies: &C,
@@ -42,6 +42,22 @@ pub(crate) fn write_journal<D: Disk, C: Copies>(
     write_copies(disk, start, copies)?;
     write_fields(disk, first, count)?;
     sync(disk)
+}
+
+/// Writes the journal of a checkpoint. Until the gate is opened, a crash leaves the pages kept last.
+pub(crate) fn begin<D: Disk, C: Copies>(
+    disk: &mut D,
+    first: u32,
+    copies: &C,
+) -> Result<(), Refusal>
+    requires { 0 < first }
+    ensures goes { (kept checkpoint : Pages) → Makes (journal_of C.Copies first copies.now) kept checkpoint
+        → Stands D.Disk (IsQuiet kept) disk.old
+        → Goes D.Disk (IsQuiet kept) (IsGate kept (journal_of C.Copies first copies.now)) result disk.old disk.new }
+    ensures refused { IsOkUnless result Refusal.Disk }
+    ensures count { Counts result (D.failures disk.old) (D.failures disk.new) }
+{
+    write_journal(disk, first, copies)
 }
 
 /// How many pages the numbers of so many copies fill.

@@ -4,12 +4,16 @@
 //! home pages, closes the gate and cuts the file. At each moment a crash leaves the pages kept last or the checkpoint's.
 #![tactic(auto)]
 
+mod checkpoint;
 pub mod copies;
 // LAWS
 mod gate;
 mod home;
 mod journal;
+pub mod stage;
 pub mod limits;
 mod writing;
 
 pub use copies::Copies;
+pub use gate::cut;
+pub use stage::Stage;

@@ -1,10 +1,16 @@
 //! Where the gate and the journal's fields are in page 0, and how many numbers a page of the journal has.
 
 ghost use Rattle.std.specs.Prelude.{◌≡◌};
-ghost use Rattle.rs_journal.specs.declared.limits.TheConstants.{GATE, GATE_END, FIELDS, FIELDS_END, NUMBERS_OF_A_PAGE};
+ghost use Rattle.rs_journal.specs.declared.limits.TheConstants.{GATE, GATE_END, OPEN, CLOSED, FIELDS, FIELDS_END, NUMBERS_OF_A_PAGE};
 
 /// The offset of the gate byte in page 0. It is open where the byte is 1.
 pub const GATE: u64 = 64;
+
+/// The gate byte that is open. Every other byte is closed.
+pub const OPEN: u8 = 1;
+
+/// The gate byte that is written to close the gate.
+pub const CLOSED: u8 = 0;
 
 /// Where the gate byte ends.
 pub const GATE_END: u64 = 65;
@@ -21,6 +27,8 @@ pub const NUMBERS_OF_A_PAGE: u32 = 1024;
 /// The limits are these numbers.
 pub fn limits_are_those()
     ensures gate { GATE ≡ 64 }
+    ensures opened { OPEN ≡ 1 }
+    ensures shut { CLOSED ≡ 0 }
     ensures gate_end { GATE_END ≡ 65 }
     ensures fields { FIELDS ≡ 68 }
     ensures fields_end { FIELDS_END ≡ 76 }

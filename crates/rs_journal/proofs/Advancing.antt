@@ -1,0 +1,72 @@
+-- From stage to stage, of a disk.
+use Rattle.std.proofs.Common.{◌≡◌, ◌≢◌, ◌⊎◌, inl, inr, IsTrue, Result, Ok, Err, OnOk, OnErr, refl, sym, ◌∙◌, subst}
+use Rattle.rs_disk.specs.Content.{Content}
+use Rattle.rs_disk.specs.Crash.{Only}
+use Rattle.rs_disk.specs.declared.disk.Disk as disk
+use Rattle.rs_journal.specs.declared.stage.Stage.{Stage}
+use Rattle.rs_journal.specs.declared.stage.Stage.TheVariants.{Fresh}
+use Rattle.rs_journal.specs.Pages.{Pages}
+use Rattle.rs_journal.specs.Journal.{Journal}
+use Rattle.rs_journal.specs.Reaches.{Reaches, Through}
+use Rattle.rs_journal.specs.Stages.{StageImage, IsQuiet, Stands, Goes, Ends, Remains}
+
+module _ {D : Type 0} (d : disk.Ghosts D) where
+  pub through-then : (P : Content → Type 0) (old mid new : D) → Through d P old mid → Through d P mid new → Through d P old new
+  through-then P old mid new first second = record {
+    each = λ start image left. elim (second.each start image left) [ inl before ↦ first.each start image before | inr is ↦ inr is ];
+  }
+
+  pub through-less : (P Q : Content → Type 0) (old new : D) → ((image : Content) → P image → Q image) → Through d P old new → Through d Q old new
+  through-less P Q old new less through = record {
+    each = λ start image left. elim (through.each start image left) [ inl before ↦ inl before | inr is ↦ inr (less image is) ];
+  }
+
+  pub through-none : (P : Content → Type 0) (old : D) → Through d P old old
+  through-none P old = record { each = λ start image left. inl left }
+
+  -- what a step keeps of each image stays
+  pub remains-by : (step : Content → Content → Type 0) (P : Content → Type 0) (old new : D)
+      → ((a b : Content) → P a → step a b → P b) → Reaches d step old new → Stands d P old → Remains d P old new
+  remains-by step P old new on reaches stands =
+      let passes = reaches.images stands.keeps in
+      record {
+        stands = record {
+          honest = subst IsTrue (sym reaches.honesty) stands.honest;
+          keeps = subst IsTrue (sym reaches.keeping) stands.keeps;
+          images = λ image left. let f = passes.now image left in on f.source image (stands.images f.source f.was_left) f.steps;
+          reads = on (d.seen old) (d.seen new) stands.reads (reaches.reads stands.honest);
+        };
+        meanwhile = record {
+          each = λ start image left. elim (passes.meanwhile start image left) [
+            | inl before ↦ inl before
+            | inr f ↦ inr (on f.source image (stands.images f.source f.was_left) f.steps)
+          ];
+        };
+      }
+
+  -- one stage
+  pub goes-by : {T E : Type 0} (result : Result T E) (step : Content → Content → Type 0) (from to : Content → Type 0) (old new : D)
+      → ((a b : Content) → from a → step a b → from b) → Reaches d step old new
+      → (IsTrue (d.keeps_crashes old) → OnOk result (Only (d.seen new) (d.may_leave new)))
+      → (IsTrue (d.is_honest old) → OnOk result (from (d.seen new) → to (d.seen new)))
+      → Stands d from old → Goes d from to result old new
+  goes-by (Ok t) step from to old new on reaches durable written stands =
+      let remains = remains-by step from old new on reaches stands in
+      let there : to (d.seen new) = written stands.honest remains.stands.reads in
+      record {
+        done = record {
+          honest = remains.stands.honest;
+          keeps = remains.stands.keeps;
+          images = λ image left. subst to (sym (durable stands.keeps image left)) there;
+          reads = there;
+        };
+        fault = tt;
+        meanwhile = remains.meanwhile;
+      }
+  goes-by (Err e) step from to old new on reaches durable written stands =
+      let remains = remains-by step from old new on reaches stands in
+      record { done = tt; fault = remains.stands; meanwhile = remains.meanwhile }
+
+pub on_ok_map : {T E P Q : Type 0} (result : Result T E) → (P → Q) → OnOk result P → OnOk result Q
+on_ok_map (Ok _) f p = f p
+on_ok_map (Err _) f p = p

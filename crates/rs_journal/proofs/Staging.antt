@@ -1,0 +1,212 @@
+-- From stage to stage, image by image.
+use Rattle.std.proofs.lemmas.Bool.{cases_lt, cases_eq}
+use Rattle.std.proofs.Common.{◌≡◌, ◌≢◌, ◌⊎◌, inl, inr, ℕ, zero, suc, ◌+◌, ◌*◌, ◌-◌, ◌<◌, ◌≤◌, arith, refl, sym, ap, ◌∙◌, subst}
+use Rattle.rs_disk.specs.Content.{Content}
+use Rattle.rs_disk.specs.Crash.{CutOrNot}
+use Rattle.rs_page.specs.declared.page.TheConstants.{PAGE_SIZE}
+use Rattle.rs_journal.specs.Pages.{Pages, IsOutside, IsOfPages, HasPages}
+use Rattle.rs_journal.specs.Journal.{Journal, HasJournal, IsApart, IsNotCopied, Makes, Recovers, RecoversBy, copies_start}
+use Rattle.rs_journal.specs.Reaches.{KeepsWhere}
+use Rattle.rs_journal.specs.Stages.{IsQuiet, IsGate, IsHome, IsClosing, IsBeforeJournal, IsLeftAlone, HasHome, IsEither}
+use Rattle.rs_journal.proofs.Words.{journal-kept}
+
+pub pages-kept : (stays : ℕ → Type 0) (pages : Pages) (a b : Content) → KeepsWhere stays a b
+    → ((i : ℕ) → i < PAGE_SIZE * pages.count → IsOfPages i → stays i) → HasPages pages a → HasPages pages b
+pages-kept stays pages a b keeps there has =
+    let long : PAGE_SIZE * pages.count ≤ a.size = has.size in
+    let longer : a.size ≤ b.size = keeps.no_shorter in
+    record {
+      size = omega arith;
+      bytes = λ i lt own. keeps.bytes i (omega arith) (there i lt own) ∙ has.bytes i lt own;
+    }
+
+-- the pages' own bytes are not the journal's fields, nor the gate
+not-fields : (i : ℕ) → IsOfPages i → IsOutside 68 76 i
+not-fields i own = elim own [ inl before ↦ inl (omega arith) | inr after ↦ inr (omega arith) ]
+
+not-gate : (i : ℕ) → IsOfPages i → IsOutside 64 65 i
+not-gate i own = elim own [ inl before ↦ inl (omega arith) | inr after ↦ inr (omega arith) ]
+
+-- while the journal is written
+pub quiet-on : (journal : Journal) (kept checkpoint : Pages) (a b : Content) → Makes journal kept checkpoint
+    → IsQuiet kept a → KeepsWhere (IsBeforeJournal journal.first) a b → IsQuiet kept b
+quiet-on journal kept checkpoint a b makes quiet keeps =
+    let some : 0 < kept.count = makes.some_kept in
+    let after : kept.count ≤ journal.first = makes.after_kept in
+    let long : PAGE_SIZE * kept.count ≤ a.size = quiet.pages_there.size in
+    let gate : b.byte 64 ≡ a.byte 64 = keeps.bytes 64 (omega arith) (omega arith, inl (omega arith)) in
+    record {
+      closed = λ is. quiet.closed (sym gate ∙ is);
+      pages_there = pages-kept _ kept a b keeps (λ i lt own. (omega arith, not-fields i own)) quiet.pages_there;
+    }
+
+-- while the gate is written
+gate-journal : (journal : Journal) (a b : Content) → 0 < journal.first → KeepsWhere (IsOutside 64 65) a b
+    → HasJournal journal a → HasJournal journal b
+gate-journal journal a b some keeps has =
+    journal-kept _ journal a b keeps (λ i lo hi. inr (omega arith)) (λ i lo. inr (omega arith)) has
+
+pub first-after : (journal : Journal) (kept checkpoint : Pages) → Makes journal kept checkpoint → 0 < journal.first
+first-after journal kept checkpoint makes =
+    let some : 0 < kept.count = makes.some_kept in let after : kept.count ≤ journal.first = makes.after_kept in omega arith
+
+pub gate-on : (journal : Journal) (kept checkpoint : Pages) (a b : Content) → Makes journal kept checkpoint
+    → IsGate kept journal a → KeepsWhere (IsOutside 64 65) a b → IsGate kept journal b
+gate-on journal kept checkpoint a b makes gate keeps = record {
+  pages_there = pages-kept _ kept a b keeps (λ i lt own. not-gate i own) gate.pages_there;
+  journal_there = gate-journal journal a b (first-after journal kept checkpoint makes) keeps gate.journal_there;
+}
+
+pub closing-on : (journal : Journal) (kept checkpoint : Pages) (a b : Content) → Makes journal kept checkpoint
+    → IsClosing journal checkpoint a → KeepsWhere (IsOutside 64 65) a b → IsClosing journal checkpoint b
+closing-on journal kept checkpoint a b makes closing keeps = record {
+  pages_there = pages-kept _ checkpoint a b keeps (λ i lt own. not-gate i own) closing.pages_there;
+  journal_there = gate-journal journal a b (first-after journal kept checkpoint makes) keeps closing.journal_there;
+}
+
+-- the checkpoint's pages lie within the file where its journal does
+pub checkpoint-inside : (journal : Journal) (kept checkpoint : Pages) (a : Content) → Makes journal kept checkpoint
+    → HasPages kept a → HasJournal journal a → PAGE_SIZE * checkpoint.count ≤ a.size
+checkpoint-inside journal kept checkpoint a makes pages has = elim (cases_lt 0 journal.count) [
+  | inl some ↦
+      let reach : PAGE_SIZE * (copies_start journal + journal.count) ≤ a.size = has.copies.inside some in
+      let after : checkpoint.count ≤ journal.first = makes.after in
+      omega arith
+  | inr none ↦
+      let same : checkpoint.count ≤ kept.count = makes.no_copy (omega arith) in
+      let long : PAGE_SIZE * kept.count ≤ a.size = pages.size in
+      omega arith
+]
+
+-- once the gate is open
+pub is-opened : (journal : Journal) (kept checkpoint : Pages) (a : Content) → Makes journal kept checkpoint
+    → IsGate kept journal a → a.byte 64 ≡ 1 → IsHome journal checkpoint a
+is-opened journal kept checkpoint a makes gate is = record {
+  opened = is;
+  journal_there = gate.journal_there;
+  others = λ i lt own apart. let was = makes.others i lt own apart in gate.pages_there.bytes i was.0 own ∙ was.1;
+  size = checkpoint-inside journal kept checkpoint a makes gate.pages_there gate.journal_there;
+}
+
+-- while the copies are brought home
+pub home-on : (journal : Journal) (kept checkpoint : Pages) (a b : Content) → Makes journal kept checkpoint
+    → IsHome journal checkpoint a → KeepsWhere (IsLeftAlone journal.count journal.number) a b → IsHome journal checkpoint b
+home-on journal kept checkpoint a b makes home keeps =
+    let long : PAGE_SIZE * checkpoint.count ≤ a.size = home.size in
+    let some : 0 < checkpoint.count = makes.some in
+    let longer : a.size ≤ b.size = keeps.no_shorter in
+    record {
+      opened = keeps.bytes 64 (omega arith) (inr (omega arith, omega arith)) ∙ home.opened;
+      journal_there = journal-kept _ journal a b keeps (λ i lo hi. inr (omega arith, omega arith))
+          (λ i lo. inl (λ k lt. let below : journal.number k < journal.first = makes.well_formed.below k lt in inr (omega arith)))
+          home.journal_there;
+      others = λ i lt own apart. keeps.bytes i (omega arith) (inl apart) ∙ home.others i lt own apart;
+      size = omega arith;
+    }
+
+-- the page among these in which the byte lies
+record Found (count : ℕ) (number : ℕ → ℕ) (i : ℕ) : Type 0 where
+  place : ℕ
+  lt : place < count
+  offset : ℕ
+  within : offset < PAGE_SIZE
+  is : i ≡ PAGE_SIZE * number place + offset
+
+apart-or : (count : ℕ) (number : ℕ → ℕ) (i : ℕ) → Found count number i ⊎ IsApart count number i
+apart-or zero number i = inr (λ k lt. absurd (omega arith))
+apart-or (suc n) number i = elim (apart-or n number i) [
+  | inl f ↦ inl (record { place = f.place; lt = let below : f.place < n = f.lt in omega arith; offset = f.offset; within = f.within; is = f.is })
+  | inr apart ↦ elim (cases_lt i (PAGE_SIZE * number n)) [
+    | inl before ↦ inr (apart-more apart (inl before))
+    | inr after ↦ elim (cases_lt i (PAGE_SIZE * number n + PAGE_SIZE)) [
+      | inl inside ↦ inl (record { place = n; lt = omega arith; offset = i - PAGE_SIZE * number n; within = omega arith; is = omega arith })
+      | inr past ↦ inr (apart-more apart (inr past))
+    ]
+  ]
+]
+  where
+    apart-more : IsApart n number i → IsOutside (PAGE_SIZE * number n) (PAGE_SIZE * number n + PAGE_SIZE) i → IsApart (suc n) number i
+    apart-more apart last = λ k lt. elim (cases_lt k n) [
+      | inl earlier ↦ apart k earlier
+      | inr later ↦ let same : n ≡ k = omega arith in
+          subst (λ m. IsOutside (PAGE_SIZE * number m) (PAGE_SIZE * number m + PAGE_SIZE) i) same last
+    ]
+
+-- once they are home
+pub is-home : (journal : Journal) (kept checkpoint : Pages) (a : Content) → Makes journal kept checkpoint
+    → IsHome journal checkpoint a → HasHome journal.count journal.number journal.copy a → IsClosing journal checkpoint a
+is-home journal kept checkpoint a makes home written = record {
+  pages_there = record {
+    size = home.size;
+    bytes = λ i lt own. elim (apart-or journal.count journal.number i) [
+      | inl f ↦
+          let is : i ≡ PAGE_SIZE * journal.number f.place + f.offset = f.is in
+          let own' = subst IsOfPages is own in
+          ap a.byte is ∙ written.each f.place f.offset f.lt f.within own'
+          ∙ sym (makes.copied f.place f.offset f.lt f.within (omega arith) own') ∙ ap checkpoint.byte (sym is)
+      | inr apart ↦ home.others i lt own apart
+    ];
+  };
+  journal_there = home.journal_there;
+}
+
+-- once the gate is closed
+pub is-closed : (journal : Journal) (checkpoint : Pages) (a : Content) → IsClosing journal checkpoint a → a.byte 64 ≡ 0 → IsQuiet checkpoint a
+is-closed journal checkpoint a closing is = record {
+  closed = λ one. absurd (omega (arith, is, one));
+  pages_there = closing.pages_there;
+}
+
+-- and the file is cut
+pub cut-on : (bound : ℕ) (pages : Pages) (a b : Content) → 0 < pages.count → pages.count ≤ bound → IsQuiet pages a
+    → CutOrNot (PAGE_SIZE * bound) a b → IsQuiet pages b
+cut-on bound pages a b some long quiet cut = elim cut [
+  | inl done ↦
+      let gate : b.byte 64 ≡ a.byte 64 = done.kept 64 (omega arith) in
+      let inside : PAGE_SIZE * pages.count ≤ a.size = quiet.pages_there.size in
+      record {
+        closed = λ is. quiet.closed (sym gate ∙ is);
+        pages_there = record {
+          size = omega (arith, done.size);
+          bytes = λ i lt own. done.kept i (omega arith) ∙ quiet.pages_there.bytes i lt own;
+        };
+      }
+  | inr same ↦ subst (IsQuiet pages) (sym same) quiet
+]
+
+-- What the images of the stages give.
+
+pub quiet-gives : (pages : Pages) (a : Content) → IsQuiet pages a → Recovers a pages
+quiet-gives pages a quiet = record { opened = λ is. absurd (quiet.closed is); shut = λ _. quiet.pages_there }
+
+-- an open gate gives the checkpoint's pages, where those that it doesn't copy are there
+open-gives : (journal : Journal) (kept checkpoint : Pages) (a : Content) → Makes journal kept checkpoint → HasJournal journal a
+    → ((i : ℕ) → i < PAGE_SIZE * checkpoint.count → IsOfPages i → IsNotCopied journal i → a.byte i ≡ checkpoint.byte i)
+    → PAGE_SIZE * checkpoint.count ≤ a.size → RecoversBy a checkpoint
+open-gives journal kept checkpoint a makes there others size = record {
+  journal = journal;
+  tells = record { there = there; well_formed = makes.well_formed };
+  overlays = record { copied = makes.copied; others = others; size = size };
+}
+
+pub home-gives : (journal : Journal) (kept checkpoint : Pages) (a : Content) → Makes journal kept checkpoint
+    → IsHome journal checkpoint a → Recovers a checkpoint
+home-gives journal kept checkpoint a makes home = record {
+  opened = λ _. open-gives journal kept checkpoint a makes home.journal_there home.others home.size;
+  shut = λ closed. absurd (closed home.opened);
+}
+
+pub closing-gives : (journal : Journal) (kept checkpoint : Pages) (a : Content) → Makes journal kept checkpoint
+    → IsClosing journal checkpoint a → Recovers a checkpoint
+closing-gives journal kept checkpoint a makes closing = record {
+  opened = λ _. open-gives journal kept checkpoint a makes closing.journal_there
+      (λ i lt own apart. closing.pages_there.bytes i lt own) closing.pages_there.size;
+  shut = λ _. closing.pages_there;
+}
+
+pub gate-gives : (journal : Journal) (kept checkpoint : Pages) (a : Content) → Makes journal kept checkpoint
+    → IsGate kept journal a → IsEither kept checkpoint a
+gate-gives journal kept checkpoint a makes gate = elim (cases_eq (a.byte 64) 1) [
+  | inl is ↦ inr (home-gives journal kept checkpoint a makes (is-opened journal kept checkpoint a makes gate is))
+  | inr closed ↦ inl (record { opened = λ is. absurd (closed is); shut = λ _. gate.pages_there })
+]
