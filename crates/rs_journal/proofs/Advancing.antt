@@ -6,9 +6,10 @@ use Rattle.rs_disk.specs.declared.disk.Disk as disk
 use Rattle.rs_journal.specs.declared.stage.Stage.{Stage}
 use Rattle.rs_journal.specs.declared.stage.Stage.TheVariants.{Fresh}
 use Rattle.rs_journal.specs.Pages.{Pages}
-use Rattle.rs_journal.specs.Journal.{Journal}
+use Rattle.rs_journal.specs.Journal.{Journal, Makes}
+use Rattle.rs_journal.proofs.Staging.{stage-gives}
 use Rattle.rs_journal.specs.Reaches.{Reaches, Through}
-use Rattle.rs_journal.specs.Stages.{StageImage, IsQuiet, Stands, Goes, Ends, Remains}
+use Rattle.rs_journal.specs.Stages.{StageImage, GivesFrom, Stands, Goes, Ends, Remains}
 
 module _ {D : Type 0} (d : disk.Ghosts D) where
   pub through-then : (P : Content → Type 0) (old mid new : D) → Through d P old mid → Through d P mid new → Through d P old new
@@ -70,3 +71,44 @@ module _ {D : Type 0} (d : disk.Ghosts D) where
 pub on_ok_map : {T E P Q : Type 0} (result : Result T E) → (P → Q) → OnOk result P → OnOk result Q
 on_ok_map (Ok _) f p = f p
 on_ok_map (Err _) f p = p
+
+pub on_err : {T E : Type 0} (result : Result T E) (P : Type 0) → P → OnErr result P
+on_err (Ok t) P p = tt
+on_err (Err e) P p = p
+
+module _ {D : Type 0} (d : disk.Ghosts D) where
+  -- a stage, and those after it
+  pub ends-then : {T E : Type 0} (result : Result T E) (kept : Pages) (journal : Journal) (checkpoint : Pages) (stage : Stage)
+      (from later gives : Content → Type 0) (old mid new : D) → ((image : Content) → from image → gives image)
+      → ((image : Content) → later image → gives image) → Through d from old mid
+      → Ends d kept journal checkpoint later result stage mid new → Ends d kept journal checkpoint gives result stage old new
+  ends-then result kept journal checkpoint stage from later gives old mid new one two through ends = record {
+    done = ends.done;
+    reached = ends.reached;
+    meanwhile = through-then d gives old mid new (through-less d from gives old mid one through) (through-less d later gives mid new two ends.meanwhile);
+  }
+
+  -- a stage that is not left
+  pub stands-still : (kept : Pages) (journal : Journal) (checkpoint : Pages) (stage at : Stage) (disk : D) → stage ≡ at
+      → Stands d (StageImage at kept journal checkpoint) disk → Stands d (StageImage stage kept journal checkpoint) disk
+  stands-still kept journal checkpoint stage at disk same stands =
+      subst (λ s. Stands d (StageImage s kept journal checkpoint) disk) (sym same) stands
+
+  -- the contract of the function for this stage is the one for any
+  pub ends-at : {T E : Type 0} (result : Result T E) (kept : Pages) (journal : Journal) (checkpoint : Pages) (stage at last : Stage) (old new : D)
+      → stage ≡ at
+      → (Stands d (StageImage at kept journal checkpoint) old → Ends d kept journal checkpoint (GivesFrom at kept checkpoint) result last old new)
+      → Stands d (StageImage stage kept journal checkpoint) old → Ends d kept journal checkpoint (GivesFrom stage kept checkpoint) result last old new
+  ends-at result kept journal checkpoint stage at last old new same ends =
+      subst (λ s. Stands d (StageImage s kept journal checkpoint) old → Ends d kept journal checkpoint (GivesFrom s kept checkpoint) result last old new)
+      (sym same) ends
+
+  -- each moment since the start
+  pub since-by : (kept : Pages) (journal : Journal) (checkpoint : Pages) (stage : Stage) (old new : D)
+      → ((image : Content) → d.left_since old old image → d.may_leave old image) → Makes journal kept checkpoint
+      → Stands d (StageImage stage kept journal checkpoint) old → Through d (GivesFrom stage kept checkpoint) old new
+      → (image : Content) → d.left_since old new image → GivesFrom stage kept checkpoint image
+  since-by kept journal checkpoint stage old new only makes stands through image left = elim (through.each old image left) [
+    | inl before ↦ stage-gives stage kept journal checkpoint image makes (stands.images image (only image before))
+    | inr is ↦ is
+  ]

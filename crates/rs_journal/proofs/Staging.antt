@@ -7,7 +7,9 @@ use Rattle.rs_page.specs.declared.page.TheConstants.{PAGE_SIZE}
 use Rattle.rs_journal.specs.Pages.{Pages, IsOutside, IsOfPages, HasPages}
 use Rattle.rs_journal.specs.Journal.{Journal, HasJournal, IsApart, IsNotCopied, Makes, Recovers, RecoversBy, copies_start}
 use Rattle.rs_journal.specs.Reaches.{KeepsWhere}
-use Rattle.rs_journal.specs.Stages.{IsQuiet, IsGate, IsHome, IsClosing, IsBeforeJournal, IsLeftAlone, HasHome, IsEither}
+use Rattle.rs_journal.specs.declared.stage.Stage.{Stage}
+use Rattle.rs_journal.specs.declared.stage.Stage.TheVariants.{Fresh, Gate, Home, Closing}
+use Rattle.rs_journal.specs.Stages.{StageImage, GivesFrom, IsQuiet, IsGate, IsHome, IsClosing, IsBeforeJournal, IsLeftAlone, HasHome, IsEither}
 use Rattle.rs_journal.proofs.Words.{journal-kept}
 
 pub pages-kept : (stays : ℕ → Type 0) (pages : Pages) (a b : Content) → KeepsWhere stays a b
@@ -210,3 +212,11 @@ gate-gives journal kept checkpoint a makes gate = elim (cases_eq (a.byte 64) 1) 
   | inl is ↦ inr (home-gives journal kept checkpoint a makes (is-opened journal kept checkpoint a makes gate is))
   | inr closed ↦ inl (record { opened = λ is. absurd (closed is); shut = λ _. gate.pages_there })
 ]
+
+-- the same of each stage
+pub stage-gives : (stage : Stage) (kept : Pages) (journal : Journal) (checkpoint : Pages) (a : Content) → Makes journal kept checkpoint
+    → StageImage stage kept journal checkpoint a → GivesFrom stage kept checkpoint a
+stage-gives Fresh kept journal checkpoint a makes is = inl (quiet-gives kept a is)
+stage-gives Gate kept journal checkpoint a makes is = gate-gives journal kept checkpoint a makes is
+stage-gives Home kept journal checkpoint a makes is = home-gives journal kept checkpoint a makes is
+stage-gives Closing kept journal checkpoint a makes is = closing-gives journal kept checkpoint a makes is

@@ -20,13 +20,115 @@ use crate::stage::Stage;
 use rs_disk::Disk;
 use rs_refusal::Refusal;
 
+/// Takes a checkpoint of these copies from the stage that it has reached to its last. The journal comes after the file's
+/// pages, from the page `first` on.
+///
+/// After Ok the checkpoint's pages are the ones kept, and the stage is the first. After a fault (91) the stage is the one
+/// that was reached; where it is `Fresh`, the gate was not touched and the pages kept last stay.
+pub fn complete<D: Disk, C: Copies>(
+    disk: &mut D,
+    stage: &mut Stage,
+    first: u32,
+    copies: &C,
+) -> Result<(), Refusal>
+    requires first { 0 < first }
+    requires ascending { Ascends (C.count copies.now) (C.number copies.now) }
+    ensures ends { (kept checkpoint : Pages) → Makes (journal_of C.Copies first copies.now) kept checkpoint
+        → Stands D.Disk (StageImage stage.old kept (journal_of C.Copies first copies.now) checkpoint) disk.old
+        → Ends D.Disk kept (journal_of C.Copies first copies.now) checkpoint
+        (GivesFrom stage.old kept checkpoint) result stage.new disk.old disk.new }
+    ensures since { (kept checkpoint : Pages) → Makes (journal_of C.Copies first copies.now) kept checkpoint
+        → Stands D.Disk (StageImage stage.old kept (journal_of C.Copies first copies.now) checkpoint) disk.old
+        → (image : Content) → D.left_since disk.old disk.new image → GivesFrom stage.old kept checkpoint image }
+    ensures untouched { (kept checkpoint : Pages) → Makes (journal_of C.Copies first copies.now) kept checkpoint
+        → Stands D.Disk (StageImage stage.old kept (journal_of C.Copies first copies.now) checkpoint) disk.old
+        → OnErr result (stage.new ≡ Fresh → Through D.Disk (λ image. Recovers image kept) disk.old disk.new) }
+    ensures goes_on { stage.old ≢ Fresh → OnErr result (stage.new ≢ Fresh) }
+    ensures refused { IsOkUnless result Refusal.Disk }
+    ensures count { Counts result (D.failures disk.old) (D.failures disk.new) }
+{
+    match *stage {
+        Stage::Fresh => from_fresh(disk, stage, first, copies),
+        Stage::Gate => from_gate(disk, stage, copies),
+        Stage::Home => from_home(disk, stage, copies),
+        Stage::Closing => from_closing(disk, stage),
+    }
+}
+
+/// Writes the journal, and goes on.
+fn from_fresh<D: Disk, C: Copies>(
+    disk: &mut D,
+    stage: &mut Stage,
+    first: u32,
+    copies: &C,
+) -> Result<(), Refusal>
+    requires stage { stage.old ≡ Fresh }
+    requires first { 0 < first }
+    requires ascending { Ascends (C.count copies.now) (C.number copies.now) }
+    ensures ends { (kept checkpoint : Pages) → Makes (journal_of C.Copies first copies.now) kept checkpoint
+        → Stands D.Disk (IsQuiet kept) disk.old
+        → Ends D.Disk kept (journal_of C.Copies first copies.now) checkpoint
+        (IsEither kept checkpoint) result stage.new disk.old disk.new }
+    ensures untouched { (kept checkpoint : Pages) → Makes (journal_of C.Copies first copies.now) kept checkpoint
+        → Stands D.Disk (IsQuiet kept) disk.old
+        → OnErr result (stage.new ≡ Fresh → Through D.Disk (λ image. Recovers image kept) disk.old disk.new) }
+    ensures refused { IsOkUnless result Refusal.Disk }
+    ensures count { Counts result (D.failures disk.old) (D.failures disk.new) }
+{
+    begin(disk, first, copies)?;
+    *stage = Stage::Gate;
+    from_gate(disk, stage, copies)
+}
+
+/// Opens the gate, and goes on.
+fn from_gate<D: Disk, C: Copies>(
+    disk: &mut D,
+    stage: &mut Stage,
+    copies: &C,
+) -> Result<(), Refusal>
+    requires stage { stage.old ≡ Gate }
+    requires ascending { Ascends (C.count copies.now) (C.number copies.now) }
+    ensures ends { (first : ℕ) (kept checkpoint : Pages) → Makes (journal_of C.Copies first copies.now) kept checkpoint
+        → Stands D.Disk (IsGate kept (journal_of C.Copies first copies.now)) disk.old
+        → Ends D.Disk kept (journal_of C.Copies first copies.now) checkpoint
+        (IsEither kept checkpoint) result stage.new disk.old disk.new }
+    ensures goes_on { OnErr result (stage.new ≢ Fresh) }
+    ensures refused { IsOkUnless result Refusal.Disk }
+    ensures count { Counts result (D.failures disk.old) (D.failures disk.new) }
+{
+    open_gate(disk)?;
+    *stage = Stage::Home;
+    from_home(disk, stage, copies)
+}
+
+/// Brings the copies home, and goes on.
+fn from_home<D: Disk, C: Copies>(
+    disk: &mut D,
+    stage: &mut Stage,
+    copies: &C,
+) -> Result<(), Refusal>
+    requires stage { stage.old ≡ Home }
+    requires ascending { Ascends (C.count copies.now) (C.number copies.now) }
+    ensures ends { (first : ℕ) (kept checkpoint : Pages) → Makes (journal_of C.Copies first copies.now) kept checkpoint
+        → Stands D.Disk (IsHome (journal_of C.Copies first copies.now) checkpoint) disk.old
+        → Ends D.Disk kept (journal_of C.Copies first copies.now) checkpoint
+        (λ image. Recovers image checkpoint) result stage.new disk.old disk.new }
+    ensures goes_on { OnErr result (stage.new ≢ Fresh) }
+    ensures refused { IsOkUnless result Refusal.Disk }
+    ensures count { Counts result (D.failures disk.old) (D.failures disk.new) }
+{
+    bring_home(disk, copies)?;
+    *stage = Stage::Closing;
+    from_closing(disk, stage)
+}
+
 /// Closes the gate.
 fn from_closing<D: Disk>(disk: &mut D, stage: &mut Stage) -> Result<(), Refusal>
     requires { stage.old ≡ Closing }
     ensures ends { (journal : Journal) (kept checkpoint : Pages) → Makes journal kept checkpoint
         → Stands D.Disk (IsClosing journal checkpoint) disk.old
         → Ends D.Disk kept journal checkpoint (λ image. Recovers image checkpoint) result stage.new disk.old disk.new }
-    ensures begun { OnErr result (stage.new ≢ Fresh) }
+    ensures goes_on { OnErr result (stage.new ≢ Fresh) }
     ensures refused { IsOkUnless result Refusal.Disk }
     ensures count { Counts result (D.failures disk.old) (D.failures disk.new) }
 {

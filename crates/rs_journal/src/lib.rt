@@ -15,5 +15,6 @@ pub mod limits;
 mod writing;
 
 pub use copies::Copies;
+pub use checkpoint::complete;
 pub use gate::cut;
 pub use stage::Stage;
