@@ -9,7 +9,7 @@ use Rattle.rs_journal.specs.Pages.{Pages}
 use Rattle.rs_journal.specs.Journal.{Journal, Makes}
 use Rattle.rs_journal.proofs.Staging.{stage-gives}
 use Rattle.rs_journal.specs.Reaches.{Reaches, Through}
-use Rattle.rs_journal.specs.Stages.{StageImage, GivesFrom, Stands, Goes, Ends, Remains}
+use Rattle.rs_journal.specs.Stages.{StageImage, GivesFrom, Stands, Meanwhile, Goes, Ends, Remains}
 
 module _ {D : Type 0} (d : disk.Ghosts D) where
   pub through-then : (P : Content → Type 0) (old mid new : D) → Through d P old mid → Through d P mid new → Through d P old new
@@ -25,25 +25,28 @@ module _ {D : Type 0} (d : disk.Ghosts D) where
   pub through-none : (P : Content → Type 0) (old : D) → Through d P old old
   through-none P old = record { each = λ start image left. inl left }
 
+  pub meanwhile-less : (P Q : Content → Type 0) (old new : D) → ((image : Content) → P image → Q image) → Meanwhile d P old new → Meanwhile d Q old new
+  meanwhile-less P Q old new less meanwhile = λ keeps. through-less P Q old new less (meanwhile keeps)
+
   -- what a step keeps of each image stays
   pub remains-by : (step : Content → Content → Type 0) (P : Content → Type 0) (old new : D)
       → ((a b : Content) → P a → step a b → P b) → Reaches d step old new → Stands d P old → Remains d P old new
-  remains-by step P old new on reaches stands =
-      let passes = reaches.images stands.keeps in
-      record {
-        stands = record {
-          honest = subst IsTrue (sym reaches.honesty) stands.honest;
-          keeps = subst IsTrue (sym reaches.keeping) stands.keeps;
-          images = λ image left. let f = passes.now image left in on f.source image (stands.images f.source f.was_left) f.steps;
-          reads = on (d.seen old) (d.seen new) stands.reads (reaches.reads stands.honest);
-        };
-        meanwhile = record {
-          each = λ start image left. elim (passes.meanwhile start image left) [
-            | inl before ↦ inl before
-            | inr f ↦ inr (on f.source image (stands.images f.source f.was_left) f.steps)
-          ];
-        };
-      }
+  remains-by step P old new on reaches stands = record {
+    stands = record {
+      honest = subst IsTrue (sym reaches.honesty) stands.honest;
+      images = λ keeps image left.
+          let before = subst IsTrue reaches.keeping keeps in
+          let f = (reaches.images before).now image left in
+          on f.source image (stands.images before f.source f.was_left) f.steps;
+      reads = on (d.seen old) (d.seen new) stands.reads (reaches.reads stands.honest);
+    };
+    meanwhile = λ keeps. record {
+      each = λ start image left. elim ((reaches.images keeps).meanwhile start image left) [
+        | inl before ↦ inl before
+        | inr f ↦ inr (on f.source image (stands.images keeps f.source f.was_left) f.steps)
+      ];
+    };
+  }
 
   -- one stage
   pub goes-by : {T E : Type 0} (result : Result T E) (step : Content → Content → Type 0) (from to : Content → Type 0) (old new : D)
@@ -57,8 +60,7 @@ module _ {D : Type 0} (d : disk.Ghosts D) where
       record {
         done = record {
           honest = remains.stands.honest;
-          keeps = remains.stands.keeps;
-          images = λ image left. subst to (sym (durable stands.keeps image left)) there;
+          images = λ keeps image left. subst to (sym (durable (subst IsTrue reaches.keeping keeps) image left)) there;
           reads = there;
         };
         fault = tt;
@@ -80,12 +82,13 @@ module _ {D : Type 0} (d : disk.Ghosts D) where
   -- a stage, and those after it
   pub ends-then : {T E : Type 0} (result : Result T E) (kept : Pages) (journal : Journal) (checkpoint : Pages) (stage : Stage)
       (from later gives : Content → Type 0) (old mid new : D) → ((image : Content) → from image → gives image)
-      → ((image : Content) → later image → gives image) → Through d from old mid
+      → ((image : Content) → later image → gives image) → d.keeps_crashes mid ≡ d.keeps_crashes old → Meanwhile d from old mid
       → Ends d kept journal checkpoint later result stage mid new → Ends d kept journal checkpoint gives result stage old new
-  ends-then result kept journal checkpoint stage from later gives old mid new one two through ends = record {
+  ends-then result kept journal checkpoint stage from later gives old mid new one two keeping through ends = record {
     done = ends.done;
     reached = ends.reached;
-    meanwhile = through-then d gives old mid new (through-less d from gives old mid one through) (through-less d later gives mid new two ends.meanwhile);
+    meanwhile = λ keeps. through-then d gives old mid new (through-less d from gives old mid one (through keeps))
+        (through-less d later gives mid new two (ends.meanwhile (subst IsTrue (sym keeping) keeps)));
   }
 
   -- a stage that is not left
@@ -105,10 +108,10 @@ module _ {D : Type 0} (d : disk.Ghosts D) where
 
   -- each moment since the start
   pub since-by : (kept : Pages) (journal : Journal) (checkpoint : Pages) (stage : Stage) (old new : D)
-      → ((image : Content) → d.left_since old old image → d.may_leave old image) → Makes journal kept checkpoint
-      → Stands d (StageImage stage kept journal checkpoint) old → Through d (GivesFrom stage kept checkpoint) old new
-      → (image : Content) → d.left_since old new image → GivesFrom stage kept checkpoint image
-  since-by kept journal checkpoint stage old new only makes stands through image left = elim (through.each old image left) [
-    | inl before ↦ stage-gives stage kept journal checkpoint image makes (stands.images image (only image before))
+      → (IsTrue (d.keeps_crashes old) → (image : Content) → d.left_since old old image → d.may_leave old image) → Makes journal kept checkpoint
+      → Stands d (StageImage stage kept journal checkpoint) old → Meanwhile d (GivesFrom stage kept checkpoint) old new
+      → IsTrue (d.keeps_crashes old) → (image : Content) → d.left_since old new image → GivesFrom stage kept checkpoint image
+  since-by kept journal checkpoint stage old new only makes stands meanwhile keeps image left = elim ((meanwhile keeps).each old image left) [
+    | inl before ↦ stage-gives stage kept journal checkpoint image makes (stands.images keeps image (only keeps image before))
     | inr is ↦ is
   ]

@@ -81,19 +81,23 @@ GivesFrom Home kept checkpoint image = Recovers image checkpoint
 GivesFrom Closing kept checkpoint image = Recovers image checkpoint
 
 module _ {D : Type 0} (d : disk.Ghosts D) where
-  -- the disk keeps both models, and this holds of each image that a crash may leave, and of what a read gives
+  -- the disk is honest, this holds of what a read gives, and where the disk keeps the model of crashes of each image that
+  -- a crash may leave
   pub record Stands (is_left : Content → Type 0) (disk : D) : Type 0 where
     pub honest : IsTrue (d.is_honest disk)
-    pub keeps : IsTrue (d.keeps_crashes disk)
-    pub images : (image : Content) → d.may_leave disk image → is_left image
     pub reads : is_left (d.seen disk)
+    pub images : IsTrue (d.keeps_crashes disk) → (image : Content) → d.may_leave disk image → is_left image
+
+  -- meanwhile a crash leaves images of which this holds
+  abbrev pub Meanwhile : (Content → Type 0) → D → D → Type 0
+  Meanwhile is_left old new = IsTrue (d.keeps_crashes old) → Through d is_left old new
 
   -- One stage: it ends as the next begins, or after a fault as it began itself, and meanwhile a crash leaves an image as
   -- at its beginning.
   pub record Goes {T E : Type 0} (from to : Content → Type 0) (result : Result T E) (old new : D) : Type 0 where
     pub done : OnOk result (Stands to new)
     pub fault : OnErr result (Stands from new)
-    pub meanwhile : Through d from old new
+    pub meanwhile : Meanwhile from old new
 
   -- Stages up to the last: after Ok the checkpoint's pages are the ones kept and the stage is the first, after a fault it
   -- is the one that was reached. A crash meanwhile leaves an image that gives these pages.
@@ -101,9 +105,9 @@ module _ {D : Type 0} (d : disk.Ghosts D) where
       (result : Result T E) (stage : Stage) (old new : D) : Type 0 where
     pub done : OnOk result ((stage ≡ Fresh) × Stands (IsQuiet checkpoint) new)
     pub reached : OnErr result (Stands (StageImage stage kept journal checkpoint) new)
-    pub meanwhile : Through d gives old new
+    pub meanwhile : Meanwhile gives old new
 
   -- this holds still, and meanwhile a crash leaves an image of which it holds
   pub record Remains (is_left : Content → Type 0) (old new : D) : Type 0 where
     pub stands : Stands is_left new
-    pub meanwhile : Through d is_left old new
+    pub meanwhile : Meanwhile is_left old new

@@ -3,13 +3,12 @@
 //! A fault leaves the stage that was reached, and the next call resumes there. After the last the checkpoint's pages are
 //! the ones kept; the file is cut apart from that, so that a fault there changes nothing of it.
 
-ghost use Rattle.std.specs.Prelude.{◌≡◌, ◌≢◌, ℕ, ◌<◌, OnErr, IsOkUnless};
+ghost use Rattle.std.specs.Prelude.{◌≡◌, ◌≢◌, ℕ, ◌<◌, true, IsTrue, OnOk, OnErr, IsOkUnless};
 ghost use Rattle.rs_disk.specs.Content.{Content};
 ghost use Rattle.rs_disk.specs.Counts.{Counts};
 ghost use Rattle.rs_journal.specs.Journal.{Journal, Ascends, Makes, Recovers, journal_of};
 ghost use Rattle.rs_journal.specs.Pages.{Pages};
-ghost use Rattle.rs_journal.specs.Reaches.{Through};
-ghost use Rattle.rs_journal.specs.Stages.{IsQuiet, IsGate, IsHome, IsClosing, IsEither, GivesFrom, StageImage, Stands, Ends};
+ghost use Rattle.rs_journal.specs.Stages.{IsQuiet, IsGate, IsHome, IsClosing, IsEither, GivesFrom, StageImage, Stands, Meanwhile, Ends};
 ghost use Rattle.rs_journal.specs.declared.stage.Stage.TheVariants.{Fresh, Gate, Home, Closing};
 
 use crate::copies::Copies;
@@ -39,11 +38,14 @@ pub fn complete<D: Disk, C: Copies>(
         (GivesFrom stage.old kept checkpoint) result stage.new disk.old disk.new }
     ensures since { (kept checkpoint : Pages) → Makes (journal_of C.Copies first copies.now) kept checkpoint
         → Stands D.Disk (StageImage stage.old kept (journal_of C.Copies first copies.now) checkpoint) disk.old
-        → (image : Content) → D.left_since disk.old disk.new image → GivesFrom stage.old kept checkpoint image }
+        → IsTrue (D.keeps_crashes disk.old) → (image : Content) → D.left_since disk.old disk.new image → GivesFrom stage.old kept checkpoint image }
     ensures untouched { (kept checkpoint : Pages) → Makes (journal_of C.Copies first copies.now) kept checkpoint
         → Stands D.Disk (StageImage stage.old kept (journal_of C.Copies first copies.now) checkpoint) disk.old
-        → OnErr result (stage.new ≡ Fresh → Through D.Disk (λ image. Recovers image kept) disk.old disk.new) }
+        → OnErr result (stage.new ≡ Fresh → Meanwhile D.Disk (λ image. Recovers image kept) disk.old disk.new) }
     ensures goes_on { stage.old ≢ Fresh → OnErr result (stage.new ≢ Fresh) }
+    ensures honesty { D.is_honest disk.new ≡ D.is_honest disk.old }
+    ensures keeping { D.keeps_crashes disk.new ≡ D.keeps_crashes disk.old }
+    ensures synced { OnOk result (D.is_synced disk.new ≡ true) }
     ensures refused { IsOkUnless result Refusal.Disk }
     ensures count { Counts result (D.failures disk.old) (D.failures disk.new) }
 {
@@ -71,7 +73,10 @@ fn from_fresh<D: Disk, C: Copies>(
         (IsEither kept checkpoint) result stage.new disk.old disk.new }
     ensures untouched { (kept checkpoint : Pages) → Makes (journal_of C.Copies first copies.now) kept checkpoint
         → Stands D.Disk (IsQuiet kept) disk.old
-        → OnErr result (stage.new ≡ Fresh → Through D.Disk (λ image. Recovers image kept) disk.old disk.new) }
+        → OnErr result (stage.new ≡ Fresh → Meanwhile D.Disk (λ image. Recovers image kept) disk.old disk.new) }
+    ensures honesty { D.is_honest disk.new ≡ D.is_honest disk.old }
+    ensures keeping { D.keeps_crashes disk.new ≡ D.keeps_crashes disk.old }
+    ensures synced { OnOk result (D.is_synced disk.new ≡ true) }
     ensures refused { IsOkUnless result Refusal.Disk }
     ensures count { Counts result (D.failures disk.old) (D.failures disk.new) }
 {
@@ -93,6 +98,9 @@ fn from_gate<D: Disk, C: Copies>(
         → Ends D.Disk kept (journal_of C.Copies first copies.now) checkpoint
         (IsEither kept checkpoint) result stage.new disk.old disk.new }
     ensures goes_on { OnErr result (stage.new ≢ Fresh) }
+    ensures honesty { D.is_honest disk.new ≡ D.is_honest disk.old }
+    ensures keeping { D.keeps_crashes disk.new ≡ D.keeps_crashes disk.old }
+    ensures synced { OnOk result (D.is_synced disk.new ≡ true) }
     ensures refused { IsOkUnless result Refusal.Disk }
     ensures count { Counts result (D.failures disk.old) (D.failures disk.new) }
 {
@@ -114,6 +122,9 @@ fn from_home<D: Disk, C: Copies>(
         → Ends D.Disk kept (journal_of C.Copies first copies.now) checkpoint
         (λ image. Recovers image checkpoint) result stage.new disk.old disk.new }
     ensures goes_on { OnErr result (stage.new ≢ Fresh) }
+    ensures honesty { D.is_honest disk.new ≡ D.is_honest disk.old }
+    ensures keeping { D.keeps_crashes disk.new ≡ D.keeps_crashes disk.old }
+    ensures synced { OnOk result (D.is_synced disk.new ≡ true) }
     ensures refused { IsOkUnless result Refusal.Disk }
     ensures count { Counts result (D.failures disk.old) (D.failures disk.new) }
 {
@@ -129,6 +140,9 @@ fn from_closing<D: Disk>(disk: &mut D, stage: &mut Stage) -> Result<(), Refusal>
         → Stands D.Disk (IsClosing journal checkpoint) disk.old
         → Ends D.Disk kept journal checkpoint (λ image. Recovers image checkpoint) result stage.new disk.old disk.new }
     ensures goes_on { OnErr result (stage.new ≢ Fresh) }
+    ensures honesty { D.is_honest disk.new ≡ D.is_honest disk.old }
+    ensures keeping { D.keeps_crashes disk.new ≡ D.keeps_crashes disk.old }
+    ensures synced { OnOk result (D.is_synced disk.new ≡ true) }
     ensures refused { IsOkUnless result Refusal.Disk }
     ensures count { Counts result (D.failures disk.old) (D.failures disk.new) }
 {

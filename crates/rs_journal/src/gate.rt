@@ -1,6 +1,6 @@
 //! The gate: one byte of page 0, written alone, and the cut of the file.
 
-ghost use Rattle.std.specs.Prelude.{◌≡◌, ◌<◌, ◌≤◌, IsTrue, OnOk, IsOkUnless};
+ghost use Rattle.std.specs.Prelude.{◌≡◌, ◌<◌, ◌≤◌, true, IsTrue, OnOk, IsOkUnless};
 ghost use Rattle.rs_disk.specs.Counts.{Counts};
 ghost use Rattle.rs_disk.specs.Crash.{Only};
 ghost use Rattle.rs_journal.specs.Journal.{Journal, Makes};
@@ -20,6 +20,7 @@ pub(crate) fn write_gate<D: Disk>(disk: &mut D, byte: u8) -> Result<(), Refusal>
     ensures reaches { Reaches D.Disk (KeepsWhere (IsOutside GATE GATE_END)) disk.old disk.new }
     ensures durable { IsTrue (D.keeps_crashes disk.old)
         → OnOk result (Only (D.seen disk.new) (D.may_leave disk.new)) }
+    ensures synced { OnOk result (D.is_synced disk.new ≡ true) }
     ensures refused { IsOkUnless result Refusal.Disk }
     ensures count { Counts result (D.failures disk.old) (D.failures disk.new) }
 {
@@ -32,6 +33,8 @@ pub(crate) fn open_gate<D: Disk>(disk: &mut D) -> Result<(), Refusal>
     ensures goes { (journal : Journal) (kept checkpoint : Pages) → Makes journal kept checkpoint
         → Stands D.Disk (IsGate kept journal) disk.old
         → Goes D.Disk (IsGate kept journal) (IsHome journal checkpoint) result disk.old disk.new }
+    ensures honesty { D.is_honest disk.new ≡ D.is_honest disk.old }
+    ensures keeping { D.keeps_crashes disk.new ≡ D.keeps_crashes disk.old }
     ensures refused { IsOkUnless result Refusal.Disk }
     ensures count { Counts result (D.failures disk.old) (D.failures disk.new) }
 {
@@ -43,6 +46,9 @@ pub(crate) fn close_gate<D: Disk>(disk: &mut D) -> Result<(), Refusal>
     ensures goes { (journal : Journal) (kept checkpoint : Pages) → Makes journal kept checkpoint
         → Stands D.Disk (IsClosing journal checkpoint) disk.old
         → Goes D.Disk (IsClosing journal checkpoint) (IsQuiet checkpoint) result disk.old disk.new }
+    ensures honesty { D.is_honest disk.new ≡ D.is_honest disk.old }
+    ensures keeping { D.keeps_crashes disk.new ≡ D.keeps_crashes disk.old }
+    ensures synced { OnOk result (D.is_synced disk.new ≡ true) }
     ensures refused { IsOkUnless result Refusal.Disk }
     ensures count { Counts result (D.failures disk.old) (D.failures disk.new) }
 {
@@ -53,6 +59,8 @@ pub(crate) fn close_gate<D: Disk>(disk: &mut D) -> Result<(), Refusal>
 pub fn cut<D: Disk>(disk: &mut D, pages: u32) -> Result<(), Refusal>
     ensures remains { (kept : Pages) → 0 < kept.count → kept.count ≤ pages
         → Stands D.Disk (IsQuiet kept) disk.old → Remains D.Disk (IsQuiet kept) disk.old disk.new }
+    ensures honesty { D.is_honest disk.new ≡ D.is_honest disk.old }
+    ensures keeping { D.keeps_crashes disk.new ≡ D.keeps_crashes disk.old }
     ensures refused { IsOkUnless result Refusal.Disk }
     ensures count { Counts result (D.failures disk.old) (D.failures disk.new) }
 {

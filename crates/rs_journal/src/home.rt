@@ -24,6 +24,8 @@ pub(crate) fn bring_home<D: Disk, C: Copies>(disk: &mut D, copies: &C) -> Result
         → Stands D.Disk (IsHome (journal_of C.Copies first copies.now) checkpoint) disk.old
         → Goes D.Disk (IsHome (journal_of C.Copies first copies.now) checkpoint)
         (IsClosing (journal_of C.Copies first copies.now) checkpoint) result disk.old disk.new }
+    ensures honesty { D.is_honest disk.new ≡ D.is_honest disk.old }
+    ensures keeping { D.keeps_crashes disk.new ≡ D.keeps_crashes disk.old }
     ensures refused { IsOkUnless result Refusal.Disk }
     ensures count { Counts result (D.failures disk.old) (D.failures disk.new) }
 {

@@ -54,6 +54,8 @@ pub(crate) fn begin<D: Disk, C: Copies>(
     ensures goes { (kept checkpoint : Pages) → Makes (journal_of C.Copies first copies.now) kept checkpoint
         → Stands D.Disk (IsQuiet kept) disk.old
         → Goes D.Disk (IsQuiet kept) (IsGate kept (journal_of C.Copies first copies.now)) result disk.old disk.new }
+    ensures honesty { D.is_honest disk.new ≡ D.is_honest disk.old }
+    ensures keeping { D.keeps_crashes disk.new ≡ D.keeps_crashes disk.old }
     ensures refused { IsOkUnless result Refusal.Disk }
     ensures count { Counts result (D.failures disk.old) (D.failures disk.new) }
 {

@@ -1,6 +1,6 @@
 //! Single calls of the disk, as the stages of a checkpoint make them.
 
-ghost use Rattle.std.specs.Prelude.{◌≡◌, ℕ, ◌+◌, ◌*◌, ◌^◌, ◌<◌, length, IsTrue, OnOk, IsOkUnless};
+ghost use Rattle.std.specs.Prelude.{◌≡◌, ℕ, ◌+◌, ◌*◌, ◌^◌, ◌<◌, length, true, IsTrue, OnOk, IsOkUnless};
 ghost use Rattle.rs_disk.specs.Content.{Holds};
 ghost use Rattle.rs_disk.specs.Counts.{Counts};
 ghost use Rattle.rs_disk.specs.Crash.{Same, Only};
@@ -40,6 +40,7 @@ pub(crate) fn sync<D: Disk>(disk: &mut D) -> Result<(), Refusal>
     ensures reaches { Reaches D.Disk Same disk.old disk.new }
     ensures durable { IsTrue (D.keeps_crashes disk.old)
         → OnOk result (Only (D.seen disk.new) (D.may_leave disk.new)) }
+    ensures synced { OnOk result (D.is_synced disk.new ≡ true) }
     ensures refused { IsOkUnless result Refusal.Disk }
     ensures count { Counts result (D.failures disk.old) (D.failures disk.new) }
 {

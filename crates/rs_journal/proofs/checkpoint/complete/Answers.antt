@@ -14,7 +14,7 @@ returns-in-Fresh-clause-ends g c = λ kept checkpoint makes stands.
 pub returns-in-Fresh-clause-since : goal.returns-in-Fresh-clause-since
 returns-in-Fresh-clause-since g c = λ kept checkpoint makes stands.
     let journal = journal_of g.C.Copies c.args.first c.args.copies.now in
-    since-by g.D.Disk kept journal checkpoint c.args.stage.now _ _ (g.met.D.Disk.only_now c.args.disk.now stands.keeps) makes stands
+    since-by g.D.Disk kept journal checkpoint c.args.stage.now _ _ (g.met.D.Disk.only_now c.args.disk.now) makes stands
     (returns-in-Fresh-clause-ends g c kept checkpoint makes stands).meanwhile
 
 pub returns-in-Fresh-clause-untouched : goal.returns-in-Fresh-clause-untouched
@@ -30,7 +30,7 @@ returns-in-Gate-clause-ends g c = λ kept checkpoint makes stands.
 pub returns-in-Gate-clause-since : goal.returns-in-Gate-clause-since
 returns-in-Gate-clause-since g c = λ kept checkpoint makes stands.
     let journal = journal_of g.C.Copies c.args.first c.args.copies.now in
-    since-by g.D.Disk kept journal checkpoint c.args.stage.now _ _ (g.met.D.Disk.only_now c.args.disk.now stands.keeps) makes stands
+    since-by g.D.Disk kept journal checkpoint c.args.stage.now _ _ (g.met.D.Disk.only_now c.args.disk.now) makes stands
     (returns-in-Gate-clause-ends g c kept checkpoint makes stands).meanwhile
 
 pub returns-in-Home-clause-ends : goal.returns-in-Home-clause-ends
@@ -41,7 +41,7 @@ returns-in-Home-clause-ends g c = λ kept checkpoint makes stands.
 pub returns-in-Home-clause-since : goal.returns-in-Home-clause-since
 returns-in-Home-clause-since g c = λ kept checkpoint makes stands.
     let journal = journal_of g.C.Copies c.args.first c.args.copies.now in
-    since-by g.D.Disk kept journal checkpoint c.args.stage.now _ _ (g.met.D.Disk.only_now c.args.disk.now stands.keeps) makes stands
+    since-by g.D.Disk kept journal checkpoint c.args.stage.now _ _ (g.met.D.Disk.only_now c.args.disk.now) makes stands
     (returns-in-Home-clause-ends g c kept checkpoint makes stands).meanwhile
 
 pub returns-in-Closing-clause-ends : goal.returns-in-Closing-clause-ends
@@ -52,5 +52,5 @@ returns-in-Closing-clause-ends g c = λ kept checkpoint makes stands.
 pub returns-in-Closing-clause-since : goal.returns-in-Closing-clause-since
 returns-in-Closing-clause-since g c = λ kept checkpoint makes stands.
     let journal = journal_of g.C.Copies c.args.first c.args.copies.now in
-    since-by g.D.Disk kept journal checkpoint c.args.stage.now _ _ (g.met.D.Disk.only_now c.args.disk.now stands.keeps) makes stands
+    since-by g.D.Disk kept journal checkpoint c.args.stage.now _ _ (g.met.D.Disk.only_now c.args.disk.now) makes stands
     (returns-in-Closing-clause-ends g c kept checkpoint makes stands).meanwhile

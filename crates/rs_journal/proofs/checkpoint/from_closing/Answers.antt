@@ -1,7 +1,7 @@
 -- The last stage.
 use Rattle.std.proofs.Common.{◌≡◌, refl, rules}
 use Rattle.rs_journal.specs.declared.stage.Stage.TheVariants.{Closing}
-use Rattle.rs_journal.proofs.Advancing.{on_err, through-less, stands-still}
+use Rattle.rs_journal.proofs.Advancing.{on_err, meanwhile-less, stands-still}
 use Rattle.rs_journal.proofs.Staging.{closing-gives}
 use Rattle.rs_journal.proofs.checkpoint.from_closing.Goals as goal
 
@@ -11,7 +11,7 @@ returns-in_err-close_gate-clause-ends g c = λ journal kept checkpoint makes sta
     record {
       done = search rules;
       reached = on_err _ _ (stands-still g.D.Disk kept journal checkpoint _ Closing _ c.requires goes.fault);
-      meanwhile = through-less g.D.Disk _ _ _ _ (λ image is. closing-gives journal kept checkpoint image makes is) goes.meanwhile;
+      meanwhile = meanwhile-less g.D.Disk _ _ _ _ (λ image is. closing-gives journal kept checkpoint image makes is) goes.meanwhile;
     }
 
 pub returns-clause-ends : goal.returns-clause-ends
@@ -20,5 +20,5 @@ returns-clause-ends g c = λ journal kept checkpoint makes stands.
     record {
       done = (refl, goes.done);
       reached = tt;
-      meanwhile = through-less g.D.Disk _ _ _ _ (λ image is. closing-gives journal kept checkpoint image makes is) goes.meanwhile;
+      meanwhile = meanwhile-less g.D.Disk _ _ _ _ (λ image is. closing-gives journal kept checkpoint image makes is) goes.meanwhile;
     }

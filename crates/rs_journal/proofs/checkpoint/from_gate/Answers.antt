@@ -2,7 +2,7 @@
 use Rattle.std.proofs.Common.{◌≡◌, inr, refl, rules}
 use Rattle.rs_journal.specs.Journal.{journal_of}
 use Rattle.rs_journal.specs.declared.stage.Stage.TheVariants.{Gate}
-use Rattle.rs_journal.proofs.Advancing.{on_err, through-less, stands-still, ends-then}
+use Rattle.rs_journal.proofs.Advancing.{on_err, meanwhile-less, stands-still, ends-then}
 use Rattle.rs_journal.proofs.Staging.{gate-gives}
 use Rattle.rs_journal.proofs.checkpoint.from_gate.Goals as goal
 
@@ -13,7 +13,7 @@ returns-in_err-open_gate-clause-ends g c = λ first kept checkpoint makes stands
     record {
       done = search rules;
       reached = on_err _ _ (stands-still g.D.Disk kept journal checkpoint _ Gate _ c.requires.stage goes.fault);
-      meanwhile = through-less g.D.Disk _ _ _ _ (λ image is. gate-gives journal kept checkpoint image makes is) goes.meanwhile;
+      meanwhile = meanwhile-less g.D.Disk _ _ _ _ (λ image is. gate-gives journal kept checkpoint image makes is) goes.meanwhile;
     }
 
 pub returns-clause-ends : goal.returns-clause-ends
@@ -21,4 +21,4 @@ returns-clause-ends g c = λ first kept checkpoint makes stands.
     let journal = journal_of g.C.Copies first c.args.copies.now in
     let goes = c.in_ok-open_gate.ensures.goes journal kept checkpoint makes stands in
     ends-then g.D.Disk _ kept journal checkpoint _ _ _ _ _ _ _ (λ image is. gate-gives journal kept checkpoint image makes is) (λ image is. inr is)
-    goes.meanwhile (c.from_home.ensures.ends first kept checkpoint makes goes.done)
+    (search rules) goes.meanwhile (c.from_home.ensures.ends first kept checkpoint makes goes.done)
