@@ -5,7 +5,7 @@ use Rattle.rs_disk.specs.Content.{Content}
 use Rattle.rs_disk.specs.Crash.{CutOrNot}
 use Rattle.rs_page.specs.declared.page.TheConstants.{PAGE_SIZE}
 use Rattle.rs_journal.specs.Pages.{Pages, IsOutside, IsOfPages, HasPages}
-use Rattle.rs_journal.specs.Journal.{Journal, HasJournal, IsApart, IsNotCopied, Makes, Recovers, RecoversBy, copies_start}
+use Rattle.rs_journal.specs.Journal.{Journal, HasJournal, IsApart, IsNotCopied, IsWellFormed, Carries, Makes, end_page, Recovers, RecoversBy, copies_start}
 use Rattle.rs_journal.specs.Reaches.{KeepsWhere}
 use Rattle.rs_journal.specs.declared.stage.Stage.{Stage}
 use Rattle.rs_journal.specs.declared.stage.Stage.TheVariants.{Fresh, Gate, Home, Closing}
@@ -43,27 +43,35 @@ quiet-on journal kept checkpoint a b makes quiet keeps =
     }
 
 -- while the gate is written
-gate-journal : (journal : Journal) (a b : Content) → 0 < journal.first → KeepsWhere (IsOutside 64 65) a b
-    → HasJournal journal a → HasJournal journal b
-gate-journal journal a b some keeps has =
-    journal-kept _ journal a b keeps (λ i lo hi. inr (omega arith)) (λ i lo. inr (omega arith)) has
+-- a journal that copies a page does not begin at page 0
+journal-later : (journal : Journal) → IsWellFormed journal → (i : ℕ) → PAGE_SIZE * journal.first ≤ i
+    → i < PAGE_SIZE * end_page journal.first journal.count → PAGE_SIZE ≤ i
+journal-later journal well i lo hi = elim (cases_lt 0 journal.count) [
+  | inl some ↦ let below : journal.number 0 < journal.first = well.below 0 some in omega arith
+  | inr none ↦ let zero_is : journal.count ≡ 0 = omega arith in
+      let empty : end_page journal.first journal.count ≡ journal.first = ap (end_page journal.first) zero_is ∙ omega arith in
+      absurd (omega (arith, empty))
+]
 
-pub first-after : (journal : Journal) (kept checkpoint : Pages) → Makes journal kept checkpoint → 0 < journal.first
-first-after journal kept checkpoint makes =
-    let some : 0 < kept.count = makes.some_kept in let after : kept.count ≤ journal.first = makes.after_kept in omega arith
+gate-journal : (journal : Journal) (a b : Content) → IsWellFormed journal → KeepsWhere (IsOutside 64 65) a b
+    → HasJournal journal a → HasJournal journal b
+gate-journal journal a b well keeps has =
+    let later : (i : ℕ) → PAGE_SIZE * journal.first ≤ i → i < PAGE_SIZE * end_page journal.first journal.count → 65 ≤ i
+        = λ i lo hi. let past : PAGE_SIZE ≤ i = journal-later journal well i lo hi in omega arith in
+    journal-kept _ journal a b keeps (λ i lo hi. inr (omega arith)) (λ i lo hi. inr (later i lo hi)) has
 
 pub gate-on : (journal : Journal) (kept checkpoint : Pages) (a b : Content) → Makes journal kept checkpoint
     → IsGate kept journal a → KeepsWhere (IsOutside 64 65) a b → IsGate kept journal b
 gate-on journal kept checkpoint a b makes gate keeps = record {
   pages_there = pages-kept _ kept a b keeps (λ i lt own. not-gate i own) gate.pages_there;
-  journal_there = gate-journal journal a b (first-after journal kept checkpoint makes) keeps gate.journal_there;
+  journal_there = gate-journal journal a b makes.carries.well_formed keeps gate.journal_there;
 }
 
-pub closing-on : (journal : Journal) (kept checkpoint : Pages) (a b : Content) → Makes journal kept checkpoint
+pub closing-on : (journal : Journal) (checkpoint : Pages) (a b : Content) → Carries journal checkpoint
     → IsClosing journal checkpoint a → KeepsWhere (IsOutside 64 65) a b → IsClosing journal checkpoint b
-closing-on journal kept checkpoint a b makes closing keeps = record {
+closing-on journal checkpoint a b carries closing keeps = record {
   pages_there = pages-kept _ checkpoint a b keeps (λ i lt own. not-gate i own) closing.pages_there;
-  journal_there = gate-journal journal a b (first-after journal kept checkpoint makes) keeps closing.journal_there;
+  journal_there = gate-journal journal a b carries.well_formed keeps closing.journal_there;
 }
 
 -- the checkpoint's pages lie within the file where its journal does
@@ -91,16 +99,16 @@ is-opened journal kept checkpoint a makes gate is = record {
 }
 
 -- while the copies are brought home
-pub home-on : (journal : Journal) (kept checkpoint : Pages) (a b : Content) → Makes journal kept checkpoint
+pub home-on : (journal : Journal) (checkpoint : Pages) (a b : Content) → Carries journal checkpoint
     → IsHome journal checkpoint a → KeepsWhere (IsLeftAlone journal.count journal.number) a b → IsHome journal checkpoint b
-home-on journal kept checkpoint a b makes home keeps =
+home-on journal checkpoint a b carries home keeps =
     let long : PAGE_SIZE * checkpoint.count ≤ a.size = home.size in
-    let some : 0 < checkpoint.count = makes.some in
+    let some : 0 < checkpoint.count = carries.some in
     let longer : a.size ≤ b.size = keeps.no_shorter in
     record {
       opened = keeps.bytes 64 (omega arith) (inr (omega arith, omega arith)) ∙ home.opened;
       journal_there = journal-kept _ journal a b keeps (λ i lo hi. inr (omega arith, omega arith))
-          (λ i lo. inl (λ k lt. let below : journal.number k < journal.first = makes.well_formed.below k lt in inr (omega arith)))
+          (λ i lo hi. inl (λ k lt. let below : journal.number k < journal.first = carries.well_formed.below k lt in inr (omega arith)))
           home.journal_there;
       others = λ i lt own apart. keeps.bytes i (omega arith) (inl apart) ∙ home.others i lt own apart;
       size = omega arith;
@@ -135,9 +143,9 @@ apart-or (suc n) number i = elim (apart-or n number i) [
     ]
 
 -- once they are home
-pub is-home : (journal : Journal) (kept checkpoint : Pages) (a : Content) → Makes journal kept checkpoint
+pub is-home : (journal : Journal) (checkpoint : Pages) (a : Content) → Carries journal checkpoint
     → IsHome journal checkpoint a → HasHome journal.count journal.number journal.copy a → IsClosing journal checkpoint a
-is-home journal kept checkpoint a makes home written = record {
+is-home journal checkpoint a carries home written = record {
   pages_there = record {
     size = home.size;
     bytes = λ i lt own. elim (apart-or journal.count journal.number i) [
@@ -145,7 +153,7 @@ is-home journal kept checkpoint a makes home written = record {
           let is : i ≡ PAGE_SIZE * journal.number f.place + f.offset = f.is in
           let own' = subst IsOfPages is own in
           ap a.byte is ∙ written.each f.place f.offset f.lt f.within own'
-          ∙ sym (makes.copied f.place f.offset f.lt f.within (omega arith) own') ∙ ap checkpoint.byte (sym is)
+          ∙ sym (carries.copied f.place f.offset f.lt f.within (omega arith) own') ∙ ap checkpoint.byte (sym is)
       | inr apart ↦ home.others i lt own apart
     ];
   };
@@ -182,26 +190,26 @@ pub quiet-gives : (pages : Pages) (a : Content) → IsQuiet pages a → Recovers
 quiet-gives pages a quiet = record { opened = λ is. absurd (quiet.closed is); shut = λ _. quiet.pages_there }
 
 -- an open gate gives the checkpoint's pages, where those that it doesn't copy are there
-open-gives : (journal : Journal) (kept checkpoint : Pages) (a : Content) → Makes journal kept checkpoint → HasJournal journal a
+open-gives : (journal : Journal) (checkpoint : Pages) (a : Content) → Carries journal checkpoint → HasJournal journal a
     → ((i : ℕ) → i < PAGE_SIZE * checkpoint.count → IsOfPages i → IsNotCopied journal i → a.byte i ≡ checkpoint.byte i)
     → PAGE_SIZE * checkpoint.count ≤ a.size → RecoversBy a checkpoint
-open-gives journal kept checkpoint a makes there others size = record {
+open-gives journal checkpoint a carries there others size = record {
   journal = journal;
-  tells = record { there = there; well_formed = makes.well_formed };
-  overlays = record { copied = makes.copied; others = others; size = size };
+  tells = record { there = there; well_formed = carries.well_formed };
+  overlays = record { copied = carries.copied; others = others; size = size };
 }
 
-pub home-gives : (journal : Journal) (kept checkpoint : Pages) (a : Content) → Makes journal kept checkpoint
+pub home-gives : (journal : Journal) (checkpoint : Pages) (a : Content) → Carries journal checkpoint
     → IsHome journal checkpoint a → Recovers a checkpoint
-home-gives journal kept checkpoint a makes home = record {
-  opened = λ _. open-gives journal kept checkpoint a makes home.journal_there home.others home.size;
+home-gives journal checkpoint a carries home = record {
+  opened = λ _. open-gives journal checkpoint a carries home.journal_there home.others home.size;
   shut = λ closed. absurd (closed home.opened);
 }
 
-pub closing-gives : (journal : Journal) (kept checkpoint : Pages) (a : Content) → Makes journal kept checkpoint
+pub closing-gives : (journal : Journal) (checkpoint : Pages) (a : Content) → Carries journal checkpoint
     → IsClosing journal checkpoint a → Recovers a checkpoint
-closing-gives journal kept checkpoint a makes closing = record {
-  opened = λ _. open-gives journal kept checkpoint a makes closing.journal_there
+closing-gives journal checkpoint a carries closing = record {
+  opened = λ _. open-gives journal checkpoint a carries closing.journal_there
       (λ i lt own apart. closing.pages_there.bytes i lt own) closing.pages_there.size;
   shut = λ _. closing.pages_there;
 }
@@ -209,7 +217,7 @@ closing-gives journal kept checkpoint a makes closing = record {
 pub gate-gives : (journal : Journal) (kept checkpoint : Pages) (a : Content) → Makes journal kept checkpoint
     → IsGate kept journal a → IsEither kept checkpoint a
 gate-gives journal kept checkpoint a makes gate = elim (cases_eq (a.byte 64) 1) [
-  | inl is ↦ inr (home-gives journal kept checkpoint a makes (is-opened journal kept checkpoint a makes gate is))
+  | inl is ↦ inr (home-gives journal checkpoint a makes.carries (is-opened journal kept checkpoint a makes gate is))
   | inr closed ↦ inl (record { opened = λ is. absurd (closed is); shut = λ _. gate.pages_there })
 ]
 
@@ -218,5 +226,5 @@ pub stage-gives : (stage : Stage) (kept : Pages) (journal : Journal) (checkpoint
     → StageImage stage kept journal checkpoint a → GivesFrom stage kept checkpoint a
 stage-gives Fresh kept journal checkpoint a makes is = inl (quiet-gives kept a is)
 stage-gives Gate kept journal checkpoint a makes is = gate-gives journal kept checkpoint a makes is
-stage-gives Home kept journal checkpoint a makes is = home-gives journal kept checkpoint a makes is
-stage-gives Closing kept journal checkpoint a makes is = closing-gives journal kept checkpoint a makes is
+stage-gives Home kept journal checkpoint a makes is = home-gives journal checkpoint a makes.carries is
+stage-gives Closing kept journal checkpoint a makes is = closing-gives journal checkpoint a makes.carries is

@@ -5,7 +5,7 @@ use Rattle.rs_disk.specs.Content.{Content, Holds}
 use Rattle.rs_page.specs.Number.{number_at}
 use Rattle.rs_page.specs.declared.page.TheConstants.{PAGE_SIZE}
 use Rattle.rs_journal.specs.Pages.{word_at, IsOutside}
-use Rattle.rs_journal.specs.Journal.{Journal, HasFields, HasNumbers, HasNumberPage, HasCopies, HasJournal, number_pages, copies_start}
+use Rattle.rs_journal.specs.Journal.{Journal, HasFields, HasNumbers, HasNumberPage, HasCopies, HasJournal, number_pages, copies_start, end_page}
 use Rattle.rs_journal.specs.Reaches.{KeepsWhere}
 use Rattle.rs_journal.specs.Stages.{IsBeforeJournal}
 
@@ -168,12 +168,12 @@ journal-written journal count start content same at fields numbers copies = reco
 
 pub journal-kept : (stays : ℕ → Type 0) (journal : Journal) (a b : Content) → KeepsWhere stays a b
     → ((i : ℕ) → 68 ≤ i → i < 76 → stays i)
-    → ((i : ℕ) → PAGE_SIZE * journal.first ≤ i → stays i)
+    → ((i : ℕ) → PAGE_SIZE * journal.first ≤ i → i < PAGE_SIZE * end_page journal.first journal.count → stays i)
     → HasJournal journal a → HasJournal journal b
 journal-kept stays journal a b keeps low high has = record {
   fields = fields-kept stays journal.first journal.count a b keeps low has.fields;
-  numbers = numbers-kept stays journal.first (number_pages journal.count) journal.count journal.number a b keeps (λ i lo hi. high i lo) has.numbers;
-  copies = copies-kept stays (copies_start journal) journal.count journal.copy a b keeps (λ i lo hi. high i (omega arith)) has.copies;
+  numbers = numbers-kept stays journal.first (number_pages journal.count) journal.count journal.number a b keeps (λ i lo hi. high i lo (omega arith)) has.numbers;
+  copies = copies-kept stays (copies_start journal) journal.count journal.copy a b keeps (λ i lo hi. high i (omega arith) (omega arith)) has.copies;
 }
 
 pub gate-written : (byte : ℕ) (content : Content) → Holds content 64 (byte ∷ []) → content.byte 64 ≡ byte

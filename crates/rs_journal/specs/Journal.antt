@@ -1,5 +1,5 @@
 -- A journal, where it lies in a file, and what it makes of the file's pages.
-use Rattle.std.specs.Prelude.{◌≡◌, ◌≢◌, ℕ, ◌+◌, ◌*◌, ◌/◌, ◌<◌, ◌≤◌}
+use Rattle.std.specs.Prelude.{◌≡◌, ◌≢◌, ℕ, ◌+◌, ◌*◌, ◌/◌, ◌^◌, ◌<◌, ◌≤◌}
 use Rattle.rs_disk.specs.Content.{Content}
 use Rattle.rs_page.specs.declared.page.TheConstants.{PAGE_SIZE}
 use Rattle.rs_journal.specs.declared.copies.Copies as copies
@@ -55,10 +55,19 @@ pub record HasJournal (journal : Journal) (content : Content) : Type 0 where
 abbrev pub Ascends : ℕ → (ℕ → ℕ) → Type 0
 Ascends count number = (j k : ℕ) → j < k → k < count → number j < number k
 
--- the numbers ascend and lie below the journal's first page
+-- each number is below this one
+abbrev pub AreBelow : ℕ → ℕ → (ℕ → ℕ) → Type 0
+AreBelow bound count number = (k : ℕ) → k < count → number k < bound
+
+-- the page after the last copy
+abbrev pub end_page : ℕ → ℕ → ℕ
+end_page first count = first + number_pages count + count
+
+-- the numbers ascend and lie below the journal's first page, and its pages are among those that a disk counts
 pub record IsWellFormed (journal : Journal) : Type 0 where
   pub ascending : Ascends journal.count journal.number
-  pub below : (k : ℕ) → k < journal.count → journal.number k < journal.first
+  pub below : AreBelow journal.first journal.count journal.number
+  pub counted : end_page journal.first journal.count < 2 ^ 32
 
 -- the byte at this offset lies in none of these pages
 abbrev pub IsApart : ℕ → (ℕ → ℕ) → ℕ → Type 0
@@ -83,6 +92,11 @@ pub record Tells (image : Content) (journal : Journal) : Type 0 where
   pub there : HasJournal journal image
   pub well_formed : IsWellFormed journal
 
+-- an image whose gate is open gives pages: there is a journal, and it is well formed
+pub record IsTold (image : Content) : Type 0 where
+  pub journal : Journal
+  pub tells : Tells image journal
+
 -- what an image whose gate is open gives
 pub record RecoversBy (image : Content) (pages : Pages) : Type 0 where
   pub journal : Journal
@@ -95,17 +109,21 @@ pub record Recovers (image : Content) (pages : Pages) : Type 0 where
   pub opened : image.byte GATE ≡ 1 → RecoversBy image pages
   pub shut : image.byte GATE ≢ 1 → HasPages pages image
 
--- The journal of a checkpoint makes of the pages kept last those of the checkpoint. It comes after both.
-pub record Makes (journal : Journal) (kept checkpoint : Pages) : Type 0 where
+-- the journal is well formed, and its copies are these pages in their places
+pub record Carries (journal : Journal) (checkpoint : Pages) : Type 0 where
   pub well_formed : IsWellFormed journal
-  pub some_kept : 0 < kept.count
   pub some : 0 < checkpoint.count
-  pub after_kept : kept.count ≤ journal.first
-  pub after : checkpoint.count ≤ journal.first
   pub copied : (k j : ℕ) → k < journal.count → j < PAGE_SIZE
       → PAGE_SIZE * journal.number k + j < PAGE_SIZE * checkpoint.count
       → IsOfPages (PAGE_SIZE * journal.number k + j)
       → checkpoint.byte (PAGE_SIZE * journal.number k + j) ≡ journal.copy k j
+
+-- The journal of a checkpoint makes of the pages kept last those of the checkpoint. It comes after both.
+pub record Makes (journal : Journal) (kept checkpoint : Pages) : Type 0 where
+  pub carries : Carries journal checkpoint
+  pub some_kept : 0 < kept.count
+  pub after_kept : kept.count ≤ journal.first
+  pub after : checkpoint.count ≤ journal.first
   pub others : (i : ℕ) → i < PAGE_SIZE * checkpoint.count → IsOfPages i → IsNotCopied journal i
       → (i < PAGE_SIZE * kept.count) × (kept.byte i ≡ checkpoint.byte i)
   pub no_copy : journal.count ≡ 0 → checkpoint.count ≤ kept.count

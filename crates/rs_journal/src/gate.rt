@@ -3,7 +3,7 @@
 ghost use Rattle.std.specs.Prelude.{◌≡◌, ◌<◌, ◌≤◌, true, IsTrue, OnOk, IsOkUnless};
 ghost use Rattle.rs_disk.specs.Counts.{Counts};
 ghost use Rattle.rs_disk.specs.Crash.{Only};
-ghost use Rattle.rs_journal.specs.Journal.{Journal, Makes};
+ghost use Rattle.rs_journal.specs.Journal.{Journal, Carries, Makes};
 ghost use Rattle.rs_journal.specs.Pages.{Pages, IsOutside};
 ghost use Rattle.rs_journal.specs.Reaches.{KeepsWhere, Reaches};
 ghost use Rattle.rs_journal.specs.Stages.{IsQuiet, IsGate, IsHome, IsClosing, Stands, Goes, Remains};
@@ -43,7 +43,7 @@ pub(crate) fn open_gate<D: Disk>(disk: &mut D) -> Result<(), Refusal>
 
 /// Closes the gate once the copies are at home. A crash leaves the checkpoint's pages, whatever becomes of the byte.
 pub(crate) fn close_gate<D: Disk>(disk: &mut D) -> Result<(), Refusal>
-    ensures goes { (journal : Journal) (kept checkpoint : Pages) → Makes journal kept checkpoint
+    ensures goes { (journal : Journal) (checkpoint : Pages) → Carries journal checkpoint
         → Stands D.Disk (IsClosing journal checkpoint) disk.old
         → Goes D.Disk (IsClosing journal checkpoint) (IsQuiet checkpoint) result disk.old disk.new }
     ensures honesty { D.is_honest disk.new ≡ D.is_honest disk.old }

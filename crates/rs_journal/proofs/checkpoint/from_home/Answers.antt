@@ -13,12 +13,12 @@ returns-in_err-bring_home-clause-ends g c = λ first kept checkpoint makes stand
     record {
       done = search rules;
       reached = on_err _ _ (stands-still g.D.Disk kept journal checkpoint _ Home _ c.requires.stage goes.fault);
-      meanwhile = meanwhile-less g.D.Disk _ _ _ _ (λ image is. home-gives journal kept checkpoint image makes is) goes.meanwhile;
+      meanwhile = meanwhile-less g.D.Disk _ _ _ _ (λ image is. home-gives journal checkpoint image makes.carries is) goes.meanwhile;
     }
 
 pub returns-clause-ends : goal.returns-clause-ends
 returns-clause-ends g c = λ first kept checkpoint makes stands.
     let journal = journal_of g.C.Copies first c.args.copies.now in
     let goes = c.in_ok-bring_home.ensures.goes first kept checkpoint makes stands in
-    ends-then g.D.Disk _ kept journal checkpoint _ _ _ _ _ _ _ (λ image is. home-gives journal kept checkpoint image makes is) (λ image is. is)
+    ends-then g.D.Disk _ kept journal checkpoint _ _ _ _ _ _ _ (λ image is. home-gives journal checkpoint image makes.carries is) (λ image is. is)
     (search rules) goes.meanwhile (c.from_closing.ensures.ends journal kept checkpoint makes goes.done)
