@@ -124,3 +124,21 @@ module _ {D : Type 0} (d : disk.Ghosts D) where
 pub on_ok : {T E : Type 0} (result : Result T E) (P : Type 0) → P → OnOk result P
 on_ok (Ok t) P p = p
 on_ok (Err e) P p = tt
+
+module _ {D : Type 0} (d : disk.Ghosts D) where
+  -- reads one after another
+  pub same-then : (old mid new : D) → Reaches d Same old mid → Reaches d Same mid new → Reaches d Same old new
+  same-then old mid new first second = reaches_then d Same Same Same old mid new (λ a b same. same) (λ a b c one two. two ∙ one) first second
+
+  -- reads, then writes
+  pub same-reaches : (stays : ℕ → Type 0) (old mid new : D) → Reaches d Same old mid → Reaches d (KeepsWhere stays) mid new
+      → Reaches d (KeepsWhere stays) old new
+  same-reaches stays old mid new first second =
+      reaches_then d Same (KeepsWhere stays) (KeepsWhere stays) old mid new
+      (λ a b same. subst (λ content. KeepsWhere stays a content) (sym same) (keeps_all stays a))
+      (λ a b c same keeps. subst (λ content. KeepsWhere stays content c) same keeps) first second
+
+  pub same-keeps : (stays : ℕ → Type 0) (old new : D) → Reaches d Same old new → Reaches d (KeepsWhere stays) old new
+  same-keeps stays old new reaches =
+      reaches_less d Same (KeepsWhere stays) old new
+      (λ a b same. subst (λ content. KeepsWhere stays a content) (sym same) (keeps_all stays a)) reaches

@@ -1,7 +1,7 @@
 -- Numbers and copies on a disk stay where their bytes do.
 use Rattle.std.proofs.lemmas.Bool.{cases_lt}
 use Rattle.std.proofs.Common.{Result, Ok, Err, OnOk, ◌-◌, ◌≡◌, inl, inr, ℕ, suc, ◌+◌, ◌*◌, ◌<◌, ◌≤◌, List, [], ◌∷◌, length, slice_index, arith, sym, ap, ◌∙◌, subst}
-use Rattle.rs_disk.specs.Content.{Content, Holds}
+use Rattle.rs_disk.specs.Content.{Content, Gives, Holds}
 use Rattle.rs_page.specs.Number.{number_at}
 use Rattle.rs_page.specs.declared.page.TheConstants.{PAGE_SIZE}
 use Rattle.rs_journal.specs.Pages.{word_at, IsOutside}
@@ -178,3 +178,15 @@ journal-kept stays journal a b keeps low high has = record {
 
 pub gate-written : (byte : ℕ) (content : Content) → Holds content 64 (byte ∷ []) → content.byte 64 ≡ byte
 gate-written byte content holds = holds.each 0 (omega arith)
+
+-- a number that was read
+pub word-given : (content : Content) (at : ℕ) (bytes : List ℕ) → Gives content at bytes → length bytes ≡ 4
+    → number_at 0 4 bytes ≡ word_at content.byte at
+unfolding word_at
+word-given content at bytes gives long =
+    let a : slice_index bytes 0 ≡ content.byte at = gives.each 0 (omega (arith, long)) ∙ ap content.byte (omega arith) in
+    let b : slice_index bytes 1 ≡ content.byte (at + 1) = gives.each 1 (omega (arith, long)) in
+    let c : slice_index bytes 2 ≡ content.byte (at + 2) = gives.each 2 (omega (arith, long)) in
+    let d : slice_index bytes 3 ≡ content.byte (at + 3) = gives.each 3 (omega (arith, long)) in
+    let whole = number-bytes 0 bytes in
+    omega (arith, a, b, c, d, whole)

@@ -1,4 +1,5 @@
 pub mod Journal
 pub mod Pages
 pub mod Reaches
+pub mod Recovery
 pub mod Stages

@@ -6,10 +6,12 @@
 
 mod checkpoint;
 pub mod copies;
-// LAWS
+
 mod gate;
 mod home;
 mod journal;
+mod reading;
+mod recovery;
 pub mod stage;
 pub mod limits;
 mod writing;

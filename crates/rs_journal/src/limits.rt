@@ -1,7 +1,10 @@
 //! Where the gate and the journal's fields are in page 0, and how many numbers a page of the journal has.
 
 ghost use Rattle.std.specs.Prelude.{◌≡◌};
-ghost use Rattle.rs_journal.specs.declared.limits.TheConstants.{GATE, GATE_END, OPEN, CLOSED, FIELDS, FIELDS_END, NUMBERS_OF_A_PAGE};
+ghost use Rattle.rs_journal.specs.declared.limits.TheConstants.{PAGE_COUNT, GATE, GATE_END, OPEN, CLOSED, FIELDS, FIELDS_END, NUMBERS_OF_A_PAGE};
+
+/// The offset of the count of pages in page 0.
+pub const PAGE_COUNT: u64 = 32;
 
 /// The offset of the gate byte in page 0. It is open where the byte is 1.
 pub const GATE: u64 = 64;
@@ -26,6 +29,7 @@ pub const NUMBERS_OF_A_PAGE: u32 = 1024;
 
 /// The limits are these numbers.
 pub fn limits_are_those()
+    ensures page_count { PAGE_COUNT ≡ 32 }
     ensures gate { GATE ≡ 64 }
     ensures opened { OPEN ≡ 1 }
     ensures shut { CLOSED ≡ 0 }

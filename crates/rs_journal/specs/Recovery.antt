@@ -1,0 +1,71 @@
+-- What recovery reads of a journal, and what it answers.
+use Rattle.std.specs.Prelude.{◌≡◌, ◌⊎◌, ℕ, ◌+◌, ◌-◌, ◌*◌, ◌^◌, ◌<◌, ◌≤◌, IsTrue, Result, Ok, Err, OnOk, OnErr}
+use Rattle.rs_refusal.specs.Counts.{counted_on}
+use Rattle.rs_refusal.specs.declared.refusal.Refusal.{Refusal}
+use Rattle.rs_refusal.specs.declared.refusal.Refusal.TheVariants.{Disk, DamagedFile}
+use Rattle.rs_disk.specs.Content.{Content}
+use Rattle.rs_disk.specs.declared.disk.Disk as disk
+use Rattle.rs_page.specs.declared.page.TheConstants.{PAGE_SIZE}
+use Rattle.rs_journal.specs.declared.limits.TheConstants.{GATE, FIELDS, PAGE_COUNT}
+use Rattle.rs_journal.specs.Pages.{Pages, HasPages, word_at}
+use Rattle.rs_journal.specs.Journal.{Journal, Ascends, AreBelow, end_page, number_pages, HasJournal, IsWellFormed, Recovers, IsTold}
+use Rattle.rs_journal.specs.Stages.{IsQuiet, Stands, Meanwhile}
+
+-- the number at a place of a journal from this page on
+abbrev pub number_in : Content → ℕ → ℕ → ℕ
+number_in content first k = word_at content.byte (PAGE_SIZE * first + 4 * k)
+
+-- the byte of a copy of a journal of so many copies from this page on
+abbrev pub copy_in : Content → ℕ → ℕ → ℕ → ℕ → ℕ
+copy_in content first count k j = content.byte (PAGE_SIZE * (first + number_pages count + k) + j)
+
+-- the journal that the bytes of page 0 name
+abbrev pub journal_in : Content → Journal
+journal_in content = record {
+  first = word_at content.byte FIELDS;
+  count = word_at content.byte (FIELDS + 4);
+  number = number_in content (word_at content.byte FIELDS);
+  copy = copy_in content (word_at content.byte FIELDS) (word_at content.byte (FIELDS + 4));
+}
+
+-- page 0 and all pages of a journal lie in the file, among those that a disk counts
+pub record IsInside (first count : ℕ) (content : Content) : Type 0 where
+  pub first_page : PAGE_SIZE ≤ content.size
+  pub pages : PAGE_SIZE * end_page first count ≤ content.size
+  pub counted : end_page first count < 2 ^ 32
+
+-- the first so many numbers ascend and lie below this page, and the next is to be no less than `least`
+pub record NumbersSoFar (first place least : ℕ) (number : ℕ → ℕ) : Type 0 where
+  pub ascending : Ascends place number
+  pub below : AreBelow first place number
+  pub under : (k : ℕ) → k < place → number k < least
+  pub last : 0 < place → least ≡ number (place - 1) + 1
+  pub first_least : place ≡ 0 → least ≡ 0
+
+-- page 0 says how many pages these are
+pub record SaysCount (pages : Pages) : Type 0 where
+  pub says : word_at pages.byte PAGE_COUNT ≡ pages.count
+  pub some : 0 < pages.count
+
+-- a refusal by a failed call counts once, one by damaged bytes does not, and there is no other
+abbrev pub CountsFaults : {T : Type 0} → Result T Refusal → ℕ → ℕ → Type 0
+CountsFaults (Ok _) old new = new ≡ old
+CountsFaults (Err Disk) old new = new ≡ counted_on old
+CountsFaults (Err DamagedFile) old new = new ≡ old
+CountsFaults (Err _) old new = ⊥
+
+-- a refusal by damaged bytes is right
+abbrev pub OnDamaged : {T : Type 0} → Result T Refusal → Type 0 → Type 0
+OnDamaged (Err DamagedFile) claim = claim
+OnDamaged _ claim = Unit {0}
+
+module _ {D : Type 0} (d : disk.Ghosts D) where
+  -- what recovery leaves of a disk that gives these pages: after Ok they are the ones kept; after a fault a read gives
+  -- them still, and so does each image that a crash may leave, or it is among those of the start
+  pub record Recovered {T E : Type 0} (pages : Pages) (result : Result T E) (old new : D) : Type 0 where
+    pub done : OnOk result (Stands d (IsQuiet pages) new)
+    pub reads : Recovers (d.seen new) pages
+    pub images : IsTrue (d.keeps_crashes old) → OnErr result
+        (((image : Content) → d.may_leave new image → Recovers image pages)
+        ⊎ ((image : Content) → d.may_leave new image → d.may_leave old image))
+    pub meanwhile : Meanwhile d (λ image. Recovers image pages ⊎ d.may_leave old image) old new
