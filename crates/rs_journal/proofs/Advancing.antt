@@ -1,10 +1,9 @@
 -- From stage to stage, of a disk.
-use Rattle.std.proofs.Common.{◌≡◌, ◌≢◌, ◌⊎◌, inl, inr, IsTrue, Result, Ok, Err, OnOk, OnErr, refl, sym, ◌∙◌, subst}
+use Rattle.std.proofs.Common.{◌≡◌, inl, inr, IsTrue, Result, Ok, Err, OnOk, OnErr, sym, subst}
 use Rattle.rs_disk.specs.Content.{Content}
-use Rattle.rs_disk.specs.Crash.{Only}
+use Rattle.rs_disk.specs.Crash.{Same, Only}
 use Rattle.rs_disk.specs.declared.disk.Disk as disk
 use Rattle.rs_journal.specs.declared.stage.Stage.{Stage}
-use Rattle.rs_journal.specs.declared.stage.Stage.TheVariants.{Fresh}
 use Rattle.rs_journal.specs.Pages.{Pages}
 use Rattle.rs_journal.specs.Journal.{Journal, Makes}
 use Rattle.rs_journal.proofs.Staging.{stage-gives}
@@ -69,6 +68,23 @@ module _ {D : Type 0} (d : disk.Ghosts D) where
   goes-by (Err e) step from to old new on reaches durable written stands =
       let remains = remains-by step from old new on reaches stands in
       record { done = tt; fault = remains.stands; meanwhile = remains.meanwhile }
+
+module _ {D : Type 0} (d : disk.Ghosts D) where
+  pub stands-less : (P Q : Content → Type 0) (disk : D) → ((image : Content) → P image → Q image) → Stands d P disk → Stands d Q disk
+  stands-less P Q disk less stands = record {
+    honest = stands.honest;
+    reads = less (d.seen disk) stands.reads;
+    images = λ keeps image left. less image (stands.images keeps image left);
+  }
+
+  pub meanwhile-then : (P : Content → Type 0) (old mid new : D) → d.keeps_crashes mid ≡ d.keeps_crashes old
+      → Meanwhile d P old mid → Meanwhile d P mid new → Meanwhile d P old new
+  meanwhile-then P old mid new keeping first second =
+      λ keeps. through-then d P old mid new (first keeps) (second (subst IsTrue (sym keeping) keeps))
+
+  -- reads change nothing
+  pub remains-same : (P : Content → Type 0) (old new : D) → Reaches d Same old new → Stands d P old → Remains d P old new
+  remains-same P old new reaches stands = remains-by d Same P old new (λ a b p same. subst P (sym same) p) reaches stands
 
 pub on_ok_map : {T E P Q : Type 0} (result : Result T E) → (P → Q) → OnOk result P → OnOk result Q
 on_ok_map (Ok _) f p = f p

@@ -6,7 +6,7 @@ use Rattle.rs_disk.specs.Content.{Content, Holds}
 use Rattle.rs_page.specs.declared.page.TheConstants.{PAGE_SIZE}
 use Rattle.rs_journal.specs.Pages.{IsOutside, IsOfPages}
 use Rattle.rs_journal.specs.Reaches.{KeepsWhere}
-use Rattle.rs_journal.specs.Stages.{IsNotInPage, IsLeftAlone, HasHomePage, HasHome}
+use Rattle.rs_journal.specs.Stages.{IsNotInPage, IsLeftAlone, HasHomeBytes, HasHomePage, HasHome}
 
 -- a page that was written whole
 pub page-written : (number spot : ℕ) (page : List ℕ) (content : Content) → spot ≡ number → length page ≡ PAGE_SIZE
@@ -60,12 +60,12 @@ pub no-home : (number : ℕ → ℕ) (copy : ℕ → ℕ → ℕ) (content : Con
 no-home number copy content = record { each = λ k j lt _ _. absurd (omega arith); inside = λ k lt. absurd (omega arith) }
 
 -- one home page more
-pub home-more : (n m : ℕ) (number : ℕ → ℕ) (copy : ℕ → ℕ → ℕ) (page : List ℕ) (a b : Content) → m ≡ number n
+pub home-more : (n m : ℕ) (number : ℕ → ℕ) (copy : ℕ → ℕ → ℕ) (byte : ℕ → ℕ) (a b : Content) → m ≡ number n
     → ((k : ℕ) → k < n → number k < number n)
-    → KeepsWhere (IsNotInPage m) a b → HasHomePage m page b
-    → ((j : ℕ) → j < PAGE_SIZE → slice_index page j ≡ copy n j)
+    → KeepsWhere (IsNotInPage m) a b → HasHomeBytes m byte b
+    → ((j : ℕ) → j < PAGE_SIZE → byte j ≡ copy n j)
     → HasHome n number copy a → HasHome (n + 1) number copy b
-home-more n m number copy page a b at less keeps has is before =
+home-more n m number copy byte a b at less keeps has is before =
     let longer : a.size ≤ b.size = keeps.no_shorter in
     record {
       each = λ k j lt within own. elim (cases_lt k n) [

@@ -1,11 +1,18 @@
 -- What recovery reads of a journal.
 use Rattle.std.proofs.lemmas.Bool.{cases_lt}
-use Rattle.std.proofs.Common.{◌≡◌, ◌⊎◌, inl, inr, ℕ, ◌+◌, ◌-◌, ◌*◌, ◌<◌, ◌≤◌, arith, refl, sym, ap, ◌∙◌, subst}
+use Rattle.std.proofs.Common.{Result, Ok, Err, IsErr, OnOk, OnErr, IsTrue, ◌≡◌, ◌⊎◌, inl, inr, ℕ, ◌+◌, ◌-◌, ◌*◌, ◌<◌, ◌≤◌, arith, refl, sym, ap, ◌∙◌, subst}
+use Rattle.rs_refusal.specs.declared.refusal.Refusal.{Refusal}
+use Rattle.rs_disk.specs.Crash.{Same}
+use Rattle.rs_disk.specs.declared.disk.Disk as disk
 use Rattle.rs_disk.specs.Content.{Content}
 use Rattle.rs_page.specs.declared.page.TheConstants.{PAGE_SIZE}
-use Rattle.rs_journal.specs.Journal.{Ascends, AreBelow}
-use Rattle.rs_journal.specs.Pages.{word_at}
-use Rattle.rs_journal.specs.Recovery.{NumbersSoFar, number_in}
+use Rattle.rs_journal.specs.Journal.{Journal, Ascends, AreBelow, HasJournal, Carries, Recovers, RecoversBy, IsTold, number_pages, copies_start}
+use Rattle.rs_journal.specs.Stages.{IsHome, IsQuiet, Goes}
+use Rattle.rs_journal.specs.Reaches.{Reaches}
+use Rattle.rs_journal.proofs.Staging.{quiet-gives}
+use Rattle.rs_journal.proofs.Words.{word-same}
+use Rattle.rs_journal.specs.Pages.{Pages, HasPages, word_at}
+use Rattle.rs_journal.specs.Recovery.{NumbersSoFar, SaysCount, OnDamaged, Recovered, number_in}
 
 pub numbers-none : (first : ℕ) (number : ℕ → ℕ) → NumbersSoFar first 0 0 number
 numbers-none first number = record {
@@ -59,3 +66,99 @@ pub number-read : (before now : Content) (first place at word it : ℕ) → now 
     → word ≡ word_at now.byte at → it ≡ word → it ≡ number_in before first place
 number-read before now first place at word it same spot read is =
     is ∙ read ∙ ap (λ (content : Content). word_at content.byte at) same ∙ ap (word_at before.byte) spot
+
+-- what is read of a journal that is there
+pub number-there : (journal : Journal) (content : Content) (first count place at : ℕ) → journal.first ≡ first → journal.count ≡ count
+    → HasJournal journal content → at ≡ PAGE_SIZE * first + 4 * place → place < count → word_at content.byte at ≡ journal.number place
+number-there journal content first count place at first_is count_is has spot lt =
+    let here : at ≡ PAGE_SIZE * journal.first + 4 * place = omega (arith, spot, first_is) in
+    ap (word_at content.byte) here ∙ has.numbers.each place (omega (arith, count_is)) (omega (arith, count_is))
+
+pub copy-there : (journal : Journal) (content : Content) (first count place copy : ℕ) → journal.first ≡ first → journal.count ≡ count
+    → HasJournal journal content → copy ≡ first + number_pages count + place → place < count
+    → (j : ℕ) → j < PAGE_SIZE → content.byte (PAGE_SIZE * copy + j) ≡ journal.copy place j
+copy-there journal content first count place copy first_is count_is has spot lt j within =
+    let pages : number_pages journal.count ≡ number_pages count = ap number_pages count_is in
+    let here : PAGE_SIZE * copy + j ≡ PAGE_SIZE * (copies_start journal + place) + j = omega (arith, spot, first_is, pages) in
+    ap content.byte here ∙ has.copies.each place j (omega (arith, count_is)) within
+
+-- the count that page 0 says
+pub count-there : (pages : Pages) (content : Content) → SaysCount pages → HasPages pages content → word_at content.byte 32 ≡ pages.count
+count-there pages content says has =
+    let some : 0 < pages.count = says.some in
+    word-same content.byte pages.byte 32 (λ k lt. has.bytes (32 + k) (omega arith) (inl (omega arith))) ∙ says.says
+
+-- where the gate is open
+pub carries-told : (image : Content) (pages : Pages) → SaysCount pages → (by : RecoversBy image pages) → Carries by.journal pages
+carries-told image pages says by = record {
+  well_formed = by.tells.well_formed;
+  some = says.some;
+  copied = by.overlays.copied;
+}
+
+pub home-told : (image : Content) (pages : Pages) → image.byte 64 ≡ 1 → (by : RecoversBy image pages) → IsHome by.journal pages image
+home-told image pages is by = record {
+  opened = is;
+  journal_there = by.tells.there;
+  others = by.overlays.others;
+  size = by.overlays.size;
+}
+
+-- the same content
+pub told-same : {T : Type 0} (result : Result T Refusal) (before now : Content) → now ≡ before
+    → OnOk result (now.byte 64 ≡ 1 → IsTold now) → OnOk result (before.byte 64 ≡ 1 → IsTold before)
+told-same result before now same told = subst (λ content. OnOk result (content.byte 64 ≡ 1 → IsTold content)) same told
+
+pub damaged-same : {T : Type 0} (result : Result T Refusal) (before now : Content) → now ≡ before
+    → OnDamaged result ((pages : Pages) → SaysCount pages → Recovers now pages → ⊥)
+    → OnDamaged result ((pages : Pages) → SaysCount pages → Recovers before pages → ⊥)
+damaged-same result before now same damaged =
+    subst (λ content. OnDamaged result ((pages : Pages) → SaysCount pages → Recovers content pages → ⊥)) same damaged
+
+module _ {D : Type 0} (d : disk.Ghosts D) where
+  -- where the first sync fails
+  pub recovered-unsynced : {T E : Type 0} (pages : Pages) (result : Result T E) (old new : D) → IsErr result → Reaches d Same old new
+      → IsTrue (d.is_honest old) → Recovers (d.seen old) pages → Recovered d pages result old new
+  recovered-unsynced pages (Ok t) old new failed reaches honest gives = cc
+  recovered-unsynced pages (Err e) old new failed reaches honest gives = record {
+    done = tt;
+    reads = subst (λ content. Recovers content pages) (sym (reaches.reads honest)) gives;
+    images = λ keeps. inr (λ image left.
+        let f = (reaches.images keeps).now image left in subst (d.may_leave old) (sym f.steps) f.was_left);
+    meanwhile = λ keeps. record {
+      each = λ start image left. elim ((reaches.images keeps).meanwhile start image left) [
+        | inl before ↦ inl before
+        | inr f ↦ inr (inr (subst (d.may_leave old) (sym f.steps) f.was_left))
+      ];
+    };
+  }
+
+  reads-by : {T E : Type 0} (pages : Pages) (result : Result T E) (mid new : D)
+      → Goes d (λ image. Recovers image pages) (IsQuiet pages) result mid new → Recovers (d.seen new) pages
+  reads-by pages (Ok t) mid new goes = quiet-gives pages (d.seen new) goes.done.reads
+  reads-by pages (Err e) mid new goes = goes.fault.reads
+
+  images-by : {T E : Type 0} (pages : Pages) (result : Result T E) (old mid new : D)
+      → Goes d (λ image. Recovers image pages) (IsQuiet pages) result mid new → IsTrue (d.keeps_crashes new)
+      → OnErr result (((image : Content) → d.may_leave new image → Recovers image pages)
+      ⊎ ((image : Content) → d.may_leave new image → d.may_leave old image))
+  images-by pages (Ok t) old mid new goes keeps = tt
+  images-by pages (Err e) old mid new goes keeps = inl (goes.fault.images keeps)
+
+  -- and where it doesn't
+  pub recovered-synced : {T E : Type 0} (pages : Pages) (result : Result T E) (old mid new : D) → Reaches d Same old mid → d.keeps_crashes new ≡ d.keeps_crashes mid
+      → Goes d (λ image. Recovers image pages) (IsQuiet pages) result mid new → Recovered d pages result old new
+  recovered-synced pages result old mid new reaches keeping goes = record {
+    done = goes.done;
+    reads = reads-by pages result mid new goes;
+    images = λ keeps. images-by pages result old mid new goes (subst IsTrue (sym (keeping ∙ reaches.keeping)) keeps);
+    meanwhile = λ keeps. record {
+      each = λ start image left. elim ((goes.meanwhile (subst IsTrue (sym reaches.keeping) keeps)).each start image left) [
+        | inl before ↦ elim ((reaches.images keeps).meanwhile start image before) [
+          | inl earlier ↦ inl earlier
+          | inr f ↦ inr (inr (subst (d.may_leave old) (sym f.steps) f.was_left))
+        ]
+        | inr is ↦ inr (inl is)
+      ];
+    };
+  }

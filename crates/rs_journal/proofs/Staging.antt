@@ -1,6 +1,6 @@
 -- From stage to stage, image by image.
 use Rattle.std.proofs.lemmas.Bool.{cases_lt, cases_eq}
-use Rattle.std.proofs.Common.{◌≡◌, ◌≢◌, ◌⊎◌, inl, inr, ℕ, zero, suc, ◌+◌, ◌*◌, ◌-◌, ◌<◌, ◌≤◌, arith, refl, sym, ap, ◌∙◌, subst}
+use Rattle.std.proofs.Common.{◌≡◌, ◌⊎◌, inl, inr, ℕ, zero, suc, ◌+◌, ◌*◌, ◌-◌, ◌<◌, ◌≤◌, arith, sym, ap, ◌∙◌, subst}
 use Rattle.rs_disk.specs.Content.{Content}
 use Rattle.rs_disk.specs.Crash.{CutOrNot}
 use Rattle.rs_page.specs.declared.page.TheConstants.{PAGE_SIZE}
@@ -57,7 +57,7 @@ gate-journal : (journal : Journal) (a b : Content) → IsWellFormed journal → 
     → HasJournal journal a → HasJournal journal b
 gate-journal journal a b well keeps has =
     let later : (i : ℕ) → PAGE_SIZE * journal.first ≤ i → i < PAGE_SIZE * end_page journal.first journal.count → 65 ≤ i
-        = λ i lo hi. let past : PAGE_SIZE ≤ i = journal-later journal well i lo hi in omega arith in
+    = λ i lo hi. let past : PAGE_SIZE ≤ i = journal-later journal well i lo hi in omega arith in
     journal-kept _ journal a b keeps (λ i lo hi. inr (omega arith)) (λ i lo hi. inr (later i lo hi)) has
 
 pub gate-on : (journal : Journal) (kept checkpoint : Pages) (a b : Content) → Makes journal kept checkpoint
@@ -98,6 +98,13 @@ is-opened journal kept checkpoint a makes gate is = record {
   size = checkpoint-inside journal kept checkpoint a makes gate.pages_there gate.journal_there;
 }
 
+-- the journal stays while its copies are brought home
+pub left-journal : (journal : Journal) (a b : Content) → IsWellFormed journal
+    → KeepsWhere (IsLeftAlone journal.count journal.number) a b → HasJournal journal a → HasJournal journal b
+left-journal journal a b well keeps has =
+    journal-kept _ journal a b keeps (λ i lo hi. inr (omega arith, omega arith))
+    (λ i lo hi. inl (λ k lt. let below : journal.number k < journal.first = well.below k lt in inr (omega arith))) has
+
 -- while the copies are brought home
 pub home-on : (journal : Journal) (checkpoint : Pages) (a b : Content) → Carries journal checkpoint
     → IsHome journal checkpoint a → KeepsWhere (IsLeftAlone journal.count journal.number) a b → IsHome journal checkpoint b
@@ -107,9 +114,7 @@ home-on journal checkpoint a b carries home keeps =
     let longer : a.size ≤ b.size = keeps.no_shorter in
     record {
       opened = keeps.bytes 64 (omega arith) (inr (omega arith, omega arith)) ∙ home.opened;
-      journal_there = journal-kept _ journal a b keeps (λ i lo hi. inr (omega arith, omega arith))
-          (λ i lo hi. inl (λ k lt. let below : journal.number k < journal.first = carries.well_formed.below k lt in inr (omega arith)))
-          home.journal_there;
+      journal_there = left-journal journal a b carries.well_formed keeps home.journal_there;
       others = λ i lt own apart. keeps.bytes i (omega arith) (inl apart) ∙ home.others i lt own apart;
       size = omega arith;
     }

@@ -9,7 +9,7 @@ use Rattle.rs_journal.specs.Journal.{Journal, HasFields, HasNumbers, HasNumberPa
 use Rattle.rs_journal.specs.Reaches.{KeepsWhere}
 use Rattle.rs_journal.specs.Stages.{IsBeforeJournal}
 
-word-same : (one other : ℕ → ℕ) (at : ℕ) → ((k : ℕ) → k < 4 → one (at + k) ≡ other (at + k)) → word_at one at ≡ word_at other at
+pub word-same : (one other : ℕ → ℕ) (at : ℕ) → ((k : ℕ) → k < 4 → one (at + k) ≡ other (at + k)) → word_at one at ≡ word_at other at
 unfolding word_at
 word-same one other at same =
     let zero_on : at + 0 ≡ at = omega arith in

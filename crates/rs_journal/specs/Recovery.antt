@@ -6,9 +6,9 @@ use Rattle.rs_refusal.specs.declared.refusal.Refusal.TheVariants.{Disk, DamagedF
 use Rattle.rs_disk.specs.Content.{Content}
 use Rattle.rs_disk.specs.declared.disk.Disk as disk
 use Rattle.rs_page.specs.declared.page.TheConstants.{PAGE_SIZE}
-use Rattle.rs_journal.specs.declared.limits.TheConstants.{GATE, FIELDS, PAGE_COUNT}
-use Rattle.rs_journal.specs.Pages.{Pages, HasPages, word_at}
-use Rattle.rs_journal.specs.Journal.{Journal, Ascends, AreBelow, end_page, number_pages, HasJournal, IsWellFormed, Recovers, IsTold}
+use Rattle.rs_journal.specs.declared.limits.TheConstants.{FIELDS, PAGE_COUNT}
+use Rattle.rs_journal.specs.Pages.{Pages, word_at}
+use Rattle.rs_journal.specs.Journal.{Journal, Ascends, AreBelow, end_page, number_pages, Tells, Recovers}
 use Rattle.rs_journal.specs.Stages.{IsQuiet, Stands, Meanwhile}
 
 -- the number at a place of a journal from this page on
@@ -31,8 +31,14 @@ journal_in content = record {
 -- page 0 and all pages of a journal lie in the file, among those that a disk counts
 pub record IsInside (first count : ℕ) (content : Content) : Type 0 where
   pub first_page : PAGE_SIZE ≤ content.size
-  pub pages : PAGE_SIZE * end_page first count ≤ content.size
+  pub pages : 0 < count → PAGE_SIZE * end_page first count ≤ content.size
   pub counted : end_page first count < 2 ^ 32
+
+-- the journal is there, and begins and counts as page 0 says
+pub record IsThere (first count : ℕ) (journal : Journal) (content : Content) : Type 0 where
+  pub tells : Tells content journal
+  pub first_page : journal.first ≡ first
+  pub copies : journal.count ≡ count
 
 -- the first so many numbers ascend and lie below this page, and the next is to be no less than `least`
 pub record NumbersSoFar (first place least : ℕ) (number : ℕ → ℕ) : Type 0 where

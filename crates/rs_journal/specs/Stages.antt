@@ -50,17 +50,15 @@ IsLeftAlone count number i = IsApart count number i ⊎ ((GATE ≤ i) × (i < FI
 
 -- What is there once it is written.
 
--- one home page
-pub record HasHomePage (number : ℕ) (page : List ℕ) (content : Content) : Type 0 where
-  pub each : (j : ℕ) → j < PAGE_SIZE → IsOfPages (PAGE_SIZE * number + j)
-      → content.byte (PAGE_SIZE * number + j) ≡ slice_index page j
-  pub inside : PAGE_SIZE * number + PAGE_SIZE ≤ content.size
-
 -- one home page, by its bytes
 pub record HasHomeBytes (number : ℕ) (byte : ℕ → ℕ) (content : Content) : Type 0 where
   pub each : (j : ℕ) → j < PAGE_SIZE → IsOfPages (PAGE_SIZE * number + j)
       → content.byte (PAGE_SIZE * number + j) ≡ byte j
   pub inside : PAGE_SIZE * number + PAGE_SIZE ≤ content.size
+
+-- one home page
+abbrev pub HasHomePage : ℕ → List ℕ → Content → Type 0
+HasHomePage number page = HasHomeBytes number (λ j. slice_index page j)
 
 -- the first so many copies in their home pages
 pub record HasHome (count : ℕ) (number : ℕ → ℕ) (copy : ℕ → ℕ → ℕ) (content : Content) : Type 0 where

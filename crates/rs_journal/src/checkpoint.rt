@@ -86,11 +86,7 @@ fn from_fresh<D: Disk, C: Copies>(
 }
 
 /// Opens the gate, and goes on.
-fn from_gate<D: Disk, C: Copies>(
-    disk: &mut D,
-    stage: &mut Stage,
-    copies: &C,
-) -> Result<(), Refusal>
+fn from_gate<D: Disk, C: Copies>(disk: &mut D, stage: &mut Stage, copies: &C) -> Result<(), Refusal>
     requires stage { stage.old ≡ Gate }
     requires ascending { Ascends (C.count copies.now) (C.number copies.now) }
     ensures ends { (first : ℕ) (kept checkpoint : Pages) → Makes (journal_of C.Copies first copies.now) kept checkpoint
@@ -110,11 +106,7 @@ fn from_gate<D: Disk, C: Copies>(
 }
 
 /// Brings the copies home, and goes on.
-fn from_home<D: Disk, C: Copies>(
-    disk: &mut D,
-    stage: &mut Stage,
-    copies: &C,
-) -> Result<(), Refusal>
+fn from_home<D: Disk, C: Copies>(disk: &mut D, stage: &mut Stage, copies: &C) -> Result<(), Refusal>
     requires stage { stage.old ≡ Home }
     requires ascending { Ascends (C.count copies.now) (C.number copies.now) }
     ensures ends { (first : ℕ) (kept checkpoint : Pages) → Makes (journal_of C.Copies first copies.now) kept checkpoint

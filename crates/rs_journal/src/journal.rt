@@ -22,11 +22,7 @@ use rs_page::bytes::put_four;
 use rs_refusal::Refusal;
 
 /// Writes the journal of these copies from a page on, and waits until it is on the medium.
-fn write_journal<D: Disk, C: Copies>(
-    disk: &mut D,
-    first: u32,
-    copies: &C,
-) -> Result<(), Refusal>
+fn write_journal<D: Disk, C: Copies>(disk: &mut D, first: u32, copies: &C) -> Result<(), Refusal>
     requires { 0 < first }
     ensures written { IsTrue (D.is_honest disk.old)
         → OnOk result (HasJournal (journal_of C.Copies first copies.now) (D.seen disk.new)) }
@@ -45,11 +41,7 @@ fn write_journal<D: Disk, C: Copies>(
 }
 
 /// Writes the journal of a checkpoint. Until the gate is opened, a crash leaves the pages kept last.
-pub(crate) fn begin<D: Disk, C: Copies>(
-    disk: &mut D,
-    first: u32,
-    copies: &C,
-) -> Result<(), Refusal>
+pub(crate) fn begin<D: Disk, C: Copies>(disk: &mut D, first: u32, copies: &C) -> Result<(), Refusal>
     requires { 0 < first }
     ensures goes { (kept checkpoint : Pages) → Makes (journal_of C.Copies first copies.now) kept checkpoint
         → Stands D.Disk (IsQuiet kept) disk.old

@@ -6,17 +6,17 @@
 
 mod checkpoint;
 pub mod copies;
-
 mod gate;
 mod home;
 mod journal;
+pub mod limits;
 mod reading;
 mod recovery;
 pub mod stage;
-pub mod limits;
 mod writing;
 
-pub use copies::Copies;
 pub use checkpoint::complete;
+pub use copies::Copies;
 pub use gate::cut;
+pub use recovery::recover;
 pub use stage::Stage;

@@ -52,11 +52,7 @@ pub(crate) fn read_gate<D: Disk>(disk: &mut D) -> Result<u8, Refusal>
 }
 
 /// Reads the page with this number.
-pub(crate) fn read_page<D: Disk>(
-    disk: &mut D,
-    number: u64,
-    page: &mut Page,
-) -> Result<(), Refusal>
+pub(crate) fn read_page<D: Disk>(disk: &mut D, number: u64, page: &mut Page) -> Result<(), Refusal>
     requires { number < 2 ^ 40 }
     ensures bytes { IsTrue (D.is_honest disk.old) → OnOk result ((j : ℕ) → j < PAGE_SIZE
         → slice_index page.new.bytes j ≡ (D.seen disk.old).byte (PAGE_SIZE * number + j)) }

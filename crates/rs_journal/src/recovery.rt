@@ -3,30 +3,126 @@
 //! It begins with a sync, after which a crash leaves what a read gives. It may be ended by a crash or a fault itself, and
 //! the next one gives the same pages.
 
-ghost use Rattle.std.specs.Prelude.{◌≡◌, ℕ, ◌+◌, ◌*◌, ◌^◌, ◌<◌, ◌≤◌, IsTrue, OnOk, OnErr, IfOk, IsOkUnless, ◌↔◌};
+ghost use Rattle.std.specs.Prelude.{◌≡◌, ℕ, ◌+◌, ◌*◌, ◌^◌, ◌<◌, ◌≤◌, IsTrue, OnOk, IfOk, IsOkUnless, ◌↔◌};
 ghost use Rattle.rs_disk.specs.Content.{Content};
 ghost use Rattle.rs_disk.specs.Counts.{Counts};
-ghost use Rattle.rs_disk.specs.Crash.{Same, Only};
+ghost use Rattle.rs_disk.specs.Crash.{Same};
 ghost use Rattle.rs_page.specs.declared.page.TheConstants.{PAGE_SIZE};
-ghost use Rattle.rs_journal.specs.Journal.{Journal, Ascends, AreBelow, Recovers};
+ghost use Rattle.rs_journal.specs.Journal.{Journal, Ascends, AreBelow, Carries, Tells, IsTold, Recovers};
 ghost use Rattle.rs_journal.specs.Pages.{Pages, word_at};
 ghost use Rattle.rs_journal.specs.Reaches.{KeepsWhere, Reaches};
-ghost use Rattle.rs_journal.specs.Recovery.{IsInside, number_in, copy_in, CountsFaults, OnDamaged};
-ghost use Rattle.rs_journal.specs.Stages.{IsNotInPage, IsLeftAlone, HasHomeBytes, HasHome};
+ghost use Rattle.rs_journal.specs.Recovery.{IsInside, IsThere, number_in, journal_in, SaysCount, CountsFaults, OnDamaged, Recovered};
+ghost use Rattle.rs_journal.specs.Stages.{IsQuiet, IsHome, IsClosing, IsNotInPage, IsLeftAlone, HasHomeBytes, HasHome, Stands, Goes};
+ghost use Rattle.rs_journal.specs.declared.limits.TheConstants.{GATE, OPEN};
 
+use crate::gate::{close_gate, cut};
 use crate::home::write_home_page;
 use crate::journal::pages_of_numbers;
-use crate::reading::{read_page, read_word};
+use crate::limits::{FIELDS, OPEN, PAGE_COUNT};
+use crate::reading::{read_gate, read_page, read_word};
+use crate::writing::sync;
 use rs_disk::Disk;
 use rs_page::{PAGE_SIZE, Page};
 use rs_refusal::Refusal;
+
+/// Gives the disk back what a crash has left undone of a checkpoint. It begins with a sync.
+///
+/// Where the gate is open, the journal's copies are brought home and the gate is closed; a journal that isn't well formed
+/// is refused (94). Where it is closed, nothing is written.
+pub fn recover<D: Disk>(disk: &mut D) -> Result<(), Refusal>
+    ensures recovers { (pages : Pages) → SaysCount pages → IsTrue (D.is_honest disk.old)
+        → Recovers (D.seen disk.old) pages → Recovered D.Disk pages result disk.old disk.new }
+    ensures told { IsTrue (D.is_honest disk.old)
+        → OnOk result ((D.seen disk.old).byte GATE ≡ OPEN → IsTold (D.seen disk.old)) }
+    ensures damaged { IsTrue (D.is_honest disk.old) → OnDamaged result
+        ((pages : Pages) → SaysCount pages → Recovers (D.seen disk.old) pages → ⊥) }
+    ensures honesty { D.is_honest disk.new ≡ D.is_honest disk.old }
+    ensures keeping { D.keeps_crashes disk.new ≡ D.keeps_crashes disk.old }
+    ensures count { CountsFaults result (D.failures disk.old) (D.failures disk.new) }
+{
+    sync(disk)?;
+    recover_synced(disk)
+}
+
+/// The rest of recovery, once a crash leaves just what a read gives.
+fn recover_synced<D: Disk>(disk: &mut D) -> Result<(), Refusal>
+    ensures goes { (pages : Pages) → SaysCount pages → Recovers (D.seen disk.old) pages
+        → Stands D.Disk (λ image. image ≡ D.seen disk.old) disk.old
+        → Goes D.Disk (λ image. Recovers image pages) (IsQuiet pages) result disk.old disk.new }
+    ensures told { IsTrue (D.is_honest disk.old)
+        → OnOk result ((D.seen disk.old).byte GATE ≡ OPEN → IsTold (D.seen disk.old)) }
+    ensures damaged { IsTrue (D.is_honest disk.old) → OnDamaged result
+        ((pages : Pages) → SaysCount pages → Recovers (D.seen disk.old) pages → ⊥) }
+    ensures honesty { D.is_honest disk.new ≡ D.is_honest disk.old }
+    ensures keeping { D.keeps_crashes disk.new ≡ D.keeps_crashes disk.old }
+    ensures count { CountsFaults result (D.failures disk.old) (D.failures disk.new) }
+{
+    if read_gate(disk)? != OPEN {
+        return Ok(());
+    }
+    let (first, count) = read_journal(disk)?;
+    repeat(disk, first, count)
+}
+
+/// Repeats a checkpoint from the home pages on, by the journal on the disk.
+fn repeat<D: Disk>(disk: &mut D, first: u32, count: u32) -> Result<(), Refusal>
+    ensures goes { (journal : Journal) (pages : Pages) → Carries journal pages → SaysCount pages
+        → journal.first ≡ first → journal.count ≡ count
+        → Stands D.Disk (IsHome journal pages) disk.old
+        → Goes D.Disk (λ image. Recovers image pages) (IsQuiet pages) result disk.old disk.new }
+    ensures honesty { D.is_honest disk.new ≡ D.is_honest disk.old }
+    ensures keeping { D.keeps_crashes disk.new ≡ D.keeps_crashes disk.old }
+    ensures refused { IsOkUnless result Refusal.Disk }
+    ensures count { Counts result (D.failures disk.old) (D.failures disk.new) }
+{
+    bring_back(disk, first, count)?;
+    close_gate(disk)?;
+    let pages = read_word(disk, PAGE_COUNT)?;
+    cut(disk, pages)
+}
+
+/// Brings the copies of the journal on the disk home, and waits until they are on the medium.
+fn bring_back<D: Disk>(disk: &mut D, first: u32, count: u32) -> Result<(), Refusal>
+    ensures goes { (journal : Journal) (pages : Pages) → Carries journal pages
+        → journal.first ≡ first → journal.count ≡ count
+        → Stands D.Disk (IsHome journal pages) disk.old
+        → Goes D.Disk (IsHome journal pages) (IsClosing journal pages) result disk.old disk.new }
+    ensures honesty { D.is_honest disk.new ≡ D.is_honest disk.old }
+    ensures keeping { D.keeps_crashes disk.new ≡ D.keeps_crashes disk.old }
+    ensures refused { IsOkUnless result Refusal.Disk }
+    ensures count { Counts result (D.failures disk.old) (D.failures disk.new) }
+{
+    copy_home_pages(disk, first, count)?;
+    sync(disk)
+}
+
+/// Reads where the journal begins and how many pages it copies, and looks whether it is well formed (94).
+fn read_journal<D: Disk>(disk: &mut D) -> Result<(u32, u32), Refusal>
+    ensures found { IsTrue (D.is_honest disk.old) → IfOk result
+        (λ place. IsThere place.0 place.1 (journal_in (D.seen disk.old)) (D.seen disk.old)) }
+    ensures damaged { IsTrue (D.is_honest disk.old) → OnDamaged result
+        ((journal : Journal) → Tells (D.seen disk.old) journal → PAGE_SIZE ≤ (D.seen disk.old).size → ⊥) }
+    ensures reaches { Reaches D.Disk Same disk.old disk.new }
+    ensures count { CountsFaults result (D.failures disk.old) (D.failures disk.new) }
+{
+    let first = read_word(disk, FIELDS)?;
+    let count = read_word(disk, FIELDS + 4)?;
+    if !is_inside(disk, first, count) {
+        return Err(Refusal::DamagedFile);
+    }
+    check_numbers(disk, first, count)?;
+    Ok((first, count))
+}
 
 /// Whether page 0 and all pages of a journal lie in the file.
 fn is_inside<D: Disk>(disk: &D, first: u32, count: u32) -> bool
     ensures { IsTrue (D.is_honest disk.now) → (IsTrue result ↔ IsInside first count (D.seen disk.now)) }
 {
-    let end = u64::from(first) + u64::from(pages_of_numbers(count)) + u64::from(count);
-    end.max(1) <= u64::from(disk.pages())
+    let end = match count {
+        0 => 1,
+        _ => u64::from(first) + u64::from(pages_of_numbers(count)) + u64::from(count),
+    };
+    end <= u64::from(disk.pages())
 }
 
 /// Looks whether the numbers of a journal ascend and lie below its first page (94).
@@ -46,6 +142,28 @@ fn check_numbers<D: Disk>(disk: &mut D, first: u32, count: u32) -> Result<(), Re
             return Err(Refusal::DamagedFile);
         }
         least = number + 1;
+    }
+    Ok(())
+}
+
+/// Copies the pages of a journal over their home pages.
+fn copy_home_pages<D: Disk>(disk: &mut D, first: u32, count: u32) -> Result<(), Refusal>
+    ensures reaches { (journal : Journal) → IsTrue (D.is_honest disk.old)
+        → IsThere first count journal (D.seen disk.old)
+        → Reaches D.Disk (KeepsWhere (IsLeftAlone journal.count journal.number)) disk.old disk.new }
+    ensures written { (journal : Journal) → IsTrue (D.is_honest disk.old)
+        → IsThere first count journal (D.seen disk.old)
+        → OnOk result (HasHome journal.count journal.number journal.copy (D.seen disk.new)) }
+    ensures honesty { D.is_honest disk.new ≡ D.is_honest disk.old }
+    ensures keeping { D.keeps_crashes disk.new ≡ D.keeps_crashes disk.old }
+    ensures refused { IsOkUnless result Refusal.Disk }
+    ensures count { Counts result (D.failures disk.old) (D.failures disk.new) }
+{
+    let numbers = PAGE_SIZE as u64 * u64::from(first);
+    let copies = u64::from(first) + u64::from(pages_of_numbers(count));
+    for place in 0..count {
+        let place = u64::from(place);
+        copy_home_page(disk, numbers + 4 * place, copies + place)?;
     }
     Ok(())
 }

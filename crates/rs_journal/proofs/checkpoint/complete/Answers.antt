@@ -1,5 +1,5 @@
 -- Each stage by its own function.
-use Rattle.std.proofs.Common.{◌≡◌, sym, subst}
+use Rattle.std.proofs.Common.{subst}
 use Rattle.rs_journal.specs.Journal.{journal_of}
 use Rattle.rs_journal.specs.Stages.{StageImage, Stands}
 use Rattle.rs_journal.specs.declared.stage.Stage.TheVariants.{Fresh, Gate, Home, Closing}

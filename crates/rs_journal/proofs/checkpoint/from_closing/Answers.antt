@@ -1,5 +1,5 @@
 -- The last stage.
-use Rattle.std.proofs.Common.{◌≡◌, refl, rules}
+use Rattle.std.proofs.Common.{refl, rules}
 use Rattle.rs_journal.specs.declared.stage.Stage.TheVariants.{Closing}
 use Rattle.rs_journal.proofs.Advancing.{on_err, meanwhile-less, stands-still}
 use Rattle.rs_journal.proofs.Staging.{closing-gives}

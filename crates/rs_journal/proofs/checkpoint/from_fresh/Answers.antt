@@ -1,5 +1,5 @@
 -- The journal, then the gate.
-use Rattle.std.proofs.Common.{◌≡◌, ◌≢◌, Result, Ok, Err, OnErr, inl, inr, refl, rules}
+use Rattle.std.proofs.Common.{◌≡◌, ◌≢◌, Result, Ok, Err, OnErr, inl, rules}
 use Rattle.rs_journal.specs.Journal.{journal_of}
 use Rattle.rs_journal.specs.declared.stage.Stage.{Stage}
 use Rattle.rs_journal.specs.declared.stage.Stage.TheVariants.{Fresh}

@@ -1,5 +1,5 @@
 -- The gate, then the home pages.
-use Rattle.std.proofs.Common.{◌≡◌, inr, refl, rules}
+use Rattle.std.proofs.Common.{inr, rules}
 use Rattle.rs_journal.specs.Journal.{journal_of}
 use Rattle.rs_journal.specs.declared.stage.Stage.TheVariants.{Gate}
 use Rattle.rs_journal.proofs.Advancing.{on_err, meanwhile-less, stands-still, ends-then}

@@ -1,5 +1,5 @@
 -- The home pages, then the last stage.
-use Rattle.std.proofs.Common.{◌≡◌, refl, rules}
+use Rattle.std.proofs.Common.{rules}
 use Rattle.rs_journal.specs.Journal.{journal_of}
 use Rattle.rs_journal.specs.declared.stage.Stage.TheVariants.{Home}
 use Rattle.rs_journal.proofs.Advancing.{on_err, meanwhile-less, stands-still, ends-then}

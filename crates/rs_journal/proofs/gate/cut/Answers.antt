@@ -1,5 +1,5 @@
 -- A cut is done or not.
-use Rattle.std.proofs.Common.{◌≡◌, ◌⊎◌, inl, inr, Result, Ok, Err, ℕ}
+use Rattle.std.proofs.Common.{inl, Result, Ok, Err, ℕ}
 use Rattle.rs_disk.specs.Content.{Content, CutsTo}
 use Rattle.rs_disk.specs.Crash.{CutOrNot}
 use Rattle.rs_journal.proofs.Advancing.{remains-by}

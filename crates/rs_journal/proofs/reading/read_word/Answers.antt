@@ -1,5 +1,5 @@
 -- The number in the bytes that were read.
-use Rattle.std.proofs.Common.{◌≡◌, ◌∙◌, rules}
+use Rattle.std.proofs.Common.{◌∙◌, rules}
 use Rattle.rs_journal.proofs.Words.{word-given}
 use Rattle.rs_journal.proofs.reading.read_word.Goals as goal
 

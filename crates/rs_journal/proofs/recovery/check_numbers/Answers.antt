@@ -1,7 +1,7 @@
 -- One number more.
-use Rattle.std.proofs.Common.{◌≡◌, ◌∙◌, IsTrue, refl, subst, sym, rules}
+use Rattle.std.proofs.Common.{◌∙◌, IsTrue, refl, subst, sym, rules}
 use Rattle.rs_journal.proofs.Reaching.{reaches_none, same-then}
-use Rattle.rs_journal.proofs.Recovering.{numbers-none, numbers-next, numbers-damaged, number-read}
+use Rattle.rs_journal.proofs.Recovering.{numbers-none, numbers-next, number-read}
 use Rattle.rs_journal.proofs.recovery.check_numbers.Goals as goal
 
 pub loop-place-init : goal.loop-place-init

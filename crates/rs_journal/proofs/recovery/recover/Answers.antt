@@ -1,0 +1,32 @@
+-- A sync, and the rest.
+use Rattle.std.proofs.Common.{IsTrue, refl, subst, sym, rules}
+use Rattle.rs_disk.specs.Content.{Content}
+use Rattle.rs_journal.specs.Journal.{Recovers}
+use Rattle.rs_journal.proofs.Recovering.{recovered-unsynced, recovered-synced, told-same, damaged-same}
+use Rattle.rs_journal.proofs.recovery.recover.Goals as goal
+
+pub returns-in_err-sync-clause-recovers : goal.returns-in_err-sync-clause-recovers
+returns-in_err-sync-clause-recovers g c = λ pages says honest gives.
+    recovered-unsynced g.D.Disk pages c.from_residual.result c.args.disk.now c.sync.new.disk (search rules) c.sync.ensures.reaches honest gives
+
+pub returns-clause-recovers : goal.returns-clause-recovers
+returns-clause-recovers g c = λ pages says honest gives.
+    let same = c.sync.ensures.reaches.reads honest in
+    let still : IsTrue (g.D.Disk.is_honest c.sync.new.disk) = subst IsTrue (sym c.sync.ensures.reaches.honesty) honest in
+    let gives' = subst (λ (content : Content). Recovers content pages) (sym same) gives in
+    recovered-synced g.D.Disk pages c.recover_synced.result c.args.disk.now c.sync.new.disk c.recover_synced.new.disk c.sync.ensures.reaches c.recover_synced.ensures.keeping
+    (c.recover_synced.ensures.goes pages says gives' (record {
+      honest = still;
+      reads = refl;
+      images = λ keeps. c.in_ok-sync.ensures.durable (subst IsTrue c.sync.ensures.reaches.keeping keeps);
+    }))
+
+pub returns-clause-told : goal.returns-clause-told
+returns-clause-told g c = λ honest.
+    let still : IsTrue (g.D.Disk.is_honest c.sync.new.disk) = subst IsTrue (sym c.sync.ensures.reaches.honesty) honest in
+    told-same _ _ _ (c.sync.ensures.reaches.reads honest) (c.recover_synced.ensures.told still)
+
+pub returns-clause-damaged : goal.returns-clause-damaged
+returns-clause-damaged g c = λ honest.
+    let still : IsTrue (g.D.Disk.is_honest c.sync.new.disk) = subst IsTrue (sym c.sync.ensures.reaches.honesty) honest in
+    damaged-same _ _ _ (c.sync.ensures.reaches.reads honest) (c.recover_synced.ensures.damaged still)

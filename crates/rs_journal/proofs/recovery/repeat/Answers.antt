@@ -1,0 +1,64 @@
+-- The home pages, the gate, the cut.
+use Rattle.std.proofs.Common.{◌≤◌, ◌∙◌, arith, rules}
+use Rattle.rs_journal.proofs.Advancing.{on_err, stands-less, meanwhile-less, meanwhile-then, remains-same}
+use Rattle.rs_journal.proofs.Reaching.{on_ok}
+use Rattle.rs_journal.proofs.Staging.{home-gives, closing-gives, quiet-gives}
+use Rattle.rs_journal.proofs.Recovering.{count-there}
+use Rattle.rs_journal.proofs.recovery.repeat.Goals as goal
+
+pub returns-in_err-bring_back-clause-goes : goal.returns-in_err-bring_back-clause-goes
+returns-in_err-bring_back-clause-goes g c = λ journal pages carries says first_is count_is stands.
+    let one = c.in_err-bring_back.ensures.goes journal pages carries first_is count_is stands in
+    record {
+      done = search rules;
+      fault = on_err _ _ (stands-less g.D.Disk _ _ _ (λ image is. home-gives journal pages image carries is) one.fault);
+      meanwhile = meanwhile-less g.D.Disk _ _ _ _ (λ image is. home-gives journal pages image carries is) one.meanwhile;
+    }
+
+pub returns-in_err-close_gate-clause-goes : goal.returns-in_err-close_gate-clause-goes
+returns-in_err-close_gate-clause-goes g c = λ journal pages carries says first_is count_is stands.
+    let one = c.in_ok-bring_back.ensures.goes journal pages carries first_is count_is stands in
+    let two = c.in_err-close_gate.ensures.goes journal pages carries one.done in
+    record {
+      done = search rules;
+      fault = on_err _ _ (stands-less g.D.Disk _ _ _ (λ image is. closing-gives journal pages image carries is) two.fault);
+      meanwhile = meanwhile-then g.D.Disk _ _ _ _ c.bring_back.ensures.keeping
+          (meanwhile-less g.D.Disk _ _ _ _ (λ image is. home-gives journal pages image carries is) one.meanwhile)
+          (meanwhile-less g.D.Disk _ _ _ _ (λ image is. closing-gives journal pages image carries is) two.meanwhile);
+    }
+
+pub returns-in_err-pages-clause-goes : goal.returns-in_err-pages-clause-goes
+returns-in_err-pages-clause-goes g c = λ journal pages carries says first_is count_is stands.
+    let one = c.in_ok-bring_back.ensures.goes journal pages carries first_is count_is stands in
+    let two = c.in_ok-close_gate.ensures.goes journal pages carries one.done in
+    let three = remains-same g.D.Disk _ _ _ c.read_word.ensures.reaches two.done in
+    record {
+      done = search rules;
+      fault = on_err _ _ (stands-less g.D.Disk _ _ _ (λ image is. quiet-gives pages image is) three.stands);
+      meanwhile = meanwhile-then g.D.Disk _ _ _ _ (c.close_gate.ensures.keeping ∙ c.bring_back.ensures.keeping)
+          (meanwhile-then g.D.Disk _ _ _ _ c.bring_back.ensures.keeping
+          (meanwhile-less g.D.Disk _ _ _ _ (λ image is. home-gives journal pages image carries is) one.meanwhile)
+          (meanwhile-less g.D.Disk _ _ _ _ (λ image is. closing-gives journal pages image carries is) two.meanwhile))
+          (meanwhile-less g.D.Disk _ _ _ _ (λ image is. quiet-gives pages image is) three.meanwhile);
+    }
+
+pub returns-clause-goes : goal.returns-clause-goes
+returns-clause-goes g c = λ journal pages carries says first_is count_is stands.
+    let one = c.in_ok-bring_back.ensures.goes journal pages carries first_is count_is stands in
+    let two = c.in_ok-close_gate.ensures.goes journal pages carries one.done in
+    let three = remains-same g.D.Disk _ _ _ c.read_word.ensures.reaches two.done in
+    let read = c.in_ok-pages.ensures.word two.done.honest in
+    let counts = count-there pages _ says two.done.reads.pages_there in
+    let long : pages.count ≤ c.in_ok-pages.pages = omega (arith, read, counts) in
+    let four = c.cut.ensures.remains pages says.some long three.stands in
+    record {
+      done = on_ok _ _ four.stands;
+      fault = on_err _ _ (stands-less g.D.Disk _ _ _ (λ image is. quiet-gives pages image is) four.stands);
+      meanwhile = meanwhile-then g.D.Disk _ _ _ _ (c.read_word.ensures.reaches.keeping ∙ c.close_gate.ensures.keeping ∙ c.bring_back.ensures.keeping)
+          (meanwhile-then g.D.Disk _ _ _ _ (c.close_gate.ensures.keeping ∙ c.bring_back.ensures.keeping)
+          (meanwhile-then g.D.Disk _ _ _ _ c.bring_back.ensures.keeping
+          (meanwhile-less g.D.Disk _ _ _ _ (λ image is. home-gives journal pages image carries is) one.meanwhile)
+          (meanwhile-less g.D.Disk _ _ _ _ (λ image is. closing-gives journal pages image carries is) two.meanwhile))
+          (meanwhile-less g.D.Disk _ _ _ _ (λ image is. quiet-gives pages image is) three.meanwhile))
+          (meanwhile-less g.D.Disk _ _ _ _ (λ image is. quiet-gives pages image is) four.meanwhile);
+    }
