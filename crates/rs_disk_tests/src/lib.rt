@@ -18,6 +18,8 @@ mod file_disk_tests;
 #[cfg(test)]
 mod fresh_path;
 #[cfg(test)]
+mod journal_tests;
+#[cfg(test)]
 mod path_tests;
 #[cfg(test)]
 mod recording_disk_tests;

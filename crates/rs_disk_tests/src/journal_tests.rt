@@ -1,0 +1,209 @@
+//! A checkpoint on a recording disk, stopped after each of its calls, and recovered.
+//!
+//! Three pages of `a` are kept, and the checkpoint copies pages 0, 2 and a new page 3 as pages of `b`.
+
+use crate::expect::expect;
+use rs_disk::FailedCut;
+use rs_journal::{Copies, Stage, complete, cut, recover};
+use rs_page::{PAGE_SIZE, Page};
+use rs_recording_disk::{RecordingDisk, Unsynced};
+use rs_refusal::Refusal;
+use std::alloc::Global;
+use std::test::Fail;
+
+/// Copies of three pages, all of one letter.
+#[derive(Drop)]
+struct Letters {
+    numbers: [u32; 3],
+    page: Page,
+}
+
+impl Copies for Letters {
+    ghost use Rattle.std.specs.Prelude.{slice_index};
+
+    ghost count = { λ _. 3 };
+
+    ghost number = { λ letters place. slice_index letters.numbers place };
+
+    ghost byte = { λ letters _ k. slice_index letters.page.bytes k };
+
+    fn count(&self) -> u32 {
+        3
+    }
+
+    fn number(&self, place: u32) -> u32 {
+        self.numbers[place as usize]
+    }
+
+    fn page(&self, _place: u32) -> &Page {
+        &self.page
+    }
+}
+
+/// The pages of the checkpoint.
+const CHANGED: [u32; 3] = [0, 2, 3];
+
+/// A checkpoint's copies of the letter `b`.
+fn letters() -> Letters {
+    Letters {
+        numbers: CHANGED,
+        page: Page {
+            bytes: [b'b'; PAGE_SIZE],
+        },
+    }
+}
+
+/// A disk of three pages of `a`, of which the call with this number fails.
+fn three_pages(alloc: Global, failing_call: u64) -> Result<RecordingDisk, Fail> {
+    let pages = vec![in alloc; b'a'; 3 * PAGE_SIZE]?;
+    Ok(RecordingDisk::new(alloc, pages, failing_call, FailedCut::Done)?)
+}
+
+/// Takes a checkpoint as far as it goes, and cuts the file after its last stage.
+fn checkpoint(disk: &mut RecordingDisk, stage: &mut Stage) -> bool {
+    complete(disk, stage, 4, &letters()).is_ok() && cut(disk, 4).is_ok()
+}
+
+/// Which pages a disk has: those kept, or the checkpoint's.
+#[derive(Clone, Copy, PartialEq, Eq, Debug)]
+enum Found {
+    Kept,
+    Checkpoint,
+    Neither,
+}
+
+/// Whether these bytes are one letter each, but for the gate and the journal's fields.
+fn are_letters(bytes: &[u8], letter: u8) -> bool {
+    bytes.iter().enumerate().all(|(i, byte)| *byte == letter || (64..76).contains(&i))
+}
+
+/// Which pages these bytes are.
+fn found(bytes: &[u8]) -> Found {
+    if bytes.len() < 3 * PAGE_SIZE {
+        return Found::Neither;
+    }
+    let (first, rest) = bytes.split_at(PAGE_SIZE);
+    let (second, rest) = rest.split_at(PAGE_SIZE);
+    if !second.iter().all(|byte| *byte == b'a') {
+        return Found::Neither;
+    }
+    if are_letters(first, b'a') && rest[..PAGE_SIZE].iter().all(|byte| *byte == b'a') {
+        return Found::Kept;
+    }
+    let is_whole = rest.len() >= 2 * PAGE_SIZE && rest[..2 * PAGE_SIZE].iter().all(|byte| *byte == b'b');
+    if are_letters(first, b'b') && is_whole {
+        return Found::Checkpoint;
+    }
+    Found::Neither
+}
+
+/// What recovery finds where a crash comes after so many calls.
+fn recovered(
+    alloc: Global,
+    disk: &RecordingDisk,
+    moment: usize,
+    unsynced: Unsynced,
+) -> Result<Found, Fail> {
+    if disk.calls().len() < moment {
+        return Ok(Found::Neither);
+    }
+    let image = disk.image(alloc, moment, unsynced)?;
+    let mut left = RecordingDisk::new(alloc, image, 0, FailedCut::Done)?;
+    expect(recover(&mut left).is_ok(), "recovery succeeds")?;
+    let calls = left.calls().len();
+    let last = left.image(alloc, calls, Unsynced::Kept)?;
+    Ok(found(&last))
+}
+
+/// Looks after each call, in one of the images: recovery finds the pages kept, and from some moment on the checkpoint's.
+fn expect_either(alloc: Global, disk: &RecordingDisk, unsynced: Unsynced) -> Result<(), Fail> {
+    let mut is_done = false;
+    for moment in 0..=disk.calls().len() {
+        match recovered(alloc, disk, moment, unsynced)? {
+            Found::Kept => expect(!is_done, "the checkpoint is kept")?,
+            Found::Checkpoint => is_done = true,
+            Found::Neither => expect(false, "the pages kept, or the checkpoint's")?,
+        }
+    }
+    expect(is_done, "the checkpoint is there at the end")
+}
+
+/// The three images of what was not synced.
+const IMAGES: [Unsynced; 3] = [Unsynced::Kept, Unsynced::Lost, Unsynced::Filled];
+
+#[test]
+fn a_crash_in_a_checkpoint_leaves_either_pages(rt: HostRuntime) -> Result<(), Fail> {
+    let alloc = rt.alloc();
+    let mut disk = three_pages(alloc, 0)?;
+    let mut stage = Stage::Fresh;
+    expect(checkpoint(&mut disk, &mut stage), "the checkpoint ends")?;
+    for unsynced in IMAGES {
+        expect_either(alloc, &disk, unsynced)?;
+    }
+    expect(disk.calls().len() == 16, "sixteen calls")
+}
+
+/// A checkpoint of which the call with this number fails, taken up again.
+fn expect_resumed(alloc: Global, failing_call: u64) -> Result<(), Fail> {
+    let mut disk = three_pages(alloc, failing_call)?;
+    let mut stage = Stage::Fresh;
+    expect(!checkpoint(&mut disk, &mut stage), "a call fails")?;
+    expect(checkpoint(&mut disk, &mut stage), "the next one ends it")?;
+    for unsynced in IMAGES {
+        expect_either(alloc, &disk, unsynced)?;
+    }
+    expect(stage == Stage::Fresh, "the first stage again")
+}
+
+#[test]
+fn a_checkpoint_is_resumed_after_each_fault(rt: HostRuntime) -> Result<(), Fail> {
+    for failing_call in 1..17 {
+        expect_resumed(rt.alloc(), failing_call)?;
+    }
+    Ok(())
+}
+
+/// The disk that a crash leaves right after the gate was opened and synced.
+fn opened(alloc: Global) -> Result<Vec<u8>, Fail> {
+    let mut disk = three_pages(alloc, 0)?;
+    let mut stage = Stage::Fresh;
+    expect(checkpoint(&mut disk, &mut stage), "the checkpoint ends")?;
+    if disk.calls().len() < 8 {
+        return Err(Fail::new(format_args!("too few calls")));
+    }
+    Ok(disk.image(alloc, 8, Unsynced::Lost)?)
+}
+
+#[test]
+fn a_crash_in_recovery_leaves_the_checkpoint(rt: HostRuntime) -> Result<(), Fail> {
+    let alloc = rt.alloc();
+    let mut disk = RecordingDisk::new(alloc, opened(alloc)?, 0, FailedCut::Done)?;
+    expect(recover(&mut disk).is_ok(), "recovery succeeds")?;
+    for moment in 0..=disk.calls().len() {
+        for unsynced in IMAGES {
+            let found = recovered(alloc, &disk, moment, unsynced)?;
+            expect(found == Found::Checkpoint, "the checkpoint's pages")?;
+        }
+    }
+    Ok(())
+}
+
+/// Whether recovery refuses the opened disk as damaged where the byte at a place is another.
+fn is_damaged(alloc: Global, place: usize, byte: u8) -> Result<bool, Fail> {
+    let mut bytes = opened(alloc)?;
+    if let Some(at) = bytes.get_mut(place) {
+        *at = byte;
+    }
+    let mut disk = RecordingDisk::new(alloc, bytes, 0, FailedCut::Done)?;
+    Ok(recover(&mut disk) == Err(Refusal::DamagedFile))
+}
+
+#[test]
+fn a_journal_that_is_not_well_formed_is_refused(rt: HostRuntime) -> Result<(), Fail> {
+    let alloc = rt.alloc();
+    let numbers = 4 * PAGE_SIZE;
+    expect(!is_damaged(alloc, numbers + 11, 3)?, "as it was written")?;
+    expect(is_damaged(alloc, numbers + 11, 4)?, "a number not below the journal")?;
+    expect(is_damaged(alloc, numbers + 7, 0)?, "a number twice")?;
+    expect(is_damaged(alloc, 75, 4)?, "a copy past the file's end")
+}
