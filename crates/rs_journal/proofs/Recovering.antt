@@ -1,18 +1,18 @@
 -- What recovery reads of a journal.
 use Rattle.std.proofs.lemmas.Bool.{cases_lt}
-use Rattle.std.proofs.Common.{Result, Ok, Err, IsErr, OnOk, OnErr, IsTrue, ◌≡◌, ◌⊎◌, inl, inr, ℕ, ◌+◌, ◌-◌, ◌*◌, ◌<◌, ◌≤◌, arith, refl, sym, ap, ◌∙◌, subst}
+use Rattle.std.proofs.Common.{Result, Ok, Err, IsErr, OnOk, OnErr, IsTrue, max, ◌≡◌, ◌≢◌, ◌⊎◌, inl, inr, ℕ, ◌+◌, ◌-◌, ◌*◌, ◌<◌, ◌≤◌, arith, refl, sym, ap, ◌∙◌, subst}
 use Rattle.rs_refusal.specs.declared.refusal.Refusal.{Refusal}
-use Rattle.rs_disk.specs.Crash.{Same}
+use Rattle.rs_disk.specs.Crash.{Same, CutOrNot}
 use Rattle.rs_disk.specs.declared.disk.Disk as disk
 use Rattle.rs_disk.specs.Content.{Content}
 use Rattle.rs_page.specs.declared.page.TheConstants.{PAGE_SIZE}
-use Rattle.rs_journal.specs.Journal.{Journal, Ascends, AreBelow, HasJournal, Carries, Recovers, RecoversBy, IsTold, number_pages, copies_start}
-use Rattle.rs_journal.specs.Stages.{IsHome, IsQuiet, Goes}
+use Rattle.rs_journal.specs.Journal.{Journal, Ascends, AreBelow, HasJournal, Carries, Recovers, RecoversBy, IsTold, Tells, number_pages, copies_start}
+use Rattle.rs_journal.specs.Stages.{IsHome, IsQuiet, Goes, GateAlone}
 use Rattle.rs_journal.specs.Reaches.{Reaches}
-use Rattle.rs_journal.proofs.Staging.{quiet-gives}
+use Rattle.rs_journal.proofs.Staging.{quiet-gives, not-gate}
 use Rattle.rs_journal.proofs.Words.{word-same}
-use Rattle.rs_journal.specs.Pages.{Pages, HasPages, word_at}
-use Rattle.rs_journal.specs.Recovery.{NumbersSoFar, SaysCount, OnDamaged, Recovered, number_in}
+use Rattle.rs_journal.specs.Pages.{Pages, IsOfPages, HasPages, word_at}
+use Rattle.rs_journal.specs.Recovery.{NumbersSoFar, SaysCount, OnDamaged, Brought, GaveAll, Recovered, number_in}
 
 pub numbers-none : (first : ℕ) (number : ℕ → ℕ) → NumbersSoFar first 0 0 number
 numbers-none first number = record {
@@ -162,3 +162,56 @@ module _ {D : Type 0} (d : disk.Ghosts D) where
       ];
     };
   }
+
+-- the home pages of a journal that is there lie in the file
+pub home-inside : (journal : Journal) (content : Content) (place : ℕ) → Tells content journal → place < journal.count
+    → PAGE_SIZE * journal.number place + PAGE_SIZE ≤ content.size
+home-inside journal content place tells lt =
+    let below : journal.number place < journal.first = tells.well_formed.below place lt in
+    let reach : PAGE_SIZE * (copies_start journal + journal.count) ≤ content.size = tells.there.copies.inside (omega arith) in
+    omega arith
+
+-- what is there once the copies are home, the gate is closed and the file is cut
+pub gave-by : (journal : Journal) (old home shut new : Content) (bound : ℕ) → Tells old journal → old.byte 64 ≡ 1
+    → Brought journal old home → GateAlone home shut → CutOrNot (PAGE_SIZE * bound) shut new → GaveAll old new
+gave-by journal old home shut new bound tells is brought gate cut = λ pages says has.
+    let inside : 76 ≤ old.size = tells.there.fields.inside in
+    let one : home.size ≤ old.size = brought.no_longer in
+    let one' : old.size ≤ home.size = brought.others.no_shorter in
+    let two : shut.size ≤ max home.size 65 = gate.no_longer in
+    let reach : PAGE_SIZE * pages.count ≤ shut.size = elim cut [
+      | inl done ↦ let long : PAGE_SIZE * pages.count ≤ new.size = has.size in omega (arith, done.size)
+      | inr same ↦ let long : PAGE_SIZE * pages.count ≤ new.size = has.size in omega (arith, ap (λ (content : Content). content.size) same)
+    ] in
+    let uncut : (i : ℕ) → i < PAGE_SIZE * pages.count → new.byte i ≡ shut.byte i = λ i lt. elim cut [
+      | inl done ↦ let long : PAGE_SIZE * pages.count ≤ new.size = has.size in done.kept i (omega (arith, done.size))
+      | inr same ↦ ap (λ (content : Content). content.byte i) same
+    ] in
+    let at_home : (i : ℕ) → i < PAGE_SIZE * pages.count → IsOfPages i → home.byte i ≡ pages.byte i = λ i lt own.
+    sym (gate.others.bytes i (omega arith) (not-gate i own)) ∙ sym (uncut i lt) ∙ has.bytes i lt own in
+    record {
+      opened = λ _. record {
+        journal = journal;
+        tells = tells;
+        overlays = record {
+          copied = λ k j lt within below own. sym (at_home (PAGE_SIZE * journal.number k + j) below own) ∙ brought.home.each k j lt within own;
+          others = λ i lt own apart. sym (brought.others.bytes i (omega arith) (inl apart)) ∙ at_home i lt own;
+          size = omega arith;
+        };
+      };
+      shut = λ closed. absurd (closed is);
+    }
+
+-- where nothing was written
+pub gave-closed : (old new : Content) → old.byte 64 ≢ 1 → new ≡ old → GaveAll old new
+gave-closed old new closed same = λ pages says has. record {
+  opened = λ is. absurd (closed is);
+  shut = λ _. subst (HasPages pages) same has;
+}
+
+pub size-more : (old mid new word number : ℕ) → mid ≤ old → new ≤ max mid (PAGE_SIZE * word + PAGE_SIZE) → word ≡ number
+    → PAGE_SIZE * number + PAGE_SIZE ≤ old → new ≤ old
+size-more old mid new word number one two same inside = omega (arith, same)
+
+pub gave-same : {T E : Type 0} (result : Result T E) (old mid new : Content) → mid ≡ old → OnOk result (GaveAll mid new) → OnOk result (GaveAll old new)
+gave-same result old mid new same gave = subst (λ content. OnOk result (GaveAll content new)) same gave

@@ -26,7 +26,7 @@ pages-kept stays pages a b keeps there has =
 not-fields : (i : ℕ) → IsOfPages i → IsOutside 68 76 i
 not-fields i own = elim own [ inl before ↦ inl (omega arith) | inr after ↦ inr (omega arith) ]
 
-not-gate : (i : ℕ) → IsOfPages i → IsOutside 64 65 i
+pub not-gate : (i : ℕ) → IsOfPages i → IsOutside 64 65 i
 not-gate i own = elim own [ inl before ↦ inl (omega arith) | inr after ↦ inr (omega arith) ]
 
 -- while the journal is written

@@ -7,9 +7,10 @@ use Rattle.rs_disk.specs.Content.{Content}
 use Rattle.rs_disk.specs.declared.disk.Disk as disk
 use Rattle.rs_page.specs.declared.page.TheConstants.{PAGE_SIZE}
 use Rattle.rs_journal.specs.declared.limits.TheConstants.{FIELDS, PAGE_COUNT}
-use Rattle.rs_journal.specs.Pages.{Pages, word_at}
+use Rattle.rs_journal.specs.Pages.{Pages, HasPages, word_at}
 use Rattle.rs_journal.specs.Journal.{Journal, Ascends, AreBelow, end_page, number_pages, Tells, Recovers}
-use Rattle.rs_journal.specs.Stages.{IsQuiet, Stands, Meanwhile}
+use Rattle.rs_journal.specs.Stages.{IsQuiet, IsLeftAlone, HasHome, Stands, Meanwhile}
+use Rattle.rs_journal.specs.Reaches.{KeepsWhere}
 
 -- the number at a place of a journal from this page on
 abbrev pub number_in : Content → ℕ → ℕ → ℕ
@@ -40,6 +41,21 @@ pub record IsThere (first count : ℕ) (journal : Journal) (content : Content) :
   pub first_page : journal.first ≡ first
   pub copies : journal.count ≡ count
 
+-- page 0 says how many pages these are
+pub record SaysCount (pages : Pages) : Type 0 where
+  pub says : word_at pages.byte PAGE_COUNT ≡ pages.count
+  pub some : 0 < pages.count
+
+-- the copies are in their home pages, and all else stays
+pub record Brought (journal : Journal) (old new : Content) : Type 0 where
+  pub home : HasHome journal.count journal.number journal.copy new
+  pub others : KeepsWhere (IsLeftAlone journal.count journal.number) old new
+  pub no_longer : new.size ≤ old.size
+
+-- what is there after recovery was given before it
+abbrev pub GaveAll : Content → Content → Type 0
+GaveAll old new = (pages : Pages) → SaysCount pages → HasPages pages new → Recovers old pages
+
 -- the first so many numbers ascend and lie below this page, and the next is to be no less than `least`
 pub record NumbersSoFar (first place least : ℕ) (number : ℕ → ℕ) : Type 0 where
   pub ascending : Ascends place number
@@ -47,11 +63,6 @@ pub record NumbersSoFar (first place least : ℕ) (number : ℕ → ℕ) : Type 
   pub under : (k : ℕ) → k < place → number k < least
   pub last : 0 < place → least ≡ number (place - 1) + 1
   pub first_least : place ≡ 0 → least ≡ 0
-
--- page 0 says how many pages these are
-pub record SaysCount (pages : Pages) : Type 0 where
-  pub says : word_at pages.byte PAGE_COUNT ≡ pages.count
-  pub some : 0 < pages.count
 
 -- a refusal by a failed call counts once, one by damaged bytes does not, and there is no other
 abbrev pub CountsFaults : {T : Type 0} → Result T Refusal → ℕ → ℕ → Type 0

@@ -1,12 +1,12 @@
 -- The stages of a checkpoint, by what a crash may leave in each.
-use Rattle.std.specs.Prelude.{◌≡◌, ◌≢◌, ◌⊎◌, ℕ, ◌+◌, ◌*◌, ◌<◌, ◌≤◌, List, slice_index, IsTrue, Result, OnOk, OnErr}
+use Rattle.std.specs.Prelude.{◌≡◌, ◌≢◌, ◌⊎◌, ℕ, ◌+◌, ◌*◌, ◌<◌, ◌≤◌, max, List, slice_index, IsTrue, Result, OnOk, OnErr}
 use Rattle.rs_disk.specs.Content.{Content}
 use Rattle.rs_disk.specs.declared.disk.Disk as disk
 use Rattle.rs_page.specs.declared.page.TheConstants.{PAGE_SIZE}
 use Rattle.rs_journal.specs.declared.stage.Stage.{Stage}
 use Rattle.rs_journal.specs.declared.stage.Stage.TheVariants.{Fresh, Gate, Home, Closing}
-use Rattle.rs_journal.specs.Reaches.{Through}
-use Rattle.rs_journal.specs.declared.limits.TheConstants.{GATE, FIELDS, FIELDS_END}
+use Rattle.rs_journal.specs.Reaches.{KeepsWhere, Through}
+use Rattle.rs_journal.specs.declared.limits.TheConstants.{GATE, GATE_END, FIELDS, FIELDS_END}
 use Rattle.rs_journal.specs.Pages.{Pages, IsOutside, IsOfPages, HasPages}
 use Rattle.rs_journal.specs.Journal.{Journal, HasJournal, IsApart, IsNotCopied, Recovers}
 
@@ -32,6 +32,11 @@ pub record IsHome (journal : Journal) (checkpoint : Pages) (image : Content) : T
 pub record IsClosing (journal : Journal) (checkpoint : Pages) (image : Content) : Type 0 where
   pub pages_there : HasPages checkpoint image
   pub journal_there : HasJournal journal image
+
+-- all but the gate byte stays, and the content grows to its end at most
+pub record GateAlone (old new : Content) : Type 0 where
+  pub others : KeepsWhere (IsOutside GATE GATE_END) old new
+  pub no_longer : new.size ≤ max old.size GATE_END
 
 -- Which bytes the stages leave alone.
 

@@ -2,9 +2,10 @@
 //!
 //! Of page 0 the gate byte and the journal's fields are left alone, so that the gate stays open meanwhile.
 
-ghost use Rattle.std.specs.Prelude.{◌≡◌, ℕ, ◌<◌, IsTrue, OnOk, IsOkUnless};
+ghost use Rattle.std.specs.Prelude.{◌≡◌, ℕ, ◌+◌, ◌*◌, ◌<◌, ◌≤◌, max, IsTrue, OnOk, IsOkUnless};
 ghost use Rattle.rs_disk.specs.Counts.{Counts};
 ghost use Rattle.rs_disk.specs.Crash.{Only};
+ghost use Rattle.rs_page.specs.declared.page.TheConstants.{PAGE_SIZE};
 ghost use Rattle.rs_journal.specs.Journal.{Ascends, Makes, journal_of};
 ghost use Rattle.rs_journal.specs.Reaches.{KeepsWhere, Reaches};
 ghost use Rattle.rs_journal.specs.Stages.{IsNotInPage, IsLeftAlone, HasHomePage, HasHome, IsHome, IsClosing, Stands, Goes};
@@ -73,6 +74,7 @@ pub(crate) fn write_home_page<D: Disk>(
     ensures written { IsTrue (D.is_honest disk.old)
         → OnOk result (HasHomePage number page.now.bytes (D.seen disk.new)) }
     ensures reaches { Reaches D.Disk (KeepsWhere (IsNotInPage number)) disk.old disk.new }
+    ensures no_longer { IsTrue (D.is_honest disk.old) → (D.seen disk.new).size ≤ max (D.seen disk.old).size (PAGE_SIZE * number + PAGE_SIZE) }
     ensures refused { IsOkUnless result Refusal.Disk }
     ensures count { Counts result (D.failures disk.old) (D.failures disk.new) }
 {
@@ -88,6 +90,7 @@ fn write_first_page<D: Disk>(disk: &mut D, page: &Page) -> Result<(), Refusal>
     ensures written { IsTrue (D.is_honest disk.old)
         → OnOk result (HasHomePage 0 page.now.bytes (D.seen disk.new)) }
     ensures reaches { Reaches D.Disk (KeepsWhere (IsNotInPage 0)) disk.old disk.new }
+    ensures no_longer { IsTrue (D.is_honest disk.old) → (D.seen disk.new).size ≤ max (D.seen disk.old).size PAGE_SIZE }
     ensures refused { IsOkUnless result Refusal.Disk }
     ensures count { Counts result (D.failures disk.old) (D.failures disk.new) }
 {

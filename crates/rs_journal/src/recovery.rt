@@ -3,7 +3,7 @@
 //! It begins with a sync, after which a crash leaves what a read gives. It may be ended by a crash or a fault itself, and
 //! the next one gives the same pages.
 
-ghost use Rattle.std.specs.Prelude.{◌≡◌, ℕ, ◌+◌, ◌*◌, ◌^◌, ◌<◌, ◌≤◌, IsTrue, OnOk, IfOk, IsOkUnless, ◌↔◌};
+ghost use Rattle.std.specs.Prelude.{◌≡◌, ℕ, ◌+◌, ◌*◌, ◌^◌, ◌<◌, ◌≤◌, max, IsTrue, OnOk, IfOk, IsOkUnless, ◌↔◌};
 ghost use Rattle.rs_disk.specs.Content.{Content};
 ghost use Rattle.rs_disk.specs.Counts.{Counts};
 ghost use Rattle.rs_disk.specs.Crash.{Same};
@@ -11,7 +11,7 @@ ghost use Rattle.rs_page.specs.declared.page.TheConstants.{PAGE_SIZE};
 ghost use Rattle.rs_journal.specs.Journal.{Journal, Ascends, AreBelow, Carries, Tells, IsTold, Recovers};
 ghost use Rattle.rs_journal.specs.Pages.{Pages, word_at};
 ghost use Rattle.rs_journal.specs.Reaches.{KeepsWhere, Reaches};
-ghost use Rattle.rs_journal.specs.Recovery.{IsInside, IsThere, number_in, journal_in, SaysCount, CountsFaults, OnDamaged, Recovered};
+ghost use Rattle.rs_journal.specs.Recovery.{IsInside, IsThere, Brought, GaveAll, number_in, journal_in, SaysCount, CountsFaults, OnDamaged, Recovered};
 ghost use Rattle.rs_journal.specs.Stages.{IsQuiet, IsHome, IsClosing, IsNotInPage, IsLeftAlone, HasHomeBytes, HasHome, Stands, Goes};
 ghost use Rattle.rs_journal.specs.declared.limits.TheConstants.{GATE, OPEN};
 
@@ -32,6 +32,7 @@ use rs_refusal::Refusal;
 pub fn recover<D: Disk>(disk: &mut D) -> Result<(), Refusal>
     ensures recovers { (pages : Pages) → SaysCount pages → IsTrue (D.is_honest disk.old)
         → Recovers (D.seen disk.old) pages → Recovered D.Disk pages result disk.old disk.new }
+    ensures gave { IsTrue (D.is_honest disk.old) → OnOk result (GaveAll (D.seen disk.old) (D.seen disk.new)) }
     ensures told { IsTrue (D.is_honest disk.old)
         → OnOk result ((D.seen disk.old).byte GATE ≡ OPEN → IsTold (D.seen disk.old)) }
     ensures damaged { IsTrue (D.is_honest disk.old) → OnDamaged result
@@ -49,6 +50,7 @@ fn recover_synced<D: Disk>(disk: &mut D) -> Result<(), Refusal>
     ensures goes { (pages : Pages) → SaysCount pages → Recovers (D.seen disk.old) pages
         → Stands D.Disk (λ image. image ≡ D.seen disk.old) disk.old
         → Goes D.Disk (λ image. Recovers image pages) (IsQuiet pages) result disk.old disk.new }
+    ensures gave { IsTrue (D.is_honest disk.old) → OnOk result (GaveAll (D.seen disk.old) (D.seen disk.new)) }
     ensures told { IsTrue (D.is_honest disk.old)
         → OnOk result ((D.seen disk.old).byte GATE ≡ OPEN → IsTold (D.seen disk.old)) }
     ensures damaged { IsTrue (D.is_honest disk.old) → OnDamaged result
@@ -70,6 +72,9 @@ fn repeat<D: Disk>(disk: &mut D, first: u32, count: u32) -> Result<(), Refusal>
         → journal.first ≡ first → journal.count ≡ count
         → Stands D.Disk (IsHome journal pages) disk.old
         → Goes D.Disk (λ image. Recovers image pages) (IsQuiet pages) result disk.old disk.new }
+    ensures gave { (journal : Journal) → IsTrue (D.is_honest disk.old)
+        → IsThere first count journal (D.seen disk.old) → (D.seen disk.old).byte GATE ≡ OPEN
+        → OnOk result (GaveAll (D.seen disk.old) (D.seen disk.new)) }
     ensures honesty { D.is_honest disk.new ≡ D.is_honest disk.old }
     ensures keeping { D.keeps_crashes disk.new ≡ D.keeps_crashes disk.old }
     ensures refused { IsOkUnless result Refusal.Disk }
@@ -87,6 +92,9 @@ fn bring_back<D: Disk>(disk: &mut D, first: u32, count: u32) -> Result<(), Refus
         → journal.first ≡ first → journal.count ≡ count
         → Stands D.Disk (IsHome journal pages) disk.old
         → Goes D.Disk (IsHome journal pages) (IsClosing journal pages) result disk.old disk.new }
+    ensures brought { (journal : Journal) → IsTrue (D.is_honest disk.old)
+        → IsThere first count journal (D.seen disk.old)
+        → OnOk result (Brought journal (D.seen disk.old) (D.seen disk.new)) }
     ensures honesty { D.is_honest disk.new ≡ D.is_honest disk.old }
     ensures keeping { D.keeps_crashes disk.new ≡ D.keeps_crashes disk.old }
     ensures refused { IsOkUnless result Refusal.Disk }
@@ -154,6 +162,8 @@ fn copy_home_pages<D: Disk>(disk: &mut D, first: u32, count: u32) -> Result<(), 
     ensures written { (journal : Journal) → IsTrue (D.is_honest disk.old)
         → IsThere first count journal (D.seen disk.old)
         → OnOk result (HasHome journal.count journal.number journal.copy (D.seen disk.new)) }
+    ensures no_longer { (journal : Journal) → IsTrue (D.is_honest disk.old)
+        → IsThere first count journal (D.seen disk.old) → (D.seen disk.new).size ≤ (D.seen disk.old).size }
     ensures honesty { D.is_honest disk.new ≡ D.is_honest disk.old }
     ensures keeping { D.keeps_crashes disk.new ≡ D.keeps_crashes disk.old }
     ensures refused { IsOkUnless result Refusal.Disk }
@@ -176,6 +186,8 @@ fn copy_home_page<D: Disk>(disk: &mut D, number_at: u64, copy: u64) -> Result<()
         (λ j. (D.seen disk.old).byte (PAGE_SIZE * copy + j)) (D.seen disk.new)) }
     ensures reaches { IsTrue (D.is_honest disk.old) → Reaches D.Disk
         (KeepsWhere (IsNotInPage (word_at (D.seen disk.old).byte number_at))) disk.old disk.new }
+    ensures no_longer { IsTrue (D.is_honest disk.old) → (D.seen disk.new).size
+        ≤ max (D.seen disk.old).size (PAGE_SIZE * word_at (D.seen disk.old).byte number_at + PAGE_SIZE) }
     ensures honesty { D.is_honest disk.new ≡ D.is_honest disk.old }
     ensures keeping { D.keeps_crashes disk.new ≡ D.keeps_crashes disk.old }
     ensures refused { IsOkUnless result Refusal.Disk }

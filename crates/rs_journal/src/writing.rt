@@ -1,6 +1,6 @@
 //! Single calls of the disk, as the stages of a checkpoint make them.
 
-ghost use Rattle.std.specs.Prelude.{◌≡◌, ℕ, ◌+◌, ◌*◌, ◌^◌, ◌<◌, length, true, IsTrue, OnOk, IsOkUnless};
+ghost use Rattle.std.specs.Prelude.{◌≡◌, ℕ, ◌+◌, ◌*◌, ◌^◌, ◌<◌, ◌≤◌, max, length, true, IsTrue, OnOk, IsOkUnless};
 ghost use Rattle.rs_disk.specs.Content.{Holds};
 ghost use Rattle.rs_disk.specs.Counts.{Counts};
 ghost use Rattle.rs_disk.specs.Crash.{Same, Only};
@@ -15,6 +15,7 @@ use rs_refusal::Refusal;
 pub(crate) fn write_at<D: Disk>(disk: &mut D, at: u64, bytes: &[u8]) -> Result<(), Refusal>
     ensures written { IsTrue (D.is_honest disk.old) → OnOk result (Holds (D.seen disk.new) at bytes.now) }
     ensures reaches { Reaches D.Disk (KeepsWhere (IsOutside at (at + length bytes.now))) disk.old disk.new }
+    ensures no_longer { IsTrue (D.is_honest disk.old) → (D.seen disk.new).size ≤ max (D.seen disk.old).size (at + length bytes.now) }
     ensures refused { IsOkUnless result Refusal.Disk }
     ensures count { Counts result (D.failures disk.old) (D.failures disk.new) }
 {
@@ -29,6 +30,7 @@ pub(crate) fn write_page<D: Disk>(disk: &mut D, number: u64, page: &Page) -> Res
     ensures size { length page.now.bytes ≡ PAGE_SIZE }
     ensures reaches { Reaches D.Disk
         (KeepsWhere (IsOutside (PAGE_SIZE * number) (PAGE_SIZE * number + PAGE_SIZE))) disk.old disk.new }
+    ensures no_longer { IsTrue (D.is_honest disk.old) → (D.seen disk.new).size ≤ max (D.seen disk.old).size (PAGE_SIZE * number + PAGE_SIZE) }
     ensures refused { IsOkUnless result Refusal.Disk }
     ensures count { Counts result (D.failures disk.old) (D.failures disk.new) }
 {

@@ -19,3 +19,6 @@ returns-clause-remains g c = λ kept some long stands.
       reads = λ honest. cut-or-not _ _ _ _ (c.cut.ensures.cut honest);
       images = λ keeps. c.cut.ensures.crash keeps;
     }) stands
+
+pub returns-clause-cut : goal.returns-clause-cut
+returns-clause-cut g c = λ honest. cut-or-not _ _ _ _ (c.cut.ensures.cut honest)

@@ -1,7 +1,7 @@
 -- The pages, and a sync.
 use Rattle.std.proofs.Common.{IsTrue, subst, sym, rules}
 use Rattle.rs_disk.specs.Content.{Content}
-use Rattle.rs_journal.specs.Recovery.{IsThere}
+use Rattle.rs_journal.specs.Recovery.{IsThere, Brought}
 use Rattle.rs_journal.specs.Stages.{IsHome, IsClosing, HasHome}
 use Rattle.rs_journal.proofs.Reaching.{reaches_synced, on_ok}
 use Rattle.rs_journal.proofs.Advancing.{goes-by, remains-by, on_err}
@@ -29,3 +29,13 @@ returns-clause-goes g c = λ journal pages carries first_is count_is stands.
     (reaches_synced g.D.Disk _ _ _ _ (c.copy_home_pages.ensures.reaches journal stands.honest there) c.sync.ensures.reaches)
     (λ keeps. c.sync.ensures.durable (subst IsTrue (sym c.copy_home_pages.ensures.keeping) keeps))
     (λ honest. on_ok _ _ ends) stands
+
+pub returns-clause-brought : goal.returns-clause-brought
+returns-clause-brought g c = λ journal honest there.
+    let still : IsTrue (g.D.Disk.is_honest c.copy_home_pages.new.disk) = subst IsTrue (sym c.copy_home_pages.ensures.honesty) honest in
+    on_ok _ _ (subst (λ (content : Content). Brought journal (g.D.Disk.seen c.args.disk.now) content) (sym (c.sync.ensures.reaches.reads still))
+    (record {
+      home = c.in_ok-copy_home_pages.ensures.written journal honest there;
+      others = (c.copy_home_pages.ensures.reaches journal honest there).reads honest;
+      no_longer = c.copy_home_pages.ensures.no_longer journal honest there;
+    }))

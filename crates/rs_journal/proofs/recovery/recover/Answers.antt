@@ -2,7 +2,7 @@
 use Rattle.std.proofs.Common.{IsTrue, refl, subst, sym, rules}
 use Rattle.rs_disk.specs.Content.{Content}
 use Rattle.rs_journal.specs.Journal.{Recovers}
-use Rattle.rs_journal.proofs.Recovering.{recovered-unsynced, recovered-synced, told-same, damaged-same}
+use Rattle.rs_journal.proofs.Recovering.{recovered-unsynced, recovered-synced, told-same, damaged-same, gave-same}
 use Rattle.rs_journal.proofs.recovery.recover.Goals as goal
 
 pub returns-in_err-sync-clause-recovers : goal.returns-in_err-sync-clause-recovers
@@ -30,3 +30,8 @@ pub returns-clause-damaged : goal.returns-clause-damaged
 returns-clause-damaged g c = λ honest.
     let still : IsTrue (g.D.Disk.is_honest c.sync.new.disk) = subst IsTrue (sym c.sync.ensures.reaches.honesty) honest in
     damaged-same _ _ _ (c.sync.ensures.reaches.reads honest) (c.recover_synced.ensures.damaged still)
+
+pub returns-clause-gave : goal.returns-clause-gave
+returns-clause-gave g c = λ honest.
+    let still : IsTrue (g.D.Disk.is_honest c.sync.new.disk) = subst IsTrue (sym c.sync.ensures.reaches.honesty) honest in
+    gave-same _ _ _ _ (c.sync.ensures.reaches.reads honest) (c.recover_synced.ensures.gave still)

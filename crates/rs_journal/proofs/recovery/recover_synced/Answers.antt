@@ -1,12 +1,13 @@
 -- The gate is open, and the journal well formed.
-use Rattle.std.proofs.Common.{◌≡◌, ◌∙◌, IsTrue, ap, subst, sym, rules}
+use Rattle.std.proofs.Common.{◌≢◌, ◌≡◌, ◌∙◌, IsTrue, ap, subst, sym, rules}
 use Rattle.rs_disk.specs.Content.{Content}
 use Rattle.rs_journal.specs.Journal.{Recovers}
 use Rattle.rs_journal.specs.Pages.{word_at}
 use Rattle.rs_journal.specs.Stages.{IsHome}
 use Rattle.rs_journal.proofs.Advancing.{stands-less, meanwhile-less, meanwhile-then, remains-same}
 use Rattle.rs_journal.proofs.Reaching.{same-then}
-use Rattle.rs_journal.proofs.Recovering.{carries-told, home-told}
+use Rattle.rs_journal.proofs.Recovering.{carries-told, home-told, gave-same, gave-closed}
+use Rattle.rs_journal.specs.Recovery.{IsThere, journal_in}
 use Rattle.rs_journal.proofs.recovery.recover_synced.Goals as goal
 
 pub returns-clause-goes : goal.returns-clause-goes
@@ -30,3 +31,19 @@ returns-clause-goes g c = λ pages says gives stands.
       meanwhile = meanwhile-then g.D.Disk _ _ _ _ (c.read_journal.ensures.reaches.keeping ∙ c.read_gate.ensures.reaches.keeping)
           (meanwhile-less g.D.Disk _ _ _ _ (λ image is. subst (λ content. Recovers content pages) (sym is) gives) remains.meanwhile) goes.meanwhile;
     }
+
+pub returns-clause-gave : goal.returns-clause-gave
+returns-clause-gave g c = λ honest.
+    let seen = g.D.Disk.seen c.args.disk.now in
+    let still : IsTrue (g.D.Disk.is_honest c.read_gate.new.disk) = subst IsTrue (sym c.read_gate.ensures.reaches.honesty) honest in
+    let last : IsTrue (g.D.Disk.is_honest c.read_journal.new.disk) = subst IsTrue (sym c.read_journal.ensures.reaches.honesty) still in
+    let same = c.read_journal.ensures.reaches.reads still ∙ c.read_gate.ensures.reaches.reads honest in
+    let journal = journal_in (g.D.Disk.seen c.read_gate.new.disk) in
+    let there = subst (λ (content : Content). IsThere c.in_ok-first.first c.in_ok-first.count journal content) (sym (c.read_journal.ensures.reaches.reads still)) (c.in_ok-first.ensures.found still) in
+    let opened : seen.byte 64 ≡ 1 = sym (c.in_ok-read_gate.ensures.gate honest) ∙ search rules in
+    gave-same c.repeat.result _ _ _ same (c.repeat.ensures.gave journal last there (ap (λ (content : Content). content.byte 64) same ∙ opened))
+
+pub returns-then-branch-ne-OPEN-clause-gave : goal.returns-then-branch-ne-OPEN-clause-gave
+returns-then-branch-ne-OPEN-clause-gave g c = λ honest.
+    let closed : c.in_ok-read_gate.field-0 ≢ 1 = search rules in
+    gave-closed _ _ (λ is. closed (c.in_ok-read_gate.ensures.gate honest ∙ is)) (c.read_gate.ensures.reaches.reads honest)

@@ -1,9 +1,12 @@
 -- The home pages, the gate, the cut.
-use Rattle.std.proofs.Common.{◌≤◌, ◌∙◌, arith, rules}
+use Rattle.std.proofs.Common.{IsTrue, subst, sym, ◌≤◌, ◌*◌, ◌∙◌, arith, rules}
 use Rattle.rs_journal.proofs.Advancing.{on_err, stands-less, meanwhile-less, meanwhile-then, remains-same}
 use Rattle.rs_journal.proofs.Reaching.{on_ok}
 use Rattle.rs_journal.proofs.Staging.{home-gives, closing-gives, quiet-gives}
-use Rattle.rs_journal.proofs.Recovering.{count-there}
+use Rattle.rs_journal.proofs.Recovering.{count-there, gave-by}
+use Rattle.rs_disk.specs.Content.{Content}
+use Rattle.rs_disk.specs.Crash.{CutOrNot}
+use Rattle.rs_page.specs.declared.page.TheConstants.{PAGE_SIZE}
 use Rattle.rs_journal.proofs.recovery.repeat.Goals as goal
 
 pub returns-in_err-bring_back-clause-goes : goal.returns-in_err-bring_back-clause-goes
@@ -62,3 +65,11 @@ returns-clause-goes g c = λ journal pages carries says first_is count_is stands
           (meanwhile-less g.D.Disk _ _ _ _ (λ image is. quiet-gives pages image is) three.meanwhile))
           (meanwhile-less g.D.Disk _ _ _ _ (λ image is. quiet-gives pages image is) four.meanwhile);
     }
+
+pub returns-clause-gave : goal.returns-clause-gave
+returns-clause-gave g c = λ journal honest there is.
+    let second : IsTrue (g.D.Disk.is_honest c.bring_back.new.disk) = subst IsTrue (sym c.bring_back.ensures.honesty) honest in
+    let third : IsTrue (g.D.Disk.is_honest c.close_gate.new.disk) = subst IsTrue (sym c.close_gate.ensures.honesty) second in
+    let last : IsTrue (g.D.Disk.is_honest c.read_word.new.disk) = subst IsTrue (sym c.read_word.ensures.reaches.honesty) third in
+    let cut = subst (λ (content : Content). CutOrNot (PAGE_SIZE * c.in_ok-pages.pages) content (g.D.Disk.seen c.cut.new.disk)) (c.read_word.ensures.reaches.reads third) (c.cut.ensures.cut last) in
+    on_ok _ _ (gave-by journal _ _ _ _ c.in_ok-pages.pages there.tells is (c.in_ok-bring_back.ensures.brought journal honest there) (c.close_gate.ensures.gate_alone second) cut)
