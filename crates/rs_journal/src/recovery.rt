@@ -3,7 +3,7 @@
 //! It begins with a sync, after which a crash leaves what a read gives. It may be ended by a crash or a fault itself, and
 //! the next one gives the same pages.
 
-ghost use Rattle.std.specs.Prelude.{◌≡◌, ℕ, ◌+◌, ◌*◌, ◌^◌, ◌<◌, ◌≤◌, max, IsTrue, OnOk, IfOk, IsOkUnless, ◌↔◌};
+ghost use Rattle.std.specs.Prelude.{◌≡◌, ◌≢◌, ℕ, ◌+◌, ◌*◌, ◌^◌, ◌<◌, ◌≤◌, max, IsTrue, OnOk, IfOk, IsOkUnless, ◌↔◌};
 ghost use Rattle.rs_disk.specs.Content.{Content};
 ghost use Rattle.rs_disk.specs.Counts.{Counts};
 ghost use Rattle.rs_disk.specs.Crash.{Same};
@@ -37,6 +37,9 @@ pub fn recover<D: Disk>(disk: &mut D) -> Result<(), Refusal>
         → OnOk result ((D.seen disk.old).byte GATE ≡ OPEN → IsTold (D.seen disk.old)) }
     ensures damaged { IsTrue (D.is_honest disk.old) → OnDamaged result
         ((pages : Pages) → SaysCount pages → Recovers (D.seen disk.old) pages → ⊥) }
+    ensures closed { IsTrue (D.is_honest disk.old) → (D.seen disk.old).byte GATE ≢ OPEN
+        → D.seen disk.new ≡ D.seen disk.old }
+    ensures untouched { IsTrue (D.is_honest disk.old) → OnDamaged result (D.seen disk.new ≡ D.seen disk.old) }
     ensures honesty { D.is_honest disk.new ≡ D.is_honest disk.old }
     ensures keeping { D.keeps_crashes disk.new ≡ D.keeps_crashes disk.old }
     ensures count { CountsFaults result (D.failures disk.old) (D.failures disk.new) }
@@ -55,6 +58,9 @@ fn recover_synced<D: Disk>(disk: &mut D) -> Result<(), Refusal>
         → OnOk result ((D.seen disk.old).byte GATE ≡ OPEN → IsTold (D.seen disk.old)) }
     ensures damaged { IsTrue (D.is_honest disk.old) → OnDamaged result
         ((pages : Pages) → SaysCount pages → Recovers (D.seen disk.old) pages → ⊥) }
+    ensures closed { IsTrue (D.is_honest disk.old) → (D.seen disk.old).byte GATE ≢ OPEN
+        → D.seen disk.new ≡ D.seen disk.old }
+    ensures untouched { IsTrue (D.is_honest disk.old) → OnDamaged result (D.seen disk.new ≡ D.seen disk.old) }
     ensures honesty { D.is_honest disk.new ≡ D.is_honest disk.old }
     ensures keeping { D.keeps_crashes disk.new ≡ D.keeps_crashes disk.old }
     ensures count { CountsFaults result (D.failures disk.old) (D.failures disk.new) }
