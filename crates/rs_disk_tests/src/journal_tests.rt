@@ -13,23 +13,24 @@ use rs_refusal::Refusal;
 use std::alloc::Global;
 use std::test::Fail;
 
-/// Copies of pages 0, 2 and 3, all of one letter.
+/// Copies of so many of the pages 0, 2, 3 and so on, all of one letter.
 #[derive(Drop)]
 struct Letters {
+    count: u32,
     page: Page,
 }
 
 impl Copies for Letters {
     ghost use Rattle.std.specs.Prelude.{◌==◌, ◌+◌, slice_index, if◌then◌else◌};
 
-    ghost count = { λ _. 3 };
+    ghost count = { λ letters. letters.count };
 
     ghost number = { λ _ place. if place == 0 then 0 else place + 1 };
 
     ghost byte = { λ letters _ k. slice_index letters.page.bytes k };
 
     fn count(&self) -> u32 {
-        3
+        self.count
     }
 
     fn number(&self, place: u32) -> u32 {
@@ -42,8 +43,9 @@ impl Copies for Letters {
 }
 
 /// A checkpoint's copies of the letter `b`.
-fn pages_of_b() -> Letters {
+fn pages_of_b(count: u32) -> Letters {
     Letters {
+        count,
         page: Page {
             bytes: [b'b'; PAGE_SIZE],
         },
@@ -56,9 +58,9 @@ fn three_pages(alloc: Global, failing_call: u64) -> Result<RecordingDisk, Fail> 
     Ok(RecordingDisk::new(alloc, pages, failing_call, FailedCut::Done)?)
 }
 
-/// Takes a checkpoint as far as it goes, and cuts the file after its last stage.
-fn checkpoint(disk: &mut RecordingDisk, stage: &mut Stage) -> bool {
-    complete(disk, stage, 4, &pages_of_b()).is_ok() && cut(disk, 4).is_ok()
+/// Takes a checkpoint of so many copies as far as it goes, and cuts the file after its last stage.
+fn checkpoint(disk: &mut RecordingDisk, stage: &mut Stage, count: u32) -> bool {
+    complete(disk, stage, 4, &pages_of_b(count)).is_ok() && cut(disk, 4).is_ok()
 }
 
 /// Which pages a disk has: those kept, or the checkpoint's.
@@ -134,19 +136,32 @@ fn a_crash_in_a_checkpoint_leaves_either_pages(rt: HostRuntime) -> Result<(), Fa
     let alloc = rt.alloc();
     let mut disk = three_pages(alloc, 0)?;
     let mut stage = Stage::Fresh;
-    expect(checkpoint(&mut disk, &mut stage), "the checkpoint ends")?;
+    expect(checkpoint(&mut disk, &mut stage, 3), "the checkpoint ends")?;
     for unsynced in IMAGES {
         expect_either(alloc, &disk, unsynced)?;
     }
     expect(disk.calls().len() == 16, "sixteen calls")
 }
 
+#[test]
+fn a_checkpoint_of_no_page_changes_none(rt: HostRuntime) -> Result<(), Fail> {
+    let alloc = rt.alloc();
+    let mut disk = three_pages(alloc, 0)?;
+    let mut stage = Stage::Fresh;
+    expect(checkpoint(&mut disk, &mut stage, 0), "the checkpoint ends")?;
+    for moment in 0..=disk.calls().len() {
+        let found = recovered(alloc, &disk, moment, Unsynced::Filled)?;
+        expect(found == Found::Kept, "the pages kept")?;
+    }
+    Ok(())
+}
+
 /// A checkpoint of which the call with this number fails, taken up again.
 fn expect_resumed(alloc: Global, failing_call: u64) -> Result<(), Fail> {
     let mut disk = three_pages(alloc, failing_call)?;
     let mut stage = Stage::Fresh;
-    expect(!checkpoint(&mut disk, &mut stage), "a call fails")?;
-    expect(checkpoint(&mut disk, &mut stage), "the next one ends it")?;
+    expect(!checkpoint(&mut disk, &mut stage, 3), "a call fails")?;
+    expect(checkpoint(&mut disk, &mut stage, 3), "the next one ends it")?;
     expect_either(alloc, &disk, Unsynced::Filled)?;
     expect(stage == Stage::Fresh, "the first stage again")
 }
@@ -163,7 +178,7 @@ fn a_checkpoint_is_resumed_after_each_fault(rt: HostRuntime) -> Result<(), Fail>
 fn opened(alloc: Global) -> Result<Vec<u8>, Fail> {
     let mut disk = three_pages(alloc, 0)?;
     let mut stage = Stage::Fresh;
-    expect(checkpoint(&mut disk, &mut stage), "the checkpoint ends")?;
+    expect(checkpoint(&mut disk, &mut stage, 3), "the checkpoint ends")?;
     if disk.calls().len() < 8 {
         return Err(Fail::new(format_args!("too few calls")));
     }

@@ -1,4 +1,5 @@
-//! What no contract of a disk says: what the system does with a real file, its short and failing calls, and disks that fail once.
+//! What no contract of a disk says: what the system does with a real file, its short and failing calls, disks that fail once,
+//! and a checkpoint that is stopped after each of its calls.
 //!
 //! Everything here is for the tests alone.
 #![tactic(auto)]

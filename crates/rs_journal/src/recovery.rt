@@ -3,8 +3,7 @@
 //! It begins with a sync, after which a crash leaves what a read gives. It may be ended by a crash or a fault itself, and
 //! the next one gives the same pages.
 
-ghost use Rattle.std.specs.Prelude.{◌≡◌, ◌≢◌, ℕ, ◌+◌, ◌*◌, ◌^◌, ◌<◌, ◌≤◌, max, IsTrue, OnOk, IfOk, IsOkUnless, ◌↔◌};
-ghost use Rattle.rs_disk.specs.Content.{Content};
+ghost use Rattle.std.specs.Prelude.{◌≡◌, ◌≢◌, ◌+◌, ◌*◌, ◌^◌, ◌<◌, ◌≤◌, max, IsTrue, OnOk, IfOk, IsOkUnless, ◌↔◌};
 ghost use Rattle.rs_disk.specs.Counts.{Counts};
 ghost use Rattle.rs_disk.specs.Crash.{Same};
 ghost use Rattle.rs_page.specs.declared.page.TheConstants.{PAGE_SIZE};
