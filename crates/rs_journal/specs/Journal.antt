@@ -63,7 +63,7 @@ AreBelow bound count number = (k : ℕ) → k < count → number k < bound
 abbrev pub end_page : ℕ → ℕ → ℕ
 end_page first count = first + number_pages count + count
 
--- the numbers ascend and lie below the journal's first page, and its pages are among those that a disk counts
+-- the numbers are in order, none twice and none of a page of the journal or after it, and a disk can count its pages
 pub record IsWellFormed (journal : Journal) : Type 0 where
   pub ascending : Ascends journal.count journal.number
   pub below : AreBelow journal.first journal.count journal.number
@@ -103,8 +103,8 @@ pub record RecoversBy (image : Content) (pages : Pages) : Type 0 where
   pub tells : Tells image journal
   pub overlays : Overlays journal pages image
 
--- What an image gives: where the gate is open the journal's copies in the places of the home pages that they copy, and
--- nothing where the journal isn't well formed; where the gate is closed the home pages, whatever the journal holds.
+-- The pages of an image. With a closed gate they are its home pages. With an open one they are these too, but for the
+-- pages that the journal copies, which are its copies; where that journal isn't well formed there are none.
 pub record Recovers (image : Content) (pages : Pages) : Type 0 where
   pub opened : image.byte GATE ≡ 1 → RecoversBy image pages
   pub shut : image.byte GATE ≢ 1 → HasPages pages image

@@ -38,7 +38,8 @@ pub fn complete<D: Disk, C: Copies>(
         (GivesFrom stage.old kept checkpoint) result stage.new disk.old disk.new }
     ensures since { (kept checkpoint : Pages) → Makes (journal_of C.Copies first copies.now) kept checkpoint
         → Stands D.Disk (StageImage stage.old kept (journal_of C.Copies first copies.now) checkpoint) disk.old
-        → IsTrue (D.keeps_crashes disk.old) → (image : Content) → D.left_since disk.old disk.new image → GivesFrom stage.old kept checkpoint image }
+        → IsTrue (D.keeps_crashes disk.old) → (image : Content) → D.left_since disk.old disk.new image
+        → GivesFrom stage.old kept checkpoint image }
     ensures untouched { (kept checkpoint : Pages) → Makes (journal_of C.Copies first copies.now) kept checkpoint
         → Stands D.Disk (StageImage stage.old kept (journal_of C.Copies first copies.now) checkpoint) disk.old
         → OnErr result (stage.new ≡ Fresh → Meanwhile D.Disk (λ image. Recovers image kept) disk.old disk.new) }

@@ -24,7 +24,7 @@ use rs_disk::Disk;
 use rs_page::{PAGE_SIZE, Page};
 use rs_refusal::Refusal;
 
-/// Gives the disk back what a crash has left undone of a checkpoint. It begins with a sync.
+/// Ends the checkpoint that a crash may have cut short. It begins with a sync.
 ///
 /// Where the gate is open, the journal's copies are brought home and the gate is closed; a journal that isn't well formed
 /// is refused (94). Where it is closed, nothing is written.
@@ -138,7 +138,7 @@ fn is_inside<D: Disk>(disk: &D, first: u32, count: u32) -> bool
     end <= u64::from(disk.pages())
 }
 
-/// Looks whether the numbers of a journal ascend and lie below its first page (94).
+/// Looks whether the numbers of a journal are in order, none twice, and of pages before it (94).
 fn check_numbers<D: Disk>(disk: &mut D, first: u32, count: u32) -> Result<(), Refusal>
     ensures sound { IsTrue (D.is_honest disk.old) → OnOk result
         (Ascends count (number_in (D.seen disk.old) first) × AreBelow first count (number_in (D.seen disk.old) first)) }
