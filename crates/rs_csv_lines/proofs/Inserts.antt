@@ -1,0 +1,111 @@
+-- The line that is put together is a session's, and says the INSERT of its record.
+use Rattle.std.proofs.Common.{◌≡◌, ◌∙◌, ℕ, ◌<◌, ◌≤◌, List, [], ◌∷◌, ◌++◌, length, Some, Ok, refl, sym, ap, subst, append_assoc, le-leb, arith}
+use Rattle.std.specs.Prelude.{codes, IsUtf8}
+use Rattle.rs_grammar.specs.declared.kind.TokenKind.TheVariants as kinds
+use Rattle.rs_grammar.specs.declared.kind.TheConstants.{NAME_BYTES}
+use Rattle.rs_lexer.specs.Lexis.{token_kind, word_kind}
+use Rattle.rs_lexer.proofs.CutLaws.{cut_inside}
+use Rattle.rs_methods.specs.PositionText.{IsWord}
+use Rattle.rs_value.specs.declared.column.ColumnType.{ColumnType}
+use Rattle.rs_value.specs.declared.column.ColumnType.TheVariants as types
+use Rattle.rs_value.specs.Row.{Datum, Row}
+use Rattle.rs_syntax.specs.Sound.{IsName}
+use Rattle.rs_syntax.specs.Tree.{EventLocationTree, along, at_point, CommandTree, insert}
+use Rattle.rs_syntax.specs.Verdict.{Reads}
+use Rattle.rs_machine.specs.declared.limits.TheConstants.{LINE_BYTES}
+use Rattle.rs_machine.specs.Request.{without_return, Asks, command}
+use Rattle.rs_csv_lines.specs.declared.plan.Column.{Column}
+use Rattle.rs_csv_lines.specs.declared.plan.Place.{Place}
+use Rattle.rs_csv_lines.specs.declared.plan.Place.TheVariants as places
+use Rattle.rs_csv_lines.specs.declared.plan.Plan.{Plan}
+use Rattle.rs_csv_lines.specs.Fields.{content, SaysName, TellsDatum}
+use Rattle.rs_csv_lines.specs.Texts.{session_text, PutsDatum}
+use Rattle.rs_csv_lines.specs.Inserts.{TellsRoute, TellsPlace, TellsRow, IsInsertOf, PutsPlace, PutsFurther, PutsRow, insert_line}
+use Rattle.rs_csv_lines.proofs.Clean.{is_clean_text, line_clean, route_clean}
+use Rattle.rs_csv_lines.proofs.Sessions.{session_begins, session_asks, no_return}
+use Rattle.rs_csv_lines.proofs.Lines.{line_reads}
+
+-- a name is a token by itself
+name_kind : (text name : List ℕ) → SaysName text name → token_kind name ≡ Some kinds.Name
+name_kind text name says =
+    ap token_kind says.is ∙ (cut_inside text says.cut 0 says.token (omega arith)).kind ∙ ap (λ k. Some k) says.kind
+
+name_word : (name : List ℕ) → IsName name → word_kind name ≡ kinds.Name
+unfolding word_kind
+name_word name is = let free = is.not_reserved in rw (free, le-leb (length name) NAME_BYTES is.short) refl
+
+kind_of_word : (name : List ℕ) → IsWord name → word_kind name ≡ kinds.Name → token_kind name ≡ Some kinds.Name
+unfolding token_kind
+kind_of_word [] word is = absurd word
+kind_of_word (letter ∷ bytes) word is = rw (word.0, word.1, is) refl
+
+pub kind_of_name : (name : List ℕ) → IsName name → token_kind name ≡ Some kinds.Name
+kind_of_name name is = kind_of_word name is.word (name_word name is)
+
+-- what is put says what is told
+datum_told : (type : ColumnType) (field : List ℕ) (datum : Datum) (bytes : List ℕ) → PutsDatum type field datum bytes → TellsDatum type field datum
+datum_told types.Int [] datum bytes puts = puts.0
+datum_told (types.Text most) [] datum bytes puts = puts.0
+datum_told types.Int (byte ∷ rest) datum bytes puts = (puts.0, puts.1, puts.2, puts.3)
+datum_told (types.Text most) (byte ∷ rest) datum bytes puts = puts.0
+
+module _ (fields : List (List ℕ)) where
+  place_told : (plan : Place) (location : EventLocationTree) (bytes : List ℕ) → PutsPlace fields plan location bytes → TellsPlace fields plan location
+  place_told (places.Along from to) (along first second) bytes puts =
+      let one = puts.2 in
+      let other = puts.3 in
+      ((one.0, one.1, one.2, (one.3.0, one.3.1)), (other.0, other.1, other.2, (other.3.0, other.3.1)))
+  place_told (places.At at) (at_point position) bytes puts = let one = puts.1 in (one.0, one.1, one.2, (one.3.0, one.3.1))
+  place_told (places.Along from to) (at_point position) bytes puts = elim puts [ ]
+  place_told (places.At at) (along first second) bytes puts = elim puts [ ]
+
+  further_told : (columns : List Column) (row : Row) (bytes : List ℕ) → PutsFurther fields columns row bytes → TellsRow fields columns row
+  further_told [] [] bytes puts = tt
+  further_told (column ∷ columns) (datum ∷ row) bytes puts =
+      let one = puts.2 in
+      ((one.0, one.1, one.2, datum_told column.column_type one.0 datum puts.0 one.3), further_told columns row puts.1 puts.3)
+  further_told [] (datum ∷ row) bytes puts = elim puts [ ]
+  further_told (column ∷ columns) [] bytes puts = elim puts [ ]
+
+  row_told : (columns : List Column) (row : Row) (bytes : List ℕ) → PutsRow fields columns row bytes → TellsRow fields columns row
+  row_told (column ∷ columns) (datum ∷ row) bytes puts =
+      let one = puts.2 in
+      ((one.0, one.1, one.2, datum_told column.column_type one.0 datum puts.0 one.3), further_told columns row puts.1 puts.3)
+  row_told [] row bytes puts = elim puts [ ]
+  row_told (column ∷ columns) [] bytes puts = elim puts [ ]
+
+-- the INSERT of a record, and the line that asks it
+abbrev pub AsksInsert : Plan → List (List ℕ) → List ℕ → Type 0
+AsksInsert plan fields line = (tree : CommandTree) × IsInsertOf plan fields tree × Asks line (command plan.session tree)
+
+ends_plain : (session : ℕ) (table route place_bytes values : List ℕ) → without_return (insert_line session table route place_bytes values) ≡ insert_line session table route place_bytes values
+ends_plain session table route place_bytes values =
+    let front : List ℕ = session_text session ++ (codes " INSERT INTO " ++ (table ++ (codes " ON " ++ (route ++ (place_bytes ++ (codes " VALUES (" ++ values)))))) in
+    let whole : front ++ codes ")" ≡ insert_line session table route place_bytes values =
+    append_assoc (session_text session) (codes " INSERT INTO " ++ (table ++ (codes " ON " ++ (route ++ (place_bytes ++ (codes " VALUES (" ++ values)))))) (codes ")")
+    ∙ ap (λ bs. session_text session ++ (codes " INSERT INTO " ++ bs))
+    (append_assoc table (codes " ON " ++ (route ++ (place_bytes ++ (codes " VALUES (" ++ values)))) (codes ")")
+    ∙ ap (λ bs. table ++ (codes " ON " ++ bs))
+    (append_assoc route (place_bytes ++ (codes " VALUES (" ++ values)) (codes ")")
+    ∙ ap (λ bs. route ++ bs) (append_assoc place_bytes (codes " VALUES (" ++ values) (codes ")")))) in
+    subst (λ bs. without_return bs ≡ bs) whole (no_return front 41 refl)
+
+pub line_asks : (plan : Plan) (fields : List (List ℕ)) (line route place_bytes values : List ℕ) (location : EventLocationTree) (row : Row)
+    → plan.session < 64 → IsName plan.table.bytes → IsUtf8 line → length line ≤ LINE_BYTES
+    → TellsRoute fields plan.route route → PutsPlace fields plan.place location place_bytes → PutsRow fields plan.columns.items row values
+    → line ≡ insert_line plan.session plan.table.bytes route place_bytes values → AsksInsert plan fields line
+line_asks plan fields line route place_bytes values location row few named utf8 short puts_route puts_place puts_row is =
+    let table = plan.table.bytes in
+    let whole = insert_line plan.session table route place_bytes values in
+    let tree = insert table route location row in
+    let table_is : token_kind table ≡ Some kinds.Name = kind_of_name table named in
+    let reads : Reads whole (length (session_text plan.session)) (Ok tree) =
+    line_reads plan.session table route place_bytes values fields plan.place location plan.columns.items row table_is (name_kind (content puts_route.0) route puts_route.3) puts_place puts_row in
+    let text = is_clean_text whole (subst IsUtf8 is utf8)
+    (line_clean fields plan.session table route place_bytes values plan.place location plan.columns.items row few named.word (route_clean (content puts_route.0) route puts_route.2 puts_route.3) puts_place puts_row) in (
+      tree,
+      record { route = route; place = location; row = row; route_told = puts_route; place_told = place_told fields plan.place location place_bytes puts_place; row_told = row_told fields plan.columns.items row values puts_row; is = refl },
+      subst (λ l. Asks l (command plan.session tree)) (sym is)
+          (session_asks whole plan.session (length (session_text plan.session)) tree (subst (λ l. length l ≤ LINE_BYTES) is short) text (ends_plain plan.session table route place_bytes values)
+          (session_begins plan.session _ few) reads),
+    )

@@ -1,0 +1,12 @@
+pub mod Cuts
+pub mod Lexemes
+pub mod Readings
+pub mod Positions
+pub mod Values
+pub mod Sessions
+pub mod Lines
+pub mod Clean
+pub mod Inserts
+mod QuotesDoubled
+mod Spelled
+mod Putting

@@ -1,0 +1,204 @@
+-- The text that is put for a position says it wherever it stands in a line.
+use Rattle.std.proofs.Common.{◌≡◌, ◌∙◌, ℕ, ◌+◌, true, List, [], ◌∷◌, ◌++◌, length, drop, map, Some, refl, sym, ap, subst, append_assoc, length-append, arith}
+use Rattle.std.specs.Prelude.{codes}
+use Rattle.rs_grammar.specs.declared.kind.TokenKind.{TokenKind}
+use Rattle.rs_grammar.specs.declared.kind.TokenKind.TheVariants as kinds
+use Rattle.rs_grammar.specs.Grammar as grammar
+use Rattle.rs_grammar.specs.Grammar.{rules, Derives, is_shallow}
+use Rattle.rs_lexer.specs.declared.token.Token.{Token}
+use Rattle.rs_lexer.specs.Lexis.{kinds_of, token_kind, token_text, IsTokenOf, AreTokensFrom}
+use Rattle.rs_lexer.proofs.CutLaws.{cut_inside}
+use Rattle.rs_measure.specs.Measure.{SaysMeasure}
+use Rattle.rs_measure.specs.Part.{SaysPart}
+use Rattle.rs_methods.specs.Position.{PositionExpression, beyond, before}
+use Rattle.rs_syntax.specs.declared.written.WrittenPosition.{WrittenPosition}
+use Rattle.rs_syntax.specs.declared.written.WrittenPosition.TheVariants as written_positions
+use Rattle.rs_syntax.specs.Written.{mark, told, has_text, lexemes_of, position_lexemes, AreToldOf, SaysPosition}
+use Rattle.rs_syntax.proofs.VerdictLaws.{told_of}
+use Rattle.rs_csv_lines.specs.Fields.{SpellsPosition}
+use Rattle.rs_csv_lines.specs.Texts.{position_text}
+use Rattle.rs_csv_lines.proofs.Cuts.{Stops, Ends, stops, token_here, text_here, after_here, cut_here, at_sign_kind, at_sign_stops, plus_kind, plus_stops, minus_kind, minus_stops, percent_kind, percent_stops, plus, minus, percent}
+use Rattle.rs_csv_lines.proofs.Lexemes.{lexeme_kind, kinds_spelled, have_texts, told_piece, flat, flat_told}
+use Rattle.rs_csv_lines.proofs.Readings.{before_others}
+
+-- The tokens of a line from one place up to another are a position: however the line is cut from there on, its cut has
+-- them before.
+pub record PositionStands (line : List ℕ) (first last : ℕ) (position : PositionExpression) : Type 0 where
+  pub tokens : List Token
+  pub cut : (rest : List Token) → AreTokensFrom line last rest → AreTokensFrom line first (tokens ++ rest)
+  pub derived : (others : List TokenKind) → Derives (rules grammar.position) (kinds_of tokens ++ others) others
+  pub shallow : (others : List TokenKind) → is_shallow 0 others ≡ true → is_shallow 0 (kinds_of tokens ++ others) ≡ true
+  pub written : WrittenPosition
+  pub spelled : lexemes_of tokens ≡ position_lexemes written
+  pub says : SaysPosition line written position
+
+-- the tokens of the field that are told
+pub told_in : (field : List ℕ) (written : WrittenPosition) (position : PositionExpression) → SpellsPosition field written position → AreToldOf field (position_lexemes written)
+told_in field written position spells = subst (AreToldOf field) spells.spelled (told_of field spells.tokens (cut_inside field spells.cut))
+
+module _ (line : List ℕ) (place : ℕ) (field rest : List ℕ) (ends : Ends rest) where
+  -- the kinds in the field, and so in the line
+  derived_as : (written : WrittenPosition) (position : PositionExpression) (ks : List TokenKind) → SpellsPosition field written position → map lexeme_kind (position_lexemes written) ≡ ks
+      → (others : List TokenKind) → Derives (rules grammar.position) (ks ++ others) others
+  derived_as written position ks spells same others =
+      subst (λ ts. Derives (rules grammar.position) (ts ++ others) others) (kinds_spelled spells.tokens (position_lexemes written) spells.spelled ∙ same) (before_others spells.derived others)
+
+  measure_stands : (token : Token) (position : PositionExpression) → SpellsPosition field (written_positions.Measure token) position → drop place line ≡ token_text field token ++ rest
+      → PositionStands line place (place + length (token_text field token)) position
+  measure_stands token position spells at =
+      let text = token_text field token in
+      let is : IsTokenOf field token = (told_in field (written_positions.Measure token) position spells).0.0 in
+      let here = token_here place text token.kind in
+      let has : has_text token.kind ≡ true = (have_texts spells.tokens (position_lexemes (written_positions.Measure token)) spells.spelled).0 in
+      let same = text_here line place text rest token.kind at in
+      let says = spells.says in
+      record {
+        tokens = here ∷ [];
+        cut = λ tokens cut. cut_here line place text rest token.kind at is.kind (stops text rest token.kind is.kind ends) tokens cut;
+        derived = derived_as (written_positions.Measure token) position (token.kind ∷ []) spells refl;
+        shallow = λ others shallow. flat_told token.kind 0 others has (omega arith) shallow;
+        written = written_positions.Measure here;
+        spelled = ap (λ lexeme. lexeme ∷ []) (told_piece here has);
+        says = (says.0, subst (λ t. SaysMeasure t says.0) (sym same) says.1, says.2);
+      }
+
+  percentage_stands : (token : Token) (position : PositionExpression) → SpellsPosition field (written_positions.Percentage token) position → drop place line ≡ (token_text field token ++ codes "%") ++ rest
+      → PositionStands line place (place + length (token_text field token ++ codes "%")) position
+  percentage_stands token position spells at =
+      let text = token_text field token in
+      let is : IsTokenOf field token = (told_in field (written_positions.Percentage token) position spells).0.0 in
+      let here = token_here place text token.kind in
+      let has : has_text token.kind ≡ true = (have_texts spells.tokens (position_lexemes (written_positions.Percentage token)) spells.spelled).0 in
+      let first : drop place line ≡ text ++ (37 ∷ rest) = at ∙ append_assoc text (codes "%") rest in
+      let second : drop (place + length text) line ≡ codes "%" ++ rest = after_here line place text (37 ∷ rest) first in
+      let end : place + length text + 1 ≡ place + length (text ++ codes "%") = omega (arith, length-append text (codes "%")) in
+      let same = text_here line place text (37 ∷ rest) token.kind first in
+      let says = spells.says in
+      record {
+        tokens = here ∷ token_here (place + length text) (codes "%") kinds.PercentSign ∷ [];
+        cut = λ tokens cut. cut_here line place text (37 ∷ rest) token.kind first is.kind (stops text (37 ∷ rest) token.kind is.kind percent) _
+            (cut_here line (place + length text) (codes "%") rest kinds.PercentSign second percent_kind (percent_stops rest) tokens (subst (λ n. AreTokensFrom line n tokens) (sym end) cut));
+        derived = derived_as (written_positions.Percentage token) position (token.kind ∷ kinds.PercentSign ∷ []) spells refl;
+        shallow = λ others shallow. flat_told token.kind 0 (kinds.PercentSign ∷ others) has (omega arith) (flat kinds.PercentSign 0 others refl (omega arith) shallow);
+        written = written_positions.Percentage here;
+        spelled = ap (λ lexeme. lexeme ∷ mark kinds.PercentSign ∷ []) (told_piece here has);
+        says = (says.0, subst (λ t. SaysPart t says.0) (sym same) says.1, says.2);
+      }
+
+  referent_stands : (name : Token) (position : PositionExpression) → SpellsPosition field (written_positions.Referent name) position → drop place line ≡ (codes "@" ++ token_text field name) ++ rest
+      → PositionStands line place (place + length (codes "@" ++ token_text field name)) position
+  referent_stands name position spells at =
+      let text = token_text field name in
+      let told_name = (told_in field (written_positions.Referent name) position spells).1.0 in
+      let is : token_kind text ≡ Some kinds.Name = told_name.0.kind ∙ ap (λ k. Some k) told_name.1 in
+      let here = token_here (place + 1) text kinds.Name in
+      let second : drop (place + 1) line ≡ text ++ rest = after_here line place (codes "@") (text ++ rest) at in
+      let end : place + 1 + length text ≡ place + length (codes "@" ++ text) = omega arith in
+      let same = text_here line (place + 1) text rest kinds.Name second in
+      record {
+        tokens = token_here place (codes "@") kinds.AtSign ∷ here ∷ [];
+        cut = λ tokens cut. cut_here line place (codes "@") (text ++ rest) kinds.AtSign at at_sign_kind (at_sign_stops (text ++ rest)) _
+            (cut_here line (place + 1) text rest kinds.Name second is (stops text rest kinds.Name is ends) tokens (subst (λ n. AreTokensFrom line n tokens) (sym end) cut));
+        derived = derived_as (written_positions.Referent name) position (kinds.AtSign ∷ kinds.Name ∷ []) spells refl;
+        shallow = λ others shallow. flat kinds.AtSign 0 (kinds.Name ∷ others) refl (omega arith) (flat kinds.Name 0 others refl (omega arith) shallow);
+        written = written_positions.Referent here;
+        spelled = refl;
+        says = spells.says ∙ ap (λ n. beyond n 0) (sym same);
+      }
+
+  -- `@`, a name, a sign and a measure
+  abbrev name_token : Token → Token
+  name_token name = token_here (place + 1) (token_text field name) kinds.Name
+
+  abbrev sign_token : ℕ → TokenKind → Token → Token
+  sign_token sign sign_kind name = token_here (place + 1 + length (token_text field name)) (sign ∷ []) sign_kind
+
+  abbrev measure_token : Token → Token → Token
+  measure_token name measure = token_here (place + 1 + length (token_text field name) + 1) (token_text field measure) measure.kind
+
+  abbrev signed_tokens : ℕ → TokenKind → Token → Token → List Token
+  signed_tokens sign sign_kind name measure = token_here place (codes "@") kinds.AtSign ∷ name_token name ∷ sign_token sign sign_kind name ∷ measure_token name measure ∷ []
+
+  record SignedStands (sign : ℕ) (sign_kind : TokenKind) (name measure : Token) : Type 0 where
+    cut : (tokens : List Token) → AreTokensFrom line (place + length (codes "@" ++ token_text field name ++ (sign ∷ []) ++ token_text field measure)) tokens
+        → AreTokensFrom line place (signed_tokens sign sign_kind name measure ++ tokens)
+    named : token_text line (name_token name) ≡ token_text field name
+    measured : token_text line (measure_token name measure) ≡ token_text field measure
+
+  signed_stands : (sign : ℕ) (sign_kind : TokenKind) (name measure : Token) → IsTokenOf field name × (name.kind ≡ kinds.Name) → IsTokenOf field measure
+      → token_kind (sign ∷ []) ≡ Some sign_kind → ((more : List ℕ) → Stops (sign ∷ []) more) → Ends (sign ∷ [])
+      → drop place line ≡ (codes "@" ++ token_text field name ++ (sign ∷ []) ++ token_text field measure) ++ rest → SignedStands sign sign_kind name measure
+  signed_stands sign sign_kind name measure told_name is sign_is sign_stops separates at =
+      let text = token_text field name in
+      let number = token_text field measure in
+      let named : token_kind text ≡ Some kinds.Name = told_name.0.kind ∙ ap (λ k. Some k) told_name.1 in
+      let whole : drop place line ≡ codes "@" ++ (text ++ (sign ∷ (number ++ rest))) =
+      at ∙ append_assoc (codes "@" ++ text ++ (sign ∷ [])) number rest ∙ append_assoc (codes "@" ++ text) (sign ∷ []) (number ++ rest) in
+      let second : drop (place + 1) line ≡ text ++ (sign ∷ (number ++ rest)) = after_here line place (codes "@") (text ++ (sign ∷ (number ++ rest))) whole in
+      let third : drop (place + 1 + length text) line ≡ (sign ∷ []) ++ (number ++ rest) = after_here line (place + 1) text (sign ∷ (number ++ rest)) second in
+      let fourth : drop (place + 1 + length text + 1) line ≡ number ++ rest = after_here line (place + 1 + length text) (sign ∷ []) (number ++ rest) third in
+      let bytes = codes "@" ++ text ++ (sign ∷ []) ++ number in
+      let end : place + 1 + length text + 1 + length number ≡ place + length bytes =
+      omega (arith, length-append (codes "@" ++ text ++ (sign ∷ [])) number, length-append (codes "@" ++ text) (sign ∷ [])) in
+      record {
+        cut = λ tokens cut.
+            cut_here line place (codes "@") (text ++ (sign ∷ (number ++ rest))) kinds.AtSign whole at_sign_kind (at_sign_stops (text ++ (sign ∷ (number ++ rest)))) _
+            (cut_here line (place + 1) text (sign ∷ (number ++ rest)) kinds.Name second named (stops text (sign ∷ (number ++ rest)) kinds.Name named separates) _
+            (cut_here line (place + 1 + length text) (sign ∷ []) (number ++ rest) sign_kind third sign_is (sign_stops (number ++ rest)) _
+            (cut_here line (place + 1 + length text + 1) number rest measure.kind fourth is.kind (stops number rest measure.kind is.kind ends) tokens
+            (subst (λ n. AreTokensFrom line n tokens) (sym end) cut))));
+        named = text_here line (place + 1) text (sign ∷ (number ++ rest)) kinds.Name second;
+        measured = text_here line (place + 1 + length text + 1) number rest measure.kind fourth;
+      }
+
+  signed_shallow : (sign_kind : TokenKind) (measure : Token) (others : List TokenKind) → ((more : List TokenKind) → is_shallow 0 more ≡ true → is_shallow 0 (sign_kind ∷ more) ≡ true)
+      → has_text measure.kind ≡ true → is_shallow 0 others ≡ true → is_shallow 0 (kinds.AtSign ∷ kinds.Name ∷ sign_kind ∷ measure.kind ∷ others) ≡ true
+  signed_shallow sign_kind measure others signs has shallow =
+      flat kinds.AtSign 0 (kinds.Name ∷ sign_kind ∷ measure.kind ∷ others) refl (omega arith)
+      (flat kinds.Name 0 (sign_kind ∷ measure.kind ∷ others) refl (omega arith)
+      (signs (measure.kind ∷ others) (flat_told measure.kind 0 others has (omega arith) shallow)))
+
+  beyond_stands : (name measure : Token) (position : PositionExpression) → SpellsPosition field (written_positions.Beyond name measure) position
+      → drop place line ≡ position_text field (written_positions.Beyond name measure) ++ rest
+      → PositionStands line place (place + length (position_text field (written_positions.Beyond name measure))) position
+  beyond_stands name measure position spells at =
+      let told_all = told_in field (written_positions.Beyond name measure) position spells in
+      let has : has_text measure.kind ≡ true = (have_texts spells.tokens (position_lexemes (written_positions.Beyond name measure)) spells.spelled).1.0 in
+      let parts = signed_stands 43 kinds.PlusSign name measure told_all.1.0 told_all.1.1.1.0.0 plus_kind plus_stops plus at in
+      let says = spells.says in
+      record {
+        tokens = signed_tokens 43 kinds.PlusSign name measure;
+        cut = parts.cut;
+        derived = derived_as (written_positions.Beyond name measure) position (kinds.AtSign ∷ kinds.Name ∷ kinds.PlusSign ∷ measure.kind ∷ []) spells refl;
+        shallow = λ others shallow. signed_shallow kinds.PlusSign measure others (λ more s. flat kinds.PlusSign 0 more refl (omega arith) s) has shallow;
+        written = written_positions.Beyond (name_token name) (measure_token name measure);
+        spelled = ap (λ lexeme. mark kinds.AtSign ∷ told kinds.Name (name_token name) ∷ mark kinds.PlusSign ∷ lexeme ∷ []) (told_piece (measure_token name measure) has);
+        says = (says.0, subst (λ t. SaysMeasure t says.0) (sym parts.measured) says.1, says.2 ∙ ap (λ n. beyond n says.0) (sym parts.named));
+      }
+
+  before_stands : (name measure : Token) (position : PositionExpression) → SpellsPosition field (written_positions.Before name measure) position
+      → drop place line ≡ position_text field (written_positions.Before name measure) ++ rest
+      → PositionStands line place (place + length (position_text field (written_positions.Before name measure))) position
+  before_stands name measure position spells at =
+      let told_all = told_in field (written_positions.Before name measure) position spells in
+      let has : has_text measure.kind ≡ true = (have_texts spells.tokens (position_lexemes (written_positions.Before name measure)) spells.spelled).1.0 in
+      let parts = signed_stands 45 kinds.MinusSign name measure told_all.1.0 told_all.1.1.1.0.0 minus_kind minus_stops minus at in
+      let says = spells.says in
+      record {
+        tokens = signed_tokens 45 kinds.MinusSign name measure;
+        cut = parts.cut;
+        derived = derived_as (written_positions.Before name measure) position (kinds.AtSign ∷ kinds.Name ∷ kinds.MinusSign ∷ measure.kind ∷ []) spells refl;
+        shallow = λ others shallow. signed_shallow kinds.MinusSign measure others (λ more s. flat kinds.MinusSign 0 more refl (omega arith) s) has shallow;
+        written = written_positions.Before (name_token name) (measure_token name measure);
+        spelled = ap (λ lexeme. mark kinds.AtSign ∷ told kinds.Name (name_token name) ∷ mark kinds.MinusSign ∷ lexeme ∷ []) (told_piece (measure_token name measure) has);
+        says = (says.0, subst (λ t. SaysMeasure t says.0) (sym parts.measured) says.1, says.2 ∙ ap (λ n. before n says.0) (sym parts.named));
+      }
+
+  -- what a field says, the line says where the text stands that is put for it
+  pub position_stands : (written : WrittenPosition) (position : PositionExpression) → SpellsPosition field written position → drop place line ≡ position_text field written ++ rest
+      → PositionStands line place (place + length (position_text field written)) position
+  position_stands (written_positions.Measure token) position spells at = measure_stands token position spells at
+  position_stands (written_positions.Percentage token) position spells at = percentage_stands token position spells at
+  position_stands (written_positions.Referent name) position spells at = referent_stands name position spells at
+  position_stands (written_positions.Beyond name measure) position spells at = beyond_stands name measure position spells at
+  position_stands (written_positions.Before name measure) position spells at = before_stands name measure position spells at

@@ -1,0 +1,115 @@
+-- What was put into a line, part by part.
+use Rattle.std.proofs.Common.{◌≡◌, ◌∙◌, ℕ, Bool, true, false, List, [], ◌∷◌, ◌++◌, refl, sym, ap, subst, append_assoc, append-nil, length, arith}
+use Rattle.std.specs.Prelude.{◌↔◌, codes}
+use Rattle.std.proofs.lemmas.Bool.{false≢true}
+use Rattle.rs_lexer.specs.declared.token.Token.{Token}
+use Rattle.rs_lexer.specs.Lexis.{token_text}
+use Rattle.rs_measure.specs.FixedPoint.{number_of_digits}
+use Rattle.rs_methods.specs.Position.{PositionExpression}
+use Rattle.rs_value.specs.declared.column.ColumnType.{ColumnType}
+use Rattle.rs_value.specs.declared.column.ColumnType.TheVariants as types
+use Rattle.rs_value.specs.Row.{Datum, Row, number, text}
+use Rattle.rs_value.specs.Text.{datum_text}
+use Rattle.rs_syntax.specs.Tree.{along, at_point}
+use Rattle.rs_syntax.specs.Written.{signed}
+use Rattle.rs_csv_lines.specs.declared.plan.Column.{Column}
+use Rattle.rs_csv_lines.specs.declared.plan.Place.{Place}
+use Rattle.rs_csv_lines.specs.declared.plan.Place.TheVariants as places
+use Rattle.rs_csv_lines.specs.Fields.{content, SpellsNumber}
+use Rattle.rs_csv_lines.specs.Texts.{session_text, number_text, PutsDatum}
+use Rattle.rs_csv_lines.specs.Inserts.{Field, PutsPositionAt, PutsPlace, PutsFurther, PutsRow, insert_line}
+
+-- the text of a field, and whether it has nothing
+abbrev pub HasText : List ℕ → Bool → List ℕ → Type 0
+HasText bytes is_empty field = (bytes ≡ content field) × ((is_empty ≡ true) ↔ (field ≡ []))
+
+-- a field that has something
+filled : (bytes : List ℕ) (is_empty : Bool) (field : List ℕ) (Puts : List ℕ → Type 0) → HasText bytes is_empty field → is_empty ≡ false → ((byte : ℕ) (rest : List ℕ) → bytes ≡ content (byte ∷ rest) → Puts (byte ∷ rest)) → Puts field
+filled bytes is_empty [] Puts has other each = absurd (false≢true (sym other ∙ has.1.1 refl))
+filled bytes is_empty (byte ∷ rest) Puts has other each = each byte rest has.0
+
+pub puts_number : (fields : List (List ℕ)) (i : ℕ) (type : ColumnType) (bytes : List ℕ) (is_empty is_negative : Bool) (digits : Token) → Field fields i (HasText bytes is_empty) → is_empty ≡ false → type ≡ types.Int → SpellsNumber bytes is_negative digits
+    → Field fields i (λ field. PutsDatum type field (number (signed is_negative (number_of_digits (token_text bytes digits)))) (number_text bytes is_negative digits))
+puts_number fields i type bytes is_empty is_negative digits found other is spells = (
+  found.0,
+  found.1,
+  found.2,
+  subst (λ t. PutsDatum t found.0 (number (signed is_negative (number_of_digits (token_text bytes digits)))) (number_text bytes is_negative digits)) (sym is)
+      (filled bytes is_empty found.0 (λ field. PutsDatum types.Int field (number (signed is_negative (number_of_digits (token_text bytes digits)))) (number_text bytes is_negative digits)) found.3 other
+      (λ byte rest same. (is_negative, digits, subst (λ bs. SpellsNumber bs is_negative digits) same spells, ap (λ bs. number (signed is_negative (number_of_digits (token_text bs digits)))) same, ap (λ bs. number_text bs is_negative digits) same))),
+)
+
+pub puts_text : (fields : List (List ℕ)) (i most : ℕ) (type : ColumnType) (bytes : List ℕ) (is_empty : Bool) → Field fields i (HasText bytes is_empty) → is_empty ≡ false → type ≡ types.Text most
+    → Field fields i (λ field. PutsDatum type field (text bytes) (datum_text (text bytes)))
+puts_text fields i most type bytes is_empty found other is = (
+  found.0,
+  found.1,
+  found.2,
+  subst (λ t. PutsDatum t found.0 (text bytes) (datum_text (text bytes))) (sym is)
+      (filled bytes is_empty found.0 (λ field. PutsDatum (types.Text most) field (text bytes) (datum_text (text bytes))) found.3 other (λ byte rest same. (ap text same, ap (λ bs. datum_text (text bs)) same))),
+)
+
+pub two_more : (old first last a b : List ℕ) → first ≡ old ++ a → last ≡ first ++ b → last ≡ old ++ (a ++ b)
+two_more old first last a b p q = q ∙ ap (λ bs. bs ++ b) p ∙ append_assoc old a b
+
+pub four_more : (old l1 l2 l3 l4 a b c d : List ℕ) → l1 ≡ old ++ a → l2 ≡ l1 ++ b → l3 ≡ l2 ++ c → l4 ≡ l3 ++ d → l4 ≡ old ++ (a ++ b ++ c ++ d)
+four_more old l1 l2 l3 l4 a b c d p q r s = two_more old l3 l4 (a ++ b ++ c) d (two_more old l2 l3 (a ++ b) c (two_more old l1 l2 a b p q) r) s
+
+pub puts_along : (fields : List (List ℕ)) (place : Place) (from to : ℕ) (first second : PositionExpression) (one other : List ℕ) → place ≡ places.Along from to → PutsPositionAt fields from first one → PutsPositionAt fields to second other
+    → PutsPlace fields place (along first second) (codes " FROM " ++ one ++ codes " TO " ++ other)
+puts_along fields place from to first second one other is p q = subst (λ pl. PutsPlace fields pl (along first second) (codes " FROM " ++ one ++ codes " TO " ++ other)) (sym is) (one, other, p, q, refl)
+
+pub puts_at : (fields : List (List ℕ)) (place : Place) (at : ℕ) (position : PositionExpression) (one : List ℕ) → place ≡ places.At at → PutsPositionAt fields at position one → PutsPlace fields place (at_point position) (codes " AT " ++ one)
+puts_at fields place at position one is p = subst (λ pl. PutsPlace fields pl (at_point position) (codes " AT " ++ one)) (sym is) (one, p, refl)
+
+-- ---- a row
+
+pub no_column : (columns : List Column) → length columns ≡ 0 → columns ≡ []
+no_column [] none = refl
+no_column (column ∷ columns) none = absurd (omega arith)
+
+pub none_further : (fields : List (List ℕ)) (columns : List Column) (before : List ℕ) → columns ≡ [] → (row : Row) × (bytes : List ℕ) × PutsFurther fields columns row bytes × (before ≡ before ++ bytes)
+none_further fields columns before is = ([], [], subst (λ cs. PutsFurther fields cs [] []) (sym is) refl, sym (append-nil before))
+
+-- a value after a comma, and those after it
+abbrev pub Further : List (List ℕ) → List Column → List ℕ → List ℕ → Type 0
+Further fields columns before after = (row : Row) × (bytes : List ℕ) × PutsFurther fields columns row bytes × (after ≡ before ++ bytes)
+
+abbrev pub One : List (List ℕ) → Column → List ℕ → List ℕ → Type 0
+One fields column before after = (datum : Datum) × (bytes : List ℕ) × Field fields column.field (λ field. PutsDatum column.column_type field datum bytes) × (after ≡ before ++ bytes)
+
+pub more_further : (fields : List (List ℕ)) (columns : List Column) (column : Column) (others : List Column) (before first second last : List ℕ) → columns ≡ column ∷ others → first ≡ before ++ codes ", " → One fields column first second
+    → Further fields others second last → Further fields columns before last
+more_further fields columns column others before first second last is comma one more = (
+  one.0 ∷ more.0,
+  codes ", " ++ one.1 ++ more.1,
+  subst (λ cs. PutsFurther fields cs (one.0 ∷ more.0) (codes ", " ++ one.1 ++ more.1)) (sym is) (one.1, more.1, one.2, more.2, refl),
+  two_more before second last (codes ", " ++ one.1) more.1 (two_more before first second (codes ", ") one.1 comma one.3) more.3,
+)
+
+pub row_put : (fields : List (List ℕ)) (columns : List Column) (column : Column) (others : List Column) (before second last : List ℕ) → columns ≡ column ∷ others → One fields column before second
+    → Further fields others second last → (row : Row) × (bytes : List ℕ) × PutsRow fields columns row bytes × (last ≡ before ++ bytes)
+row_put fields columns column others before second last is one more = (
+  one.0 ∷ more.0,
+  one.1 ++ more.1,
+  subst (λ cs. PutsRow fields cs (one.0 ∷ more.0) (one.1 ++ more.1)) (sym is) (one.1, more.1, one.2, more.2, refl),
+  two_more before second last one.1 more.1 one.3 more.3,
+)
+
+-- ---- the whole line
+
+pub whole_line : (session : ℕ) (table route place values : List ℕ) (l0 l1 l2 l3 l4 l5 l6 l7 l8 l9 : List ℕ) → l0 ≡ [] → l1 ≡ l0 ++ session_text session → l2 ≡ l1 ++ codes " INSERT INTO " → l3 ≡ l2 ++ table → l4 ≡ l3 ++ codes " ON "
+    → l5 ≡ l4 ++ route → l6 ≡ l5 ++ place → l7 ≡ l6 ++ codes " VALUES (" → l8 ≡ l7 ++ values → l9 ≡ l8 ++ codes ")" → l9 ≡ insert_line session table route place values
+whole_line session table route place values l0 l1 l2 l3 l4 l5 l6 l7 l8 l9 e0 e1 e2 e3 e4 e5 e6 e7 e8 e9 =
+    let f1 : l1 ≡ session_text session = e1 ∙ ap (λ l. l ++ session_text session) e0 in
+    let f4 = four_more (session_text session) l2 l3 l4 l5 (codes " INSERT INTO ") table (codes " ON ") route (e2 ∙ ap (λ l. l ++ codes " INSERT INTO ") f1) e3 e4 e5 in
+    let f8 = four_more l5 l6 l7 l8 l9 place (codes " VALUES (") values (codes ")") e6 e7 e8 e9 in
+    let front : List ℕ = codes " INSERT INTO " ++ table ++ codes " ON " ++ route in
+    let back : List ℕ = place ++ codes " VALUES (" ++ values ++ codes ")" in
+    let back_is : back ≡ place ++ (codes " VALUES (" ++ (values ++ codes ")")) = simp append_assoc in
+    f8 ∙ ap (λ l. l ++ back) f4 ∙ append_assoc (session_text session) front back
+    ∙ ap (λ l. session_text session ++ l)
+    (append_assoc (codes " INSERT INTO " ++ table ++ codes " ON ") route back
+    ∙ append_assoc (codes " INSERT INTO " ++ table) (codes " ON ") (route ++ back)
+    ∙ append_assoc (codes " INSERT INTO ") table (codes " ON " ++ (route ++ back))
+    ∙ ap (λ l. codes " INSERT INTO " ++ (table ++ (codes " ON " ++ (route ++ l)))) back_is)

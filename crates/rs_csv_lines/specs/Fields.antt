@@ -1,0 +1,57 @@
+-- What a field of a record says. A field that stood in quotes was read with a quote before it, so that an empty one is
+-- told from one that has nothing.
+use Rattle.std.specs.Prelude.{◌≡◌, ℕ, ◌≤◌, ◌^◌, Bool, ◌==◌, if◌then◌else◌, List, [], ◌∷◌}
+use Rattle.rs_grammar.specs.Grammar as grammar
+use Rattle.rs_grammar.specs.Grammar.{rules, Derives}
+use Rattle.rs_grammar.specs.declared.kind.TokenKind.TheVariants as kinds
+use Rattle.rs_lexer.specs.declared.token.Token.{Token}
+use Rattle.rs_lexer.specs.Lexis.{kinds_of, token_text, AreTokensFrom}
+use Rattle.rs_measure.specs.FixedPoint.{number_of_digits}
+use Rattle.rs_methods.specs.Position.{PositionExpression}
+use Rattle.rs_value.specs.declared.column.ColumnType.{ColumnType}
+use Rattle.rs_value.specs.declared.column.ColumnType.TheVariants as types
+use Rattle.rs_value.specs.Row.{Datum, null, number, text}
+use Rattle.rs_syntax.specs.declared.written.WrittenValue.TheVariants as written_values
+use Rattle.rs_syntax.specs.declared.written.WrittenPosition.{WrittenPosition}
+use Rattle.rs_syntax.specs.Written.{lexemes_of, position_lexemes, value_lexemes, signed, SaysPosition}
+
+-- the quote of a record
+abbrev pub QUOTE : ℕ
+QUOTE = 34
+
+-- the bytes of a field, without the quote before them
+abbrev pub content : List ℕ → List ℕ
+content [] = []
+content (byte ∷ bytes) = if byte == QUOTE then bytes else byte ∷ bytes
+
+-- The text is one token, which is this name.
+pub record SaysName (text name : List ℕ) : Type 0 where
+  pub token : Token
+  pub cut : AreTokensFrom text 0 (token ∷ [])
+  pub kind : token.kind ≡ kinds.Name
+  pub is : name ≡ token_text text token
+
+-- The text, cut into tokens, is a position of the grammar, written so, and says this one.
+pub record SpellsPosition (text : List ℕ) (written : WrittenPosition) (position : PositionExpression) : Type 0 where
+  pub tokens : List Token
+  pub cut : AreTokensFrom text 0 tokens
+  pub derived : Derives (rules grammar.position) (kinds_of tokens) []
+  pub spelled : lexemes_of tokens ≡ position_lexemes written
+  pub says : SaysPosition text written position
+
+-- The text, cut into tokens, is a number with these digits, after a minus sign or not, of at most 10^12.
+pub record SpellsNumber (text : List ℕ) (is_negative : Bool) (digits : Token) : Type 0 where
+  pub tokens : List Token
+  pub cut : AreTokensFrom text 0 tokens
+  pub spelled : lexemes_of tokens ≡ value_lexemes (written_values.Whole is_negative digits)
+  pub few : number_of_digits (token_text text digits) ≤ 10 ^ 12
+
+abbrev pub TellsPosition : List ℕ → PositionExpression → Type 0
+TellsPosition bytes position = (written : WrittenPosition) × SpellsPosition bytes written position
+
+-- What a field says in a column: nothing is NULL; in a column of numbers it is a number, in one of texts its own text.
+abbrev pub TellsDatum : ColumnType → List ℕ → Datum → Type 0
+TellsDatum type [] datum = datum ≡ null
+TellsDatum types.Int (byte ∷ bytes) datum = (is_negative : Bool) × (digits : Token) × SpellsNumber (content (byte ∷ bytes)) is_negative digits
+    × (datum ≡ number (signed is_negative (number_of_digits (token_text (content (byte ∷ bytes)) digits))))
+TellsDatum (types.Text most) (byte ∷ bytes) datum = datum ≡ text (content (byte ∷ bytes))

@@ -1,0 +1,151 @@
+//! What a field says: a text, a name, a position or a number.
+//!
+//! Names, positions and numbers are read by the grammar that reads lines, so blanks may stand around them.
+
+ghost use Rattle.std.specs.Prelude.{◌≡◌, ◌↔◌, [], ◌∷◌, ℕ, List, IsTrue, IfOk, IfErr, All, MatchOption, true, false, if◌then◌else◌};
+ghost use Rattle.csv.specs.Records.{fields_of, field_at};
+ghost use Rattle.rs_value.specs.Values.{is_text, is_control};
+ghost use Rattle.std.specs.List.{list_any};
+ghost use Rattle.rs_lexer.specs.Lexis.{AreTokensFrom, IsTokenOf};
+ghost use Rattle.rs_methods.specs.Position.{expression_of};
+ghost use Rattle.rs_csv_lines.specs.Fields.{content, SaysName, SpellsPosition, SpellsNumber};
+ghost use Rattle.rs_csv_lines.specs.Inserts.{Field};
+
+use crate::plan::{Cause, Misfit};
+use csv::ByteRecord;
+use rs_descent::front::Stop;
+use rs_grammar::kind::TokenKind;
+use rs_lexer::{Token, tokens};
+use rs_meaning::meaning::{self, GREATEST_NUMBER};
+use rs_methods::{Name, Position};
+use rs_refusal::Refusal;
+use rs_syntax::written::{WrittenPosition, WrittenValue};
+use std::alloc::Global;
+use std::str;
+
+/// The text of a field, without the quote that was read before it, and whether the field has nothing.
+#[derive(Clone, Copy)]
+pub struct FieldText<'a> {
+    /// The text.
+    pub text: &'a str,
+    /// Whether the field has nothing, not even quotes.
+    pub is_empty: bool,
+}
+
+// The field without the quote before it.
+fn content(field: &[u8]) -> &[u8]
+    ensures { result.now ≡ content field.now }
+{
+    match field.split_first() {
+        Some((first, rest)) => { if *first == b'"' { rest } else { field } }
+        None => field,
+    }
+}
+
+// Whether a byte is below the space, or 127.
+fn has_control(bytes: &[u8]) -> bool
+    ensures { result ≡ list_any is_control bytes.now }
+{
+    bytes.iter().any(|byte| *byte < b' ' || *byte == 127)
+}
+
+// The bytes as text, where they are UTF-8 without a control character.
+fn as_text(bytes: &[u8]) -> Option<&str>
+    ensures { MatchOption result (is_text bytes.now ≡ false)
+        (λ text. (text.now ≡ bytes.now) × (is_text bytes.now ≡ true)) }
+{
+    match str::from_utf8(bytes) {
+        Ok(text) => { if has_control(bytes) { None } else { Some(text) } }
+        Err(_) => None,
+    }
+}
+
+/// The text of the field at a place of a record.
+pub fn field_text(record: &ByteRecord, place: usize) -> Result<FieldText<'_>, Misfit>
+    ensures { IfOk result (λ found. Field (fields_of record.now) place
+        (λ field. (found.text.now ≡ content field) × (found.is_empty ≡ true ↔ (field ≡ [])))) }
+{
+    let Some(field) = record.get(place) else {
+        return Err(Misfit::Field(place, Cause::Missing));
+    };
+    match as_text(content(field)) {
+        Some(text) => Ok(FieldText {
+            text,
+            is_empty: field.is_empty(),
+        }),
+        None => Err(Misfit::Field(place, Cause::NotText)),
+    }
+}
+
+// The tokens of a text; where it can't be cut into tokens, this is wrong with the field.
+fn field_tokens(alloc: Global, text: &str, place: usize, cause: Cause) -> Result<Vec<Token>, Misfit>
+    ensures cut { IfOk result (λ tokens. AreTokensFrom text.now 0 tokens.items) }
+    ensures inside { IfOk result (λ tokens. All (IsTokenOf text.now) tokens.items) }
+{
+    match tokens(alloc, text, 0) {
+        Ok(tokens) => Ok(tokens),
+        Err(Refusal::OutOfMemory) => Err(Misfit::OutOfMemory),
+        Err(_) => Err(Misfit::Field(place, cause)),
+    }
+}
+
+/// The name that a text is.
+pub fn name_in(alloc: Global, text: &str, place: usize) -> Result<Name, Misfit>
+    ensures { IfOk result (λ name. SaysName text.now name.bytes) }
+{
+    let tokens = field_tokens(alloc, text, place, Cause::NotName)?;
+    match tokens.as_slice() {
+        [token] => {
+            if token.kind == TokenKind::Name {
+                Ok(meaning::name(text, *token))
+            } else {
+                Err(Misfit::Field(place, Cause::NotName))
+            }
+        }
+        _ => Err(Misfit::Field(place, Cause::NotName)),
+    }
+}
+
+/// The position that a text is: how it is written, and what it says.
+pub fn position_in(
+    alloc: Global,
+    text: &str,
+    place: usize,
+) -> Result<(WrittenPosition, Position), Misfit>
+    ensures { IfOk result (λ found. SpellsPosition text.now found.0 (expression_of found.1)) }
+{
+    let tokens = field_tokens(alloc, text, place, Cause::NotPosition)?;
+    match rs_descent::positions::position(tokens.as_slice()) {
+        Ok((written, [])) => match meaning::position(text, written) {
+            Ok(position) => Ok((written, position)),
+            Err(_) => Err(Misfit::Field(place, Cause::NotPosition)),
+        },
+        Err(Stop::OutOfMemory) => Err(Misfit::OutOfMemory),
+        _ => Err(Misfit::Field(place, Cause::NotPosition)),
+    }
+}
+
+// Why tokens are no number.
+fn no_number(tokens: &[Token]) -> Cause {
+    match tokens {
+        [number] | [_, number] if number.kind == TokenKind::Decimal => Cause::Decimal,
+        _ => Cause::NotNumber,
+    }
+}
+
+/// The number that a text is: whether a minus sign stands before it, and its digits.
+pub fn number_in(alloc: Global, text: &str, place: usize) -> Result<(bool, Token), Misfit>
+    ensures { IfOk result (λ found. SpellsNumber text.now found.0 found.1) }
+{
+    let tokens = field_tokens(alloc, text, place, Cause::NotNumber)?;
+    match rs_descent::values::value(tokens.as_slice()) {
+        Ok((WrittenValue::Whole(is_negative, digits), [])) => {
+            match meaning::number(meaning::text(text, digits), GREATEST_NUMBER) {
+                Some(_) => Ok((is_negative, digits)),
+                None => Err(Misfit::Field(place, Cause::LargeNumber)),
+            }
+        }
+        Err(Stop::OutOfMemory) => Err(Misfit::OutOfMemory),
+        _ => Err(Misfit::Field(place, no_number(tokens.as_slice()))),
+    }
+}

@@ -1,0 +1,129 @@
+//! The INSERT of a record.
+//!
+//! The line is the session, the table, the record's route, its place, and its values in the columns' order.
+
+ghost use Rattle.std.specs.Prelude.{◌≡◌, ◌++◌, ◌<◌, OnOk, IfOk, ℕ, List, ◌∷◌, codes, string_bytes, length};
+ghost use Rattle.csv.specs.Records.{fields_of};
+ghost use Rattle.rs_machine.specs.Request.{Asks, command};
+ghost use Rattle.rs_syntax.specs.Sound.{IsName};
+ghost use Rattle.rs_syntax.specs.Tree.{CommandTree, EventLocationTree};
+ghost use Rattle.rs_value.specs.Row.{Row};
+ghost use Rattle.rs_csv_lines.specs.Inserts.{IsInsertOf, PutsPlace, PutsFurther, PutsRow};
+
+use crate::plan::{Column, Misfit, Place, Plan};
+use crate::put::{put_position, put_route, put_session, put_value};
+use csv::ByteRecord;
+use rs_machine::limits::LINE_BYTES;
+use rs_methods::{Name, Position};
+use std::alloc::Global;
+
+/// Where the event of a record is.
+#[derive(Clone, Copy)]
+pub struct Event {
+    /// Its route.
+    pub route: Name,
+    /// Where it begins.
+    pub first: Position,
+    /// Where it ends, which is where it begins where it is at a position.
+    pub last: Position,
+}
+
+// Puts the place of a record, from FROM or AT on, and gives where the event begins and ends.
+fn put_place(
+    alloc: Global,
+    record: &ByteRecord,
+    place: Place,
+    line: &mut String,
+) -> Result<(Position, Position), Misfit>
+    ensures { OnOk result ((location : EventLocationTree) × (bytes : List ℕ) × PutsPlace (fields_of record.now) place location bytes
+        × (string_bytes line.new ≡ string_bytes line.old ++ bytes)) }
+{
+    match place {
+        Place::Along { from, to } => {
+            line.push_str(" FROM ")?;
+            let first = put_position(alloc, record, from, line)?;
+            line.push_str(" TO ")?;
+            let last = put_position(alloc, record, to, line)?;
+            Ok((first, last))
+        }
+        Place::At { at } => {
+            line.push_str(" AT ")?;
+            let first = put_position(alloc, record, at, line)?;
+            let last = first;
+            Ok((first, last))
+        }
+    }
+}
+
+// Puts the values of further columns, with a comma before each.
+fn put_further(
+    alloc: Global,
+    record: &ByteRecord,
+    columns: &[Column],
+    line: &mut String,
+) -> Result<(), Misfit>
+    ensures { OnOk result ((row : Row) × (bytes : List ℕ) × PutsFurther (fields_of record.now) columns.now row bytes
+        × (string_bytes line.new ≡ string_bytes line.old ++ bytes)) }
+{
+    match columns.split_first() {
+        None => Ok(()),
+        Some((column, others)) => {
+            line.push_str(", ")?;
+            put_value(alloc, record, column.field, column.column_type, line)?;
+            put_further(alloc, record, others, line)
+        }
+    }
+}
+
+// Puts the values of a record.
+fn put_row(
+    alloc: Global,
+    record: &ByteRecord,
+    columns: &[Column],
+    line: &mut String,
+) -> Result<(), Misfit>
+    requires { 0 < length columns.now }
+    ensures { OnOk result ((row : Row) × (bytes : List ℕ) × PutsRow (fields_of record.now) columns.now row bytes
+        × (string_bytes line.new ≡ string_bytes line.old ++ bytes)) }
+{
+    match columns.split_first() {
+        None => unreachable!(),
+        Some((column, others)) => {
+            put_value(alloc, record, column.field, column.column_type, line)?;
+            put_further(alloc, record, others, line)
+        }
+    }
+}
+
+/// Writes the line of a record in place of what the line has, and gives where the event is.
+///
+/// Refused with the first field that is wrong, in the line's order, or where the line would be too long. Then a part of the
+/// line may have been written.
+pub fn write_insert(
+    alloc: Global,
+    plan: &Plan,
+    record: &ByteRecord,
+    line: &mut String,
+) -> Result<Event, Misfit>
+    requires session { plan.now.session < 64 }
+    requires named { IsName plan.now.table.bytes }
+    requires some { 0 < length plan.now.columns.items }
+    ensures { OnOk result ((tree : CommandTree) × IsInsertOf plan.now (fields_of record.now) tree
+        × Asks (string_bytes line.new) (command plan.now.session tree)) }
+{
+    line.clear();
+    put_session(line, plan.session)?;
+    line.push_str(" INSERT INTO ")?;
+    line.push_str(plan.table.as_str())?;
+    line.push_str(" ON ")?;
+    let route = put_route(alloc, record, plan.route, line)?;
+    let (first, last) = put_place(alloc, record, plan.place, line)?;
+    line.push_str(" VALUES (")?;
+    put_row(alloc, record, plan.columns.as_slice(), line)?;
+    line.push_str(")")?;
+    let whole = line.as_str();
+    if whole.len() > LINE_BYTES {
+        return Err(Misfit::LongLine);
+    }
+    Ok(Event { route, first, last })
+}

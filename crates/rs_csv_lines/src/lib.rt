@@ -1,0 +1,12 @@
+//! The line of a record: what its fields say, written as the INSERT that they are.
+//!
+//! It promises that each line says the INSERT of its record.
+#![tactic(auto)]
+
+pub mod fields;
+pub mod insert;
+pub mod plan;
+pub mod put;
+
+pub use insert::{Event, write_insert};
+pub use plan::{Cause, Column, Misfit, Place, Plan};
