@@ -1,16 +1,19 @@
 -- A line that begins with the digits of a session, and is text, is that session's.
-use Rattle.std.proofs.Common.{◌≡◌, ◌∙◌, ℕ, ◌+◌, ◌-◌, ◌*◌, ◌/◌, ◌%◌, ◌<◌, ◌≤◌, Bool, true, false, ◌&&◌, List, [], ◌∷◌, ◌++◌, length, take, Some, None, Ok, refl, sym, ap, subst, arith}
+use Rattle.std.proofs.Common.{◌≡◌, ◌∙◌, ℕ, ◌+◌, ◌-◌, ◌*◌, ◌/◌, ◌%◌, ◌<◌, ◌≤◌, Bool, true, false, ◌&&◌, ◌||◌, List, [], ◌∷◌, ◌++◌, length, take, Some, None, Ok, refl, sym, ap, subst, arith}
 use Rattle.std.specs.Prelude.{◌==◌, nat_lt, if◌then◌else◌}
 use Rattle.std.specs.Char.{is_ascii_digit}
 use Rattle.std.specs.Str.{all_ascii_digits}
-use Rattle.std.proofs.lemmas.Bool.{ltb-true}
+use Rattle.std.proofs.lemmas.Bool.{ltb-true, false≢true}
 use Rattle.std.proofs.lemmas.Bool.Decides.{nat_tests}
 use Rattle.rs_measure.specs.FixedPoint.{number_of_digits}
 use Rattle.rs_syntax.specs.Tree.{CommandTree}
 use Rattle.rs_syntax.specs.Verdict.{Reads}
 use Rattle.rs_machine.specs.declared.limits.TheConstants.{LINE_BYTES, SESSIONS}
 use Rattle.rs_machine.specs.Request.{is_text, without_return, has_session, session_digits, line_refusal, Asks, command}
+use Rattle.std.specs.List.{list_any}
+use Rattle.rs_value.specs.Values.{is_control}
 use Rattle.rs_csv_lines.specs.Texts.{session_text}
+use Rattle.rs_csv_lines.proofs.Clean.{clean_text}
 
 digit_true : (k : ℕ) → k < 10 → is_ascii_digit (48 + k) ≡ true
 digit_true k few = grind (arith, nat_tests)
@@ -82,3 +85,23 @@ session_asks line session digits tree few text whole is reads = record {
   };
   reads = subst (λ l. Reads l digits (Ok tree)) (sym whole) reads;
 }
+
+-- a line without control characters ends with no CR
+pub clean_end : (line : List ℕ) → list_any is_control line ≡ false → without_return line ≡ line
+clean_end [] clean = refl
+clean_end (byte ∷ []) clean = rw (not_return byte clean) refl
+  where
+    not_return : (byte : ℕ) → (is_control byte || false) ≡ false → (byte == 13) ≡ false
+    not_return byte clean = grind (arith, nat_tests)
+clean_end (byte ∷ next ∷ bytes) clean = ap (λ l. byte ∷ l) (clean_end (next ∷ bytes) (rest (is_control byte) (list_any is_control (next ∷ bytes)) clean))
+  where
+    rest : (a b : Bool) → (a || b) ≡ false → b ≡ false
+    rest true b e = absurd (false≢true (sym e))
+    rest false b e = e
+
+pub words_ask : (line : List ℕ) (session digits : ℕ) (rest : List ℕ) (tree : CommandTree) → session < 64 → length line ≤ LINE_BYTES → is_text line ≡ true → line ≡ session_text session ++ 32 ∷ rest → digits ≡ length (session_text session)
+    → Reads line digits (Ok tree) → Asks line (command session tree)
+words_ask line session digits rest tree few short text is at reads =
+    let clean = clean_end line (clean_text line text) in
+    session_asks line session digits tree short text clean
+    (subst (λ l. BeginsSession l session digits) (sym is) (subst (λ n. BeginsSession (session_text session ++ 32 ∷ rest) session n) (sym at) (session_begins session rest few))) reads

@@ -32,8 +32,8 @@ pub struct FieldText<'a> {
     pub is_empty: bool,
 }
 
-// The field without the quote before it.
-fn content(field: &[u8]) -> &[u8]
+/// The bytes of a field without the quote that was read before them.
+pub fn content(field: &[u8]) -> &[u8]
     ensures { result.now ≡ content field.now }
 {
     match field.split_first() {
@@ -43,7 +43,7 @@ fn content(field: &[u8]) -> &[u8]
 }
 
 // Whether a byte is below the space, or 127.
-fn has_control(bytes: &[u8]) -> bool
+pub(crate) fn has_control(bytes: &[u8]) -> bool
     ensures { result ≡ list_any is_control bytes.now }
 {
     bytes.iter().any(|byte| *byte < b' ' || *byte == 127)

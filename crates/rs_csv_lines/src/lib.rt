@@ -7,6 +7,8 @@ pub mod fields;
 pub mod insert;
 pub mod plan;
 pub mod put;
+pub mod words;
 
 pub use insert::{Event, write_insert};
 pub use plan::{Cause, Column, Misfit, Place, Plan};
+pub use words::write_words;

@@ -1,0 +1,38 @@
+-- Where the bytes of CSV stand, and the mark of a field in quotes.
+use Rattle.std.specs.Prelude.{ℕ, Bool, false, ◌&&◌, ◌||◌, ◌==◌, if◌then◌else◌, List, [], ◌∷◌, ◌++◌}
+use Rattle.rs_csv.specs.declared.quoting.Place.{Place}
+use Rattle.rs_csv.specs.declared.quoting.Place.TheVariants as places
+
+-- a line feed, or a carriage return
+abbrev pub is_line_end : ℕ → Bool
+is_line_end byte = byte == 10 || byte == 13
+
+-- outside quotes
+abbrev pub after_plain : ℕ → Place
+after_plain byte = if byte == 44 || is_line_end byte then places.Start else places.Plain
+
+-- the place after a byte
+abbrev pub after : Place → ℕ → Place
+after places.Start byte = if byte == 34 then places.Inside else after_plain byte
+after places.Plain byte = after_plain byte
+after places.Inside byte = if byte == 34 then places.Behind else places.Inside
+after places.Behind byte = if byte == 34 then places.Inside else after_plain byte
+
+-- a line end outside quotes
+abbrev pub ends_record : Place → ℕ → Bool
+ends_record places.Inside byte = false
+ends_record _ byte = is_line_end byte
+
+-- the byte opens a field in quotes
+abbrev pub opens : Place → ℕ → Bool
+opens places.Start byte = byte == 34
+opens _ byte = false
+
+-- a byte as it is read: three quotes where it opens a field
+abbrev pub mark : Place → ℕ → List ℕ
+mark place byte = if opens place byte then 34 ∷ 34 ∷ 34 ∷ [] else byte ∷ []
+
+-- bytes as they are read
+abbrev pub marked : Place → List ℕ → List ℕ
+marked place [] = []
+marked place (byte ∷ bytes) = mark place byte ++ marked (after place byte) bytes

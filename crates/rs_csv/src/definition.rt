@@ -1,0 +1,47 @@
+//! The definition of the table: one DEFINE TABLE, read by the grammar that reads lines.
+
+ghost use Rattle.std.specs.Prelude.{◌<◌, IfOk};
+ghost use Rattle.rs_csv.specs.Output.{IsDefinition};
+
+use crate::filter::Stop;
+use rs_csv_lines::write_words;
+use rs_methods::Name;
+use rs_refusal::Refusal;
+use rs_syntax::{ColumnDefinition, Command};
+use rs_value::Kind;
+use std::alloc::Global;
+
+/// A table as the words define it.
+#[derive(Drop)]
+pub struct Definition {
+    /// The line that defines it.
+    pub line: String,
+    /// Whether it holds points or lines.
+    pub kind: Kind,
+    /// Its name.
+    pub name: Name,
+    /// Its columns, from the left.
+    pub columns: Vec<ColumnDefinition>,
+}
+
+/// The table that the words define, as a line of the session.
+pub fn read_definition(alloc: Global, session: u8, words: &str) -> Result<Definition, Stop>
+    requires { session < 64 }
+    ensures { IfOk result (λ definition. IsDefinition session definition) }
+{
+    let mut line = String::new(alloc);
+    match write_words(alloc, session, words, &mut line) {
+        Ok(Command::DefineTable {
+            kind,
+            name,
+            columns,
+        }) => Ok(Definition {
+            line,
+            kind,
+            name,
+            columns,
+        }),
+        Err(Refusal::OutOfMemory) => Err(Stop::OutOfMemory),
+        _ => Err(Stop::NoTable),
+    }
+}

@@ -1,0 +1,68 @@
+//! Quotes of CSV: where a record ends, and which fields stand in quotes.
+//!
+//! The opening quote of a field is written three times, so that the field reads with a quote before it. No field that does not
+//! stand in quotes begins with one.
+
+ghost use Rattle.std.specs.Prelude.{◌≡◌, ◌++◌, OnOk};
+ghost use Rattle.rs_csv.specs.Quoting.{after, opens, ends_record, mark};
+
+use std::alloc::AllocError;
+
+/// Where a byte stands in a record.
+#[derive(Clone, Copy, PartialEq, Eq, Debug)]
+pub enum Place {
+    /// At the beginning of a field.
+    Start,
+    /// In a field without quotes.
+    Plain,
+    /// Between the quotes of a field.
+    Inside,
+    /// After a quote between them, which closes the field or is the first of two.
+    Behind,
+}
+
+// The place after a byte that stands in no quotes.
+fn after_plain(byte: u8) -> Place
+    ensures { result ≡ after Place.Plain byte }
+{
+    match byte {
+        b',' | b'\n' | b'\r' => Place::Start,
+        _ => Place::Plain,
+    }
+}
+
+impl Place {
+    /// The place after a byte.
+    pub fn after(self, byte: u8) -> Place
+        ensures { result ≡ after self byte }
+    {
+        match self {
+            Place::Start => { if byte == b'"' { Place::Inside } else { after_plain(byte) } }
+            Place::Plain => after_plain(byte),
+            Place::Inside => { if byte == b'"' { Place::Behind } else { Place::Inside } }
+            Place::Behind => { if byte == b'"' { Place::Inside } else { after_plain(byte) } }
+        }
+    }
+
+    /// Whether a byte here ends the record.
+    pub fn ends_record(self, byte: u8) -> bool
+        ensures { result ≡ ends_record self byte }
+    {
+        match self {
+            Place::Inside => false,
+            Place::Start | Place::Plain | Place::Behind => byte == b'\n' || byte == b'\r',
+        }
+    }
+}
+
+/// Adds a byte to a text of records, three times where it opens a field.
+pub fn push_marked(text: &mut Vec<u8>, place: Place, byte: u8) -> Result<(), AllocError>
+    ensures { OnOk result (text.new.items ≡ text.old.items ++ mark place byte) }
+{
+    if place == Place::Start && byte == b'"' {
+        text.extend_from_slice(b"\"\"\"")
+    } else {
+        text.push(byte)?;
+        Ok(())
+    }
+}

@@ -1,0 +1,83 @@
+//! What is told on the errors stream: which record was left out, and why.
+//!
+//! The status does not depend on that stream: a write to it that fails is ignored.
+
+use csv::ByteRecord;
+use itoa::Buffer;
+use rs_csv_lines::fields::content;
+use rs_csv_lines::{Cause, Misfit};
+use rs_protocol::put_parts;
+use std::io::Write;
+
+// What is wrong with a field, in words.
+fn cause_words(cause: Cause) -> &'static [u8] {
+    match cause {
+        Cause::Missing => b"no such field",
+        Cause::NotText => b"not text",
+        Cause::NotName => b"not a name",
+        Cause::NotPosition => b"not a position",
+        Cause::NotNumber => b"not a number",
+        Cause::Decimal => b"not a whole number",
+        Cause::LargeNumber => b"number past 10^12",
+    }
+}
+
+// The name of a column of the CSV.
+fn column_name(header: &ByteRecord, place: usize) -> &[u8] {
+    match header.get(place) {
+        Some(name) => content(name),
+        None => b"?",
+    }
+}
+
+/// Tells that a record was left out, by its number and field.
+pub fn tell_misfit<E: Write>(errors: &mut E, header: &ByteRecord, number: u64, misfit: Misfit) {
+    let mut digits = Buffer::new();
+    let record = digits.format(number).as_bytes();
+    let _ = match misfit {
+        Misfit::Field(place, cause) => put_parts(
+            errors,
+            &[
+                b"roadseg: record ",
+                record,
+                b", ",
+                column_name(header, place),
+                b": ",
+                cause_words(cause),
+                b"\n",
+            ],
+        ),
+        Misfit::LongLine => put_parts(
+            errors,
+            &[b"roadseg: record ", record, b": line past 4096 bytes\n"],
+        ),
+        Misfit::OutOfMemory => put_parts(
+            errors,
+            &[b"roadseg: record ", record, b": out of memory\n"],
+        ),
+    };
+}
+
+/// Tells that a record was left out, since it is too long to be read.
+pub fn tell_long_record<E: Write>(errors: &mut E, number: u64) {
+    let mut digits = Buffer::new();
+    let record = digits.format(number).as_bytes();
+    let _ = put_parts(
+        errors,
+        &[b"roadseg: record ", record, b": longer than 65536 bytes\n"],
+    );
+}
+
+/// Tells that the header has no column of this name, or two.
+pub fn tell_column<E: Write>(errors: &mut E, name: &str, is_twice: bool) {
+    let wrong: &[u8] = if is_twice { b": column twice in the header\n" } else { b": no such column in the header\n" };
+    let _ = put_parts(errors, &[b"roadseg: ", name.as_bytes(), wrong]);
+}
+
+/// Tells that no extent of a route is known.
+pub fn tell_route<E: Write>(errors: &mut E, name: &str) {
+    let _ = put_parts(
+        errors,
+        &[b"roadseg: ", name.as_bytes(), b": no measure met on the route\n"],
+    );
+}
