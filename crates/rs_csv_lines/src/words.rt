@@ -1,8 +1,9 @@
 //! A line of given words: a session and a command, read by the grammar that reads lines.
 
-ghost use Rattle.std.specs.Prelude.{◌≡◌, ◌<◌, ◌≤◌, IfOk, OnOk, Ok, length, true, string_bytes};
+ghost use Rattle.std.specs.Prelude.{◌≡◌, ◌<◌, ◌≤◌, IfOk, OnOk, Ok, length, true, codes, ◌++◌, string_bytes};
 ghost use Rattle.rs_syntax.specs.Verdict.{Reads};
 ghost use Rattle.rs_value.specs.Values.{is_text};
+ghost use Rattle.rs_csv_lines.specs.Texts.{session_text};
 ghost use Rattle.rs_machine.specs.Request.{Asks, command};
 ghost use Rattle.rs_syntax.specs.Sound.{IsSound};
 ghost use Rattle.rs_syntax.specs.View.{tree_of};
@@ -41,6 +42,7 @@ pub fn write_words(
     line: &mut String,
 ) -> Result<Command, Refusal>
     requires { session < 64 }
+    ensures line { OnOk result (string_bytes line.new ≡ session_text session ++ codes " " ++ words.now) }
     ensures asks { IfOk result (λ asked. Asks (string_bytes line.new) (command session (tree_of asked))) }
     ensures sound { IfOk result (λ asked. IsSound (tree_of asked)) }
 {

@@ -20,3 +20,9 @@ returns-clause-asks c =
     words_ask line c.args.session (length c.as_str-begun.result.now) c.args.words.now (tree_of c.in_ok-asked.asked) c.requires
     (subst (λ l. length l ≤ LINE_BYTES) same c.in_ok-asked.ensures.short) (subst (λ l. is_text l ≡ true) same c.in_ok-asked.ensures.text) whole digits
     (subst (λ l. Reads l (length c.as_str-begun.result.now) (Ok (tree_of c.in_ok-asked.asked))) same c.in_ok-asked.ensures.reads)
+
+pub returns-clause-line : goal.returns-clause-line
+returns-clause-line c =
+    let line = string_bytes c.push_str-2.new.self in
+    let begun : string_bytes c.put_session.new.line ≡ session_text c.args.session = c.in_ok-put_session.ensures ∙ ap (λ l. l ++ session_text c.args.session) c.clear.ensures.bytes in
+    c.in_ok-push_str-2.ensures.bytes ∙ ap (λ l. l ++ c.args.words.now) (c.in_ok-push_str.ensures.bytes ∙ ap (λ l. l ++ codes " ") begun)
