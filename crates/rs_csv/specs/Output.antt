@@ -1,5 +1,5 @@
 -- What is written for a CSV: lines of one session, each of which says what it is written for.
-use Rattle.std.specs.Prelude.{◌≡◌, ◌≢◌, ◌⊎◌, ℕ, ◌<◌, List, [], ◌∷◌, ◌++◌, length, map, Option, Some, None, Result, Ok, Err, string_bytes}
+use Rattle.std.specs.Prelude.{◌≡◌, ◌⊎◌, ℕ, ◌<◌, List, [], ◌∷◌, ◌++◌, length, map, Option, Some, None, Result, MatchResult, Bool, false, option_map, string_bytes}
 use Rattle.std.specs.Io.KnownBytes.{Appends, Keeps}
 use Rattle.rs_value.specs.declared.column.Kind.{Kind}
 use Rattle.rs_value.specs.declared.column.ColumnType.{ColumnType}
@@ -7,10 +7,10 @@ use Rattle.rs_syntax.specs.Sound.{IsName, IsSound}
 use Rattle.rs_syntax.specs.Tree.{CommandTree, define_route, define_table}
 use Rattle.rs_syntax.specs.View.{column_tree}
 use Rattle.rs_machine.specs.Request.{Asks, command}
-use Rattle.rs_csv_lines.specs.declared.plan.Column.{Column}
 use Rattle.rs_csv_lines.specs.declared.plan.Plan.{Plan}
 use Rattle.rs_csv_lines.specs.Inserts.{IsInsertOf}
 use Rattle.rs_csv.specs.declared.definition.Definition.{Definition}
+use Rattle.rs_csv.specs.declared.filter.Progress.{Progress}
 
 -- the command that a definition is
 abbrev pub table_of : Definition → CommandTree
@@ -52,6 +52,50 @@ Makes session table None old (Some plan) new = IsPlanOf session table plan × Go
 Makes session table (Some plan) old None new = ⊥
 Makes session table (Some plan) old (Some other) new = (other ≡ plan) × GoesOn session table plan old new
 
--- the lines that are written for a table: none, or those of a plan of it
+-- what is written for a table: lines that define it and routes alone, or those of a plan of it
 abbrev pub IsOutput : ℕ → CommandTree → List ℕ → Type 0
-IsOutput session table bytes = (bytes ≡ []) ⊎ ((plan : Plan) × IsPlanOf session table plan × AreLines session table plan bytes)
+IsOutput session table bytes = ((plan : Plan) → AreLines session table plan bytes) ⊎ ((plan : Plan) × IsPlanOf session table plan × AreLines session table plan bytes)
+
+-- as long as nothing is told, nothing was, and the errors stream is as it was
+abbrev pub IsQuiet : Bool → Bool → Option (List ℕ) → Option (List ℕ) → Type 0
+IsQuiet told told_now before after = told_now ≡ false → (told ≡ false) × Keeps before after
+
+-- ---- what was read and made so far
+
+abbrev pub plan_in : Progress → Option Plan
+plan_in progress = option_map (λ planned. planned.plan) progress.planned
+
+-- the lines that a plan made, where there is one
+abbrev pub AreLinesOf : ℕ → CommandTree → Option Plan → List ℕ → Type 0
+AreLinesOf session table None bytes = bytes ≡ []
+AreLinesOf session table (Some plan) bytes = IsPlanOf session table plan × AreLines session table plan bytes
+
+-- The output grew by lines, and more of them wait.
+pub record SoFar (session : ℕ) (table : CommandTree) (before : Option (List ℕ)) (progress : Progress) (after : Option (List ℕ)) : Type 0 where
+  pub sent : List ℕ
+  pub put : Appends before after sent
+  pub lines : AreLinesOf session table (plan_in progress) sent
+  pub waiting : AreLinesOf session table (plan_in progress) progress.made.bytes.items
+
+-- The output grew by lines that are written for the table, or by a front of them.
+pub record Wrote (session : ℕ) (table : CommandTree) (before after : Option (List ℕ)) : Type 0 where
+  pub sent : List ℕ
+  pub lost : List ℕ
+  pub put : Appends before after sent
+  pub lines : IsOutput session table (sent ++ lost)
+
+-- The output grew by lines that are written for the table.
+pub record WroteAll (session : ℕ) (table : CommandTree) (before after : Option (List ℕ)) : Type 0 where
+  pub sent : List ℕ
+  pub put : Appends before after sent
+  pub lines : IsOutput session table sent
+
+-- so far still, or an end
+abbrev pub GoesFar : {T E : Type 0} → ℕ → CommandTree → Result T E → Progress → Progress → Option (List ℕ) → Option (List ℕ) → Type 0
+GoesFar session table result progress progress_now output output_now =
+    (before : Option (List ℕ)) → SoFar session table before progress output
+    → MatchResult result (λ _. SoFar session table before progress_now output_now) (λ _. Wrote session table before output_now)
+
+-- the end: whole lines, or a front of them where it is one of a fault
+abbrev pub Ends : {T E : Type 0} → ℕ → CommandTree → Result T E → Option (List ℕ) → Option (List ℕ) → Type 0
+Ends session table result before after = MatchResult result (λ _. WroteAll session table before after) (λ _. Wrote session table before after)

@@ -1,5 +1,5 @@
 -- Where the bytes of CSV stand, and the mark of a field in quotes.
-use Rattle.std.specs.Prelude.{ℕ, Bool, false, ◌&&◌, ◌||◌, ◌==◌, if◌then◌else◌, List, [], ◌∷◌, ◌++◌}
+use Rattle.std.specs.Prelude.{ℕ, Bool, false, ◌||◌, ◌==◌, if◌then◌else◌, List, [], ◌∷◌, ◌++◌}
 use Rattle.rs_csv.specs.declared.quoting.Place.{Place}
 use Rattle.rs_csv.specs.declared.quoting.Place.TheVariants as places
 

@@ -30,18 +30,22 @@ pub fn read_definition(alloc: Global, session: u8, words: &str) -> Result<Defini
     ensures { IfOk result (λ definition. IsDefinition session definition) }
 {
     let mut line = String::new(alloc);
-    match write_words(alloc, session, words, &mut line) {
-        Ok(Command::DefineTable {
+    let command = match write_words(alloc, session, words, &mut line) {
+        Ok(command) => command,
+        Err(Refusal::OutOfMemory) => return Err(Stop::OutOfMemory),
+        Err(_) => return Err(Stop::NoTable),
+    };
+    match &command {
+        Command::DefineTable {
             kind,
             name,
             columns,
-        }) => Ok(Definition {
+        } => Ok(Definition {
             line,
-            kind,
-            name,
-            columns,
+            kind: *kind,
+            name: *name,
+            columns: Vec::from_slice(alloc, columns.as_slice())?,
         }),
-        Err(Refusal::OutOfMemory) => Err(Stop::OutOfMemory),
         _ => Err(Stop::NoTable),
     }
 }

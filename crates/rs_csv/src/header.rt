@@ -1,6 +1,7 @@
 //! The header: which field gives the route, the place, and each column of the table.
 
-ghost use Rattle.std.specs.Prelude.{◌≡◌, ◌<◌, ◌≤◌, IfOk, IfSome, ℕ, List, Some, length, map};
+ghost use Rattle.std.specs.Prelude.{◌<◌, IfOk, OnOk};
+ghost use Rattle.std.specs.Io.KnownBytes.{Keeps};
 ghost use Rattle.rs_csv.specs.Output.{IsDefinition, IsPlanOf, table_of};
 
 use crate::definition::Definition;
@@ -22,7 +23,9 @@ fn is_named(header: &ByteRecord, place: usize, name: &str) -> bool {
 }
 
 // The place of the one field of the header that has this name. It is told where there is none, or are two.
-fn field_named<E: Write>(header: &ByteRecord, name: &str, errors: &mut E) -> Result<usize, Stop> {
+fn field_named<E: Write>(header: &ByteRecord, name: &str, errors: &mut E) -> Result<usize, Stop>
+    ensures quiet { OnOk result (Keeps (E.contents errors.old) (E.contents errors.new)) }
+{
     let mut found = None;
     for place in 0..header.len() {
         if is_named(header, place, name) {
@@ -42,16 +45,23 @@ fn field_named<E: Write>(header: &ByteRecord, name: &str, errors: &mut E) -> Res
     }
 }
 
-// The name that the header has for a column: another one, where the words say so.
-fn header_name<'a>(wanted: &Wanted<'a>, column: &'a str) -> &'a str {
+// The place of the field that gives a column: it has another name in the header, where the words say so.
+fn column_field<E: Write>(
+    header: &ByteRecord,
+    wanted: &Wanted<'_>,
+    column: &str,
+    errors: &mut E,
+) -> Result<usize, Stop>
+    ensures { OnOk result (Keeps (E.contents errors.old) (E.contents errors.new)) }
+{
     for renaming in wanted.columns {
         if let Some((name, other)) = renaming.split_once('=') {
             if name == column {
-                return other;
+                return field_named(header, other, errors);
             }
         }
     }
-    column
+    field_named(header, column, errors)
 }
 
 // Which fields say the place of an event of this kind.
@@ -60,7 +70,9 @@ fn place_fields<E: Write>(
     header: &ByteRecord,
     wanted: &Wanted<'_>,
     errors: &mut E,
-) -> Result<Place, Stop> {
+) -> Result<Place, Stop>
+    ensures { OnOk result (Keeps (E.contents errors.old) (E.contents errors.new)) }
+{
     match kind {
         Kind::Line => {
             let from = field_named(header, wanted.from, errors)?;
@@ -84,14 +96,14 @@ pub fn make_plan<E: Write>(
 ) -> Result<Plan, Stop>
     requires in_range { wanted.now.session < 64 }
     requires defines { IsDefinition wanted.now.session definition.now }
-    ensures { IfOk result (λ plan. IsPlanOf wanted.now.session (table_of definition.now) plan) }
+    ensures plan { IfOk result (λ plan. IsPlanOf wanted.now.session (table_of definition.now) plan) }
+    ensures quiet { OnOk result (Keeps (E.contents errors.old) (E.contents errors.new)) }
 {
     let route = field_named(header, wanted.route, errors)?;
     let place = place_fields(definition.kind, header, wanted, errors)?;
     let mut columns = Vec::new(alloc);
     for column in &definition.columns {
-        let name = header_name(wanted, column.name.as_str());
-        let field = field_named(header, name, errors)?;
+        let field = column_field(header, wanted, column.name.as_str(), errors)?;
         let column_type = column.column_type;
         columns.push(Column { column_type, field })?;
     }

@@ -37,10 +37,28 @@ impl Place {
         ensures { result ≡ after self byte }
     {
         match self {
-            Place::Start => { if byte == b'"' { Place::Inside } else { after_plain(byte) } }
+            Place::Start => {
+                if byte == b'"' {
+                    Place::Inside
+                } else {
+                    after_plain(byte)
+                }
+            }
             Place::Plain => after_plain(byte),
-            Place::Inside => { if byte == b'"' { Place::Behind } else { Place::Inside } }
-            Place::Behind => { if byte == b'"' { Place::Inside } else { after_plain(byte) } }
+            Place::Inside => {
+                if byte == b'"' {
+                    Place::Behind
+                } else {
+                    Place::Inside
+                }
+            }
+            Place::Behind => {
+                if byte == b'"' {
+                    Place::Inside
+                } else {
+                    after_plain(byte)
+                }
+            }
         }
     }
 

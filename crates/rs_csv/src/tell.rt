@@ -30,32 +30,35 @@ fn column_name(header: &ByteRecord, place: usize) -> &[u8] {
     }
 }
 
+// Tells what is wrong with a field of a record.
+fn tell_field<E: Write>(
+    errors: &mut E,
+    header: &ByteRecord,
+    record: &[u8],
+    place: usize,
+    cause: Cause,
+) {
+    let _ = put_parts(errors, &[b"roadseg: record ", record, b", "]);
+    let _ = put_parts(errors, &[column_name(header, place)]);
+    let _ = put_parts(errors, &[b": ", cause_words(cause), b"\n"]);
+}
+
 /// Tells that a record was left out, by its number and field.
 pub fn tell_misfit<E: Write>(errors: &mut E, header: &ByteRecord, number: u64, misfit: Misfit) {
     let mut digits = Buffer::new();
     let record = digits.format(number).as_bytes();
-    let _ = match misfit {
-        Misfit::Field(place, cause) => put_parts(
-            errors,
-            &[
-                b"roadseg: record ",
-                record,
-                b", ",
-                column_name(header, place),
-                b": ",
-                cause_words(cause),
-                b"\n",
-            ],
-        ),
-        Misfit::LongLine => put_parts(
-            errors,
-            &[b"roadseg: record ", record, b": line past 4096 bytes\n"],
-        ),
-        Misfit::OutOfMemory => put_parts(
-            errors,
-            &[b"roadseg: record ", record, b": out of memory\n"],
-        ),
-    };
+    match misfit {
+        Misfit::Field(place, cause) => tell_field(errors, header, record, place, cause),
+        Misfit::LongLine => {
+            let _ = put_parts(
+                errors,
+                &[b"roadseg: record ", record, b": line past 4096 bytes\n"],
+            );
+        }
+        Misfit::OutOfMemory => {
+            let _ = put_parts(errors, &[b"roadseg: record ", record, b": out of memory\n"]);
+        }
+    }
 }
 
 /// Tells that a record was left out, since it is too long to be read.
@@ -70,7 +73,11 @@ pub fn tell_long_record<E: Write>(errors: &mut E, number: u64) {
 
 /// Tells that the header has no column of this name, or two.
 pub fn tell_column<E: Write>(errors: &mut E, name: &str, is_twice: bool) {
-    let wrong: &[u8] = if is_twice { b": column twice in the header\n" } else { b": no such column in the header\n" };
+    let wrong: &[u8] = if is_twice {
+        b": column twice in the header\n"
+    } else {
+        b": no such column in the header\n"
+    };
     let _ = put_parts(errors, &[b"roadseg: ", name.as_bytes(), wrong]);
 }
 
@@ -78,6 +85,10 @@ pub fn tell_column<E: Write>(errors: &mut E, name: &str, is_twice: bool) {
 pub fn tell_route<E: Write>(errors: &mut E, name: &str) {
     let _ = put_parts(
         errors,
-        &[b"roadseg: ", name.as_bytes(), b": no measure met on the route\n"],
+        &[
+            b"roadseg: ",
+            name.as_bytes(),
+            b": no measure met on the route\n",
+        ],
     );
 }

@@ -1,0 +1,13 @@
+use Rattle.std.proofs.Common.{◌∙◌, ◌++◌, ◌∷◌, [], ap, string_bytes}
+use Rattle.std.proofs.lemmas.Result.{on_ok_weaker}
+use Rattle.rs_csv.specs.Output.{table_of}
+use Rattle.rs_csv.proofs.Outputs.{definition_goes}
+use Rattle.rs_csv.proofs.filter.put_definition.Goals as goal
+
+pub returns : goal.returns
+returns c =
+    let job = c.args.job.now in
+    on_ok_weaker c.push_line.result
+    (λ pushed plan. definition_goes job.wanted.session (table_of job.definition) plan c.args.bytes.now.items c.push_line.new.bytes.items (string_bytes job.definition.line)
+    (pushed ∙ ap (λ line. c.args.bytes.now.items ++ line ++ 10 ∷ []) c.as_str.ensures.value) c.requires.asks)
+    c.push_line.ensures

@@ -1,0 +1,537 @@
+//! The filter: CSV is read in pieces, and the lines of its records are written.
+
+ghost use Rattle.std.specs.Prelude.{◌≡◌, ◌<◌, ◌⊎◌, [], OnOk, OnErr, IfOk, IfSome, ℕ, List, Option, Ok, false, true};
+ghost use Rattle.std.specs.Io.KnownBytes.{Appends, Keeps};
+ghost use Rattle.rs_protocol.specs.Puts.{PutsBut};
+ghost use Rattle.rs_syntax.specs.Tree.{CommandTree};
+ghost use Rattle.rs_csv_lines.specs.declared.plan.Plan.{Plan};
+ghost use Rattle.rs_csv.specs.Output.{AreLines, AreLinesOf, Ends, GoesFar, GoesOn, IsDefinition, IsPlanOf, IsQuiet, Makes, plan_in, table_of};
+
+use crate::batch::{Batch, Taken};
+use crate::definition::{Definition, read_definition};
+use crate::header::make_plan;
+use crate::made::{Made, push_line, take_record};
+use crate::routes::{Extent, push_route};
+use crate::tell::{tell_long_record, tell_route};
+use arrayvec::ArrayVec;
+use csv::{ByteRecord, ReaderBuilder};
+use rs_csv_lines::Plan;
+use rs_methods::Name;
+use rs_protocol::{Fault, put_parts};
+use std::alloc::{AllocError, AllocFailed, Global};
+use std::io::{Read, Write};
+
+/// How many bytes are read at once, at the most.
+const PIECE_BYTES: usize = 4_096;
+
+/// What comes before a text of UTF-8 that says so.
+const BYTE_ORDER_MARK: [u8; 3] = [0xef, 0xbb, 0xbf];
+
+/// What is to be made of a CSV.
+#[derive(Clone, Copy)]
+pub struct Wanted<'a> {
+    /// The DEFINE TABLE.
+    pub define: &'a str,
+    /// The session of the lines, from 0 to 63.
+    pub session: u8,
+    /// The column of the CSV that gives the route.
+    pub route: &'a str,
+    /// The column that says where a span begins.
+    pub from: &'a str,
+    /// The column that says where it ends.
+    pub to: &'a str,
+    /// The column that says where a point is.
+    pub at: &'a str,
+    /// `column=name`, where the CSV has another name for a column.
+    pub columns: &'a [&'a str],
+    /// Whether the line that defines the table is written.
+    pub defines_table: bool,
+    /// Whether lines that define the routes are written.
+    pub defines_routes: bool,
+}
+
+/// Why not all of the input was read.
+#[derive(Clone, Copy, PartialEq, Eq, Debug)]
+pub enum Stop {
+    /// The words define no table.
+    NoTable,
+    /// The header lacks a column, or has it twice, which was told.
+    NoColumn,
+    /// A growth was refused.
+    OutOfMemory,
+    /// The input or the output failed.
+    Stream(Fault),
+}
+
+/// Want of memory.
+impl From<AllocError> for Stop {
+    ghost use Rattle.std.specs.Prelude.{◌≡◌};
+    ghost use Rattle.rs_csv.specs.declared.filter.Stop.TheVariants.{OutOfMemory};
+
+    ghost from_gives = { λ _ stop. stop ≡ OutOfMemory };
+
+    fn from(_refused: AllocError) -> Stop {
+        Stop::OutOfMemory
+    }
+}
+
+/// Want of memory. The value that found no room is dropped.
+impl<T: Drop> From<AllocFailed<T>> for Stop {
+    ghost use Rattle.std.specs.Prelude.{◌≡◌};
+    ghost use Rattle.rs_csv.specs.declared.filter.Stop.TheVariants.{OutOfMemory};
+
+    ghost from_gives = { λ _ stop. stop ≡ OutOfMemory };
+
+    fn from(_refused: AllocFailed<T>) -> Stop {
+        Stop::OutOfMemory
+    }
+}
+
+/// What is to be made, with the table that its words define.
+#[derive(Drop)]
+pub struct Job<'a> {
+    /// Where memory is taken.
+    pub alloc: Global,
+    /// What is to be made.
+    pub wanted: Wanted<'a>,
+    /// The table.
+    pub definition: Definition,
+}
+
+/// How the records are made into lines, by their header.
+#[derive(Drop)]
+pub struct Planned {
+    /// What is to be written for each record.
+    pub plan: Plan,
+    /// The names of the fields.
+    pub header: ByteRecord,
+}
+
+/// What was read and made so far.
+#[derive(Drop)]
+pub struct Progress {
+    /// The plan, once the header was read.
+    pub planned: Option<Planned>,
+    /// What is made of the records.
+    pub made: Made,
+}
+
+// Makes the line that defines the table, where it is wanted.
+fn put_definition(job: &Job<'_>, bytes: &mut Vec<u8>) -> Result<(), AllocError>
+    requires { IsDefinition job.now.wanted.session job.now.definition }
+    ensures { OnOk result ((plan : Plan) → GoesOn job.now.wanted.session (table_of job.now.definition) plan bytes.old.items bytes.new.items) }
+{
+    if !job.wanted.defines_table {
+        return Ok(());
+    }
+    push_line(bytes, job.definition.line.as_str())
+}
+
+// Takes the first record, which is the header.
+fn take_header<E: Write>(
+    job: &Job<'_>,
+    header: ByteRecord,
+    made: &mut Made,
+    errors: &mut E,
+) -> Result<Planned, Stop>
+    requires in_range { job.now.wanted.session < 64 }
+    requires defines { IsDefinition job.now.wanted.session job.now.definition }
+    ensures made { IfOk result (λ planned. IsPlanOf job.now.wanted.session (table_of job.now.definition) planned.plan
+        × GoesOn job.now.wanted.session (table_of job.now.definition) planned.plan made.old.bytes.items made.new.bytes.items) }
+    ensures quiet { OnOk result (IsQuiet made.old.has_told made.new.has_told (E.contents errors.old) (E.contents errors.new)) }
+{
+    let plan = make_plan(job.alloc, &job.definition, &header, &job.wanted, errors)?;
+    put_definition(job, &mut made.bytes)?;
+    Ok(Planned { plan, header })
+}
+
+// Takes a record.
+fn take_next<E: Write>(
+    job: &Job<'_>,
+    record: &ByteRecord,
+    progress: &mut Progress,
+    errors: &mut E,
+) -> Result<(), Stop>
+    requires in_range { job.now.wanted.session < 64 }
+    requires defines { IsDefinition job.now.wanted.session job.now.definition }
+    requires planned { IfSome (plan_in progress.old) (IsPlanOf job.now.wanted.session (table_of job.now.definition)) }
+    ensures made { OnOk result (Makes job.now.wanted.session (table_of job.now.definition) (plan_in progress.old) progress.old.made.bytes.items
+        (plan_in progress.new) progress.new.made.bytes.items) }
+    ensures quiet { OnOk result (IsQuiet progress.old.made.has_told progress.new.made.has_told (E.contents errors.old) (E.contents errors.new)) }
+{
+    match &progress.planned {
+        Some(planned) => take_record(
+            job.alloc,
+            &planned.plan,
+            &planned.header,
+            record,
+            &mut progress.made,
+            errors,
+        ),
+        None => {
+            let planned = take_header(job, record.clone()?, &mut progress.made, errors)?;
+            progress.planned = Some(planned);
+            Ok(())
+        }
+    }
+}
+
+// Makes the lines of the records of a text.
+fn read_records<E: Write>(
+    job: &Job<'_>,
+    text: &[u8],
+    progress: &mut Progress,
+    errors: &mut E,
+) -> Result<(), Stop>
+    requires in_range { job.now.wanted.session < 64 }
+    requires defines { IsDefinition job.now.wanted.session job.now.definition }
+    requires planned { IfSome (plan_in progress.old) (IsPlanOf job.now.wanted.session (table_of job.now.definition)) }
+    ensures made { OnOk result (Makes job.now.wanted.session (table_of job.now.definition) (plan_in progress.old) progress.old.made.bytes.items
+        (plan_in progress.new) progress.new.made.bytes.items) }
+    ensures quiet { OnOk result (IsQuiet progress.old.made.has_told progress.new.made.has_told (E.contents errors.old) (E.contents errors.new)) }
+{
+    let mut reader = ReaderBuilder::new()
+        .has_headers(false)
+        .flexible(true)
+        .from_reader(job.alloc, text);
+    let mut record = ByteRecord::new(job.alloc);
+    'records: for _ in 0..u64::MAX {
+        match reader.read_byte_record(&mut record) {
+            Ok(true) => take_next(job, &record, progress, errors)?,
+            Ok(false) => return Ok(()),
+            Err(_) => return Err(Stop::OutOfMemory),
+        }
+    }
+    Err(Stop::OutOfMemory)
+}
+
+// Writes the lines that were made. Where routes are to be defined they wait for the end.
+fn write_made<W: Write>(job: &Job<'_>, made: &mut Made, output: &mut W) -> Result<(), Stop>
+    ensures sent { OnOk result (((made.new.bytes.items ≡ made.old.bytes.items) × (W.contents output.new ≡ W.contents output.old))
+        ⊎ ((made.new.bytes.items ≡ []) × Appends (W.contents output.old) (W.contents output.new) made.old.bytes.items)) }
+    ensures fault { OnErr result ((lost : List ℕ) × PutsBut made.old.bytes.items lost (W.contents output.old) (W.contents output.new)) }
+    ensures told { made.new.has_told ≡ made.old.has_told }
+{
+    if job.wanted.defines_routes {
+        return Ok(());
+    }
+    match put_parts(output, &[made.bytes.as_slice()]) {
+        Ok(()) => {
+            made.bytes.clear();
+            Ok(())
+        }
+        Err(fault) => Err(Stop::Stream(fault)),
+    }
+}
+
+// The line that defines a route. One on which no measure was met is told.
+fn put_route<E: Write>(
+    job: &Job<'_>,
+    route: (Name, Extent),
+    lines: &mut Vec<u8>,
+    made: &mut Made,
+    errors: &mut E,
+) -> Result<(), Stop>
+    requires { job.now.wanted.session < 64 }
+    ensures lines { OnOk result ((table : CommandTree) (plan : Plan) → GoesOn job.now.wanted.session table plan lines.old.items lines.new.items) }
+    ensures bytes { made.new.bytes.items ≡ made.old.bytes.items }
+    ensures quiet { OnOk result (IsQuiet made.old.has_told made.new.has_told (E.contents errors.old) (E.contents errors.new)) }
+{
+    let (name, extent) = route;
+    match extent.ends {
+        Some(ends) => push_route(job.alloc, job.wanted.session, name, ends, lines),
+        None => {
+            made.has_told = true;
+            tell_route(errors, name.as_str());
+            Ok(())
+        }
+    }
+}
+
+// The lines that define the routes.
+fn route_lines<E: Write>(job: &Job<'_>, made: &mut Made, errors: &mut E) -> Result<Vec<u8>, Stop>
+    requires { job.now.wanted.session < 64 }
+    ensures lines { IfOk result (λ lines. (table : CommandTree) (plan : Plan) → AreLines job.now.wanted.session table plan lines.items) }
+    ensures bytes { OnOk result (made.new.bytes.items ≡ made.old.bytes.items) }
+    ensures quiet { OnOk result (IsQuiet made.old.has_told made.new.has_told (E.contents errors.old) (E.contents errors.new)) }
+{
+    let mut lines = Vec::new(job.alloc);
+    let Some(mut extents) = made.extents.take() else {
+        return Ok(lines);
+    };
+    'routes: for _ in 0..u64::MAX {
+        match extents.pop_first() {
+            Some(route) => put_route(job, route, &mut lines, made, errors)?,
+            None => return Ok(lines),
+        }
+    }
+    Ok(lines)
+}
+
+// Writes the lines that define the routes, and those that wait for them.
+fn write_rest<W: Write, E: Write>(
+    job: &Job<'_>,
+    made: &mut Made,
+    output: &mut W,
+    errors: &mut E,
+) -> Result<(), Stop>
+    requires { job.now.wanted.session < 64 }
+    ensures wrote { (table : CommandTree) (plan : Option Plan) (before : Option (List ℕ)) (sent : List ℕ) → Appends before (W.contents output.old) sent
+        → AreLinesOf job.now.wanted.session table plan sent → AreLinesOf job.now.wanted.session table plan made.old.bytes.items
+        → Ends job.now.wanted.session table result before (W.contents output.new) }
+    ensures quiet { OnOk result (IsQuiet made.old.has_told made.new.has_told (E.contents errors.old) (E.contents errors.new)) }
+{
+    let routes = match route_lines(job, made, errors) {
+        Ok(routes) => routes,
+        Err(stop) => return Err(stop),
+    };
+    match put_parts(output, &[routes.as_slice(), made.bytes.as_slice()]) {
+        Ok(()) => Ok(()),
+        Err(fault) => Err(Stop::Stream(fault)),
+    }
+}
+
+// Makes the lines of the records of a batch, and takes them away.
+fn make_lines<W: Write, E: Write>(
+    job: &Job<'_>,
+    batch: &mut Batch,
+    progress: &mut Progress,
+    output: &mut W,
+    errors: &mut E,
+) -> Result<(), Stop>
+    requires in_range { job.now.wanted.session < 64 }
+    requires defines { IsDefinition job.now.wanted.session job.now.definition }
+    requires planned { IfSome (plan_in progress.old) (IsPlanOf job.now.wanted.session (table_of job.now.definition)) }
+    ensures planned { OnOk result (IfSome (plan_in progress.new) (IsPlanOf job.now.wanted.session (table_of job.now.definition))) }
+    ensures far { GoesFar job.now.wanted.session (table_of job.now.definition) result progress.old progress.new (W.contents output.old) (W.contents output.new) }
+    ensures quiet { OnOk result (IsQuiet progress.old.made.has_told progress.new.made.has_told (E.contents errors.old) (E.contents errors.new)) }
+{
+    if let Err(stop) = read_records(job, batch.text(), progress, errors) {
+        return Err(stop);
+    }
+    batch.clear();
+    write_made(job, &mut progress.made, output)
+}
+
+// Tells of a record that is too long. There is no header after one that is.
+fn leave_out_long<E: Write>(progress: &mut Progress, errors: &mut E) -> Result<(), Stop>
+    ensures plan { plan_in progress.new ≡ plan_in progress.old }
+    ensures bytes { progress.new.made.bytes.items ≡ progress.old.made.bytes.items }
+    ensures told { progress.new.made.has_told ≡ true }
+{
+    if progress.planned.is_some() {
+        progress.made.number = progress.made.number.saturating_add(1);
+    }
+    progress.made.has_told = true;
+    tell_long_record(errors, progress.made.number);
+    if progress.planned.is_some() {
+        Ok(())
+    } else {
+        Err(Stop::NoColumn)
+    }
+}
+
+// Takes a byte of the input.
+fn take_byte<W: Write, E: Write>(
+    job: &Job<'_>,
+    batch: &mut Batch,
+    byte: u8,
+    progress: &mut Progress,
+    output: &mut W,
+    errors: &mut E,
+) -> Result<(), Stop>
+    requires in_range { job.now.wanted.session < 64 }
+    requires defines { IsDefinition job.now.wanted.session job.now.definition }
+    requires planned { IfSome (plan_in progress.old) (IsPlanOf job.now.wanted.session (table_of job.now.definition)) }
+    ensures planned { OnOk result (IfSome (plan_in progress.new) (IsPlanOf job.now.wanted.session (table_of job.now.definition))) }
+    ensures far { GoesFar job.now.wanted.session (table_of job.now.definition) result progress.old progress.new (W.contents output.old) (W.contents output.new) }
+    ensures quiet { OnOk result (IsQuiet progress.old.made.has_told progress.new.made.has_told (E.contents errors.old) (E.contents errors.new)) }
+{
+    let Ok(taken) = batch.take(byte) else {
+        return Err(Stop::OutOfMemory);
+    };
+    match taken {
+        Taken::Within => Ok(()),
+        Taken::Ended => {
+            if batch.is_full() {
+                make_lines(job, batch, progress, output, errors)
+            } else {
+                Ok(())
+            }
+        }
+        Taken::TooLong => make_lines(job, batch, progress, output, errors),
+        Taken::EndedLong => leave_out_long(progress, errors),
+    }
+}
+
+// Takes the bytes of a piece.
+fn take_piece<W: Write, E: Write>(
+    job: &Job<'_>,
+    batch: &mut Batch,
+    piece: &[u8],
+    progress: &mut Progress,
+    output: &mut W,
+    errors: &mut E,
+) -> Result<(), Stop>
+    requires in_range { job.now.wanted.session < 64 }
+    requires defines { IsDefinition job.now.wanted.session job.now.definition }
+    requires planned { IfSome (plan_in progress.old) (IsPlanOf job.now.wanted.session (table_of job.now.definition)) }
+    ensures planned { OnOk result (IfSome (plan_in progress.new) (IsPlanOf job.now.wanted.session (table_of job.now.definition))) }
+    ensures far { GoesFar job.now.wanted.session (table_of job.now.definition) result progress.old progress.new (W.contents output.old) (W.contents output.new) }
+    ensures quiet { OnOk result (IsQuiet progress.old.made.has_told progress.new.made.has_told (E.contents errors.old) (E.contents errors.new)) }
+{
+    for byte in piece {
+        if let Err(stop) = take_byte(job, batch, *byte, progress, output, errors) {
+            return Err(stop);
+        }
+    }
+    Ok(())
+}
+
+// The first three bytes of the input, or all where there are fewer.
+fn read_head<R: Read>(input: &mut R) -> Result<ArrayVec<u8, 3>, Stop> {
+    let mut head = ArrayVec::new();
+    for _ in 0..3 {
+        let mut one = [0u8; 1];
+        match input.read(&mut one) {
+            Ok(0) => return Ok(head),
+            Ok(_) => {
+                if !head.is_full() {
+                    head.push(one[0]);
+                }
+            }
+            Err(_) => return Err(Stop::Stream(Fault::Read)),
+        }
+    }
+    Ok(head)
+}
+
+// Reads the head of the input, and takes it where it is no byte order mark.
+fn take_head<R: Read, W: Write, E: Write>(
+    job: &Job<'_>,
+    batch: &mut Batch,
+    progress: &mut Progress,
+    input: &mut R,
+    output: &mut W,
+    errors: &mut E,
+) -> Result<(), Stop>
+    requires in_range { job.now.wanted.session < 64 }
+    requires defines { IsDefinition job.now.wanted.session job.now.definition }
+    requires planned { IfSome (plan_in progress.old) (IsPlanOf job.now.wanted.session (table_of job.now.definition)) }
+    ensures planned { OnOk result (IfSome (plan_in progress.new) (IsPlanOf job.now.wanted.session (table_of job.now.definition))) }
+    ensures far { GoesFar job.now.wanted.session (table_of job.now.definition) result progress.old progress.new (W.contents output.old) (W.contents output.new) }
+    ensures quiet { OnOk result (IsQuiet progress.old.made.has_told progress.new.made.has_told (E.contents errors.old) (E.contents errors.new)) }
+{
+    let head = match read_head(input) {
+        Ok(head) => head,
+        Err(stop) => return Err(stop),
+    };
+    if head.as_slice() == BYTE_ORDER_MARK.as_slice() {
+        return Ok(());
+    }
+    take_piece(job, batch, head.as_slice(), progress, output, errors)
+}
+
+// Takes the end of the input.
+fn take_end<W: Write, E: Write>(
+    job: &Job<'_>,
+    batch: &mut Batch,
+    progress: &mut Progress,
+    output: &mut W,
+    errors: &mut E,
+) -> Result<(), Stop>
+    requires in_range { job.now.wanted.session < 64 }
+    requires defines { IsDefinition job.now.wanted.session job.now.definition }
+    requires planned { IfSome (plan_in progress.old) (IsPlanOf job.now.wanted.session (table_of job.now.definition)) }
+    ensures planned { OnOk result (IfSome (plan_in progress.new) (IsPlanOf job.now.wanted.session (table_of job.now.definition))) }
+    ensures far { GoesFar job.now.wanted.session (table_of job.now.definition) result progress.old progress.new (W.contents output.old) (W.contents output.new) }
+    ensures quiet { OnOk result (IsQuiet progress.old.made.has_told progress.new.made.has_told (E.contents errors.old) (E.contents errors.new)) }
+{
+    if batch.is_within_long() {
+        if let Err(stop) = leave_out_long(progress, errors) {
+            return Err(stop);
+        }
+    }
+    make_lines(job, batch, progress, output, errors)
+}
+
+// Reads the records to the end of the input.
+fn read_all<R: Read, W: Write, E: Write>(
+    job: &Job<'_>,
+    progress: &mut Progress,
+    input: &mut R,
+    output: &mut W,
+    errors: &mut E,
+) -> Result<(), Stop>
+    requires in_range { job.now.wanted.session < 64 }
+    requires defines { IsDefinition job.now.wanted.session job.now.definition }
+    requires planned { IfSome (plan_in progress.old) (IsPlanOf job.now.wanted.session (table_of job.now.definition)) }
+    ensures planned { OnOk result (IfSome (plan_in progress.new) (IsPlanOf job.now.wanted.session (table_of job.now.definition))) }
+    ensures far { GoesFar job.now.wanted.session (table_of job.now.definition) result progress.old progress.new (W.contents output.old) (W.contents output.new) }
+    ensures quiet { OnOk result (IsQuiet progress.old.made.has_told progress.new.made.has_told (E.contents errors.old) (E.contents errors.new)) }
+{
+    let Ok(mut batch) = Batch::new(job.alloc) else {
+        return Err(Stop::OutOfMemory);
+    };
+    if let Err(stop) = take_head(job, &mut batch, progress, input, output, errors) {
+        return Err(stop);
+    }
+    let mut piece = [0u8; PIECE_BYTES];
+    'pieces: for _ in 0..u64::MAX {
+        match input.read(&mut piece) {
+            Ok(0) => return take_end(job, &mut batch, progress, output, errors),
+            Ok(count) => {
+                if let Err(stop) = take_piece(
+                    job,
+                    &mut batch,
+                    &piece[..count],
+                    progress,
+                    output,
+                    errors,
+                ) {
+                    return Err(stop);
+                }
+            }
+            Err(_) => return Err(Stop::Stream(Fault::Read)),
+        }
+    }
+    Err(Stop::Stream(Fault::Read))
+}
+
+/// Writes the lines of a CSV, and says whether something was told and left out.
+///
+/// `NoTable` where the words define no table; `NoColumn` where the header lacks a column, which is told. Then nothing is written.
+pub fn write_lines<R: Read, W: Write, E: Write>(
+    alloc: Global,
+    wanted: Wanted<'_>,
+    input: &mut R,
+    output: &mut W,
+    errors: &mut E,
+) -> Result<bool, Stop>
+    requires { wanted.session < 64 }
+    ensures wrote { (table : CommandTree) × Ends wanted.entry.session table result (W.contents output.old) (W.contents output.new) }
+    ensures quiet { result ≡ Ok false → Keeps (E.contents errors.old) (E.contents errors.new) }
+{
+    let session = wanted.session;
+    let definition = match read_definition(alloc, session, wanted.define) {
+        Ok(definition) => definition,
+        Err(stop) => return Err(stop),
+    };
+    let job = Job {
+        alloc,
+        wanted,
+        definition,
+    };
+    let made = Made::new(alloc, wanted.defines_routes);
+    let mut progress = Progress {
+        planned: None,
+        made,
+    };
+    if let Err(stop) = read_all(&job, &mut progress, input, output, errors) {
+        return Err(stop);
+    }
+    if let Err(stop) = write_rest(&job, &mut progress.made, output, errors) {
+        return Err(stop);
+    }
+    Ok(progress.made.has_told)
+}

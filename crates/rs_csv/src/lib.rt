@@ -1,0 +1,16 @@
+//! CSV to lines: a table of records becomes the lines that define it and insert its rows.
+//!
+//! `write_lines` is a filter: records go one by one, and one that says no row is told and left out. It promises that nothing is
+//! written but lines that define the table and its routes, and the INSERTs of records.
+#![tactic(auto)]
+
+pub mod batch;
+pub mod definition;
+pub mod filter;
+pub mod header;
+pub mod made;
+pub mod quoting;
+pub mod routes;
+pub mod tell;
+
+pub use filter::{Stop, Wanted, write_lines};
