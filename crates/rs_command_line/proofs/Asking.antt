@@ -18,7 +18,7 @@ use Rattle.clap.specs.declared.builder.value_parser.Reading.{Reading}
 use Rattle.clap.specs.declared.builder.value_parser.Reading.TheVariants.{WithoutMinus}
 use Rattle.clap.specs.declared.builder.value_parser.ValueParser.TheVariants.{Signed, Unsigned}
 use Rattle.clap.proofs.ValueTestLemmas.{Accepts-accepts, accepts-Accepts}
-use Rattle.rs_command_line.specs.CommandLine.{command_line, connections_option, create_command, file_option, listen_option, run_command, serve_command}
+use Rattle.rs_command_line.specs.CommandLine.{command_line, connections_option, create_command, csv_command, explain_command, file_option, listen_option, run_command, serve_command}
 use Rattle.rs_command_line.specs.Asked.{address_in, asked_by, asked_of, connections_in, creates, file_in, serves}
 use Rattle.rs_command_line.proofs.Rows.{AllDefaults, AllSound, Full, IsSound, default_gives_row, default_keeps_row, defaults_full, found_row, given_row, neither, no_kind, option_sound, request_sound}
 use Rattle.rs_command_line.proofs.Walks.{settle_full, walk_good}
@@ -61,6 +61,12 @@ create_shape = built_leaf (inherited above create_command.top)
 
 abbrev run_shape : Shape
 run_shape = built_leaf (inherited above run_command.top)
+
+abbrev csv_shape : Shape
+csv_shape = built_leaf (inherited above csv_command.top)
+
+abbrev explain_shape : Shape
+explain_shape = built_leaf (inherited above explain_command.top)
 
 abbrev help_leaf : Shape
 help_leaf = built_leaf help_shape
@@ -129,9 +135,6 @@ top_sound = (help_sound, (version_sound, tt))
 create_sound : AllSound IsNumber create_shape.rules
 create_sound = (file_sound true, (help_sound, tt))
 
-run_sound : AllSound IsNumber run_shape.rules
-run_sound = (file_sound false, (help_sound, tt))
-
 serve_sound : AllSound IsNumber serve_shape.rules
 serve_sound = (file_sound true, (listen_sound, (connections_sound, (help_sound, tt))))
 
@@ -140,9 +143,6 @@ no_value v vs e = cc
 
 create_defaults : AllDefaults IsNumber create_shape.rules
 create_defaults = ((λ v vs e. absurd (no_value v vs e)), ((λ v vs e. absurd (no_value v vs e)), tt))
-
-run_defaults : AllDefaults IsNumber run_shape.rules
-run_defaults = ((λ v vs e. absurd (no_value v vs e)), ((λ v vs e. absurd (no_value v vs e)), tt))
 
 one_is_taken : (v : Text) (vs : List Text) → codes "1" ∷ [] ≡ v ∷ vs → accepts false (Signed (pos 1) (pos 1000000)) v ≡ true
 one_is_taken v vs e =
@@ -228,16 +228,18 @@ no_help_met name other same = go (bytes_eq (codes "help") name) refl same
         true≢false (sym ((bytes_eq-Decides name (codes "help")).1 (sym is)) ∙ other)
     go false same e = true≢false (sym e)
 
--- the command that was met, of which there are three
-met : (words : List Text) (a b c d : Bool) → (d ≡ true → ⊥)
-    → option_map_or (λ s. level_fault s [] nothing_held words false []) (cond a (Some create_shape) (cond b (Some run_shape) (cond c (Some serve_shape) (cond d (Some help_leaf) None)))) [] ≡ []
-    → is_some (option_map (λ s. rows_at s words) (cond a (Some create_shape) (cond b (Some run_shape) (cond c (Some serve_shape) (cond d (Some help_leaf) None))))) ≡ true
-    → IsSome (option_and_then asked_by (option_map (λ s. rows_at s words) (cond a (Some create_shape) (cond b (Some run_shape) (cond c (Some serve_shape) (cond d (Some help_leaf) None))))))
-met words true b c d other e has = create_asks words e
-met words false true c d other e has = refl
-met words false false true d other e has = serve_asks words e
-met words false false false true other e has = absurd (other refl)
-met words false false false false other e has = absurd (true≢false (sym has))
+-- the command that was met, one of those that there are
+met : (words : List Text) (a b c d e f : Bool) → (f ≡ true → ⊥)
+    → option_map_or (λ s. level_fault s [] nothing_held words false []) (cond a (Some create_shape) (cond b (Some run_shape) (cond c (Some csv_shape) (cond d (Some explain_shape) (cond e (Some serve_shape) (cond f (Some help_leaf) None)))))) [] ≡ []
+    → is_some (option_map (λ s. rows_at s words) (cond a (Some create_shape) (cond b (Some run_shape) (cond c (Some csv_shape) (cond d (Some explain_shape) (cond e (Some serve_shape) (cond f (Some help_leaf) None))))))) ≡ true
+    → IsSome (option_and_then asked_by (option_map (λ s. rows_at s words) (cond a (Some create_shape) (cond b (Some run_shape) (cond c (Some csv_shape) (cond d (Some explain_shape) (cond e (Some serve_shape) (cond f (Some help_leaf) None))))))))
+met words true b c d e f other fault has = create_asks words fault
+met words false true c d e f other fault has = refl
+met words false false true d e f other fault has = refl
+met words false false false true e f other fault has = refl
+met words false false false false true f other fault has = serve_asks words fault
+met words false false false false false true other fault has = absurd (other refl)
+met words false false false false false false other fault has = absurd (true≢false (sym has))
 
 -- a command is demanded
 demanded : (rows : List Row) (has : Bool) → check_fault (built command_line).top rows has ≡ [] → has ≡ true
@@ -248,7 +250,7 @@ entered_asks : (stop : Option (Text × List Text)) → IfSome stop (λ p. bytes_
     → is_some (entered (built command_line) stop) ≡ true → IsSome (option_and_then asked_by (entered (built command_line) stop))
 entered_asks None other e has = absurd (true≢false (sym has))
 entered_asks (Some p) other e has =
-    met p.1 (answers_to p.0 (codes "create", [])) (answers_to p.0 (codes "run", [])) (answers_to p.0 (codes "serve", [])) (answers_to p.0 (codes "help", []))
+    met p.1 (answers_to p.0 (codes "create", [])) (answers_to p.0 (codes "run", [])) (answers_to p.0 (codes "csv", [])) (answers_to p.0 (codes "explain", [])) (answers_to p.0 (codes "serve", [])) (answers_to p.0 (codes "help", []))
     (no_help_met p.0 other) e has
 
 pub words_ask : (words : List Text) → fault_of command_line words ≡ [] → IsSome (asked_of words)

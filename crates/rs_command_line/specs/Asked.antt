@@ -1,14 +1,28 @@
 -- What the words of the command line ask.
-use Rattle.std.specs.Prelude.{◌≤◌, ◌==◌, ⊤, ℕ, Bool, false, List, [], ◌∷◌, Option, Some, None, codes, if◌then◌else◌}
+use Rattle.std.specs.Prelude.{◌≤◌, ◌==◌, ⊤, ℕ, Bool, false, ◌||◌, unwrap_or, map, List, [], ◌∷◌, Option, Some, None, codes, if◌then◌else◌}
 use Rattle.std.specs.Prelude.{option_map, option_and_then}
 use Rattle.std.specs.Option.{option_map_or}
 use Rattle.std.specs.Str.{bytes_eq}
 use Rattle.std.specs.Str.Parse.{digits_value, without_leading_plus}
 use Rattle.clap.specs.ValueTests.{is_unsigned_in}
-use Rattle.clap.specs.Words.{Row, Text, first_of, one_of, subcommand_of}
+use Rattle.clap.specs.Words.{Row, Text, all_of, first_of, one_of, subcommand_of}
 use Rattle.rs_command_line.specs.CommandLine.{command_line}
+use Rattle.std.specs.Borrow.{Bor}
+use Rattle.rs_command_line.specs.declared.command_line.CsvWords.{CsvWords}
 use Rattle.rs_command_line.specs.declared.command_line.Asked.{Asked}
 use Rattle.rs_command_line.specs.declared.command_line.Asked.TheVariants as asked
+
+-- What `csv` is told.
+pub record CsvSaid : Type 0 where
+  pub define : Option Text
+  pub route : Option Text
+  pub from : Option Text
+  pub to : Option Text
+  pub at : Option Text
+  pub session : Option Text
+  pub columns : List Text
+  pub omits_definition : Bool
+  pub defines_routes : Bool
 
 -- What is asked, with its texts and its number: a file is made, lines are answered over memory or over a file, or
 -- so many connections on an address are served over a file.
@@ -16,6 +30,9 @@ pub data Said : Type 0 where
   creates : Text → Said
   runs : Said
   runs_over : Text → Said
+  watches : Option Text → (bails : Bool) → (reports : Bool) → Said
+  converts : CsvSaid → Said
+  explains : Option Text → Said
   serves : Text → Text → ℕ → Said
 
 -- the number that a text writes in digits, where it is from 1 to 1000000
@@ -37,8 +54,34 @@ connections_in rows = option_and_then number_in (one_of (codes "connections") ro
 abbrev pub asked_by_create : List Row → Option Said
 asked_by_create rows = option_map creates (file_in rows)
 
+-- whether a flag is given
+abbrev pub is_true : Option Text → Bool
+is_true None = false
+is_true (Some text) = bytes_eq text (codes "true")
+
+abbrev pub flag_in : Text → List Row → Bool
+flag_in id rows = is_true (first_of id rows)
+
 abbrev pub asked_by_run : List Row → Option Said
-asked_by_run rows = Some (option_map_or runs_over (file_in rows) runs)
+asked_by_run rows =
+    Some (if flag_in (codes "bail") rows || flag_in (codes "report") rows then watches (file_in rows) (flag_in (codes "bail") rows) (flag_in (codes "report") rows)
+    else option_map_or runs_over (file_in rows) runs)
+
+abbrev pub asked_by_csv : List Row → Option Said
+asked_by_csv rows = Some (converts (record {
+  define = first_of (codes "define") rows;
+  route = first_of (codes "route") rows;
+  from = first_of (codes "from") rows;
+  to = first_of (codes "to") rows;
+  at = first_of (codes "at") rows;
+  session = first_of (codes "session") rows;
+  columns = unwrap_or (all_of (codes "column") rows) [];
+  omits_definition = flag_in (codes "no-define") rows;
+  defines_routes = flag_in (codes "routes") rows;
+}))
+
+abbrev pub asked_by_explain : List Row → Option Said
+asked_by_explain rows = Some (explains (first_of (codes "refusal") rows))
 
 abbrev pub asked_by_serve : List Row → Option Said
 asked_by_serve rows = option_and_then (λ file. option_and_then (λ address.
@@ -48,17 +91,39 @@ asked_by_serve rows = option_and_then (λ file. option_and_then (λ address.
 abbrev pub asked_by : Text × List Row → Option Said
 asked_by command = if bytes_eq command.0 (codes "create") then asked_by_create command.1
     else (if bytes_eq command.0 (codes "run") then asked_by_run command.1
-    else (if bytes_eq command.0 (codes "serve") then asked_by_serve command.1 else None))
+    else (if bytes_eq command.0 (codes "csv") then asked_by_csv command.1
+    else (if bytes_eq command.0 (codes "explain") then asked_by_explain command.1
+    else (if bytes_eq command.0 (codes "serve") then asked_by_serve command.1 else None))))
 
 -- what the words ask, the program's own name first: that of the command that they name
 abbrev pub asked_of : List Text → Option Said
 asked_of words = option_and_then asked_by (subcommand_of command_line words)
+
+-- a text that was given or not
+abbrev pub given_text : Option (Bor Text) → Option Text
+given_text text = option_map (λ t. t.now) text
+
+abbrev pub csv_said : CsvWords → CsvSaid
+csv_said words = record {
+  define = given_text words.define;
+  route = given_text words.route;
+  from = given_text words.from;
+  to = given_text words.to;
+  at = given_text words.at;
+  session = given_text words.session;
+  columns = map (λ t. t.now) words.columns.items;
+  omits_definition = words.omits_definition;
+  defines_routes = words.defines_routes;
+}
 
 -- what an answer says is asked
 abbrev pub said_by : Asked → Said
 said_by (asked.Create file) = creates file.now
 said_by asked.Run = runs
 said_by (asked.RunFile file) = runs_over file.now
+said_by (asked.RunWatched file bails reports) = watches (given_text file) bails reports
+said_by (asked.Csv words) = converts (csv_said words)
+said_by (asked.Explain refusal) = explains (given_text refusal)
 said_by (asked.Serve file address connections) = serves file.now address.now connections
 
 -- from 1 to 1000000 connections are served

@@ -1,7 +1,8 @@
 -- The command line that the program takes.
 use Rattle.std.specs.Prelude.{Bool, true, false, pos, Some, [], ◌∷◌, codes}
-use Rattle.clap.specs.Words.{App, Rule, new_app, new_rule, with_rule, with_subcommand}
+use Rattle.clap.specs.Words.{App, Rule, Text, new_app, new_rule, with_rule, with_subcommand}
 use Rattle.clap.specs.Simple.{on_top}
+use Rattle.clap.specs.declared.builder.action.ArgAction.TheVariants.{Append, SetTrue}
 use Rattle.clap.specs.declared.builder.value_parser.ValueParser.TheVariants.{Signed}
 
 -- `--file FILE`, which is required or not
@@ -29,8 +30,36 @@ connections_option = record (new_rule (codes "connections")) {
 abbrev pub create_command : App
 create_command = with_rule (new_app (codes "create")) (file_option true)
 
+-- `--ID TEXT`
+abbrev pub text_option : Text → Rule
+text_option id = record (new_rule id) { long = Some id; value_names = 1 }
+
+-- `--column COLUMN=NAME`, as often as it is wanted
+abbrev pub column_option : Rule
+column_option = record (text_option (codes "column")) { action = Some Append }
+
+-- `--ID`
+abbrev pub flag : Text → Rule
+flag id = record (new_rule id) { long = Some id; action = Some SetTrue }
+
+-- what stands by itself: the DEFINE TABLE of `csv`, and the number of `explain`
+abbrev pub define_argument : Rule
+define_argument = record (new_rule (codes "define")) { value_names = 1; required = true }
+
+abbrev pub refusal_argument : Rule
+refusal_argument = record (new_rule (codes "refusal")) { value_names = 1 }
+
 abbrev pub run_command : App
-run_command = with_rule (new_app (codes "run")) (file_option false)
+run_command = with_rule (with_rule (with_rule (new_app (codes "run")) (file_option false)) (flag (codes "bail"))) (flag (codes "report"))
+
+abbrev pub csv_command : App
+csv_command =
+    let fields = with_rule (with_rule (with_rule (with_rule (with_rule (new_app (codes "csv")) define_argument) (text_option (codes "route"))) (text_option (codes "from")))
+    (text_option (codes "to"))) (text_option (codes "at")) in
+    with_rule (with_rule (with_rule (with_rule fields column_option) (text_option (codes "session"))) (flag (codes "no-define"))) (flag (codes "routes"))
+
+abbrev pub explain_command : App
+explain_command = with_rule (new_app (codes "explain")) refusal_argument
 
 abbrev pub serve_command : App
 serve_command =
@@ -42,5 +71,5 @@ abbrev pub command_line : App
 command_line =
     let top = on_top (λ top. record top { has_version = true; subcommand_required = true })
     (new_app (codes "roadseg")) in
-    with_subcommand (with_subcommand (with_subcommand top create_command.top) run_command.top)
-    serve_command.top
+    with_subcommand (with_subcommand (with_subcommand (with_subcommand (with_subcommand top create_command.top) run_command.top) csv_command.top)
+    explain_command.top) serve_command.top

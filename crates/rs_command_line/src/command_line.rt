@@ -3,20 +3,46 @@
 //! `clap` writes the help and the messages, fills in the defaults, and checks the number of
 //! connections.
 
-ghost use Rattle.std.specs.Prelude.{◌≡◌, IfOk, Some, IsSome, map, false, option_and_then};
-ghost use Rattle.clap.specs.Words.{app_of, FailsBy, fault_of, first_of, found_of, rows_of, rule_of};
+ghost use Rattle.std.specs.Prelude.{◌≡◌, [], IfOk, Some, IsSome, map, false, option_and_then, unwrap_or};
+ghost use Rattle.clap.specs.Words.{all_of, app_of, FailsBy, fault_of, first_of, found_of, rows_of, rule_of};
 ghost use Rattle.clap.specs.Words.{subcommand_rows_of};
 ghost use Rattle.rs_command_line.specs.CommandLine.{command_line, file_option, listen_option};
 ghost use Rattle.rs_command_line.specs.CommandLine.{connections_option};
 ghost use Rattle.rs_command_line.specs.CommandLine.{create_command, run_command, serve_command};
-ghost use Rattle.rs_command_line.specs.Asked.{asked_of, asked_by, said_by, HasConnectionsInRange};
+ghost use Rattle.rs_command_line.specs.CommandLine.{csv_command, explain_command, text_option};
+ghost use Rattle.rs_command_line.specs.CommandLine.{column_option, flag, define_argument, refusal_argument};
+ghost use Rattle.rs_command_line.specs.Asked.{asked_of, asked_by, asked_by_csv, asked_by_run, flag_in};
+ghost use Rattle.rs_command_line.specs.Asked.{said_by, HasConnectionsInRange};
 
-use clap::{Arg, ArgMatches, Command, Error};
+use clap::{Arg, ArgAction, ArgMatches, Command, Error};
 use std::alloc::{AllocError, Global};
 use std::convert::AsStr;
 
+/// What `csv` is told: the texts of its options, each as it was given.
+#[derive(Debug, Drop)]
+pub struct CsvWords<'a> {
+    /// The DEFINE TABLE.
+    pub define: Option<&'a str>,
+    /// `--route`.
+    pub route: Option<&'a str>,
+    /// `--from`.
+    pub from: Option<&'a str>,
+    /// `--to`.
+    pub to: Option<&'a str>,
+    /// `--at`.
+    pub at: Option<&'a str>,
+    /// `--session`.
+    pub session: Option<&'a str>,
+    /// Each `--column`.
+    pub columns: Vec<&'a str>,
+    /// Whether `--no-define` is given.
+    pub omits_definition: bool,
+    /// Whether `--routes` is given.
+    pub defines_routes: bool,
+}
+
 /// What the words ask.
-#[derive(Clone, Copy, Debug)]
+#[derive(Debug, Drop)]
 pub enum Asked<'a> {
     /// `create --file F`: an empty file is made.
     Create {
@@ -27,6 +53,18 @@ pub enum Asked<'a> {
     /// `run --file F`: standard input is served over a file.
     RunFile {
         file: &'a str,
+    },
+    /// `run` with `--bail` or `--report`, over memory or over a file.
+    RunWatched {
+        file: Option<&'a str>,
+        bails: bool,
+        reports: bool,
+    },
+    /// `csv ..`: the CSV of standard input is made into lines.
+    Csv(CsvWords<'a>),
+    /// `explain`: what a refusal means, or what each does.
+    Explain {
+        refusal: Option<&'a str>,
     },
     /// `serve --file F ..`: so many connections are served over a file, one after another.
     Serve {
@@ -47,39 +85,103 @@ pub fn read_words<'a, S: AsStr>(alloc: Global, words: &'a [S]) -> Result<Asked<'
 {
     let command = roadseg_command(alloc)?;
     let matches = command.try_get_matches_from(words)?;
-    Ok(asked_in(&matches))
+    let asked = asked_in(alloc, &matches)?;
+    Ok(asked)
 }
 
 /// What is asked, by the matches of words that were taken.
-fn asked_in<'a>(matches: &ArgMatches<'a>) -> Asked<'a>
+fn asked_in<'a>(alloc: Global, matches: &ArgMatches<'a>) -> Result<Asked<'a>, AllocError>
     requires { IsSome (option_and_then asked_by (subcommand_rows_of matches.now)) }
-    ensures { option_and_then asked_by (subcommand_rows_of matches.now) ≡ Some (said_by result) }
+    ensures { IfOk result (λ asked. option_and_then asked_by (subcommand_rows_of matches.now) ≡ Some (said_by asked)) }
 {
     match matches.subcommand() {
-        Some((name, given)) => asked_of_command(name, given),
+        Some((name, given)) => asked_of_command(alloc, name, given),
         None => unreachable!(),
     }
 }
 
 /// What a command of this name asks, by the matches of its arguments.
-fn asked_of_command<'a>(name: &str, given: &ArgMatches<'a>) -> Asked<'a>
+fn asked_of_command<'a>(
+    alloc: Global,
+    name: &str,
+    given: &ArgMatches<'a>,
+) -> Result<Asked<'a>, AllocError>
     requires { IsSome (asked_by (name.now, rows_of (found_of given.now))) }
-    ensures { asked_by (name.now, rows_of (found_of given.now)) ≡ Some (said_by result) }
+    ensures { IfOk result (λ asked. asked_by (name.now, rows_of (found_of given.now)) ≡ Some (said_by asked)) }
 {
     match name {
-        "create" => Asked::Create {
+        "create" => Ok(Asked::Create {
             file: text_of(given, "file"),
-        },
-        "run" => match given.get_str("file") {
-            Some(file) => Asked::RunFile { file },
-            None => Asked::Run,
-        },
-        "serve" => Asked::Serve {
+        }),
+        "run" => Ok(asked_of_run(given)),
+        "csv" => asked_of_csv(alloc, given),
+        "explain" => Ok(Asked::Explain {
+            refusal: given.get_str("refusal"),
+        }),
+        "serve" => Ok(Asked::Serve {
             file: text_of(given, "file"),
             address: text_of(given, "listen"),
             connections: given.get_one::<u32>("connections").unwrap(),
-        },
+        }),
         _ => unreachable!(),
+    }
+}
+
+/// What `run` asks.
+fn asked_of_run<'a>(given: &ArgMatches<'a>) -> Asked<'a>
+    ensures { asked_by_run (rows_of (found_of given.now)) ≡ Some (said_by result) }
+{
+    let file = given.get_str("file");
+    let bails = has_flag(given, "bail");
+    let reports = has_flag(given, "report");
+    if bails || reports {
+        return Asked::RunWatched {
+            file,
+            bails,
+            reports,
+        };
+    }
+    match file {
+        Some(file) => Asked::RunFile { file },
+        None => Asked::Run,
+    }
+}
+
+/// What `csv` asks.
+fn asked_of_csv<'a>(alloc: Global, given: &ArgMatches<'a>) -> Result<Asked<'a>, AllocError>
+    ensures { IfOk result (λ asked. asked_by_csv (rows_of (found_of given.now)) ≡ Some (said_by asked)) }
+{
+    let columns = texts_of(alloc, given, "column")?;
+    Ok(Asked::Csv(CsvWords {
+        define: given.get_str("define"),
+        route: given.get_str("route"),
+        from: given.get_str("from"),
+        to: given.get_str("to"),
+        at: given.get_str("at"),
+        session: given.get_str("session"),
+        columns,
+        omits_definition: has_flag(given, "no-define"),
+        defines_routes: has_flag(given, "routes"),
+    }))
+}
+
+/// The texts of an argument, one for each time that it is given.
+fn texts_of<'a>(alloc: Global, given: &ArgMatches<'a>, id: &str) -> Result<Vec<&'a str>, AllocError>
+    ensures { IfOk result (λ texts. map (λ t. t.now) texts.items ≡ unwrap_or (all_of id.now (rows_of (found_of given.now))) []) }
+{
+    match given.get_strs(id) {
+        Some(texts) => Vec::from_slice(alloc, texts),
+        None => Ok(Vec::new(alloc)),
+    }
+}
+
+/// Whether a flag is given.
+fn has_flag(given: &ArgMatches<'_>, id: &str) -> bool
+    ensures { result ≡ flag_in id.now (rows_of (found_of given.now)) }
+{
+    match given.get_str(id) {
+        Some(value) => value == "true",
+        None => false,
     }
 }
 
@@ -96,11 +198,15 @@ fn roadseg_command<'a>(alloc: Global) -> Result<Command<'a>, AllocError>
     ensures { IfOk result (λ command. app_of command ≡ command_line) }
 {
     Command::new(alloc, "roadseg")
-        .about("Answers queries on routes and events by linear reference")
+        .about(
+            "Answers queries on routes and events by linear reference. A line is a session from 0 to 63 and a command, as: 0 DEFINE ROUTE SR12 FROM 0 TO 18.5, or: 0 SELECT pavement WHERE surface = 'gravel'. The page docs/LANGUAGE.md has them all",
+        )
         .version("0.1.0")
         .subcommand_required(true)
         .subcommand(create_command(alloc)?)?
         .subcommand(run_command(alloc)?)?
+        .subcommand(csv_command(alloc)?)?
+        .subcommand(explain_command(alloc)?)?
         .subcommand(serve_command(alloc)?)
 }
 
@@ -109,7 +215,9 @@ fn create_command<'a>(alloc: Global) -> Result<Command<'a>, AllocError>
 {
     let file = file_option(alloc, "The file to make");
     Command::new(alloc, "create")
-        .about("Makes a new file for routes and events, with nothing in it")
+        .about(
+            "Makes a new file for routes and events, with nothing in it, as: roadseg create --file roads.seg",
+        )
         .arg(file.required(true))
 }
 
@@ -121,8 +229,76 @@ fn run_command<'a>(alloc: Global) -> Result<Command<'a>, AllocError>
         "The file to work on; without it, everything is kept in memory and lost at the end",
     );
     Command::new(alloc, "run")
-        .about("Answers the lines of standard input on standard output")
-        .arg(file)
+        .about(
+            "Answers the lines of standard input on standard output, as: echo '0 SELECT pavement' | roadseg run --file roads.seg",
+        )
+        .arg(file)?
+        .arg(flag(
+            alloc,
+            "bail",
+            "Stop at the first refused line, with status 1",
+        ))?
+        .arg(flag(
+            alloc,
+            "report",
+            "Say at the end how many lines were refused, and the first ten of them",
+        ))
+}
+
+fn csv_command<'a>(alloc: Global) -> Result<Command<'a>, AllocError>
+    ensures { IfOk result (λ command. app_of command ≡ csv_command) }
+{
+    Command::new(alloc, "csv")
+        .about(
+            "Makes the CSV of standard input into lines, as: roadseg csv 'DEFINE LINE TABLE pavement (surface TEXT(12))' --route road < pavement.csv | roadseg run --file roads.seg",
+        )
+        .arg(define_argument(alloc))?
+        .arg(text_option(
+            alloc,
+            "route",
+            "The column of the CSV that names the route [default: route]. The routes must be defined before, or each line is refused 20: see --routes",
+        ))?
+        .arg(text_option(
+            alloc,
+            "from",
+            "The column that says where a span begins [default: from]",
+        ))?
+        .arg(text_option(
+            alloc,
+            "to",
+            "The column that says where a span ends [default: to]",
+        ))?
+        .arg(text_option(
+            alloc,
+            "at",
+            "The column that says where a point is [default: at]",
+        ))?
+        .arg(column_option(alloc))?
+        .arg(text_option(
+            alloc,
+            "session",
+            "The session of the lines, 0 to 63 [default: 0]",
+        ))?
+        .arg(flag(
+            alloc,
+            "no-define",
+            "Leave out the line that defines the table",
+        ))?
+        .arg(flag(
+            alloc,
+            "routes",
+            "Define the routes too, each from the least to the greatest measure met; the lines wait in memory for the end of the input",
+        ))
+}
+
+fn explain_command<'a>(alloc: Global) -> Result<Command<'a>, AllocError>
+    ensures { IfOk result (λ command. app_of command ≡ explain_command) }
+{
+    Command::new(alloc, "explain")
+        .about(
+            "Says what a refusal means and what to look at, as: roadseg explain 21. Without a number it says so of each",
+        )
+        .arg(refusal_argument(alloc))
 }
 
 fn serve_command<'a>(alloc: Global) -> Result<Command<'a>, AllocError>
@@ -130,7 +306,9 @@ fn serve_command<'a>(alloc: Global) -> Result<Command<'a>, AllocError>
 {
     let file = file_option(alloc, "The file to work on");
     Command::new(alloc, "serve")
-        .about("Answers the lines that arrive over the network, for one connection after another")
+        .about(
+            "Answers the lines that arrive over the network, for one connection after another, as: roadseg serve --file roads.seg --connections 10",
+        )
         .arg(file.required(true))?
         .arg(listen_option(alloc))?
         .arg(connections_option(alloc))
@@ -145,6 +323,60 @@ fn file_option<'a>(alloc: Global, help: &'a str) -> Arg<'a>
         .long("file")
         .value_name("FILE")
         .help(help)
+}
+
+/// `--ID TEXT`, with a text for help.
+fn text_option<'a>(alloc: Global, id: &'a str, help: &'a str) -> Arg<'a>
+    ensures rule { rule_of result ≡ text_option id.entry.now }
+    ensures local { result.global ≡ false }
+{
+    Arg::new(alloc, id).long(id).value_name("TEXT").help(help)
+}
+
+/// `--column COLUMN=NAME`, as often as it is wanted.
+fn column_option<'a>(alloc: Global) -> Arg<'a>
+    ensures rule { rule_of result ≡ column_option }
+    ensures local { result.global ≡ false }
+{
+    Arg::new(alloc, "column")
+        .long("column")
+        .value_name("COLUMN=NAME")
+        .action(ArgAction::Append)
+        .help(
+            "The name that the CSV has for a column of the table, where it is another one; for each such column once",
+        )
+}
+
+/// `--ID`, with a text for help.
+fn flag<'a>(alloc: Global, id: &'a str, help: &'a str) -> Arg<'a>
+    ensures rule { rule_of result ≡ flag id.entry.now }
+    ensures local { result.global ≡ false }
+{
+    Arg::new(alloc, id)
+        .long(id)
+        .action(ArgAction::SetTrue)
+        .help(help)
+}
+
+/// The DEFINE TABLE of `csv`.
+fn define_argument<'a>(alloc: Global) -> Arg<'a>
+    ensures rule { rule_of result ≡ define_argument }
+    ensures local { result.global ≡ false }
+{
+    Arg::new(alloc, "define")
+        .value_name("DEFINE TABLE")
+        .help("The line that defines the table, without its session")
+        .required(true)
+}
+
+/// The number of `explain`.
+fn refusal_argument<'a>(alloc: Global) -> Arg<'a>
+    ensures rule { rule_of result ≡ refusal_argument }
+    ensures local { result.global ≡ false }
+{
+    Arg::new(alloc, "refusal")
+        .value_name("NUMBER")
+        .help("The number of a refusal")
 }
 
 /// `--listen ADDRESS`.

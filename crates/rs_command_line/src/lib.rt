@@ -7,4 +7,4 @@
 pub mod command_line;
 pub mod laws;
 
-pub use command_line::{Asked, read_words};
+pub use command_line::{Asked, CsvWords, read_words};

@@ -1,5 +1,5 @@
 -- How the program ends on its words follows from how it ends as they were read.
-use Rattle.std.proofs.Common.{◌≡◌, ◌≢◌, ℕ, List, [], ◌∷◌, ◌⊎◌, Option, Result, Ok, Err, inl, inr, refl, sym, subst}
+use Rattle.std.proofs.Common.{◌≡◌, ◌≢◌, ℕ, Bool, true, false, List, [], ◌∷◌, ◌⊎◌, Option, Some, Result, Ok, Err, inl, inr, refl, sym, subst, append-nil}
 use Rattle.std.specs.Prelude.{IfOk}
 use Rattle.clap.specs.Words.{FailsBy, IsAmong, Kinds}
 use Rattle.clap.specs.Values.{kind_of}
@@ -7,9 +7,14 @@ use Rattle.clap.specs.declared.error.Error.{Error}
 use Rattle.clap.specs.declared.error.kind.ErrorKind.{ErrorKind}
 use Rattle.clap.specs.declared.error.kind.ErrorKind.TheVariants as kinds
 use Rattle.std.specs.Io.KnownBytes.{Keeps}
+use Rattle.std.specs.Borrow.{Bor}
+use Rattle.rs_command_line.specs.Asked.{Said, given_text, said_by, watches}
 use Rattle.rs_command_line.specs.declared.command_line.Asked.{Asked}
+use Rattle.rs_command_line.specs.declared.command_line.Asked.TheVariants as asked
+use Rattle.rs_csv.specs.Output.{IsOutput, Wrote, WroteAll}
+use Rattle.rs_syntax.specs.Tree.{CommandTree}
 use Rattle.rs_server.specs.declared.report.TheConstants.{MISUSE}
-use Rattle.rs_server.specs.Ending.{ShowsHelp, RefusesWords, LacksMemory, EndsBy, EndsOn, EndsAs}
+use Rattle.rs_server.specs.Ending.{ShowsHelp, RefusesWords, LacksMemory, EndsBy, EndsOn, EndsAs, IsQuiet, IsQuietAs}
 
 -- the one kind of a list
 only : (kind other : ErrorKind) → IsAmong kind (other ∷ []) → kind ≡ other
@@ -78,3 +83,24 @@ on_others kind status a b c d e f no_memory no_help no_version is input output =
   input = input;
   output = output;
 }
+
+-- where it reports, it says so
+pub quiet_watched : (file : Option (Bor (List ℕ))) (bails reports : Bool) (a b : Option (List ℕ)) → (reports ≡ false → Keeps a b) → IsQuiet (asked.RunWatched file bails reports) a b
+quiet_watched file bails true a b keeps = tt
+quiet_watched file bails false a b keeps = keeps refl
+
+pub quiet_as : (words : Option Said) (read : Result Asked Error) (a b : Option (List ℕ)) → IfOk read (λ it. words ≡ Some (said_by it)) → IsQuietAs read a b
+    → Keeps a b ⊎ ((file : Option (List ℕ)) × (bails : Bool) × (words ≡ Some (watches file bails true)))
+quiet_as words (Err error) a b asks quiet = inl quiet
+quiet_as words (Ok (asked.RunWatched file bails true)) a b asks quiet = inr (given_text file, bails, asks)
+quiet_as words (Ok (asked.RunWatched file bails false)) a b asks quiet = inl quiet
+quiet_as words (Ok (asked.Create file)) a b asks quiet = inl quiet
+quiet_as words (Ok asked.Run) a b asks quiet = inl quiet
+quiet_as words (Ok (asked.RunFile file)) a b asks quiet = inl quiet
+quiet_as words (Ok (asked.Csv said)) a b asks quiet = inl quiet
+quiet_as words (Ok (asked.Explain refusal)) a b asks quiet = inl quiet
+quiet_as words (Ok (asked.Serve file address connections)) a b asks quiet = inl quiet
+
+-- whole lines are a front of them too
+pub all_wrote : (session : ℕ) (table : CommandTree) (a b : Option (List ℕ)) → WroteAll session table a b → Wrote session table a b
+all_wrote session table a b all = record { sent = all.sent; lost = []; put = all.put; lines = subst (IsOutput session table) (sym (append-nil all.sent)) all.lines }

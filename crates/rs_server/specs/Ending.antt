@@ -1,5 +1,5 @@
 -- How the program ends.
-use Rattle.std.specs.Prelude.{◌≡◌, ◌≢◌, ◌⊎◌, ℕ, List, [], ◌∷◌, Option, Some, None, Result, Ok, Err}
+use Rattle.std.specs.Prelude.{◌≡◌, ◌≢◌, ◌⊎◌, ℕ, List, [], ◌∷◌, Option, Some, None, Result, Ok, Err, true}
 use Rattle.std.specs.Io.KnownBytes.{Keeps}
 use Rattle.clap.specs.Words.{IsAmong, Kinds}
 use Rattle.clap.specs.declared.error.kind.ErrorKind.{ErrorKind}
@@ -7,7 +7,8 @@ use Rattle.clap.specs.declared.error.kind.ErrorKind.TheVariants.{DisplayHelp, Di
 use Rattle.clap.specs.declared.error.Error.{Error}
 use Rattle.clap.specs.Values.{kind_of}
 use Rattle.rs_command_line.specs.declared.command_line.Asked.{Asked}
-use Rattle.rs_command_line.specs.declared.command_line.Asked.TheVariants.{Create, Run, RunFile, Serve}
+use Rattle.rs_command_line.specs.declared.command_line.Asked.TheVariants.{Create, Csv, Explain, Run, RunFile, RunWatched, Serve}
+use Rattle.rs_csv.specs.Output.{Wrote}
 use Rattle.rs_machine.specs.Served.{Machine}
 use Rattle.rs_machine.specs.State.{fresh}
 use Rattle.rs_protocol.specs.declared.stream.End.{End}
@@ -20,6 +21,7 @@ use Rattle.rs_server.specs.Saying.{SaysFront, failure_line}
 use Rattle.rs_server.specs.declared.report.Failure.{Failure}
 use Rattle.rs_server.specs.declared.report.Failure.TheVariants.{Refused, Stream}
 use Rattle.rs_server.specs.declared.report.TheConstants.{FAILED, MISUSE, SUCCESS}
+use Rattle.rs_syntax.specs.Tree.{CommandTree}
 use Rattle.rs_store.specs.Calls.{WantsCreating}
 
 -- ---- failures
@@ -63,17 +65,37 @@ pub record LacksMachine (failure : Option Failure) (unread unread_now before aft
 abbrev pub Runs : Option Failure → Option (List ℕ) → Option (List ℕ) → Option (List ℕ) → Option (List ℕ) → Type 0
 Runs failure unread unread_now before after = ServesLines failure unread unread_now before after ⊎ LacksMachine failure unread unread_now before after
 
+-- `csv` writes lines of one session, each of which defines the table or a route or is the INSERT of a record, or a front of them
+abbrev pub WritesLines : Option (List ℕ) → Option (List ℕ) → Type 0
+WritesLines before after = (session : ℕ) × (table : CommandTree) × Wrote session table before after
+
 -- What is done as it is asked, where this failed or nothing did. Of a file and of the network nothing is known.
 abbrev pub Does : Asked → Option Failure → Option (List ℕ) → Option (List ℕ) → Option (List ℕ) → Option (List ℕ) → Type 0
 Does Run failure unread unread_now before after = Runs failure unread unread_now before after
 Does (RunFile file) failure unread unread_now before after = Unit {0}
 Does (Create file) failure unread unread_now before after = Keeps unread unread_now × Keeps before after
 Does (Serve file address connections) failure unread unread_now before after = Keeps unread unread_now
+Does (RunWatched file bails reports) failure unread unread_now before after = Unit {0}
+Does (Csv words) failure unread unread_now before after = WritesLines before after
+Does (Explain refusal) failure unread unread_now before after = Keeps unread unread_now
 
--- the program does what is asked, and its status and the errors stream say what failed
+-- The program does what is asked, and its status and the errors stream say what failed. Of `run` with options nothing is known, nor
+-- of what `csv` and `explain` say on the errors stream.
 abbrev pub EndsDoing : Asked → ℕ → Option (List ℕ) → Option (List ℕ) → Option (List ℕ) → Option (List ℕ) → Option (List ℕ) → Option (List ℕ) → Type 0
+EndsDoing (RunWatched file bails reports) status unread unread_now before after errors errors_now = Unit {0}
+EndsDoing (Csv words) status unread unread_now before after errors errors_now = WritesLines before after
+EndsDoing (Explain refusal) status unread unread_now before after errors errors_now = Keeps unread unread_now
 EndsDoing asked status unread unread_now before after errors errors_now =
     (failure : Option Failure) × Does asked failure unread unread_now before after × EndsWith failure status errors errors_now
+
+-- it says nothing on the errors stream, but where it is asked to report
+abbrev pub IsQuiet : Asked → Option (List ℕ) → Option (List ℕ) → Type 0
+IsQuiet (RunWatched file bails true) errors errors_now = Unit {0}
+IsQuiet asked errors errors_now = Keeps errors errors_now
+
+abbrev pub IsQuietAs : Result Asked Error → Option (List ℕ) → Option (List ℕ) → Type 0
+IsQuietAs (Ok asked) errors errors_now = IsQuiet asked errors errors_now
+IsQuietAs (Err error) errors errors_now = Keeps errors errors_now
 
 -- ---- other words
 

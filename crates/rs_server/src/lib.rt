@@ -9,6 +9,8 @@ pub mod disks;
 pub mod laws;
 pub mod report;
 pub mod service;
+pub mod watch;
+pub mod words;
 
 pub use connection::{Connection, serve_connections, serve_one};
 pub use disks::{create_on, serve_disk};

@@ -2,18 +2,20 @@
 //!
 //! The status says how it ended: 0, 1 for a failure, 2 for a command line that is refused. The first failure alone is told.
 
-ghost use Rattle.std.specs.Prelude.{◌≡◌, ◌⊎◌, None, Some, map, IfSome, OnOk};
+ghost use Rattle.std.specs.Prelude.{◌≡◌, ◌⊎◌, ℕ, Bool, List, Option, None, Some, false, true, map, IfSome, OnOk};
 ghost use Rattle.std.specs.Io.KnownBytes.{Appends, Keeps};
 ghost use Rattle.clap.specs.Words.{fault_of};
-ghost use Rattle.rs_command_line.specs.Asked.{asked_of, said_by};
+ghost use Rattle.rs_command_line.specs.Asked.{asked_of, said_by, watches};
 ghost use Rattle.rs_command_line.specs.CommandLine.{command_line};
 ghost use Rattle.rs_command_line.specs.declared.command_line.Asked.{Asked};
 ghost use Rattle.rs_server.specs.Disks.{told_of};
-ghost use Rattle.rs_server.specs.Ending.{Does, EndsAs, EndsBy, EndsWith, Runs};
+ghost use Rattle.rs_server.specs.Ending.{EndsAs, EndsBy, EndsDoing, EndsWith, IsQuiet, IsQuietAs, Runs};
 
 use crate::connection::serve_connections;
 use crate::disks::{close_after, create_on, failure_after, serve_disk};
 use crate::report::{FAILED, Failure, MISUSE, SUCCESS, failure_to_open, report_failure};
+use crate::watch::{LineByLine, Tally, Watched};
+use crate::words::{convert, explain_refusal};
 use clap::Error;
 use clap::error::ErrorKind;
 use rs_command_line::{Asked, read_words};
@@ -24,6 +26,7 @@ use rs_protocol::{Fault, put_parts, run};
 use rs_refusal::Refusal;
 use rs_serve::Serve;
 use std::alloc::{AllocGlobal, Global};
+use std::cell::Cell;
 use std::convert::AsStr;
 use std::fmt::Display;
 use std::fs::File;
@@ -47,7 +50,8 @@ pub fn program<
     ensures ends { EndsBy (fault_of command_line (map S.text words.now)) (λ asked. asked_of (map S.text words.now) ≡ Some (said_by asked)) result
         (R.remaining input.old) (R.remaining input.new) (W.contents output.old) (W.contents output.new)
         (E.contents errors.old) (E.contents errors.new) }
-    ensures quiet { result ≡ SUCCESS → Keeps (E.contents errors.old) (E.contents errors.new) }
+    ensures quiet { result ≡ SUCCESS → Keeps (E.contents errors.old) (E.contents errors.new)
+        ⊎ ((file : Option (List ℕ)) × (bails : Bool) × (asked_of (map S.text words.now) ≡ Some (watches file bails true))) }
 {
     let asked = read_words(rt.alloc(), words);
     do_as_asked(rt, asked, input, output, errors)
@@ -64,13 +68,10 @@ pub fn do_as_asked<
 >(rt: &P, asked: Result<Asked<'_>, Error>, input: &mut R, output: &mut W, errors: &mut E) -> u8
     ensures ends { EndsAs asked.entry result (R.remaining input.old) (R.remaining input.new)
         (W.contents output.old) (W.contents output.new) (E.contents errors.old) (E.contents errors.new) }
-    ensures quiet { result ≡ SUCCESS → Keeps (E.contents errors.old) (E.contents errors.new) }
+    ensures quiet { result ≡ SUCCESS → IsQuietAs asked.entry (E.contents errors.old) (E.contents errors.new) }
 {
     match asked {
-        Ok(asked) => {
-            let failure = do_it(rt, asked, input, output);
-            end_with(errors, failure)
-        }
+        Ok(asked) => { do_it(rt, asked, input, output, errors) }
         Err(error) => match error.kind() {
             ErrorKind::OutOfMemory => end_with(
                 errors,
@@ -85,23 +86,42 @@ pub fn do_as_asked<
     }
 }
 
-/// Does what is asked, and gives what failed, if anything did.
+/// Does what is asked, and gives the exit status.
 fn do_it<
     P: AllocGlobal + Files<File = File> + Net<Listener = TcpListener, Stream = TcpStream>,
     R: Read,
     W: Write,
->(rt: &P, asked: Asked<'_>, input: &mut R, output: &mut W) -> Option<Failure>
-    ensures { Does asked.entry result (R.remaining input.old) (R.remaining input.new) (W.contents output.old) (W.contents output.new) }
+    E: Write,
+>(rt: &P, asked: Asked<'_>, input: &mut R, output: &mut W, errors: &mut E) -> u8
+    ensures ends { EndsDoing asked.entry result (R.remaining input.old) (R.remaining input.new) (W.contents output.old) (W.contents output.new)
+        (E.contents errors.old) (E.contents errors.new) }
+    ensures quiet { result ≡ SUCCESS → IsQuiet asked.entry (E.contents errors.old) (E.contents errors.new) }
 {
     match asked {
-        Asked::Create { file } => create_file(rt, file),
-        Asked::Run => run_in_memory(rt.alloc(), input, output),
-        Asked::RunFile { file } => run_file(rt, file, input, output),
+        Asked::Create { file } => end_with(errors, create_file(rt, file)),
+        Asked::Run => {
+            let failure = run_in_memory(rt.alloc(), input, output);
+            end_with(errors, failure)
+        }
+        Asked::RunFile { file } => {
+            let failure = run_file(rt, file, input, output);
+            end_with(errors, failure)
+        }
+        Asked::RunWatched {
+            file,
+            bails,
+            reports,
+        } => run_watched(rt, file, (bails, reports), input, output, errors),
+        Asked::Csv(words) => convert(rt.alloc(), &words, input, output, errors),
+        Asked::Explain { refusal } => explain_refusal(refusal, output, errors),
         Asked::Serve {
             file,
             address,
             connections,
-        } => serve_file(rt, file, address, connections, output),
+        } => {
+            let failure = serve_file(rt, file, address, connections, output);
+            end_with(errors, failure)
+        }
     }
 }
 
@@ -134,6 +154,63 @@ fn run_file<P: AllocGlobal + Files<File = File>, R: Read, W: Write>(
     match FileDisk::open(rt, file) {
         Ok(disk) => failure_in(serve_disk(rt.alloc(), disk, input, output)),
         Err(error) => Some(failure_to_open(error)),
+    }
+}
+
+/// Serves the input on the output over memory or over a file, and counts the replies: it stops at the first refused line, or tells of
+/// them at the end.
+fn run_watched<P: AllocGlobal + Files<File = File>, R: Read, W: Write, E: Write>(
+    rt: &P,
+    file: Option<&str>,
+    flags: (bool, bool),
+    input: &mut R,
+    output: &mut W,
+    errors: &mut E,
+) -> u8
+    ensures { flags.1 ≡ false → result ≡ SUCCESS → Keeps (E.contents errors.old) (E.contents errors.new) }
+{
+    let (bails, reports) = flags;
+    let mut tally = Tally::new();
+    let failure = serve_watched(rt, file, bails, input, output, &mut tally);
+    if reports {
+        let _ = tally.report(errors);
+    }
+    let status = end_with(errors, failure);
+    if bails && tally.has_refused() {
+        FAILED
+    } else {
+        status
+    }
+}
+
+/// Serves the input on the output over memory or over a file, and counts the replies.
+fn serve_watched<P: AllocGlobal + Files<File = File>, R: Read, W: Write>(
+    rt: &P,
+    file: Option<&str>,
+    bails: bool,
+    input: &mut R,
+    output: &mut W,
+    tally: &mut Tally,
+) -> Option<Failure> {
+    let has_refused = Cell::new(false);
+    let mut watched = Watched::new(output, &has_refused, tally);
+    if bails {
+        let mut lines = LineByLine::new(input, &has_refused);
+        return run_on(rt, file, &mut lines, &mut watched);
+    }
+    run_on(rt, file, input, &mut watched)
+}
+
+/// Serves the input on the output over a file, where there is one, and else over memory.
+fn run_on<P: AllocGlobal + Files<File = File>, R: Read, W: Write>(
+    rt: &P,
+    file: Option<&str>,
+    input: &mut R,
+    output: &mut W,
+) -> Option<Failure> {
+    match file {
+        Some(file) => run_file(rt, file, input, output),
+        None => run_in_memory(rt.alloc(), input, output),
     }
 }
 
@@ -185,7 +262,8 @@ fn failure_in<D: Drop>(ended: Result<D, (Option<D>, Failure)>) -> Option<Failure
 
 /// Says what failed, if anything did, and gives the exit status.
 fn end_with<E: Write>(errors: &mut E, failure: Option<Failure>) -> u8
-    ensures { EndsWith failure result (E.contents errors.old) (E.contents errors.new) }
+    ensures ends { EndsWith failure result (E.contents errors.old) (E.contents errors.new) }
+    ensures quiet { result ≡ SUCCESS → Keeps (E.contents errors.old) (E.contents errors.new) }
 {
     match failure {
         None => SUCCESS,

@@ -1,26 +1,28 @@
-use Rattle.std.proofs.Common.{◌≡◌, ◌∙◌, Option, Some, None, IsSome, ap, codes, option_map, refl, subst, sym}
+use Rattle.std.proofs.Common.{◌≡◌, ◌∙◌, Option, Some, IsSome, ap, codes, refl, subst, sym}
 use Rattle.std.specs.Prelude.{option_and_then}
-use Rattle.std.specs.Option.{option_map_or}
+use Rattle.std.proofs.lemmas.Result.{IfOk-weaker}
 use Rattle.std.specs.Str.Parse.{ExplainsUnsignedError, HasUnsignedDigitsIfOk, ParsesUnsigned}
 use Rattle.clap.specs.Words.{Text, found_of, rows_of}
 use Rattle.clap.proofs.WalkLemmas.{first_value-rows, one_text-rows}
-use Rattle.rs_command_line.specs.Asked.{asked_by, connections_in, file_in, address_in, number_in, runs, runs_over, serves}
+use Rattle.rs_command_line.specs.Asked.{asked_by, connections_in, explains, file_in, address_in, given_text, number_in, said_by, serves}
 use Rattle.rs_command_line.proofs.Reading.{last_of_three, number_read, number_text, number_worth}
 use Rattle.rs_command_line.proofs.command_line.asked_of_command.Goals as goal
 
-pub returns-in-Some : goal.returns-in-Some
-returns-in-Some c =
+pub returns-in-run : goal.returns-in-run
+returns-in-run c =
     let rows = rows_of (found_of c.args.given.now) in
-    let given : file_in rows ≡ Some c.in-Some.file.now =
-    sym (first_value-rows (found_of c.args.given.now) (codes "file")) ∙ sym c.get_str.ensures ∙ ap (option_map (λ s. s.now)) c.in-Some.is in
-    subst (λ (name : Text). asked_by (name, rows) ≡ Some (runs_over c.in-Some.file.now)) (sym c.in-run.is) (ap (λ (file : Option Text). Some (option_map_or runs_over file runs)) given)
+    subst (λ (name : Text). asked_by (name, rows) ≡ Some (said_by c.asked_of_run.result)) (sym c.in-run.is) c.asked_of_run.ensures
 
-pub returns-in-None : goal.returns-in-None
-returns-in-None c =
+pub returns-in-csv : goal.returns-in-csv
+returns-in-csv c =
     let rows = rows_of (found_of c.args.given.now) in
-    let given : file_in rows ≡ None =
-    sym (first_value-rows (found_of c.args.given.now) (codes "file")) ∙ sym c.get_str.ensures ∙ ap (option_map (λ s. s.now)) c.in-None.is in
-    subst (λ (name : Text). asked_by (name, rows) ≡ Some runs) (sym c.in-run.is) (ap (λ (file : Option Text). Some (option_map_or runs_over file runs)) given)
+    IfOk-weaker c.asked_of_csv.result _ _ (λ a h. subst (λ (name : Text). asked_by (name, rows) ≡ Some (said_by a)) (sym c.in-csv.is) h) c.asked_of_csv.ensures
+
+pub returns-in-explain : goal.returns-in-explain
+returns-in-explain c =
+    let rows = rows_of (found_of c.args.given.now) in
+    let given = c.get_str.ensures ∙ first_value-rows (found_of c.args.given.now) (codes "refusal") in
+    subst (λ (name : Text). asked_by (name, rows) ≡ Some (explains (given_text c.get_str.result))) (sym c.in-explain.is) (ap (λ (o : Option Text). Some (explains o)) (sym given))
 
 pub unwrap-requires : goal.unwrap-requires
 unwrap-requires c =

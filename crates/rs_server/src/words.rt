@@ -1,0 +1,118 @@
+//! The words `csv` and `explain`: what they do, and how they end.
+
+ghost use Rattle.std.specs.Prelude.{◌≡◌, ◌<◌, IfSome};
+ghost use Rattle.std.specs.Io.KnownBytes.{Keeps};
+ghost use Rattle.rs_server.specs.Ending.{WritesLines};
+
+use crate::report::{FAILED, Failure, MISUSE, SUCCESS, report_failure};
+use itoa::Buffer;
+use rs_command_line::CsvWords;
+use rs_csv::{Stop, Wanted, write_lines};
+use rs_explain::{ALL, explain};
+use rs_protocol::{Fault, put_parts};
+use rs_refusal::Refusal;
+use std::alloc::Global;
+use std::io::{Read, Write};
+
+/// Makes the CSV of the input into lines on the output, and gives the exit status.
+///
+/// 0 where nothing was told; 1 where something was told and left out, where the header lacks a column, or for a failure; 2 where the
+/// words define no table, or name no session.
+pub(crate) fn convert<R: Read, W: Write, E: Write>(
+    alloc: Global,
+    words: &CsvWords<'_>,
+    input: &mut R,
+    output: &mut W,
+    errors: &mut E,
+) -> u8
+    ensures lines { WritesLines (W.contents output.old) (W.contents output.new) }
+    ensures quiet { result ≡ SUCCESS → Keeps (E.contents errors.old) (E.contents errors.new) }
+{
+    let Some(session) = session_of(words.session.unwrap_or("0")) else {
+        return refuse(errors, b"error: the session is no number from 0 to 63\n");
+    };
+    let wanted = Wanted {
+        define: words.define.unwrap_or(""),
+        session,
+        route: words.route.unwrap_or("route"),
+        from: words.from.unwrap_or("from"),
+        to: words.to.unwrap_or("to"),
+        at: words.at.unwrap_or("at"),
+        columns: words.columns.as_slice(),
+        defines_table: !words.omits_definition,
+        defines_routes: words.defines_routes,
+    };
+    match write_lines(alloc, wanted, input, output, errors) {
+        Ok(false) => SUCCESS,
+        Ok(true) | Err(Stop::NoColumn) => FAILED,
+        Err(Stop::NoTable) => refuse(errors, b"error: the words define no table\n"),
+        Err(Stop::OutOfMemory) => {
+            report_failure(errors, &Failure::Refused(Refusal::OutOfMemory))
+        }
+        Err(Stop::Stream(fault)) => report_failure(errors, &Failure::Stream(fault)),
+    }
+}
+
+// The session that a text names.
+fn session_of(text: &str) -> Option<u8>
+    ensures { IfSome result (λ session. session < 64) }
+{
+    match text.parse::<u8>() {
+        Ok(session) if session < 64 => Some(session),
+        _ => None,
+    }
+}
+
+// Says what is wrong with the words.
+fn refuse<E: Write>(errors: &mut E, line: &[u8]) -> u8
+    ensures { result ≡ MISUSE }
+{
+    let _ = put_parts(errors, &[line]);
+    MISUSE
+}
+
+/// Says what a refusal means, or what each does, and gives the exit status: 2 where there is none of that number.
+pub(crate) fn explain_refusal<W: Write, E: Write>(
+    number: Option<&str>,
+    output: &mut W,
+    errors: &mut E,
+) -> u8
+    ensures { result ≡ SUCCESS → Keeps (E.contents errors.old) (E.contents errors.new) }
+{
+    let mut is_known = number.is_none();
+    for refusal in ALL.as_slice() {
+        if is_asked(refusal, number) {
+            is_known = true;
+            if let Err(fault) = say(refusal, output) {
+                return report_failure(errors, &Failure::Stream(fault));
+            }
+        }
+    }
+    if is_known {
+        SUCCESS
+    } else {
+        refuse(errors, b"error: no refusal has this number\n")
+    }
+}
+
+// Whether it is asked what this refusal means.
+fn is_asked(refusal: &Refusal, number: Option<&str>) -> bool {
+    let mut digits = Buffer::new();
+    match number {
+        Some(number) => digits.format(refusal.number()) == number,
+        None => true,
+    }
+}
+
+// Writes what a refusal means.
+fn say<W: Write>(refusal: &Refusal, output: &mut W) -> Result<(), Fault> {
+    let mut digits = Buffer::new();
+    let number = digits.format(refusal.number()).as_bytes();
+    let words = refusal.words();
+    let said = explain(refusal);
+    put_parts(output, &[number, b" ", words.as_str().as_bytes(), b"\n"])?;
+    put_parts(output, &[b"    ", said.meaning.as_bytes(), b"\n"])?;
+    put_parts(output, &[b"    Look at: ", said.look.as_bytes(), b"\n"])?;
+    put_parts(output, &[b"    Refused: ", said.refused.as_bytes(), b"\n"])?;
+    put_parts(output, &[b"    Mended:  ", said.mended.as_bytes(), b"\n"])
+}
