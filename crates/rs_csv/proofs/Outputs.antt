@@ -191,9 +191,6 @@ module _ (session : ℕ) (table : CommandTree) where
     lines = subst (IsOutput session table) (append_assoc sent routes made) (routed plan sent routes made first middle last);
   }
 
-  pub all_wrote : (before after : Option (List ℕ)) → WroteAll session table before after → Wrote session table before after
-  all_wrote before after all = record { sent = all.sent; lost = []; put = all.put; lines = subst (IsOutput session table) (sym (append-nil all.sent)) all.lines }
-
   pub ends_lost : (plan : Option Plan) (before after later : Option (List ℕ)) (sent routes made lost : List ℕ) → Appends before after sent → AreLinesOf session table plan sent → ((plan : Plan) → AreLines session table plan routes)
       → AreLinesOf session table plan made → PutsBut (routes ++ made) lost after later → Wrote session table before later
   ends_lost plan before after later sent routes made lost put first middle last puts = record {
