@@ -1,0 +1,233 @@
+"""`roadseg csv`, `roadseg explain`, `run --bail` and `run --report`; scripts/test.sh runs it.
+
+The module `csv` of Python reads the same records as the program, and the lines that it gives have to be those of the program, byte
+by byte: of a hundred thousand pseudo-random records, of which some are left out, each of which is told.
+"""
+
+import csv
+import io
+import os
+import random
+import re
+import subprocess
+import sys
+import tempfile
+from decimal import Decimal
+
+ROOT = os.path.dirname(os.path.dirname(os.path.abspath(__file__)))
+PROGRAM = os.path.join(ROOT, "crates", "roadseg", "out", "roadseg")
+LANGUAGE = os.path.join(ROOT, "docs", "LANGUAGE.md")
+DEFINE = "DEFINE LINE TABLE pavement (surface TEXT(12), year INT)"
+POINTS = "DEFINE POINT TABLE crash (year INT)"
+RECORDS = 100_000
+LONGEST = 120  # seconds
+LETTERS = "abc XYZ'',\"é;"
+
+
+class Unexpected(Exception):
+    """The program did something else."""
+
+
+def expect(what, got, wanted):
+    """Compares what was got with what is wanted."""
+    if got != wanted:
+        raise Unexpected("%s:\n got    %.600r\n wanted %.600r" % (what, got, wanted))
+
+
+def run(*words, data=b""):
+    """Runs the program: its status, standard output and standard error."""
+    done = subprocess.run([PROGRAM, *words], input=data, capture_output=True, timeout=LONGEST)
+    return done.returncode, done.stdout, done.stderr
+
+
+def some_text(chance):
+    """A text of up to 12 characters."""
+    return "".join(chance.choice(LETTERS) for _ in range(chance.randrange(13)))
+
+
+def some_record(chance):
+    """The fields of a record, in the order route, from, to, surface, year; some of them are wrong."""
+    begin = chance.randrange(0, 900_000)
+    end = begin + chance.randrange(1, 90_000)
+    fields = ["SR%d" % chance.randrange(1, 40), "%.3f" % (begin / 1000), "%.3f" % (end / 1000)]
+    year = chance.choice(["", str(chance.randrange(1900, 2100)), "-%d" % chance.randrange(10)])
+    fields += [some_text(chance), year]
+    if chance.randrange(50) == 0:
+        place = chance.choice([0, 1, 2, 4])
+        fields[place] = {0: "9!", 1: "1.2.3", 2: "", 4: chance.choice(["x", "1.5", "9" * 13])}[place]
+    return fields
+
+
+def line_of(fields, session=0):
+    """The line of a record, or which field of it is wrong: its place and the words for it."""
+    route, begin, end, surface, year = fields
+    if not re.fullmatch("[A-Za-z][A-Za-z0-9_]*", route):
+        return (0, "not a name")
+    for place, position in ((1, begin), (2, end)):
+        if not re.fullmatch(r"[0-9]+(\.[0-9]{1,3})?", position):
+            return (place, "not a position")
+    if year and not re.fullmatch("-?[0-9]+(.[0-9]+)?", year):
+        return (4, "not a number")
+    if "." in year:
+        return (4, "not a whole number")
+    if year and abs(int(year)) > 10**12:
+        return (4, "number past 10^12")
+    text = "'%s'" % surface.replace("'", "''") if surface else "NULL"
+    return "%d INSERT INTO pavement ON %s FROM %s TO %s VALUES (%s, %s)\n" % (session, route, begin, end, text, year or "NULL")
+
+
+HEADER = ["road", "beg_mp", "end_mp", "surface", "built"]
+WORDS = ["csv", DEFINE, "--route", "road", "--from", "beg_mp", "--to", "end_mp", "--column", "year=built"]
+
+
+def csv_of(records, ending, header=HEADER):
+    """A text of CSV."""
+    text = io.StringIO()
+    writer = csv.writer(text, lineterminator=ending)
+    writer.writerow(header)
+    writer.writerows(records)
+    return text.getvalue().encode()
+
+
+def wanted_of(data):
+    """What Python reads in the text: the lines of its records, and what is told."""
+    lines, told = ["0 %s\n" % DEFINE], []
+    records = csv.reader(io.StringIO(data.decode("utf-8-sig"), newline=""))
+    next(records)
+    for number, fields in enumerate((fields for fields in records if fields), 1):
+        line = line_of(fields)
+        if isinstance(line, str):
+            lines.append(line)
+        else:
+            told.append("roadseg: record %d, %s: %s\n" % (number, HEADER[line[0]], line[1]))
+    return "".join(lines).encode(), "".join(told).encode()
+
+
+def check_random():
+    """Pseudo-random records, with both line ends and with a byte order mark."""
+    for count, ending, mark, seed in ((RECORDS, "\n", b"", 1), (2_000, "\r\n", b"\xef\xbb\xbf", 2), (0, "\n", b"", 3)):
+        chance = random.Random(seed)
+        data = mark + csv_of([some_record(chance) for _ in range(count)], ending)
+        lines, told = wanted_of(data)
+        status, out, errors = run(*WORDS, data=data)
+        expect("what is told of %d records" % count, errors, told)
+        expect("the lines of %d records" % count, out, lines)
+        expect("the status over %d records" % count, status, 1 if told else 0)
+    return RECORDS
+
+
+def check_fields():
+    """Fields one by one: empty ones and quoted ones, blanks, the last line without its LF, methods of location."""
+    head = b"route,from,to,surface,year\n"
+    for record, values in (
+        (b'SR1,0,1,,', "FROM 0 TO 1 VALUES (NULL, NULL)"),
+        (b'SR1,0,1,"",2', "FROM 0 TO 1 VALUES ('', 2)"),
+        (b'"SR1","0","1","a,""b""",-7', "FROM 0 TO 1 VALUES ('a,\"b\"', -7)"),
+        (b"SR1, @BRIDGE + 2 ,50%,it's, 4 ", "FROM @BRIDGE+2 TO 50% VALUES ('it''s', 4)"),
+    ):
+        for end in (b"", b"\n", b"\r\n", b"\n\n\n"):
+            got = run("csv", DEFINE, "--no-define", data=head + record + end)
+            expect(record.decode(), got, (0, ("0 INSERT INTO pavement ON SR1 %s\n" % values).encode(), b""))
+    for record, told in (
+        (b"SR1,0,1,a", "year: no such field"),
+        (b'SR1,0,1,"a\nb",1', "surface: not text"),
+        (b"SR1,0,1,\xff,1", "surface: not text"),
+        (b'SR1,0,1,a,""', "year: not a number"),
+        (b",0,1,a,1", "route: not a name"),
+        (b"SR1,0,+1,a,1", "to: not a position"),
+        (b"SR1,0,1,a,1;", "year: not a number"),
+    ):
+        got = run("csv", DEFINE, "--no-define", data=head + record + b"\n")
+        expect(repr(record), got, (1, b"", ("roadseg: record 1, %s\n" % told).encode()))
+    long = head + b"SR1,0,1,%s,1\nSR1,1,2,a,1\n" % (b"x" * 70_000)
+    expect("a long record", run("csv", DEFINE, "--no-define", data=long), (1, b"0 INSERT INTO pavement ON SR1 FROM 1 TO 2 VALUES ('a', 1)\n", b"roadseg: record 1: longer than 65536 bytes\n"))
+
+
+def check_words():
+    """The table, the session, the header, points, and the routes."""
+    expect("a point", run("csv", POINTS, "--session", "7", data=b"at,route,year\n3.5,SR1,1999\n"), (0, ("7 %s\n7 INSERT INTO crash ON SR1 AT 3.5 VALUES (1999)\n" % POINTS).encode(), b""))
+    expect("no table", run("csv", "DEFINE ROUTE SR1 FROM 0 TO 1", data=b"")[:2], (2, b""))
+    expect("a session past 63", run("csv", POINTS, "--session", "64", data=b"")[:2], (2, b""))
+    expect("no words", run("csv")[:2], (2, b""))
+    expect("a column that is not there", run("csv", POINTS, data=b"at,route\n1,SR1\n"), (1, b"", b"roadseg: year: no such column in the header\n"))
+    expect("a column twice", run("csv", POINTS, data=b"at,route,year,year\n1,SR1,1,1\n"), (1, b"", b"roadseg: year: column twice in the header\n"))
+    data = b"route,from,to,surface,year\nSR2,5,9.5,a,1\nSR1,3,4,b,2\nSR2,1,2,c,3\nSR3,50%,60%,d,4\n"
+    got = run("csv", DEFINE, "--routes", data=data)
+    routes = b"0 DEFINE ROUTE SR1 FROM 3.000 TO 4.000\n0 DEFINE ROUTE SR2 FROM 1.000 TO 9.500\n"
+    expect("the status with --routes", got[0], 1)
+    expect("the routes", got[1][: len(routes)], routes)
+    expect("the route that is told", got[2], b"roadseg: SR3: no measure met on the route\n")
+
+
+def check_loading():
+    """The lines are accepted by `run`."""
+    chance = random.Random(4)
+    records = [fields for fields in (some_record(chance) for _ in range(3_000)) if isinstance(line_of(fields), str) and len(fields[3].encode()) <= 12]
+    status, lines, _ = run(*WORDS, "--routes", data=csv_of(records, "\n"))
+    expect("the status", status, 0)
+    replies = run("run", data=lines)[1].splitlines()
+    expect("what is refused", [reply for reply in replies if b" OK " not in reply], [])
+    expect("how many", len(replies), len(lines.splitlines()))
+    greatest = {}
+    for route, _, end, *_ in records:
+        greatest[route] = max(greatest.get(route, Decimal(0)), Decimal(end))
+    for route, end in greatest.items():
+        expect("the end of %s" % route, b" TO %.3f\n" % end in lines, True)
+
+
+def check_explained():
+    """Each refusal of the table of the language is explained, with its number."""
+    with open(LANGUAGE, encoding="utf-8") as file:
+        language = file.read()
+    status, out, errors = run("explain")
+    expect("the status of explain", (status, errors), (0, b""))
+    rows = re.findall(r"^\| ?([0-9]*) \| ?[^|]*\| ([0-9]+) \| [a-z ]+ \|$", language, re.MULTILINE)
+    table = {number for row in rows for number in row if number}
+    numbers = re.findall(r"^([0-9]+) ", out.decode(), re.MULTILINE)
+    expect("the numbers that are explained", set(numbers), table)
+    expect("each once", len(numbers), len(set(numbers)))
+    for number in numbers:
+        status, one, errors = run("explain", number)
+        expect("explain %s" % number, (status, one in out, one.startswith(number.encode()), errors), (0, True, True, b""))
+    expect("what the page has", out.decode() in language, True)
+    expect("a number of no refusal", run("explain", "5")[:2], (2, b""))
+    return len(numbers)
+
+
+def check_watched():
+    """`--bail` stops at the first refused line, and `--report` says which were refused."""
+    lines = b"0 DEFINE ROUTE SR1 FROM 0 TO 1\n0 SELECT nothing\n0 DEFINE ROUTE SR2 FROM 0 TO 1\n0 bad"
+    replies = [b"0 OK 0\n", b"0 ERR 21 no such name\n", b"0 OK 0\n"]
+    expect("without options", run("run", data=lines), (0, b"".join(replies), b""))
+    expect("--bail", run("run", "--bail", data=lines), (1, b"".join(replies[:2]), b""))
+    told = b"roadseg: lines answered: 3, refused: 1\nroadseg: line 2: 0 ERR 21 no such name\n"
+    expect("--report", run("run", "--report", data=lines), (0, b"".join(replies), told))
+    expect("both", run("run", "--bail", "--report", data=lines), (1, b"".join(replies[:2]), told.replace(b"3", b"2", 1)))
+    many = b"0 SELECT nothing\n" * 30
+    status, _, told = run("run", "--report", data=many)
+    expect("how many are told", (status, told.count(b"\n"), told.startswith(b"roadseg: lines answered: 30, refused: 30\n")), (0, 11, True))
+    with tempfile.TemporaryDirectory() as folder:
+        path = os.path.join(folder, "roads.seg")
+        expect("create", run("create", "--file", path)[0], 0)
+        expect("--bail over a file", run("run", "--file", path, "--bail", data=lines)[0], 1)
+        kept = run("run", "--file", path, data=b"0 DEFINE ROUTE SR1 FROM 0 TO 1\n0 DEFINE ROUTE SR2 FROM 0 TO 1\n")
+        expect("what the file keeps", kept, (0, b"0 ERR 24 name taken\n0 OK 0\n", b""))
+
+
+def main():
+    try:
+        records = check_random()
+        check_fields()
+        check_words()
+        check_loading()
+        refusals = check_explained()
+        check_watched()
+    except Unexpected as fault:
+        sys.exit("csv_lines: %s" % fault)
+    print("csv and explain: %d records made into lines, %d refusals explained" % (records, refusals))
+
+
+if __name__ == "__main__":
+    if len(sys.argv) > 1:
+        PROGRAM = sys.argv[1]
+    main()
