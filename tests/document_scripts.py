@@ -17,6 +17,7 @@ README = os.path.join(ROOT, "README.md")
 ASKED = "How is the inventory asked from Python?"
 DRAWN = "How is a diagram of a road drawn?"
 FROM_CSV = "How do two CSV files become a payment table and a diagram?"
+BY_SHELL = "How does a CSV become a table, and that a payment table, in the shell?"
 SERVED = "7400"  # the port of `serve`, for which another one is put
 
 
@@ -107,8 +108,14 @@ def two_csv_files_become_a_payment_table_and_a_diagram(program):
     program.expect(["run", "--file", program.file("mowing.seg")], b"0 TOTAL mowing BY ()\n", b"0 ROW 55.625\n0 OK 1\n")
 
 
+def csv_becomes_a_payment_table_in_the_shell(program):
+    prepare(program)
+    expect("scripts", run_section(program, COOKBOOK, BY_SHELL), 1)
+
+
 DOCUMENT_TESTS = [
     the_inventory_is_asked_from_python,
     diagrams_are_drawn_as_they_are_kept,
     two_csv_files_become_a_payment_table_and_a_diagram,
+    csv_becomes_a_payment_table_in_the_shell,
 ]
