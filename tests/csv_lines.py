@@ -73,7 +73,9 @@ def line_of(fields, session=0):
     if year and abs(int(year)) > 10**12:
         return (4, "number past 10^12")
     text = "'%s'" % surface.replace("'", "''") if surface else "NULL"
-    return "%d INSERT INTO pavement ON %s FROM %s TO %s VALUES (%s, %s)\n" % (session, route, begin, end, text, year or "NULL")
+    return "%d INSERT INTO pavement ON %s FROM %s TO %s VALUES (%s, %s)\n" % (
+        session, route, begin, end, text, year or "NULL",
+    )
 
 
 HEADER = ["road", "beg_mp", "end_mp", "surface", "built"]
@@ -140,17 +142,53 @@ def check_fields():
         got = run("csv", DEFINE, "--no-define", data=head + record + b"\n")
         expect(repr(record), got, (1, b"", ("roadseg: record 1, %s\n" % told).encode()))
     long = head + b"SR1,0,1,%s,1\nSR1,1,2,a,1\n" % (b"x" * 70_000)
-    expect("a long record", run("csv", DEFINE, "--no-define", data=long), (1, b"0 INSERT INTO pavement ON SR1 FROM 1 TO 2 VALUES ('a', 1)\n", b"roadseg: record 1: longer than 65536 bytes\n"))
+    after = b"0 INSERT INTO pavement ON SR1 FROM 1 TO 2 VALUES ('a', 1)\n"
+    told = b"roadseg: record 1: longer than 65536 bytes\n"
+    expect("a long record", run("csv", DEFINE, "--no-define", data=long), (1, after, told))
+
+
+NOTES = "DEFINE POINT TABLE notes (note TEXT(40))"
+NOTE_COLUMNS = ["route", "at", "note"]
+
+
+def note_of(number, fields):
+    """What is made of a record of notes: its line, or what is told."""
+    for place, (name, wrong) in enumerate(zip(NOTE_COLUMNS, ("not a name", "not a position", ""))):
+        if place >= len(fields):
+            return "roadseg: record %d, %s: no such field\n" % (number, name)
+        if re.search(r"[\r\n]", fields[place]):
+            return "roadseg: record %d, %s: not text\n" % (number, name)
+        if not re.fullmatch(("[A-Za-z][A-Za-z0-9_]*", "1", ".*")[place], fields[place]):
+            return "roadseg: record %d, %s: %s\n" % (number, name, wrong)
+    return "0 INSERT INTO notes ON %s AT 1 VALUES (%s)\n" % (fields[0], "'%s'" % fields[2] if fields[2] else "NULL")
+
+
+def check_quotes(rounds=3_000):
+    """Quotes, commas and ends of lines wherever they stand, read as Python reads them. An empty text is as good as NULL here."""
+    chance = random.Random(5)
+    for _ in range(rounds):
+        tail = "".join(chance.choice('""",\n\rab') for _ in range(chance.randrange(12)))
+        text = "route,at,note\nSR1,1,%s%sSR1,1,b" % (tail, chance.choice(["\n", "\r\n", ""]))
+        records = list(csv.reader(io.StringIO(text, newline="")))[1:]
+        made = [note_of(number, fields) for number, fields in enumerate((one for one in records if one), 1)]
+        lines = "".join(one for one in made if one[0] == "0")
+        told = "".join(one for one in made if one[0] == "r")
+        status, out, errors = run("csv", NOTES, "--no-define", data=text.encode())
+        got = (status, out.decode().replace("('')", "(NULL)"), errors.decode())
+        expect(repr(text), got, (1 if told else 0, lines, told))
 
 
 def check_words():
     """The table, the session, the header, points, and the routes."""
-    expect("a point", run("csv", POINTS, "--session", "7", data=b"at,route,year\n3.5,SR1,1999\n"), (0, ("7 %s\n7 INSERT INTO crash ON SR1 AT 3.5 VALUES (1999)\n" % POINTS).encode(), b""))
+    lines = ("7 %s\n7 INSERT INTO crash ON SR1 AT 3.5 VALUES (1999)\n" % POINTS).encode()
+    expect("a point", run("csv", POINTS, "--session", "7", data=b"at,route,year\n3.5,SR1,1999\n"), (0, lines, b""))
     expect("no table", run("csv", "DEFINE ROUTE SR1 FROM 0 TO 1", data=b"")[:2], (2, b""))
     expect("a session past 63", run("csv", POINTS, "--session", "64", data=b"")[:2], (2, b""))
     expect("no words", run("csv")[:2], (2, b""))
-    expect("a column that is not there", run("csv", POINTS, data=b"at,route\n1,SR1\n"), (1, b"", b"roadseg: year: no such column in the header\n"))
-    expect("a column twice", run("csv", POINTS, data=b"at,route,year,year\n1,SR1,1,1\n"), (1, b"", b"roadseg: year: column twice in the header\n"))
+    told = b"roadseg: year: no such column in the header\n"
+    expect("a column that is not there", run("csv", POINTS, data=b"at,route\n1,SR1\n"), (1, b"", told))
+    told = b"roadseg: year: column twice in the header\n"
+    expect("a column twice", run("csv", POINTS, data=b"at,route,year,year\n1,SR1,1,1\n"), (1, b"", told))
     data = b"route,from,to,surface,year\nSR2,5,9.5,a,1\nSR1,3,4,b,2\nSR2,1,2,c,3\nSR3,50%,60%,d,4\n"
     got = run("csv", DEFINE, "--routes", data=data)
     routes = b"0 DEFINE ROUTE SR1 FROM 3.000 TO 4.000\n0 DEFINE ROUTE SR2 FROM 1.000 TO 9.500\n"
@@ -162,7 +200,8 @@ def check_words():
 def check_loading():
     """The lines are accepted by `run`."""
     chance = random.Random(4)
-    records = [fields for fields in (some_record(chance) for _ in range(3_000)) if isinstance(line_of(fields), str) and len(fields[3].encode()) <= 12]
+    records = [some_record(chance) for _ in range(3_000)]
+    records = [fields for fields in records if isinstance(line_of(fields), str) and len(fields[3].encode()) <= 12]
     status, lines, _ = run(*WORDS, "--routes", data=csv_of(records, "\n"))
     expect("the status", status, 0)
     replies = run("run", data=lines)[1].splitlines()
@@ -188,7 +227,8 @@ def check_explained():
     expect("each once", len(numbers), len(set(numbers)))
     for number in numbers:
         status, one, errors = run("explain", number)
-        expect("explain %s" % number, (status, one in out, one.startswith(number.encode()), errors), (0, True, True, b""))
+        said = (status, one in out, one.startswith(number.encode()), errors)
+        expect("explain %s" % number, said, (0, True, True, b""))
     expect("what the page has", out.decode() in language, True)
     expect("a number of no refusal", run("explain", "5")[:2], (2, b""))
     return len(numbers)
@@ -205,7 +245,8 @@ def check_watched():
     expect("both", run("run", "--bail", "--report", data=lines), (1, b"".join(replies[:2]), told.replace(b"3", b"2", 1)))
     many = b"0 SELECT nothing\n" * 30
     status, _, told = run("run", "--report", data=many)
-    expect("how many are told", (status, told.count(b"\n"), told.startswith(b"roadseg: lines answered: 30, refused: 30\n")), (0, 11, True))
+    first = told.startswith(b"roadseg: lines answered: 30, refused: 30\n")
+    expect("how many are told", (status, told.count(b"\n"), first), (0, 11, True))
     with tempfile.TemporaryDirectory() as folder:
         path = os.path.join(folder, "roads.seg")
         expect("create", run("create", "--file", path)[0], 0)
@@ -218,6 +259,7 @@ def main():
     try:
         records = check_random()
         check_fields()
+        check_quotes()
         check_words()
         check_loading()
         refusals = check_explained()
