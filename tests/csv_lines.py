@@ -45,28 +45,50 @@ def some_text(chance):
     return "".join(chance.choice(LETTERS) for _ in range(chance.randrange(13)))
 
 
-def some_record(chance):
+def some_position(chance, thousandths):
+    """A position in one of the methods of location, with blanks where a line may have them."""
+    way = chance.randrange(8)
+    if way < 4:
+        return "%.3f" % (thousandths / 1000)
+    blank = chance.choice(["", "", " "])
+    if way == 4:
+        return blank + "%d" % (thousandths // 1000) + blank
+    if way == 5:
+        return "%s.5%s%%" % (chance.randrange(100), blank)
+    if way == 6:
+        return "@BRIDGE" + blank
+    return "@Exit_%d%s%s%s%.2f" % (chance.randrange(30), blank, chance.choice("+-"), blank, thousandths / 10**6)
+
+
+def some_record(chance, is_measured=False):
     """The fields of a record, in the order route, from, to, surface, year; some of them are wrong."""
     begin = chance.randrange(0, 900_000)
     end = begin + chance.randrange(1, 90_000)
-    fields = ["SR%d" % chance.randrange(1, 40), "%.3f" % (begin / 1000), "%.3f" % (end / 1000)]
+    ends = ["%.3f" % (place / 1000) if is_measured else some_position(chance, place) for place in (begin, end)]
+    fields = ["SR%d" % chance.randrange(1, 40), *ends]
     year = chance.choice(["", str(chance.randrange(1900, 2100)), "-%d" % chance.randrange(10)])
     fields += [some_text(chance), year]
     if chance.randrange(50) == 0:
         place = chance.choice([0, 1, 2, 4])
-        fields[place] = {0: "9!", 1: "1.2.3", 2: "", 4: chance.choice(["x", "1.5", "9" * 13])}[place]
+        fields[place] = {
+            0: chance.choice(["9!", "", "SELECT", "x" * 33]),
+            1: chance.choice(["1.2.3", "1.2345", "101%", "1000000", "@", "@B+"]),
+            2: chance.choice(["", "-1", "@A*2", "5%+1"]),
+            4: chance.choice(["x", "1.5", "9" * 13, "+1", "1 2"]),
+        }[place]
     return fields
 
 
 def line_of(fields, session=0):
     """The line of a record, or which field of it is wrong: its place and the words for it."""
     route, begin, end, surface, year = fields
-    if not re.fullmatch("[A-Za-z][A-Za-z0-9_]*", route):
+    if not re.fullmatch("[A-Za-z][A-Za-z0-9_]{0,31}", route) or route == "SELECT":
         return (0, "not a name")
+    begin, end = begin.replace(" ", ""), end.replace(" ", "")
     for place, position in ((1, begin), (2, end)):
-        if not re.fullmatch(r"[0-9]+(\.[0-9]{1,3})?", position):
+        if not re.fullmatch(POSITION, position):
             return (place, "not a position")
-    if year and not re.fullmatch("-?[0-9]+(.[0-9]+)?", year):
+    if year and not re.fullmatch(r"-?[0-9]+(\.[0-9]+)?", year):
         return (4, "not a number")
     if "." in year:
         return (4, "not a whole number")
@@ -78,6 +100,8 @@ def line_of(fields, session=0):
     )
 
 
+MEASURE = r"[0-9]{1,6}(\.[0-9]{1,3})?"
+POSITION = r"%s|[0-9]{1,2}(\.[0-9]+)? *%%|@[A-Za-z][A-Za-z0-9_]*([+-]%s)?" % (MEASURE, MEASURE)
 HEADER = ["road", "beg_mp", "end_mp", "surface", "built"]
 WORDS = ["csv", DEFINE, "--route", "road", "--from", "beg_mp", "--to", "end_mp", "--column", "year=built"]
 
@@ -200,7 +224,7 @@ def check_words():
 def check_loading():
     """The lines are accepted by `run`."""
     chance = random.Random(4)
-    records = [some_record(chance) for _ in range(3_000)]
+    records = [some_record(chance, is_measured=True) for _ in range(3_000)]
     records = [fields for fields in records if isinstance(line_of(fields), str) and len(fields[3].encode()) <= 12]
     status, lines, _ = run(*WORDS, "--routes", data=csv_of(records, "\n"))
     expect("the status", status, 0)
