@@ -14,6 +14,8 @@ import sys
 import tempfile
 from decimal import Decimal
 
+import refusing
+
 ROOT = os.path.dirname(os.path.dirname(os.path.abspath(__file__)))
 PROGRAM = os.path.join(ROOT, "crates", "roadseg", "out", "roadseg")
 LANGUAGE = os.path.join(ROOT, "docs", "LANGUAGE.md")
@@ -279,6 +281,25 @@ def check_watched():
         expect("what the file keeps", kept, (0, b"0 ERR 24 name taken\n0 OK 0\n", b""))
 
 
+def check_refused_growths():
+    """Whichever growth is refused, a front of the lines is out, and want of memory is told."""
+    chance = random.Random(6)
+    records = [some_record(chance) for _ in range(20)]
+    data = csv_of([fields for fields in records if isinstance(line_of(fields), str)], "\n")
+    with tempfile.TemporaryDirectory() as folder:
+        library = refusing.build(folder)
+        for words in (WORDS, [*WORDS, "--routes"], ["explain"]):
+            whole = run(*words, data=data)[1]
+            for number in range(1, 101):
+                settings = dict(os.environ, LD_PRELOAD=library, **refusing.Refusal(growth=number).settings())
+                done = subprocess.run([PROGRAM, *words], input=data, capture_output=True, env=settings, timeout=LONGEST)
+                if done.stdout == whole:
+                    break
+                what = "growth %d of %s" % (number, words[0])
+                expect(what, (done.returncode, done.stderr), (1, b"roadseg: ERR 90 out of memory\n"))
+                expect(what, whole.startswith(done.stdout), True)
+
+
 def main():
     try:
         records = check_random()
@@ -288,6 +309,7 @@ def main():
         check_loading()
         refusals = check_explained()
         check_watched()
+        check_refused_growths()
     except Unexpected as fault:
         sys.exit("csv_lines: %s" % fault)
     print("csv and explain: %d records made into lines, %d refusals explained" % (records, refusals))
