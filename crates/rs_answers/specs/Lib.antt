@@ -6,3 +6,4 @@ pub mod Printed
 pub mod Totalled
 pub mod Routes
 pub mod TotalColumns
+pub mod Versions
