@@ -1,1 +1,6 @@
-mod CursorLaws
+pub mod HeldLaws
+pub mod MachineCursors
+pub mod OldestLaws
+mod BySession
+mod Lowest
+mod Oldests

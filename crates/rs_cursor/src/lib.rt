@@ -1,10 +1,12 @@
 //! Cursors: answers that are given in parts, each under a name of its session.
 //!
-//! A cursor keeps the lines that were made when it was opened, and how many of them were given.
+//! A cursor keeps no line: it keeps the plan of its query, the version that it looks at, and how far it was given.
 #![tactic(auto)]
 
 pub mod cursor;
 pub mod cursors;
+pub mod place;
 
 pub use cursor::Cursor;
 pub use cursors::Cursors;
+pub use place::Place;

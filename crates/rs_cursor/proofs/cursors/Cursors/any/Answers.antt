@@ -1,15 +1,19 @@
-use Rattle.std.proofs.Common.{◌<◌, sym, ap, subst, ◌∙◌, arith}
-use Rattle.std.specs.FinMap as names
-use Rattle.rs_cursor.specs.Held.{cursors_of}
-use Rattle.rs_cursor.proofs.CursorLaws.{some_session, no_session}
+use Rattle.std.proofs.Common.{◌≡◌, ℕ, map, rules, sym, subst, ◌∙◌}
+use Rattle.std.specs.Bool.{OnFalse}
+use Rattle.std.specs.FinMap as maps
+use Rattle.std.proofs.lemmas.Iterator.Consumers.{YieldsList-from_rest}
+use Rattle.std.proofs.lemmas.Iterator.Search.{any_from_yields_List}
+use Rattle.rs_cursor.proofs.BySession.{any_held, any_machine, has_some}
+use Rattle.rs_cursor.specs.Held.{held_of}
 use Rattle.rs_cursor.proofs.cursors.Cursors.any.Goals as goal
 
-pub returns-then-count-gt0 : goal.returns-then-count-gt0
-returns-then-count-gt0 c =
-    sym (some_session (cursors_of c.args.self.now) c.loop-number.number c.loop-number-test.true
-    (subst (λ n. 0 < n) (c.count.ensures ∙ ap (λ s. names.len (cursors_of c.args.self.now s)) c.from_number.ensures) c.if-count-gt0.true))
+pub returns-clause-machine : goal.returns-clause-machine
+returns-clause-machine c = λ lines.
+    any_from_yields_List has_some _ _ c.any.result c.any.ensures.ran (YieldsList-from_rest (map (λ e. e.1) c.self.inside.by_session.entries) c.values.ensures.rest) (λ x b q k. search rules)
+    ∙ any_machine c.self.inside.by_session.entries c.args.self.now c.self.view_is c.self.invariant c.values.ensures.ordered lines
 
-pub returns : goal.returns
-returns c =
-    let beyond = c.loop-number-test.false in
-    sym (no_session (cursors_of c.args.self.now) (λ session below. c.loop-number.invariant session (omega arith)))
+pub returns-clause-none : goal.returns-clause-none
+returns-clause-none c =
+    subst (λ b. OnFalse b ((session : ℕ) → held_of c.args.self.now session ≡ maps.empty))
+    (sym (any_from_yields_List has_some _ _ c.any.result c.any.ensures.ran (YieldsList-from_rest (map (λ e. e.1) c.self.inside.by_session.entries) c.values.ensures.rest) (λ x b q k. search rules)))
+    (any_held c.self.inside.by_session.entries c.args.self.now c.self.view_is)

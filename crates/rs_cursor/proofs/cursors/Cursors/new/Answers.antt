@@ -1,8 +1,17 @@
-use Rattle.std.proofs.Common.{ap, ◌∙◌}
+use Rattle.std.proofs.Common.{sym, ap, subst, ◌∙◌}
 use Rattle.rs_catalog.proofs.Numbered.{numbered}
-use Rattle.rs_cursor.specs.Held.{cursors_of}
-use Rattle.rs_cursor.proofs.CursorLaws.{cursors_of-empty}
+use Rattle.rs_cursor.proofs.BySession.{of_sessions-empty}
+use Rattle.rs_cursor.proofs.HeldLaws.{held_of-empty}
+use Rattle.rs_cursor.proofs.MachineCursors.{cursors_by-none}
+use Rattle.rs_cursor.specs.Held.{held_of}
+use Rattle.rs_cursor.specs.Sessions.{AreOfSessions}
 use Rattle.rs_cursor.proofs.cursors.Cursors.new.Goals as goal
 
-pub returns : goal.returns
-returns c = ap (λ entries. cursors_of (numbered entries)) c.new.ensures.empty ∙ cursors_of-empty
+pub invariant_of-result : goal.invariant_of-result
+invariant_of-result c = subst (λ entries. AreOfSessions (numbered entries)) (sym c.new.ensures.empty) of_sessions-empty
+
+pub returns-clause-held : goal.returns-clause-held
+returns-clause-held c = λ session. ap (λ entries. held_of (numbered entries) session) c.new.ensures.empty ∙ held_of-empty session
+
+pub returns-clause-machine : goal.returns-clause-machine
+returns-clause-machine c = λ lines. cursors_by-none lines _ (λ session. ap (λ entries. held_of (numbered entries) session) c.new.ensures.empty ∙ held_of-empty session)
