@@ -9,7 +9,7 @@ use rs_value::Kind;
 
 /// The kind of a plan's rows, by the tables at its leaves.
 #[cycle(kinds)]
-pub(crate) fn kind_of(plan: &Plan) -> Kind
+pub fn kind_of(plan: &Plan) -> Kind
     ensures { result ≡ kind_in plan.now }
 {
     match plan {
