@@ -4,6 +4,9 @@ mod Counting
 mod CanPlan
 mod PlannedRows
 mod LineTexts
+pub mod NamedRoutes
+mod ShownLines
+mod PresentLines
 mod QueryAnswers
 mod TotalRows
 mod Leavings

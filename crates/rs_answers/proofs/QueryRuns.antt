@@ -1,4 +1,4 @@
--- The runs of a query on one route are printed whole, and their positions lie on the route.
+-- Runs on one route are printed whole, and their positions lie on the route.
 use Rattle.std.proofs.Common.{◌≡◌, ℕ, ◌+◌, ◌-◌, ◌<◌, ◌≤◌, true, List, [], Some, sym, subst, ◌∙◌, arith}
 use Rattle.std.specs.List.{AllByRecursion}
 use Rattle.std.specs.FinMap as names
@@ -8,7 +8,7 @@ use Rattle.rs_value.specs.Row.{Row}
 use Rattle.rs_facts.specs.Fact.{Name, Places, contains}
 use Rattle.rs_facts.specs.Query.{RouteEnds, Query, rows_at, kind_of}
 use Rattle.rs_facts.specs.WellFormed.{IsWellFormed}
-use Rattle.rs_facts.specs.Runs.{Stretch, IsLineRun, IsPointRun, IsMaximalRun, AreRunsOf, LieWithin}
+use Rattle.rs_facts.specs.Runs.{Stretch, IsLineRun, IsPointRun, IsMaximalRun, AreRunsOf, LieWithin, runs_of}
 use Rattle.rs_facts.specs.Spans.{places_of}
 use Rattle.rs_facts.proofs.KeptLaws.{every-weaker}
 use Rattle.rs_facts.proofs.Apart.{kept-apart}
@@ -16,8 +16,8 @@ use Rattle.rs_facts.proofs.RunLaws.{runs-from_apart}
 use Rattle.rs_facts.proofs.RunsOf.{runs_of-unique}
 use Rattle.rs_machine.specs.Lawful.{MayHoldAt, IsLawful, OnRoute}
 use Rattle.rs_machine.specs.State.{State, world_of}
-use Rattle.rs_machine.specs.Step.{printed_runs}
 use Rattle.rs_catalog.proofs.MapLaws.{some_same}
+use Rattle.rs_catalog.specs.Events.{behind}
 use Rattle.rs_answers.specs.Printed.{IsWithinEnds}
 
 -- the rows of a well-formed query lie on routes that are there
@@ -52,6 +52,24 @@ printable : (kind : Kind) (ends : RouteEnds) (places : Places) → HoldOn kind e
 printable Line = line-printable
 printable Point = point-printable
 
+-- where rows may hold at the latest, by their kind
+pub holds-within : (kind : Kind) (ends : RouteEnds) (places : Places) → LieWithin ends.start (behind kind ends) places → HoldOn kind ends places
+holds-within Line ends places within k row holding = within k row holding
+holds-within Point ends places within k row holding = let on = within k row holding in (on.0, omega (arith, on.1))
+
+pub within-holds : (kind : Kind) (ends : RouteEnds) (places : Places) → HoldOn kind ends places → LieWithin ends.start (behind kind ends) places
+within-holds Line ends places on k row holding = on k row holding
+within-holds Point ends places on k row holding = hold-within Point ends places on k row holding
+
+module _ (kind : Kind) (ends : RouteEnds) (places : Places) (on : HoldOn kind ends places) (runs : List Stretch) (are : AreRunsOf kind places runs) where
+  -- the positions of the runs lie on the route
+  pub runs-printable : AllByRecursion (IsWithinEnds ends kind) runs
+  runs-printable = every-weaker (IsMaximalRun kind places) (IsWithinEnds ends kind) (printable kind ends places on) runs are.maximal
+
+  -- they are those from its start to its end
+  pub runs-whole : runs ≡ runs_of kind places ends.start (ends.finish + 1)
+  runs-whole = runs_of-unique kind ends.start (ends.finish + 1) places runs (hold-within kind ends places on) are
+
 -- where nothing holds, there are no runs
 pub no-runs : (kind : Kind) (places : Places) → places ≡ places_of [] → AreRunsOf kind places []
 no-runs kind places nothing = subst (λ (p : Places). AreRunsOf kind p []) (sym nothing) (runs-from_apart kind [] tt (kept-apart kind [] tt) tt)
@@ -70,12 +88,3 @@ module _ (rows-lie : RowsLieOnRoutes) (state : State) (lawful : IsLawful state) 
 
   pub query-within : LieWithin ends.start (ends.finish + 1) places
   query-within = hold-within kind ends places query-holds
-
-  module _ (runs : List Stretch) (are : AreRunsOf kind places runs) where
-    -- the positions of the runs lie on the route
-    pub runs-printable : AllByRecursion (IsWithinEnds ends kind) runs
-    runs-printable = every-weaker (IsMaximalRun kind places) (IsWithinEnds ends kind) (printable kind ends places query-holds) runs are.maximal
-
-    -- they are those that the machine prints
-    pub runs-printed : runs ≡ printed_runs state query route ends
-    runs-printed = runs_of-unique kind ends.start (ends.finish + 1) places runs query-within are

@@ -7,3 +7,5 @@ pub mod Totalled
 pub mod Routes
 pub mod TotalColumns
 pub mod Versions
+pub mod Shown
+pub mod Portions

@@ -4,17 +4,23 @@
 //! stands for what it stood for.
 #![tactic(auto)]
 
+pub mod laws;
 pub mod memory;
 pub mod plans;
 mod printer;
-mod routes;
+pub mod route_lines;
+pub mod routes;
 mod row_text;
 pub mod rows;
 pub mod runs;
 pub mod totals;
+pub mod versions;
 
 pub use memory::{InMemory, PlannedQuery};
 pub use plans::{checked, explain_lines, planned, planning_indexes};
+pub use route_lines::{PlanAt, Portion, push_route_lines};
+pub use routes::NamedRoute;
 pub use rows::lines;
 pub use runs::runs_on;
 pub use totals::{TotalColumns, total_columns, total_of};
+pub use versions::Versions;

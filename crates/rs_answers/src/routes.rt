@@ -12,11 +12,11 @@ use std::alloc::{AllocError, Global};
 
 /// A route by its name.
 #[derive(Clone, Copy)]
-pub(crate) struct NamedRoute {
+pub struct NamedRoute {
     /// The route's name.
-    pub(crate) name: Name,
+    pub name: Name,
     /// The route's number, and where it starts and ends.
-    pub(crate) route: RouteEntry,
+    pub route: RouteEntry,
 }
 
 /// The routes in the order of their names. The only refusal is for want of memory.
