@@ -4,3 +4,4 @@ pub mod OldestLaws
 mod BySession
 mod Lowest
 mod Oldests
+mod NextLines

@@ -5,6 +5,7 @@
 
 pub mod cursor;
 pub mod cursors;
+pub mod next_lines;
 pub mod place;
 
 pub use cursor::Cursor;
