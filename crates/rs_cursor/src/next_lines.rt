@@ -2,7 +2,7 @@
 //!
 //! The plan is evaluated on one route after another, from the place on, until there are as many lines as are asked for.
 
-ghost use Rattle.std.specs.Prelude.{◌≡◌, ◌+◌, ◌-◌, ◌<◌, ◌≤◌, ◌^◌, ℕ, drop, min, take, vec_len, IfOk};
+ghost use Rattle.std.specs.Prelude.{◌≡◌, ◌+◌, ◌-◌, ◌<◌, ◌≤◌, ◌^◌, ℕ, drop, length, min, take, IfOk};
 ghost use Rattle.rs_answers.specs.Versions.{LiesOnRoutes, SeenVersion};
 ghost use Rattle.rs_cursor.specs.Held.{lines_left};
 ghost use Rattle.rs_exec.specs.Leaving.{EndsWith};
@@ -60,9 +60,9 @@ pub fn next_lines<V: Versions>(
     Ok(NextLines { lines, place })
 }
 
-/// How many routes there are. No store shows more than 4,294,967,295.
-fn count_of(routes: &Vec<NamedRoute>) -> u32
-    ensures { result ≡ min (vec_len routes.now) (2 ^ 32 - 1) }
+/// How many routes there are, or 4,294,967,295 where there are more: a store shows far fewer.
+fn count_of(routes: &[NamedRoute]) -> u32
+    ensures { result ≡ min (length routes.now) (2 ^ 32 - 1) }
 {
     routes.len().min(u32::MAX as usize) as u32
 }
