@@ -27,3 +27,4 @@ mod ViewLineLengths
 mod ShortestLines
 mod ViewHeights
 mod WideViews
+mod OpenCursors
