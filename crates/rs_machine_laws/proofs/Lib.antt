@@ -28,3 +28,4 @@ mod ShortestLines
 mod ViewHeights
 mod WideViews
 mod OpenCursors
+mod AnsweredSteps

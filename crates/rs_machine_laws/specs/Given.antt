@@ -1,5 +1,5 @@
 -- What a cursor gives over a list of steps, whichever sessions they are of.
-use Rattle.std.specs.Prelude.{◌≡◌, ℕ, Bool, true, false, ◌&&◌, ◌==◌, List, [], ◌∷◌, length, flat_map, Ok, if◌then◌else◌}
+use Rattle.std.specs.Prelude.{◌≡◌, ℕ, Bool, true, false, ◌&&◌, ◌==◌, List, [], ◌∷◌, ◌++◌, length, flat_map, Ok, if◌then◌else◌}
 use Rattle.std.specs.List.{list_any}
 use Rattle.rs_facts.specs.Fact.{Name}
 use Rattle.rs_facts.specs.Insert.{same_name}
@@ -8,6 +8,8 @@ use Rattle.rs_syntax.specs.Tree.{QueryTree, CommandTree, open_cursor, fetch, clo
 use Rattle.rs_machine.specs.State.{State, RowText}
 use Rattle.rs_machine.specs.Step.{effect, selected}
 use Rattle.rs_machine.specs.Served.{Machine, Reply, done, refused, Served}
+use Rattle.rs_machine.specs.Request.{Request, command, Asks}
+use Rattle.rs_machine.specs.Answered.{Answer}
 
 -- what a session said, and what it was answered
 pub record Exchange : Type 0 where
@@ -16,12 +18,25 @@ pub record Exchange : Type 0 where
   pub reply : Reply
 
 abbrev pub exchange : ℕ → CommandTree → Reply → Exchange
-exchange session command reply = record { session = session; command = command; reply = reply }
+exchange session tree reply = record { session = session; command = tree; reply = reply }
 
 -- One after another, each is served by the machine that the one before left.
 abbrev pub Steps : Machine → List Exchange → Machine → Type 0
 Steps old [] new = new ≡ old
 Steps old (one ∷ more) new = (between : Machine) × Served old one.session one.command one.reply between × Steps between more new
+
+-- a request that is a command, with its answer
+abbrev pub exchanged : Request → Reply → List Exchange
+exchanged (command session tree) reply = exchange session tree reply ∷ []
+exchanged request reply = []
+
+-- The steps are the commands of these lines, each with its session and its answer.
+abbrev pub AreCommandsOf : List (List ℕ) → List Answer → List Exchange → Type 0
+AreCommandsOf [] [] steps = steps ≡ []
+AreCommandsOf (line ∷ lines) (answer ∷ more) steps = (request : Request) × (rest : List Exchange)
+    × Asks line request × (steps ≡ exchanged request answer.reply ++ rest) × AreCommandsOf lines more rest
+AreCommandsOf [] (answer ∷ more) steps = ⊥
+AreCommandsOf (line ∷ lines) [] steps = ⊥
 
 -- ---- what is given
 
@@ -33,7 +48,7 @@ rows_of (refused refusal) = []
 -- whether what a session says is FETCH of this session's cursor of this name
 abbrev pub fetches : ℕ → Name → ℕ → CommandTree → Bool
 fetches session name speaker (fetch cursor rows) = session == speaker && same_name name cursor
-fetches session name speaker command = false
+fetches session name speaker tree = false
 
 abbrev pub given_by : ℕ → Name → Exchange → List RowText
 given_by session name one = if fetches session name one.session one.command then rows_of one.reply else []
@@ -48,7 +63,7 @@ given session name steps = flat_map (given_by session name) steps
 abbrev pub closes : ℕ → Name → ℕ → CommandTree → Bool
 closes session name speaker (close_cursor cursor) = session == speaker && same_name name cursor
 closes session name speaker reopen = true
-closes session name speaker command = false
+closes session name speaker tree = false
 
 abbrev pub is_accepted : Reply → Bool
 is_accepted (done rows count) = true
