@@ -1,5 +1,5 @@
 -- What an insertion and a removal that pass their checks change.
-use Rattle.std.proofs.Common.{◌≡◌, ℕ, suc, ◌+◌, ◌<◌, ◌≤◌, true, nat_lt, List, Option, Some, Result, Ok, Err, refl, sym, ap, subst, ◌∙◌, arith}
+use Rattle.std.proofs.Common.{◌≡◌, ℕ, suc, ◌+◌, ◌<◌, ◌≤◌, true, nat_lt, Option, Some, Result, Ok, Err, refl, sym, ap, subst, ◌∙◌, arith}
 use Rattle.std.specs.FinMap as names
 use Rattle.rs_refusal.specs.declared.refusal.Refusal.{Refusal}
 use Rattle.rs_methods.specs.Position.{PositionExpression}
@@ -21,7 +21,7 @@ use Rattle.rs_catalog.specs.Referents.{referents_on}
 use Rattle.rs_spans.specs.Removal.{goes_by}
 use Rattle.rs_command_checks.specs.declared.checks.Checks.{Checks}
 use Rattle.rs_command_checks.specs.declared.events.Removal.{Removal}
-use Rattle.rs_command_checks.specs.States.{state_by}
+use Rattle.rs_command_checks.specs.States.{Unseen, state_by}
 use Rattle.rs_command_checks.specs.Located.{position_by, span_by, event_span_by}
 use Rattle.rs_command_checks.specs.Insertion.{IsEventOn, MayBePut}
 use Rattle.rs_command_checks.specs.Removal.{AreThere, MayBeTaken}
@@ -91,20 +91,20 @@ module _ (checks : Checks) (name route : Name) (place : EventLocationTree) (row 
         upto = lies.upto;
       }
 
-  module _ (spans : ℕ → ℕ → List Stretch) where
+  module _ (unseen : Unseen) where
     abbrev put_in : Table → Result Effect Refusal
-    put_in there = may_change (state_by checks spans) >>= λ _. Ok (counted (new_facts there.facts route span.lo span.hi span.row) (with_table (state_by checks spans) name (with_facts_along there route span.lo span.hi span.row)))
+    put_in there = may_change (state_by checks unseen) >>= λ _. Ok (counted (new_facts there.facts route span.lo span.hi span.row) (with_table (state_by checks unseen) name (with_facts_along there route span.lo span.hi span.row)))
 
-    put_passed : row_inserted (state_by checks spans) name route place row ≡ put_in (table_of checks spans may.table)
-    put_passed = row_passed checks spans name route place row may.on may.route_there may.table may.table_there (span.lo, span.hi) may.located may.of_kind may.fits
-        ∙ ap (λ (r : Row). may_change (state_by checks spans) >>= λ _. Ok (counted (new_facts (table_of checks spans may.table).facts route span.lo span.hi r) (with_table (state_by checks spans) name (with_facts_along (table_of checks spans may.table) route span.lo span.hi r)))) (sym may.row_is)
+    put_passed : row_inserted (state_by checks unseen) name route place row ≡ put_in (table_of checks unseen may.table)
+    put_passed = row_passed checks unseen name route place row may.on may.route_there may.table may.table_there (span.lo, span.hi) may.located may.of_kind may.fits
+        ∙ ap (λ (r : Row). may_change (state_by checks unseen) >>= λ _. Ok (counted (new_facts (table_of checks unseen may.table).facts route span.lo span.hi r) (with_table (state_by checks unseen) name (with_facts_along (table_of checks unseen may.table) route span.lo span.hi r)))) (sym may.row_is)
 
-    pub row_put : (there : Table) → names.get (state_by checks spans).tables name ≡ Some there → row_inserted (state_by checks spans) name route place row ≡ put_in there
-    row_put there is = put_passed ∙ ap put_in (some_same _ _ _ (table_at checks spans name may.table may.table_there) is)
+    pub row_put : (there : Table) → names.get (state_by checks unseen).tables name ≡ Some there → row_inserted (state_by checks unseen) name route place row ≡ put_in there
+    row_put there is = put_passed ∙ ap put_in (some_same _ _ _ (table_at checks unseen name may.table may.table_there) is)
 
     -- the check of the changes fails
-    pub row_no_change : (refusal : Refusal) → Err refusal ≡ may_change (state_by checks spans) → row_inserted (state_by checks spans) name route place row ≡ Err refusal
-    row_no_change refusal e = put_passed ∙ ap (λ (r : Result (Unit {0}) Refusal). r >>= λ _. Ok (counted (new_facts (table_of checks spans may.table).facts route span.lo span.hi span.row) (with_table (state_by checks spans) name (with_facts_along (table_of checks spans may.table) route span.lo span.hi span.row)))) (sym e)
+    pub row_no_change : (refusal : Refusal) → Err refusal ≡ may_change (state_by checks unseen) → row_inserted (state_by checks unseen) name route place row ≡ Err refusal
+    row_no_change refusal e = put_passed ∙ ap (λ (r : Result (Unit {0}) Refusal). r >>= λ _. Ok (counted (new_facts (table_of checks unseen may.table).facts route span.lo span.hi span.row) (with_table (state_by checks unseen) name (with_facts_along (table_of checks unseen may.table) route span.lo span.hi span.row)))) (sym e)
 
 -- ---- rows are taken away
 
@@ -112,16 +112,16 @@ module _ (checks : Checks) (name : Name) (window : WindowTree) (condition : Opti
   pub are_there : AreThere checks.catalog.now name removal.route.bytes
   are_there = subst (AreThere checks.catalog.now name) (sym may.route_is) (record { table = may.table; table_there = may.table_there; on = may.on; route_there = may.route_there })
 
-  module _ (spans : ℕ → ℕ → List Stretch) where
+  module _ (unseen : Unseen) where
     abbrev taken_from : Table → Name → Result Effect Refusal
-    taken_from there route = may_change (state_by checks spans) >>= λ _. Ok (counted (removed_facts there.facts route removal.lo removal.hi (goes_by removal.goes)) (with_table (state_by checks spans) name (without_facts there route removal.lo removal.hi (goes_by removal.goes))))
+    taken_from there route = may_change (state_by checks unseen) >>= λ _. Ok (counted (removed_facts there.facts route removal.lo removal.hi (goes_by removal.goes)) (with_table (state_by checks unseen) name (without_facts there route removal.lo removal.hi (goes_by removal.goes))))
 
-    taking_passed : rows_removed (state_by checks spans) name window condition ≡ taken_from (table_of checks spans may.table) removal.route.bytes
-    taking_passed = removal_passed checks spans name window condition may.on may.route_there may.table may.table_there (removal.lo, removal.hi) may.located (goes_by removal.goes) may.goes
-        ∙ ap (taken_from (table_of checks spans may.table)) (sym may.route_is)
+    taking_passed : rows_removed (state_by checks unseen) name window condition ≡ taken_from (table_of checks unseen may.table) removal.route.bytes
+    taking_passed = removal_passed checks unseen name window condition may.on may.route_there may.table may.table_there (removal.lo, removal.hi) may.located (goes_by removal.goes) may.goes
+        ∙ ap (taken_from (table_of checks unseen may.table)) (sym may.route_is)
 
-    pub rows_taken : (there : Table) → names.get (state_by checks spans).tables name ≡ Some there → rows_removed (state_by checks spans) name window condition ≡ taken_from there removal.route.bytes
-    rows_taken there is = taking_passed ∙ ap (λ (table : Table). taken_from table removal.route.bytes) (some_same _ _ _ (table_at checks spans name may.table may.table_there) is)
+    pub rows_taken : (there : Table) → names.get (state_by checks unseen).tables name ≡ Some there → rows_removed (state_by checks unseen) name window condition ≡ taken_from there removal.route.bytes
+    rows_taken there is = taking_passed ∙ ap (λ (table : Table). taken_from table removal.route.bytes) (some_same _ _ _ (table_at checks unseen name may.table may.table_there) is)
 
-    pub removal_no_change : (refusal : Refusal) → Err refusal ≡ may_change (state_by checks spans) → rows_removed (state_by checks spans) name window condition ≡ Err refusal
-    removal_no_change refusal e = taking_passed ∙ ap (λ (r : Result (Unit {0}) Refusal). r >>= λ _. Ok (counted (removed_facts (table_of checks spans may.table).facts removal.route.bytes removal.lo removal.hi (goes_by removal.goes)) (with_table (state_by checks spans) name (without_facts (table_of checks spans may.table) removal.route.bytes removal.lo removal.hi (goes_by removal.goes))))) (sym e)
+    pub removal_no_change : (refusal : Refusal) → Err refusal ≡ may_change (state_by checks unseen) → rows_removed (state_by checks unseen) name window condition ≡ Err refusal
+    removal_no_change refusal e = taking_passed ∙ ap (λ (r : Result (Unit {0}) Refusal). r >>= λ _. Ok (counted (removed_facts (table_of checks unseen may.table).facts removal.route.bytes removal.lo removal.hi (goes_by removal.goes)) (with_table (state_by checks unseen) name (without_facts (table_of checks unseen may.table) removal.route.bytes removal.lo removal.hi (goes_by removal.goes))))) (sym e)

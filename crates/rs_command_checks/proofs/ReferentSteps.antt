@@ -1,5 +1,5 @@
 -- What the machine answers where a referent is to be defined, moved or dropped.
-use Rattle.std.proofs.Common.{◌≡◌, ℕ, ◌<◌, ◌≤◌, Bool, true, false, not, nat_lt, ◌||◌, List, Option, Some, None, Result, Ok, Err, refl, sym, ap, ◌∙◌}
+use Rattle.std.proofs.Common.{◌≡◌, ℕ, ◌<◌, ◌≤◌, Bool, true, false, not, nat_lt, ◌||◌, Option, Some, None, Result, Ok, Err, refl, sym, ap, ◌∙◌}
 use Rattle.std.specs.FinMap as names
 use Rattle.std.specs.Cmp.{eq_by_cmp_equiv}
 use Rattle.rs_refusal.specs.declared.refusal.Refusal.{Refusal}
@@ -20,24 +20,23 @@ use Rattle.rs_catalog.proofs.NameOrder.{name_cmp-total}
 use Rattle.rs_catalog_laws.proofs.Numbers.{false_true}
 use Rattle.rs_catalog_laws.proofs.OtherReferents as laws
 use Rattle.rs_command_checks.specs.declared.checks.Checks.{Checks}
-use Rattle.rs_command_checks.specs.States.{state_by}
-use Rattle.rs_facts.specs.Runs.{Stretch}
+use Rattle.rs_command_checks.specs.States.{Unseen, state_by}
 use Rattle.rs_command_checks.specs.Referents.{route_of_referent, with_referent, without_referent}
 use Rattle.rs_command_checks.proofs.Outcomes.{below-true, below-false, route_at, no_route}
 
 -- ---- the referents of a route
 
-module _ (checks : Checks) (spans : ℕ → ℕ → List Stretch) (route : Name) (item : RouteItem) (there : names.get checks.catalog.now.routes route ≡ Some item) where
-  pub referents_there : (state_by checks spans).referents route ≡ referents_on checks.referents.now item.number
+module _ (checks : Checks) (unseen : Unseen) (route : Name) (item : RouteItem) (there : names.get checks.catalog.now.routes route ≡ Some item) where
+  pub referents_there : (state_by checks unseen).referents route ≡ referents_on checks.referents.now item.number
   referents_there = laws.referents_there checks.catalog.now route item (referents_on checks.referents.now) there
 
-  pub has_there : (name : Name) → has ((state_by checks spans).referents route) name ≡ has (referents_on checks.referents.now item.number) name
+  pub has_there : (name : Name) → has ((state_by checks unseen).referents route) name ≡ has (referents_on checks.referents.now item.number) name
   has_there name = ap (λ (referents : Names ℕ). has referents name) referents_there
 
-  pub has_referent_there : (name : Name) → same_name start_name name ≡ false → has (referents_on checks.referents.now item.number) name ≡ has_referent (state_by checks spans) route name
-  has_referent_there name off = sym (ap (λ b. b || has ((state_by checks spans).referents route) name) off ∙ has_there name)
+  pub has_referent_there : (name : Name) → same_name start_name name ≡ false → has (referents_on checks.referents.now item.number) name ≡ has_referent (state_by checks unseen) route name
+  has_referent_there name off = sym (ap (λ b. b || has ((state_by checks unseen).referents route) name) off ∙ has_there name)
 
-  pub position_there : (position : PositionExpression) → position_on (state_by checks spans) route item.ends position ≡ located item.ends.start item.ends.finish (names.entries (referents_on checks.referents.now item.number)) position
+  pub position_there : (position : PositionExpression) → position_on (state_by checks unseen) route item.ends position ≡ located item.ends.start item.ends.finish (names.entries (referents_on checks.referents.now item.number)) position
   position_there position = ap (λ (referents : Names ℕ). located item.ends.start item.ends.finish (names.entries referents) position) referents_there
 
   -- ---- a referent's definition
@@ -47,30 +46,30 @@ module _ (checks : Checks) (spans : ℕ → ℕ → List Stretch) (route : Name)
     Lies answer = answer ≡ located item.ends.start item.ends.finish (names.entries (referents_on checks.referents.now item.number)) position
 
     abbrev Named : Result Effect Refusal → Type 0
-    Named answer = referent_defined (state_by checks spans) route name position ≡ answer
+    Named answer = referent_defined (state_by checks unseen) route name position ≡ answer
 
-    lies : (answer : Result ℕ Refusal) → Lies answer → position_on (state_by checks spans) route item.ends position ≡ answer
+    lies : (answer : Result ℕ Refusal) → Lies answer → position_on (state_by checks unseen) route item.ends position ≡ answer
     lies answer is = position_there position ∙ sym is
 
     pub new_off_route : (refusal : Refusal) → Lies (Err refusal) → Named (Err refusal)
-    new_off_route refusal is = rw (route_at checks spans route item there, lies (Err refusal) is)
+    new_off_route refusal is = rw (route_at checks unseen route item there, lies (Err refusal) is)
 
     module _ (measure : ℕ) (is : Lies (Ok measure)) where
-      pub new_taken : has_referent (state_by checks spans) route name ≡ true → Named (Err NameTaken)
-      new_taken e = rw (route_at checks spans route item there, lies (Ok measure) is, e)
+      pub new_taken : has_referent (state_by checks unseen) route name ≡ true → Named (Err NameTaken)
+      new_taken e = rw (route_at checks unseen route item there, lies (Ok measure) is, e)
 
-      pub new_too_many : has_referent (state_by checks spans) route name ≡ false → REFERENTS ≤ names.len (referents_on checks.referents.now item.number) → Named (Err Limit)
-      new_too_many e f = rw (route_at checks spans route item there, lies (Ok measure) is, e, referents_there, below-false (names.len (referents_on checks.referents.now item.number)) REFERENTS f)
+      pub new_too_many : has_referent (state_by checks unseen) route name ≡ false → REFERENTS ≤ names.len (referents_on checks.referents.now item.number) → Named (Err Limit)
+      new_too_many e f = rw (route_at checks unseen route item there, lies (Ok measure) is, e, referents_there, below-false (names.len (referents_on checks.referents.now item.number)) REFERENTS f)
 
-      pub new_checked : has_referent (state_by checks spans) route name ≡ false → names.len (referents_on checks.referents.now item.number) < REFERENTS
-          → Named (may_change (state_by checks spans) >>= λ _. Ok (counted 0 (with_referent (state_by checks spans) route name measure)))
+      pub new_checked : has_referent (state_by checks unseen) route name ≡ false → names.len (referents_on checks.referents.now item.number) < REFERENTS
+          → Named (may_change (state_by checks unseen) >>= λ _. Ok (counted 0 (with_referent (state_by checks unseen) route name measure)))
       new_checked e f =
-          rw (route_at checks spans route item there, lies (Ok measure) is, e, ap (λ (r : Names ℕ). nat_lt (names.len r) REFERENTS) referents_there ∙ below-true (names.len (referents_on checks.referents.now item.number)) REFERENTS f)
+          rw (route_at checks unseen route item there, lies (Ok measure) is, e, ap (λ (r : Names ℕ). nat_lt (names.len r) REFERENTS) referents_there ∙ below-true (names.len (referents_on checks.referents.now item.number)) REFERENTS f)
 
     -- ---- a referent's move
 
     abbrev Moved : Result Effect Refusal → Type 0
-    Moved answer = referent_moved (state_by checks spans) route name position ≡ answer
+    Moved answer = referent_moved (state_by checks unseen) route name position ≡ answer
 
     -- what comes after the checks of a referent that may be moved
     behind_checks : {B : Type 0} (o : Option RouteEnds) (is_there start : Bool) (next : RouteEnds → Result B Refusal) (at : RouteEnds)
@@ -81,44 +80,44 @@ module _ (checks : Checks) (spans : ℕ → ℕ → List Stretch) (route : Name)
     behind_checks (Some ends) true true next at e = cc
     behind_checks (Some ends) true false next at e = cc
 
-    module _ (movable : route_of_referent (state_by checks spans) route name ≡ Ok item.ends) where
-      moved_behind : Moved (position_on (state_by checks spans) route item.ends position >>= λ measure. may_change (state_by checks spans) >>= λ _. Ok (counted 0 (with_referent (state_by checks spans) route name measure)))
-      moved_behind = behind_checks (names.get (state_by checks spans).routes route) (has_referent (state_by checks spans) route name) (same_name start_name name)
-          (λ ends. position_on (state_by checks spans) route ends position >>= λ measure. may_change (state_by checks spans) >>= λ _. Ok (counted 0 (with_referent (state_by checks spans) route name measure))) item.ends movable
+    module _ (movable : route_of_referent (state_by checks unseen) route name ≡ Ok item.ends) where
+      moved_behind : Moved (position_on (state_by checks unseen) route item.ends position >>= λ measure. may_change (state_by checks unseen) >>= λ _. Ok (counted 0 (with_referent (state_by checks unseen) route name measure)))
+      moved_behind = behind_checks (names.get (state_by checks unseen).routes route) (has_referent (state_by checks unseen) route name) (same_name start_name name)
+          (λ ends. position_on (state_by checks unseen) route ends position >>= λ measure. may_change (state_by checks unseen) >>= λ _. Ok (counted 0 (with_referent (state_by checks unseen) route name measure))) item.ends movable
 
       pub moved_off_route : (refusal : Refusal) → Lies (Err refusal) → Moved (Err refusal)
-      moved_off_route refusal is = moved_behind ∙ ap (λ (r : Result ℕ Refusal). r >>= λ measure. may_change (state_by checks spans) >>= λ _. Ok (counted 0 (with_referent (state_by checks spans) route name measure))) (lies (Err refusal) is)
+      moved_off_route refusal is = moved_behind ∙ ap (λ (r : Result ℕ Refusal). r >>= λ measure. may_change (state_by checks unseen) >>= λ _. Ok (counted 0 (with_referent (state_by checks unseen) route name measure))) (lies (Err refusal) is)
 
-      pub moved_checked : (measure : ℕ) → Lies (Ok measure) → Moved (may_change (state_by checks spans) >>= λ _. Ok (counted 0 (with_referent (state_by checks spans) route name measure)))
-      moved_checked measure is = moved_behind ∙ ap (λ (r : Result ℕ Refusal). r >>= λ measure. may_change (state_by checks spans) >>= λ _. Ok (counted 0 (with_referent (state_by checks spans) route name measure))) (lies (Ok measure) is)
+      pub moved_checked : (measure : ℕ) → Lies (Ok measure) → Moved (may_change (state_by checks unseen) >>= λ _. Ok (counted 0 (with_referent (state_by checks unseen) route name measure)))
+      moved_checked measure is = moved_behind ∙ ap (λ (r : Result ℕ Refusal). r >>= λ measure. may_change (state_by checks unseen) >>= λ _. Ok (counted 0 (with_referent (state_by checks unseen) route name measure))) (lies (Ok measure) is)
 
   -- ---- a referent that may be moved or dropped
 
   module _ (name : Name) where
     abbrev Found : Result RouteEnds Refusal → Type 0
-    Found answer = route_of_referent (state_by checks spans) route name ≡ answer
+    Found answer = route_of_referent (state_by checks unseen) route name ≡ answer
 
-    pub old_missing : has_referent (state_by checks spans) route name ≡ false → Found (Err NoSuchReferent)
-    old_missing e = rw (route_at checks spans route item there, e)
+    pub old_missing : has_referent (state_by checks unseen) route name ≡ false → Found (Err NoSuchReferent)
+    old_missing e = rw (route_at checks unseen route item there, e)
 
-    pub old_is_start : has_referent (state_by checks spans) route name ≡ true → same_name start_name name ≡ true → Found (Err InUse)
-    old_is_start e f = rw (route_at checks spans route item there, e, f)
+    pub old_is_start : has_referent (state_by checks unseen) route name ≡ true → same_name start_name name ≡ true → Found (Err InUse)
+    old_is_start e f = rw (route_at checks unseen route item there, e, f)
 
-    pub old_found : has_referent (state_by checks spans) route name ≡ true → same_name start_name name ≡ false → Found (Ok item.ends)
-    old_found e f = rw (route_at checks spans route item there, e, f)
+    pub old_found : has_referent (state_by checks unseen) route name ≡ true → same_name start_name name ≡ false → Found (Ok item.ends)
+    old_found e f = rw (route_at checks unseen route item there, e, f)
 
     or_right : (a b : Bool) → a ≡ false → (a || b) ≡ true → b ≡ true
     or_right false b off either = either
     or_right true b off either = false_true (sym off)
 
-    pub old_has : has_referent (state_by checks spans) route name ≡ true → same_name start_name name ≡ false → has ((state_by checks spans).referents route) name ≡ true
-    old_has e f = or_right (same_name start_name name) (has ((state_by checks spans).referents route) name) f e
+    pub old_has : has_referent (state_by checks unseen) route name ≡ true → same_name start_name name ≡ false → has ((state_by checks unseen).referents route) name ≡ true
+    old_has e f = or_right (same_name start_name name) (has ((state_by checks unseen).referents route) name) f e
 
-pub old_no_route : (checks : Checks) (spans : ℕ → ℕ → List Stretch) (route name : Name) → names.get checks.catalog.now.routes route ≡ None → route_of_referent (state_by checks spans) route name ≡ Err NoSuchRoute
-old_no_route checks spans route name none = rw (no_route checks spans route none)
+pub old_no_route : (checks : Checks) (unseen : Unseen) (route name : Name) → names.get checks.catalog.now.routes route ≡ None → route_of_referent (state_by checks unseen) route name ≡ Err NoSuchRoute
+old_no_route checks unseen route name none = rw (no_route checks unseen route none)
 
-pub new_no_route : (checks : Checks) (spans : ℕ → ℕ → List Stretch) (route name : Name) (position : PositionExpression) → names.get checks.catalog.now.routes route ≡ None → referent_defined (state_by checks spans) route name position ≡ Err NoSuchRoute
-new_no_route checks spans route name position none = rw (no_route checks spans route none)
+pub new_no_route : (checks : Checks) (unseen : Unseen) (route name : Name) (position : PositionExpression) → names.get checks.catalog.now.routes route ≡ None → referent_defined (state_by checks unseen) route name position ≡ Err NoSuchRoute
+new_no_route checks unseen route name position none = rw (no_route checks unseen route none)
 
 -- the checks of a referent that may be moved or dropped, and what comes after them
 abbrev old_checks : Option RouteEnds → Bool → Bool → Result RouteEnds Refusal
@@ -148,28 +147,28 @@ dropping_goes_on (Some ends) false start used next at e = cc
 dropping_goes_on (Some ends) true true used next at e = cc
 dropping_goes_on (Some ends) true false used next at e = refl
 
-module _ (checks : Checks) (spans : ℕ → ℕ → List Stretch) (route name : Name) where
-  pub moves_none : (position : PositionExpression) (refusal : Refusal) → route_of_referent (state_by checks spans) route name ≡ Err refusal → referent_moved (state_by checks spans) route name position ≡ Err refusal
-  moves_none position refusal e = moving_fails (names.get (state_by checks spans).routes route) (has_referent (state_by checks spans) route name) (same_name start_name name)
-      (λ ends. position_on (state_by checks spans) route ends position >>= λ measure. may_change (state_by checks spans) >>= λ _. Ok (counted 0 (with_referent (state_by checks spans) route name measure))) refusal e
+module _ (checks : Checks) (unseen : Unseen) (route name : Name) where
+  pub moves_none : (position : PositionExpression) (refusal : Refusal) → route_of_referent (state_by checks unseen) route name ≡ Err refusal → referent_moved (state_by checks unseen) route name position ≡ Err refusal
+  moves_none position refusal e = moving_fails (names.get (state_by checks unseen).routes route) (has_referent (state_by checks unseen) route name) (same_name start_name name)
+      (λ ends. position_on (state_by checks unseen) route ends position >>= λ measure. may_change (state_by checks unseen) >>= λ _. Ok (counted 0 (with_referent (state_by checks unseen) route name measure))) refusal e
 
   abbrev after_drop : Result Effect Refusal
-  after_drop = may_change (state_by checks spans) >>= λ _. Ok (counted 0 (without_referent (state_by checks spans) route name))
+  after_drop = may_change (state_by checks unseen) >>= λ _. Ok (counted 0 (without_referent (state_by checks unseen) route name))
 
-  pub drops_none : (refusal : Refusal) → route_of_referent (state_by checks spans) route name ≡ Err refusal → referent_dropped (state_by checks spans) route name ≡ Err refusal
-  drops_none refusal e = dropping_fails (names.get (state_by checks spans).routes route) (has_referent (state_by checks spans) route name) (same_name start_name name)
+  pub drops_none : (refusal : Refusal) → route_of_referent (state_by checks unseen) route name ≡ Err refusal → referent_dropped (state_by checks unseen) route name ≡ Err refusal
+  drops_none refusal e = dropping_fails (names.get (state_by checks unseen).routes route) (has_referent (state_by checks unseen) route name) (same_name start_name name)
       (some_view_query checks.catalog.now (names_referent route name)) after_drop refusal e
 
-  module _ (ends : RouteEnds) (found_there : route_of_referent (state_by checks spans) route name ≡ Ok ends) where
-    found_so : referent_dropped (state_by checks spans) route name ≡ (unless (not (some_view_query checks.catalog.now (names_referent route name))) InUse >>= λ _. after_drop)
-    found_so = dropping_goes_on (names.get (state_by checks spans).routes route) (has_referent (state_by checks spans) route name) (same_name start_name name)
+  module _ (ends : RouteEnds) (found_there : route_of_referent (state_by checks unseen) route name ≡ Ok ends) where
+    found_so : referent_dropped (state_by checks unseen) route name ≡ (unless (not (some_view_query checks.catalog.now (names_referent route name))) InUse >>= λ _. after_drop)
+    found_so = dropping_goes_on (names.get (state_by checks unseen).routes route) (has_referent (state_by checks unseen) route name) (same_name start_name name)
         (some_view_query checks.catalog.now (names_referent route name)) after_drop ends found_there
 
-    pub drops_seen_referent : some_view_query checks.catalog.now (names_referent route name) ≡ true → referent_dropped (state_by checks spans) route name ≡ Err InUse
+    pub drops_seen_referent : some_view_query checks.catalog.now (names_referent route name) ≡ true → referent_dropped (state_by checks unseen) route name ≡ Err InUse
     drops_seen_referent e = found_so ∙ ap (λ b. unless (not b) InUse >>= λ _. after_drop) e
 
-    pub drops_referent : some_view_query checks.catalog.now (names_referent route name) ≡ false → referent_dropped (state_by checks spans) route name
-        ≡ (may_change (state_by checks spans) >>= λ _. Ok (counted 0 (without_referent (state_by checks spans) route name)))
+    pub drops_referent : some_view_query checks.catalog.now (names_referent route name) ≡ false → referent_dropped (state_by checks unseen) route name
+        ≡ (may_change (state_by checks unseen) >>= λ _. Ok (counted 0 (without_referent (state_by checks unseen) route name)))
     drops_referent e = found_so ∙ ap (λ b. unless (not b) InUse >>= λ _. after_drop) e
 
 -- a name that is not START's
@@ -180,9 +179,9 @@ neither : (a b : Bool) → (a || b) ≡ false → (a ≡ false) × (b ≡ false)
 neither false b e = (refl, e)
 neither true b e = false_true (sym e)
 
-pub new_not_start : (checks : Checks) (spans : ℕ → ℕ → List Stretch) (route name : Name) → has_referent (state_by checks spans) route name ≡ false → name ≡ start_name → ⊥
-new_not_start checks spans route name off = not_start name (neither (same_name start_name name) (has ((state_by checks spans).referents route) name) off).0
+pub new_not_start : (checks : Checks) (unseen : Unseen) (route name : Name) → has_referent (state_by checks unseen) route name ≡ false → name ≡ start_name → ⊥
+new_not_start checks unseen route name off = not_start name (neither (same_name start_name name) (has ((state_by checks unseen).referents route) name) off).0
 
 -- and that the route has not
-pub new_has : (checks : Checks) (spans : ℕ → ℕ → List Stretch) (route name : Name) → has_referent (state_by checks spans) route name ≡ false → has ((state_by checks spans).referents route) name ≡ false
-new_has checks spans route name off = (neither (same_name start_name name) (has ((state_by checks spans).referents route) name) off).1
+pub new_has : (checks : Checks) (unseen : Unseen) (route name : Name) → has_referent (state_by checks unseen) route name ≡ false → has ((state_by checks unseen).referents route) name ≡ false
+new_has checks unseen route name off = (neither (same_name start_name name) (has ((state_by checks unseen).referents route) name) off).1

@@ -31,7 +31,7 @@ use Rattle.rs_catalog_laws.proofs.Numbers.{false_true}
 use Rattle.rs_catalog_laws.proofs.States.{facts_at, table_at}
 use Rattle.rs_command_checks.specs.declared.checks.Checks.{Checks}
 use Rattle.rs_command_checks.specs.Facts.{TellsOfFacts}
-use Rattle.rs_command_checks.specs.States.{state_by}
+use Rattle.rs_command_checks.specs.States.{Unseen, state_by}
 use Rattle.rs_command_checks.proofs.Outcomes.{route_at}
 
 -- ---- tests on lists
@@ -98,23 +98,23 @@ lies : (kind : Kind) (ends : RouteEnds) (places : Places) → LieOn kind ends pl
 unfolding LieOn
 lies kind ends places on_route k row holding = on_route k row holding
 
-module _ (checks : Checks) (spans : ℕ → ℕ → List Stretch) (name : Name) (on : RouteItem) (there : names.get checks.catalog.now.routes name ≡ Some on) where
+module _ (checks : Checks) (unseen : Unseen) (name : Name) (on : RouteItem) (there : names.get checks.catalog.now.routes name ≡ Some on) where
   abbrev table_of : TableItem → Table
-  table_of item = table_from checks.catalog.now.routes spans item
+  table_of item = table_from checks.catalog.now.routes unseen.spans item
 
-  rows_at : (item : TableItem) (k : ℕ) → (table_of item).facts name k ≡ places_of (spans item.number on.number) k
-  rows_at item k = ap (λ (places : Places). places k) (facts_at checks.catalog.now.routes (spans item.number) name on there)
+  rows_at : (item : TableItem) (k : ℕ) → (table_of item).facts name k ≡ places_of (unseen.spans item.number on.number) k
+  rows_at item k = ap (λ (places : Places). places k) (facts_at checks.catalog.now.routes (unseen.spans item.number) name on there)
 
-  no_fact_of : (item : TableItem) → spans item.number on.number ≡ [] → has_fact_on name on.ends (table_of item) ≡ false
+  no_fact_of : (item : TableItem) → unseen.spans item.number on.number ≡ [] → has_fact_on name on.ends (table_of item) ≡ false
   no_fact_of item none = any_none _ (thousandths on.ends.start (on.ends.finish + 1)) (λ k.
       ap (λ (rows : RowSet). not (has_none rows)) (rows_at item k ∙ ap (λ (spans : List Stretch). places_of spans k) none) ∙ ap not has_none-none)
 
-  fact_of : AreEventsOf checks.catalog.now spans → (q : Name) (item : TableItem) (span : Stretch) (more : List Stretch) → names.get checks.catalog.now.tables q ≡ Some item
-      → spans item.number on.number ≡ span ∷ more → has_fact_on name on.ends (table_of item) ≡ true
+  fact_of : AreEventsOf checks.catalog.now unseen.spans → (q : Name) (item : TableItem) (span : Stretch) (more : List Stretch) → names.get checks.catalog.now.tables q ≡ Some item
+      → unseen.spans item.number on.number ≡ span ∷ more → has_fact_on name on.ends (table_of item) ≡ true
   fact_of are q item span more at some =
       let kept : AreKept item.kind (span ∷ more) = subst (AreKept item.kind) some (are.spans q item at on.number).kept in
       let holding : contains (places_of (span ∷ more) span.lo) span.row ≡ true = with_row-inside span.lo span.hi span.row (places_of more) span.lo (omega arith) (placed-some item.kind span kept.0) in
-      let within_route : within on.ends.start (behind item.kind on.ends) span.lo ≡ true = lies item.kind on.ends (places_of (spans item.number on.number)) (are.on_routes q item at name on there) span.lo span.row (ap (λ (s : List Stretch). contains (places_of s span.lo) span.row) some ∙ holding) in
+      let within_route : within on.ends.start (behind item.kind on.ends) span.lo ≡ true = lies item.kind on.ends (places_of (unseen.spans item.number on.number)) (are.on_routes q item at name on there) span.lo span.row (ap (λ (s : List Stretch). contains (places_of s span.lo) span.row) some ∙ holding) in
       let bounds = within-bounds on.ends.start (behind item.kind on.ends) span.lo within_route in
       let from = bounds.0 in
       let below = bounds.1 in
@@ -123,31 +123,31 @@ module _ (checks : Checks) (spans : ℕ → ℕ → List Stretch) (name : Name) 
       (ap (λ (rows : RowSet). not (has_none rows)) (rows_at item span.lo ∙ ap (λ (s : List Stretch). places_of s span.lo) some) ∙ ap not (has_none-some (places_of (span ∷ more) span.lo) span.row holding))
 
   -- a table of the machine is one of the catalogue's
-  is_table : (q : Name) (table : Table) (P : Table → Type 0) → names.get (tables_from checks.catalog.now spans) q ≡ Some table
+  is_table : (q : Name) (table : Table) (P : Table → Type 0) → names.get (tables_from checks.catalog.now unseen.spans) q ≡ Some table
       → ((item : TableItem) → names.get checks.catalog.now.tables q ≡ Some item → P (table_of item)) → P table
   is_table q table P at each =
       elim (names.get checks.catalog.now.tables q) as (λ o. names.get checks.catalog.now.tables q ≡ o → option_map table_of o ≡ Some table → P table) [
         | None ↦ λ e f. none_some table f
         | Some item ↦ λ e f. subst P (some_same (table_of item) table f) (each item e)
-      ] refl (sym (get-tables_from checks.catalog.now spans q) ∙ at)
+      ] refl (sym (get-tables_from checks.catalog.now unseen.spans q) ∙ at)
 
-  no_fact_on : ((q : Name) (item : TableItem) → names.get checks.catalog.now.tables q ≡ Some item → spans item.number on.number ≡ []) → some_table (state_by checks spans) (has_fact_on name on.ends) ≡ false
-  no_fact_on none = no_entry (has_fact_on name on.ends) (tables_from checks.catalog.now spans) (λ q table at.
+  no_fact_on : ((q : Name) (item : TableItem) → names.get checks.catalog.now.tables q ≡ Some item → unseen.spans item.number on.number ≡ []) → some_table (state_by checks unseen) (has_fact_on name on.ends) ≡ false
+  no_fact_on none = no_entry (has_fact_on name on.ends) (tables_from checks.catalog.now unseen.spans) (λ q table at.
       is_table q table (λ t. has_fact_on name on.ends t ≡ false) at (λ item at. no_fact_of item (none q item at)))
 
-  fact_on : AreEventsOf checks.catalog.now spans → (q : Name) (item : TableItem) → names.get checks.catalog.now.tables q ≡ Some item → (spans item.number on.number ≡ [] → ⊥)
-      → some_table (state_by checks spans) (has_fact_on name on.ends) ≡ true
-  fact_on are q item at some = elim (spans item.number on.number) as (λ s. spans item.number on.number ≡ s → some_table (state_by checks spans) (has_fact_on name on.ends) ≡ true) [
+  fact_on : AreEventsOf checks.catalog.now unseen.spans → (q : Name) (item : TableItem) → names.get checks.catalog.now.tables q ≡ Some item → (unseen.spans item.number on.number ≡ [] → ⊥)
+      → some_table (state_by checks unseen) (has_fact_on name on.ends) ≡ true
+  fact_on are q item at some = elim (unseen.spans item.number on.number) as (λ s. unseen.spans item.number on.number ≡ s → some_table (state_by checks unseen) (has_fact_on name on.ends) ≡ true) [
     | [] ↦ λ e. absurd (some e)
-    | span ∷ more ↦ λ e. some_entry (has_fact_on name on.ends) (tables_from checks.catalog.now spans) q (table_of item) (table_at checks.catalog.now spans q item at) (fact_of are q item span more at e)
+    | span ∷ more ↦ λ e. some_entry (has_fact_on name on.ends) (tables_from checks.catalog.now unseen.spans) q (table_of item) (table_at checks.catalog.now unseen.spans q item at) (fact_of are q item span more at e)
   ] refl
 
   -- the ends of the route are those that the machine knows
-  tells : (b : Bool) → some_table (state_by checks spans) (has_fact_on name on.ends) ≡ b → TellsOfFacts (state_by checks spans) name b
-  tells b is ends at = sym is ∙ ap (λ (e : RouteEnds). some_table (state_by checks spans) (has_fact_on name e)) (some_same on.ends ends (sym (route_at checks spans name on there) ∙ at))
+  tells : (b : Bool) → some_table (state_by checks unseen) (has_fact_on name on.ends) ≡ b → TellsOfFacts (state_by checks unseen) name b
+  tells b is ends at = sym is ∙ ap (λ (e : RouteEnds). some_table (state_by checks unseen) (has_fact_on name e)) (some_same on.ends ends (sym (route_at checks unseen name on there) ∙ at))
 
-  pub tells_none : ((q : Name) (item : TableItem) → names.get checks.catalog.now.tables q ≡ Some item → spans item.number on.number ≡ []) → TellsOfFacts (state_by checks spans) name false
+  pub tells_none : ((q : Name) (item : TableItem) → names.get checks.catalog.now.tables q ≡ Some item → unseen.spans item.number on.number ≡ []) → TellsOfFacts (state_by checks unseen) name false
   tells_none none = tells false (no_fact_on none)
 
-  pub tells_some : AreEventsOf checks.catalog.now spans → (q : Name) (item : TableItem) → names.get checks.catalog.now.tables q ≡ Some item → (spans item.number on.number ≡ [] → ⊥) → TellsOfFacts (state_by checks spans) name true
+  pub tells_some : AreEventsOf checks.catalog.now unseen.spans → (q : Name) (item : TableItem) → names.get checks.catalog.now.tables q ≡ Some item → (unseen.spans item.number on.number ≡ [] → ⊥) → TellsOfFacts (state_by checks unseen) name true
   tells_some are q item at some = tells true (fact_on are q item at some)

@@ -1,10 +1,9 @@
 //! What commands are checked against, and the check that each change makes last.
 
-ghost use Rattle.std.specs.Prelude.{◌≡◌, ◌<◌, ℕ, List, OnOk};
-ghost use Rattle.rs_facts.specs.Runs.{Stretch};
+ghost use Rattle.std.specs.Prelude.{◌≡◌, ◌<◌, OnOk};
 ghost use Rattle.rs_machine.specs.Step.{may_change};
 ghost use Rattle.rs_machine.specs.declared.limits.TheConstants.{CHANGES};
-ghost use Rattle.rs_command_checks.specs.States.{state_by};
+ghost use Rattle.rs_command_checks.specs.States.{Unseen, state_by};
 
 use rs_catalog::{Catalog, RouteReferents};
 use rs_cursor::Cursors;
@@ -30,7 +29,7 @@ pub struct Checks<'a> {
 impl Checks<'_> {
     /// Whether one more change may be accepted (27).
     pub fn may_change(&self) -> Result<(), Refusal>
-        ensures answer { (spans : ℕ → ℕ → List Stretch) → result ≡ may_change (state_by self.now spans) }
+        ensures answer { (unseen : Unseen) → result ≡ may_change (state_by self.now unseen) }
         ensures room { OnOk result (self.now.changes < CHANGES) }
     {
         if self.changes >= CHANGES {

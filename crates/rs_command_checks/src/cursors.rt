@@ -1,13 +1,12 @@
 //! The checks of a cursor that is to be opened.
 
-ghost use Rattle.std.specs.Prelude.{◌≡◌, ◌⊎◌, ℕ, List, Ok, Err, IfErr, IfOk};
-ghost use Rattle.rs_facts.specs.Runs.{Stretch};
+ghost use Rattle.std.specs.Prelude.{◌≡◌, ◌⊎◌, Ok, Err, IfErr, IfOk};
 ghost use Rattle.rs_syntax.specs.QueryView.{query_tree};
 ghost use Rattle.rs_machine.specs.Step.{counted, lines_of, with_cursor, cursor_opened};
 ghost use Rattle.rs_checker.specs.Checks.{IsChecked};
 ghost use Rattle.rs_checker.specs.CheckedView.{query_of, named_in};
 ghost use Rattle.rs_checker.specs.Numbers.{AreNumberedIn};
-ghost use Rattle.rs_command_checks.specs.States.{state_by};
+ghost use Rattle.rs_command_checks.specs.States.{Unseen, state_by};
 
 use crate::checks::Checks;
 use rs_checker::Checked;
@@ -27,10 +26,10 @@ impl Checks<'_> {
         query: &Query,
         method: Method,
     ) -> Result<Checked, Refusal>
-        ensures accepted { (spans : ℕ → ℕ → List Stretch) → IfOk result (λ checked. cursor_opened (state_by self.now spans) session name.now.bytes (query_tree query.now) method
-            ≡ Ok (counted 0 (with_cursor (state_by self.now spans) session name.now.bytes (lines_of (state_by self.now spans) (query_of checked.query) method)))) }
-        ensures refused { (spans : ℕ → ℕ → List Stretch) → IfErr result (λ refusal. (refusal ≡ Refusal.OutOfMemory) ⊎ (cursor_opened (state_by self.now spans) session name.now.bytes (query_tree query.now) method ≡ Err refusal)) }
-        ensures is { (spans : ℕ → ℕ → List Stretch) → IfOk result (IsChecked (state_by self.now spans) (query_tree query.now)) }
+        ensures accepted { (unseen : Unseen) → IfOk result (λ checked. cursor_opened (state_by self.now unseen) session name.now.bytes (query_tree query.now) method
+            ≡ Ok (counted 0 (with_cursor (state_by self.now unseen) session name.now.bytes (lines_of (state_by self.now unseen) (query_of checked.query) method)))) }
+        ensures refused { (unseen : Unseen) → IfErr result (λ refusal. (refusal ≡ Refusal.OutOfMemory) ⊎ (cursor_opened (state_by self.now unseen) session name.now.bytes (query_tree query.now) method ≡ Err refusal)) }
+        ensures is { (unseen : Unseen) → IfOk result (IsChecked (state_by self.now unseen) (query_tree query.now)) }
         ensures numbers { IfOk result (λ checked. AreNumberedIn self.now.catalog.now (named_in checked.query)) }
     {
         let checked = self.checked(query)?;

@@ -1,15 +1,14 @@
 //! The checks of a route and of a table that are to be defined.
 
-ghost use Rattle.std.specs.Prelude.{◌≡◌, ◌<◌, ◌≤◌, ℕ, List, length, map, None, Ok, Err, IfErr, OnOk};
+ghost use Rattle.std.specs.Prelude.{◌≡◌, ◌<◌, ◌≤◌, length, map, None, Ok, Err, IfErr, OnOk};
 ghost use Rattle.std.specs.List.{list_any};
 ghost use Rattle.std.specs.FinMap as names;
 ghost use Rattle.rs_facts.specs.Insert.{same_name};
-ghost use Rattle.rs_facts.specs.Runs.{Stretch};
 ghost use Rattle.rs_syntax.specs.View.{column_tree};
 ghost use Rattle.rs_machine.specs.Checks.{column_names, some_name_twice};
 ghost use Rattle.rs_machine.specs.Step.{counted, route_defined, table_defined, with_route, with_table, empty_table};
 ghost use Rattle.rs_machine.specs.declared.limits.TheConstants.{CHANGES};
-ghost use Rattle.rs_command_checks.specs.States.{state_by};
+ghost use Rattle.rs_command_checks.specs.States.{Unseen, state_by};
 
 use crate::checks::Checks;
 use rs_machine::limits::{ROUTES, TABLES};
@@ -27,8 +26,8 @@ impl Checks<'_> {
         start: Measure,
         finish: Measure,
     ) -> Result<(), Refusal>
-        ensures accepted { (spans : ℕ → ℕ → List Stretch) → OnOk result (route_defined (state_by self.now spans) name.now.bytes start finish ≡ Ok (counted 0 (with_route (state_by self.now spans) name.now.bytes start finish))) }
-        ensures refused { (spans : ℕ → ℕ → List Stretch) → IfErr result (λ refusal. route_defined (state_by self.now spans) name.now.bytes start finish ≡ Err refusal) }
+        ensures accepted { (unseen : Unseen) → OnOk result (route_defined (state_by self.now unseen) name.now.bytes start finish ≡ Ok (counted 0 (with_route (state_by self.now unseen) name.now.bytes start finish))) }
+        ensures refused { (unseen : Unseen) → IfErr result (λ refusal. route_defined (state_by self.now unseen) name.now.bytes start finish ≡ Err refusal) }
         ensures new { OnOk result (names.get self.now.catalog.now.routes name.now.bytes ≡ None) }
         ensures ordered { OnOk result (start < finish) }
         ensures room { OnOk result (names.len self.now.catalog.now.routes < ROUTES) }
@@ -53,8 +52,8 @@ impl Checks<'_> {
         name: &Name,
         columns: &[ColumnDefinition],
     ) -> Result<(), Refusal>
-        ensures accepted { (spans : ℕ → ℕ → List Stretch) → OnOk result (table_defined (state_by self.now spans) kind name.now.bytes (map column_tree columns.now) ≡ Ok (counted 0 (with_table (state_by self.now spans) name.now.bytes (empty_table kind (map column_tree columns.now))))) }
-        ensures refused { (spans : ℕ → ℕ → List Stretch) → IfErr result (λ refusal. table_defined (state_by self.now spans) kind name.now.bytes (map column_tree columns.now) ≡ Err refusal) }
+        ensures accepted { (unseen : Unseen) → OnOk result (table_defined (state_by self.now unseen) kind name.now.bytes (map column_tree columns.now) ≡ Ok (counted 0 (with_table (state_by self.now unseen) name.now.bytes (empty_table kind (map column_tree columns.now))))) }
+        ensures refused { (unseen : Unseen) → IfErr result (λ refusal. table_defined (state_by self.now unseen) kind name.now.bytes (map column_tree columns.now) ≡ Err refusal) }
         ensures new { OnOk result (names.get self.now.catalog.now.tables name.now.bytes ≡ None) }
         ensures few_columns { OnOk result (length columns.now ≤ COLUMNS) }
         ensures room { OnOk result (names.len self.now.catalog.now.tables < TABLES) }

@@ -1,6 +1,6 @@
 //! The checks of a row that is to be put into a table, and of rows that are to be taken away.
 
-ghost use Rattle.std.specs.Prelude.{◌≡◌, ◌⊎◌, ◌≤◌, ◌<◌, ℕ, List, length, map, Some, Ok, Err, IfOk, IfErr, OnOk};
+ghost use Rattle.std.specs.Prelude.{◌≡◌, ◌⊎◌, ◌≤◌, ◌<◌, length, map, Some, Ok, Err, IfOk, IfErr, OnOk};
 ghost use Rattle.std.specs.FinMap as names;
 ghost use Rattle.rs_methods.specs.Position.{expression_of};
 ghost use Rattle.rs_value.specs.Values.{AreValues};
@@ -8,7 +8,6 @@ ghost use Rattle.rs_value.specs.View.{row_of, literal_row};
 ghost use Rattle.rs_facts.specs.Insert.{new_facts};
 ghost use Rattle.rs_facts.specs.Query.{Table};
 ghost use Rattle.rs_facts.specs.Remove.{removed_facts};
-ghost use Rattle.rs_facts.specs.Runs.{Stretch};
 ghost use Rattle.rs_facts.specs.Spans.{seen};
 ghost use Rattle.rs_syntax.specs.View.{column_tree, location_tree, removal_tree};
 ghost use Rattle.rs_syntax.specs.QueryView.{window_tree};
@@ -21,7 +20,7 @@ ghost use Rattle.rs_spans.specs.Removal.{goes_by};
 ghost use Rattle.rs_command_checks.specs.Insertion.{IsEventOn, MayBePut};
 ghost use Rattle.rs_command_checks.specs.Located.{span_by, event_span_by, window_span_by};
 ghost use Rattle.rs_command_checks.specs.Removal.{AreThere, MayBeTaken};
-ghost use Rattle.rs_command_checks.specs.States.{state_by};
+ghost use Rattle.rs_command_checks.specs.States.{Unseen, state_by};
 
 use crate::checks::Checks;
 use rs_catalog::RouteEntry;
@@ -55,10 +54,10 @@ impl Checks<'_> {
         place: &EventLocation,
         values: &[Literal],
     ) -> Result<Span, Refusal>
-        ensures accepted { (spans : ℕ → ℕ → List Stretch) (there : Table) → names.get (state_by self.now spans).tables name.now.bytes ≡ Some there
-            → IfOk result (λ span. row_inserted (state_by self.now spans) name.now.bytes route.now.bytes (location_tree place.now) (literal_row values.now)
-            ≡ Ok (counted (new_facts there.facts route.now.bytes span.lo span.hi (seen span).row) (with_table (state_by self.now spans) name.now.bytes (with_facts_along there route.now.bytes span.lo span.hi (seen span).row)))) }
-        ensures refused { (spans : ℕ → ℕ → List Stretch) → IfErr result (λ refusal. (refusal ≡ Refusal.OutOfMemory) ⊎ (row_inserted (state_by self.now spans) name.now.bytes route.now.bytes (location_tree place.now) (literal_row values.now) ≡ Err refusal)) }
+        ensures accepted { (unseen : Unseen) (there : Table) → names.get (state_by self.now unseen).tables name.now.bytes ≡ Some there
+            → IfOk result (λ span. row_inserted (state_by self.now unseen) name.now.bytes route.now.bytes (location_tree place.now) (literal_row values.now)
+            ≡ Ok (counted (new_facts there.facts route.now.bytes span.lo span.hi (seen span).row) (with_table (state_by self.now unseen) name.now.bytes (with_facts_along there route.now.bytes span.lo span.hi (seen span).row)))) }
+        ensures refused { (unseen : Unseen) → IfErr result (λ refusal. (refusal ≡ Refusal.OutOfMemory) ⊎ (row_inserted (state_by self.now unseen) name.now.bytes route.now.bytes (location_tree place.now) (literal_row values.now) ≡ Err refusal)) }
         ensures event { AreValues (literal_row values.now) → IfOk result (λ span. IsEventOn self.now.catalog.now name.now.bytes route.now.bytes (seen span)) }
         ensures may_change { OnOk result (self.now.changes < CHANGES) }
     {
@@ -76,7 +75,7 @@ impl Checks<'_> {
         values: &[Literal],
     ) -> Result<Span, Refusal>
         ensures done { IfOk result (λ span. MayBePut self.now name.now.bytes route.now.bytes (location_tree place.now) (literal_row values.now) (seen span)) }
-        ensures refused { (spans : ℕ → ℕ → List Stretch) → IfErr result (λ refusal. (refusal ≡ Refusal.OutOfMemory) ⊎ (row_inserted (state_by self.now spans) name.now.bytes route.now.bytes (location_tree place.now) (literal_row values.now) ≡ Err refusal)) }
+        ensures refused { (unseen : Unseen) → IfErr result (λ refusal. (refusal ≡ Refusal.OutOfMemory) ⊎ (row_inserted (state_by self.now unseen) name.now.bytes route.now.bytes (location_tree place.now) (literal_row values.now) ≡ Err refusal)) }
     {
         let on = self.catalog.named_route(route)?;
         let table = self.catalog.named_table(name)?;
@@ -97,10 +96,10 @@ impl Checks<'_> {
         window: &Window,
         condition: &Option<Vec<Vec<Atom>>>,
     ) -> Result<Removal, Refusal>
-        ensures accepted { (spans : ℕ → ℕ → List Stretch) (there : Table) → names.get (state_by self.now spans).tables name.now.bytes ≡ Some there
-            → IfOk result (λ removal. rows_removed (state_by self.now spans) name.now.bytes (window_tree window.now) (removal_tree condition.now)
-            ≡ Ok (counted (removed_facts there.facts removal.route.bytes removal.lo removal.hi (goes_by removal.goes)) (with_table (state_by self.now spans) name.now.bytes (without_facts there removal.route.bytes removal.lo removal.hi (goes_by removal.goes))))) }
-        ensures refused { (spans : ℕ → ℕ → List Stretch) → IfErr result (λ refusal. (refusal ≡ Refusal.OutOfMemory) ⊎ (rows_removed (state_by self.now spans) name.now.bytes (window_tree window.now) (removal_tree condition.now) ≡ Err refusal)) }
+        ensures accepted { (unseen : Unseen) (there : Table) → names.get (state_by self.now unseen).tables name.now.bytes ≡ Some there
+            → IfOk result (λ removal. rows_removed (state_by self.now unseen) name.now.bytes (window_tree window.now) (removal_tree condition.now)
+            ≡ Ok (counted (removed_facts there.facts removal.route.bytes removal.lo removal.hi (goes_by removal.goes)) (with_table (state_by self.now unseen) name.now.bytes (without_facts there removal.route.bytes removal.lo removal.hi (goes_by removal.goes))))) }
+        ensures refused { (unseen : Unseen) → IfErr result (λ refusal. (refusal ≡ Refusal.OutOfMemory) ⊎ (rows_removed (state_by self.now unseen) name.now.bytes (window_tree window.now) (removal_tree condition.now) ≡ Err refusal)) }
         ensures there { IfOk result (λ removal. AreThere self.now.catalog.now name.now.bytes removal.route.bytes) }
         ensures may_change { OnOk result (self.now.changes < CHANGES) }
     {
@@ -117,7 +116,7 @@ impl Checks<'_> {
         condition: &Option<Vec<Vec<Atom>>>,
     ) -> Result<Removal, Refusal>
         ensures done { IfOk result (λ removal. MayBeTaken self.now name.now.bytes (window_tree window.now) (removal_tree condition.now) removal) }
-        ensures refused { (spans : ℕ → ℕ → List Stretch) → IfErr result (λ refusal. (refusal ≡ Refusal.OutOfMemory) ⊎ (rows_removed (state_by self.now spans) name.now.bytes (window_tree window.now) (removal_tree condition.now) ≡ Err refusal)) }
+        ensures refused { (unseen : Unseen) → IfErr result (λ refusal. (refusal ≡ Refusal.OutOfMemory) ⊎ (rows_removed (state_by self.now unseen) name.now.bytes (window_tree window.now) (removal_tree condition.now) ≡ Err refusal)) }
     {
         let route = route_of(window);
         let on = self.catalog.named_route(route)?;

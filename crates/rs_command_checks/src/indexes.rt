@@ -1,13 +1,12 @@
 //! The checks of an index that is to be defined or dropped.
 
-ghost use Rattle.std.specs.Prelude.{◌≡◌, ◌<◌, ℕ, List, Ok, Err, IfErr, IfOk, OnOk, true, false};
+ghost use Rattle.std.specs.Prelude.{◌≡◌, ◌<◌, Ok, Err, IfErr, IfOk, OnOk, true, false};
 ghost use Rattle.std.specs.FinMap as names;
-ghost use Rattle.rs_facts.specs.Runs.{Stretch};
 ghost use Rattle.rs_machine.specs.State.{has};
 ghost use Rattle.rs_machine.specs.Step.{counted, index_defined, index_dropped, with_index, without_index};
 ghost use Rattle.rs_machine.specs.declared.limits.TheConstants.{INDEXES, CHANGES};
 ghost use Rattle.rs_catalog.specs.Definitions.{IsColumnOf};
-ghost use Rattle.rs_command_checks.specs.States.{state_by};
+ghost use Rattle.rs_command_checks.specs.States.{Unseen, state_by};
 
 use crate::checks::Checks;
 use rs_checker::column_of;
@@ -33,8 +32,8 @@ impl Checks<'_> {
         table: &Name,
         column: &Name,
     ) -> Result<TableColumn, Refusal>
-        ensures accepted { (spans : ℕ → ℕ → List Stretch) → IfOk result (λ of. index_defined (state_by self.now spans) name.now.bytes table.now.bytes column.now.bytes ≡ Ok (counted 0 (with_index (state_by self.now spans) name.now.bytes (record { table = table.now.bytes; column = of.place })))) }
-        ensures refused { (spans : ℕ → ℕ → List Stretch) → IfErr result (λ refusal. index_defined (state_by self.now spans) name.now.bytes table.now.bytes column.now.bytes ≡ Err refusal) }
+        ensures accepted { (unseen : Unseen) → IfOk result (λ of. index_defined (state_by self.now unseen) name.now.bytes table.now.bytes column.now.bytes ≡ Ok (counted 0 (with_index (state_by self.now unseen) name.now.bytes (record { table = table.now.bytes; column = of.place })))) }
+        ensures refused { (unseen : Unseen) → IfErr result (λ refusal. index_defined (state_by self.now unseen) name.now.bytes table.now.bytes column.now.bytes ≡ Err refusal) }
         ensures new { OnOk result (has self.now.catalog.now.indexes name.now.bytes ≡ false) }
         ensures of { IfOk result (λ of. IsColumnOf self.now.catalog.now.tables table.now.bytes of.table of.place) }
         ensures room { OnOk result (names.len self.now.catalog.now.indexes < INDEXES) }
@@ -58,8 +57,8 @@ impl Checks<'_> {
 
     /// Whether an index may be dropped. Checks, in order: 21; a session has a cursor (23); 27.
     pub fn check_old_index(&self, name: &Name) -> Result<(), Refusal>
-        ensures accepted { (spans : ℕ → ℕ → List Stretch) → OnOk result (index_dropped (state_by self.now spans) name.now.bytes ≡ Ok (counted 0 (without_index (state_by self.now spans) name.now.bytes))) }
-        ensures refused { (spans : ℕ → ℕ → List Stretch) → IfErr result (λ refusal. index_dropped (state_by self.now spans) name.now.bytes ≡ Err refusal) }
+        ensures accepted { (unseen : Unseen) → OnOk result (index_dropped (state_by self.now unseen) name.now.bytes ≡ Ok (counted 0 (without_index (state_by self.now unseen) name.now.bytes))) }
+        ensures refused { (unseen : Unseen) → IfErr result (λ refusal. index_dropped (state_by self.now unseen) name.now.bytes ≡ Err refusal) }
         ensures there { OnOk result (has self.now.catalog.now.indexes name.now.bytes ≡ true) }
         ensures may_change { OnOk result (self.now.changes < CHANGES) }
     {

@@ -1,7 +1,8 @@
 //! The checks of each command, in their order, against what is in memory: the definitions, the referents, the cursors and the
 //! count of changes.
 //!
-//! It promises the reference machine's refusal or what the machine makes of an accepted command, whichever spans tables have.
+//! It promises the reference machine's refusal or what the machine makes of an accepted command, whichever spans tables have
+//! and whichever lines cursors have still to give.
 #![tactic(auto)]
 
 mod alignments;

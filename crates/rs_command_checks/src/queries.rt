@@ -1,9 +1,8 @@
-//! The check of a query, and the line of a position in another method, which needs no spans.
+//! The check of a query, and the line of a position in another method, which needs neither spans nor lines.
 
-ghost use Rattle.std.specs.Prelude.{◌≡◌, ◌≤◌, ◌⊎◌, ℕ, List, [], ◌∷◌, length, Some, Ok, Err, IfOk, IfErr};
+ghost use Rattle.std.specs.Prelude.{◌≡◌, ◌≤◌, ◌⊎◌, [], ◌∷◌, length, Some, Ok, Err, IfOk, IfErr};
 ghost use Rattle.std.specs.FinMap as names;
 ghost use Rattle.rs_methods.specs.Position.{expression_of};
-ghost use Rattle.rs_facts.specs.Runs.{Stretch};
 ghost use Rattle.rs_syntax.specs.QueryView.{query_tree};
 ghost use Rattle.rs_machine.specs.Checking.{checked};
 ghost use Rattle.rs_machine.specs.Step.{effect, position_text, position_translated};
@@ -11,7 +10,7 @@ ghost use Rattle.rs_serve.specs.ReplyView.{rows_of};
 ghost use Rattle.rs_checker.specs.Checks.{IsChecked};
 ghost use Rattle.rs_checker.specs.CheckedView.{named_in};
 ghost use Rattle.rs_checker.specs.Numbers.{AreNumberedIn};
-ghost use Rattle.rs_command_checks.specs.States.{state_by};
+ghost use Rattle.rs_command_checks.specs.States.{Unseen, state_by};
 
 use crate::checks::Checks;
 use rs_catalog::RouteEntry;
@@ -25,9 +24,9 @@ use std::alloc::AllocError;
 impl Checks<'_> {
     /// The checked query, which can be planned; or the refusal of the first check that fails.
     pub fn checked(&self, query: &Query) -> Result<Checked, Refusal>
-        ensures is { (spans : ℕ → ℕ → List Stretch) → IfOk result (IsChecked (state_by self.now spans) (query_tree query.now)) }
+        ensures is { (unseen : Unseen) → IfOk result (IsChecked (state_by self.now unseen) (query_tree query.now)) }
         ensures numbers { IfOk result (λ made. AreNumberedIn self.now.catalog.now (named_in made.query)) }
-        ensures refused { (spans : ℕ → ℕ → List Stretch) → IfErr result (λ refusal. (refusal ≡ Refusal.OutOfMemory) ⊎ (checked (state_by self.now spans) (query_tree query.now) ≡ Err refusal)) }
+        ensures refused { (unseen : Unseen) → IfErr result (λ refusal. (refusal ≡ Refusal.OutOfMemory) ⊎ (checked (state_by self.now unseen) (query_tree query.now) ≡ Err refusal)) }
     {
         let checked = check(self.alloc, self.catalog, self.referents, query)?;
         Ok(checked)
@@ -40,8 +39,8 @@ impl Checks<'_> {
         position: &Position,
         method: Method,
     ) -> Result<Vec<String>, Refusal>
-        ensures done { (spans : ℕ → ℕ → List Stretch) → IfOk result (λ rows. position_translated (state_by self.now spans) route.now.bytes (expression_of position.now) method ≡ Ok (effect (rows_of rows.items) (length (rows_of rows.items)) (state_by self.now spans))) }
-        ensures refused { (spans : ℕ → ℕ → List Stretch) → IfErr result (λ refusal. (refusal ≡ Refusal.OutOfMemory) ⊎ (position_translated (state_by self.now spans) route.now.bytes (expression_of position.now) method ≡ Err refusal)) }
+        ensures done { (unseen : Unseen) → IfOk result (λ rows. position_translated (state_by self.now unseen) route.now.bytes (expression_of position.now) method ≡ Ok (effect (rows_of rows.items) (length (rows_of rows.items)) (state_by self.now unseen))) }
+        ensures refused { (unseen : Unseen) → IfErr result (λ refusal. (refusal ≡ Refusal.OutOfMemory) ⊎ (position_translated (state_by self.now unseen) route.now.bytes (expression_of position.now) method ≡ Err refusal)) }
     {
         let on = self.catalog.named_route(route)?;
         let measure = self.referents.located(on, position)?;
@@ -59,7 +58,7 @@ impl Checks<'_> {
         requires there { names.get self.now.catalog.now.routes route.now.bytes ≡ Some on }
         requires after_start { on.ends.start ≤ measure }
         requires before_finish { measure ≤ on.ends.finish }
-        ensures { (spans : ℕ → ℕ → List Stretch) → IfOk result (λ rows. rows_of rows.items ≡ position_text (state_by self.now spans) route.now.bytes on.ends method measure ∷ []) }
+        ensures { (unseen : Unseen) → IfOk result (λ rows. rows_of rows.items ≡ position_text (state_by self.now unseen) route.now.bytes on.ends method measure ∷ []) }
     {
         let text = self.referents.expressed(on, method, measure)?;
         Ok(vec![in self.alloc; text]?)

@@ -1,16 +1,15 @@
 //! The checks of a referent that is to be defined, moved or dropped.
 
-ghost use Rattle.std.specs.Prelude.{◌≡◌, ◌<◌, ◌≢◌, ℕ, List, true, false, Some, Ok, Err, IfOk, IfErr, OnOk};
+ghost use Rattle.std.specs.Prelude.{◌≡◌, ◌<◌, ◌≢◌, true, false, Some, Ok, Err, IfOk, IfErr, OnOk};
 ghost use Rattle.std.specs.FinMap as names;
 ghost use Rattle.rs_methods.specs.Position.{start_name, expression_of};
 ghost use Rattle.rs_facts.specs.Insert.{same_name};
-ghost use Rattle.rs_facts.specs.Runs.{Stretch};
 ghost use Rattle.rs_machine.specs.State.{has};
 ghost use Rattle.rs_machine.specs.Checks.{has_referent};
 ghost use Rattle.rs_machine.specs.Step.{counted, referent_defined, referent_moved, referent_dropped};
 ghost use Rattle.rs_machine.specs.declared.limits.TheConstants.{CHANGES};
 ghost use Rattle.rs_command_checks.specs.Referents.{route_of_referent, with_referent, without_referent};
-ghost use Rattle.rs_command_checks.specs.States.{state_by};
+ghost use Rattle.rs_command_checks.specs.States.{Unseen, state_by};
 
 use crate::checks::Checks;
 use rs_catalog::RouteEntry;
@@ -27,11 +26,11 @@ impl Checks<'_> {
         name: &Name,
         position: &Position,
     ) -> Result<Measure, Refusal>
-        ensures accepted { (spans : ℕ → ℕ → List Stretch) → IfOk result (λ measure. referent_defined (state_by self.now spans) route.now.bytes name.now.bytes (expression_of position.now) ≡ Ok (counted 0 (with_referent (state_by self.now spans) route.now.bytes name.now.bytes measure))) }
-        ensures refused { (spans : ℕ → ℕ → List Stretch) → IfErr result (λ refusal. referent_defined (state_by self.now spans) route.now.bytes name.now.bytes (expression_of position.now) ≡ Err refusal) }
+        ensures accepted { (unseen : Unseen) → IfOk result (λ measure. referent_defined (state_by self.now unseen) route.now.bytes name.now.bytes (expression_of position.now) ≡ Ok (counted 0 (with_referent (state_by self.now unseen) route.now.bytes name.now.bytes measure))) }
+        ensures refused { (unseen : Unseen) → IfErr result (λ refusal. referent_defined (state_by self.now unseen) route.now.bytes name.now.bytes (expression_of position.now) ≡ Err refusal) }
         ensures there { OnOk result (has self.now.catalog.now.routes route.now.bytes ≡ true) }
         ensures not_start { OnOk result (name.now.bytes ≢ start_name) }
-        ensures new { (spans : ℕ → ℕ → List Stretch) → OnOk result (has ((state_by self.now spans).referents route.now.bytes) name.now.bytes ≡ false) }
+        ensures new { (unseen : Unseen) → OnOk result (has ((state_by self.now unseen).referents route.now.bytes) name.now.bytes ≡ false) }
         ensures may_change { OnOk result (self.now.changes < CHANGES) }
     {
         let entry = self.catalog.named_route(route)?;
@@ -45,11 +44,11 @@ impl Checks<'_> {
         name: &Name,
         position: &Position,
     ) -> Result<Measure, Refusal>
-        ensures accepted { (spans : ℕ → ℕ → List Stretch) → IfOk result (λ measure. referent_moved (state_by self.now spans) route.now.bytes name.now.bytes (expression_of position.now) ≡ Ok (counted 0 (with_referent (state_by self.now spans) route.now.bytes name.now.bytes measure))) }
-        ensures refused { (spans : ℕ → ℕ → List Stretch) → IfErr result (λ refusal. referent_moved (state_by self.now spans) route.now.bytes name.now.bytes (expression_of position.now) ≡ Err refusal) }
+        ensures accepted { (unseen : Unseen) → IfOk result (λ measure. referent_moved (state_by self.now unseen) route.now.bytes name.now.bytes (expression_of position.now) ≡ Ok (counted 0 (with_referent (state_by self.now unseen) route.now.bytes name.now.bytes measure))) }
+        ensures refused { (unseen : Unseen) → IfErr result (λ refusal. referent_moved (state_by self.now unseen) route.now.bytes name.now.bytes (expression_of position.now) ≡ Err refusal) }
         ensures there { OnOk result (has self.now.catalog.now.routes route.now.bytes ≡ true) }
         ensures not_start { OnOk result (name.now.bytes ≢ start_name) }
-        ensures has { (spans : ℕ → ℕ → List Stretch) → OnOk result (has ((state_by self.now spans).referents route.now.bytes) name.now.bytes ≡ true) }
+        ensures has { (unseen : Unseen) → OnOk result (has ((state_by self.now unseen).referents route.now.bytes) name.now.bytes ≡ true) }
         ensures may_change { OnOk result (self.now.changes < CHANGES) }
     {
         let entry = self.route_of_referent(route, name)?;
@@ -59,11 +58,11 @@ impl Checks<'_> {
     /// The route of a referent that may be dropped. Checks, in order: 20; 25; it is START or a view's window lies by it (23);
     /// 27.
     pub fn check_old_referent(&self, route: &Name, name: &Name) -> Result<RouteEntry, Refusal>
-        ensures accepted { (spans : ℕ → ℕ → List Stretch) → OnOk result (referent_dropped (state_by self.now spans) route.now.bytes name.now.bytes ≡ Ok (counted 0 (without_referent (state_by self.now spans) route.now.bytes name.now.bytes))) }
-        ensures refused { (spans : ℕ → ℕ → List Stretch) → IfErr result (λ refusal. referent_dropped (state_by self.now spans) route.now.bytes name.now.bytes ≡ Err refusal) }
+        ensures accepted { (unseen : Unseen) → OnOk result (referent_dropped (state_by self.now unseen) route.now.bytes name.now.bytes ≡ Ok (counted 0 (without_referent (state_by self.now unseen) route.now.bytes name.now.bytes))) }
+        ensures refused { (unseen : Unseen) → IfErr result (λ refusal. referent_dropped (state_by self.now unseen) route.now.bytes name.now.bytes ≡ Err refusal) }
         ensures there { IfOk result (λ entry. names.get self.now.catalog.now.routes route.now.bytes ≡ Some entry) }
         ensures not_start { OnOk result (name.now.bytes ≢ start_name) }
-        ensures has { (spans : ℕ → ℕ → List Stretch) → OnOk result (has ((state_by self.now spans).referents route.now.bytes) name.now.bytes ≡ true) }
+        ensures has { (unseen : Unseen) → OnOk result (has ((state_by self.now unseen).referents route.now.bytes) name.now.bytes ≡ true) }
         ensures may_change { OnOk result (self.now.changes < CHANGES) }
     {
         let entry = self.route_of_referent(route, name)?;
@@ -83,10 +82,10 @@ impl Checks<'_> {
         position: &Position,
     ) -> Result<Measure, Refusal>
         requires there { names.get self.now.catalog.now.routes route.now.bytes ≡ Some entry }
-        ensures accepted { (spans : ℕ → ℕ → List Stretch) → IfOk result (λ measure. referent_defined (state_by self.now spans) route.now.bytes name.now.bytes (expression_of position.now) ≡ Ok (counted 0 (with_referent (state_by self.now spans) route.now.bytes name.now.bytes measure))) }
-        ensures refused { (spans : ℕ → ℕ → List Stretch) → IfErr result (λ refusal. referent_defined (state_by self.now spans) route.now.bytes name.now.bytes (expression_of position.now) ≡ Err refusal) }
+        ensures accepted { (unseen : Unseen) → IfOk result (λ measure. referent_defined (state_by self.now unseen) route.now.bytes name.now.bytes (expression_of position.now) ≡ Ok (counted 0 (with_referent (state_by self.now unseen) route.now.bytes name.now.bytes measure))) }
+        ensures refused { (unseen : Unseen) → IfErr result (λ refusal. referent_defined (state_by self.now unseen) route.now.bytes name.now.bytes (expression_of position.now) ≡ Err refusal) }
         ensures not_start { OnOk result (name.now.bytes ≢ start_name) }
-        ensures new { (spans : ℕ → ℕ → List Stretch) → OnOk result (has ((state_by self.now spans).referents route.now.bytes) name.now.bytes ≡ false) }
+        ensures new { (unseen : Unseen) → OnOk result (has ((state_by self.now unseen).referents route.now.bytes) name.now.bytes ≡ false) }
         ensures may_change { OnOk result (self.now.changes < CHANGES) }
     {
         let measure = self.referents.located(entry, position)?;
@@ -109,9 +108,9 @@ impl Checks<'_> {
         position: &Position,
     ) -> Result<Measure, Refusal>
         requires there { names.get self.now.catalog.now.routes route.now.bytes ≡ Some entry }
-        requires movable { (spans : ℕ → ℕ → List Stretch) → route_of_referent (state_by self.now spans) route.now.bytes name.now.bytes ≡ Ok entry.ends }
-        ensures accepted { (spans : ℕ → ℕ → List Stretch) → IfOk result (λ measure. referent_moved (state_by self.now spans) route.now.bytes name.now.bytes (expression_of position.now) ≡ Ok (counted 0 (with_referent (state_by self.now spans) route.now.bytes name.now.bytes measure))) }
-        ensures refused { (spans : ℕ → ℕ → List Stretch) → IfErr result (λ refusal. referent_moved (state_by self.now spans) route.now.bytes name.now.bytes (expression_of position.now) ≡ Err refusal) }
+        requires movable { (unseen : Unseen) → route_of_referent (state_by self.now unseen) route.now.bytes name.now.bytes ≡ Ok entry.ends }
+        ensures accepted { (unseen : Unseen) → IfOk result (λ measure. referent_moved (state_by self.now unseen) route.now.bytes name.now.bytes (expression_of position.now) ≡ Ok (counted 0 (with_referent (state_by self.now unseen) route.now.bytes name.now.bytes measure))) }
+        ensures refused { (unseen : Unseen) → IfErr result (λ refusal. referent_moved (state_by self.now unseen) route.now.bytes name.now.bytes (expression_of position.now) ≡ Err refusal) }
         ensures may_change { OnOk result (self.now.changes < CHANGES) }
     {
         let measure = self.referents.located(entry, position)?;
@@ -121,11 +120,11 @@ impl Checks<'_> {
 
     /// The route of a referent that is there (20, 25) and is not START (23).
     fn route_of_referent(&self, route: &Name, name: &Name) -> Result<RouteEntry, Refusal>
-        ensures found { (spans : ℕ → ℕ → List Stretch) → IfOk result (λ entry. route_of_referent (state_by self.now spans) route.now.bytes name.now.bytes ≡ Ok entry.ends) }
-        ensures refused { (spans : ℕ → ℕ → List Stretch) → IfErr result (λ refusal. route_of_referent (state_by self.now spans) route.now.bytes name.now.bytes ≡ Err refusal) }
+        ensures found { (unseen : Unseen) → IfOk result (λ entry. route_of_referent (state_by self.now unseen) route.now.bytes name.now.bytes ≡ Ok entry.ends) }
+        ensures refused { (unseen : Unseen) → IfErr result (λ refusal. route_of_referent (state_by self.now unseen) route.now.bytes name.now.bytes ≡ Err refusal) }
         ensures there { IfOk result (λ entry. names.get self.now.catalog.now.routes route.now.bytes ≡ Some entry) }
         ensures not_start { OnOk result (name.now.bytes ≢ start_name) }
-        ensures has { (spans : ℕ → ℕ → List Stretch) → OnOk result (has ((state_by self.now spans).referents route.now.bytes) name.now.bytes ≡ true) }
+        ensures has { (unseen : Unseen) → OnOk result (has ((state_by self.now unseen).referents route.now.bytes) name.now.bytes ≡ true) }
     {
         let entry = self.catalog.named_route(route)?;
         if !self.has_referent(route, entry, name) {
@@ -140,7 +139,7 @@ impl Checks<'_> {
     /// Whether a route that is there has a referent of this name; each has START.
     fn has_referent(&self, route: &Name, entry: RouteEntry, name: &Name) -> bool
         requires there { names.get self.now.catalog.now.routes route.now.bytes ≡ Some entry }
-        ensures { (spans : ℕ → ℕ → List Stretch) → result ≡ has_referent (state_by self.now spans) route.now.bytes name.now.bytes }
+        ensures { (unseen : Unseen) → result ≡ has_referent (state_by self.now unseen) route.now.bytes name.now.bytes }
     {
         is_start(name) || self.referents.has(entry.number(), name)
     }

@@ -5,29 +5,29 @@ use Rattle.rs_command_checks.proofs.Outcomes.{table_taken, table_column_twice, t
 use Rattle.rs_command_checks.proofs.checks.Checks.check_new_table.Goals as goal
 
 pub returns-then-has_table_or_view-clause-refused : goal.returns-then-has_table_or_view-clause-refused
-returns-then-has_table_or_view-clause-refused c = λ spans.
-    table_taken c.args.self.now spans c.args.kind c.args.name.now.bytes (map column_tree c.args.columns.now) (sym c.if-has_table_or_view.true ∙ c.has_table_or_view.ensures)
+returns-then-has_table_or_view-clause-refused c = λ unseen.
+    table_taken c.args.self.now unseen c.args.kind c.args.name.now.bytes (map column_tree c.args.columns.now) (sym c.if-has_table_or_view.true ∙ c.has_table_or_view.ensures)
 
 pub returns-then-has_name_twice-clause-refused : goal.returns-then-has_name_twice-clause-refused
-returns-then-has_name_twice-clause-refused c = λ spans.
-    table_column_twice c.args.self.now spans c.args.kind c.args.name.now.bytes (map column_tree c.args.columns.now) (sym c.if-has_table_or_view.false ∙ c.has_table_or_view.ensures) (sym c.has_name_twice.ensures ∙ c.if-has_name_twice.true)
+returns-then-has_name_twice-clause-refused c = λ unseen.
+    table_column_twice c.args.self.now unseen c.args.kind c.args.name.now.bytes (map column_tree c.args.columns.now) (sym c.if-has_table_or_view.false ∙ c.has_table_or_view.ensures) (sym c.has_name_twice.ensures ∙ c.if-has_name_twice.true)
 
 pub returns-then-columns-gt-COLUMNS-clause-refused : goal.returns-then-columns-gt-COLUMNS-clause-refused
-returns-then-columns-gt-COLUMNS-clause-refused c = λ spans.
-    table_too_wide c.args.self.now spans c.args.kind c.args.name.now.bytes (map column_tree c.args.columns.now) (sym c.if-has_table_or_view.false ∙ c.has_table_or_view.ensures) (sym c.has_name_twice.ensures ∙ c.if-has_name_twice.false) (omega (arith, length-map c.args.columns.now column_tree))
+returns-then-columns-gt-COLUMNS-clause-refused c = λ unseen.
+    table_too_wide c.args.self.now unseen c.args.kind c.args.name.now.bytes (map column_tree c.args.columns.now) (sym c.if-has_table_or_view.false ∙ c.has_table_or_view.ensures) (sym c.has_name_twice.ensures ∙ c.if-has_name_twice.false) (omega (arith, length-map c.args.columns.now column_tree))
 
 pub returns-then-tables_len-ge-TABLES-clause-refused : goal.returns-then-tables_len-ge-TABLES-clause-refused
-returns-then-tables_len-ge-TABLES-clause-refused c = λ spans.
-    table_too_many c.args.self.now spans c.args.kind c.args.name.now.bytes (map column_tree c.args.columns.now) (sym c.if-has_table_or_view.false ∙ c.has_table_or_view.ensures) (sym c.has_name_twice.ensures ∙ c.if-has_name_twice.false) (omega (arith, length-map c.args.columns.now column_tree)) (omega arith)
+returns-then-tables_len-ge-TABLES-clause-refused c = λ unseen.
+    table_too_many c.args.self.now unseen c.args.kind c.args.name.now.bytes (map column_tree c.args.columns.now) (sym c.if-has_table_or_view.false ∙ c.has_table_or_view.ensures) (sym c.has_name_twice.ensures ∙ c.if-has_name_twice.false) (omega (arith, length-map c.args.columns.now column_tree)) (omega arith)
 
 pub returns-clause-accepted : goal.returns-clause-accepted
-returns-clause-accepted c = λ spans.
+returns-clause-accepted c = λ unseen.
     let columns = map column_tree c.args.columns.now in
-    last_accepted c.args.self.now spans _ _ c.may_change.result (c.may_change.ensures.answer spans)
-    (table_checked c.args.self.now spans c.args.kind c.args.name.now.bytes (map column_tree c.args.columns.now) (sym c.if-has_table_or_view.false ∙ c.has_table_or_view.ensures) (sym c.has_name_twice.ensures ∙ c.if-has_name_twice.false) (omega (arith, length-map c.args.columns.now column_tree)) (omega arith))
+    last_accepted c.args.self.now unseen _ _ c.may_change.result (c.may_change.ensures.answer unseen)
+    (table_checked c.args.self.now unseen c.args.kind c.args.name.now.bytes (map column_tree c.args.columns.now) (sym c.if-has_table_or_view.false ∙ c.has_table_or_view.ensures) (sym c.has_name_twice.ensures ∙ c.if-has_name_twice.false) (omega (arith, length-map c.args.columns.now column_tree)) (omega arith))
 
 pub returns-clause-refused : goal.returns-clause-refused
-returns-clause-refused c = λ spans.
+returns-clause-refused c = λ unseen.
     let columns = map column_tree c.args.columns.now in
-    last_refused c.args.self.now spans _ _ c.may_change.result (c.may_change.ensures.answer spans)
-    (table_checked c.args.self.now spans c.args.kind c.args.name.now.bytes (map column_tree c.args.columns.now) (sym c.if-has_table_or_view.false ∙ c.has_table_or_view.ensures) (sym c.has_name_twice.ensures ∙ c.if-has_name_twice.false) (omega (arith, length-map c.args.columns.now column_tree)) (omega arith))
+    last_refused c.args.self.now unseen _ _ c.may_change.result (c.may_change.ensures.answer unseen)
+    (table_checked c.args.self.now unseen c.args.kind c.args.name.now.bytes (map column_tree c.args.columns.now) (sym c.if-has_table_or_view.false ∙ c.has_table_or_view.ensures) (sym c.has_name_twice.ensures ∙ c.if-has_name_twice.false) (omega (arith, length-map c.args.columns.now column_tree)) (omega arith))

@@ -8,19 +8,19 @@ use Rattle.rs_command_checks.proofs.EventResults.{event_on, row_put, row_no_chan
 use Rattle.rs_command_checks.proofs.checks.Checks.checked_insertion.Goals as goal
 
 pub returns-in_err-span-clause-refused : goal.returns-in_err-span-clause-refused
-returns-in_err-span-clause-refused c = λ spans.
+returns-in_err-span-clause-refused c = λ unseen.
     let p = err_from_is_err_and c.from_residual.result c.from_residual.ensures.1 in
-    rw (p.1, p.2) (c.in_err-span.ensures.refused spans)
+    rw (p.1, p.2) (c.in_err-span.ensures.refused unseen)
 
 pub returns-in_err-may_change-clause-refused : goal.returns-in_err-may_change-clause-refused
-returns-in_err-may_change-clause-refused c = λ spans.
+returns-in_err-may_change-clause-refused c = λ unseen.
     let p = err_from_is_err_and c.from_residual-in_err-may_change.result c.from_residual-in_err-may_change.ensures.1 in
-    rw (p.1, p.2) (inr (row_no_change c.args.self.now c.args.name.now.bytes c.args.route.now.bytes (location_tree c.args.place.now) (literal_row c.args.values.now) (seen c.in_ok-span.span) c.in_ok-span.ensures.done spans _ (c.in_err-may_change.ensures.answer spans)))
+    rw (p.1, p.2) (inr (row_no_change c.args.self.now c.args.name.now.bytes c.args.route.now.bytes (location_tree c.args.place.now) (literal_row c.args.values.now) (seen c.in_ok-span.span) c.in_ok-span.ensures.done unseen _ (c.in_err-may_change.ensures.answer unseen)))
 
 pub returns-clause-accepted : goal.returns-clause-accepted
-returns-clause-accepted c = λ spans there is.
-    row_put c.args.self.now c.args.name.now.bytes c.args.route.now.bytes (location_tree c.args.place.now) (literal_row c.args.values.now) (seen c.in_ok-span.span) c.in_ok-span.ensures.done spans there is
-    ∙ may_ok c.args.self.now spans _ (c.in_ok-may_change.ensures.answer spans)
+returns-clause-accepted c = λ unseen there is.
+    row_put c.args.self.now c.args.name.now.bytes c.args.route.now.bytes (location_tree c.args.place.now) (literal_row c.args.values.now) (seen c.in_ok-span.span) c.in_ok-span.ensures.done unseen there is
+    ∙ may_ok c.args.self.now unseen _ (c.in_ok-may_change.ensures.answer unseen)
 
 pub returns-clause-event : goal.returns-clause-event
 returns-clause-event c = λ values.

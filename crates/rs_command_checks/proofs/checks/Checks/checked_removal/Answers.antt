@@ -7,19 +7,19 @@ use Rattle.rs_command_checks.proofs.EventResults.{are_there, rows_taken, removal
 use Rattle.rs_command_checks.proofs.checks.Checks.checked_removal.Goals as goal
 
 pub returns-in_err-removal-clause-refused : goal.returns-in_err-removal-clause-refused
-returns-in_err-removal-clause-refused c = λ spans.
+returns-in_err-removal-clause-refused c = λ unseen.
     let p = err_from_is_err_and c.from_residual.result c.from_residual.ensures.1 in
-    rw (p.1, p.2) (c.in_err-removal.ensures.refused spans)
+    rw (p.1, p.2) (c.in_err-removal.ensures.refused unseen)
 
 pub returns-in_err-may_change-clause-refused : goal.returns-in_err-may_change-clause-refused
-returns-in_err-may_change-clause-refused c = λ spans.
+returns-in_err-may_change-clause-refused c = λ unseen.
     let p = err_from_is_err_and c.from_residual-in_err-may_change.result c.from_residual-in_err-may_change.ensures.1 in
-    rw (p.1, p.2) (inr (removal_no_change c.args.self.now c.args.name.now.bytes (window_tree c.args.window.now) (removal_tree c.args.condition.now) c.in_ok-removal.removal c.in_ok-removal.ensures.done spans _ (c.in_err-may_change.ensures.answer spans)))
+    rw (p.1, p.2) (inr (removal_no_change c.args.self.now c.args.name.now.bytes (window_tree c.args.window.now) (removal_tree c.args.condition.now) c.in_ok-removal.removal c.in_ok-removal.ensures.done unseen _ (c.in_err-may_change.ensures.answer unseen)))
 
 pub returns-clause-accepted : goal.returns-clause-accepted
-returns-clause-accepted c = λ spans there is.
-    rows_taken c.args.self.now c.args.name.now.bytes (window_tree c.args.window.now) (removal_tree c.args.condition.now) c.in_ok-removal.removal c.in_ok-removal.ensures.done spans there is
-    ∙ may_ok c.args.self.now spans _ (c.in_ok-may_change.ensures.answer spans)
+returns-clause-accepted c = λ unseen there is.
+    rows_taken c.args.self.now c.args.name.now.bytes (window_tree c.args.window.now) (removal_tree c.args.condition.now) c.in_ok-removal.removal c.in_ok-removal.ensures.done unseen there is
+    ∙ may_ok c.args.self.now unseen _ (c.in_ok-may_change.ensures.answer unseen)
 
 pub returns-clause-there : goal.returns-clause-there
 returns-clause-there c = are_there c.args.self.now c.args.name.now.bytes (window_tree c.args.window.now) (removal_tree c.args.condition.now) c.in_ok-removal.removal c.in_ok-removal.ensures.done

@@ -12,27 +12,27 @@ use Rattle.rs_command_checks.proofs.EventChecks.{removal_no_route, removal_no_ta
 use Rattle.rs_command_checks.proofs.checks.Checks.fitted_removal.Goals as goal
 
 pub returns-in_err-on-clause-refused : goal.returns-in_err-on-clause-refused
-returns-in_err-on-clause-refused c = λ spans.
+returns-in_err-on-clause-refused c = λ unseen.
     let p = err_from_is_err_and c.from_residual.result c.from_residual.ensures.1 in
     let named = ap (names.get c.args.self.now.catalog.now.routes) (sym c.route_of-route.ensures) in
     let none = found_none (names.get c.args.self.now.catalog.now.routes c.route_of-route.result.now.bytes) NoSuchRoute c.in_err-on.field-0.0 c.in_err-on.ensures in
-    rw (p.1, p.2) (inr (removal_no_route c.args.self.now spans c.args.name.now.bytes (window_tree c.args.window.now) (removal_tree c.args.condition.now) (named ∙ none.0) ∙ ap Err (sym none.1)))
+    rw (p.1, p.2) (inr (removal_no_route c.args.self.now unseen c.args.name.now.bytes (window_tree c.args.window.now) (removal_tree c.args.condition.now) (named ∙ none.0) ∙ ap Err (sym none.1)))
 
 pub returns-in_err-table-clause-refused : goal.returns-in_err-table-clause-refused
-returns-in_err-table-clause-refused c = λ spans.
+returns-in_err-table-clause-refused c = λ unseen.
     let p = err_from_is_err_and c.from_residual-in_err-table.result c.from_residual-in_err-table.ensures.1 in
     let named = ap (names.get c.args.self.now.catalog.now.routes) (sym c.route_of-route.ensures) in
     let route_there = named ∙ found_some (names.get c.args.self.now.catalog.now.routes c.route_of-route.result.now.bytes) NoSuchRoute c.in_ok-on.on c.in_ok-on.ensures in
     let none = found_none (names.get c.args.self.now.catalog.now.tables c.args.name.now.bytes) NoSuchName c.in_err-table.field-0.0 c.in_err-table.ensures in
-    rw (p.1, p.2) (inr (removal_no_table c.args.self.now spans c.args.name.now.bytes (window_tree c.args.window.now) (removal_tree c.args.condition.now) c.in_ok-on.on route_there none.0 ∙ ap Err (sym none.1)))
+    rw (p.1, p.2) (inr (removal_no_table c.args.self.now unseen c.args.name.now.bytes (window_tree c.args.window.now) (removal_tree c.args.condition.now) c.in_ok-on.on route_there none.0 ∙ ap Err (sym none.1)))
 
 pub returns-in_err-lo-clause-refused : goal.returns-in_err-lo-clause-refused
-returns-in_err-lo-clause-refused c = λ spans.
+returns-in_err-lo-clause-refused c = λ unseen.
     let p = err_from_is_err_and c.from_residual-in_err-lo.result c.from_residual-in_err-lo.ensures.1 in
     let named = ap (names.get c.args.self.now.catalog.now.routes) (sym c.route_of-route.ensures) in
     let route_there = named ∙ found_some (names.get c.args.self.now.catalog.now.routes c.route_of-route.result.now.bytes) NoSuchRoute c.in_ok-on.on c.in_ok-on.ensures in
     let table_there = found_some (names.get c.args.self.now.catalog.now.tables c.args.name.now.bytes) NoSuchName c.in_ok-table.table.now c.in_ok-table.ensures in
-    rw (p.1, p.2) (inr (removal_off_route c.args.self.now spans c.args.name.now.bytes (window_tree c.args.window.now) (removal_tree c.args.condition.now) c.in_ok-on.on route_there c.in_ok-table.table.now table_there _ (sym c.in_err-lo.ensures)))
+    rw (p.1, p.2) (inr (removal_off_route c.args.self.now unseen c.args.name.now.bytes (window_tree c.args.window.now) (removal_tree c.args.condition.now) c.in_ok-on.on route_there c.in_ok-table.table.now table_there _ (sym c.in_err-lo.ensures)))
 
 pub checked_rows-requires : goal.checked_rows-requires
 checked_rows-requires c =
@@ -41,13 +41,13 @@ checked_rows-requires c =
     subst (λ n. n ≤ COLUMNS) (sym (ap length c.columns.ensures) ∙ length-map c.columns.result.now column_tree) few
 
 pub returns-in_err-goes-clause-refused : goal.returns-in_err-goes-clause-refused
-returns-in_err-goes-clause-refused c = λ spans.
+returns-in_err-goes-clause-refused c = λ unseen.
     let p = err_from_is_err_and c.from_residual-in_err-goes.result c.from_residual-in_err-goes.ensures.1 in
     let named = ap (names.get c.args.self.now.catalog.now.routes) (sym c.route_of-route.ensures) in
     let route_there = named ∙ found_some (names.get c.args.self.now.catalog.now.routes c.route_of-route.result.now.bytes) NoSuchRoute c.in_ok-on.on c.in_ok-on.ensures in
     let table_there = found_some (names.get c.args.self.now.catalog.now.tables c.args.name.now.bytes) NoSuchName c.in_ok-table.table.now c.in_ok-table.ensures in
     rw (p.1, p.2) (⊎_elim
     (λ (wanting : c.in_err-goes.field-0.0 ≡ OutOfMemory). inl wanting)
-    (λ off. inr (removal_no_test c.args.self.now spans c.args.name.now.bytes (window_tree c.args.window.now) (removal_tree c.args.condition.now) c.in_ok-on.on route_there c.in_ok-table.table.now table_there (c.in_ok-lo.lo, c.in_ok-lo.hi) (sym c.in_ok-lo.ensures) _
+    (λ off. inr (removal_no_test c.args.self.now unseen c.args.name.now.bytes (window_tree c.args.window.now) (removal_tree c.args.condition.now) c.in_ok-on.on route_there c.in_ok-table.table.now table_there (c.in_ok-lo.lo, c.in_ok-lo.hi) (sym c.in_ok-lo.ensures) _
     (ap (λ columns. removal_checked columns (removal_tree c.args.condition.now)) (sym c.columns.ensures) ∙ off)))
     c.in_err-goes.ensures.refused)

@@ -12,31 +12,31 @@ use Rattle.rs_command_checks.proofs.EventChecks.{row_no_route, row_no_table, row
 use Rattle.rs_command_checks.proofs.checks.Checks.fitted_span.Goals as goal
 
 pub returns-in_err-on-clause-refused : goal.returns-in_err-on-clause-refused
-returns-in_err-on-clause-refused c = λ spans.
+returns-in_err-on-clause-refused c = λ unseen.
     let p = err_from_is_err_and c.from_residual.result c.from_residual.ensures.1 in
     let none = found_none (names.get c.args.self.now.catalog.now.routes c.args.route.now.bytes) NoSuchRoute c.in_err-on.field-0.0 c.in_err-on.ensures in
-    rw (p.1, p.2) (inr (row_no_route c.args.self.now spans c.args.name.now.bytes c.args.route.now.bytes (location_tree c.args.place.now) (literal_row c.args.values.now) none.0 ∙ ap Err (sym none.1)))
+    rw (p.1, p.2) (inr (row_no_route c.args.self.now unseen c.args.name.now.bytes c.args.route.now.bytes (location_tree c.args.place.now) (literal_row c.args.values.now) none.0 ∙ ap Err (sym none.1)))
 
 pub returns-in_err-table-clause-refused : goal.returns-in_err-table-clause-refused
-returns-in_err-table-clause-refused c = λ spans.
+returns-in_err-table-clause-refused c = λ unseen.
     let p = err_from_is_err_and c.from_residual-in_err-table.result c.from_residual-in_err-table.ensures.1 in
     let route_there = found_some (names.get c.args.self.now.catalog.now.routes c.args.route.now.bytes) NoSuchRoute c.in_ok-on.on c.in_ok-on.ensures in
     let none = found_none (names.get c.args.self.now.catalog.now.tables c.args.name.now.bytes) NoSuchName c.in_err-table.field-0.0 c.in_err-table.ensures in
-    rw (p.1, p.2) (inr (row_no_table c.args.self.now spans c.args.name.now.bytes c.args.route.now.bytes (location_tree c.args.place.now) (literal_row c.args.values.now) c.in_ok-on.on route_there none.0 ∙ ap Err (sym none.1)))
+    rw (p.1, p.2) (inr (row_no_table c.args.self.now unseen c.args.name.now.bytes c.args.route.now.bytes (location_tree c.args.place.now) (literal_row c.args.values.now) c.in_ok-on.on route_there none.0 ∙ ap Err (sym none.1)))
 
 pub returns-in_err-lo-clause-refused : goal.returns-in_err-lo-clause-refused
-returns-in_err-lo-clause-refused c = λ spans.
+returns-in_err-lo-clause-refused c = λ unseen.
     let p = err_from_is_err_and c.from_residual-in_err-lo.result c.from_residual-in_err-lo.ensures.1 in
     let route_there = found_some (names.get c.args.self.now.catalog.now.routes c.args.route.now.bytes) NoSuchRoute c.in_ok-on.on c.in_ok-on.ensures in
     let table_there = found_some (names.get c.args.self.now.catalog.now.tables c.args.name.now.bytes) NoSuchName c.in_ok-table.table.now c.in_ok-table.ensures in
-    rw (p.1, p.2) (inr (row_off_route c.args.self.now spans c.args.name.now.bytes c.args.route.now.bytes (location_tree c.args.place.now) (literal_row c.args.values.now) c.in_ok-on.on route_there c.in_ok-table.table.now table_there _ (sym c.in_err-lo.ensures)))
+    rw (p.1, p.2) (inr (row_off_route c.args.self.now unseen c.args.name.now.bytes c.args.route.now.bytes (location_tree c.args.place.now) (literal_row c.args.values.now) c.in_ok-on.on route_there c.in_ok-table.table.now table_there _ (sym c.in_err-lo.ensures)))
 
 pub returns-then-not-is_of_kind-clause-refused : goal.returns-then-not-is_of_kind-clause-refused
-returns-then-not-is_of_kind-clause-refused c = λ spans.
+returns-then-not-is_of_kind-clause-refused c = λ unseen.
     let route_there = found_some (names.get c.args.self.now.catalog.now.routes c.args.route.now.bytes) NoSuchRoute c.in_ok-on.on c.in_ok-on.ensures in
     let table_there = found_some (names.get c.args.self.now.catalog.now.tables c.args.name.now.bytes) NoSuchName c.in_ok-table.table.now c.in_ok-table.ensures in
     let other = ap (λ kind. same_kind kind (location_kind (location_tree c.args.place.now))) (sym c.kind.ensures) ∙ sym c.is_of_kind.ensures ∙ c.if-not-is_of_kind.true in
-    inr (row_other_kind c.args.self.now spans c.args.name.now.bytes c.args.route.now.bytes (location_tree c.args.place.now) (literal_row c.args.values.now) c.in_ok-on.on route_there c.in_ok-table.table.now table_there (c.in_ok-lo.lo, c.in_ok-lo.hi) (sym c.in_ok-lo.ensures) other)
+    inr (row_other_kind c.args.self.now unseen c.args.name.now.bytes c.args.route.now.bytes (location_tree c.args.place.now) (literal_row c.args.values.now) c.in_ok-on.on route_there c.in_ok-table.table.now table_there (c.in_ok-lo.lo, c.in_ok-lo.hi) (sym c.in_ok-lo.ensures) other)
 
 pub fitted-requires : goal.fitted-requires
 fitted-requires c =
@@ -45,10 +45,10 @@ fitted-requires c =
     subst (λ n. n ≤ COLUMNS) (sym (ap length c.columns.ensures) ∙ length-map c.columns.result.now column_tree) few
 
 pub returns-in_err-row-clause-refused : goal.returns-in_err-row-clause-refused
-returns-in_err-row-clause-refused c = λ spans.
+returns-in_err-row-clause-refused c = λ unseen.
     let p = err_from_is_err_and c.from_residual-in_err-row.result c.from_residual-in_err-row.ensures.1 in
     let route_there = found_some (names.get c.args.self.now.catalog.now.routes c.args.route.now.bytes) NoSuchRoute c.in_ok-on.on c.in_ok-on.ensures in
     let table_there = found_some (names.get c.args.self.now.catalog.now.tables c.args.name.now.bytes) NoSuchName c.in_ok-table.table.now c.in_ok-table.ensures in
     let same = ap (λ kind. same_kind kind (location_kind (location_tree c.args.place.now))) (sym c.kind.ensures) ∙ sym c.is_of_kind.ensures ∙ c.if-not-is_of_kind.false in
-    rw (p.1, p.2) (inr (row_misfit c.args.self.now spans c.args.name.now.bytes c.args.route.now.bytes (location_tree c.args.place.now) (literal_row c.args.values.now) c.in_ok-on.on route_there c.in_ok-table.table.now table_there (c.in_ok-lo.lo, c.in_ok-lo.hi) (sym c.in_ok-lo.ensures) same _
+    rw (p.1, p.2) (inr (row_misfit c.args.self.now unseen c.args.name.now.bytes c.args.route.now.bytes (location_tree c.args.place.now) (literal_row c.args.values.now) c.in_ok-on.on route_there c.in_ok-table.table.now table_there (c.in_ok-lo.lo, c.in_ok-lo.hi) (sym c.in_ok-lo.ensures) same _
     (ap (λ columns. row_fits columns (literal_row c.args.values.now)) (sym c.columns.ensures) ∙ c.in_err-row.ensures.refused)))
