@@ -32,19 +32,19 @@ pub returns-then-any-clause-refused : goal.returns-then-any-clause-refused
 returns-then-any-clause-refused c = λ unseen tells.
     let there = found_some (names.get c.args.self.now.catalog.now.routes c.args.name.now.bytes) NoSuchRoute c.in_ok-route.route c.in_ok-route.ensures in
     drops_waited_route c.args.self.now unseen c.args.name.now.bytes c.in_ok-route.route there (told c.args.self.now unseen c.args.name.now.bytes c.in_ok-route.route c.args.has_facts _ there tells c.if-has_facts.false)
-    (sym c.is_route_aligned.ensures ∙ c.if-is_route_aligned.false) (sym c.is_route_named.ensures ∙ c.if-is_route_named.false) (sym (c.any.ensures unseen.lines) ∙ c.if-any.true)
+    (sym c.is_route_aligned.ensures ∙ c.if-is_route_aligned.false) (sym c.is_route_named.ensures ∙ c.if-is_route_named.false) (sym (c.any.ensures.machine unseen.lines) ∙ c.if-any.true)
 
 pub returns-in_err-may_change-clause-refused : goal.returns-in_err-may_change-clause-refused
 returns-in_err-may_change-clause-refused c = λ unseen tells.
     let p = err_from_is_err_and c.from_residual-in_err-may_change.result c.from_residual-in_err-may_change.ensures.1 in
     let there = found_some (names.get c.args.self.now.catalog.now.routes c.args.name.now.bytes) NoSuchRoute c.in_ok-route.route c.in_ok-route.ensures in
     rw (p.1, p.2) (drops_route c.args.self.now unseen c.args.name.now.bytes c.in_ok-route.route there (told c.args.self.now unseen c.args.name.now.bytes c.in_ok-route.route c.args.has_facts _ there tells c.if-has_facts.false)
-    (sym c.is_route_aligned.ensures ∙ c.if-is_route_aligned.false) (sym c.is_route_named.ensures ∙ c.if-is_route_named.false) (sym (c.any.ensures unseen.lines) ∙ c.if-any.false)
+    (sym c.is_route_aligned.ensures ∙ c.if-is_route_aligned.false) (sym c.is_route_named.ensures ∙ c.if-is_route_named.false) (sym (c.any.ensures.machine unseen.lines) ∙ c.if-any.false)
     ∙ may_err c.args.self.now unseen _ _ (c.in_err-may_change.ensures.answer unseen))
 
 pub returns-clause-accepted : goal.returns-clause-accepted
 returns-clause-accepted c = λ unseen tells.
     let there = found_some (names.get c.args.self.now.catalog.now.routes c.args.name.now.bytes) NoSuchRoute c.in_ok-route.route c.in_ok-route.ensures in
     drops_route c.args.self.now unseen c.args.name.now.bytes c.in_ok-route.route there (told c.args.self.now unseen c.args.name.now.bytes c.in_ok-route.route c.args.has_facts _ there tells c.if-has_facts.false)
-    (sym c.is_route_aligned.ensures ∙ c.if-is_route_aligned.false) (sym c.is_route_named.ensures ∙ c.if-is_route_named.false) (sym (c.any.ensures unseen.lines) ∙ c.if-any.false)
+    (sym c.is_route_aligned.ensures ∙ c.if-is_route_aligned.false) (sym c.is_route_named.ensures ∙ c.if-is_route_named.false) (sym (c.any.ensures.machine unseen.lines) ∙ c.if-any.false)
     ∙ may_ok c.args.self.now unseen _ (c.in_ok-may_change.ensures.answer unseen)

@@ -19,17 +19,17 @@ returns-then-is_query_named-clause-refused c = λ unseen.
 pub returns-then-any-clause-refused : goal.returns-then-any-clause-refused
 returns-then-any-clause-refused c = λ unseen.
     let there = found_some (names.get c.args.self.now.catalog.now.tables c.args.name.now.bytes) NoSuchName _ c.in_ok-named_table.ensures in
-    drops_waited_table c.args.self.now unseen c.args.name.now.bytes _ there (sym c.is_query_named.ensures ∙ c.if-is_query_named.false) (sym (c.any.ensures unseen.lines) ∙ c.if-any.true)
+    drops_waited_table c.args.self.now unseen c.args.name.now.bytes _ there (sym c.is_query_named.ensures ∙ c.if-is_query_named.false) (sym (c.any.ensures.machine unseen.lines) ∙ c.if-any.true)
 
 pub returns-in_err-may_change-clause-refused : goal.returns-in_err-may_change-clause-refused
 returns-in_err-may_change-clause-refused c = λ unseen.
     let p = err_from_is_err_and c.from_residual-in_err-may_change.result c.from_residual-in_err-may_change.ensures.1 in
     let there = found_some (names.get c.args.self.now.catalog.now.tables c.args.name.now.bytes) NoSuchName _ c.in_ok-named_table.ensures in
-    rw (p.1, p.2) (drops_table c.args.self.now unseen c.args.name.now.bytes _ there (sym c.is_query_named.ensures ∙ c.if-is_query_named.false) (sym (c.any.ensures unseen.lines) ∙ c.if-any.false)
+    rw (p.1, p.2) (drops_table c.args.self.now unseen c.args.name.now.bytes _ there (sym c.is_query_named.ensures ∙ c.if-is_query_named.false) (sym (c.any.ensures.machine unseen.lines) ∙ c.if-any.false)
     ∙ may_err c.args.self.now unseen _ _ (c.in_err-may_change.ensures.answer unseen))
 
 pub returns-clause-accepted : goal.returns-clause-accepted
 returns-clause-accepted c = λ unseen.
     let there = found_some (names.get c.args.self.now.catalog.now.tables c.args.name.now.bytes) NoSuchName _ c.in_ok-named_table.ensures in
-    drops_table c.args.self.now unseen c.args.name.now.bytes _ there (sym c.is_query_named.ensures ∙ c.if-is_query_named.false) (sym (c.any.ensures unseen.lines) ∙ c.if-any.false)
+    drops_table c.args.self.now unseen c.args.name.now.bytes _ there (sym c.is_query_named.ensures ∙ c.if-is_query_named.false) (sym (c.any.ensures.machine unseen.lines) ∙ c.if-any.false)
     ∙ may_ok c.args.self.now unseen _ (c.in_ok-may_change.ensures.answer unseen)
