@@ -6,6 +6,7 @@ mod PlannedRows
 mod LineTexts
 pub mod NamedRoutes
 mod ShownLines
+pub mod Starts
 mod PresentLines
 mod QueryAnswers
 mod TotalRows

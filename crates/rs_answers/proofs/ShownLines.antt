@@ -1,5 +1,5 @@
 -- The lines of a plan's runs on one route are those that a version shows.
-use Rattle.std.proofs.Common.{◌≡◌, ◌++◌, ℕ, List, Some, ap, drop, length, map, sym, take, ◌∙◌}
+use Rattle.std.proofs.Common.{◌≡◌, ◌+◌, ◌++◌, ℕ, List, Some, ap, drop, length, map, sym, take, ◌∙◌}
 use Rattle.std.proofs.Math.Path.{fun_ext}
 use Rattle.std.proofs.lemmas.List.{drop-map, length-map, take-map}
 use Rattle.std.specs.FinMap as names
@@ -13,11 +13,13 @@ use Rattle.rs_machine.specs.State.{RowText}
 use Rattle.rs_methods.specs.Position.{expression_at, expression_text}
 use Rattle.rs_methods.specs.declared.position.Method.{Method}
 use Rattle.rs_plan.specs.declared.plan.Plan.{Plan}
+use Rattle.rs_serve.specs.ReplyView.{rows_of}
 use Rattle.rs_value.specs.declared.column.Kind.{Kind}
-use Rattle.rs_answers.specs.Portions.{GivesPortion, portion_of}
+use Rattle.rs_answers.specs.Portions.{GivesPortion, IsStart, portion_of}
 use Rattle.rs_answers.specs.Printed.{place_on, printed_position}
 use Rattle.rs_answers.specs.Versions.{SeenVersion, LiesOnRoutes, lines_seen_on, position_seen, runs_seen}
 use Rattle.rs_answers.specs.declared.route_lines.Portion.{Portion}
+use Rattle.rs_answers.specs.declared.route_lines.RouteRest.{RouteRest}
 use Rattle.rs_answers.proofs.LineTexts.{lines-same, place-same}
 use Rattle.rs_answers.proofs.QueryRuns.{HoldOn, holds-within, runs-printable, runs-whole}
 
@@ -65,12 +67,17 @@ module _ (shown : SeenVersion) (plan : Plan) (lies : LiesOnRoutes shown plan) (r
       (runs-printable kind on.ends places holds runs are)
       ∙ ap (map (line_of (position_seen shown on method) kind route)) runs-shown
 
-  pub portion-given : (method : Method) (portion : Portion) (old new : List RowText) (all : ℕ) → all ≡ length runs
+  -- a portion of the lines, and the start of those after it
+  pub portion-given : (method : Method) (portion : Portion) (old new : List RowText) (rest : RouteRest) → rest.all ≡ length runs
       → new ≡ old ++ map (line_of (λ place. position_seen shown on method (place_on on.ends place)) kind route) (portion_of portion runs)
-      → GivesPortion (lines_seen_on shown plan method (route, on)) portion old new all
-  portion-given method portion old new all counts gives =
+      → IsStart (rows_of rest.ahead.items) (map (line_of (λ place. position_seen shown on method (place_on on.ends place)) kind route) (drop (portion.skip + portion.most) runs))
+      → GivesPortion (lines_seen_on shown plan method (route, on)) portion old new rest
+  portion-given method portion old new rest counts gives ahead =
       let line = line_of (λ place. position_seen shown on method (place_on on.ends place)) kind route in
       record {
         counts = counts ∙ sym (length-map runs line) ∙ ap length (lines-shown method);
         gives = gives ∙ ap (λ l. old ++ l) (map-portion line portion runs ∙ ap (portion_of portion) (lines-shown method));
+        ahead =
+            ahead ∙ ap (take (length (rows_of rest.ahead.items)))
+            (sym (drop-map line (portion.skip + portion.most) runs) ∙ ap (drop (portion.skip + portion.most)) (lines-shown method));
       }

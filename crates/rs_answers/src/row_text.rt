@@ -2,16 +2,20 @@
 //!
 //! It promises to append the machine's line of each run, in the order of the runs.
 
-ghost use Rattle.std.specs.Prelude.{◌≡◌, ◌++◌, map, IfOk, OnOk, string_bytes};
+ghost use Rattle.std.specs.Prelude.{◌≡◌, ◌≤◌, ◌++◌, map, IfOk, OnOk, string_bytes};
 ghost use Rattle.rs_facts.specs.LineText.{line_of};
 ghost use Rattle.rs_facts.specs.Spans.{seen};
 ghost use Rattle.rs_serve.specs.ReplyView.{rows_of};
+ghost use Rattle.rs_answers.specs.Portions.{room_of, IsStart};
 ghost use Rattle.rs_answers.specs.Printed.{printed_by};
 
 use crate::printer::PositionPrinter;
 use rs_facts::Span;
 use rs_value::{Kind, push_values};
 use std::alloc::{AllocError, Global};
+
+/// How many bytes a line takes beside its text: its pointer, length and capacity, twice since a list that grows has up to twice the room.
+pub const LINE_BYTES: usize = 48;
 
 /// The room that a line is given at first, in bytes; it takes more where it needs more.
 const LINE_ROOM: usize = 48;
@@ -30,6 +34,31 @@ pub(crate) fn push_lines(
         rows.push(line_text(alloc, kind, printer, run)?)?;
     }
     Ok(())
+}
+
+/// The lines of the first runs of one route, as many as take no more than so many bytes.
+pub(crate) fn lines_within(
+    alloc: Global,
+    kind: Kind,
+    printer: &PositionPrinter<'_>,
+    runs: &[Span],
+    room: usize,
+) -> Result<Vec<String>, AllocError>
+    ensures lines { IfOk result (λ lines. IsStart (rows_of lines.items) (map (line_of (printed_by printer.now) kind printer.now.name.now.bytes) (map seen runs.now))) }
+    ensures room { IfOk result (λ lines. room_of lines.items ≤ room) }
+{
+    let mut lines = Vec::new(alloc);
+    let mut left = room;
+    for run in runs {
+        let text = line_text(alloc, kind, printer, run)?;
+        let takes = text.capacity() + LINE_BYTES;
+        if left < takes {
+            break;
+        }
+        left -= takes;
+        lines.push(text)?;
+    }
+    Ok(lines)
 }
 
 /// The line of one run: the route, its position or its two positions, and its values.
