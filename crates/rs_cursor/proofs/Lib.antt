@@ -5,3 +5,4 @@ mod BySession
 mod Lowest
 mod Oldests
 mod NextLines
+mod Steps

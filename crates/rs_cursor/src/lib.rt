@@ -5,9 +5,12 @@
 
 pub mod cursor;
 pub mod cursors;
+pub mod kept;
+mod kept_from;
 pub mod next_lines;
 pub mod place;
 
 pub use cursor::Cursor;
 pub use cursors::Cursors;
+pub use kept::KeptLines;
 pub use place::Place;

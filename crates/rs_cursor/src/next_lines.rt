@@ -1,18 +1,23 @@
 //! The next lines of a cursor, from a store and the cursor's place.
 //!
-//! The plan is evaluated on one route after another, from the place on, until there are as many lines as are asked for.
+//! The plan is evaluated on one route after another, from the place on, until there are as many lines as are asked for. Lines that
+//! are kept of a route spare its evaluation.
 
-ghost use Rattle.std.specs.Prelude.{◌≡◌, ◌+◌, ◌-◌, ◌<◌, ◌≤◌, ◌^◌, ℕ, drop, length, min, take, IfOk};
+ghost use Rattle.std.specs.Prelude.{◌≡◌, ◌+◌, ◌-◌, ◌<◌, ◌≤◌, ◌^◌, ℕ, drop, length, min, take, IfOk, IfSome, vec_len};
 ghost use Rattle.rs_answers.specs.Versions.{LiesOnRoutes, SeenVersion};
 ghost use Rattle.rs_cursor.specs.Held.{lines_left};
+ghost use Rattle.rs_cursor.specs.Kept.{AreKept, AreLinesAt, GivesFrom, GivesNext, GoesOn, IsRouteAt};
+ghost use Rattle.rs_cursor.specs.declared.cursor.Cursor.{Cursor};
 ghost use Rattle.rs_exec.specs.Leaving.{EndsWith};
 ghost use Rattle.rs_serve.specs.ReplyView.{rows_of};
 
 use crate::cursor::Cursor;
+use crate::kept::{KEPT_BYTES, KeptLines};
+use crate::kept_from::{KeptFrom, kept_at, push_copies};
 use crate::place::Place;
 use rs_answers::{NamedRoute, PlanAt, Portion, Versions, push_route_lines};
 use rs_refusal::Refusal;
-use std::alloc::Global;
+use std::alloc::{AllocError, Global};
 
 /// Lines that a cursor gives, and where it is after them.
 #[derive(Drop)]
@@ -23,41 +28,167 @@ pub struct NextLines {
     pub place: Place,
 }
 
-/// The next lines of a cursor, so many or as many as are left, by what the store shows at the cursor's version. The store tells why
-/// they are refused.
+/// The next lines of a cursor, so many or as many as are left, by what the store shows at the cursor's version. Lines that are kept
+/// are given as they are; else a route is evaluated, and lines after those that are given are kept. The store tells why they are
+/// refused.
 pub fn next_lines<V: Versions>(
     alloc: Global,
     store: &mut V,
     cursor: &Cursor,
     rows: u32,
+    kept: &mut Option<KeptLines>,
 ) -> Result<NextLines, Refusal>
     ensures given { IfOk result (λ next. (versions : ℕ → SeenVersion) → V.shows store.old cursor.now.version (versions cursor.now.version)
-        → LiesOnRoutes (versions cursor.now.version) cursor.now.plan → rows_of next.lines.items ≡ take rows (lines_left versions cursor.now)) }
+        → LiesOnRoutes (versions cursor.now.version) cursor.now.plan → IfSome kept.old (AreKept (versions cursor.now.version) cursor.now.plan cursor.now.method)
+        → rows_of next.lines.items ≡ take rows (lines_left versions cursor.now)) }
     ensures left { IfOk result (λ next. (versions : ℕ → SeenVersion) → V.shows store.old cursor.now.version (versions cursor.now.version)
-        → LiesOnRoutes (versions cursor.now.version) cursor.now.plan
+        → LiesOnRoutes (versions cursor.now.version) cursor.now.plan → IfSome kept.old (AreKept (versions cursor.now.version) cursor.now.plan cursor.now.method)
         → lines_left versions (record cursor.now { place = next.place }) ≡ drop rows (lines_left versions cursor.now)) }
+    ensures keeps { (shown : SeenVersion) → V.shows store.old cursor.now.version shown → LiesOnRoutes shown cursor.now.plan
+        → IfSome kept.old (AreKept shown cursor.now.plan cursor.now.method) → IfSome kept.new (AreKept shown cursor.now.plan cursor.now.method) }
     ensures ends { EndsWith V.Source store.old store.new result }
 {
+    let wanted = rows as usize;
+    if let Some(next) = kept_lines(alloc, kept, cursor, wanted)? {
+        return Ok(next);
+    }
     let routes = store.routes_at(alloc, cursor.version)?;
     let count = count_of(&routes);
+    let mut lines = Vec::new(alloc);
+    let mut place = cursor.place;
+    while place.route < count && lines.len() < wanted {
+        let stop = Stop {
+            named: &routes[place.route as usize],
+            place,
+            most: wanted - lines.len(),
+        };
+        place = push_lines(alloc, store, cursor, &stop, kept, &mut lines)?;
+    }
+    Ok(NextLines { lines, place })
+}
+
+/// The next lines of a cursor, where all of them are kept and its route has more after them.
+fn kept_lines(
+    alloc: Global,
+    kept: &Option<KeptLines>,
+    cursor: &Cursor,
+    wanted: usize,
+) -> Result<Option<NextLines>, AllocError>
+    ensures { IfOk result (λ some. IfSome some (λ next. (versions : ℕ → SeenVersion) → IfSome kept.now (AreKept (versions cursor.now.version) cursor.now.plan cursor.now.method)
+        → GivesNext wanted (lines_left versions cursor.now) (rows_of next.lines.items) (lines_left versions (record cursor.now { place = next.place })))) }
+{
+    let place = cursor.place;
+    if let Some(from) = kept_at(kept, place) {
+        let after = from.all.saturating_sub(place.given);
+        if wanted <= from.lines.len() && (wanted as u64) < after {
+            let mut lines = Vec::new(alloc);
+            let to = push_kept(&from, place, wanted, &mut lines)?;
+            return Ok(Some(NextLines { lines, place: to }));
+        }
+    }
+    Ok(None)
+}
+
+/// A route that lines are given of.
+#[derive(Clone, Copy)]
+struct Stop<'a> {
+    /// The route.
+    named: &'a NamedRoute,
+    /// The place from which they are given, on this route.
+    place: Place,
+    /// How many are wanted.
+    most: usize,
+}
+
+/// Appends lines of a route from a place on, no more than are wanted: those that are kept there, or else by an evaluation. Answers the
+/// place after them.
+fn push_lines<V: Versions>(
+    alloc: Global,
+    store: &mut V,
+    cursor: &Cursor,
+    stop: &Stop<'_>,
+    kept: &mut Option<KeptLines>,
+    lines: &mut Vec<String>,
+) -> Result<Place, Refusal>
+    requires next { stop.now.place.route + 1 < 2 ^ 32 }
+    requires some { 0 < stop.now.most }
+    ensures gives { IfOk result (λ to. (versions : ℕ → SeenVersion) → V.shows store.old cursor.now.version (versions cursor.now.version)
+        → LiesOnRoutes (versions cursor.now.version) cursor.now.plan → IsRouteAt (versions cursor.now.version) stop.now.place.route stop.now.named.now
+        → IfSome kept.old (AreKept (versions cursor.now.version) cursor.now.plan cursor.now.method)
+        → GivesFrom (lines_left versions (record cursor.now { place = stop.now.place })) (lines_left versions (record cursor.now { place = to })) (rows_of lines.old.items) (rows_of lines.new.items)) }
+    ensures keeps { (shown : SeenVersion) → V.shows store.old cursor.now.version shown → LiesOnRoutes shown cursor.now.plan → IsRouteAt shown stop.now.place.route stop.now.named.now
+        → IfSome kept.old (AreKept shown cursor.now.plan cursor.now.method) → IfSome kept.new (AreKept shown cursor.now.plan cursor.now.method) }
+    ensures goes_on { IfOk result (λ to. GoesOn stop.now.place to stop.now.most (vec_len lines.old) (vec_len lines.new)) }
+    ensures ends { EndsWith V.Source store.old store.new result }
+{
+    if let Some(from) = kept_at(kept, stop.place) {
+        return Ok(push_kept(&from, stop.place, stop.most, lines)?);
+    }
+    push_formed(alloc, store, cursor, stop, kept, lines)
+}
+
+/// Appends lines that are kept from a place on, no more than are wanted, and answers the place after them.
+fn push_kept(
+    from: &KeptFrom<'_>,
+    place: Place,
+    most: usize,
+    lines: &mut Vec<String>,
+) -> Result<Place, AllocError>
+    requires next { from.now.all ≤ place.given + min most (length from.now.lines.now) → place.route + 1 < 2 ^ 32 }
+    ensures gives { IfOk result (λ to. (versions : ℕ → SeenVersion) (cursor : Cursor)
+        → AreLinesAt (versions cursor.version) cursor.plan cursor.method place from.now.all (rows_of from.now.lines.now)
+        → GivesFrom (lines_left versions (record cursor { place = place })) (lines_left versions (record cursor { place = to })) (rows_of lines.old.items) (rows_of lines.new.items)) }
+    ensures count { IfOk result (λ to. vec_len lines.new ≡ vec_len lines.old + min most (length from.now.lines.now)) }
+    ensures goes_on { IfOk result (λ to. 0 < most → (place.given < from.now.all → 0 < length from.now.lines.now) → GoesOn place to most (vec_len lines.old) (vec_len lines.new)) }
+{
+    let part = &from.lines[..most.min(from.lines.len())];
+    push_copies(part, lines)?;
+    Ok(place_after(place, part.len(), from.all))
+}
+
+/// Evaluates a route and appends its lines from a place on, no more than are wanted. Lines after them are kept in place of others.
+/// Answers the place after those that were appended.
+fn push_formed<V: Versions>(
+    alloc: Global,
+    store: &mut V,
+    cursor: &Cursor,
+    stop: &Stop<'_>,
+    kept: &mut Option<KeptLines>,
+    lines: &mut Vec<String>,
+) -> Result<Place, Refusal>
+    requires next { stop.now.place.route + 1 < 2 ^ 32 }
+    requires some { 0 < stop.now.most }
+    ensures gives { IfOk result (λ to. (versions : ℕ → SeenVersion) → V.shows store.old cursor.now.version (versions cursor.now.version)
+        → LiesOnRoutes (versions cursor.now.version) cursor.now.plan → IsRouteAt (versions cursor.now.version) stop.now.place.route stop.now.named.now
+        → GivesFrom (lines_left versions (record cursor.now { place = stop.now.place })) (lines_left versions (record cursor.now { place = to })) (rows_of lines.old.items) (rows_of lines.new.items)) }
+    ensures keeps { (shown : SeenVersion) → V.shows store.old cursor.now.version shown → LiesOnRoutes shown cursor.now.plan → IsRouteAt shown stop.now.place.route stop.now.named.now
+        → IfSome kept.new (AreKept shown cursor.now.plan cursor.now.method) }
+    ensures goes_on { IfOk result (λ to. GoesOn stop.now.place to stop.now.most (vec_len lines.old) (vec_len lines.new)) }
+    ensures ends { EndsWith V.Source store.old store.new result }
+{
+    *kept = None;
     let asked = PlanAt {
         plan: &cursor.plan,
         method: cursor.method,
         version: cursor.version,
     };
-    let wanted = rows as usize;
-    let mut lines = Vec::new(alloc);
-    let mut place = cursor.place;
-    while place.route < count && lines.len() < wanted {
-        let portion = Portion {
-            skip: place.given as usize,
-            most: wanted - lines.len(),
-        };
-        let named = &routes[place.route as usize];
-        let all = push_route_lines(alloc, store, &asked, named, portion, &mut lines)?;
-        place = place_after(place, portion.most, all);
+    let portion = Portion {
+        skip: stop.place.given as usize,
+        most: stop.most,
+        ahead: KEPT_BYTES,
+    };
+    let rest = push_route_lines(alloc, store, &asked, stop.named, portion, lines)?;
+    let all = rest.all as u64;
+    let to = place_after(stop.place, stop.most, all);
+    if to.route == stop.place.route {
+        *kept = Some(KeptLines {
+            route: to.route,
+            first: to.given,
+            all,
+            lines: rest.ahead,
+        });
     }
-    Ok(NextLines { lines, place })
+    Ok(to)
 }
 
 /// How many routes there are, or 4,294,967,295 where there are more: a store shows far fewer.
@@ -68,12 +199,12 @@ fn count_of(routes: &[NamedRoute]) -> u32
 }
 
 /// The place after at most so many lines more of its route, which has so many in all.
-fn place_after(place: Place, most: usize, all: usize) -> Place
-    requires { place.route + 1 < 2 ^ 32 }
+fn place_after(place: Place, most: usize, all: u64) -> Place
+    requires { all ≤ place.given + most → place.route + 1 < 2 ^ 32 }
     ensures stays { place.given + most < all → result ≡ record place { given = place.given + most } }
     ensures moves_on { all ≤ place.given + most → result ≡ record { route = place.route + 1; given = place.given - all } }
 {
-    let left = (all as u64).saturating_sub(place.given);
+    let left = all.saturating_sub(place.given);
     if (most as u64) < left {
         Place {
             route: place.route,
@@ -82,7 +213,7 @@ fn place_after(place: Place, most: usize, all: usize) -> Place
     } else {
         Place {
             route: place.route + 1,
-            given: place.given.saturating_sub(all as u64),
+            given: place.given.saturating_sub(all),
         }
     }
 }

@@ -1,11 +1,10 @@
-use Rattle.std.proofs.Common.{inl, inr, arith}
+use Rattle.std.proofs.Common.{ℕ, inl, inr, arith}
 use Rattle.std.proofs.lemmas.List.{length-map}
 use Rattle.std.specs.FinMap as names
 use Rattle.std.specs.Prelude.{string_bytes}
-use Rattle.rs_answers.proofs.NamedRoutes.{route-there}
-use Rattle.rs_answers.specs.Routes.{entry_of}
 use Rattle.rs_answers.specs.Versions.{lines_seen_on}
-use Rattle.rs_cursor.proofs.NextLines.{lines-given, lines-left, lines-more, lines-step, lines_from, listed-at}
+use Rattle.rs_cursor.proofs.NextLines.{lines-given, lines-left, lines-more, lines_from}
+use Rattle.rs_cursor.proofs.Steps.{route-at}
 use Rattle.rs_cursor.proofs.next_lines.next_lines.Goals as goal
 use Rattle.rs_cursor.proofs.next_lines.next_lines.Goals.{then-loop-place-test+else-len-wanted, else-loop-place-test}
 use Rattle.rs_serve.specs.ReplyView.{rows_of}
@@ -13,39 +12,49 @@ use Rattle.rs_serve.specs.ReplyView.{rows_of}
 pub loop-place-preserved : goal.loop-place-preserved
 loop-place-preserved g c =
     let before = c.loop-place.invariant in
+    let after = c.in_ok-place.ensures in
     let store = c.args.store.now in
     let cursor = c.args.cursor.now in
     let place = c.loop-place.place in
     let routes = c.in_ok-routes.routes.items in
-    let named = c.index-named.result.now in
+    let named = c.index.result.now in
     record {
       leaves = record {
-        stands = λ snapshots there. c.in_ok-all.ensures.ends.leaves.stands snapshots (before.leaves.stands snapshots there);
-        passes = g.met.V.Source.passes_trans store c.loop-place.store c.push_route_lines.new.source before.leaves.passes c.in_ok-all.ensures.ends.leaves.passes;
+        stands = λ snapshots there. after.ends.leaves.stands snapshots (before.leaves.stands snapshots there);
+        passes = g.met.V.Source.passes_trans store c.loop-place.store c.push_lines.new.store before.leaves.passes after.ends.leaves.passes;
       };
-      few = omega (arith, c.in_ok-all.ensures.count);
-      parted = λ shown shows lies.
+      few = omega (arith, after.goes_on.no_more);
+      parted = λ shown shows lies kept.
           let entries = names.entries shown.routes in
           let each = lines_seen_on shown cursor.plan cursor.method in
-          let listed = c.in_ok-routes.ensures.shown shown shows in
-          let at = listed-at routes entries place.route named listed (omega arith) c.index-named.ensures in
           let now = g.met.V.Versions.shows_stay store c.loop-place.store before.leaves.passes cursor.version shown shows in
-          let gives = c.in_ok-all.ensures.gives shown now lies (route-there shown.routes routes place.route named (omega arith) c.index-named.ensures listed) in
-          lines-more (lines_from each entries cursor.place) (rows_of c.loop-place.lines.items) _ (rows_of c.push_route_lines.new.rows.items) (lines_from each entries place) (lines_from each entries c.place_after-place.result)
-          (before.parted shown shows lies)
-          (lines-step each entries place (entry_of named) at.0 at.1 _ _ c.place_after-place.result gives.counts c.place_after-place.ensures.stays c.place_after-place.ensures.moves_on)
-          gives.gives;
+          let at = route-at shown routes place.route named (c.in_ok-routes.ensures.shown shown shows) (omega arith) c.index.ensures in
+          let gives = after.gives (λ (version : ℕ). shown) now lies at (before.keeps shown shows lies kept) in
+          lines-more (lines_from each entries cursor.place) (rows_of c.loop-place.lines.items) gives.given (rows_of c.push_lines.new.lines.items) (lines_from each entries place)
+          (lines_from each entries c.in_ok-place.place) (before.parted shown shows lies kept) gives.parts gives.gives;
+      keeps = λ shown shows lies kept.
+          let now = g.met.V.Versions.shows_stay store c.loop-place.store before.leaves.passes cursor.version shown shows in
+          let at = route-at shown routes place.route named (c.in_ok-routes.ensures.shown shown shows) (omega arith) c.index.ensures in
+          after.keeps shown now lies at (before.keeps shown shows lies kept);
     }
 
+pub returns-in_err-place-clause-keeps : goal.returns-in_err-place-clause-keeps
+returns-in_err-place-clause-keeps g c = λ shown shows lies kept.
+    let before = c.loop-place.invariant in
+    let place = c.loop-place.place in
+    let now = g.met.V.Versions.shows_stay c.args.store.now c.loop-place.store before.leaves.passes c.args.cursor.now.version shown shows in
+    let at = route-at shown c.in_ok-routes.routes.items place.route c.index.result.now (c.in_ok-routes.ensures.shown shown shows) (omega arith) c.index.ensures in
+    c.in_err-place.ensures.keeps shown now lies at (before.keeps shown shows lies kept)
+
 pub returns-clause-given : goal.returns-clause-given
-returns-clause-given g c = λ versions shows lies.
+returns-clause-given g c = λ versions shows lies kept.
     let cursor = c.args.cursor.now in
     let shown = versions cursor.version in
     let lines = c.loop-place.lines in
     let before = c.loop-place.invariant in
     let counted = length-map lines.items string_bytes in
     lines-given (lines_seen_on shown cursor.plan cursor.method) c.in_ok-routes.routes.items shown.routes (c.in_ok-routes.ensures.shown shown shows) (g.met.V.Versions.shows_few c.args.store.now cursor.version shown shows)
-    c.count_of-count.result (omega (arith, c.count_of-count.ensures, c.in_ok-routes.routes.ok.0)) cursor.place c.loop-place.place (rows_of lines.items) (before.parted shown shows lies)
+    c.count_of-count.result (omega (arith, c.count_of-count.ensures, c.in_ok-routes.routes.ok.0)) cursor.place c.loop-place.place (rows_of lines.items) (before.parted shown shows lies kept)
     c.args.rows (omega (arith, counted, lines.ok.0, before.few))
     (elim c.loop-place-test.branch [
       | then-loop-place-test+else-len-wanted w ↦ inl (omega (arith, counted, lines.ok.0))
@@ -53,14 +62,14 @@ returns-clause-given g c = λ versions shows lies.
     ])
 
 pub returns-clause-left : goal.returns-clause-left
-returns-clause-left g c = λ versions shows lies.
+returns-clause-left g c = λ versions shows lies kept.
     let cursor = c.args.cursor.now in
     let shown = versions cursor.version in
     let lines = c.loop-place.lines in
     let before = c.loop-place.invariant in
     let counted = length-map lines.items string_bytes in
     lines-left (lines_seen_on shown cursor.plan cursor.method) c.in_ok-routes.routes.items shown.routes (c.in_ok-routes.ensures.shown shown shows) (g.met.V.Versions.shows_few c.args.store.now cursor.version shown shows)
-    c.count_of-count.result (omega (arith, c.count_of-count.ensures, c.in_ok-routes.routes.ok.0)) cursor.place c.loop-place.place (rows_of lines.items) (before.parted shown shows lies)
+    c.count_of-count.result (omega (arith, c.count_of-count.ensures, c.in_ok-routes.routes.ok.0)) cursor.place c.loop-place.place (rows_of lines.items) (before.parted shown shows lies kept)
     c.args.rows (omega (arith, counted, lines.ok.0, before.few))
     (elim c.loop-place-test.branch [
       | then-loop-place-test+else-len-wanted w ↦ inl (omega (arith, counted, lines.ok.0))

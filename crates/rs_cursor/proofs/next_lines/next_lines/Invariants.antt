@@ -1,8 +1,10 @@
 use Rattle.std.proofs.Common.{◌≡◌, ◌+◌, ◌-◌, ◌≤◌, ◌++◌, vec_len}
 use Rattle.std.specs.FinMap as names
+use Rattle.std.specs.Prelude.{IfSome}
 use Rattle.rs_answers.specs.Versions.{LiesOnRoutes, SeenVersion, lines_seen_on}
 use Rattle.rs_cursor.proofs.NextLines.{lines_from}
 use Rattle.rs_cursor.proofs.next_lines.next_lines.Given as goal
+use Rattle.rs_cursor.specs.Kept.{AreKept}
 use Rattle.rs_exec.specs.Leaving.{LeavesBehind}
 use Rattle.rs_serve.specs.ReplyView.{rows_of}
 
@@ -10,9 +12,11 @@ abbrev pub invariant-loop-place : goal.invariant-loop-place
 invariant-loop-place g l = record {
   leaves : LeavesBehind g.V.Source l.fn.store l.store;
   few : vec_len l.lines ≤ l.wanted;
-  parted : (shown : SeenVersion) → g.V.Versions.shows l.fn.store l.cursor.version shown → LiesOnRoutes shown l.cursor.plan
+  parted : (shown : SeenVersion) → g.V.Versions.shows l.fn.store l.cursor.version shown → LiesOnRoutes shown l.cursor.plan → IfSome l.fn.kept (AreKept shown l.cursor.plan l.cursor.method)
       → lines_from (lines_seen_on shown l.cursor.plan l.cursor.method) (names.entries shown.routes) l.cursor.place
       ≡ rows_of l.lines.items ++ lines_from (lines_seen_on shown l.cursor.plan l.cursor.method) (names.entries shown.routes) l.place;
+  keeps : (shown : SeenVersion) → g.V.Versions.shows l.fn.store l.cursor.version shown → LiesOnRoutes shown l.cursor.plan → IfSome l.fn.kept (AreKept shown l.cursor.plan l.cursor.method)
+      → IfSome l.kept (AreKept shown l.cursor.plan l.cursor.method);
 }
 
 abbrev pub decreases-loop-place : goal.decreases-loop-place

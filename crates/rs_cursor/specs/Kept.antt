@@ -1,0 +1,51 @@
+-- Lines of a cursor's route that are kept, and lines that are given from one place to another.
+use Rattle.std.specs.Prelude.{◌≡◌, ◌+◌, ◌++◌, ◌<◌, ◌≤◌, ℕ, List, Some, drop, length, take}
+use Rattle.std.specs.FinMap as maps
+use Rattle.std.specs.List.{slice_get}
+use Rattle.rs_answers.specs.Portions.{IsStart}
+use Rattle.rs_answers.specs.Routes.{entry_of}
+use Rattle.rs_answers.specs.Versions.{SeenVersion, lines_seen_on}
+use Rattle.rs_answers.specs.declared.routes.NamedRoute.{NamedRoute}
+use Rattle.rs_catalog.specs.Definitions.{RouteItem}
+use Rattle.rs_cursor.specs.declared.kept.KeptLines.{KeptLines}
+use Rattle.rs_cursor.specs.declared.place.Place.{Place}
+use Rattle.rs_facts.specs.Fact.{Name}
+use Rattle.rs_machine.specs.State.{RowText}
+use Rattle.rs_methods.specs.declared.position.Method.{Method}
+use Rattle.rs_plan.specs.declared.plan.Plan.{Plan}
+use Rattle.rs_serve.specs.ReplyView.{rows_of}
+
+-- the version shows a route at the place, of which the plan has so many lines in all, and from the place on these, as far as they go
+pub record AreLinesAt (seen : SeenVersion) (plan : Plan) (method : Method) (place : Place) (all : ℕ) (lines : List RowText) : Type 0 where
+  pub route : Name × RouteItem
+  pub there : slice_get (maps.entries seen.routes) place.route ≡ Some route
+  pub counts : all ≡ length (lines_seen_on seen plan method route)
+  pub starts : IsStart lines (drop place.given (lines_seen_on seen plan method route))
+
+-- what is kept is so: of a cursor it depends on the plan, the method and the version, and not on the place
+abbrev pub AreKept : SeenVersion → Plan → Method → KeptLines → Type 0
+AreKept seen plan method kept = AreLinesAt seen plan method (record { route = kept.route; given = kept.first }) kept.all (rows_of kept.lines.items)
+
+-- the version shows this route, and in the order of names it is the one of this number
+pub record IsRouteAt (seen : SeenVersion) (number : ℕ) (named : NamedRoute) : Type 0 where
+  pub there : slice_get (maps.entries seen.routes) number ≡ Some (entry_of named)
+  pub shown : maps.get seen.routes named.name.bytes ≡ Some named.route
+
+-- lines are appended, and of those that were left the others are left
+pub record GivesFrom (left after old new : List RowText) : Type 0 where
+  pub given : List RowText
+  pub parts : left ≡ given ++ after
+  pub gives : new ≡ old ++ given
+
+-- so many lines of those that were left are given, or all, and the others are left
+pub record GivesNext (wanted : ℕ) (left given after : List RowText) : Type 0 where
+  pub gives : given ≡ take wanted left
+  pub others : after ≡ drop wanted left
+
+-- the place goes on by a route or there are more lines, but no more than are wanted
+pub record GoesOn (from to : Place) (most old new : ℕ) : Type 0 where
+  pub no_way_back : from.route ≤ to.route
+  pub no_route_skipped : to.route ≤ from.route + 1
+  pub no_fewer : old ≤ new
+  pub no_more : new ≤ old + most
+  pub goes : from.route + old < to.route + new

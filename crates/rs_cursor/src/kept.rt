@@ -1,0 +1,24 @@
+//! Lines of a cursor's route that were formed ahead.
+//!
+//! Nothing rests on them: without them they are formed again.
+
+ghost use Rattle.std.specs.Prelude.{◌≤◌};
+ghost use Rattle.rs_answers.specs.Portions.{room_of};
+ghost use Rattle.rs_cursor.specs.declared.kept.TheConstants.{KEPT_BYTES};
+
+/// How many bytes lines that are formed ahead may take.
+pub const KEPT_BYTES: usize = 16_777_216;
+
+/// Lines of one route of a cursor that were formed and are still to be given. Nothing rests on them: without them they are formed again.
+#[derive(Drop)]
+pub struct KeptLines {
+    /// The route, counted from 0 among those that the cursor's version sees, by name.
+    pub route: u32,
+    /// How many lines of the route come before them.
+    pub first: u64,
+    /// How many lines the route has.
+    pub all: u64,
+    /// The lines.
+    pub lines: Vec<String>,
+    ghost fits: { room_of lines.items ≤ KEPT_BYTES },
+}
