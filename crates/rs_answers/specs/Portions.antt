@@ -12,11 +12,11 @@ use Rattle.rs_answers.specs.Versions.{SeenVersion, position_seen}
 use Rattle.rs_answers.specs.declared.route_lines.Portion.{Portion}
 use Rattle.rs_answers.specs.declared.route_lines.RouteRest.{RouteRest}
 use Rattle.rs_answers.specs.declared.routes.NamedRoute.{NamedRoute}
-use Rattle.rs_answers.specs.declared.row_text.TheConstants.{LINE_BYTES}
+use Rattle.rs_answers.specs.declared.row_text.TheConstants.{LINE_OVERHEAD}
 
 -- how many bytes lines take: the room of each one's text, and its own in a list
 abbrev pub room_of : {A : Type 0} → List (String A) → ℕ
-room_of lines = sum_by (λ line. string_capacity line + LINE_BYTES) lines
+room_of lines = sum_by (λ line. string_capacity line + LINE_OVERHEAD) lines
 
 -- the lines of runs of a route, where a place beside the route is printed as the nearest one on it
 abbrev pub lines_printed : SeenVersion → Plan → Method → NamedRoute → List Stretch → List RowText

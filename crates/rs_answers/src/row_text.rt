@@ -14,8 +14,9 @@ use rs_facts::Span;
 use rs_value::{Kind, push_values};
 use std::alloc::{AllocError, Global};
 
-/// How many bytes a line takes beside its text: its pointer, length and capacity, twice since a list that grows has up to twice the room.
-pub const LINE_BYTES: usize = 48;
+/// How many bytes a line of a list takes beside its text: a pointer, a length and a capacity, twice, since a list that grows has up to
+/// twice the room that it needs.
+pub const LINE_OVERHEAD: usize = 48;
 
 /// The room that a line is given at first, in bytes; it takes more where it needs more.
 const LINE_ROOM: usize = 48;
@@ -51,7 +52,7 @@ pub(crate) fn lines_within(
     let mut left = room;
     for run in runs {
         let text = line_text(alloc, kind, printer, run)?;
-        let takes = text.capacity() + LINE_BYTES;
+        let takes = text.capacity() + LINE_OVERHEAD;
         if left < takes {
             break;
         }

@@ -38,7 +38,7 @@ pub record GivesFrom (left after old new : List RowText) : Type 0 where
   pub gives : new ≡ old ++ given
 
 -- so many lines of those that were left are given, or all, and the others are left
-pub record GivesNext (wanted : ℕ) (left given after : List RowText) : Type 0 where
+pub record GivesWanted (wanted : ℕ) (left given after : List RowText) : Type 0 where
   pub gives : given ≡ take wanted left
   pub others : after ≡ drop wanted left
 

@@ -2,7 +2,7 @@
 //!
 //! Nothing rests on them: without them they are formed again.
 
-ghost use Rattle.std.specs.Prelude.{◌≤◌};
+ghost use Rattle.std.specs.Prelude.{◌≤◌, ◌+◌, ◌^◌, string_capacity, sum_by};
 ghost use Rattle.rs_answers.specs.Portions.{room_of};
 ghost use Rattle.rs_cursor.specs.declared.kept.TheConstants.{KEPT_BYTES};
 
@@ -22,3 +22,8 @@ pub struct KeptLines {
     pub lines: Vec<String>,
     ghost fits: { room_of lines.items ≤ KEPT_BYTES },
 }
+
+/// Lines that are kept take no more than 16 megabytes: the room of each text, and 48 bytes beside it.
+pub fn kept_lines_take_at_most_16_megabytes(kept: &KeptLines)
+    ensures { sum_by (λ line. string_capacity line + 48) kept.now.lines.items ≤ 2 ^ 24 }
+{}

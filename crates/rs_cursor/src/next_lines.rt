@@ -6,7 +6,7 @@
 ghost use Rattle.std.specs.Prelude.{◌≡◌, ◌+◌, ◌-◌, ◌<◌, ◌≤◌, ◌^◌, ℕ, drop, length, min, take, IfOk, IfSome, vec_len};
 ghost use Rattle.rs_answers.specs.Versions.{LiesOnRoutes, SeenVersion};
 ghost use Rattle.rs_cursor.specs.Held.{lines_left};
-ghost use Rattle.rs_cursor.specs.Kept.{AreKept, AreLinesAt, GivesFrom, GivesNext, GoesOn, IsRouteAt};
+ghost use Rattle.rs_cursor.specs.Kept.{AreKept, AreLinesAt, GivesFrom, GivesWanted, GoesOn, IsRouteAt};
 ghost use Rattle.rs_cursor.specs.declared.cursor.Cursor.{Cursor};
 ghost use Rattle.rs_exec.specs.Leaving.{EndsWith};
 ghost use Rattle.rs_serve.specs.ReplyView.{rows_of};
@@ -75,7 +75,7 @@ fn kept_lines(
     wanted: usize,
 ) -> Result<Option<NextLines>, AllocError>
     ensures { IfOk result (λ some. IfSome some (λ next. (versions : ℕ → SeenVersion) → IfSome kept.now (AreKept (versions cursor.now.version) cursor.now.plan cursor.now.method)
-        → GivesNext wanted (lines_left versions cursor.now) (rows_of next.lines.items) (lines_left versions (record cursor.now { place = next.place })))) }
+        → GivesWanted wanted (lines_left versions cursor.now) (rows_of next.lines.items) (lines_left versions (record cursor.now { place = next.place })))) }
 {
     let place = cursor.place;
     if let Some(from) = kept_at(kept, place) {
