@@ -8,14 +8,15 @@ use Rattle.rs_checker.specs.CheckedView.{named_in}
 use Rattle.rs_checker.specs.Checks.{IsChecked}
 use Rattle.rs_checker.specs.Numbers.{AreNumberedIn}
 use Rattle.rs_checker.specs.declared.checked.Checked.{Checked}
-use Rattle.rs_command_checks.specs.States.{state_by}
+use Rattle.rs_command_checks.specs.States.{Unseen, state_by}
 use Rattle.rs_command_checks.specs.declared.checks.Checks.{Checks}
 use Rattle.rs_disk.specs.declared.disk.Disk as disk
 use Rattle.rs_facts.specs.Fact.{Name}
 use Rattle.rs_facts.specs.Query.{Query}
 use Rattle.rs_facts.specs.Runs.{Stretch}
 use Rattle.rs_engine.specs.Kept.{AreChecksOf, EngineState, IsMachine}
-use Rattle.rs_engine.proofs.Machines.{StoresState, checked_state, spans_of}
+use Rattle.rs_engine.specs.Laws.{StoreLaws}
+use Rattle.rs_engine.proofs.Machines.{checked_state, unseen_of}
 use Rattle.rs_machine.specs.Checking.{checked}
 use Rattle.rs_machine.specs.Checks.{◌>>=◌}
 use Rattle.rs_machine.specs.Served.{Machine}
@@ -27,20 +28,24 @@ use Rattle.rs_refusal.specs.declared.refusal.Refusal.{Refusal}
 use Rattle.rs_syntax.specs.Tree.{QueryTree}
 
 -- what is so whatever spans tables have is so of the machine's state
-pub on_machine : {D : Type 0} (d : disk.Ghosts D) → StoresState d → (engine : EngineState D) (checks : Checks) → AreChecksOf engine checks → (P : State → Type 0)
-    → ((spans : ℕ → ℕ → List Stretch) → P (state_by checks spans)) → (machine : Machine) → IsMachine d engine machine → P machine.state
-on_machine d states engine checks are P each machine is = subst P (sym (checked_state d states engine checks machine is are)) (each (spans_of d engine machine is))
+pub on_machine : {D : Type 0} (d : disk.Ghosts D) → StoreLaws d → (engine : EngineState D) (checks : Checks) → AreChecksOf engine checks → (P : State → Type 0)
+    → ((unseen : Unseen) → P (state_by checks unseen)) → (machine : Machine) → IsMachine d engine machine → P machine.state
+on_machine d laws engine checks are P each machine is = subst P (sym (checked_state d laws engine checks machine is are)) (each (unseen_of d engine machine is))
+
+-- tables have these spans, and no cursor has a line
+abbrev unseen_with : (ℕ → ℕ → List Stretch) → Unseen
+unseen_with spans = record { spans = spans; lines = λ cursor. [] }
 
 -- a query that was checked can be planned
 pub can_be_planned : {D : Type 0} (engine : EngineState D) (checks : Checks) → AreChecksOf engine checks → (tree : QueryTree) (result : Result Checked Refusal)
-    → ((spans : ℕ → ℕ → List Stretch) → IfOk result (IsChecked (state_by checks spans) tree)) → IfOk result (λ made. AreNumberedIn checks.catalog.now (named_in made.query))
+    → ((unseen : Unseen) → IfOk result (IsChecked (state_by checks unseen) tree)) → IfOk result (λ made. AreNumberedIn checks.catalog.now (named_in made.query))
     → IfOk result (CanBePlanned engine.store.catalog)
 can_be_planned engine checks are tree (Ok made) is numbers =
     subst (λ (definitions : Definitions). CanBePlanned definitions made) are.catalog (record {
-      well_formed = λ spans. (is spans).well_formed;
-      named = λ spans. (is spans).named;
-      few = (is (λ table route. [])).few;
-      kind = λ spans. (is spans).kind;
+      well_formed = λ spans. (is (unseen_with spans)).well_formed;
+      named = λ spans. (is (unseen_with spans)).named;
+      few = (is (unseen_with (λ table route. []))).few;
+      kind = λ spans. (is (unseen_with spans)).kind;
       numbers = numbers;
     })
 can_be_planned engine checks are tree (Err why) is numbers = tt

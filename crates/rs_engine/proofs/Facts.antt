@@ -10,17 +10,18 @@ use Rattle.rs_disk.specs.declared.disk.Disk as disk
 use Rattle.rs_facts.specs.Fact.{Name}
 use Rattle.rs_facts.specs.Query.{RouteEnds}
 use Rattle.rs_engine.specs.Kept.{EngineState, IsMachine, with_cursors}
-use Rattle.rs_engine.proofs.Machines.{StoresState}
+use Rattle.rs_engine.specs.Laws.{StoreLaws}
+use Rattle.rs_engine.proofs.Machines.{cursors_in}
 use Rattle.rs_machine.specs.Served.{Machine}
 use Rattle.rs_machine.specs.State.{State}
 use Rattle.rs_machine.specs.Step.{has_fact_on, some_table}
 use Rattle.rs_refusal.specs.declared.refusal.Refusal.{Refusal}
 use Rattle.rs_store_reads.specs.Reads.{SaysFactsOn}
 
-module _ {D : Type 0} (d : disk.Ghosts D) (states : StoresState d) (engine : EngineState D) (machine : Machine) (is : IsMachine d engine machine) (name : Name) where
+module _ {D : Type 0} (d : disk.Ghosts D) (laws : StoreLaws d) (engine : EngineState D) (machine : Machine) (is : IsMachine d engine machine) (name : Name) where
   -- the machine's route of the name is that of the catalogue
   route_of : names.get machine.state.routes name ≡ option_map (λ (item : RouteItem). item.ends) (names.get engine.store.catalog.routes name)
-  route_of = ap (λ (state : State). names.get state.routes name) (is.is ∙ ap (with_cursors engine.cursors) (states engine.store.file.accepted engine.store is.state is.stands))
+  route_of = ap (λ (state : State). names.get state.routes name) (is.is ∙ ap (with_cursors (cursors_in d engine machine is)) (laws.state engine.oldest engine.store is.state is.stands))
       ∙ get-routes_of engine.store.catalog name
 
   -- nothing is to be told of a route that is not there
@@ -35,7 +36,7 @@ module _ {D : Type 0} (d : disk.Ghosts D) (states : StoresState d) (engine : Eng
       let same : item.ends ≡ ends = cc (at, there) in
       subst (λ (e : RouteEnds). answer ≡ some_table machine.state (has_fact_on name e)) same
       (subst (λ (state : State). answer ≡ some_table state (has_fact_on name item.ends)) (sym is.is)
-      (says.each engine.store.file.accepted is.state is.stands name item known refl))
+      (says.each engine.oldest is.state is.stands name item known refl))
 
   -- what the store says is so of the machine
   pub told_result : (item : RouteItem) → names.get engine.store.catalog.routes name ≡ Some item → (number : ℕ) → number ≡ item.number → (result : Result Bool Refusal)

@@ -1,8 +1,12 @@
 pub mod AfterReads
+pub mod Aheads
 pub mod Columns
 pub mod Facts
 pub mod Filing
 pub mod Machines
+pub mod Nobody
+pub mod SeenLater
+pub mod Waiting
 pub mod Naming
 pub mod Replying
 pub mod Stepping
@@ -12,3 +16,4 @@ pub mod Checking
 pub mod CursorSteps
 pub mod Tables
 pub mod Saving
+pub mod Wanting

@@ -1,22 +1,25 @@
 -- The state that an engine stands for as a source, and what its plans are chosen by.
-use Rattle.std.proofs.Common.{◌≡◌, ◌∙◌, ℕ, List, Some, ap, sym}
+use Rattle.std.proofs.Common.{◌≡◌, ◌∙◌, ℕ, List, Some, ap, arith, subst, sym}
 use Rattle.std.specs.FinMap as names
 use Rattle.rs_answers.specs.Counts.{AreCounted}
-use Rattle.rs_answers.specs.Present.{IsDefinedBy}
+use Rattle.rs_answers.specs.Present.{IsDefinedBy, IsPresent}
 use Rattle.rs_catalog.specs.Definitions.{RouteItem, TableItem}
 use Rattle.rs_catalog.specs.Referents.{referents_on}
-use Rattle.rs_cursor.specs.Held.{cursors_of}
 use Rattle.rs_disk.specs.declared.disk.Disk as disk
 use Rattle.rs_exec.specs.Snapshot.{Snapshots}
 use Rattle.rs_facts.specs.Fact.{Name, Names}
 use Rattle.rs_facts.specs.Query.{facts_of}
-use Rattle.rs_engine.specs.Kept.{EngineState, IsMachine, with_cursors}
-use Rattle.rs_engine.specs.Reads.{StandsNow, counted_of}
-use Rattle.rs_engine.proofs.Machines.{StoresState, spans_of}
+use Rattle.rs_engine.specs.Kept.{EngineState, IsMachine, seen_at, with_cursors}
+use Rattle.rs_engine.specs.Laws.{StoreLaws}
+use Rattle.rs_engine.specs.Living.{shown_live, tables_same}
+use Rattle.rs_engine.specs.Reads.{IsSeenNow, StandsNow, counted_of}
+use Rattle.rs_engine.proofs.Machines.{cursors_in, spans_of}
 use Rattle.rs_machine.specs.Served.{Machine}
 use Rattle.rs_machine.specs.State.{State, world_of}
 use Rattle.rs_plan.specs.declared.counts.Index.{Index}
 use Rattle.rs_planning.specs.Basis.{IndexedColumn, present_basis, runs_counted}
+use Rattle.rs_standing.specs.Seen.{born_by, referents_seen}
+use Rattle.rs_standing.specs.States.{routes_named}
 use Rattle.rs_store.specs.Kept.{StandsIn, StoreState}
 use Rattle.rs_store.specs.Reading.{living_of}
 use Rattle.rs_store_reads.specs.Shown.{Shows, numbered_as, shown_from}
@@ -41,33 +44,56 @@ module _ {D : Type 0} (d : disk.Ghosts D) where
       → (name : Name) (item : TableItem) → names.get store.catalog.tables name ≡ Some item → (indexes : Names IndexedColumn)
       → (present_basis (world_of state) indexes).record_count name ≡ living_of store.file item.number
 
-  module _ (states : StoresState d) (engine : EngineState D) (machine : Machine) (is : IsMachine d engine machine) where
+  module _ (laws : StoreLaws d) (engine : EngineState D) (machine : Machine) (is : IsMachine d engine machine) where
     -- the machine's state is that of what is in memory
     pub defined : IsDefinedBy engine.store.catalog (referents_on engine.store.referents) machine.state
     defined = record {
       spans = spans_of d engine machine is;
-      rest = record { changes = engine.store.file.accepted; cursors = cursors_of engine.cursors };
-      made = is.is ∙ ap (with_cursors engine.cursors) (states engine.store.file.accepted engine.store is.state is.stands);
+      rest = record { changes = engine.store.file.accepted; cursors = cursors_in d engine machine is };
+      made = is.is ∙ ap (with_cursors (cursors_in d engine machine is)) (laws.state engine.oldest engine.store is.state is.stands);
     }
 
-    -- the engine stands for it at the version that was accepted last
-    pub stands_at : StandsOnce → ShowsState → ShowsFacts → StandsNow d engine machine.state
-    stands_at once shown facts =
-        let accepted = engine.store.file.accepted in
-        let shows = shown accepted engine.store is.state is.stands in
+    -- what is shown at the version that was accepted last is the present of the state
+    pub present_at : StandsOnce → ShowsState → ShowsFacts
+        → IsPresent engine.store.catalog engine.store.referents machine.state (shown_from engine.store.catalog is.stands.contents engine.oldest engine.store.file.accepted engine.store.file.accepted)
+    present_at once shown facts =
+        let snapshots = shown_from engine.store.catalog is.stands.contents engine.oldest engine.store.file.accepted in
+        let shows = shown engine.oldest engine.store is.state is.stands in
         record {
-          snapshots = shown_from engine.store.catalog is.stands.contents accepted accepted;
-          is = shows;
-          present = record {
-            defined = defined;
-            rows = record {
-              rows = λ name item there route on at k.
-                  facts accepted engine.store (shown_from engine.store.catalog is.stands.contents accepted accepted) shows name item there route on at k
-                  ∙ ap (λ (state : State). facts_of (names.get state.tables name) route k) (once accepted accepted engine.store shows.state is.state shows.stands is.stands)
-                  ∙ sym (ap (λ (state : State). facts_of (names.get state.tables name) route k) is.is);
-            };
-            lawful = is.lawful;
+          defined = defined;
+          rows = record {
+            rows = λ name item there route on at k.
+                facts engine.oldest engine.store snapshots shows name item there route on at k
+                ∙ ap (λ (state : State). facts_of (names.get state.tables name) route k) (once engine.oldest engine.oldest engine.store shows.state is.state shows.stands is.stands)
+                ∙ sym (ap (λ (state : State). facts_of (names.get state.tables name) route k) is.is);
           };
+          lawful = is.lawful;
+        }
+
+    -- the engine stands for it there
+    pub stands_at : StandsOnce → ShowsState → ShowsFacts → StandsNow d engine machine.state
+    stands_at once shown facts = record {
+      snapshots = shown_from engine.store.catalog is.stands.contents engine.oldest engine.store.file.accepted;
+      shows = shown engine.oldest engine.store is.state is.stands;
+      present = present_at once shown facts;
+    }
+
+    -- and so it is seen by that version
+    pub seen_now : StandsOnce → ShowsState → ShowsFacts → IsSeenNow engine machine.state (seen_at is.stands.contents engine.store.file.accepted)
+    seen_now once shown facts =
+        let contents = is.stands.contents in
+        let accepted = engine.store.file.accepted in
+        let memory = is.stands.keeps.memory in
+        let same : contents.directory.accepted ≡ accepted = is.stands.keeps.opened.accepted in
+        record {
+          defined = record {
+            routes = ap (λ (version : ℕ). routes_named (born_by version contents.definitions.routes)) (sym same) ∙ sym memory.catalog.routes;
+            referents = λ number. ap (λ (version : ℕ). referents_seen contents version number) (sym same) ∙ sym (memory.referents number);
+          };
+          present = subst (IsPresent engine.store.catalog engine.store.referents machine.state)
+              (shown_live engine.store.catalog contents engine.oldest accepted accepted (omega (arith, is.stands.live, same)) (omega arith)
+              ∙ tables_same engine.store.catalog contents memory.catalog.tables accepted)
+              (present_at once shown facts);
         }
 
     -- its plans are chosen by the runs of its tables
@@ -76,6 +102,6 @@ module _ {D : Type 0} (d : disk.Ghosts D) where
       referents = referents_on engine.store.referents;
       defined = defined;
       records = λ name item there.
-          sym (counts engine.store.file.accepted engine.store is.state is.stands name item there names.empty)
+          sym (counts engine.oldest engine.store is.state is.stands name item there names.empty)
           ∙ sym (ap (λ (state : State). runs_counted (world_of state) name) is.is);
     }

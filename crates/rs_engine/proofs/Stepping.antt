@@ -1,16 +1,16 @@
 -- A change of the state: its step is taken beside the cursors, and the machine's step is lawful.
-use Rattle.std.proofs.Common.{◌≡◌, ◌∙◌, ◌<◌, ◌≤◌, ◌+◌, ◌⊎◌, ℕ, List, Result, Ok, Err, [], ap, inl, inr, refl, subst, sym, arith}
-use Rattle.rs_command_checks.specs.States.{state_by}
+use Rattle.std.proofs.Common.{◌≡◌, ◌∙◌, ◌<◌, ◌≤◌, ◌+◌, ◌⊎◌, ℕ, Result, Ok, Err, [], ap, false, inl, inr, refl, subst, sym, arith}
+use Rattle.rs_command_checks.specs.States.{Unseen, state_by}
 use Rattle.rs_command_checks.specs.declared.checks.Checks.{Checks}
-use Rattle.rs_cursor.specs.Held.{HeldCursors}
 use Rattle.rs_disk.specs.declared.disk.Disk as disk
-use Rattle.rs_facts.specs.Runs.{Stretch}
-use Rattle.rs_engine.specs.Kept.{AreChecksOf, EngineState, IsMachine, with_cursors}
+use Rattle.rs_engine.specs.Kept.{AreChecksOf, EngineState, IsMachine, IsOldestIn, with_cursors}
 use Rattle.rs_engine.specs.Serving.{IsServed}
-use Rattle.rs_engine.proofs.Machines.{StoresState, at_machine, made_by_store, refused_by_checks, refused_by_store, wanting_memory}
+use Rattle.rs_engine.proofs.Machines.{at_machine, cursors_in, made_by_store, refused_by_checks, refused_by_store, wanting_memory}
+use Rattle.rs_engine.proofs.Nobody.{nobody_waits}
+use Rattle.rs_engine.specs.Laws.{StoreLaws}
 use Rattle.rs_machine.specs.Lawful.{IsLawful}
 use Rattle.rs_machine.specs.Served.{Machine, Reply, done, refused}
-use Rattle.rs_machine.specs.State.{Cursors, State, no_cursors}
+use Rattle.rs_machine.specs.State.{Cursors, State, no_cursors, some_cursor}
 use Rattle.rs_machine.specs.Step.{Effect, counted, outcome}
 use Rattle.rs_machine.specs.declared.limits.TheConstants.{SESSIONS}
 use Rattle.rs_refusal.specs.declared.refusal.Refusal.{Refusal}
@@ -25,67 +25,79 @@ StepsAreLawful = (state : State) (session : ℕ) (tree : CommandTree) (effect : 
 
 -- a change of the state, which does not look at cursors
 pub record IsStep (step : State → State) : Type 0 where
-  pub beside : (cursors : HeldCursors) (state : State) → step (with_cursors cursors state) ≡ with_cursors cursors (step state)
+  pub beside : (cursors : ℕ → Cursors) (state : State) → step (with_cursors cursors state) ≡ with_cursors cursors (step state)
   pub none : (state : State) → (step state).cursors ≡ state.cursors
 
 module _ (steps : StepsAreLawful) where
   -- a state without cursors is lawful where it is so beside some
-  pub lawful_alone : (cursors : HeldCursors) (state : State) → state.cursors ≡ no_cursors → IsLawful (with_cursors cursors state) → IsLawful state
+  pub lawful_alone : (cursors : ℕ → Cursors) (state : State) → state.cursors ≡ no_cursors → IsLawful (with_cursors cursors state) → IsLawful state
   lawful_alone cursors state none lawful =
       let without : IsLawful (record state { cursors = no_cursors }) =
       steps (with_cursors cursors state) 0 reopen (counted 0 (record state { cursors = no_cursors })) (omega arith) tt lawful refl in
       subst (λ (c : ℕ → Cursors). IsLawful (record state { cursors = c })) (sym none) without
 
-  module _ {D : Type 0} (d : disk.Ghosts D) (states : StoresState d) (old : EngineState D) (machine : Machine) (is : IsMachine d old machine) (tree : CommandTree) (sound : IsSound tree)
+  module _ {D : Type 0} (d : disk.Ghosts D) (laws : StoreLaws d) (old : EngineState D) (machine : Machine) (is : IsMachine d old machine) (tree : CommandTree) (sound : IsSound tree)
       (step : State → State) (takes : IsStep step) where
     -- the state of a file has no cursors
     pub no_cursors_there : is.state.cursors ≡ no_cursors
-    no_cursors_there = ap (λ (state : State). state.cursors) (states old.store.file.accepted old.store is.state is.stands)
+    no_cursors_there = ap (λ (state : State). state.cursors) (laws.state old.oldest old.store is.state is.stands)
 
     module _ (count : ℕ) (out : outcome machine.state 0 tree ≡ Ok (counted count (step machine.state))) where
       -- the machine's next state is that of the file beside the cursors
-      pub next_beside : step machine.state ≡ with_cursors old.cursors (step is.state)
-      next_beside = ap step is.is ∙ takes.beside old.cursors is.state
+      pub next_beside : step machine.state ≡ with_cursors (cursors_in d old machine is) (step is.state)
+      next_beside = ap step is.is ∙ takes.beside (cursors_in d old machine is) is.state
 
-      pub next_lawful : IsLawful (with_cursors old.cursors (step is.state))
+      pub next_lawful : IsLawful (with_cursors (cursors_in d old machine is) (step is.state))
       next_lawful = subst IsLawful next_beside (steps machine.state 0 tree (counted count (step machine.state)) (omega arith) sound is.lawful out)
 
       -- and it is lawful without them
       pub next_lawful_alone : IsLawful (step is.state)
-      next_lawful_alone = lawful_alone old.cursors (step is.state) (takes.none is.state ∙ no_cursors_there) next_lawful
+      next_lawful_alone = lawful_alone (cursors_in d old machine is) (step is.state) (takes.none is.state ∙ no_cursors_there) next_lawful
 
-      -- the store made the change
-      pub step_made : {T : Type 0} (may : State → Type 0) (new : EngineState D) (answer : T) → LeavesStore d may {T = T} (Ok answer) old.store new.store → new.cursors ≡ old.cursors
-          → HasBecome d (old.store.file.accepted + 1) is.stands.contents new.store (step is.state) → IsServed d (outcome machine.state 0 tree) machine (done [] count) new
-      step_made may new answer leaves same becomes =
-          made_by_store d may old new machine is (outcome machine.state 0 tree) answer count (step is.state) leaves same becomes
-          (out ∙ ap (λ (state : State). Ok (counted count state)) next_beside) next_lawful
+      -- versions from the oldest one on are looked at once the change is made
+      module _ (oldest : ℕ) (least : IsOldestIn old (old.store.file.accepted + 1) oldest) where
+        pub oldest_after : old.oldest ≤ oldest
+        oldest_after = least.greatest old.oldest (omega (arith, is.stands.live, is.stands.keeps.opened.accepted)) (λ session name cursor there. (is.live.each session name cursor there).from)
+
+        -- where no cursor is open, that is the version of the change
+        pub oldest_alone : some_cursor machine.state.cursors ≡ false → oldest ≡ old.store.file.accepted + 1
+        oldest_alone none =
+            let all = least.greatest (old.store.file.accepted + 1) (omega arith) (λ session name cursor there. absurd (nobody_waits d old machine is none session name cursor there)) in
+            omega (arith, all, least.within)
+
+        -- the store made the change
+        pub step_made : {T : Type 0} (may : State → Type 0) (new : EngineState D) (answer : T) → LeavesStore d may {T = T} (Ok answer) old.store new.store
+            → (new.cursors ≡ old.cursors) × (new.oldest ≡ oldest)
+            → HasBecome d oldest is.stands.contents new.store (step is.state) → IsServed d (outcome machine.state 0 tree) machine (done [] count) new
+        step_made may new answer leaves same becomes =
+            made_by_store d laws old new machine is (step is.state) oldest least becomes same.0 may (outcome machine.state 0 tree) answer count leaves same.1
+            (out ∙ ap (λ (state : State). Ok (counted count state)) next_beside) next_lawful
 
       -- the store refused it
-      pub step_refused : {T : Type 0} (may : State → Type 0) (new : EngineState D) (why : Refusal) → LeavesStore d may {T = T} (Err why) old.store new.store → new.cursors ≡ old.cursors
+      pub step_refused : {T : Type 0} (may : State → Type 0) (new : EngineState D) (why : Refusal) → LeavesStore d may {T = T} (Err why) old.store new.store → (new.cursors ≡ old.cursors) × (new.oldest ≡ old.oldest)
           → (IsLawful (step is.state) → may is.state) → IsServed d (outcome machine.state 0 tree) machine (refused why) new
       step_refused may new why leaves same allowed =
           refused_by_store d may old new machine is (outcome machine.state 0 tree) why leaves same (allowed next_lawful_alone)
 
 -- ---- a call that checks its command, and then has the store make the change
 
-module _ (steps : StepsAreLawful) {D : Type 0} (d : disk.Ghosts D) (states : StoresState d) (old was : EngineState D) (same : old ≡ was) (checks : Checks) (are : AreChecksOf was checks)
+module _ (steps : StepsAreLawful) {D : Type 0} (d : disk.Ghosts D) (laws : StoreLaws d) (old was : EngineState D) (same : old ≡ was) (checks : Checks) (are : AreChecksOf was checks)
     (machine : Machine) (here : IsMachine d was machine) (tree : CommandTree) where
   abbrev before : IsMachine d old machine
   before = subst (λ (engine : EngineState D). IsMachine d engine machine) (sym same) here
 
   -- what is so whichever spans tables have is so of the machine's state
   abbrev pub Found : Type 1
-  Found = (P : State → Type 0) → ((spans : ℕ → ℕ → List Stretch) → P (state_by checks spans)) → P machine.state
+  Found = (P : State → Type 0) → ((unseen : Unseen) → P (state_by checks unseen)) → P machine.state
 
   pub found : Found
-  found P each = at_machine d states was checks machine here are P each
+  found P each = at_machine d laws was checks machine here are P each
 
   -- and of the file's state, where cursors don't matter
-  abbrev pub FoundOf : State → Type 1
-  FoundOf state = (P : State → Type 0) → ((one : State) → P (with_cursors old.cursors one) → P one) → ((spans : ℕ → ℕ → List Stretch) → P (state_by checks spans)) → P state
+  abbrev pub FoundOf : IsMachine d old machine → Type 1
+  FoundOf is = (P : State → Type 0) → ((one : State) → P (with_cursors (cursors_in d old machine is) one) → P one) → ((unseen : Unseen) → P (state_by checks unseen)) → P is.state
 
-  found_of : (is : IsMachine d old machine) → FoundOf is.state
+  found_of : (is : IsMachine d old machine) → FoundOf is
   found_of is P alone each = alone is.state (subst P is.is (found P each))
 
   -- the machine refuses it, and so did the checks
@@ -97,14 +109,14 @@ module _ (steps : StepsAreLawful) {D : Type 0} (d : disk.Ghosts D) (states : Sto
 
   -- the checks refused it
   pub check_refused : (result : Result ℕ Refusal) (answer : Result ℕ Refusal → Reply) (why : Refusal) (new : EngineState D) → new ≡ was → result ≡ Err why → answer (Err why) ≡ refused why
-      → ((spans : ℕ → ℕ → List Stretch) → outcome (state_by checks spans) 0 tree ≡ Err why) → IsServed d (outcome machine.state 0 tree) machine (answer result) new
+      → ((unseen : Unseen) → outcome (state_by checks unseen) 0 tree ≡ Err why) → IsServed d (outcome machine.state 0 tree) machine (answer result) new
   check_refused result answer why new unchanged is says out =
       subst (λ (reply : Reply). IsServed d (outcome machine.state 0 tree) machine reply new) (sym (ap answer is ∙ says))
       (refused_by_checks d was new machine here unchanged (outcome machine.state 0 tree) why (found (λ (state : State). outcome state 0 tree ≡ Err why) out))
 
   -- they did, or memory was wanting
   pub check_wanting : (result : Result ℕ Refusal) (answer : Result ℕ Refusal → Reply) (why : Refusal) (new : EngineState D) → new ≡ was → result ≡ Err why → answer (Err why) ≡ refused why
-      → ((spans : ℕ → ℕ → List Stretch) → (why ≡ OutOfMemory) ⊎ (outcome (state_by checks spans) 0 tree ≡ Err why)) → IsServed d (outcome machine.state 0 tree) machine (answer result) new
+      → ((unseen : Unseen) → (why ≡ OutOfMemory) ⊎ (outcome (state_by checks unseen) 0 tree ≡ Err why)) → IsServed d (outcome machine.state 0 tree) machine (answer result) new
   check_wanting result answer why new unchanged is says out =
       subst (λ (reply : Reply). IsServed d (outcome machine.state 0 tree) machine reply new) (sym (ap answer is ∙ says))
       (elim (found (λ (state : State). (why ≡ OutOfMemory) ⊎ (outcome state 0 tree ≡ Err why)) out) [
@@ -113,46 +125,58 @@ module _ (steps : StepsAreLawful) {D : Type 0} (d : disk.Ghosts D) (states : Sto
         | inr refuses ↦ refused_by_checks d was new machine here unchanged (outcome machine.state 0 tree) why refuses
       ])
 
+  -- versions from the oldest one on are looked at once the change is made
+  abbrev pub IsLeast : ℕ → Type 0
+  IsLeast oldest = IsOldestIn was (was.store.file.accepted + 1) oldest
+
+  least_of : (oldest : ℕ) → IsLeast oldest → IsOldestIn old (old.store.file.accepted + 1) oldest
+  least_of oldest least = subst (λ (engine : EngineState D). IsOldestIn engine (engine.store.file.accepted + 1) oldest) (sym same) least
+
+  -- that is the version of the change where no cursor is open
+  abbrev pub AloneAt : ℕ → Type 0
+  AloneAt oldest = some_cursor machine.state.cursors ≡ false → oldest ≡ old.store.file.accepted + 1
+
   module _ (sound : IsSound tree) (step : State → State) (takes : IsStep step) (count : ℕ) where
     module _ (out : outcome machine.state 0 tree ≡ Ok (counted count (step machine.state))) where
       -- what follows of the file's state and of the next one
-      pub by_step : {X : Type 0} (oldest : ℕ) → oldest ≡ was.store.file.accepted + 1
-          → ((is : IsMachine d old machine) → old.store.file.accepted ≤ oldest → oldest ≤ old.store.file.accepted + 1 → IsLawful (step is.state) → X) → X
-      by_step oldest later follows =
-          let level : oldest ≡ old.store.file.accepted + 1 = later ∙ ap (λ (engine : EngineState D). engine.store.file.accepted + 1) (sym same) in
-          follows before (omega (arith, level)) (omega (arith, level)) (next_lawful_alone steps d states old machine before tree sound step takes count out)
+      pub by_step : {X : Type 0} (oldest : ℕ) → IsLeast oldest
+          → ((is : IsMachine d old machine) → old.oldest ≤ oldest → oldest ≤ old.store.file.accepted + 1 → IsLawful (step is.state) → X) → X
+      by_step oldest least follows =
+          follows before (oldest_after steps d laws old machine before tree sound step takes count out oldest (least_of oldest least)) (least_of oldest least).within
+          (next_lawful_alone steps d laws old machine before tree sound step takes count out)
 
       -- the store made what the checks accepted
-      pub made_at : {T : Type 0} (may : State → Type 0) (new : EngineState D) (answer : T) → LeavesStore d may {T = T} (Ok answer) old.store new.store → new.cursors ≡ old.cursors
-          → (oldest : ℕ) → oldest ≡ was.store.file.accepted + 1
-          → ((is : IsMachine d old machine) → FoundOf is.state → old.store.file.accepted ≤ oldest → oldest ≤ old.store.file.accepted + 1 → oldest ≡ old.store.file.accepted + 1
+      pub made_at : {T : Type 0} (may : State → Type 0) (new : EngineState D) (answer : T) → LeavesStore d may {T = T} (Ok answer) old.store new.store
+          → (oldest : ℕ) → (new.cursors ≡ old.cursors) × (new.oldest ≡ oldest) → IsLeast oldest
+          → ((is : IsMachine d old machine) → FoundOf is → old.oldest ≤ oldest → oldest ≤ old.store.file.accepted + 1 → AloneAt oldest
           → IsLawful (step is.state) → HasBecome d oldest is.stands.contents new.store (step is.state)) → IsServed d (outcome machine.state 0 tree) machine (done [] count) new
-      made_at may new answer leaves cursors oldest later becomes =
-          let level : oldest ≡ old.store.file.accepted + 1 = later ∙ ap (λ (engine : EngineState D). engine.store.file.accepted + 1) (sym same) in
-          step_made steps d states old machine before tree sound step takes count out may new answer leaves cursors
-          (subst (λ (n : ℕ). HasBecome d n before.stands.contents new.store (step before.state)) level
-          (becomes before (found_of before) (omega (arith, level)) (omega (arith, level)) level (next_lawful_alone steps d states old machine before tree sound step takes count out)))
+      made_at may new answer leaves oldest stays least becomes =
+          let least_here = least_of oldest least in
+          step_made steps d laws old machine before tree sound step takes count out oldest least_here may new answer leaves stays
+          (becomes before (found_of before) (oldest_after steps d laws old machine before tree sound step takes count out oldest least_here) least_here.within
+          (oldest_alone steps d laws old machine before tree sound step takes count out oldest least_here)
+          (next_lawful_alone steps d laws old machine before tree sound step takes count out))
 
       -- the store refused it
       pub refused_at : {T : Type 0} (may : State → Type 0) (new : EngineState D) (result : Result ℕ Refusal) (answer : Result ℕ Refusal → Reply) (why : Refusal)
-          → LeavesStore d may {T = T} (Err why) old.store new.store → new.cursors ≡ old.cursors → ((is : IsMachine d old machine) → FoundOf is.state → IsLawful (step is.state) → may is.state)
+          → LeavesStore d may {T = T} (Err why) old.store new.store → (new.cursors ≡ old.cursors) × (new.oldest ≡ old.oldest) → ((is : IsMachine d old machine) → FoundOf is → IsLawful (step is.state) → may is.state)
           → result ≡ Err why → answer (Err why) ≡ refused why → IsServed d (outcome machine.state 0 tree) machine (answer result) new
-      refused_at may new result answer why leaves cursors allowed is says =
+      refused_at may new result answer why leaves stays allowed is says =
           subst (λ (reply : Reply). IsServed d (outcome machine.state 0 tree) machine reply new) (sym (ap answer is ∙ says))
-          (step_refused steps d states old machine before tree sound step takes count out may new why leaves cursors (allowed before (found_of before)))
+          (step_refused steps d laws old machine before tree sound step takes count out may new why leaves stays (allowed before (found_of before)))
 
-    -- the same where the checks accept it whichever spans tables have
-    module _ (accepted : (spans : ℕ → ℕ → List Stretch) → outcome (state_by checks spans) 0 tree ≡ Ok (counted count (step (state_by checks spans)))) where
+    -- the same where the checks accept it whatever they don't look at
+    module _ (accepted : (unseen : Unseen) → outcome (state_by checks unseen) 0 tree ≡ Ok (counted count (step (state_by checks unseen)))) where
       out : outcome machine.state 0 tree ≡ Ok (counted count (step machine.state))
       out = found (λ (state : State). outcome state 0 tree ≡ Ok (counted count (step state))) accepted
 
-      pub change_made : {T : Type 0} (may : State → Type 0) (new : EngineState D) (answer : T) → LeavesStore d may {T = T} (Ok answer) old.store new.store → new.cursors ≡ old.cursors
-          → (oldest : ℕ) → oldest ≡ was.store.file.accepted + 1
-          → ((is : IsMachine d old machine) → FoundOf is.state → old.store.file.accepted ≤ oldest → oldest ≤ old.store.file.accepted + 1 → oldest ≡ old.store.file.accepted + 1
+      pub change_made : {T : Type 0} (may : State → Type 0) (new : EngineState D) (answer : T) → LeavesStore d may {T = T} (Ok answer) old.store new.store
+          → (oldest : ℕ) → (new.cursors ≡ old.cursors) × (new.oldest ≡ oldest) → IsLeast oldest
+          → ((is : IsMachine d old machine) → FoundOf is → old.oldest ≤ oldest → oldest ≤ old.store.file.accepted + 1 → AloneAt oldest
           → IsLawful (step is.state) → HasBecome d oldest is.stands.contents new.store (step is.state)) → IsServed d (outcome machine.state 0 tree) machine (done [] count) new
       change_made = made_at out
 
       pub change_refused : {T : Type 0} (may : State → Type 0) (new : EngineState D) (result : Result ℕ Refusal) (answer : Result ℕ Refusal → Reply) (why : Refusal)
-          → LeavesStore d may {T = T} (Err why) old.store new.store → new.cursors ≡ old.cursors → ((is : IsMachine d old machine) → FoundOf is.state → IsLawful (step is.state) → may is.state)
+          → LeavesStore d may {T = T} (Err why) old.store new.store → (new.cursors ≡ old.cursors) × (new.oldest ≡ old.oldest) → ((is : IsMachine d old machine) → FoundOf is → IsLawful (step is.state) → may is.state)
           → result ≡ Err why → answer (Err why) ≡ refused why → IsServed d (outcome machine.state 0 tree) machine (answer result) new
       change_refused = refused_at out

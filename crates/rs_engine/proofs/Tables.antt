@@ -1,14 +1,13 @@
 -- A table of the catalogue in the states that have its definitions, and what a change makes of it.
-use Rattle.std.proofs.Common.{◌≡◌, ◌∙◌, ℕ, List, Some, ap, refl}
+use Rattle.std.proofs.Common.{◌≡◌, ◌∙◌, Some, ap, refl}
 use Rattle.std.specs.FinMap as names
 use Rattle.std.specs.Option.{option_map}
 use Rattle.rs_catalog.specs.Definitions.{TableItem, table_from}
 use Rattle.rs_catalog.proofs.StateLaws.{get-tables_from}
-use Rattle.rs_command_checks.specs.States.{state_by}
+use Rattle.rs_command_checks.specs.States.{Unseen, state_by}
 use Rattle.rs_command_checks.specs.declared.checks.Checks.{Checks}
 use Rattle.rs_facts.specs.Fact.{Name}
 use Rattle.rs_facts.specs.Query.{Table}
-use Rattle.rs_facts.specs.Runs.{Stretch}
 use Rattle.rs_engine.proofs.Stepping.{IsStep}
 use Rattle.rs_machine.specs.State.{State}
 use Rattle.rs_machine.specs.Step.{with_table}
@@ -19,13 +18,13 @@ pub record HasTableSo (name : Name) (so : State → Table → Type 0) (state : S
   pub there : names.get state.tables name ≡ Some table
   pub is : so state table
 
--- whichever spans tables have, one of the catalogue is in the state
-pub table_so : (checks : Checks) (name : Name) (item : TableItem) → names.get checks.catalog.now.tables name ≡ Some item → (so : State → Table → Type 0) (spans : ℕ → ℕ → List Stretch)
-    → ((table : Table) → names.get (state_by checks spans).tables name ≡ Some table → so (state_by checks spans) table) → HasTableSo name so (state_by checks spans)
-table_so checks name item there so spans each =
-    let table = table_from checks.catalog.now.routes spans item in
-    let known : names.get (state_by checks spans).tables name ≡ Some table =
-    get-tables_from checks.catalog.now spans name ∙ ap (option_map (table_from checks.catalog.now.routes spans)) there in
+-- one of the catalogue is in the state, whatever is not looked at
+pub table_so : (checks : Checks) (name : Name) (item : TableItem) → names.get checks.catalog.now.tables name ≡ Some item → (so : State → Table → Type 0) (unseen : Unseen)
+    → ((table : Table) → names.get (state_by checks unseen).tables name ≡ Some table → so (state_by checks unseen) table) → HasTableSo name so (state_by checks unseen)
+table_so checks name item there so unseen each =
+    let table = table_from checks.catalog.now.routes unseen.spans item in
+    let known : names.get (state_by checks unseen).tables name ≡ Some table =
+    get-tables_from checks.catalog.now unseen.spans name ∙ ap (option_map (table_from checks.catalog.now.routes unseen.spans)) there in
     record { table = table; there = known; is = each table known }
 
 abbrev pub with_table_named : Name → Table → State → State

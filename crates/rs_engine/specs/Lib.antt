@@ -1,5 +1,9 @@
+pub mod Ahead
 pub mod Files
+pub mod Giving
 pub mod Kept
+pub mod Laws
+pub mod Living
 pub mod Serving
 pub mod Replied
 pub mod Reads

@@ -2,6 +2,7 @@
 use Rattle.std.proofs.Common.{◌≡◌, ◌∙◌, ℕ, List, [], ◌∷◌, ap, refl, sym}
 use Rattle.std.specs.Prelude.{◌==◌, if◌then◌else◌}
 use Rattle.std.specs.List.{AllZip}
+use Rattle.std.specs.FinMap as names
 use Rattle.std.proofs.Math.Path.{fun_ext}
 use Rattle.rs_catalog.specs.Definitions.{state_from}
 use Rattle.rs_catalog.specs.Referents.{referents_on}
@@ -9,14 +10,21 @@ use Rattle.rs_catalog_pages.specs.Items.{CatalogueItems, TableItem}
 use Rattle.rs_contents.specs.Contents.{Contents, SameContents, SameTable, TableContents}
 use Rattle.rs_contents.proofs.One.{one_thing}
 use Rattle.rs_disk.specs.declared.disk.Disk as disk
-use Rattle.rs_engine.specs.Kept.{EngineState, IsMachine, with_cursors}
+use Rattle.rs_answers.specs.Versions.{SeenVersion}
+use Rattle.rs_catalog.specs.Definitions.{no_definitions, no_places}
+use Rattle.rs_cursor.specs.Held.{cursors_by, lines_left}
+use Rattle.rs_engine.specs.Kept.{EngineState, IsMachine, seen_at, with_cursors}
 use Rattle.rs_facts.specs.Runs.{Stretch}
+use Rattle.rs_facts.specs.Spans.{places_of}
 use Rattle.rs_machine.specs.Served.{Machine}
 use Rattle.rs_machine.specs.State.{State, no_cursors}
 use Rattle.rs_pager.specs.Maps.{committed}
-use Rattle.rs_standing.specs.Seen.{events_with, spans_seen}
+use Rattle.rs_standing.specs.Seen.{born_by, events_with, spans_seen}
+use Rattle.rs_standing.specs.States.{routes_named, tables_named}
 use Rattle.rs_store.specs.Kept.{StoreState}
+use Rattle.rs_store_reads.specs.Shown.{table_there}
 use Rattle.rs_versioned.specs.Events.{Event, spans_at}
+use Rattle.rs_versioned.specs.Referents.{referents_at}
 
 -- the state of what a store has in memory, where its tables have these spans
 abbrev pub state_of_store : {D : Type 0} → StoreState D → (ℕ → ℕ → List Stretch) → State
@@ -39,6 +47,16 @@ spans_alike one other same version =
     (fun_ext (λ number. ap (λ (d : CatalogueItems). events_with d.tables one.tables number) same.definitions
     ∙ events_alike other.definitions.tables one.tables other.tables same.tables number))
 
+-- so each version sees the same of them
+seen_alike : (one other : Contents) → SameContents one other → seen_at one ≡ seen_at other
+seen_alike one other same = fun_ext (λ version. λ i. record {
+  routes = routes_named (born_by version (same.definitions i).routes);
+  referents = λ route. names.from_entries (referents_at version route (same.referents i));
+  snapshot = record {
+    rows = λ table route. if table_there (record no_definitions { tables = tables_named (same.definitions i).tables }) table then places_of (spans_alike one other same version i table.number route) else no_places;
+  };
+})
+
 module _ {D : Type 0} (d : disk.Ghosts D) where
   -- The engine is this machine and no other: the state of its file is that of what is in memory, and of the spans that its pages hold.
   pub record IsOneMachine (engine : EngineState D) (machine : Machine) : Type 0 where
@@ -54,7 +72,9 @@ module _ {D : Type 0} (d : disk.Ghosts D) where
       let same = one_thing (committed d engine.store.pager) here.contents there.contents here.keeps.holds there.keeps.holds in
       let states : one.is.state ≡ two.is.state = one.seen
       ∙ ap (λ (spans : ℕ → ℕ → List Stretch). state_of_store engine.store spans) (spans_alike here.contents there.contents same engine.store.file.accepted) ∙ sym two.seen in
-      one.is.is ∙ ap (with_cursors engine.cursors) states ∙ sym two.is.is
+      one.is.is
+      ∙ ap (λ (versions : ℕ → SeenVersion). with_cursors (cursors_by (lines_left versions) engine.cursors.held) one.is.state) (seen_alike here.contents there.contents same)
+      ∙ ap (with_cursors (cursors_by (lines_left (seen_at there.contents)) engine.cursors.held)) states ∙ sym two.is.is
 
   pub one_machine : (engine : EngineState D) (machine other : Machine) → IsOneMachine engine machine → IsOneMachine engine other → machine ≡ other
   unfolding machine_by

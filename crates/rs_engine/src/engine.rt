@@ -3,8 +3,8 @@
 //! It promises that a step makes the checks of its command in their order, that an accepted command changes what the reference machine
 //! changes, and that a refused one changes nothing.
 
-ghost use Rattle.std.specs.Prelude.{◌≡◌, ◌<◌, ◌+◌};
-ghost use Rattle.rs_engine.specs.Kept.{AreChecksOf};
+ghost use Rattle.std.specs.Prelude.{◌<◌, ◌+◌};
+ghost use Rattle.rs_engine.specs.Kept.{AreChecksOf, IsOldestIn};
 ghost use Rattle.rs_machine.specs.declared.limits.TheConstants.{CHANGES};
 
 mod cursors;
@@ -13,15 +13,16 @@ mod drops;
 mod events;
 mod files;
 pub mod laws;
+mod live;
+pub mod open;
 mod queries;
 mod referents;
 mod serving;
-mod source;
 
+use crate::engine::live::LiveStore;
+use crate::engine::open::OpenCursors;
 use rs_command_checks::Checks;
-use rs_cursor::Cursors;
 use rs_disk::Disk;
-use rs_store::Store;
 use std::alloc::Global;
 use std::marker::Model;
 
@@ -30,22 +31,21 @@ use std::marker::Model;
 #[derive(Drop)]
 pub struct Engine<D: Disk> {
     pub(crate) alloc: Global,
-    pub(crate) store: Store<D>,
-    pub(crate) cursors: Cursors,
+    pub(crate) live: LiveStore<D>,
+    pub(crate) cursors: OpenCursors,
 }
 
 impl<D: Disk> Model for Engine<D> {
     ghost use Rattle.std.specs.Coded.{codes};
     ghost use Rattle.rs_catalog.specs.Codes.{definitions_code, numbered_code};
     ghost use Rattle.rs_catalog.specs.Referents.{held_referents_code};
-    ghost use Rattle.rs_cursor.specs.Held.{held_cursors_code};
-    ghost use Rattle.rs_engine.specs.Kept.{EngineState};
+    ghost use Rattle.rs_engine.specs.Kept.{EngineState, open_cursors_code};
 
     ghost Value = { EngineState D };
 
-    ghost coded = { Prim.hlevel (codes, definitions_code, numbered_code held_referents_code, held_cursors_code) };
+    ghost coded = { Prim.hlevel (codes, definitions_code, numbered_code held_referents_code, open_cursors_code) };
 
-    ghost view = { λ e. record { store = e.store; cursors = e.cursors } };
+    ghost view = { λ e. record { store = e.live.store; oldest = e.live.oldest; cursors = e.cursors } };
 }
 
 impl<D: Disk> Engine<D> {
@@ -55,18 +55,18 @@ impl<D: Disk> Engine<D> {
     {
         Checks {
             alloc: self.alloc,
-            catalog: self.store.catalog(),
-            referents: self.store.referents(),
-            cursors: &self.cursors,
-            changes: self.store.accepted(),
+            catalog: self.live.store.catalog(),
+            referents: self.live.store.referents(),
+            cursors: &self.cursors.held,
+            changes: self.live.store.accepted(),
         }
     }
 
-    /// The oldest version that anyone sees once one more change was made: no cursor looks at the file.
+    /// The oldest version that is looked at once one more change was made: that of a cursor, or of the change.
     pub(crate) fn oldest(&self) -> u64
         requires room { self.now.store.file.accepted < CHANGES }
-        ensures { result ≡ self.now.store.file.accepted + 1 }
+        ensures { IsOldestIn self.now (self.now.store.file.accepted + 1) result }
     {
-        self.store.accepted() + 1
+        self.cursors.held.oldest(self.live.store.accepted() + 1)
     }
 }

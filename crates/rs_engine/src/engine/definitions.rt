@@ -11,12 +11,12 @@ ghost use Rattle.rs_syntax.specs.Tree as tree;
 ghost use Rattle.rs_syntax.specs.View.{column_tree, piece_tree};
 
 use crate::engine::Engine;
+use crate::engine::laws::stores_have_their_laws;
 use rs_disk::Disk;
 use rs_machine_laws::lawful::accepted_step_leaves_the_state_lawful;
 use rs_measure::Measure;
 use rs_methods::Name;
 use rs_refusal::Refusal;
-use rs_store::laws::store_stands_in_one_state;
 use rs_syntax::{ColumnDefinition, Piece, Query};
 use rs_value::Kind;
 
@@ -31,12 +31,14 @@ impl<D: Disk> Engine<D> {
         requires sound { IsSound (tree.define_route name.bytes start finish) }
         ensures serves { Serves D.Disk (λ state. route_defined state name.bytes start finish) (count_reply_of result) self.old self.new }
     {
-        store_stands_in_one_state::<D>();
+        stores_have_their_laws::<D>();
         accepted_step_leaves_the_state_lawful();
         self.checks().check_new_route(&name, start, finish)?;
         let oldest = self.oldest();
-        self.store
+        self.live
+            .store
             .define_route(self.alloc, oldest, name, start, finish)?;
+        self.live.oldest = oldest;
         Ok(0)
     }
 
@@ -50,12 +52,14 @@ impl<D: Disk> Engine<D> {
         requires sound { IsSound (tree.define_table kind name.bytes (map column_tree columns.items)) }
         ensures serves { Serves D.Disk (λ state. table_defined state kind name.bytes (map column_tree columns.items)) (count_reply_of result) self.old self.new }
     {
-        store_stands_in_one_state::<D>();
+        stores_have_their_laws::<D>();
         accepted_step_leaves_the_state_lawful();
         self.checks().check_new_table(kind, &name, &columns)?;
         let oldest = self.oldest();
-        self.store
+        self.live
+            .store
             .define_table(self.alloc, oldest, kind, name, columns)?;
+        self.live.oldest = oldest;
         Ok(0)
     }
 
@@ -70,12 +74,14 @@ impl<D: Disk> Engine<D> {
         requires sound { IsSound (tree.define_index name.bytes table.bytes column.now.bytes) }
         ensures serves { Serves D.Disk (λ state. index_defined state name.bytes table.bytes column.now.bytes) (count_reply_of result) self.old self.new }
     {
-        store_stands_in_one_state::<D>();
+        stores_have_their_laws::<D>();
         accepted_step_leaves_the_state_lawful();
         let of = self.checks().check_new_index(&name, &table, column)?;
         let oldest = self.oldest();
-        self.store
+        self.live
+            .store
             .define_index(self.alloc, oldest, name, table, of.table, of.place)?;
+        self.live.oldest = oldest;
         Ok(0)
     }
 
@@ -90,12 +96,14 @@ impl<D: Disk> Engine<D> {
         ensures serves { (session : ℕ) → IsSaid session (tree.define_view name.bytes (query_tree query) (string_bytes text))
             → Serves D.Disk (λ state. view_defined state name.bytes (query_tree query)) (count_reply_of result) self.old self.new }
     {
-        store_stands_in_one_state::<D>();
+        stores_have_their_laws::<D>();
         accepted_step_leaves_the_state_lawful();
         self.checks().check_new_view(&name, &query)?;
         let oldest = self.oldest();
-        self.store
+        self.live
+            .store
             .define_view(self.alloc, oldest, name, query, text)?;
+        self.live.oldest = oldest;
         Ok(0)
     }
 
@@ -108,12 +116,14 @@ impl<D: Disk> Engine<D> {
         requires sound { IsSound (tree.define_alignment name.bytes (map piece_tree pieces.items)) }
         ensures serves { Serves D.Disk (λ state. alignment_defined state name.bytes (map piece_tree pieces.items)) (count_reply_of result) self.old self.new }
     {
-        store_stands_in_one_state::<D>();
+        stores_have_their_laws::<D>();
         accepted_step_leaves_the_state_lawful();
         self.checks().check_new_alignment(&name, &pieces)?;
         let oldest = self.oldest();
-        self.store
+        self.live
+            .store
             .define_alignment(self.alloc, oldest, name, pieces)?;
+        self.live.oldest = oldest;
         Ok(0)
     }
 }

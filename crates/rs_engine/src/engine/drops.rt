@@ -12,11 +12,11 @@ ghost use Rattle.rs_syntax.specs.Sound.{IsSound};
 ghost use Rattle.rs_syntax.specs.Tree as tree;
 
 use crate::engine::Engine;
+use crate::engine::laws::stores_have_their_laws;
 use rs_disk::Disk;
 use rs_machine_laws::lawful::accepted_step_leaves_the_state_lawful;
 use rs_methods::Name;
 use rs_refusal::Refusal;
-use rs_store::laws::store_stands_in_one_state;
 use rs_store_reads::has_facts_on;
 
 impl<D: Disk> Engine<D> {
@@ -36,11 +36,11 @@ impl<D: Disk> Engine<D> {
         ensures reads { ReadsEngine D.Disk self.old self.new }
         ensures wants { IfErr result (λ why. WantsRead D.Disk why self.old self.new) }
     {
-        store_stands_in_one_state::<D>();
-        let Some(route) = self.store.catalog().route(name) else {
+        stores_have_their_laws::<D>();
+        let Some(route) = self.live.store.catalog().route(name) else {
             return Ok(false);
         };
-        has_facts_on(self.alloc, &mut self.store, route.number())
+        has_facts_on(self.alloc, &mut self.live.store, route.number())
     }
 
     /// Drops a route, of which the caller says whether some table has a fact on it.
@@ -49,11 +49,12 @@ impl<D: Disk> Engine<D> {
         ensures serves { (machine : Machine) → IsMachine D.Disk self.old machine → TellsOfFacts machine.state name.now.bytes has_facts
             → IsServed D.Disk (route_dropped machine.state name.now.bytes) machine (count_reply_of result) self.new }
     {
-        store_stands_in_one_state::<D>();
+        stores_have_their_laws::<D>();
         accepted_step_leaves_the_state_lawful();
         self.checks().check_old_route(name, has_facts)?;
         let oldest = self.oldest();
-        self.store.drop_route(self.alloc, oldest, name)?;
+        self.live.store.drop_route(self.alloc, oldest, name)?;
+        self.live.oldest = oldest;
         Ok(0)
     }
 
@@ -62,11 +63,12 @@ impl<D: Disk> Engine<D> {
         requires sound { IsSound (tree.drop_table name.now.bytes) }
         ensures serves { Serves D.Disk (λ state. table_dropped state name.now.bytes) (count_reply_of result) self.old self.new }
     {
-        store_stands_in_one_state::<D>();
+        stores_have_their_laws::<D>();
         accepted_step_leaves_the_state_lawful();
         self.checks().check_old_table(name)?;
         let oldest = self.oldest();
-        self.store.drop_table(self.alloc, oldest, name)?;
+        self.live.store.drop_table(self.alloc, oldest, name)?;
+        self.live.oldest = oldest;
         Ok(0)
     }
 
@@ -75,11 +77,12 @@ impl<D: Disk> Engine<D> {
         requires sound { IsSound (tree.drop_index name.now.bytes) }
         ensures serves { Serves D.Disk (λ state. index_dropped state name.now.bytes) (count_reply_of result) self.old self.new }
     {
-        store_stands_in_one_state::<D>();
+        stores_have_their_laws::<D>();
         accepted_step_leaves_the_state_lawful();
         self.checks().check_old_index(name)?;
         let oldest = self.oldest();
-        self.store.drop_index(self.alloc, oldest, name)?;
+        self.live.store.drop_index(self.alloc, oldest, name)?;
+        self.live.oldest = oldest;
         Ok(0)
     }
 
@@ -88,11 +91,12 @@ impl<D: Disk> Engine<D> {
         requires sound { IsSound (tree.drop_view name.now.bytes) }
         ensures serves { Serves D.Disk (λ state. view_dropped state name.now.bytes) (count_reply_of result) self.old self.new }
     {
-        store_stands_in_one_state::<D>();
+        stores_have_their_laws::<D>();
         accepted_step_leaves_the_state_lawful();
         self.checks().check_old_view(name)?;
         let oldest = self.oldest();
-        self.store.drop_view(self.alloc, oldest, name)?;
+        self.live.store.drop_view(self.alloc, oldest, name)?;
+        self.live.oldest = oldest;
         Ok(0)
     }
 
@@ -101,11 +105,12 @@ impl<D: Disk> Engine<D> {
         requires sound { IsSound (tree.drop_alignment name.now.bytes) }
         ensures serves { Serves D.Disk (λ state. alignment_dropped state name.now.bytes) (count_reply_of result) self.old self.new }
     {
-        store_stands_in_one_state::<D>();
+        stores_have_their_laws::<D>();
         accepted_step_leaves_the_state_lawful();
         self.checks().check_old_alignment(name)?;
         let oldest = self.oldest();
-        self.store.drop_alignment(self.alloc, oldest, name)?;
+        self.live.store.drop_alignment(self.alloc, oldest, name)?;
+        self.live.oldest = oldest;
         Ok(0)
     }
 }

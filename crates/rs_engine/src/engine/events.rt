@@ -10,12 +10,12 @@ ghost use Rattle.rs_syntax.specs.View.{location_tree, removal_tree};
 ghost use Rattle.rs_value.specs.View.{literal_row};
 
 use crate::engine::Engine;
+use crate::engine::laws::stores_have_their_laws;
 use rs_command_checks::Removal;
 use rs_disk::Disk;
 use rs_machine_laws::lawful::accepted_step_leaves_the_state_lawful;
 use rs_methods::Name;
 use rs_refusal::Refusal;
-use rs_store::laws::store_stands_in_one_state;
 use rs_syntax::{Atom, EventLocation, Window};
 use rs_value::Literal;
 
@@ -31,13 +31,17 @@ impl<D: Disk> Engine<D> {
         requires sound { IsSound (tree.insert table.now.bytes route.now.bytes (location_tree place.now) (literal_row values.now)) }
         ensures serves { Serves D.Disk (λ state. row_inserted state table.now.bytes route.now.bytes (location_tree place.now) (literal_row values.now)) (count_reply_of result) self.old self.new }
     {
-        store_stands_in_one_state::<D>();
+        stores_have_their_laws::<D>();
         accepted_step_leaves_the_state_lawful();
         let span = self
             .checks()
             .checked_insertion(table, route, place, values)?;
         let oldest = self.oldest();
-        let new_facts = self.store.insert(self.alloc, oldest, table, route, span)?;
+        let new_facts = self
+            .live
+            .store
+            .insert(self.alloc, oldest, table, route, span)?;
+        self.live.oldest = oldest;
         Ok(u128::from(new_facts))
     }
 
@@ -52,7 +56,7 @@ impl<D: Disk> Engine<D> {
         requires sound { IsSound (tree.remove table.now.bytes (window_tree window.now) (removal_tree condition.now)) }
         ensures serves { Serves D.Disk (λ state. rows_removed state table.now.bytes (window_tree window.now) (removal_tree condition.now)) (count_reply_of result) self.old self.new }
     {
-        store_stands_in_one_state::<D>();
+        stores_have_their_laws::<D>();
         accepted_step_leaves_the_state_lawful();
         let removal = self.checks().checked_removal(table, window, condition)?;
         let Removal {
@@ -63,8 +67,10 @@ impl<D: Disk> Engine<D> {
         } = removal;
         let oldest = self.oldest();
         let gone = self
+            .live
             .store
             .remove(self.alloc, oldest, table, &route, lo, hi, goes)?;
+        self.live.oldest = oldest;
         Ok(gone)
     }
 }

@@ -3,14 +3,15 @@
 //! It promises that the file it leaves stands for the state that it was in, without cursors, and that it opens a file as the state
 //! that the file stands for.
 
-ghost use Rattle.std.specs.Prelude.{◌≡◌, ◌≤◌, ◌-◌, ◌^◌, IfErr, IsOkUnless, IsTrue, MatchResult, Ok, OnErr, length, min};
+ghost use Rattle.std.specs.Prelude.{◌≡◌, ◌≤◌, ◌-◌, ◌^◌, ℕ, IfErr, IsOkUnless, IsTrue, MatchResult, Ok, OnErr, length, min};
 ghost use Rattle.rs_contents.specs.Calls.{RefusesToLoad};
-ghost use Rattle.rs_cursor.specs.Held.{cursors_of};
+ghost use Rattle.std.specs.FinMap as names;
+ghost use Rattle.rs_cursor.specs.Held.{held_of};
 ghost use Rattle.rs_disk.specs.Counts.{Counts};
 ghost use Rattle.rs_engine.specs.Files.{Closes, Creates, Opens, Saves, stores_back, stores_of};
 ghost use Rattle.rs_engine.specs.Replied.{count_reply_of, nothing_reply_of};
 ghost use Rattle.rs_engine.specs.Serving.{Serves};
-ghost use Rattle.rs_machine.specs.State.{State, no_cursors};
+ghost use Rattle.rs_machine.specs.State.{State};
 ghost use Rattle.rs_machine.specs.Step.{counted, without_cursors};
 ghost use Rattle.rs_page_cache.specs.Changes.{ListsHeld};
 ghost use Rattle.rs_page_cache.specs.declared.clean.TheConstants.{MOST_CLEAN};
@@ -19,6 +20,8 @@ ghost use Rattle.rs_store.specs.Calls.{CountsClosing, HandsOver, WantsCreating, 
 ghost use Rattle.rs_store.specs.Kept.{garbage_of};
 
 use crate::engine::Engine;
+use crate::engine::live::LiveStore;
+use crate::engine::open::OpenCursors;
 use rs_cursor::Cursors;
 use rs_disk::Disk;
 use rs_machine_laws::lawful::{accepted_step_leaves_the_state_lawful, fresh_state_is_lawful};
@@ -88,7 +91,7 @@ impl<D: Disk> Engine<D> {
     {
         let Engine {
             alloc,
-            store,
+            live: LiveStore { store, oldest },
             cursors,
         } = self;
         match store.close() {
@@ -96,7 +99,7 @@ impl<D: Disk> Engine<D> {
             Err((store, refusal)) => Err((
                 Engine {
                     alloc,
-                    store,
+                    live: LiveStore { store, oldest },
                     cursors,
                 },
                 refusal,
@@ -111,7 +114,7 @@ impl<D: Disk> Engine<D> {
         ensures refused { IsOkUnless result Refusal.Disk }
         ensures count { Counts result (D.failures self.old.store.pager.disk) (D.failures self.new.store.pager.disk) }
     {
-        self.store.save()?;
+        self.live.store.save()?;
         Ok(0)
     }
 
@@ -126,8 +129,10 @@ impl<D: Disk> Engine<D> {
             (λ why. CountsFault why (D.failures self.old.store.pager.disk) (D.failures self.new.store.pager.disk)) }
     {
         accepted_step_leaves_the_state_lawful();
-        self.store.reopen(self.alloc)?;
-        self.cursors.close_all();
+        self.live.store.reopen(self.alloc)?;
+        self.live.oldest = self.live.store.accepted();
+        self.cursors.held.close_all();
+        self.cursors.ahead = None;
         Ok(())
     }
 
@@ -138,25 +143,30 @@ impl<D: Disk> Engine<D> {
         ensures clean { result.1 ≡ length self.now.store.pager.clean }
         ensures bound { result.1 ≤ MOST_CLEAN }
     {
-        self.store.held()
+        self.live.store.held()
     }
 
     /// How many records of all tables and of the referents are dead and not cleared (2^64 - 1 at the most).
     pub fn garbage(&self) -> u64
         ensures { result ≡ min (garbage_of self.now.store.file) (2 ^ 64 - 1) }
     {
-        self.store.garbage()
+        self.live.store.garbage()
     }
 }
 
 /// An engine over the store, with no cursors.
 fn engine_over<D: Disk>(alloc: Global, store: Store<D>) -> Engine<D>
     ensures store { result.store ≡ store }
-    ensures cursors { cursors_of result.cursors ≡ no_cursors }
+    ensures oldest { result.oldest ≡ store.file.accepted }
+    ensures cursors { (session : ℕ) → held_of result.cursors.held session ≡ names.empty }
 {
+    let oldest = store.accepted();
     Engine {
         alloc,
-        store,
-        cursors: Cursors::new(alloc),
+        live: LiveStore { store, oldest },
+        cursors: OpenCursors {
+            held: Cursors::new(alloc),
+            ahead: None,
+        },
     }
 }

@@ -3,8 +3,9 @@
 
 ghost use Rattle.std.specs.Prelude.{◌<◌, List};
 ghost use Rattle.rs_answers.specs.Counts.{AreCounted};
-ghost use Rattle.rs_engine.specs.Kept.{EngineState, IsMachine};
-ghost use Rattle.rs_engine.specs.Reads.{StandsNow, counted_of};
+ghost use Rattle.rs_engine.specs.Kept.{EngineState, IsMachine, seen_at};
+ghost use Rattle.rs_engine.specs.Laws.{StoreLaws};
+ghost use Rattle.rs_engine.specs.Reads.{IsSeenNow, StandsNow, counted_of};
 ghost use Rattle.rs_engine.specs.Single.{IsOneMachine};
 ghost use Rattle.rs_machine.specs.Served.{Machine};
 ghost use Rattle.rs_machine.specs.declared.limits.TheConstants.{SESSIONS};
@@ -12,6 +13,7 @@ ghost use Rattle.rs_plan.specs.declared.counts.Index.{Index};
 
 use rs_disk::Disk;
 use rs_serve::Session;
+use rs_standing::live::version_that_sees_the_same_has_the_same_world;
 use rs_store::laws::store_stands_in_one_state;
 use rs_store_reads::laws::{
     living_records_are_the_runs_of_the_state, store_shows_the_facts_of_its_state,
@@ -21,13 +23,24 @@ use rs_store_reads::laws::{
 pub fn machine_is_the_only_one<D: Disk>()
     ensures { (engine : EngineState D) (machine : Machine) → IsMachine D.Disk engine machine → IsOneMachine D.Disk engine machine }
 {
-    store_stands_in_one_state::<D>();
+    stores_have_their_laws::<D>();
 }
 
-/// At the version that was accepted last an engine stands for the state of the machine that it is.
-pub(crate) fn engine_stands_for_its_state<D: Disk>()
-    ensures { (engine : EngineState D) (machine : Machine) → IsMachine D.Disk engine machine → StandsNow D.Disk engine machine.state }
+/// A store that stands in a state has that of what is in memory, and a change shows live versions what they were shown.
+pub(crate) fn stores_have_their_laws<D: Disk>()
+    ensures { StoreLaws D.Disk }
 {
+    store_stands_in_one_state::<D>();
+    version_that_sees_the_same_has_the_same_world();
+}
+
+/// At the version that was accepted last an engine stands for the state of the machine that it is, and that version sees it.
+pub(crate) fn engine_stands_for_its_state<D: Disk>()
+    ensures state { (engine : EngineState D) (machine : Machine) → IsMachine D.Disk engine machine → StandsNow D.Disk engine machine.state }
+    ensures seen { (engine : EngineState D) (machine : Machine) (is : IsMachine D.Disk engine machine)
+        → IsSeenNow engine machine.state (seen_at is.stands.contents engine.store.file.accepted) }
+{
+    stores_have_their_laws::<D>();
     store_stands_in_one_state::<D>();
     store_shows_the_facts_of_its_state::<D>();
 }
@@ -37,7 +50,7 @@ pub(crate) fn plans_are_chosen_by_its_state<D: Disk>()
     ensures { (engine : EngineState D) (machine : Machine) → IsMachine D.Disk engine machine
         → (indexes : List Index) → AreCounted engine.store.catalog machine.state (counted_of engine.store indexes) }
 {
-    store_stands_in_one_state::<D>();
+    stores_have_their_laws::<D>();
     living_records_are_the_runs_of_the_state::<D>();
 }
 

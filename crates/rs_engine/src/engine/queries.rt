@@ -24,7 +24,9 @@ ghost use Rattle.rs_syntax.specs.QueryView.{query_tree};
 ghost use Rattle.rs_syntax.specs.View.{column_tree, summed_tree};
 
 use crate::engine::Engine;
-use crate::engine::laws::{engine_stands_for_its_state, plans_are_chosen_by_its_state};
+use crate::engine::laws::{
+    engine_stands_for_its_state, plans_are_chosen_by_its_state, stores_have_their_laws,
+};
 use rs_answers::{
     PlannedQuery, explain_lines, lines, planned, planning_indexes, total_columns, total_of,
 };
@@ -34,7 +36,6 @@ use rs_methods::{Method, Name, Position};
 use rs_plan::{Counts, Index, Plan};
 use rs_refusal::Refusal;
 use rs_store::Store;
-use rs_store::laws::store_stands_in_one_state;
 use rs_store_reads::records_of;
 use rs_syntax::Query;
 use std::alloc::AllocError;
@@ -70,7 +71,7 @@ impl<D: Disk> Engine<D> {
     ) -> Result<Vec<String>, Refusal>
         ensures serves { Serves D.Disk (λ (state : State). position_translated state route.now.bytes (expression_of position.now) method) (rows_reply_of result) self.now self.now }
     {
-        store_stands_in_one_state::<D>();
+        stores_have_their_laws::<D>();
         self.checks().translate(route, position, method)
     }
 
@@ -114,7 +115,7 @@ impl<D: Disk> Engine<D> {
     {
         plans_are_chosen_by_its_state::<D>();
         let counts = self.counts()?;
-        Ok(explain_lines(self.alloc, self.store.catalog(), checked, &counts)?)
+        Ok(explain_lines(self.alloc, self.live.store.catalog(), checked, &counts)?)
     }
 
     /// The checked query, which can be planned; or the refusal of the first check that fails.
@@ -124,7 +125,7 @@ impl<D: Disk> Engine<D> {
         ensures refused { (machine : Machine) → IsMachine D.Disk self.now machine
             → IfErr result (λ why. (why ≡ Refusal.OutOfMemory) ⊎ (checked machine.state (query_tree query.now) ≡ Err why)) }
     {
-        store_stands_in_one_state::<D>();
+        stores_have_their_laws::<D>();
         self.checks().checked(query)
     }
 
@@ -142,7 +143,7 @@ impl<D: Disk> Engine<D> {
     {
         engine_stands_for_its_state::<D>();
         let alloc = self.alloc;
-        let version = self.store.accepted();
+        let version = self.live.store.accepted();
         let kind = checked.kind;
         let plan = self.planned(checked)?;
         let asked = PlannedQuery {
@@ -150,7 +151,7 @@ impl<D: Disk> Engine<D> {
             kind,
             version,
         };
-        lines(alloc, self, &asked, method)
+        lines(alloc, &mut self.live, &asked, method)
     }
 
     /// The totals of a checked query, one line each.
@@ -171,7 +172,7 @@ impl<D: Disk> Engine<D> {
     {
         engine_stands_for_its_state::<D>();
         let alloc = self.alloc;
-        let version = self.store.accepted();
+        let version = self.live.store.accepted();
         let kind = checked.kind;
         let columns = total_columns(alloc, &checked.columns, by, summed)?;
         let plan = self.planned(checked)?;
@@ -180,18 +181,18 @@ impl<D: Disk> Engine<D> {
             kind,
             version,
         };
-        total_of(alloc, self, &asked, columns)
+        total_of(alloc, &mut self.live, &asked, columns)
     }
 
     /// The plan of a checked query. The only refusal is for want of memory.
-    fn planned(&self, checked: Checked) -> Result<Plan, AllocError>
+    pub(crate) fn planned(&self, checked: Checked) -> Result<Plan, AllocError>
         requires can { CanBePlanned self.now.store.catalog checked }
         ensures formed { IfOk result (λ plan. is_well_formed plan ≡ true) }
         ensures kind { IfOk result (λ plan. kind_in plan ≡ checked.kind) }
         ensures means { IfOk result (IsPlanFor self.now.store.catalog (query_of checked.query)) }
     {
         let counts = self.counts()?;
-        planned(self.alloc, self.store.catalog(), checked, &counts)
+        planned(self.alloc, self.live.store.catalog(), checked, &counts)
     }
 
     /// What its plans are chosen by. The only refusal is for want of memory.
@@ -199,9 +200,9 @@ impl<D: Disk> Engine<D> {
         ensures store { IfOk result (λ counts. counts.store.now ≡ self.now.store) }
         ensures indexes { IfOk result (λ counts. HasIndexes self.now.store.catalog (counted_of counts.store.now counts.indexes.items)) }
     {
-        let indexes = planning_indexes(self.alloc, self.store.catalog())?;
+        let indexes = planning_indexes(self.alloc, self.live.store.catalog())?;
         Ok(StoreCounts {
-            store: &self.store,
+            store: &self.live.store,
             indexes,
         })
     }

@@ -8,11 +8,11 @@ ghost use Rattle.rs_syntax.specs.Sound.{IsSound};
 ghost use Rattle.rs_syntax.specs.Tree as tree;
 
 use crate::engine::Engine;
+use crate::engine::laws::stores_have_their_laws;
 use rs_disk::Disk;
 use rs_machine_laws::lawful::accepted_step_leaves_the_state_lawful;
 use rs_methods::{Name, Position};
 use rs_refusal::Refusal;
-use rs_store::laws::store_stands_in_one_state;
 
 impl<D: Disk> Engine<D> {
     /// Defines a referent at a position of its route. Checks, in order: 20; 25, 30; 24; 27.
@@ -25,12 +25,14 @@ impl<D: Disk> Engine<D> {
         requires sound { IsSound (tree.define_referent route.now.bytes name.bytes (expression_of position.now)) }
         ensures serves { Serves D.Disk (λ state. referent_defined state route.now.bytes name.bytes (expression_of position.now)) (count_reply_of result) self.old self.new }
     {
-        store_stands_in_one_state::<D>();
+        stores_have_their_laws::<D>();
         accepted_step_leaves_the_state_lawful();
         let measure = self.checks().place_of_new_referent(route, &name, position)?;
         let oldest = self.oldest();
-        self.store
+        self.live
+            .store
             .put_referent(self.alloc, oldest, route, name, measure)?;
+        self.live.oldest = oldest;
         Ok(0)
     }
 
@@ -44,14 +46,16 @@ impl<D: Disk> Engine<D> {
         requires sound { IsSound (tree.move_referent route.now.bytes name.bytes (expression_of position.now)) }
         ensures serves { Serves D.Disk (λ state. referent_moved state route.now.bytes name.bytes (expression_of position.now)) (count_reply_of result) self.old self.new }
     {
-        store_stands_in_one_state::<D>();
+        stores_have_their_laws::<D>();
         accepted_step_leaves_the_state_lawful();
         let measure = self
             .checks()
             .place_of_moved_referent(route, &name, position)?;
         let oldest = self.oldest();
-        self.store
+        self.live
+            .store
             .put_referent(self.alloc, oldest, route, name, measure)?;
+        self.live.oldest = oldest;
         Ok(0)
     }
 
@@ -60,11 +64,14 @@ impl<D: Disk> Engine<D> {
         requires sound { IsSound (tree.drop_referent route.now.bytes name.now.bytes) }
         ensures serves { Serves D.Disk (λ state. referent_dropped state route.now.bytes name.now.bytes) (count_reply_of result) self.old self.new }
     {
-        store_stands_in_one_state::<D>();
+        stores_have_their_laws::<D>();
         accepted_step_leaves_the_state_lawful();
         self.checks().check_old_referent(route, name)?;
         let oldest = self.oldest();
-        self.store.drop_referent(self.alloc, oldest, route, name)?;
+        self.live
+            .store
+            .drop_referent(self.alloc, oldest, route, name)?;
+        self.live.oldest = oldest;
         Ok(0)
     }
 }

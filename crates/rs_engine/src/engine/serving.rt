@@ -13,10 +13,10 @@ ghost use Rattle.rs_syntax.specs.Sound.{IsSound};
 ghost use Rattle.rs_syntax.specs.View.{tree_of};
 
 use crate::engine::Engine;
+use crate::engine::laws::stores_have_their_laws;
 use rs_disk::Disk;
 use rs_refusal::Refusal;
 use rs_serve::{Finish, Reply, Serve, Session};
-use rs_store::laws::store_stands_in_one_state;
 use rs_syntax::Command;
 use rs_syntax::laws::command_of_a_line_is_sound;
 use std::alloc::Global;
@@ -35,7 +35,7 @@ impl<D: Disk + Drop> Serve for Engine<D> {
         ensures alone { StandsAlone result.rows.items result.finish }
     {
         command_of_a_line_is_sound();
-        store_stands_in_one_state::<D>();
+        stores_have_their_laws::<D>();
         self.reply_to(session, command)
     }
 

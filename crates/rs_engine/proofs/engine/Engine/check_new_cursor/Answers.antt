@@ -12,14 +12,14 @@ use Rattle.rs_engine.proofs.engine.Engine.check_new_cursor.Goals as goal
 pub returns-clause-accepted : goal.returns-clause-accepted
 returns-clause-accepted g c =
     let name = c.args.name.now.bytes in
-    on_machine g.D.Disk c.store_stands_in_one_state.ensures.state c.args.self.now c.checks.result c.checks.ensures
+    on_machine g.D.Disk c.stores_have_their_laws.ensures c.args.self.now c.checks.result c.checks.ensures
     (λ (state : State). IfOk c.check_new_cursor.result (λ checked. cursor_opened state c.args.session name (query_tree c.args.query.now) c.args.method
     ≡ Ok (counted 0 (with_cursor state c.args.session name (lines_of state (query_of checked.query) c.args.method)))))
     c.check_new_cursor.ensures.accepted
 
 pub returns-clause-refused : goal.returns-clause-refused
 returns-clause-refused g c =
-    on_machine g.D.Disk c.store_stands_in_one_state.ensures.state c.args.self.now c.checks.result c.checks.ensures
+    on_machine g.D.Disk c.stores_have_their_laws.ensures c.args.self.now c.checks.result c.checks.ensures
     (λ (state : State). IfErr c.check_new_cursor.result (λ why. (why ≡ OutOfMemory)
     ⊎ (cursor_opened state c.args.session c.args.name.now.bytes (query_tree c.args.query.now) c.args.method ≡ Err why)))
     c.check_new_cursor.ensures.refused

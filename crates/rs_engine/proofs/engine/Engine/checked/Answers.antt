@@ -11,7 +11,7 @@ use Rattle.rs_engine.proofs.engine.Engine.checked.Goals as goal
 
 pub returns-clause-is : goal.returns-clause-is
 returns-clause-is g c =
-    on_machine g.D.Disk c.store_stands_in_one_state.ensures.state c.args.self.now c.checks.result c.checks.ensures (λ (state : State). IfOk c.checked.result (IsChecked state (query_tree c.args.query.now)))
+    on_machine g.D.Disk c.stores_have_their_laws.ensures c.args.self.now c.checks.result c.checks.ensures (λ (state : State). IfOk c.checked.result (IsChecked state (query_tree c.args.query.now)))
     c.checked.ensures.is
 
 pub returns-clause-can : goal.returns-clause-can
@@ -19,5 +19,5 @@ returns-clause-can g c = can_be_planned c.args.self.now c.checks.result c.checks
 
 pub returns-clause-refused : goal.returns-clause-refused
 returns-clause-refused g c =
-    on_machine g.D.Disk c.store_stands_in_one_state.ensures.state c.args.self.now c.checks.result c.checks.ensures
+    on_machine g.D.Disk c.stores_have_their_laws.ensures c.args.self.now c.checks.result c.checks.ensures
     (λ (state : State). IfErr c.checked.result (λ why. (why ≡ OutOfMemory) ⊎ (checked state (query_tree c.args.query.now) ≡ Err why))) c.checked.ensures.refused

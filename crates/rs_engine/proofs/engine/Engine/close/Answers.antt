@@ -10,10 +10,10 @@ use Rattle.rs_engine.proofs.engine.Engine.close.Goals as goal
 pub returns-in-Ok-clause-closes : goal.returns-in-Ok-clause-closes
 returns-in-Ok-clause-closes g c =
     let d = g.D.Disk in
-    let was = engine_with c.self.inside.store c.self.inside.cursors in
+    let was = engine_with c.self.inside.live.store c.self.inside.live.oldest c.self.inside.cursors in
     subst (λ (e : EngineState g.row.D.Denot). Closes d e (Ok c.in-Ok.disk)) c.self.view_is (record {
       stands = λ machine is. subst (λ (state : State). Stands was.store.pager.limit (d.seen c.in-Ok.disk) state) (sym (without d was machine is))
-          (c.in-Ok.ensures.closes.stands was.store.file.accepted is.state is.stands);
+          (c.in-Ok.ensures.closes.stands was.oldest is.state is.stands);
       synced = c.in-Ok.ensures.closes.synced;
       stays = λ machine is. tt;
       honesty = c.in-Ok.ensures.closes.honesty;
@@ -23,12 +23,12 @@ returns-in-Ok-clause-closes g c =
 pub returns-in-Err-clause-closes : goal.returns-in-Err-clause-closes
 returns-in-Err-clause-closes g c =
     let d = g.D.Disk in
-    let was = engine_with c.self.inside.store c.self.inside.cursors in
-    let now = engine_with c.in-Err.store c.self.inside.cursors in
+    let was = engine_with c.self.inside.live.store c.self.inside.live.oldest c.self.inside.cursors in
+    let now = engine_with c.in-Err.store c.self.inside.live.oldest c.self.inside.cursors in
     subst (λ (e : EngineState g.row.D.Denot). Closes d e (Err (now, c.in-Err.refusal))) c.self.view_is (record {
       stands = λ machine is. tt;
       synced = tt;
-      stays = λ machine is. stays d was now machine is c.in-Err.ensures.closes.keeps.contents c.in-Err.ensures.closes.keeps.full c.in-Err.ensures.closes.keeps.limit refl;
+      stays = λ machine is. stays d was now machine is c.in-Err.ensures.closes.keeps.contents c.in-Err.ensures.closes.keeps.full c.in-Err.ensures.closes.keeps.limit refl refl;
       honesty = c.in-Err.ensures.closes.keeps.honesty;
       limit = c.in-Err.ensures.closes.keeps.limit;
     })

@@ -1,16 +1,17 @@
--- The cursor goes, or is not there.
-use Rattle.std.proofs.Common.{[], inr, refl, subst, sym}
-use Rattle.rs_engine.specs.Kept.{EngineState}
+-- The cursor goes, is not there, or records can't be cleared.
+use Rattle.std.proofs.Common.{[], None, inr, refl, subst, sym, ℕ}
+use Rattle.std.proofs.lemmas.Result.{err_from_is_err_and}
+use Rattle.std.specs.FinMap as names
+use Rattle.rs_cursor.specs.Held.{IsOldest, held_at, held_of, lines_left}
+use Rattle.rs_engine.specs.Kept.{EngineState, seen_at}
 use Rattle.rs_engine.specs.Serving.{Serves}
-use Rattle.rs_cursor.specs.Held.{cursors_of}
-use Rattle.rs_engine.proofs.CursorSteps.{beside, close_none, close_there, cursors_are, cursors_changed}
+use Rattle.rs_engine.proofs.CursorSteps.{close_none, close_refused, closed, cursors_are}
 use Rattle.rs_engine.proofs.Filing.{engine_with}
-use Rattle.rs_engine.proofs.Reading.{reads_refl, refused_at_once}
+use Rattle.rs_engine.proofs.Reading.{refused_at_once}
 use Rattle.rs_machine.specs.Served.{done, refused}
 use Rattle.rs_machine.specs.State.{State}
-use Rattle.rs_machine.specs.Step.{counted, cursor_closed}
+use Rattle.rs_machine.specs.Step.{cursor_closed}
 use Rattle.rs_refusal.specs.declared.refusal.Refusal.TheVariants.{NoSuchCursor}
-use Rattle.rs_syntax.specs.Tree as tree
 use Rattle.rs_engine.proofs.engine.Engine.close_cursor.Goals as goal
 
 pub returns-then-not-has : goal.returns-then-not-has
@@ -18,21 +19,36 @@ returns-then-not-has g c = record {
   serves =
       let d = g.D.Disk in
       let name = c.args.name.now.bytes in
-      let was = engine_with c.self.inside.store c.self.inside.cursors in
+      let was = engine_with c.self.inside.live.store c.self.inside.live.oldest c.self.inside.cursors in
       subst (λ (e : EngineState g.row.D.Denot). Serves d (λ (state : State). cursor_closed state c.args.session name) (refused NoSuchCursor) e e) c.self.view_is
       (λ machine is. refused_at_once d was machine is (cursor_closed machine.state c.args.session name) NoSuchCursor
-      (inr (close_none machine.state was.cursors (cursors_are d was machine is) c.args.session name (sym c.if-not-has.ensures))));
+      (inr (close_none machine.state (lines_left (seen_at is.stands.contents)) was.cursors.held (cursors_are d was machine is) c.args.session name (sym (c.if-not-has.ensures (lines_left (seen_at is.stands.contents)))))));
 }
+
+pub returns-in_err-release : goal.returns-in_err-release
+returns-in_err-release g c =
+    let d = g.D.Disk in
+    let name = c.args.name.now.bytes in
+    let was = engine_with c.self.inside.live.store c.self.inside.live.oldest c.self.inside.cursors in
+    let now = engine_with c.release.new.self c.self.inside.live.oldest c.self.inside.cursors in
+    let why = c.in_err-release.field-0.0 in
+    let p = err_from_is_err_and c.from_residual.result c.from_residual.ensures.1 in
+    rw (p.1, p.2) (record {
+      serves = subst (λ (e : EngineState g.row.D.Denot). Serves d (λ (state : State). cursor_closed state c.args.session name) (refused why) e now) c.self.view_is
+          (λ machine is. close_refused d c.accepted_step_leaves_the_state_lawful.ensures was machine is c.args.session c.session_is_in_range.ensures name c.stores_have_their_laws.ensures c.requires.sound now why
+          c.in_err-release.ensures.leaves (refl, refl));
+    })
 
 pub returns : goal.returns
 returns g c = record {
   serves =
       let d = g.D.Disk in
       let name = c.args.name.now.bytes in
-      let was = engine_with c.self.inside.store c.self.inside.cursors in
-      let now = engine_with c.self.inside.store c.close.new.self in
-      subst (λ (e : EngineState g.row.D.Denot). Serves d (λ (state : State). cursor_closed state c.args.session name) (done [] 0) e now) c.self.view_is (λ machine is.
-      let out = close_there machine.state was.cursors (cursors_are d was machine is) c.args.session name now.cursors (sym c.if-not-has.ensures) c.close.ensures in
-      cursors_changed d was was now machine is (reads_refl d was) refl (cursor_closed machine.state c.args.session name) [] 0
-      (c.accepted_step_leaves_the_state_lawful.ensures machine.state c.args.session (tree.close_cursor name) (counted 0 (beside (cursors_of now.cursors) machine.state)) c.session_is_in_range.ensures c.requires.sound is.lawful out) out);
+      let was = engine_with c.self.inside.live.store c.self.inside.live.oldest c.self.inside.cursors in
+      let least = subst (λ (most : ℕ). IsOldest (held_at c.args.session (names.remove (held_of was.cursors.held c.args.session) name) (held_of was.cursors.held)) most c.oldest_without-oldest.result) c.accepted-accepted.ensures c.oldest_without-oldest.ensures in
+      let now = engine_with c.release.new.self c.oldest_without-oldest.result (record { held = c.close.new.self; ahead = None }) in
+      subst (λ (e : EngineState g.row.D.Denot). Serves d (λ (state : State). cursor_closed state c.args.session name) (done [] 0) e now) c.self.view_is
+      (λ machine is. closed d c.accepted_step_leaves_the_state_lawful.ensures was machine is c.args.session c.session_is_in_range.ensures name c.stores_have_their_laws.ensures c.requires.sound now
+      (sym (c.if-not-has.ensures (lines_left (seen_at is.stands.contents)))) c.oldest_without-oldest.result c.in_ok-release.field-0 least
+      (c.in_ok-release.ensures.releases was.oldest is.state is.stands) c.in_ok-release.ensures.leaves refl refl c.close.ensures);
 }

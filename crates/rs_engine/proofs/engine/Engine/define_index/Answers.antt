@@ -22,32 +22,32 @@ returns-in_err-of g c =
     let table = c.args.table.bytes in
     let p = err_from_is_err_and c.from_residual.result c.from_residual.ensures.1 in
     record {
-      serves = λ machine here. check_refused c.accepted_step_leaves_the_state_lawful.ensures g.D.Disk c.store_stands_in_one_state.ensures.state c.args.self.now c.args.self.now refl
+      serves = λ machine here. check_refused c.accepted_step_leaves_the_state_lawful.ensures g.D.Disk c.stores_have_their_laws.ensures c.args.self.now c.args.self.now refl
           c.checks.result c.checks.ensures machine here (tree.define_index name table c.args.column.now.bytes) c.from_residual.result count_reply_of c.in_err-of.field-0.0
           c.args.self.now refl (p.1 ∙ ap Err p.2) refl c.in_err-of.ensures.refused;
     }
 
 pub returns-in_err-define_index : goal.returns-in_err-define_index
 returns-in_err-define_index g c =
-    let old : EngineState g.row.D.Denot = record { store = c.self.inside.store; cursors = c.self.inside.cursors } in
+    let old : EngineState g.row.D.Denot = record { store = c.self.inside.live.store; oldest = c.self.inside.live.oldest; cursors = c.self.inside.cursors } in
     let name = c.args.name.bytes in
     let table = c.args.table.bytes in
     let p = err_from_is_err_and c.from_residual-in_err-define_index.result c.from_residual-in_err-define_index.ensures.1 in
     record {
-      serves = λ machine here. change_refused c.accepted_step_leaves_the_state_lawful.ensures g.D.Disk c.store_stands_in_one_state.ensures.state old c.args.self.now c.self.view_is
+      serves = λ machine here. change_refused c.accepted_step_leaves_the_state_lawful.ensures g.D.Disk c.stores_have_their_laws.ensures old c.args.self.now c.self.view_is
           c.checks.result c.checks.ensures machine here (tree.define_index name table c.args.column.now.bytes) c.requires.sound (next_of name table c.in_ok-of.of.place) (is_step name table c.in_ok-of.of.place) 0 c.in_ok-of.ensures.accepted
-          (λ (state : State). IsLawful (next_of name table c.in_ok-of.of.place state)) (record { store = c.define_index.new.self; cursors = old.cursors }) c.from_residual-in_err-define_index.result count_reply_of c.in_err-define_index.field-0.0
-          c.in_err-define_index.ensures.leaves refl (λ is known lawful. lawful) (p.1 ∙ ap Err p.2) refl;
+          (λ (state : State). IsLawful (next_of name table c.in_ok-of.of.place state)) (record { store = c.define_index.new.self; oldest = old.oldest; cursors = old.cursors }) c.from_residual-in_err-define_index.result count_reply_of c.in_err-define_index.field-0.0
+          c.in_err-define_index.ensures.leaves (refl, refl) (λ is known lawful. lawful) (p.1 ∙ ap Err p.2) refl;
     }
 
 pub returns : goal.returns
 returns g c =
-    let old : EngineState g.row.D.Denot = record { store = c.self.inside.store; cursors = c.self.inside.cursors } in
+    let old : EngineState g.row.D.Denot = record { store = c.self.inside.live.store; oldest = c.self.inside.live.oldest; cursors = c.self.inside.cursors } in
     let name = c.args.name.bytes in
     let table = c.args.table.bytes in
     record {
-      serves = λ machine here. change_made c.accepted_step_leaves_the_state_lawful.ensures g.D.Disk c.store_stands_in_one_state.ensures.state old c.args.self.now c.self.view_is
+      serves = λ machine here. change_made c.accepted_step_leaves_the_state_lawful.ensures g.D.Disk c.stores_have_their_laws.ensures old c.args.self.now c.self.view_is
           c.checks.result c.checks.ensures machine here (tree.define_index name table c.args.column.now.bytes) c.requires.sound (next_of name table c.in_ok-of.of.place) (is_step name table c.in_ok-of.of.place) 0 c.in_ok-of.ensures.accepted
-          (λ (state : State). IsLawful (next_of name table c.in_ok-of.of.place state)) (record { store = c.define_index.new.self; cursors = old.cursors }) c.in_ok-define_index.field-0 c.in_ok-define_index.ensures.leaves refl
-          c.oldest-oldest.result c.oldest-oldest.ensures (λ is known low high level lawful. c.in_ok-define_index.ensures.defines old.store.file.accepted is.state is.stands low high lawful);
+          (λ (state : State). IsLawful (next_of name table c.in_ok-of.of.place state)) (record { store = c.define_index.new.self; oldest = c.oldest-oldest.result; cursors = old.cursors }) c.in_ok-define_index.field-0 c.in_ok-define_index.ensures.leaves
+          c.oldest-oldest.result (refl, refl) c.oldest-oldest.ensures (λ is known low high level lawful. c.in_ok-define_index.ensures.defines old.oldest is.state is.stands low high lawful);
     }

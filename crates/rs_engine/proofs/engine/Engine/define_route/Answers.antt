@@ -21,30 +21,30 @@ returns-in_err-check_new_route g c =
     let name = c.args.name.bytes in
     let p = err_from_is_err_and c.from_residual.result c.from_residual.ensures.1 in
     record {
-      serves = λ machine here. check_refused c.accepted_step_leaves_the_state_lawful.ensures g.D.Disk c.store_stands_in_one_state.ensures.state c.args.self.now c.args.self.now refl
+      serves = λ machine here. check_refused c.accepted_step_leaves_the_state_lawful.ensures g.D.Disk c.stores_have_their_laws.ensures c.args.self.now c.args.self.now refl
           c.checks.result c.checks.ensures machine here (tree.define_route name c.args.start c.args.finish) c.from_residual.result count_reply_of c.in_err-check_new_route.field-0.0
           c.args.self.now refl (p.1 ∙ ap Err p.2) refl c.in_err-check_new_route.ensures.refused;
     }
 
 pub returns-in_err-define_route : goal.returns-in_err-define_route
 returns-in_err-define_route g c =
-    let old : EngineState g.row.D.Denot = record { store = c.self.inside.store; cursors = c.self.inside.cursors } in
+    let old : EngineState g.row.D.Denot = record { store = c.self.inside.live.store; oldest = c.self.inside.live.oldest; cursors = c.self.inside.cursors } in
     let name = c.args.name.bytes in
     let p = err_from_is_err_and c.from_residual-in_err-define_route.result c.from_residual-in_err-define_route.ensures.1 in
     record {
-      serves = λ machine here. change_refused c.accepted_step_leaves_the_state_lawful.ensures g.D.Disk c.store_stands_in_one_state.ensures.state old c.args.self.now c.self.view_is
+      serves = λ machine here. change_refused c.accepted_step_leaves_the_state_lawful.ensures g.D.Disk c.stores_have_their_laws.ensures old c.args.self.now c.self.view_is
           c.checks.result c.checks.ensures machine here (tree.define_route name c.args.start c.args.finish) c.requires.sound (next_of name c.args.start c.args.finish) (is_step name c.args.start c.args.finish) 0 c.in_ok-check_new_route.ensures.accepted
-          (λ (state : State). IsLawful (next_of name c.args.start c.args.finish state)) (record { store = c.define_route.new.self; cursors = old.cursors }) c.from_residual-in_err-define_route.result count_reply_of c.in_err-define_route.field-0.0
-          c.in_err-define_route.ensures.leaves refl (λ is known lawful. lawful) (p.1 ∙ ap Err p.2) refl;
+          (λ (state : State). IsLawful (next_of name c.args.start c.args.finish state)) (record { store = c.define_route.new.self; oldest = old.oldest; cursors = old.cursors }) c.from_residual-in_err-define_route.result count_reply_of c.in_err-define_route.field-0.0
+          c.in_err-define_route.ensures.leaves (refl, refl) (λ is known lawful. lawful) (p.1 ∙ ap Err p.2) refl;
     }
 
 pub returns : goal.returns
 returns g c =
-    let old : EngineState g.row.D.Denot = record { store = c.self.inside.store; cursors = c.self.inside.cursors } in
+    let old : EngineState g.row.D.Denot = record { store = c.self.inside.live.store; oldest = c.self.inside.live.oldest; cursors = c.self.inside.cursors } in
     let name = c.args.name.bytes in
     record {
-      serves = λ machine here. change_made c.accepted_step_leaves_the_state_lawful.ensures g.D.Disk c.store_stands_in_one_state.ensures.state old c.args.self.now c.self.view_is
+      serves = λ machine here. change_made c.accepted_step_leaves_the_state_lawful.ensures g.D.Disk c.stores_have_their_laws.ensures old c.args.self.now c.self.view_is
           c.checks.result c.checks.ensures machine here (tree.define_route name c.args.start c.args.finish) c.requires.sound (next_of name c.args.start c.args.finish) (is_step name c.args.start c.args.finish) 0 c.in_ok-check_new_route.ensures.accepted
-          (λ (state : State). IsLawful (next_of name c.args.start c.args.finish state)) (record { store = c.define_route.new.self; cursors = old.cursors }) c.in_ok-define_route.field-0 c.in_ok-define_route.ensures.leaves refl
-          c.oldest-oldest.result c.oldest-oldest.ensures (λ is known low high level lawful. c.in_ok-define_route.ensures.defines old.store.file.accepted is.state is.stands low high lawful);
+          (λ (state : State). IsLawful (next_of name c.args.start c.args.finish state)) (record { store = c.define_route.new.self; oldest = c.oldest-oldest.result; cursors = old.cursors }) c.in_ok-define_route.field-0 c.in_ok-define_route.ensures.leaves
+          c.oldest-oldest.result (refl, refl) c.oldest-oldest.ensures (λ is known low high level lawful. c.in_ok-define_route.ensures.defines old.oldest is.state is.stands low high lawful);
     }

@@ -27,34 +27,34 @@ returns-in_err-check_new_view g c =
     let text = string_bytes c.args.text in
     let p = err_from_is_err_and c.from_residual.result c.from_residual.ensures.1 in
     record {
-      serves = λ session said machine here. check_wanting c.accepted_step_leaves_the_state_lawful.ensures g.D.Disk c.store_stands_in_one_state.ensures.state c.args.self.now c.args.self.now refl
+      serves = λ session said machine here. check_wanting c.accepted_step_leaves_the_state_lawful.ensures g.D.Disk c.stores_have_their_laws.ensures c.args.self.now c.args.self.now refl
           c.checks.result c.checks.ensures machine here (tree.define_view name query text) c.from_residual.result count_reply_of c.in_err-check_new_view.field-0.0
           c.args.self.now refl (p.1 ∙ ap Err p.2) refl c.in_err-check_new_view.ensures.refused;
     }
 
 pub returns-in_err-define_view : goal.returns-in_err-define_view
 returns-in_err-define_view g c =
-    let old : EngineState g.row.D.Denot = record { store = c.self.inside.store; cursors = c.self.inside.cursors } in
+    let old : EngineState g.row.D.Denot = record { store = c.self.inside.live.store; oldest = c.self.inside.live.oldest; cursors = c.self.inside.cursors } in
     let name = c.args.name.bytes in
     let query = query_tree c.args.query in
     let text = string_bytes c.args.text in
     let p = err_from_is_err_and c.from_residual-in_err-define_view.result c.from_residual-in_err-define_view.ensures.1 in
     record {
-      serves = λ session said machine here. change_refused c.accepted_step_leaves_the_state_lawful.ensures g.D.Disk c.store_stands_in_one_state.ensures.state old c.args.self.now c.self.view_is
+      serves = λ session said machine here. change_refused c.accepted_step_leaves_the_state_lawful.ensures g.D.Disk c.stores_have_their_laws.ensures old c.args.self.now c.self.view_is
           c.checks.result c.checks.ensures machine here (tree.define_view name query text) c.requires.sound (next_of name query) (is_step name query) 0 c.in_ok-check_new_view.ensures.accepted
-          (λ (state : State). HasLine name query text × IsLawful (next_of name query state)) (record { store = c.define_view.new.self; cursors = old.cursors }) c.from_residual-in_err-define_view.result count_reply_of c.in_err-define_view.field-0.0
-          c.in_err-define_view.ensures.leaves refl (λ is known lawful. (record { line = said.line; session = session; asks = said.asks }, lawful)) (p.1 ∙ ap Err p.2) refl;
+          (λ (state : State). HasLine name query text × IsLawful (next_of name query state)) (record { store = c.define_view.new.self; oldest = old.oldest; cursors = old.cursors }) c.from_residual-in_err-define_view.result count_reply_of c.in_err-define_view.field-0.0
+          c.in_err-define_view.ensures.leaves (refl, refl) (λ is known lawful. (record { line = said.line; session = session; asks = said.asks }, lawful)) (p.1 ∙ ap Err p.2) refl;
     }
 
 pub returns : goal.returns
 returns g c =
-    let old : EngineState g.row.D.Denot = record { store = c.self.inside.store; cursors = c.self.inside.cursors } in
+    let old : EngineState g.row.D.Denot = record { store = c.self.inside.live.store; oldest = c.self.inside.live.oldest; cursors = c.self.inside.cursors } in
     let name = c.args.name.bytes in
     let query = query_tree c.args.query in
     let text = string_bytes c.args.text in
     record {
-      serves = λ session said machine here. change_made c.accepted_step_leaves_the_state_lawful.ensures g.D.Disk c.store_stands_in_one_state.ensures.state old c.args.self.now c.self.view_is
+      serves = λ session said machine here. change_made c.accepted_step_leaves_the_state_lawful.ensures g.D.Disk c.stores_have_their_laws.ensures old c.args.self.now c.self.view_is
           c.checks.result c.checks.ensures machine here (tree.define_view name query text) c.requires.sound (next_of name query) (is_step name query) 0 c.in_ok-check_new_view.ensures.accepted
-          (λ (state : State). HasLine name query text × IsLawful (next_of name query state)) (record { store = c.define_view.new.self; cursors = old.cursors }) c.in_ok-define_view.field-0 c.in_ok-define_view.ensures.leaves refl
-          c.oldest-oldest.result c.oldest-oldest.ensures (λ is known low high level lawful. c.in_ok-define_view.ensures.defines old.store.file.accepted is.state is.stands low high (record { line = said.line; session = session; asks = said.asks }) lawful);
+          (λ (state : State). HasLine name query text × IsLawful (next_of name query state)) (record { store = c.define_view.new.self; oldest = c.oldest-oldest.result; cursors = old.cursors }) c.in_ok-define_view.field-0 c.in_ok-define_view.ensures.leaves
+          c.oldest-oldest.result (refl, refl) c.oldest-oldest.ensures (λ is known low high level lawful. c.in_ok-define_view.ensures.defines old.oldest is.state is.stands low high (record { line = said.line; session = session; asks = said.asks }) lawful);
     }

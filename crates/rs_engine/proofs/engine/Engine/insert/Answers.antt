@@ -23,16 +23,16 @@ pub returns-in_err-span : goal.returns-in_err-span
 returns-in_err-span g c =
     let p = err_from_is_err_and c.from_residual.result c.from_residual.ensures.1 in
     record {
-      serves = λ machine here. check_wanting c.accepted_step_leaves_the_state_lawful.ensures g.D.Disk c.store_stands_in_one_state.ensures.state c.args.self.now c.args.self.now refl
+      serves = λ machine here. check_wanting c.accepted_step_leaves_the_state_lawful.ensures g.D.Disk c.stores_have_their_laws.ensures c.args.self.now c.args.self.now refl
           c.checks.result c.checks.ensures machine here (tree.insert c.args.table.now.bytes c.args.route.now.bytes (location_tree c.args.place.now) (literal_row c.args.values.now))
           c.from_residual.result count_reply_of c.in_err-span.field-0.0 c.args.self.now refl (p.1 ∙ ap Err p.2) refl c.in_err-span.ensures.refused;
     }
 
 pub returns-in_err-new_facts : goal.returns-in_err-new_facts
 returns-in_err-new_facts g c =
-    let old : EngineState g.row.D.Denot = record { store = c.self.inside.store; cursors = c.self.inside.cursors } in
+    let old : EngineState g.row.D.Denot = record { store = c.self.inside.live.store; oldest = c.self.inside.live.oldest; cursors = c.self.inside.cursors } in
     let laws = c.accepted_step_leaves_the_state_lawful.ensures in
-    let states = c.store_stands_in_one_state.ensures.state in
+    let states = c.stores_have_their_laws.ensures in
     let name = c.args.table.now.bytes in
     let route = c.args.route.now.bytes in
     let span = seen c.in_ok-span.span in
@@ -44,21 +44,21 @@ returns-in_err-new_facts g c =
           let so : State → Table → Type 0 = λ state table. outcome state 0 said
           ≡ Ok (counted (new_facts table.facts route span.lo span.hi span.row) (with_table_named name (with_facts_along table route span.lo span.hi span.row) state)) in
           let t = found laws g.D.Disk states old c.args.self.now c.self.view_is c.checks.result c.checks.ensures machine here said (HasTableSo name so)
-          (λ spans. table_so c.checks.result name event.table event.table_there so spans (c.in_ok-span.ensures.accepted spans)) in
+          (λ unseen. table_so c.checks.result name event.table event.table_there so unseen (c.in_ok-span.ensures.accepted unseen)) in
           let next = with_facts_along t.table route span.lo span.hi span.row in
           refused_at laws g.D.Disk states old c.args.self.now c.self.view_is c.checks.result c.checks.ensures machine here said c.requires.sound
           (with_table_named name next) (table_step name next) (new_facts t.table.facts route span.lo span.hi span.row) t.is
-          Always (record { store = c.insert.new.self; cursors = old.cursors }) c.from_residual-in_err-new_facts.result count_reply_of c.in_err-new_facts.field-0.0
-          c.in_err-new_facts.ensures.leaves refl (λ is known lawful. tt) (p.1 ∙ ap Err p.2) refl;
+          Always (record { store = c.insert.new.self; oldest = old.oldest; cursors = old.cursors }) c.from_residual-in_err-new_facts.result count_reply_of c.in_err-new_facts.field-0.0
+          c.in_err-new_facts.ensures.leaves (refl, refl) (λ is known lawful. tt) (p.1 ∙ ap Err p.2) refl;
     }
 
 pub returns : goal.returns
 returns g c =
     let d = g.D.Disk in
-    let old : EngineState g.row.D.Denot = record { store = c.self.inside.store; cursors = c.self.inside.cursors } in
-    let now : EngineState g.row.D.Denot = record { store = c.insert.new.self; cursors = old.cursors } in
+    let old : EngineState g.row.D.Denot = record { store = c.self.inside.live.store; oldest = c.self.inside.live.oldest; cursors = c.self.inside.cursors } in
+    let now : EngineState g.row.D.Denot = record { store = c.insert.new.self; oldest = c.oldest-oldest.result; cursors = old.cursors } in
     let laws = c.accepted_step_leaves_the_state_lawful.ensures in
-    let states = c.store_stands_in_one_state.ensures.state in
+    let states = c.stores_have_their_laws.ensures in
     let name = c.args.table.now.bytes in
     let route = c.args.route.now.bytes in
     let span = seen c.in_ok-span.span in
@@ -69,15 +69,15 @@ returns g c =
           let so : State → Table → Type 0 = λ state table. outcome state 0 said
           ≡ Ok (counted (new_facts table.facts route span.lo span.hi span.row) (with_table_named name (with_facts_along table route span.lo span.hi span.row) state)) in
           let t = found laws d states old c.args.self.now c.self.view_is c.checks.result c.checks.ensures machine here said (HasTableSo name so)
-          (λ spans. table_so c.checks.result name event.table event.table_there so spans (c.in_ok-span.ensures.accepted spans)) in
+          (λ unseen. table_so c.checks.result name event.table event.table_there so unseen (c.in_ok-span.ensures.accepted unseen)) in
           let next = with_facts_along t.table route span.lo span.hi span.row in
           let count = new_facts t.table.facts route span.lo span.hi span.row in
           let there : (is : IsMachine d old machine) → names.get is.state.tables name ≡ Some t.table = λ is.
           subst (λ (state : State). names.get state.tables name ≡ Some t.table) is.is t.there in
           let counted_so : c.in_ok-new_facts.new_facts ≡ count = by_step laws d states old c.args.self.now c.self.view_is c.checks.result c.checks.ensures machine here said c.requires.sound
-          (with_table_named name next) (table_step name next) count t.is c.oldest-oldest.result c.oldest-oldest.ensures (λ is low high lawful. (c.in_ok-new_facts.ensures.inserts old.store.file.accepted is.state is.stands low high t.table (there is) lawful).1) in
+          (with_table_named name next) (table_step name next) count t.is c.oldest-oldest.result c.oldest-oldest.ensures (λ is low high lawful. (c.in_ok-new_facts.ensures.inserts old.oldest is.state is.stands low high t.table (there is) lawful).1) in
           subst (λ (n : ℕ). IsServed d (outcome machine.state 0 said) machine (done [] n) now) (sym (c.from.ensures ∙ counted_so))
           (made_at laws d states old c.args.self.now c.self.view_is c.checks.result c.checks.ensures machine here said c.requires.sound
-          (with_table_named name next) (table_step name next) count t.is Always now c.in_ok-new_facts.new_facts c.in_ok-new_facts.ensures.leaves refl
-          c.oldest-oldest.result c.oldest-oldest.ensures (λ is known low high level lawful. (c.in_ok-new_facts.ensures.inserts old.store.file.accepted is.state is.stands low high t.table (there is) lawful).0));
+          (with_table_named name next) (table_step name next) count t.is Always now c.in_ok-new_facts.new_facts c.in_ok-new_facts.ensures.leaves
+          c.oldest-oldest.result (refl, refl) c.oldest-oldest.ensures (λ is known low high level lawful. (c.in_ok-new_facts.ensures.inserts old.oldest is.state is.stands low high t.table (there is) lawful).0));
     }

@@ -1,15 +1,18 @@
 -- They are those of the state for which the engine stands.
-use Rattle.std.proofs.Common.{◌≡◌, ◌∙◌, ℕ, ap, subst, sym}
+use Rattle.std.proofs.Common.{ℕ, subst, sym}
 use Rattle.std.proofs.lemmas.Result.{IfOk-weaker}
-use Rattle.rs_answers.specs.Standing.{StandsAt}
+use Rattle.rs_answers.specs.Plans.{IsPlanFor}
+use Rattle.rs_answers.specs.Present.{IsPresent}
 use Rattle.rs_checker.specs.CheckedView.{query_of}
-use Rattle.rs_engine.specs.Kept.{EngineState}
-use Rattle.rs_engine.specs.Reads.{ShowsPresent, definitions_of, referents_of}
+use Rattle.rs_engine.specs.Kept.{EngineState, IsMachine}
+use Rattle.rs_engine.proofs.Filing.{engine_with}
 use Rattle.rs_engine.proofs.engine.Engine.lines_of_checked.Goals as goal
 
 pub returns-clause-lines : goal.returns-clause-lines
 returns-clause-lines g c = λ machine is.
-    let version : c.args.self.now.store.file.accepted ≡ c.accepted-version.result =
-    ap (λ (e : EngineState g.row.D.Denot). e.store.file.accepted) (sym c.self.view_is) ∙ sym c.accepted-version.ensures in
-    let stands = subst (λ (v : ℕ). StandsAt (ShowsPresent g.D.Disk) definitions_of referents_of v c.args.self.now machine.state) version (c.engine_stands_for_its_state.ensures c.args.self.now machine is) in
-    IfOk-weaker c.lines.result _ _ (λ rows are. are (query_of c.args.checked.query) c.in_ok-plan.ensures.means machine.state stands) c.lines.ensures.lines
+    let was = engine_with c.self.inside.live.store c.self.inside.live.oldest c.self.inside.cursors in
+    let now = c.engine_stands_for_its_state.ensures.state was machine (subst (λ (e : EngineState g.row.D.Denot). IsMachine g.D.Disk e machine) (sym c.self.view_is) is) in
+    let present = subst (λ (version : ℕ). IsPresent was.store.catalog was.store.referents machine.state (now.snapshots version)) (sym c.accepted-version.ensures) now.present in
+    let means = subst (λ (e : EngineState g.row.D.Denot). IsPlanFor e.store.catalog (query_of c.args.checked.query) c.in_ok-plan.plan) (sym c.self.view_is) c.in_ok-plan.ensures.means in
+    IfOk-weaker c.lines.result _ _ (λ rows are.
+    are (query_of c.args.checked.query) means machine.state (record { snapshots = now.snapshots; is = now.shows; present = present })) c.lines.ensures.lines

@@ -28,32 +28,32 @@ returns-in_err-measure g c =
     let name = c.args.name.bytes in
     let p = err_from_is_err_and c.from_residual.result c.from_residual.ensures.1 in
     record {
-      serves = λ machine here. check_refused c.accepted_step_leaves_the_state_lawful.ensures g.D.Disk c.store_stands_in_one_state.ensures.state c.args.self.now c.args.self.now refl
+      serves = λ machine here. check_refused c.accepted_step_leaves_the_state_lawful.ensures g.D.Disk c.stores_have_their_laws.ensures c.args.self.now c.args.self.now refl
           c.checks.result c.checks.ensures machine here (tree.move_referent route name (expression_of c.args.position.now)) c.from_residual.result count_reply_of c.in_err-measure.field-0.0
           c.args.self.now refl (p.1 ∙ ap Err p.2) refl c.in_err-measure.ensures.refused;
     }
 
 pub returns-in_err-put_referent : goal.returns-in_err-put_referent
 returns-in_err-put_referent g c =
-    let old : EngineState g.row.D.Denot = record { store = c.self.inside.store; cursors = c.self.inside.cursors } in
+    let old : EngineState g.row.D.Denot = record { store = c.self.inside.live.store; oldest = c.self.inside.live.oldest; cursors = c.self.inside.cursors } in
     let route = c.args.route.now.bytes in
     let name = c.args.name.bytes in
     let p = err_from_is_err_and c.from_residual-in_err-put_referent.result c.from_residual-in_err-put_referent.ensures.1 in
     record {
-      serves = λ machine here. change_refused c.accepted_step_leaves_the_state_lawful.ensures g.D.Disk c.store_stands_in_one_state.ensures.state old c.args.self.now c.self.view_is
+      serves = λ machine here. change_refused c.accepted_step_leaves_the_state_lawful.ensures g.D.Disk c.stores_have_their_laws.ensures old c.args.self.now c.self.view_is
           c.checks.result c.checks.ensures machine here (tree.move_referent route name (expression_of c.args.position.now)) c.requires.sound (put route name c.in_ok-measure.measure) (is_step route name c.in_ok-measure.measure) 0 c.in_ok-measure.ensures.accepted
-          Always (record { store = c.put_referent.new.self; cursors = old.cursors }) c.from_residual-in_err-put_referent.result count_reply_of c.in_err-put_referent.field-0.0
-          c.in_err-put_referent.ensures.leaves refl (λ is known lawful. tt) (p.1 ∙ ap Err p.2) refl;
+          Always (record { store = c.put_referent.new.self; oldest = old.oldest; cursors = old.cursors }) c.from_residual-in_err-put_referent.result count_reply_of c.in_err-put_referent.field-0.0
+          c.in_err-put_referent.ensures.leaves (refl, refl) (λ is known lawful. tt) (p.1 ∙ ap Err p.2) refl;
     }
 
 pub returns : goal.returns
 returns g c =
-    let old : EngineState g.row.D.Denot = record { store = c.self.inside.store; cursors = c.self.inside.cursors } in
+    let old : EngineState g.row.D.Denot = record { store = c.self.inside.live.store; oldest = c.self.inside.live.oldest; cursors = c.self.inside.cursors } in
     let route = c.args.route.now.bytes in
     let name = c.args.name.bytes in
     record {
-      serves = λ machine here. change_made c.accepted_step_leaves_the_state_lawful.ensures g.D.Disk c.store_stands_in_one_state.ensures.state old c.args.self.now c.self.view_is
+      serves = λ machine here. change_made c.accepted_step_leaves_the_state_lawful.ensures g.D.Disk c.stores_have_their_laws.ensures old c.args.self.now c.self.view_is
           c.checks.result c.checks.ensures machine here (tree.move_referent route name (expression_of c.args.position.now)) c.requires.sound (put route name c.in_ok-measure.measure) (is_step route name c.in_ok-measure.measure) 0 c.in_ok-measure.ensures.accepted
-          Always (record { store = c.put_referent.new.self; cursors = old.cursors }) c.in_ok-put_referent.field-0 c.in_ok-put_referent.ensures.leaves refl
-          c.oldest-oldest.result c.oldest-oldest.ensures (λ is known low high level lawful. c.in_ok-put_referent.ensures.puts old.store.file.accepted is.state is.stands low high lawful);
+          Always (record { store = c.put_referent.new.self; oldest = c.oldest-oldest.result; cursors = old.cursors }) c.in_ok-put_referent.field-0 c.in_ok-put_referent.ensures.leaves
+          c.oldest-oldest.result (refl, refl) c.oldest-oldest.ensures (λ is known low high level lawful. c.in_ok-put_referent.ensures.puts old.oldest is.state is.stands low high lawful);
     }

@@ -23,16 +23,16 @@ pub returns-in_err-removal : goal.returns-in_err-removal
 returns-in_err-removal g c =
     let p = err_from_is_err_and c.from_residual.result c.from_residual.ensures.1 in
     record {
-      serves = λ machine here. check_wanting c.accepted_step_leaves_the_state_lawful.ensures g.D.Disk c.store_stands_in_one_state.ensures.state c.args.self.now c.args.self.now refl
+      serves = λ machine here. check_wanting c.accepted_step_leaves_the_state_lawful.ensures g.D.Disk c.stores_have_their_laws.ensures c.args.self.now c.args.self.now refl
           c.checks.result c.checks.ensures machine here (tree.remove c.args.table.now.bytes (window_tree c.args.window.now) (removal_tree c.args.condition.now))
           c.from_residual.result count_reply_of c.in_err-removal.field-0.0 c.args.self.now refl (p.1 ∙ ap Err p.2) refl c.in_err-removal.ensures.refused;
     }
 
 pub returns-in_err-gone : goal.returns-in_err-gone
 returns-in_err-gone g c =
-    let old : EngineState g.row.D.Denot = record { store = c.self.inside.store; cursors = c.self.inside.cursors } in
+    let old : EngineState g.row.D.Denot = record { store = c.self.inside.live.store; oldest = c.self.inside.live.oldest; cursors = c.self.inside.cursors } in
     let laws = c.accepted_step_leaves_the_state_lawful.ensures in
-    let states = c.store_stands_in_one_state.ensures.state in
+    let states = c.stores_have_their_laws.ensures in
     let name = c.args.table.now.bytes in
     let removal = c.in_ok-removal.removal in
     let goes = goes_by removal.goes in
@@ -44,21 +44,21 @@ returns-in_err-gone g c =
           let so : State → Table → Type 0 = λ state table. outcome state 0 said
           ≡ Ok (counted (removed_facts table.facts removal.route.bytes removal.lo removal.hi goes) (with_table_named name (without_facts table removal.route.bytes removal.lo removal.hi goes) state)) in
           let t = found laws g.D.Disk states old c.args.self.now c.self.view_is c.checks.result c.checks.ensures machine here said (HasTableSo name so)
-          (λ spans. table_so c.checks.result name event.table event.table_there so spans (c.in_ok-removal.ensures.accepted spans)) in
+          (λ unseen. table_so c.checks.result name event.table event.table_there so unseen (c.in_ok-removal.ensures.accepted unseen)) in
           let next = without_facts t.table removal.route.bytes removal.lo removal.hi goes in
           refused_at laws g.D.Disk states old c.args.self.now c.self.view_is c.checks.result c.checks.ensures machine here said c.requires.sound
           (with_table_named name next) (table_step name next) (removed_facts t.table.facts removal.route.bytes removal.lo removal.hi goes) t.is
-          Always (record { store = c.remove.new.self; cursors = old.cursors }) c.from_residual-in_err-gone.result count_reply_of c.in_err-gone.field-0.0
-          c.in_err-gone.ensures.leaves refl (λ is known lawful. tt) (p.1 ∙ ap Err p.2) refl;
+          Always (record { store = c.remove.new.self; oldest = old.oldest; cursors = old.cursors }) c.from_residual-in_err-gone.result count_reply_of c.in_err-gone.field-0.0
+          c.in_err-gone.ensures.leaves (refl, refl) (λ is known lawful. tt) (p.1 ∙ ap Err p.2) refl;
     }
 
 pub returns : goal.returns
 returns g c =
     let d = g.D.Disk in
-    let old : EngineState g.row.D.Denot = record { store = c.self.inside.store; cursors = c.self.inside.cursors } in
-    let now : EngineState g.row.D.Denot = record { store = c.remove.new.self; cursors = old.cursors } in
+    let old : EngineState g.row.D.Denot = record { store = c.self.inside.live.store; oldest = c.self.inside.live.oldest; cursors = c.self.inside.cursors } in
+    let now : EngineState g.row.D.Denot = record { store = c.remove.new.self; oldest = c.oldest-oldest.result; cursors = old.cursors } in
     let laws = c.accepted_step_leaves_the_state_lawful.ensures in
-    let states = c.store_stands_in_one_state.ensures.state in
+    let states = c.stores_have_their_laws.ensures in
     let name = c.args.table.now.bytes in
     let removal = c.in_ok-removal.removal in
     let goes = goes_by removal.goes in
@@ -69,15 +69,15 @@ returns g c =
           let so : State → Table → Type 0 = λ state table. outcome state 0 said
           ≡ Ok (counted (removed_facts table.facts removal.route.bytes removal.lo removal.hi goes) (with_table_named name (without_facts table removal.route.bytes removal.lo removal.hi goes) state)) in
           let t = found laws d states old c.args.self.now c.self.view_is c.checks.result c.checks.ensures machine here said (HasTableSo name so)
-          (λ spans. table_so c.checks.result name event.table event.table_there so spans (c.in_ok-removal.ensures.accepted spans)) in
+          (λ unseen. table_so c.checks.result name event.table event.table_there so unseen (c.in_ok-removal.ensures.accepted unseen)) in
           let next = without_facts t.table removal.route.bytes removal.lo removal.hi goes in
           let count = removed_facts t.table.facts removal.route.bytes removal.lo removal.hi goes in
           let there : (is : IsMachine d old machine) → names.get is.state.tables name ≡ Some t.table = λ is.
           subst (λ (state : State). names.get state.tables name ≡ Some t.table) is.is t.there in
           let counted_so : c.in_ok-gone.gone ≡ count = by_step laws d states old c.args.self.now c.self.view_is c.checks.result c.checks.ensures machine here said c.requires.sound
-          (with_table_named name next) (table_step name next) count t.is c.oldest-oldest.result c.oldest-oldest.ensures (λ is low high lawful. (c.in_ok-gone.ensures.removes old.store.file.accepted is.state is.stands low high t.table (there is) lawful).1) in
+          (with_table_named name next) (table_step name next) count t.is c.oldest-oldest.result c.oldest-oldest.ensures (λ is low high lawful. (c.in_ok-gone.ensures.removes old.oldest is.state is.stands low high t.table (there is) lawful).1) in
           subst (λ (n : ℕ). IsServed d (outcome machine.state 0 said) machine (done [] n) now) (sym counted_so)
           (made_at laws d states old c.args.self.now c.self.view_is c.checks.result c.checks.ensures machine here said c.requires.sound
-          (with_table_named name next) (table_step name next) count t.is Always now c.in_ok-gone.gone c.in_ok-gone.ensures.leaves refl
-          c.oldest-oldest.result c.oldest-oldest.ensures (λ is known low high level lawful. (c.in_ok-gone.ensures.removes old.store.file.accepted is.state is.stands low high t.table (there is) lawful).0));
+          (with_table_named name next) (table_step name next) count t.is Always now c.in_ok-gone.gone c.in_ok-gone.ensures.leaves
+          c.oldest-oldest.result (refl, refl) c.oldest-oldest.ensures (λ is known low high level lawful. (c.in_ok-gone.ensures.removes old.oldest is.state is.stands low high t.table (there is) lawful).0));
     }

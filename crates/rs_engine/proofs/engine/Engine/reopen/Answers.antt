@@ -1,5 +1,5 @@
 -- The store stands in the same state, and there are no cursors.
-use Rattle.std.proofs.Common.{[], Ok, Err, ap, arith, inl, inr, refl, subst, sym}
+use Rattle.std.proofs.Common.{[], None, Ok, Err, ap, arith, inl, inr, refl, subst, sym}
 use Rattle.std.proofs.lemmas.Result.{err_from_is_err_and}
 use Rattle.rs_engine.specs.Files.{Saves}
 use Rattle.rs_engine.specs.Kept.{EngineState}
@@ -15,38 +15,38 @@ use Rattle.rs_engine.proofs.engine.Engine.reopen.Goals as goal
 pub returns-in_err-reopen-clause-serves : goal.returns-in_err-reopen-clause-serves
 returns-in_err-reopen-clause-serves g c =
     let d = g.D.Disk in
-    let was = engine_with c.self.inside.store c.self.inside.cursors in
-    let now = engine_with c.reopen.new.self c.self.inside.cursors in
+    let was = engine_with c.self.inside.live.store c.self.inside.live.oldest c.self.inside.cursors in
+    let now = engine_with c.reopen.new.self c.self.inside.live.oldest c.self.inside.cursors in
     let why = c.in_err-reopen.field-0.0 in
     let p = err_from_is_err_and c.from_residual.result c.from_residual.ensures.1 in
     rw (p.1, p.2) (subst (λ (e : EngineState g.row.D.Denot). Serves d (λ (state : State). Ok (counted 0 (without_cursors state))) (refused why) e now) c.self.view_is
     (λ machine is. names_a_want d was now machine is
-    (stays d was now machine is c.in_err-reopen.ensures.reopens.stays c.in_err-reopen.ensures.reopens.full c.in_err-reopen.ensures.reopens.limit refl) (Ok (counted 0 (without_cursors machine.state))) why
+    (stays d was now machine is c.in_err-reopen.ensures.reopens.stays c.in_err-reopen.ensures.reopens.full c.in_err-reopen.ensures.reopens.limit refl refl) (Ok (counted 0 (without_cursors machine.state))) why
     c.in_err-reopen.ensures.count
     (elim c.in_err-reopen.ensures.refused [
       | inl memory ↦ inl memory
       | inr (inl failed) ↦ inr failed
-      | inr (inr damaged) ↦ absurd (c.in_err-reopen.ensures.reopens.sound was.store.file.accepted is.state is.stands (ap Err damaged))
+      | inr (inr damaged) ↦ absurd (c.in_err-reopen.ensures.reopens.sound was.oldest is.state is.stands (ap Err damaged))
     ])))
 
 pub returns-clause-serves : goal.returns-clause-serves
 returns-clause-serves g c =
     let d = g.D.Disk in
-    let was = engine_with c.self.inside.store c.self.inside.cursors in
-    let now = engine_with c.reopen.new.self c.close_all.new.self in
+    let was = engine_with c.self.inside.live.store c.self.inside.live.oldest c.self.inside.cursors in
+    let now = engine_with c.reopen.new.self c.accepted-self-inside.result (record { held = c.close_all.new.self; ahead = None }) in
     subst (λ (e : EngineState g.row.D.Denot). Serves d (λ (state : State). Ok (counted 0 (without_cursors state))) (done [] 0) e now) c.self.view_is
     (λ machine is. served_anew d was now machine is
     (c.accepted_step_leaves_the_state_lawful.ensures machine.state 0 reopen (counted 0 (without_cursors machine.state)) (omega arith) tt is.lawful refl)
-    (c.in_ok-reopen.ensures.reopens.state was.store.file.accepted is.state is.stands) c.in_ok-reopen.ensures.reopens.full c.in_ok-reopen.ensures.reopens.limit c.in_ok-reopen.ensures.count c.close_all.ensures)
+    (c.in_ok-reopen.ensures.reopens.state was.oldest is.state is.stands) c.in_ok-reopen.ensures.reopens.full c.in_ok-reopen.ensures.reopens.limit c.in_ok-reopen.ensures.count c.close_all.ensures.held c.accepted-self-inside.ensures)
 
 pub returns-clause-saves : goal.returns-clause-saves
 returns-clause-saves g c =
     let d = g.D.Disk in
-    let was = engine_with c.self.inside.store c.self.inside.cursors in
-    let now = engine_with c.reopen.new.self c.close_all.new.self in
+    let was = engine_with c.self.inside.live.store c.self.inside.live.oldest c.self.inside.cursors in
+    let now = engine_with c.reopen.new.self c.accepted-self-inside.result (record { held = c.close_all.new.self; ahead = None }) in
     subst (λ (e : EngineState g.row.D.Denot). Saves d (Ok tt) e now) c.self.view_is (record {
       file = λ machine is. subst (λ (state : State). IsFileOf now.store.pager.limit (d.seen now.store.pager.disk) state) (sym (without d was machine is))
-          (c.in_ok-reopen.ensures.saves.file was.store.file.accepted is.state is.stands);
+          (c.in_ok-reopen.ensures.saves.file was.oldest is.state is.stands);
       synced = c.in_ok-reopen.ensures.saves.synced;
       honesty = c.in_ok-reopen.ensures.reopens.honesty;
       limit = c.in_ok-reopen.ensures.reopens.limit;

@@ -14,32 +14,32 @@ use Rattle.rs_engine.proofs.engine.Engine.save.Goals as goal
 pub returns-in_err-save-clause-serves : goal.returns-in_err-save-clause-serves
 returns-in_err-save-clause-serves g c =
     let d = g.D.Disk in
-    let was = engine_with c.self.inside.store c.self.inside.cursors in
-    let now = engine_with c.save.new.self c.self.inside.cursors in
+    let was = engine_with c.self.inside.live.store c.self.inside.live.oldest c.self.inside.cursors in
+    let now = engine_with c.save.new.self c.self.inside.live.oldest c.self.inside.cursors in
     let why = c.in_err-save.field-0.0 in
     let p = err_from_is_err_and c.from_residual.result c.from_residual.ensures.1 in
     rw (p.1, p.2) (subst (λ (e : EngineState g.row.D.Denot). Serves d (λ (state : State). Ok (counted 0 state)) (refused why) e now) c.self.view_is
     (λ machine is. names_a_want d was now machine is
-    (stays d was now machine is c.in_err-save.ensures.keeps.contents c.in_err-save.ensures.keeps.full c.in_err-save.ensures.keeps.limit refl) (Ok (counted 0 machine.state)) why
+    (stays d was now machine is c.in_err-save.ensures.keeps.contents c.in_err-save.ensures.keeps.full c.in_err-save.ensures.keeps.limit refl refl) (Ok (counted 0 machine.state)) why
     (record { disk = λ failed. c.in_err-save.ensures.count; other = λ other. absurd (other c.in_err-save.ensures.refused) })
     (inr c.in_err-save.ensures.refused)))
 
 pub returns-clause-serves : goal.returns-clause-serves
 returns-clause-serves g c =
     let d = g.D.Disk in
-    let was = engine_with c.self.inside.store c.self.inside.cursors in
-    let now = engine_with c.save.new.self c.self.inside.cursors in
+    let was = engine_with c.self.inside.live.store c.self.inside.live.oldest c.self.inside.cursors in
+    let now = engine_with c.save.new.self c.self.inside.live.oldest c.self.inside.cursors in
     subst (λ (e : EngineState g.row.D.Denot). Serves d (λ (state : State). Ok (counted 0 state)) (done [] 0) e now) c.self.view_is
-    (λ machine is. served_same d was now machine is (stays d was now machine is c.save.ensures.keeps.contents c.save.ensures.keeps.full c.save.ensures.keeps.limit refl) c.in_ok-save.ensures.count)
+    (λ machine is. served_same d was now machine is (stays d was now machine is c.save.ensures.keeps.contents c.save.ensures.keeps.full c.save.ensures.keeps.limit refl refl) c.in_ok-save.ensures.count)
 
 pub returns-clause-saves : goal.returns-clause-saves
 returns-clause-saves g c =
     let d = g.D.Disk in
-    let was = engine_with c.self.inside.store c.self.inside.cursors in
-    let now = engine_with c.save.new.self c.self.inside.cursors in
+    let was = engine_with c.self.inside.live.store c.self.inside.live.oldest c.self.inside.cursors in
+    let now = engine_with c.save.new.self c.self.inside.live.oldest c.self.inside.cursors in
     subst (λ (e : EngineState g.row.D.Denot). Saves d (Ok 0) e now) c.self.view_is (record {
       file = λ machine is. subst (λ (state : State). IsFileOf now.store.pager.limit (d.seen now.store.pager.disk) state) (sym (without d was machine is))
-          (c.in_ok-save.ensures.saves.file was.store.file.accepted is.state is.stands);
+          (c.in_ok-save.ensures.saves.file was.oldest is.state is.stands);
       synced = c.in_ok-save.ensures.saves.synced;
       honesty = c.save.ensures.keeps.honesty;
       limit = c.save.ensures.keeps.limit;

@@ -1,29 +1,37 @@
 -- They are those of the state for which the engine stands.
-use Rattle.std.proofs.Common.{◌≡◌, ◌∙◌, ⊎_elim, ℕ, ap, inl, inr, map, subst, sym}
+use Rattle.std.proofs.Common.{◌≡◌, ◌⊎◌, ⊎_elim, ℕ, Err, inl, inr, map, subst, sym}
 use Rattle.std.proofs.lemmas.Result.{IfErr-weaker, IfOk-weaker}
-use Rattle.rs_answers.specs.Standing.{StandsAt}
+use Rattle.std.specs.Prelude.{IfErr}
+use Rattle.rs_answers.specs.Plans.{IsPlanFor}
+use Rattle.rs_answers.specs.Present.{IsPresent}
+use Rattle.rs_answers.specs.Totalled.{totals_of_query}
 use Rattle.rs_checker.specs.CheckedView.{query_of}
-use Rattle.rs_engine.specs.Kept.{EngineState}
-use Rattle.rs_engine.specs.Reads.{ShowsPresent, definitions_of, referents_of}
+use Rattle.rs_engine.specs.Kept.{EngineState, IsMachine}
+use Rattle.rs_engine.specs.Reads.{WantsFrom}
+use Rattle.rs_engine.proofs.Filing.{engine_with}
 use Rattle.rs_syntax.specs.View.{column_tree, summed_tree}
 use Rattle.rs_engine.proofs.engine.Engine.total_of_checked.Goals as goal
 
 pub returns-clause-done : goal.returns-clause-done
 returns-clause-done g c = λ machine is seen.
-    let query = query_of c.args.checked.query in
-    let version : c.args.self.now.store.file.accepted ≡ c.accepted-version.result =
-    ap (λ (e : EngineState g.row.D.Denot). e.store.file.accepted) (sym c.self.view_is) ∙ sym c.accepted-version.ensures in
-    let stands = subst (λ (v : ℕ). StandsAt (ShowsPresent g.D.Disk) definitions_of referents_of v c.args.self.now machine.state) version (c.engine_stands_for_its_state.ensures c.args.self.now machine is) in
+    let was = engine_with c.self.inside.live.store c.self.inside.live.oldest c.self.inside.cursors in
+    let now = c.engine_stands_for_its_state.ensures.state was machine (subst (λ (e : EngineState g.row.D.Denot). IsMachine g.D.Disk e machine) (sym c.self.view_is) is) in
+    let present = subst (λ (version : ℕ). IsPresent was.store.catalog was.store.referents machine.state (now.snapshots version)) (sym c.accepted-version.ensures) now.present in
+    let means = subst (λ (e : EngineState g.row.D.Denot). IsPlanFor e.store.catalog (query_of c.args.checked.query) c.in_ok-plan.plan) (sym c.self.view_is) c.in_ok-plan.ensures.means in
     IfOk-weaker c.total_of.result _ _ (λ rows done.
-    done query c.in_ok-plan.ensures.means machine.state stands (map column_tree c.args.checked.columns.items) (map (λ name. name.bytes) c.args.by.now) (summed_tree c.args.summed.now) c.in_ok-columns.ensures.ok seen)
+    done (query_of c.args.checked.query) means machine.state (record { snapshots = now.snapshots; is = now.shows; present = present })
+    (map column_tree c.args.checked.columns.items) (map (λ name. name.bytes) c.args.by.now) (summed_tree c.args.summed.now) c.in_ok-columns.ensures.ok seen)
     c.total_of.ensures.done
 
 pub returns-clause-refused : goal.returns-clause-refused
 returns-clause-refused g c = λ machine is seen.
-    let query = query_of c.args.checked.query in
-    let version : c.args.self.now.store.file.accepted ≡ c.accepted-version.result =
-    ap (λ (e : EngineState g.row.D.Denot). e.store.file.accepted) (sym c.self.view_is) ∙ sym c.accepted-version.ensures in
-    let stands = subst (λ (v : ℕ). StandsAt (ShowsPresent g.D.Disk) definitions_of referents_of v c.args.self.now machine.state) version (c.engine_stands_for_its_state.ensures c.args.self.now machine is) in
-    IfErr-weaker c.total_of.result _ _ (λ why. ⊎_elim (λ wanted. inl wanted) (λ off.
-    inr (off query c.in_ok-plan.ensures.means machine.state stands (map column_tree c.args.checked.columns.items) (map (λ name. name.bytes) c.args.by.now) (summed_tree c.args.summed.now) c.in_ok-columns.ensures.ok seen)))
-    c.total_of.ensures.refused
+    let was = engine_with c.self.inside.live.store c.self.inside.live.oldest c.self.inside.cursors in
+    let now = c.engine_stands_for_its_state.ensures.state was machine (subst (λ (e : EngineState g.row.D.Denot). IsMachine g.D.Disk e machine) (sym c.self.view_is) is) in
+    let present = subst (λ (version : ℕ). IsPresent was.store.catalog was.store.referents machine.state (now.snapshots version)) (sym c.accepted-version.ensures) now.present in
+    let means = subst (λ (e : EngineState g.row.D.Denot). IsPlanFor e.store.catalog (query_of c.args.checked.query) c.in_ok-plan.plan) (sym c.self.view_is) c.in_ok-plan.ensures.means in
+    subst (λ (e : EngineState g.row.D.Denot). IfErr c.total_of.result (λ why. WantsFrom g.D.Disk why e.oldest e.store c.total_of.new.e.store
+    ⊎ (totals_of_query machine.state (query_of c.args.checked.query) (map (λ name. name.bytes) c.args.by.now) (summed_tree c.args.summed.now) ≡ Err why))) c.self.view_is
+    (IfErr-weaker c.total_of.result _ _ (λ why. ⊎_elim (λ wanted. inl wanted) (λ off.
+    inr (off (query_of c.args.checked.query) means machine.state (record { snapshots = now.snapshots; is = now.shows; present = present })
+    (map column_tree c.args.checked.columns.items) (map (λ name. name.bytes) c.args.by.now) (summed_tree c.args.summed.now) c.in_ok-columns.ensures.ok seen)))
+    c.total_of.ensures.refused)

@@ -16,7 +16,7 @@ returns g c = record {
       let route = c.args.route.now.bytes in
       let position = expression_of c.args.position.now in
       let result = c.translate.result in
-      let states = c.store_stands_in_one_state.ensures.state in
+      let states = c.stores_have_their_laws.ensures in
       rows_at_once g.D.Disk c.args.self.now machine is (position_translated machine.state route position c.args.method) result
       (on_machine g.D.Disk states c.args.self.now c.checks.result c.checks.ensures
       (λ (state : State). IfOk result (λ rows. position_translated state route position c.args.method ≡ Ok (effect (rows_of rows.items) (length (rows_of rows.items)) state)))

@@ -14,6 +14,6 @@ returns-clause-served g c old is =
     let served = c.reply_to.ensures.served old is.is in
     let new = c.reply_to.new.self in (
       served.next,
-      record { is = served.is; seen = c.store_stands_in_one_state.ensures.state new.store.file.accepted new.store served.is.state served.is.stands },
+      record { is = served.is; seen = c.stores_have_their_laws.ensures.state new.oldest new.store served.is.state served.is.stands },
       served.answer,
     )

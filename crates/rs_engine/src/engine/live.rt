@@ -1,0 +1,142 @@
+//! The store of a file as it is looked at: by queries at the version that was accepted last, and by cursors at that of their opening.
+//!
+//! A read leaves all that is kept as it was, whatever it answers.
+
+ghost use Rattle.std.specs.Prelude.{◌≡◌, IfOk, map};
+ghost use Rattle.rs_answers.specs.Routes as answers;
+ghost use Rattle.rs_store.specs.Versions as store;
+
+use rs_answers::{InMemory, NamedRoute, Versions};
+use rs_catalog::{Catalog, RouteReferents};
+use rs_disk::Disk;
+use rs_exec::{Asked, Part, SoughtValue, Source};
+use rs_facts::Span;
+use rs_refusal::Refusal;
+use rs_store::Store;
+use rs_store_reads::{spans_asked, spans_of_value_asked};
+use std::alloc::{AllocError, Global};
+
+/// A store, and the oldest version that is looked at.
+#[derive(Drop)]
+pub struct LiveStore<D: Disk> {
+    pub(crate) store: Store<D>,
+    pub(crate) oldest: u64,
+}
+
+impl<D: Disk> Source for LiveStore<D> {
+    ghost use Rattle.std.specs.Prelude.{false, refl};
+    ghost use Rattle.std.proofs.Common.{◌∙◌, inl};
+    ghost use Rattle.rs_engine.specs.Living.{wants_from_later};
+    ghost use Rattle.rs_engine.specs.Reads.{ReadsFrom, WantsFrom};
+    ghost use Rattle.rs_store_reads.proofs.Passing.{passes_refl, passes_trans};
+    ghost use Rattle.rs_store_reads.specs.Shown.{Shows};
+
+    ghost is = { λ live snapshots. Shows D.Disk live.oldest live.store snapshots };
+
+    ghost passes = { λ old new. ReadsFrom D.Disk old.oldest old.store new.oldest new.store };
+
+    ghost wants = { λ why old new. WantsFrom D.Disk why old.oldest old.store new.store };
+
+    ghost lends = { false };
+
+    fn spans(&mut self, alloc: Global, asked: &Asked, part: Part) -> Result<Vec<Span>, Refusal> {
+        spans_asked(alloc, &mut self.store, self.oldest, asked, part)
+    }
+
+    fn spans_of_value(
+        &mut self,
+        alloc: Global,
+        asked: &Asked,
+        part: Part,
+        sought: SoughtValue<'_>,
+    ) -> Result<Vec<Span>, Refusal> {
+        spans_of_value_asked(alloc, &mut self.store, self.oldest, asked, part, sought)
+    }
+
+    fn lent(&self, _asked: &Asked) -> Option<&[Span]> {
+        None
+    }
+
+    fn indexed_column(&self, index: u32) -> Option<u8> {
+        for (_, entry) in self.store.catalog().indexes() {
+            if entry.number() == index {
+                return Some(entry.column());
+            }
+        }
+        None
+    }
+
+    ghost passes_refl = { λ live. record { store = passes_refl _ live.store; oldest_stays = refl } };
+
+    ghost passes_trans = { λ a b c one more. record { store = passes_trans _ a.store b.store c.store one.store more.store; oldest_stays = more.oldest_stays ∙ one.oldest_stays } };
+
+    ghost wants_later = { λ why a b c passed wanted. wants_from_later _ why a.oldest a.store b.oldest b.store c.store passed wanted };
+
+    ghost wants_memory = { λ a b passed. inl refl };
+}
+
+impl<D: Disk> InMemory for LiveStore<D> {
+    ghost definitions = { λ live. live.store.catalog };
+
+    ghost held_referents = { λ live. live.store.referents };
+
+    fn catalog(&self) -> &Catalog {
+        self.store.catalog()
+    }
+
+    fn referents(&self) -> &RouteReferents {
+        self.store.referents()
+    }
+
+    ghost definitions_stay = { λ old new reads. reads.store.keeps.catalog };
+
+    ghost referents_stay = { λ old new reads. reads.store.keeps.referents };
+}
+
+impl<D: Disk> Versions for LiveStore<D> {
+    ghost use Rattle.rs_engine.specs.Living.{rows_there, routes_few, snapshots_of, snapshots_shown, version_stays};
+    ghost use Rattle.rs_engine.specs.Reads.{ShowsVersion};
+
+    ghost shows = { λ live version seen. ShowsVersion D.Disk live.oldest live.store version seen };
+
+    fn routes_at(&mut self, alloc: Global, version: u64) -> Result<Vec<NamedRoute>, Refusal> {
+        let kept = self.store.routes_at(alloc, version)?;
+        Ok(named_routes(alloc, kept.as_slice())?)
+    }
+
+    fn referents_at(
+        &mut self,
+        alloc: Global,
+        route: u32,
+        version: u64,
+    ) -> Result<RouteReferents, Refusal> {
+        if version < self.oldest || self.store.accepted() < version {
+            return Ok(RouteReferents::new(alloc));
+        }
+        self.store.referents_at(alloc, route, version)
+    }
+
+    ghost shows_stay = { λ old new reads version seen shown. version_stays _ old.oldest old.store new.oldest new.store reads version seen shown };
+
+    ghost shows_rows = { λ live version seen shown. record {
+      snapshots = snapshots_of _ live.oldest live.store version seen shown;
+      is = snapshots_shown _ live.oldest live.store version seen shown;
+      there = rows_there _ live.oldest live.store version seen shown;
+    } };
+
+    ghost shows_few = { λ live version seen shown. routes_few _ live.oldest live.store version seen shown };
+}
+
+/// The routes of a store as answers name them. The only refusal is for want of memory.
+fn named_routes(alloc: Global, kept: &[rs_store::NamedRoute]) -> Result<Vec<NamedRoute>, AllocError>
+    ensures { IfOk result (λ routes. map answers.entry_of routes.items ≡ map store.entry_of kept.now) }
+{
+    let mut routes = Vec::with_capacity(alloc, kept.len())?;
+    for one in kept {
+        routes.push(NamedRoute {
+            name: one.name,
+            route: one.route,
+        })?;
+    }
+    Ok(routes)
+}
