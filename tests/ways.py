@@ -68,12 +68,14 @@ def answer_in(way, program, lines, replies, longest=LONGEST_RUN):
         over = " --file " + shlex.quote(file)
         answers = [answer_of(program.create + over, b"", longest)]
         answers += [answer_of(program.run + over, part, longest) for part in parts]
-        complaint = next((answer.complaint for answer in answers if answer.complaint), None) or complaint_of(file)
+        complaint = next((answer.complaint for answer in answers if answer.complaint), None)
+        complaint = complaint or complaint_of(file, ends_without_cursors(lines, replies))
     return Answer(b"".join(answer.out for answer in answers), complaint)
 
 
-def complaint_of(path):
-    """What is wrong with a file that was closed: it stands for no state, or has records that no version sees any more."""
+def complaint_of(path, is_clear):
+    """What is wrong with a file that was closed: it stands for no state, or has records that no version sees any more. Those that a
+    cursor saw may be there unless it is clear: where a cursor was open at the end, nobody cleared them."""
     with open(path, "rb") as file:
         data = file.read()
     found = read(data)
@@ -81,7 +83,7 @@ def complaint_of(path):
         return "the slow reader says of the file %s, %s" % (found.answer.decode(), found.why)
     directory = Pages(data).directory()
     dead = sum(item.dead for item in [*directory.tables, directory.referents])
-    return "the file has %d dead records" % dead if dead else None
+    return "the file has %d dead records" % dead if dead and is_clear else None
 
 
 def cuts_of(lines, replies):
@@ -89,6 +91,11 @@ def cuts_of(lines, replies):
     chosen = random.Random(SEED).sample(range(1, len(lines)), min(len(lines) - 1, MOST_CUTS))
     places = places_without_cursors(lines, replies)
     return sorted({places[bisect_right(places, place) - 1] for place in chosen} - {0})
+
+
+def ends_without_cursors(lines, replies):
+    """Whether no cursor is open after the last line."""
+    return places_without_cursors([*lines, b""], [*replies, b"", b""])[-1] == len(lines)
 
 
 def places_without_cursors(lines, replies):
