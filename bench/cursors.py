@@ -1,7 +1,7 @@
 #!/usr/bin/env python3
 """Times a long report that is fetched in parts, beside the same rows asked for at once.
 
-    bench/cursors.py [--program 'crates/roadseg/out/roadseg run'] [--spans 100000] [--rows 1000] [--rounds 5]
+    bench/cursors.py [--program 'crates/roadseg/out/roadseg run'] [--spans 100000] [--fetch 1000] [--rounds 5]
 
 A table has so many spans on one route, each with a row of its own. A live process that has the load is asked, once a
 round, SELECT of all; OPEN and so many FETCHes that give all; and the same of two cursors that are fetched in turn. Of
@@ -41,15 +41,15 @@ def main():
     parser = argparse.ArgumentParser(description=__doc__, formatter_class=argparse.RawDescriptionHelpFormatter)
     parser.add_argument("--program", default="crates/roadseg/out/roadseg run")
     parser.add_argument("--spans", type=int, default=100_000)
-    parser.add_argument("--rows", type=int, default=1_000)
+    parser.add_argument("--fetch", type=int, default=1_000)
     parser.add_argument("--rounds", type=int, default=5)
     words = parser.parse_args()
     live = Live(words.program)
     ask(live, lines_of(words.spans))
     asked = {
         "SELECT of all": ["0 SELECT sections"],
-        "one cursor": report_of(words.spans, words.rows, ["c"]),
-        "two cursors in turn": report_of(words.spans, words.rows, ["c", "d"]),
+        "one cursor": report_of(words.spans, words.fetch, ["c"]),
+        "two cursors in turn": report_of(words.spans, words.fetch, ["c", "d"]),
     }
     best, given = {}, {}
     for _ in range(words.rounds):
