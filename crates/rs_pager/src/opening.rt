@@ -1,14 +1,15 @@
-//! How a pager comes to be: over an empty disk, and over one that holds pages; and the flag that says whether a file is open.
+//! How a pager comes to be: over an empty disk, and over one that holds pages; how it reads page 0 anew; and the flag that says
+//! whether a file is open.
 //!
 //! A refusal hands the disk back.
 
-ghost use Rattle.std.specs.Prelude.{◌≡◌, ◌≤◌, ◌*◌, ◌⊎◌, [], true, false, IsTrue, IfOk, IfErr, OnOk, IsOkUnless, MatchResult, Err};
+ghost use Rattle.std.specs.Prelude.{◌≡◌, ◌≢◌, ◌≤◌, ◌*◌, ◌⊎◌, [], true, false, IsTrue, IfOk, IfErr, OnOk, IsOkUnless, MatchResult, Err};
 ghost use Rattle.rs_disk.specs.Counts.{Counts};
 ghost use Rattle.rs_page.specs.FileHeader.{IsFileHeader};
 ghost use Rattle.rs_page_cache.specs.Stored.{disk_page};
 ghost use Rattle.rs_pages.specs.PageMap.{SamePages};
 ghost use Rattle.rs_pager.specs.Stored.{IsNoFile};
-ghost use Rattle.rs_pager.specs.Maps.{committed, working, KeepsChanges, KeepsMaps};
+ghost use Rattle.rs_pager.specs.Maps.{committed, working, HoldsNoChange, IsTied, KeepsChanges, KeepsMaps};
 ghost use Rattle.rs_pager.specs.Opened.{IsFresh, HasEmptyFile, IsCreated, IsOpened, SetsFlag, CountsFault};
 
 use crate::flushing::{write_at, write_file_header, write_page};
@@ -84,6 +85,27 @@ impl<D: Disk> Pager<D> {
             Err(refusal) => return Err((disk, refusal)),
         };
         Ok(new_pager(alloc, disk, limit, clean, committed_fields))
+    }
+
+    /// Reads page 0 anew. It is refused with 91, and with 94 where page 0 says other fields than the committed ones, or the disk is
+    /// shorter than they say. Whatever is answered, both maps and all that is held stay.
+    pub fn check_first_page(&mut self) -> Result<(), Refusal>
+        ensures keeps { KeepsMaps D.Disk self.old self.new }
+        ensures changes { KeepsChanges self.old self.new }
+        ensures begun { self.new.is_begun ≡ self.old.is_begun }
+        ensures clean { self.new.clean ≡ self.old.clean }
+        ensures seen { IsTrue (D.is_honest self.old.disk) → D.seen self.new.disk ≡ D.seen self.old.disk }
+        ensures synced { D.is_synced self.new.disk ≡ D.is_synced self.old.disk }
+        ensures refused { IfErr result (λ refusal. (refusal ≡ Refusal.Disk) ⊎ (refusal ≡ Refusal.DamagedFile)) }
+        ensures sound { IsTied D.Disk self.old → HoldsNoChange self.old → result ≢ Err Refusal.DamagedFile }
+        ensures count { MatchResult result (λ _. D.failures self.new.disk ≡ D.failures self.old.disk)
+            (λ refusal. CountsFault refusal (D.failures self.old.disk) (D.failures self.new.disk)) }
+    {
+        let fields = read_file_header(&mut self.disk, self.limit)?;
+        if fields != self.committed_fields {
+            return Err(Refusal::DamagedFile);
+        }
+        Ok(())
     }
 
     /// The byte that says whether the file is open, as the disk has it: 0 where it is closed. It is refused with 91 alone.
