@@ -1,3 +1,4 @@
 mod Saying
 mod Ending
 mod Closing
+mod Reopenings

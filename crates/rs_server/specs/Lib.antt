@@ -1,4 +1,5 @@
-pub mod Saying
-pub mod Disks
 pub mod Connections
+pub mod Disks
 pub mod Ending
+pub mod Reopenings
+pub mod Saying

@@ -2,12 +2,17 @@
 
 ghost use Rattle.std.specs.Prelude.{◌≡◌, ◌⊎◌, ℕ, List, Ok, Option, Result};
 ghost use Rattle.rs_disk.specs.Content.{Content};
+ghost use Rattle.rs_engine.specs.Kept.{EngineState};
+ghost use Rattle.rs_engine.specs.Single.{IsOneMachine};
+ghost use Rattle.rs_machine.specs.Served.{Machine};
 ghost use Rattle.rs_machine.specs.State.{State};
 ghost use Rattle.rs_machine.specs.Step.{without_cursors};
 ghost use Rattle.rs_server.specs.Disks.{IsClosedAs, RefusesFile, ServesState};
+ghost use Rattle.rs_server.specs.Reopenings.{AreDone, GoOn, Part};
 ghost use Rattle.rs_server.specs.declared.report.Failure.{Failure};
 
 use rs_disk::Disk;
+use rs_engine::engine::laws::machine_is_the_only_one;
 use rs_refusal::Refusal;
 use rs_standing::standing::disk_stands_for_one_state;
 
@@ -26,3 +31,13 @@ pub fn closed_disk_is_opened<D: Disk>()
         → IsClosedAs D.Disk limit state disk → (refuses : RefusesFile D.Disk limit disk next a b c d)
         → (refuses.why ≡ Refusal.OutOfMemory) ⊎ (refuses.why ≡ Refusal.Disk) }
 {}
+
+/// Whatever inputs engines serve, one after another, with reopenings among them, by `reopen` or by `close` and `open` on the disk that was
+/// handed back: it is one machine that serves them all, whose cursors go where the file is opened again.
+pub fn services_are_of_one_machine<D: Disk>()
+    ensures { (parts : List Part) (old new : EngineState D) (machine : Machine) → AreDone D.Disk parts old new → IsOneMachine D.Disk old machine
+        → (last : Machine) × IsOneMachine D.Disk new last × GoOn parts machine last }
+{
+    machine_is_the_only_one::<D>();
+    disk_stands_for_one_state();
+}
