@@ -1,23 +1,17 @@
 -- The entries of a tree, beside the cells that have them.
-use Rattle.std.proofs.Common.{◌≡◌, ℕ, suc, Bool, true, false, Some, List, [], ◌∷◌, Result, Ok, Err, IfOk, IfErr, IsTrue, length, map, slice_get, take, refl, sym, ◌∙◌, subst, inl, inr, arith}
-use Rattle.std.specs.Prelude.{◌↔◌}
+use Rattle.std.proofs.Common.{◌≡◌, ℕ, suc, Bool, true, false, Some, List, [], ◌∷◌, IsTrue, length, map, slice_get, take, refl, sym, ◌∙◌, subst, inl, inr, arith}
 use Rattle.std.proofs.lemmas.Bool.{false≢true}
 use Rattle.std.proofs.lemmas.List.{length-map}
 use Rattle.std.proofs.lemmas.List.Sorted.{Contains-permutation, IsPermutation-cons, IsPermutation-refl, IsPermutation-sym, IsPermutation-trans, IsPermutation-middle, length_permutation}
 use Rattle.std.specs.List.{AllByRecursion, Contains}
 use Rattle.std.specs.List.Sorted.{IsPermutation}
-use Rattle.rs_attr.specs.Entries.{AreCells, Field, HoldsIndex, entry_bytes, entry_of, index_form}
+use Rattle.rs_attr.specs.Entries.{AreCells, Field, HoldsIndex, entry_of, index_form}
 use Rattle.rs_attr.specs.Opening.{HasEntries, HasSoMany, HaveEntries, LacksEntries}
 use Rattle.rs_attr.proofs.Entering.{TellsApart}
 use Rattle.rs_attr.proofs.Indexes.{entries_apart}
 use Rattle.rs_pages.specs.PageMap.{PageMap, SamePages}
-use Rattle.rs_pages.specs.Store.{Store}
 use Rattle.rs_records.specs.Order.{is_below, Ascends}
 use Rattle.rs_records.proofs.Orders.{is_below-self}
-use Rattle.rs_refusal.specs.declared.refusal.Refusal.{Refusal}
-use Rattle.rs_tree.specs.Calls.{RefusesToRead}
-use Rattle.rs_tree.specs.Form.{Form, form_of}
-use Rattle.rs_tree.specs.declared.summary.NoSummary.{NoSummary}
 use Rattle.rs_tree.specs.Tree.{IsNoTree, IsTree}
 use Rattle.rs_tree.proofs.Lists.{all_at, take_next}
 use Rattle.rs_tree_whole.proofs.Joins.{all_push}
@@ -94,32 +88,6 @@ index_entries field pages root cells used index lacks =
 abbrev pub Tells : Field → PageMap → ℕ → List ℕ → Bool → Type 0
 Tells field pages root cell found = (entries : List (List ℕ)) (used : ℕ → ℕ) → IsTree (index_form field) pages root entries used
     → (IsTrue found → Contains entries (entry_of field cell)) × (Contains entries (entry_of field cell) → IsTrue found)
-
-module _ (field : Field) (pages : PageMap) (root top summary wide : ℕ) (none : summary ≡ 0) (width : wide ≡ entry_bytes field) (same : top ≡ root) where
-  -- the form of a tree with such widths, which keeps no summaries
-  abbrev form_at : ℕ → ℕ → Form
-  form_at = form_of (λ bytes (_ : NoSummary). bytes ≡ []) (record {}) (λ _ _. record {}) (λ _. record {})
-
-  -- what is told of an entry in the tree is told of its cell in the index
-  pub looked_tells : (cell entry : List ℕ) (result : Result Bool Refusal) → entry ≡ entry_of field cell
-      → IfOk result (λ found. (entries : List (List ℕ)) (used : ℕ → ℕ) → IsTree (form_at summary wide) pages top entries used → (IsTrue found ↔ Contains entries entry))
-      → IfOk result (Tells field pages root cell)
-  looked_tells cell entry (Err why) is told = tt
-  looked_tells cell entry (Ok found) is told = λ entries used tree.
-      subst (λ (e : List ℕ). IsTrue found ↔ Contains entries e) is
-      (told entries used
-      (subst (λ (s : ℕ). IsTree (form_at s wide) pages top entries used) (sym none)
-      (subst (λ (w : ℕ). IsTree (form_at 0 w) pages top entries used) (sym width)
-      (subst (λ (r : ℕ). IsTree (index_form field) pages r entries used) (sym same) tree))))
-
-  -- the tree is refused as the index is
-  pub looked_refuses : {T : Type 0} (tied : Type 0) (result : Result T Refusal) (old new : Store) → IfErr result (λ why. RefusesToRead tied (form_at summary wide) top why old new)
-      → IfErr result (λ why. RefusesToRead tied (index_form field) root why old new)
-  looked_refuses tied (Ok x) old new refused = tt
-  looked_refuses tied (Err why) old new refused =
-      subst (λ (r : ℕ). RefusesToRead tied (index_form field) r why old new) same
-      (subst (λ (w : ℕ). RefusesToRead tied (form_at 0 w) top why old new) width
-      (subst (λ (s : ℕ). RefusesToRead tied (form_at s wide) top why old new) none refused))
 
 module _ (field : Field) (old mid : PageMap) (root : ℕ) (same : SamePages mid old) where
   -- no cells have entries of their own as yet

@@ -26,8 +26,7 @@ use rs_page_marks::Reached;
 use rs_pages::Pages;
 use rs_records::Cells;
 use rs_refusal::Refusal;
-use rs_tree::{Layout, NoSummary, Summary};
-use rs_tree_lookup::contains;
+use rs_tree::NoSummary;
 use rs_value::{ColumnType, Schema, Value, column_width};
 use rs_versioned::event::EVENT_BYTES;
 use std::alloc::{AllocError, Global};
@@ -170,8 +169,7 @@ impl AttrIndex {
         write_entry_and_zero(buffer, cell, self.start, wide).map_err(|_| Refusal::OutOfMemory)?;
         let after = buffer.as_slice();
         let entry = &after[..after.len() - 1];
-        let layout = Layout::new(wide + self.cell_width, NoSummary::WIDTH);
-        contains::<P, NoSummary>(pages, layout, self.tree.root(), entry, after)
+        self.tree.contains(pages, entry, after)
     }
 
     /// Puts the entry of a cell into the index, or takes it out. It is refused as `put` and `take` are.

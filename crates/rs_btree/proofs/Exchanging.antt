@@ -1,19 +1,11 @@
 -- One cell taken out of a tree, and another put in.
-use Rattle.std.proofs.Common.{◌≡◌, ◌↔◌, ℕ, Bool, false, List, [], ◌∷◌, ◌++◌, IsTrue, suc, refl, sym, ap, ◌∙◌, subst, inl, inr, arith}
+use Rattle.std.proofs.Common.{◌≡◌, ℕ, Bool, false, List, IsTrue, sym, ◌∙◌, subst}
 use Rattle.std.proofs.lemmas.Bool.{false≢true}
-use Rattle.std.specs.List.{Contains}
-use Rattle.rs_page_owners.specs.Counts.{◌&◌}
-use Rattle.rs_page_owners.specs.Owners.{Shares}
 use Rattle.rs_page_owners.proofs.Moving.{moves_trans}
 use Rattle.rs_pages.specs.PageMap.{PageMap}
-use Rattle.rs_records.specs.Order.{is_below, Ascends}
-use Rattle.rs_records.proofs.Orders.{is_below-cases}
 use Rattle.rs_tree.specs.Calls.{Becomes, Changes, IsNotShared}
-use Rattle.rs_tree.specs.Cells.{with_cell, without_cell, cells_above}
+use Rattle.rs_tree.specs.Cells.{with_cell, without_cell}
 use Rattle.rs_tree.specs.Form.{Form}
-use Rattle.rs_tree.specs.Tree.{IsTree}
-use Rattle.rs_tree.proofs.Below.{below_one_way}
-use Rattle.rs_tree_edit.proofs.Between.{AllAbove, all_above_trans, below_none, above_all}
 use Rattle.rs_tree_remove.specs.Calls.{TellsOf}
 use Rattle.rs_tree_remove.proofs.Whole.{without_absent}
 use Rattle.rs_btree.specs.Replacing.{Replaces}

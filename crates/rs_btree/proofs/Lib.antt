@@ -1,1 +1,7 @@
+mod Among
 pub mod Exchanging
+mod Narrowing
+mod Next
+mod Pages
+mod Parts
+mod Roots

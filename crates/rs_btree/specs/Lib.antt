@@ -1,3 +1,4 @@
 pub mod Calls
+pub mod Looking
 pub mod Replacing
 pub mod Rooted

@@ -4,7 +4,7 @@ use Rattle.std.proofs.lemmas.Result.{err_from_is_err_and}
 use Rattle.rs_page.specs.declared.number.PageNumber.{PageNumber}
 use Rattle.rs_tree.specs.Calls.{IsNotShared}
 use Rattle.rs_tree.specs.Form.{Form}
-use Rattle.rs_tree.specs.Forms.{form, form_in}
+use Rattle.rs_tree.specs.Forms.{form_in}
 use Rattle.rs_page_owners.proofs.Working.{works_then, works_err}
 use Rattle.rs_btree.proofs.Exchanging.{replaced, rested, none_before}
 use Rattle.rs_btree.proofs.replacing.replace.Goals as goal

@@ -1,9 +1,10 @@
 -- The tree is asked whether it has the entry, and the entry is told with what follows it at once.
-use Rattle.std.proofs.Common.{◌≡◌, ◌∙◌, ℕ, [], ◌∷◌, ◌++◌, ◌-◌, IfErr, IfOk, length, take, ap, arith, rules}
+use Rattle.std.proofs.Common.{◌≡◌, ◌∙◌, ℕ, List, [], ◌∷◌, ◌++◌, ◌-◌, IfErr, IfOk, length, take, ap, subst, arith, rules}
 use Rattle.std.proofs.lemmas.List.{length-append, take_at}
-use Rattle.rs_attr.specs.Entries.{Field, entry_of, index_form}
-use Rattle.rs_attr.proofs.Checked.{Tells, looked_refuses, looked_tells}
+use Rattle.rs_attr.specs.Entries.{Field, entry_of, index_form, plain_form}
+use Rattle.rs_attr.proofs.Checked.{Tells}
 use Rattle.rs_attr.proofs.Indexes.{in_index}
+use Rattle.rs_btree.specs.Calls.{TellsIfHeld}
 use Rattle.rs_tree.specs.Calls.{RefusesToRead}
 use Rattle.rs_attr.proofs.attr_index.AttrIndex.has_entry.Goals as goal
 
@@ -13,11 +14,9 @@ returns-clause-refused g c =
     let before = g.P.Pages.store c.args.pages.now in
     let after = g.P.Pages.store c.contains.new.pages in
     let tied = g.P.Pages.is_tied c.args.pages.now in
-    let field : Field = record { column = d.column; start = d.start; cell_width = d.cell_width } in
     in_index (λ (f : Field) (working : ℕ). IfErr c.contains.result (λ why. RefusesToRead tied (index_form f) working why before after))
     d.column d.start d.cell_width d.tree.root d.committed c.args.self.now c.self.view_is
-    (looked_refuses field before.map d.tree.root c.root.result c.new-layout.result.summary c.new-layout.result.width c.new-layout.ensures.summary
-    (omega (arith, c.new-layout.ensures.width, c.column_width-wide.ensures.value)) c.root.ensures tied c.contains.result before after c.contains.ensures.refused)
+    (subst (λ (w : ℕ). IfErr c.contains.result (λ why. RefusesToRead tied (plain_form w) d.tree.root why before after)) c.self.invariant.0 c.contains.ensures.refused)
 
 pub returns-clause-found : goal.returns-clause-found
 returns-clause-found g c = λ tied.
@@ -32,5 +31,5 @@ returns-clause-found g c = λ tied.
     let size : length entry ≡ length after - 1 = omega (arith, ap length all, length-append entry (0 ∷ [])) in
     let front : take (length after - 1) after ≡ entry = ap (take (length after - 1)) all ∙ take_at entry (0 ∷ []) (length after - 1) size in
     in_index (λ (f : Field) (working : ℕ). IfOk c.contains.result (Tells f pages working cell)) d.column d.start d.cell_width d.tree.root d.committed c.args.self.now c.self.view_is
-    (looked_tells field pages d.tree.root c.root.result c.new-layout.result.summary c.new-layout.result.width c.new-layout.ensures.summary
-    (omega (arith, c.new-layout.ensures.width, c.column_width-wide.ensures.value)) c.root.ensures cell (take (length after - 1) after) c.contains.result front (c.contains.ensures.found tied))
+    (subst (λ (e : List ℕ). IfOk c.contains.result (TellsIfHeld (index_form field) pages d.tree.root e)) front
+    (subst (λ (w : ℕ). IfOk c.contains.result (TellsIfHeld (plain_form w) pages d.tree.root (take (length after - 1) after))) c.self.invariant.0 (c.contains.ensures.found tied)))

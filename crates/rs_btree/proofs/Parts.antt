@@ -12,7 +12,7 @@ use Rattle.rs_tree.specs.Walking.{IsPart}
 use Rattle.rs_tree.specs.declared.layout.Layout.{Layout}
 use Rattle.rs_tree.proofs.Entering.{no_node-no_part}
 use Rattle.rs_tree.proofs.Shapes.{lies_same}
-use Rattle.rs_tree_lookup.specs.Looking.{GoesOn, HasNoTop, Tells}
+use Rattle.rs_btree.specs.Looking.{GoesOn, HasNoTop, Tells}
 
 -- what holds of an answer where something else does
 pub if_ok : {T E : Type 0} {P Q : T → Type 0} (result : Result T E) → IfOk result P → ((x : T) → P x → Q x) → IfOk result Q

@@ -10,8 +10,8 @@ use Rattle.rs_tree.specs.Reading.{HasNoNode}
 use Rattle.rs_tree.specs.Shape.{Shape, cells_of}
 use Rattle.rs_tree.specs.Walking.{AreEntriesOf, IsPart}
 use Rattle.rs_tree.specs.declared.layout.Layout.{Layout}
-use Rattle.rs_tree_lookup.specs.declared.stepping.Step.{Step}
-use Rattle.rs_tree_lookup.specs.declared.stepping.Step.TheVariants as step
+use Rattle.rs_btree.specs.declared.stepping.Step.{Step}
+use Rattle.rs_btree.specs.declared.stepping.Step.TheVariants as step
 
 -- whichever part has this page at its top, it is told whether it has the cell
 pub record Tells (form : Form) (map : PageMap) (number : ℕ) (cell : List ℕ) (found : Bool) : Type 0 where

@@ -4,8 +4,8 @@ use Rattle.rs_records.proofs.RecordLists.{length-keys, times_upto}
 use Rattle.rs_tree.specs.Form.{Form}
 use Rattle.rs_tree.specs.Forms.{form_in}
 use Rattle.rs_tree.specs.Layouts.{entry_bytes}
-use Rattle.rs_tree_lookup.proofs.Pages.{entries_lack, entries_narrow}
-use Rattle.rs_tree_lookup.proofs.stepping.step_below.Goals as goal
+use Rattle.rs_btree.proofs.Pages.{entries_lack, entries_narrow}
+use Rattle.rs_btree.proofs.stepping.step_below.Goals as goal
 
 pub returns-then-at-eq0 : goal.returns-then-at-eq0
 returns-then-at-eq0 g c =

@@ -7,8 +7,8 @@ use Rattle.rs_records.specs.Order.{is_below, Ascends}
 use Rattle.rs_records.proofs.Orders.{is_below-self}
 use Rattle.rs_tree.proofs.Below.{AllBelow, NoneBelow, ascends_last, below_one_way, none_below_after}
 use Rattle.rs_tree.proofs.Parts.{Leasts, part_below}
-use Rattle.rs_tree_lookup.proofs.Among.{all_one}
-use Rattle.rs_tree_lookup.proofs.Next.{below_next, next_alone}
+use Rattle.rs_btree.proofs.Among.{all_one}
+use Rattle.rs_btree.proofs.Next.{below_next, next_alone}
 
 module _ {X : Type 0} (cells : X → List (List ℕ)) (cell : List ℕ) where
   abbrev after : List ℕ

@@ -1,11 +1,13 @@
 //! The search for one cell, from the root down to the leaf that alone may have it.
+//!
+//! It reads one page a level. Each is only lent: nothing of it is copied but the number of the next page, and no memory is taken.
 
 ghost use Rattle.std.specs.Prelude.{◌≡◌, ◌≢◌, ◌++◌, ◌↔◌, ℕ, List, [], ◌∷◌, Contains, Err, IfErr, IfOk, IsTrue, length};
 ghost use Rattle.rs_pages.specs.Calls.{OnlyReads};
 ghost use Rattle.rs_tree.specs.Calls.{RefusesReading};
 ghost use Rattle.rs_tree.specs.Forms.{form_in};
 ghost use Rattle.rs_tree.specs.Tree.{IsTree};
-ghost use Rattle.rs_tree_lookup.specs.Looking.{HasNoTop, IsReadRefusal, Tells};
+ghost use Rattle.rs_btree.specs.Looking.{HasNoTop, IsReadRefusal, Tells};
 
 use crate::stepping::{Step, look};
 use rs_page::PageNumber;

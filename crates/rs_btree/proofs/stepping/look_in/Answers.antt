@@ -6,8 +6,8 @@ use Rattle.rs_tree.specs.Layouts.{entry_bytes}
 use Rattle.rs_tree.specs.Node.{IsNode}
 use Rattle.rs_tree.specs.declared.node.Node.TheVariants.{Leaf, Inner}
 use Rattle.rs_tree.proofs.Entering.{records_fit}
-use Rattle.rs_tree_lookup.proofs.Pages.{inner_leads, leaf_leads}
-use Rattle.rs_tree_lookup.proofs.stepping.look_in.Goals as goal
+use Rattle.rs_btree.proofs.Pages.{inner_leads, leaf_leads}
+use Rattle.rs_btree.proofs.stepping.look_in.Goals as goal
 
 pub is_in_leaf-requires : goal.is_in_leaf-requires
 is_in_leaf-requires g c =

@@ -15,7 +15,7 @@ use Rattle.rs_tree.specs.Shape.{Shape, Lies, page_of}
 use Rattle.rs_tree.specs.Tree.{IsNoTree, IsTree, Stands}
 use Rattle.rs_tree.specs.Walking.{HasNoPart}
 use Rattle.rs_tree.proofs.Searching.{no_part-no_tree, walk_refuses}
-use Rattle.rs_tree_lookup.specs.Looking.{HasNoTop, IsReadRefusal, Tells}
+use Rattle.rs_btree.specs.Looking.{HasNoTop, IsReadRefusal, Tells}
 
 page_after : (form : Form) (pages : PageMap) (height : ℕ) (shape : Shape height) → Lies form pages height shape → 1 < page_of height shape
 page_after form pages zero shape lies = lies.after

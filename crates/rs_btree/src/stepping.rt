@@ -27,7 +27,7 @@ pub enum Step {
     Below(PageNumber),
 }
 
-ghost use Rattle.rs_tree_lookup.specs.Looking.{Leads, LeadsFrom, RefusesStep};
+ghost use Rattle.rs_btree.specs.Looking.{Leads, LeadsFrom, RefusesStep};
 
 /// Where the search stands after the page with this number. It is refused with 91, and with 94 where that is no page of a tree.
 pub fn look<P: Pages, S: Summary>(

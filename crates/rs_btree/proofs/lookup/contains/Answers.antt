@@ -1,9 +1,9 @@
 -- The empty tree has no cell; from another root what is told of the part with the root at its top.
 use Rattle.std.proofs.Common.{arith}
 use Rattle.rs_tree.specs.Forms.{form_in}
-use Rattle.rs_tree_lookup.proofs.Parts.{if_ok}
-use Rattle.rs_tree_lookup.proofs.Roots.{empty_tells, no_top-no_tree, read_refuses, root_tells}
-use Rattle.rs_tree_lookup.proofs.lookup.contains.Goals as goal
+use Rattle.rs_btree.proofs.Parts.{if_ok}
+use Rattle.rs_btree.proofs.Roots.{empty_tells, no_top-no_tree, read_refuses, root_tells}
+use Rattle.rs_btree.proofs.lookup.contains.Goals as goal
 
 pub returns-then-number-eq0-clause-found : goal.returns-then-number-eq0-clause-found
 returns-then-number-eq0-clause-found g c = λ tied cells used tree.

@@ -22,11 +22,11 @@ use Rattle.rs_tree.proofs.Entering.{entry_there, inner_no_leaf, inner_parts, lea
 use Rattle.rs_tree.proofs.Entries.{part_at}
 use Rattle.rs_tree.proofs.Parts.{leasts_ascend, place_splits}
 use Rattle.rs_tree.proofs.Shapes.{entries_leasts, part_ascends}
-use Rattle.rs_tree_lookup.specs.Looking.{HasOne, HaveNone, Leads, LeadsFrom, Tells}
-use Rattle.rs_tree_lookup.specs.declared.stepping.Step.{Step}
-use Rattle.rs_tree_lookup.specs.declared.stepping.Step.TheVariants.{End, Below}
-use Rattle.rs_tree_lookup.proofs.Among.{past_lacks, place_tells}
-use Rattle.rs_tree_lookup.proofs.Narrowing.{none_has, one_has, part_has}
+use Rattle.rs_btree.specs.Looking.{HasOne, HaveNone, Leads, LeadsFrom, Tells}
+use Rattle.rs_btree.specs.declared.stepping.Step.{Step}
+use Rattle.rs_btree.specs.declared.stepping.Step.TheVariants.{End, Below}
+use Rattle.rs_btree.proofs.Among.{past_lacks, place_tells}
+use Rattle.rs_btree.proofs.Narrowing.{none_has, one_has, part_has}
 
 not_true : (b : Bool) → not b ≡ true → b ≡ false
 not_true true is = absurd (false≢true is)

@@ -3,8 +3,8 @@ use Rattle.std.proofs.Common.{◌≤◌, ◌+◌, arith}
 use Rattle.std.proofs.lemmas.Bool.{false≢true}
 use Rattle.rs_records.proofs.RecordLists.{length-keys, times_upto}
 use Rattle.rs_tree.specs.Content.{content}
-use Rattle.rs_tree_lookup.proofs.Pages.{leaf_lacks, leaf_tells}
-use Rattle.rs_tree_lookup.proofs.stepping.is_in_leaf.Goals as goal
+use Rattle.rs_btree.proofs.Pages.{leaf_lacks, leaf_tells}
+use Rattle.rs_btree.proofs.stepping.is_in_leaf.Goals as goal
 
 pub returns-then-at-count : goal.returns-then-at-count
 returns-then-at-count c = λ up. (

@@ -4,9 +4,9 @@ use Rattle.std.proofs.lemmas.Result.{err_from_is_err_and}
 use Rattle.rs_refusal.specs.declared.refusal.Refusal.TheVariants as refusal
 use Rattle.rs_tree.specs.Form.{Form, joined}
 use Rattle.rs_tree.specs.Forms.{form_in}
-use Rattle.rs_tree_lookup.specs.Looking.{GoesOn, Leads}
-use Rattle.rs_tree_lookup.proofs.Parts.{if_ok, told_above, none_above, no_level, no_node}
-use Rattle.rs_tree_lookup.proofs.lookup.+contains_below.Goals as goal
+use Rattle.rs_btree.specs.Looking.{GoesOn, Leads}
+use Rattle.rs_btree.proofs.Parts.{if_ok, told_above, none_above, no_level, no_node}
+use Rattle.rs_btree.proofs.lookup.+contains_below.Goals as goal
 
 pub returns-in_err-found-clause-damaged : goal.returns-in_err-found-clause-damaged
 returns-in_err-found-clause-damaged g t c = λ is tied.

@@ -1,6 +1,0 @@
-mod Next
-mod Among
-mod Narrowing
-mod Pages
-mod Parts
-mod Roots
