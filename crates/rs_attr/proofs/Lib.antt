@@ -3,7 +3,6 @@ pub mod AsMany
 pub mod Checked
 pub mod Counted
 pub mod Entering
-pub mod Finding
 pub mod Indexes
 pub mod MeantParts
 pub mod Opened

@@ -1,33 +1,24 @@
 -- The bytes of a value in a cell, and which value they say.
-use Rattle.std.proofs.Common.{◌≡◌, ℕ, zero, suc, false, Some, List, [], ◌∷◌, ◌++◌, length, take, drop, slice_get, refl, sym, ap, ◌∙◌, subst}
+use Rattle.std.proofs.Common.{◌≡◌, ℕ, zero, suc, Some, List, [], ◌∷◌, ◌++◌, length, take, drop, slice_get, sym, ap, ◌∙◌, subst}
 use Rattle.std.proofs.lemmas.List.{append_assoc, append-nil, drop-drop, drop_at, take_at}
 use Rattle.std.proofs.lemmas.List.Sums.{sum_by-cons}
 use Rattle.std.proofs.lemmas.Option.{same_Some}
 use Rattle.std.specs.Cmp.Lexicographic.{slice_cmp}
 use Rattle.std.specs.Int.{w32, w64, to_be_bytes}
 use Rattle.std.specs.Ordering.{nat_cmp, is_eq}
-use Rattle.std.specs.declared.cmp.Ordering.{Ordering}
-use Rattle.std.specs.declared.cmp.Ordering.TheVariants.{Less, Equal, Greater}
 use Rattle.rs_attr.specs.Entries.{Field, IsColumn, value_in}
 use Rattle.rs_attr.specs.Finding.{has_value}
 use Rattle.rs_facts.specs.Operators.{datum_at}
 use Rattle.rs_value.specs.declared.column.ColumnType.{ColumnType}
 use Rattle.rs_value.specs.Encoding.{SaysDatum, SaysRow, row_width, width}
-use Rattle.rs_value.specs.Row.{Datum, Row, datum_cmp}
-use Rattle.rs_value.specs.Values.{IsOfType}
-use Rattle.rs_value.proofs.EncodingLaws.{said_typed}
+use Rattle.rs_value.specs.Row.{Datum, Row}
 use Rattle.rs_value.proofs.EncodingOrder.{datum_wide, datums_cmp}
-use Rattle.rs_value.proofs.RowOrder.{datum_antisymmetric}
 use Rattle.rs_versioned.specs.Events.{Event, SaysEvent}
 
 -- bytes that say a row of one column say its value
 pub one_said : (type : ColumnType) (bytes : List ℕ) (datum : Datum) → SaysRow (type ∷ []) bytes (datum ∷ []) → SaysDatum type bytes datum
 one_said type bytes datum (first, rest, is, one, none) =
     subst (λ (l : List ℕ). SaysDatum type l datum) (sym (is ∙ ap (λ (l : List ℕ). first ++ l) none ∙ append-nil first)) one
-
--- bytes that say a value of a column say one of its type
-datum_typed : (type : ColumnType) (bytes : List ℕ) (datum : Datum) → SaysDatum type bytes datum → IsOfType type datum
-datum_typed type bytes datum says = (said_typed (type ∷ []) bytes (datum ∷ []) (bytes, [], sym (append-nil bytes), says, refl)).0
 
 -- the bytes of each column of a row say its value
 column_said : (types : List ColumnType) (column : ℕ) (type : ColumnType) (bytes after : List ℕ) (row : Row) → slice_get types column ≡ Some type → SaysRow types bytes row
@@ -64,15 +55,3 @@ pub has_bytes : (types : List ColumnType) (column : ℕ) (field : Field) (bytes 
     → (cell : List ℕ) (event : Event) → SaysEvent types cell event → is_eq (slice_cmp nat_cmp (value_in field cell) bytes) ≡ has_value column datum event
 has_bytes types column field bytes datum is says cell event tells =
     ap is_eq (datums_cmp field.column (value_in field cell) bytes (datum_at event.row column) datum (value_said types column field cell event is tells) says)
-
--- no event has a value of another type
-pub has_no_other : (types : List ColumnType) (column : ℕ) (field : Field) (datum : Datum) → IsColumn types column field → (IsOfType field.column datum → ⊥)
-    → (cell : List ℕ) (event : Event) → SaysEvent types cell event → has_value column datum event ≡ false
-has_no_other types column field datum is none cell event says = by_order (datum_cmp (datum_at event.row column) datum) refl where
-  by_order : (o : Ordering) → datum_cmp (datum_at event.row column) datum ≡ o → is_eq o ≡ false
-  by_order Less e = refl
-  by_order Greater e = refl
-  by_order Equal e =
-      let typed : IsOfType field.column (datum_at event.row column) =
-      datum_typed field.column (value_in field cell) (datum_at event.row column) (value_said types column field cell event is says) in
-      absurd (none (subst (λ (d : Datum). IsOfType field.column d) (datum_antisymmetric (datum_at event.row column) datum e) typed))

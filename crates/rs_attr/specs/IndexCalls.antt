@@ -7,10 +7,9 @@ use Rattle.rs_records.specs.Listed.{listed}
 use Rattle.rs_records.specs.declared.cells.Cells.{Cells}
 use Rattle.rs_tree.specs.Calls as tree
 use Rattle.rs_tree_whole.specs.Calls as whole
-use Rattle.rs_value.specs.declared.column.ColumnType.{ColumnType}
 use Rattle.rs_value.specs.Row.{Datum}
-use Rattle.rs_attr.specs.Entries.{ChangesIndex, HoldsNoIndex, IsColumn, index_form}
-use Rattle.rs_attr.specs.Finding.{FindsEqual}
+use Rattle.rs_attr.specs.Entries.{ChangesIndex, HoldsNoIndex, index_form}
+use Rattle.rs_attr.specs.Finding.{FindsEntries}
 use Rattle.rs_attr.specs.Tables.{IndexState}
 
 -- the field and the root at the last commit stay; after a refusal the index is as it was
@@ -33,9 +32,9 @@ module _ {P : Type 0} (pages : Ghosts P) (was : IndexState) where
   Edits is change result old new = pages.is_tied old
       → OnOk result (ChangesIndex was.field (pages.store old).map (pages.store new).map was.working is.working change)
 
-  abbrev pub Equals : Datum → ℕ → Result (Cells × ℕ) Refusal → P → Type 0
-  Equals datum version result old = pages.is_tied old → IfOk result (λ found. (types : List ColumnType) (column : ℕ) → IsColumn types column was.field
-      → FindsEqual types column was.field (pages.store old).map was.working datum version (listed found.0) found.1)
+  abbrev pub FindsWith : Datum → List ℕ → List ℕ → Result (Cells × ℕ) Refusal → P → Type 0
+  FindsWith datum from to result old = pages.is_tied old
+      → IfOk result (λ found. FindsEntries was.field (pages.store old).map was.working datum from to (listed found.0) found.1)
 
   abbrev pub Checks : (ℕ → ℕ) → (ℕ → ℕ) → Result ℕ Refusal → P → Type 0
   Checks before after result old = whole.Checks pages (index_form was.field) was.working before after result old

@@ -4,9 +4,9 @@
 //! pages are to be committed or abandoned with them.
 
 ghost use Rattle.std.specs.Prelude.{◌≡◌, ◌≢◌, ◌↔◌, ◌<◌, ◌≤◌, ℕ, List, [], Contains, Err, IfOk, IsPermutation, IsTrue, OnOk, length, true};
-ghost use Rattle.rs_attr.specs.Entries.{FitsPages, IsColumn, entry_of, index_form};
+ghost use Rattle.rs_attr.specs.Entries.{FitsPages, IsColumn, entry_bytes, entry_of, index_form};
 ghost use Rattle.rs_attr.specs.Inner.{changed};
-ghost use Rattle.rs_attr.specs.IndexCalls.{Checks, Edits, Equals, KeepsIndex, Leaves, RefusesReading};
+ghost use Rattle.rs_attr.specs.IndexCalls.{Checks, Edits, FindsWith, KeepsIndex, Leaves, RefusesReading};
 ghost use Rattle.rs_pages.specs.Calls.{OnlyReads};
 ghost use Rattle.rs_page_marks.specs.Marks.{taken};
 ghost use Rattle.rs_records.specs.Listed.{listed, record_width};
@@ -14,11 +14,10 @@ ghost use Rattle.rs_tree.specs.Cells.{with_cell, without_cell};
 ghost use Rattle.rs_tree.specs.Tree.{IsTree};
 ghost use Rattle.rs_tree_whole.specs.Calls.{RefusesToCheck};
 ghost use Rattle.rs_value.specs.Encoding.{row_width};
-ghost use Rattle.rs_value.specs.Values.{IsValue};
+ghost use Rattle.rs_value.specs.Values.{IsOfType};
 ghost use Rattle.rs_value.specs.View.{datum_of};
 
-use crate::entry::{entry_of, is_of_type, value_bytes, write_entry_and_zero};
-use crate::equal::{entries_with, seen_cells};
+use crate::entry::{entry_of, followed_by, value_bytes, write_entry_and_zero};
 use crate::ordered::by_value;
 use rs_btree::Tree;
 use rs_page::PageNumber;
@@ -102,31 +101,28 @@ impl AttrIndex {
         self.tree.root()
     }
 
-    /// The cells of the events with this value that the version sees, in the order of cells, and how many pages were read: two
-    /// for each level of the index and as many more for each event with the value, of whatever version, at the most. It is
-    /// refused with 90, with 91, and with 94 only where no tree stands there. No page changes.
-    pub fn equal<P: Pages>(
+    /// The entries of the cells with this value that are not below `from` and below `to`, in their order, and how many pages were
+    /// read: those that lead to these entries, and two for each level of the index and as many more for each of the entries at the
+    /// most. It is refused with 90, with 91, and with 94 only where no tree stands there. No page changes.
+    pub fn entries_with<P: Pages>(
         &self,
         alloc: Global,
         pages: &mut P,
         value: &Value,
-        version: u64,
+        from: &[u8],
+        to: &[u8],
     ) -> Result<(Cells, u32), Refusal>
-        requires value { IsValue (datum_of value.now) }
+        requires of_type { IsOfType self.now.field.column (datum_of value.now) }
         ensures rests { OnlyReads P.Pages result pages.old pages.new }
-        ensures width { IfOk result (λ found. record_width found.0 ≡ self.now.field.cell_width) }
-        ensures found { Equals P.Pages self.now (datum_of value.now) version result pages.old }
+        ensures width { IfOk result (λ found. record_width found.0 ≡ entry_bytes self.now.field) }
+        ensures found { FindsWith P.Pages self.now (datum_of value.now) from.now to.now result pages.old }
         ensures refused { RefusesReading P.Pages self.now result pages.old pages.new }
     {
-        if !is_of_type(self.column, value) {
-            return Ok((Cells::new(alloc, self.cell_width), 0));
-        }
-        let bytes = value_bytes(alloc, self.column, value).map_err(|_| Refusal::OutOfMemory)?;
-        let (entries, reads) = entries_with(alloc, pages, &self.tree, &bytes)?;
-        match seen_cells(alloc, version, &entries, bytes.len()) {
-            Ok(cells) => Ok((cells, reads)),
-            Err(_) => Err(Refusal::OutOfMemory),
-        }
+        let bytes = value_bytes(alloc, self.column, value)?;
+        let low = followed_by(alloc, &bytes, from)?;
+        let high = followed_by(alloc, &bytes, to)?;
+        let all = |_: &NoSummary| true;
+        self.tree.descend(alloc, pages, &low, &high, &all)
     }
 
     /// Checks the tree, marks its pages, and answers how many entries it has. Ok exactly where a well formed tree stands there

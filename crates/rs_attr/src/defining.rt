@@ -13,7 +13,6 @@ ghost use Rattle.rs_records.specs.Order.{is_below};
 ghost use Rattle.rs_versioned.specs.EventCalls.{Leaves};
 
 use crate::attr_index::AttrIndex;
-use crate::equal::ABOVE_CELLS;
 use rs_btree::Tree;
 use rs_interval::GreatestEnd;
 use rs_page::PageNumber;
@@ -22,6 +21,9 @@ use rs_records::{Cells, is_below};
 use rs_refusal::Refusal;
 use rs_versioned::EventTable;
 use std::alloc::Global;
+
+/// Bytes that all cells of events are below: a cell begins with two numbers of four bytes and a byte that is 0 or 1.
+const ABOVE_CELLS: [u8; 9] = [255; 9];
 
 /// The index of a column of the table, with an entry for each of its events, living or dead. It is refused with 90, with 91,
 /// with 92 where the file is full, and with 94 only where no such events lie there with pages of their own; the working pages

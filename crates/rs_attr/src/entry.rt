@@ -1,8 +1,8 @@
 //! This module writes the bytes of an index's entries: those of a value, and then those of a cell.
 
-ghost use Rattle.std.specs.Prelude.{◌≡◌, ◌≤◌, ◌+◌, ◌++◌, ◌∷◌, [], ◌↔◌, IfOk, IsTrue, OnOk, drop, length, take};
+ghost use Rattle.std.specs.Prelude.{◌≡◌, ◌≤◌, ◌+◌, ◌++◌, ◌∷◌, [], IfOk, OnOk, drop, length, take};
 ghost use Rattle.rs_value.specs.Encoding.{SaysDatum, width};
-ghost use Rattle.rs_value.specs.Values.{IsOfType, IsValue};
+ghost use Rattle.rs_value.specs.Values.{IsOfType};
 ghost use Rattle.rs_value.specs.View.{datum_of};
 
 use rs_value::{ColumnType, Schema, Tuple, Value, column_width, encode};
@@ -41,19 +41,6 @@ pub(crate) fn write_entry_and_zero(
     Ok(())
 }
 
-/// Whether a column of this type may have the value.
-pub(crate) fn is_of_type(column: ColumnType, value: &Value) -> bool
-    requires value { IsValue (datum_of value.now) }
-    ensures { IsTrue result ↔ IsOfType column (datum_of value.now) }
-{
-    match (column, value) {
-        (_, Value::Null) => true,
-        (ColumnType::Int, Value::Int(_)) => true,
-        (ColumnType::Text(most), Value::Text(text)) => text.len() <= usize::from(most),
-        _ => false,
-    }
-}
-
 /// The bytes of a value in a column of its type.
 pub(crate) fn value_bytes(
     alloc: Global,
@@ -72,4 +59,14 @@ pub(crate) fn value_bytes(
     bytes.resize(column_width(column), 0)?;
     encode(&schema, &tuple, &mut bytes);
     Ok(bytes)
+}
+
+/// The bytes, then the others.
+pub(crate) fn followed_by(alloc: Global, bytes: &[u8], others: &[u8]) -> Result<Vec<u8>, AllocError>
+    ensures { IfOk result (λ both. both.items ≡ bytes.now ++ others.now) }
+{
+    let mut both = Vec::new(alloc);
+    both.extend_from_slice(bytes)?;
+    both.extend_from_slice(others)?;
+    Ok(both)
 }

@@ -7,7 +7,6 @@
 pub mod attr_index;
 pub mod defining;
 mod entry;
-mod equal;
 pub mod laws;
 mod meant;
 pub mod opening;

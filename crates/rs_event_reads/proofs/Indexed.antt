@@ -7,8 +7,8 @@ use Rattle.std.specs.List.{AllZip, count_by}
 use Rattle.std.specs.Ordering.{is_eq}
 use Rattle.std.specs.declared.cmp.Ordering.{Ordering}
 use Rattle.std.specs.declared.cmp.Ordering.TheVariants.{Less, Equal, Greater}
-use Rattle.rs_attr.specs.Entries.{HoldsIndex, IsColumn, entry_bytes, index_form, plain_form, value_in}
-use Rattle.rs_attr.specs.Finding.{has_value}
+use Rattle.rs_attr.specs.Entries.{HoldsIndex, IsColumn, entry_bytes, index_form, value_in}
+use Rattle.rs_attr.specs.Finding.{FindsEntries, has_value}
 use Rattle.rs_attr.specs.Tables.{IndexState}
 use Rattle.rs_attr.proofs.Values.{has_bytes, value_said}
 use Rattle.rs_cell_versions.specs.Versioned.{Standing}
@@ -137,23 +137,24 @@ module _ (types slice : List ColumnType) (column : ℕ) (default : ColumnType) (
       ap (λ (l : List ColumnType). get_or l column default) read
       ∙ same_Some (get_or types column default) index.field.column (sym (slice_get-get_or types column default inside) ∙ is.type)
 
-  -- so the entries are as wide as the index has them
-  pub entry_wide : (wide cell_width tree_width : ℕ) → wide ≡ width (get_or slice column default) → cell_width ≡ event_width types → tree_width ≡ wide + cell_width → tree_width ≡ entry_bytes index.field
-  entry_wide wide cell_width tree_width first rest both = omega (arith, first, rest, both, ap width type_read, is.cell_width)
+  -- so the cells of the entries that were read are as wide as those of events
+  pub entry_wide : (found : IndexState) (wide bytes : ℕ) → found ≡ index → wide ≡ width (get_or slice column default) → bytes ≡ entry_bytes found.field → bytes ≡ wide + event_width types
+  entry_wide found wide bytes same first entry =
+      let whole : entry_bytes found.field ≡ entry_bytes index.field = ap (λ (i : IndexState). entry_bytes i.field) same in
+      omega (arith, first, entry, whole, ap width type_read, is.cell_width)
 
 -- the index at the position is the one that was read
-pub index_root : (indexes : List IndexState) (position : ℕ) (index read : IndexState) → slice_get indexes position ≡ Some index → read ≡ get_or indexes position read
-    → (root : ℕ) → root ≡ read.working → root ≡ index.working
-index_root indexes position index read there is root same =
+pub index_read : (indexes : List IndexState) (position : ℕ) (index read : IndexState) → slice_get indexes position ≡ Some index → read ≡ get_or indexes position read → read ≡ index
+index_read indexes position index read there is =
     let inside = slice_get_within indexes position index there in
-    let one : read ≡ index = is ∙ same_Some (get_or indexes position read) index (sym (slice_get-get_or indexes position read inside) ∙ there) in
-    same ∙ ap (λ (i : IndexState). i.working) one
+    is ∙ same_Some (get_or indexes position read) index (sym (slice_get-get_or indexes position read inside) ∙ there)
 
--- what was found in a tree of the index's width, at its root, by the bytes
-pub found_in : (pages : PageMap) (index : IndexState) (window : RouteWindow) (tree_width root : ℕ) → tree_width ≡ entry_bytes index.field → root ≡ index.working → (bytes given : List ℕ) → given ≡ bytes
-    → (found : List (List ℕ)) (reads : ℕ) → Finds (plain_form tree_width) pages root (given ++ route_from window.route 0) (given ++ route_from window.route window.to) (λ _. true) found reads
-    → Finds (index_form index.field) pages index.working (bytes ++ route_from window.route 0) (bytes ++ route_from window.route window.to) (λ _. true) found reads
-found_in pages index window tree_width root wide top bytes given same found reads finds =
-    subst (λ (w : ℕ). Finds (plain_form w) pages index.working (bytes ++ route_from window.route 0) (bytes ++ route_from window.route window.to) (λ _. true) found reads) wide
-    (subst (λ (r : ℕ). Finds (plain_form tree_width) pages r (bytes ++ route_from window.route 0) (bytes ++ route_from window.route window.to) (λ _. true) found reads) top
-    (subst (λ (b : List ℕ). Finds (plain_form tree_width) pages root (b ++ route_from window.route 0) (b ++ route_from window.route window.to) (λ _. true) found reads) same finds))
+-- what was found in the index that was read, by the datum and the bounds that were given
+pub found_in : (pages : PageMap) (read index : IndexState) → read ≡ index → (datum told : Datum) → datum ≡ told → (window : RouteWindow) (from to : List ℕ) → from ≡ route_from window.route 0
+    → to ≡ route_from window.route window.to → (found : List (List ℕ)) (reads : ℕ) → FindsEntries read.field pages read.working datum from to found reads
+    → FindsEntries index.field pages index.working told (route_from window.route 0) (route_from window.route window.to) found reads
+found_in pages read index same datum told is window from to low high found reads finds =
+    subst (λ (h : List ℕ). FindsEntries index.field pages index.working told (route_from window.route 0) h found reads) high
+    (subst (λ (l : List ℕ). FindsEntries index.field pages index.working told l to found reads) low
+    (subst (λ (d : Datum). FindsEntries index.field pages index.working d from to found reads) is
+    (subst (λ (i : IndexState). FindsEntries i.field pages i.working datum from to found reads) same finds)))

@@ -1,17 +1,15 @@
-//! The bytes that entries of an index begin with: those of a value, then a route and a place on it.
+//! The value of a column that a literal is.
 
-ghost use Rattle.std.specs.Prelude.{◌≡◌, ◌≤◌, ◌<◌, ◌^◌, ◌++◌, ℕ, IfNone, IfOk, IfSome, List, length, min};
+ghost use Rattle.std.specs.Prelude.{◌≡◌, ◌≤◌, ℕ, IfNone, IfSome, List, length, min};
 ghost use Rattle.std.specs.List.{list_any};
-ghost use Rattle.rs_interval.specs.Finding.{route_from};
-ghost use Rattle.rs_value.specs.Encoding.{SaysDatum, width};
+ghost use Rattle.rs_value.specs.Encoding.{SaysDatum};
 ghost use Rattle.rs_value.specs.Row as rows;
 ghost use Rattle.rs_value.specs.Values.{IsOfType, IsValue, is_control};
 ghost use Rattle.rs_value.specs.declared.column.TheConstants.{TEXT_BYTES};
 ghost use Rattle.rs_value.specs.View.{datum_of, literal_datum};
 
 use arrayvec::ArrayString;
-use rs_value::{ColumnType, Literal, Schema, Tuple, Value, column_width, encode};
-use std::alloc::{AllocError, Global};
+use rs_value::{ColumnType, Literal, Value};
 
 /// The greatest number of a value, and the least with its sign turned.
 const GREATEST_NUMBER: u64 = 1_000_000_000_000;
@@ -62,40 +60,4 @@ fn has_control(bytes: &[u8]) -> bool
     ensures { result ≡ list_any is_control bytes.now }
 {
     bytes.iter().any(|byte| *byte < 32 || *byte == 127)
-}
-
-/// The bytes of a value in a column of its type.
-pub(crate) fn value_bytes(
-    alloc: Global,
-    column: ColumnType,
-    value: &Value,
-) -> Result<Vec<u8>, AllocError>
-    requires of_type { IsOfType column (datum_of value.now) }
-    ensures says { IfOk result (λ bytes. SaysDatum column bytes.items (datum_of value.now)) }
-{
-    let mut schema = Schema::new();
-    schema.push(column);
-    let mut tuple = Tuple::new();
-    tuple.push(*value);
-    let mut bytes = Vec::new(alloc);
-    bytes.resize(column_width(column), 0)?;
-    encode(&schema, &tuple, &mut bytes);
-    Ok(bytes)
-}
-
-/// The bytes, then a route and a place on it.
-pub(crate) fn with_place(
-    alloc: Global,
-    bytes: &[u8],
-    route: u32,
-    place: u32,
-) -> Result<Vec<u8>, AllocError>
-    ensures key { IfOk result (λ key. key.items ≡ bytes.now ++ route_from route place) }
-    ensures fits { (route < 2 ^ 32) × (place < 2 ^ 32) }
-{
-    let mut key = Vec::new(alloc);
-    key.extend_from_slice(bytes)?;
-    key.extend_from_slice(&route.to_be_bytes())?;
-    key.extend_from_slice(&place.to_be_bytes())?;
-    Ok(key)
 }

@@ -3,29 +3,23 @@
 //! An entry is the bytes of a value and then a cell, which begins with the route and the first thousandth. So the entries of a value on a
 //! route lie one after another, in the order of their first thousandths.
 
-ghost use Rattle.std.specs.Prelude.{◌≡◌, ◌⊎◌, ◌<◌, ◌^◌, ◌++◌, ℕ, Err, IfErr, IfOk, List, OnOk, Some, map, slice_get, true};
+ghost use Rattle.std.specs.Prelude.{◌≡◌, ◌⊎◌, Err, IfErr, IfOk, Some, map, slice_get};
 ghost use Rattle.std.specs.List.{AllByRecursion};
-ghost use Rattle.rs_attr.specs.Entries.{plain_form};
 ghost use Rattle.rs_attr.specs.Tables.{IndexState};
 ghost use Rattle.rs_event_reads.specs.Found.{FindsSpans, HoldsNoEntries, IsIndexed};
 ghost use Rattle.rs_facts.specs.Spans.{ArePlaced, seen};
-ghost use Rattle.rs_interval.specs.Finding.{route_from};
 ghost use Rattle.rs_pages.specs.Calls.{OnlyReads};
-ghost use Rattle.rs_records.specs.Listed.{listed, record_width};
-ghost use Rattle.rs_tree.specs.Calls.{Finds, RefusesReading};
 ghost use Rattle.rs_value.specs.Values.{IsRowOf};
 ghost use Rattle.rs_value.specs.View.{literal_datum};
 
-use crate::keys::{value_bytes, value_of, with_place};
+use crate::keys::value_of;
 use crate::picking::picked_spans;
 use crate::window::{ColumnIndex, RouteWindow};
-use rs_btree::Tree;
 use rs_contents::OpenedTable;
 use rs_facts::Span;
+use rs_interval::beginning;
 use rs_pages::Pages;
-use rs_records::Cells;
 use rs_refusal::Refusal;
-use rs_tree::NoSummary;
 use rs_value::{Literal, column_width};
 use std::alloc::Global;
 
@@ -58,10 +52,10 @@ pub fn spans_with<P: Pages>(
     let Some(value) = value_of(column, value) else {
         return Ok((Vec::new(alloc), 0));
     };
-    let bytes = value_bytes(alloc, column, &value)?;
-    let width = column_width(column) + table.records.width();
-    let tree = Tree::at(width, table.indexes[at.position].root());
-    let (entries, reads) = entries_with(alloc, pages, &tree, &bytes, window)?;
+    let from = beginning(window.route, 0);
+    let to = beginning(window.route, window.to);
+    let index = &table.indexes[at.position];
+    let (entries, reads) = index.entries_with(alloc, pages, &value, &from, &to)?;
     let spans = picked_spans(
         alloc,
         table.records.schema(),
@@ -70,25 +64,4 @@ pub fn spans_with<P: Pages>(
         window,
     )?;
     Ok((spans, reads))
-}
-
-/// The entries of the tree that begin with these bytes, on the window's route, up to where the window ends; and how many pages were read.
-fn entries_with<P: Pages>(
-    alloc: Global,
-    pages: &mut P,
-    tree: &Tree<NoSummary>,
-    bytes: &[u8],
-    window: RouteWindow,
-) -> Result<(Cells, u32), Refusal>
-    ensures rests { OnlyReads P.Pages result pages.old pages.new }
-    ensures width { IfOk result (λ found. record_width found.0 ≡ tree.now.width) }
-    ensures fits { OnOk result ((window.route < 2 ^ 32) × (window.to < 2 ^ 32)) }
-    ensures found { P.is_tied pages.old → IfOk result (λ found. Finds (plain_form tree.now.width) (P.store pages.old).map tree.now.root
-        (bytes.now ++ route_from window.route 0) (bytes.now ++ route_from window.route window.to) (λ _. true) (listed found.0) found.1) }
-    ensures refused { RefusesReading P.Pages (plain_form tree.now.width) tree.now.root result pages.old pages.new }
-{
-    let low = with_place(alloc, bytes, window.route, 0)?;
-    let high = with_place(alloc, bytes, window.route, window.to)?;
-    let all = |_: &NoSummary| true;
-    tree.descend(alloc, pages, &low, &high, &all)
 }

@@ -8,4 +8,4 @@ pub mod laws;
 pub mod search;
 
 pub use greatest_end::GreatestEnd;
-pub use search::overlapping;
+pub use search::{beginning, overlapping};

@@ -1,6 +1,6 @@
 //! The search for what overlaps a span of a route.
 
-ghost use Rattle.std.specs.Prelude.{◌≡◌, IfOk};
+ghost use Rattle.std.specs.Prelude.{◌≡◌, ◌<◌, ◌^◌, IfOk};
 ghost use Rattle.rs_pages.specs.Calls.{OnlyReads};
 ghost use Rattle.rs_records.specs.Listed.{record_width};
 ghost use Rattle.rs_tree.specs.Calls.{RefusesReading};
@@ -40,8 +40,9 @@ pub fn overlapping<P: Pages>(
 }
 
 /// What the cells of a route's records that begin at `from` begin with.
-fn beginning(route: u32, from: u32) -> [u8; 8]
-    ensures { result ≡ route_from route from }
+pub fn beginning(route: u32, from: u32) -> [u8; 8]
+    ensures bytes { result ≡ route_from route from }
+    ensures fits { (route < 2 ^ 32) × (from < 2 ^ 32) }
 {
     let [r0, r1, r2, r3] = route.to_be_bytes();
     let [f0, f1, f2, f3] = from.to_be_bytes();

@@ -16,5 +16,5 @@ returns-clause-found g c = λ tied.
     c.beginning-low.result c.beginning-high.result (λ cell. nat_lt c.args.a (end_of cell).end) (listed found.0) found.1)
     (λ found. FindsOverlapping c.args.layout.width (g.P.Pages.store c.args.pages.now).map c.args.root c.args.route c.args.a c.args.b (listed found.0) found.1)
     (λ found finds. finds_overlapping c.args.layout.summary c.args.layout.width c.args.root c.args.route c.args.a c.args.b (g.P.Pages.store c.args.pages.now).map
-    c.beginning-low.result c.beginning-high.result (listed found.0) found.1 c.ranges.route.fits c.ranges.b.fits c.requires.summary c.beginning-low.ensures c.beginning-high.ensures finds)
+    c.beginning-low.result c.beginning-high.result (listed found.0) found.1 c.ranges.route.fits c.ranges.b.fits c.requires.summary c.beginning-low.ensures.bytes c.beginning-high.ensures.bytes finds)
     (c.descend.ensures.found tied (λ one. nat_lt c.args.a one.end) (record { each = λ summary result told. search rules }) (after_parts c.args.a))
