@@ -7,11 +7,11 @@ use Rattle.std.proofs.lemmas.List.{take_at, drop_at}
 use Rattle.std.proofs.lemmas.List.Elements.{All-nil, All-cons}
 use Rattle.rs_bytes.specs.Codes.{Code, IsOne, IsOneOfLength, SaysNumber, SaysBoth, SaysUtf8, SaysEach, SaysCounted}
 
-above_zero : (k : ℕ) → 0 < 256 ^ k
+pub above_zero : (k : ℕ) → 0 < 256 ^ k
 above_zero k = pow-le-pow_right {n = 256} (omega arith) {i = 0} {j = k} (omega arith)
 
 -- the low k + 1 bytes are a byte in front of the low k
-low_more : (k n : ℕ) → byte_at k n * 256 ^ k + n % 256 ^ k ≡ n % 256 ^ suc k
+pub low_more : (k n : ℕ) → byte_at k n * 256 ^ k + n % 256 ^ k ≡ n % 256 ^ suc k
 low_more zero n = omega arith
 low_more (suc k) n =
     let unit = 256 ^ suc k in

@@ -1,9 +1,12 @@
 -- The bytes of a directory are so many, and zeros follow them.
-use Rattle.std.proofs.Common.{◌≡◌, ◌<◌, ◌+◌, ◌-◌, ◌*◌, ℕ, zero, suc, Some, List, [], ◌∷◌, ◌++◌, length, take, drop, replicate, get_or, refl, sym, ap, subst, ◌∙◌, arith, length-append, length-drop}
+use Rattle.std.proofs.Common.{◌≡◌, ◌⊎◌, ◌<◌, ◌+◌, ◌-◌, ◌*◌, ℕ, zero, suc, Some, List, Result, Ok, Err, IfErr, IsOkUnless, inl, inr, [], ◌∷◌, ◌++◌, length, take, drop, replicate, get_or, refl, sym, ap, subst, ◌∙◌, arith, length-append, length-drop}
 use Rattle.std.proofs.lemmas.List.{take-append-drop, take_at, drop_at, drop-replicate, length-replicate, get_or-drop, get_or-replicate}
 use Rattle.std.proofs.lemmas.Grind.{same_number_lists}
 use Rattle.std.specs.Int.{bytes_high_first}
-use Rattle.rs_bytes.specs.Codes.{Code, SaysNumber, SaysEach}
+use Rattle.rs_bytes.specs.Codes.{Code, SaysBoth, SaysMany, SaysNumber, SaysEach}
+use Rattle.rs_bytes.proofs.Fixed.{AreBytes, IsFixed, fixed_both, fixed_many, fixed_number}
+use Rattle.rs_refusal.specs.declared.refusal.Refusal.{Refusal}
+use Rattle.rs_refusal.specs.declared.refusal.Refusal.TheVariants as refusal
 use Rattle.rs_page.specs.declared.page.TheConstants.{PAGE_SIZE}
 use Rattle.rs_page.specs.Header.{IsHeader}
 use Rattle.rs_page.specs.PageBytes.{IsBlank, empty_header}
@@ -41,6 +44,32 @@ length-directory bytes directory (tables, more, is, a, (indexes, rest, at, b, (r
     let one : length tables ≡ 2560 = length-each SaysTree 20 length-tree tables directory.tables a.1 ∙ ap (λ n. n * 20) a.0 in
     let two : length indexes ≡ 256 = length-each (SaysNumber 4) 4 (length-number 4) indexes directory.indexes b.1 ∙ ap (λ n. n * 4) b.0 in
     omega (arith, ap length is, length-append tables more, ap length at, length-append indexes rest, ap length on, length-append referents accepted, one, two, length-tree referents directory.referents c, length-number 8 accepted directory.accepted d)
+
+-- so many bytes say a tree, and a directory, whatever they are
+fixed_tree : IsFixed SaysTree 20
+fixed_tree bytes size small =
+    let number : IsFixed (SaysNumber 8) 8 = fixed_number 8 in
+    let parts = fixed_both (SaysNumber 4) (SaysBoth (SaysNumber 8) (SaysNumber 8)) 4 16 (fixed_number 4) (fixed_both (SaysNumber 8) (SaysNumber 8) 8 8 number number) bytes size small in
+    (record { root = parts.0.0; living = parts.0.1.0; garbage = parts.0.1.1 }, parts.1)
+
+pub fixed_directory : IsFixed SaysDirectory 2844
+fixed_directory bytes size small =
+    let tables : IsFixed (SaysMany 128 (SaysEach SaysTree)) 2560 = fixed_many SaysTree 20 fixed_tree 128 in
+    let indexes : IsFixed (SaysMany 64 (SaysEach (SaysNumber 4))) 256 = fixed_many (SaysNumber 4) 4 (fixed_number 4) 64 in
+    let ends : IsFixed (SaysBoth SaysTree (SaysNumber 8)) 28 = fixed_both SaysTree (SaysNumber 8) 20 8 fixed_tree (fixed_number 8) in
+    let rest : IsFixed (SaysBoth (SaysMany 64 (SaysEach (SaysNumber 4))) (SaysBoth SaysTree (SaysNumber 8))) 284 =
+    fixed_both (SaysMany 64 (SaysEach (SaysNumber 4))) (SaysBoth SaysTree (SaysNumber 8)) 256 28 indexes ends in
+    let parts = fixed_both (SaysMany 128 (SaysEach SaysTree)) (SaysBoth (SaysMany 64 (SaysEach (SaysNumber 4))) (SaysBoth SaysTree (SaysNumber 8))) 2560 284 tables rest bytes size small in
+    (record { tables = parts.0.0; indexes = parts.0.1.0; referents = parts.0.1.1.0; accepted = parts.0.1.1.1 }, parts.1)
+
+-- so they are never said to be damaged
+pub never_damaged : {T : Type 0} (bytes : List ℕ) → length bytes ≡ 2844 → AreBytes bytes → (result : Result T Refusal) → IfErr result (λ why. (why ≡ refusal.OutOfMemory) ⊎ (why ≡ refusal.DamagedFile))
+    → IfErr result (λ why. why ≡ refusal.DamagedFile → (directory : DirectoryItems) → SaysDirectory bytes directory → ⊥) → IsOkUnless result refusal.OutOfMemory
+never_damaged bytes size small (Ok x) refused damaged = tt
+never_damaged bytes size small (Err why) refused damaged = elim refused [
+  | inl memory ↦ memory
+  | inr none ↦ let said = fixed_directory bytes size small in absurd (damaged none said.0 said.1)
+]
 
 -- the page of these bytes with zeros after them
 pub directory_there : (page said zeros : List ℕ) (directory : DirectoryItems) → length page ≡ PAGE_SIZE → IsHeader page (empty_header Directory 1 0) → SaysDirectory said directory → content page ≡ said ++ zeros

@@ -7,8 +7,6 @@ use Rattle.rs_page.specs.Header.{IsHeader}
 use Rattle.rs_page.specs.PageBytes.{empty_header}
 use Rattle.rs_page.specs.declared.header.PageKind.TheVariants.{Directory}
 use Rattle.rs_page.specs.declared.header.TheConstants.{HEADER_SIZE}
-use Rattle.rs_catalog_pages.specs.Parts.{content}
-use Rattle.rs_catalog_pages.specs.declared.directory.TheConstants.{DIRECTORY_SIZE}
 use Rattle.rs_catalog_pages.specs.declared.directory_items.TheConstants.{INDEXES, TABLES}
 use Rattle.rs_pages.specs.PageMap.{PageMap, ReplacesPage}
 
@@ -40,16 +38,21 @@ pub record IsDirectory (page : List ℕ) (directory : DirectoryItems) : Type 0 w
   pub says : SaysDirectory said directory
   pub holds : drop HEADER_SIZE page ≡ said ++ replicate (PAGE_SIZE - (HEADER_SIZE + length said)) 0
 
--- the page has the header of a directory, and zeros past the bytes of one
-pub record BeginsDirectory (page : List ℕ) : Type 0 where
-  pub header : IsHeader page (empty_header Directory 1 0)
-  pub zeros : drop DIRECTORY_SIZE (content page) ≡ replicate (length (drop DIRECTORY_SIZE (content page))) 0
+-- the page is a directory
+pub record IsSomeDirectory (page : List ℕ) : Type 0 where
+  pub directory : DirectoryItems
+  pub is : IsDirectory page directory
 
 -- page 1 of the file is this directory
 pub record HasDirectory (map : PageMap) (directory : DirectoryItems) : Type 0 where
   pub page : List ℕ
   pub there : map.page 1 ≡ Some page
   pub is : IsDirectory page directory
+
+-- page 1 of the file is a directory
+pub record HasSomeDirectory (map : PageMap) : Type 0 where
+  pub directory : DirectoryItems
+  pub has : HasDirectory map directory
 
 -- page 1 of the file is no directory
 pub record HasNoDirectory (map : PageMap) : Type 0 where

@@ -1,6 +1,6 @@
 //! Reads the directory of a file from page 1, and writes it there.
 
-ghost use Rattle.std.specs.Prelude.{◌≡◌, ◌≢◌, ◌⊎◌, ◌≤◌, ◌↔◌, ◌-◌, ◌++◌, true, IsTrue, EachIndex, slice_index, IfOk, IfErr, Err, length, replicate};
+ghost use Rattle.std.specs.Prelude.{◌≡◌, ◌≢◌, ◌⊎◌, ◌≤◌, ◌↔◌, ◌-◌, ◌++◌, true, IsTrue, EachIndex, slice_index, IfOk, IfErr, IsOkUnless, Err, length, replicate};
 ghost use Rattle.rs_page.specs.declared.page.TheConstants.{PAGE_SIZE};
 ghost use Rattle.rs_page_owners.specs.Calls.{Leaves};
 ghost use Rattle.rs_page.specs.Header.{IsHeader};
@@ -9,7 +9,7 @@ ghost use Rattle.rs_page.specs.declared.header.PageKind.TheVariants as kinds;
 ghost use Rattle.rs_pages.specs.Calls.{OnlyReads};
 ghost use Rattle.rs_pages.specs.PageMap.{HasNoFit};
 ghost use Rattle.rs_catalog_pages.specs.Calls.{LoadsDirectory, RefusesToLoadDirectory, StaysRefused, StoresNewDirectory};
-ghost use Rattle.rs_catalog_pages.specs.Directory.{DirectoryItems, IsDirectory, BeginsDirectory};
+ghost use Rattle.rs_catalog_pages.specs.Directory.{DirectoryItems, HasSomeDirectory, IsDirectory, IsSomeDirectory, SaysDirectory};
 ghost use Rattle.rs_catalog_pages.specs.Fitting.{FitsDirectory};
 ghost use Rattle.rs_catalog_pages.specs.Parts.{content};
 ghost use Rattle.rs_catalog_pages.specs.Said.{said_directory};
@@ -25,12 +25,14 @@ use std::alloc::Global;
 /// The bytes of a directory. Zeros follow them in the page.
 pub const DIRECTORY_SIZE: usize = 2844;
 
-/// Reads the directory. It is refused with 90, with 91, and with 94 only where page 1 is none. No page changes.
+/// Reads the directory. It is refused with 91, with 90 only where page 1 is one, and with 94 only where it is none. No page
+/// changes.
 pub fn load_directory<P: Pages>(alloc: Global, pages: &mut P) -> Result<StoredDirectory, Refusal>
     ensures rests { OnlyReads P.Pages result pages.old pages.new }
     ensures loads { LoadsDirectory P.Pages result pages.old }
     ensures fits { IfOk result (λ directory. FitsDirectory (said_directory directory)) }
     ensures refused { RefusesToLoadDirectory P.Pages result pages.old }
+    ensures memory { P.is_tied pages.old → result ≡ Err Refusal.OutOfMemory → HasSomeDirectory (P.store pages.old).map }
 {
     match pages.page(PageNumber::new(1)) {
         Ok(page) => directory_of(alloc, page),
@@ -38,21 +40,31 @@ pub fn load_directory<P: Pages>(alloc: Global, pages: &mut P) -> Result<StoredDi
     }
 }
 
-/// The directory that this page is. It is refused with 90 only where a directory's header is before the bytes and zeros are after
-/// them, and with 94 only where it is none.
+/// The directory that this page is. It is refused with 90 only where it is one, for its lists alone, and with 94 only where it is
+/// none: memory is taken after all that can make it none was seen, since so many bytes say a directory, whatever they are.
 fn directory_of(alloc: Global, page: &Page) -> Result<StoredDirectory, Refusal>
     ensures read { IfOk result (λ directory. IsDirectory page.now.bytes (said_directory directory)) }
     ensures fits { IfOk result (λ directory. FitsDirectory (said_directory directory)) }
     ensures damaged { result ≡ Err Refusal.DamagedFile
         → (directory : DirectoryItems) → IsDirectory page.now.bytes directory → ⊥ }
-    ensures memory { result ≡ Err Refusal.OutOfMemory → BeginsDirectory page.now.bytes }
+    ensures memory { result ≡ Err Refusal.OutOfMemory → IsSomeDirectory page.now.bytes }
     ensures refused { IfErr result (λ why. (why ≡ Refusal.OutOfMemory) ⊎ (why ≡ Refusal.DamagedFile)) }
 {
     let (said, rest) = content(page).split_at(DIRECTORY_SIZE);
     if !begins_directory(page) || !are_zeros(rest) {
         return Err(Refusal::DamagedFile);
     }
-    read_whole::<StoredDirectory>(alloc, said)
+    directory_said(alloc, said)
+}
+
+/// The directory that so many bytes say. It is refused with 90 alone, since they say one whatever they are.
+fn directory_said(alloc: Global, bytes: &[u8]) -> Result<StoredDirectory, Refusal>
+    requires size { length bytes.now ≡ DIRECTORY_SIZE }
+    ensures read { IfOk result (λ directory. SaysDirectory bytes.now (said_directory directory)) }
+    ensures says { (directory : DirectoryItems) × SaysDirectory bytes.now directory }
+    ensures refused { IsOkUnless result Refusal.OutOfMemory }
+{
+    read_whole::<StoredDirectory>(alloc, bytes)
 }
 
 /// Whether the page begins with the header of a directory.

@@ -24,6 +24,17 @@ use rs_refusal::Refusal;
 use rs_versioned::RouteSpan;
 use std::alloc::{AllocError, Global};
 
+/// What a file says of what it holds.
+#[derive(Drop)]
+struct FileCatalogue {
+    /// The pages in which the definitions lie, in their order.
+    pages: Vec<PageNumber>,
+    /// The definitions.
+    definitions: StoredCatalogue,
+    /// The roots of the trees, and the version that was accepted last.
+    directory: StoredDirectory,
+}
+
 /// The versions of a file are below this.
 const VERSIONS: u64 = 0x8000_0000_0000_0000;
 
@@ -36,22 +47,22 @@ pub fn load<P: Pages>(alloc: Global, pages: &mut P) -> Result<OpenedFile, Refusa
     ensures refused { RefusesToLoad result }
 {
     let mut reached = first_two(alloc, pages.count())?;
-    let (numbers, definitions, directory) = load_said(alloc, pages, &mut reached)?;
-    let routes = rising_routes(alloc, definitions.routes.as_slice())?;
+    let said = load_said(alloc, pages, &mut reached)?;
+    let routes = rising_routes(alloc, said.definitions.routes.as_slice())?;
     let (tables, referents) = open_parts(
         alloc,
         pages,
-        &definitions,
-        &directory,
+        &said.definitions,
+        &said.directory,
         routes.as_slice(),
         &mut reached,
     )?;
     Ok(OpenedFile {
-        definitions,
-        pages: numbers,
+        definitions: said.definitions,
+        pages: said.pages,
         tables,
         referents,
-        accepted: directory.accepted,
+        accepted: said.directory.accepted,
     })
 }
 
@@ -74,11 +85,11 @@ fn load_said<P: Pages>(
     alloc: Global,
     pages: &mut P,
     reached: &mut Reached,
-) -> Result<(Vec<PageNumber>, StoredCatalogue, StoredDirectory), Refusal>
+) -> Result<FileCatalogue, Refusal>
     ensures rests { OnlyReads P.Pages result pages.old pages.new }
-    ensures loads { P.is_tied pages.old → IfOk result (λ said. LoadsSaid (P.store pages.old).map said.0.items
-        (said_catalogue said.1) (said_directory said.2) (taken reached.old) (taken reached.new)) }
-    ensures sound { IfOk result (λ said. AreSound (said_catalogue said.1) (said_directory said.2)) }
+    ensures loads { P.is_tied pages.old → IfOk result (λ said. LoadsSaid (P.store pages.old).map said.pages.items
+        (said_catalogue said.definitions) (said_directory said.directory) (taken reached.old) (taken reached.new)) }
+    ensures sound { IfOk result (λ said. AreSound (said_catalogue said.definitions) (said_directory said.directory)) }
     ensures refused { RefusesToLoad result }
     ensures damaged { P.is_tied pages.old → result ≡ Err Refusal.DamagedFile → LoadsNothingSaid (P.store pages.old).map
         (taken reached.old) }
@@ -87,7 +98,11 @@ fn load_said<P: Pages>(
     let (numbers, definitions) = rs_catalog_pages::load(alloc, pages, reached)?;
     check_numbers(&definitions, &directory)?;
     check_versions(definitions.routes.as_slice(), directory.accepted)?;
-    Ok((numbers, definitions, directory))
+    Ok(FileCatalogue {
+        pages: numbers,
+        definitions,
+        directory,
+    })
 }
 
 /// Ok exactly where the version is one that a file may have, and no route was born after it; 94 where not.

@@ -1,5 +1,5 @@
 use Rattle.std.proofs.Common.{subst, sym, ◌∙◌}
-use Rattle.rs_bytes.specs.Codes.{Reads, ReadsSome, SaysMany, SaysUtf8}
+use Rattle.rs_bytes.specs.Codes.{Reads, SaysMany, SaysUtf8}
 use Rattle.std.proofs.lemmas.Result.{err_from_is_err_and}
 use Rattle.rs_bytes.proofs.Reading.{utf8_read, none_text}
 use Rattle.rs_bytes.proofs.texts.read_text.Goals as goal

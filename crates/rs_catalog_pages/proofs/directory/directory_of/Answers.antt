@@ -1,10 +1,9 @@
 -- A directory begins with its header, and has zeros after so many bytes.
-use Rattle.std.proofs.Common.{◌≡◌, ◌+◌, ◌-◌, ◌++◌, length, take, drop, replicate, refl, sym, ap, subst, ◌∙◌}
+use Rattle.std.proofs.Common.{◌≡◌, ◌+◌, ◌-◌, ◌++◌, length, drop, sym, ap, ◌∙◌}
 use Rattle.std.proofs.lemmas.Bool.{false≢true}
-use Rattle.std.proofs.lemmas.Result.{IfOk-weaker, IfErr-at_err}
+use Rattle.std.proofs.lemmas.Result.{IfOk-weaker}
 use Rattle.rs_page.specs.declared.page.TheConstants.{PAGE_SIZE}
-use Rattle.rs_refusal.specs.declared.refusal.Refusal.TheVariants as refusal
-use Rattle.rs_catalog_pages.specs.Directory.{DirectoryItems, SaysDirectory, IsDirectory}
+use Rattle.rs_catalog_pages.specs.Directory.{SaysDirectory, IsDirectory}
 use Rattle.rs_catalog_pages.specs.Fitting.{FitsDirectory}
 use Rattle.rs_catalog_pages.specs.Laws.{directory_fits}
 use Rattle.rs_catalog_pages.specs.Parts.{content}
@@ -26,26 +25,23 @@ returns-then-not-begins_directory-clause-damaged c = λ is directory there.
 pub returns-clause-read : goal.returns-clause-read
 returns-clause-read c =
     let whole : content c.args.page.now.bytes ≡ c.split_at.result.0.now ++ c.split_at.result.1.now = sym c.content.ensures.bytes ∙ c.split_at.ensures.by_index.0 in
-    IfOk-weaker c.read_whole.result (λ directory. SaysDirectory c.split_at.result.0.now (said_directory directory)) (λ directory. IsDirectory c.args.page.now.bytes (said_directory directory))
+    IfOk-weaker c.directory_said.result (λ directory. SaysDirectory c.split_at.result.0.now (said_directory directory)) (λ directory. IsDirectory c.args.page.now.bytes (said_directory directory))
     (λ directory says.
     directory_there c.args.page.now.bytes c.split_at.result.0.now c.split_at.result.1.now (said_directory directory) c.content.ensures.page (c.begins_directory.ensures.0 c.if-not-begins_directory.false) says whole
     (each_zeros c.split_at.result.1.now (c.are_zeros.ensures.0 c.if-not-are_zeros.false)))
-    c.read_whole.ensures.read
+    c.directory_said.ensures.read
 
 pub returns-clause-fits : goal.returns-clause-fits
 returns-clause-fits c =
-    IfOk-weaker c.read_whole.result (λ directory. SaysDirectory c.split_at.result.0.now (said_directory directory)) (λ directory. FitsDirectory (said_directory directory))
-    (λ directory says. directory_fits c.split_at.result.0.now (said_directory directory) says) c.read_whole.ensures.read
-
-pub returns-clause-damaged : goal.returns-clause-damaged
-returns-clause-damaged c = λ is directory there.
-    let parts = directory_parts c.args.page.now.bytes directory there in
-    let said : c.split_at.result.0.now ≡ there.said = c.split_at.ensures.front ∙ ap (take 2844) c.content.ensures.bytes ∙ parts.0 in
-    IfErr-at_err (λ why. why ≡ refusal.DamagedFile → (value : DirectoryItems) → SaysDirectory c.split_at.result.0.now value → ⊥) is c.read_whole.ensures.damaged refl directory
-    (subst (λ b. SaysDirectory b directory) (sym said) there.says)
+    IfOk-weaker c.directory_said.result (λ directory. SaysDirectory c.split_at.result.0.now (said_directory directory)) (λ directory. FitsDirectory (said_directory directory))
+    (λ directory says. directory_fits c.split_at.result.0.now (said_directory directory) says) c.directory_said.ensures.read
 
 pub returns-clause-memory : goal.returns-clause-memory
-returns-clause-memory c = λ is. record {
-  header = c.begins_directory.ensures.0 c.if-not-begins_directory.false;
-  zeros = subst (λ xs. xs ≡ replicate (length xs) 0) (c.split_at.ensures.back ∙ ap (drop 2844) c.content.ensures.bytes) (each_zeros c.split_at.result.1.now (c.are_zeros.ensures.0 c.if-not-are_zeros.false));
-}
+returns-clause-memory c = λ is.
+    let whole : content c.args.page.now.bytes ≡ c.split_at.result.0.now ++ c.split_at.result.1.now = sym c.content.ensures.bytes ∙ c.split_at.ensures.by_index.0 in
+    let said = c.directory_said.ensures.says in
+    record {
+      directory = said.0;
+      is = directory_there c.args.page.now.bytes c.split_at.result.0.now c.split_at.result.1.now said.0 c.content.ensures.page (c.begins_directory.ensures.0 c.if-not-begins_directory.false) said.1 whole
+          (each_zeros c.split_at.result.1.now (c.are_zeros.ensures.0 c.if-not-are_zeros.false));
+    }
