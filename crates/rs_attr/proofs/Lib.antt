@@ -1,9 +1,12 @@
 pub mod Above
-pub mod AsMany
 pub mod Checked
 pub mod Counted
 pub mod Entering
+pub mod Gathered
 pub mod Indexes
+pub mod Lent
+pub mod LentCells
+pub mod LentOrder
 pub mod MeantParts
 pub mod Opened
 pub mod Parts

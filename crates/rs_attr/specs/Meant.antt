@@ -1,11 +1,19 @@
 -- What the cells of a part of a table say and mean: a part has events of one route alone that the accepted version sees.
-use Rattle.std.specs.Prelude.{◌≡◌, ℕ, List, [], ◌∷◌, Option, Some, None, filter, map}
+use Rattle.std.specs.Prelude.{◌≡◌, ◌+◌, ℕ, Bool, true, false, List, [], ◌∷◌, Option, Some, None, filter, map, nat_le}
 use Rattle.std.specs.List.{AllByRecursion, AllZip}
+use Rattle.std.specs.Cmp.Lexicographic.{slice_cmp}
+use Rattle.std.specs.Ordering.{nat_cmp, ordering_then}
+use Rattle.std.specs.declared.cmp.Ordering.{Ordering}
+use Rattle.std.specs.declared.cmp.Ordering.TheVariants.{Less, Equal, Greater}
+use Rattle.rs_attr.specs.declared.meant.RowStretch.{RowStretch}
 use Rattle.rs_attr.specs.declared.told.ToldTable.{ToldTable}
-use Rattle.rs_facts.specs.Runs.{Stretch}
-use Rattle.rs_facts.specs.Spans.{AreAllRunsOf, IsPlaced, places_of, seen}
+use Rattle.rs_facts.specs.Runs.{Stretch, stretch}
+use Rattle.rs_facts.specs.Spans.{AreAllRunsOf, IsPlaced, gap_of, places_of, seen}
 use Rattle.rs_facts.specs.declared.fact.Span.{Span}
+use Rattle.rs_value.specs.declared.column.ColumnType.{ColumnType}
 use Rattle.rs_value.specs.declared.column.Kind.{Kind}
+use Rattle.rs_value.specs.Encoding.{SaysRow}
+use Rattle.rs_value.specs.Row.{text}
 use Rattle.rs_versioned.specs.Events.{Event, SaysEvent, sees_event, span_of}
 use Rattle.rs_versioned.specs.Meant.{IsSpanOf}
 use Rattle.rs_versioned.specs.declared.route_span.RouteSpan.{RouteSpan}
@@ -44,3 +52,40 @@ pub record SayMeant (told : ToldTable) (route : Option RouteSpan) (cells : List 
   pub say : AllZip (SaysEvent told.schema.items) cells events
   pub on : AllByRecursion (λ event. IsOn told.kind route event.route (span_of event)) (seen_events told events)
   pub runs : AreAllRunsOf told.kind (places_of (seen_spans told events)) (seen_spans told events)
+
+-- ---- spans with the bytes of their rows
+
+-- with the bytes as its row
+abbrev pub stretch_of : RowStretch → Stretch
+stretch_of lent = stretch lent.lo lent.hi (text lent.row.now ∷ [])
+
+abbrev pub stretches_of : Option RowStretch → List Stretch
+stretches_of None = []
+stretches_of (Some lent) = stretch_of lent ∷ []
+
+-- by the bytes of the row, then by place
+abbrev pub lent_cmp : RowStretch → RowStretch → Ordering
+lent_cmp a b = ordering_then (slice_cmp nat_cmp a.row.now b.row.now) (nat_cmp a.lo b.lo)
+
+abbrev pub less_or : Ordering → Bool → Bool
+less_or Less test = true
+less_or Equal test = test
+less_or Greater test = false
+
+-- its row's bytes are below those of the next one, or equal, and it ends before the next one begins
+abbrev pub comes_before : Kind → RowStretch → RowStretch → Bool
+comes_before kind one next = less_or (slice_cmp nat_cmp one.row.now next.row.now) (nat_le (one.hi + gap_of kind) next.lo)
+
+-- the one has the bytes of the other's row as its row
+pub record HasBytes (types : List ColumnType) (lent span : Stretch) : Type 0 where
+  pub lo : lent.lo ≡ span.lo
+  pub hi : lent.hi ≡ span.hi
+  pub bytes : List ℕ
+  pub row : lent.row ≡ text bytes ∷ []
+  pub says : SaysRow types bytes span.row
+
+-- the cells say events, and these are the spans of those that are seen, on the route, with the bytes of their rows
+pub record SayStretches (told : ToldTable) (route : Option RouteSpan) (cells : List (List ℕ)) (stretches : List Stretch) : Type 0 where
+  pub spans : List Stretch
+  pub placed : SayPlaced told route cells spans
+  pub are : AllZip (HasBytes told.schema.items) stretches spans

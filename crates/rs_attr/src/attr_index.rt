@@ -32,7 +32,7 @@ use std::alloc::{AllocError, Global};
 use std::marker::Model;
 
 /// The bytes of an event's cell before its row.
-const FRONT_BYTES: usize = 8;
+pub(crate) const FRONT_BYTES: usize = 8;
 
 /// What becomes of the entry of a cell.
 #[derive(Clone, Copy)]

@@ -1,26 +1,39 @@
 //! This module checks what the events of a part of a table mean: those that the accepted version sees lie on one route and are
 //! maximal runs.
 //!
-//! Whether they are is asked of their runs: joining spans that overlap or touch leaves fewer of them.
+//! Whether they are is asked of their rows as they lie in the cells, which are lent: in order of row and place, each span has to end
+//! before the next of its row begins. So a part takes 24 bytes for each of its events beside its cells.
 
-ghost use Rattle.std.specs.Prelude.{◌≡◌, ◌⊎◌, ◌++◌, ◌∷◌, ◌↔◌, ◌≤◌, [], List, IfErr, IfOk, IsTrue, OnOk, length, map};
-ghost use Rattle.rs_attr.specs.Meant.{IsPlacedOn, SayMeant, SayPlaced, spans_of};
+ghost use Rattle.std.specs.Prelude.{◌≡◌, ◌⊎◌, ◌+◌, ◌++◌, ◌∷◌, ◌↔◌, ◌≤◌, [], List, IfErr, IfOk, IsPermutation, IsTrue, OnOk, drop, length, map, nat_le, take};
+ghost use Rattle.std.specs.List.Sorted.{IsSortedBy};
+ghost use Rattle.std.specs.Ordering.{is_lt};
+ghost use Rattle.rs_attr.specs.Meant.{IsPlacedOn, SayMeant, SayPlaced, SayStretches, comes_before, lent_cmp, spans_of, stretch_of, stretches_of};
 ghost use Rattle.rs_facts.specs.Runs.{Stretch};
-ghost use Rattle.rs_facts.specs.Spans.{AreAllRunsOf, ArePlaced, IsPlaced, places_of, seen};
+ghost use Rattle.rs_facts.specs.Spans.{AreAllRunsOf, ArePlaced, IsPlaced, gap_of, places_of, seen};
 ghost use Rattle.rs_records.specs.Listed.{listed, record_width};
+ghost use Rattle.rs_value.specs.Encoding.{row_width};
 ghost use Rattle.rs_versioned.specs.Events.{event_width};
 ghost use Rattle.rs_versioned.specs.Meant.{bound_of};
 
+use crate::attr_index::FRONT_BYTES;
 use crate::told::ToldTable;
 use rs_cell_versions::sees;
-use rs_coalesce::runs;
 use rs_facts::Span;
 use rs_records::Cells;
 use rs_refusal::Refusal;
-use rs_value::Kind;
+use rs_value::{Kind, Schema, row_width};
 use rs_versioned::RouteSpan;
 use rs_versioned::event::{route_of, span_of};
 use std::alloc::Global;
+use std::cmp::Ordering;
+
+/// The span of an event, with the bytes of its row where they lie.
+#[derive(Clone, Copy)]
+pub(crate) struct RowStretch<'a> {
+    row: &'a [u8],
+    lo: u32,
+    hi: u32,
+}
 
 /// Ok where each of the cells says an event of the table, and those that the accepted version sees are on this route, where there
 /// is one, and are the maximal runs of their facts. It is refused with 90, and with 94 only where they are not.
@@ -35,42 +48,110 @@ pub(crate) fn check_events(
     ensures refused { IfErr result (λ why. (why ≡ Refusal.OutOfMemory)
         ⊎ ((why ≡ Refusal.DamagedFile) × (SayMeant told.now route (listed cells.now) → ⊥))) }
 {
-    let spans = placed_spans(alloc, told, route, cells)?;
-    if !are_runs(told.kind, spans) {
+    let mut stretches = placed_stretches(alloc, told, route, cells)?;
+    sort_by_row(&mut stretches);
+    if !are_in_turn(told.kind, &stretches) {
         return Err(Refusal::DamagedFile);
     }
     Ok(())
 }
 
-/// Whether the spans are all the maximal runs of what they mean, each once.
-fn are_runs(kind: Kind, spans: Vec<Span>) -> bool
-    requires placed { ArePlaced kind (map seen spans.items) }
-    ensures { IsTrue result ↔ AreAllRunsOf kind (places_of (map seen spans.items)) (map seen spans.items) }
+/// Sorts the spans by the bytes of their rows, and those of one row by place. Takes no memory.
+fn sort_by_row(stretches: &mut Vec<RowStretch<'_>>)
+    ensures moved { IsPermutation stretches.old.items stretches.new.items }
+    ensures sorted { IsSortedBy (λ a b. is_lt (lent_cmp a b)) stretches.new.items }
 {
-    let before = spans.len();
-    runs(kind, spans).len() == before
+    stretches.sort_unstable_by(|one, other| by_row(one, other));
+}
+
+/// Compares two spans by the bytes of their rows, and by place where these are equal.
+fn by_row(one: &RowStretch<'_>, other: &RowStretch<'_>) -> Ordering
+    ensures { result ≡ lent_cmp one.now other.now }
+{
+    one.row.cmp(other.row).then(one.lo.cmp(&other.lo))
+}
+
+/// Whether each span comes before the next one, in the order of their rows' bytes, or apart from it where the rows are equal.
+fn are_in_turn(kind: Kind, stretches: &[RowStretch<'_>]) -> bool
+    requires placed { ArePlaced kind (map stretch_of stretches.now) }
+    requires sorted { IsSortedBy (λ a b. is_lt (lent_cmp a b)) stretches.now }
+    ensures { IsTrue result ↔ AreAllRunsOf kind (places_of (map stretch_of stretches.now)) (map stretch_of stretches.now) }
+{
+    stretches.is_sorted_by(|one, next| comes_before(kind, one, next))
+}
+
+/// Whether a span comes before another.
+fn comes_before(kind: Kind, one: &RowStretch<'_>, next: &RowStretch<'_>) -> bool
+    ensures { result ≡ comes_before kind one.now next.now }
+{
+    match one.row.cmp(next.row) {
+        Ordering::Less => true,
+        Ordering::Equal => is_past(kind, one.hi, next.lo),
+        Ordering::Greater => false,
+    }
+}
+
+/// Whether a span that begins at `lo` is no run with an earlier one of its row that ends at `hi`.
+fn is_past(kind: Kind, hi: u32, lo: u32) -> bool
+    ensures { result ≡ nat_le (hi + gap_of kind) lo }
+{
+    match kind {
+        Kind::Point => hi <= lo,
+        Kind::Line => hi < lo,
+    }
 }
 
 /// The spans of the events that the accepted version sees, in the order of their cells. It is refused with 90, and with 94 where a
 /// cell says no event, or one that is seen does not lie on the route.
-fn placed_spans(
+fn placed_stretches<'a>(
     alloc: Global,
     told: &ToldTable,
     route: Option<RouteSpan>,
-    cells: &Cells,
-) -> Result<Vec<Span>, Refusal>
+    cells: &'a Cells,
+) -> Result<Vec<RowStretch<'a>>, Refusal>
     requires width { record_width cells.now ≡ event_width told.now.schema.items }
-    ensures placed { IfOk result (λ spans. SayPlaced told.now route (listed cells.now) (map seen spans.items)) }
+    ensures placed { IfOk result (λ stretches. SayStretches told.now route (listed cells.now) (map stretch_of stretches.items)) }
     ensures refused { IfErr result (λ why. (why ≡ Refusal.OutOfMemory)
         ⊎ ((why ≡ Refusal.DamagedFile) × ((spans : List Stretch) → SayPlaced told.now route (listed cells.now) spans → ⊥))) }
 {
-    let mut spans = Vec::new(alloc);
+    let mut stretches = Vec::new(alloc);
     for place in 0..cells.len() {
-        if let Some(span) = placed_span(alloc, told, route, cells.get(place))? {
-            spans.push(span)?;
+        if let Some(stretch) = placed_stretch(alloc, told, route, cells.get(place))? {
+            stretches.push(stretch)?;
         }
     }
-    Ok(spans)
+    Ok(stretches)
+}
+
+/// The same of one cell.
+fn placed_stretch<'a>(
+    alloc: Global,
+    told: &ToldTable,
+    route: Option<RouteSpan>,
+    cell: &'a [u8],
+) -> Result<Option<RowStretch<'a>>, Refusal>
+    requires width { length cell.now ≡ event_width told.now.schema.items }
+    ensures placed { IfOk result (λ stretch. SayStretches told.now route (cell.now ∷ []) (stretches_of stretch)) }
+    ensures refused { IfErr result (λ why. (why ≡ Refusal.OutOfMemory)
+        ⊎ ((why ≡ Refusal.DamagedFile) × ((spans : List Stretch) → SayPlaced told.now route (cell.now ∷ []) spans → ⊥))) }
+{
+    let Some(span) = placed_span(alloc, told, route, cell)? else {
+        return Ok(None);
+    };
+    Ok(Some(RowStretch {
+        row: row_bytes(&told.schema, cell),
+        lo: span.lo,
+        hi: span.hi,
+    }))
+}
+
+/// The bytes of the row in the cell of an event.
+fn row_bytes<'a>(schema: &Schema, cell: &'a [u8]) -> &'a [u8]
+    requires width { length cell.now ≡ event_width schema.now.items }
+    ensures { result.now ≡ take (row_width schema.now.items) (drop 8 cell.now) }
+{
+    let end = FRONT_BYTES + row_width(schema);
+    &cell[FRONT_BYTES..end]
 }
 
 /// The span of the event that a cell says, where the accepted version sees it. It is refused with 90, and with 94 where the cell

@@ -1,12 +1,12 @@
 //! This module checks a table with its indexes, which lies in a file already, against what the file says of it.
 //!
 //! The trees are checked first: their pages are marked and the entries of the indexes counted. Then the cells of the table are
-//! read part by part: a part ends where the next of the routes begins, so that events of one route alone may be in it. The cells
-//! of several parts wait in memory, and are then looked for in the order of each index together, so that its pages are read a few
-//! times, however many routes there are. Where each cell has its entry in an index, and there are as many entries as cells, the
-//! index is that of just these cells.
+//! read part by part: a part ends where the next of the routes begins, so that events of one route alone may be in it. Cells wait
+//! in memory, those of several parts or as many of a long one as may, and are then looked for in the order of each index together,
+//! so that its pages are read a few times, however many routes there are. Where each cell has its entry in an index, and there are
+//! as many entries as cells, the index is that of just these cells.
 
-ghost use Rattle.std.specs.Prelude.{◌≡◌, ◌⊎◌, ◌<◌, ◌≤◌, ◌+◌, ◌++◌, ◌*◌, ◌^◌, ℕ, List, Contains, Err, IfErr, IfOk, OnOk, length};
+ghost use Rattle.std.specs.Prelude.{◌≡◌, ◌⊎◌, ◌<◌, ◌≤◌, ◌+◌, ◌++◌, ◌∷◌, ◌*◌, ◌^◌, [], ℕ, List, Contains, Err, IfErr, IfOk, OnOk, length};
 ghost use Rattle.std.specs.List.{AllByRecursion};
 ghost use Rattle.std.specs.Int.{w32, to_be_bytes};
 ghost use Rattle.rs_attr.specs.Calls.{IsOpened, Opens};
@@ -30,10 +30,10 @@ use rs_refusal::Refusal;
 use rs_value::row_width;
 use rs_versioned::event::EVENT_BYTES;
 use rs_versioned::{EventTable, RouteSpan, ToldRecords};
-use std::alloc::{AllocError, Global};
+use std::alloc::Global;
 
-/// How many bytes of cells wait at the most before their entries are looked for, but for those of the last part. Putting them in
-/// order takes some four times as many.
+/// How many bytes of cells wait at the most before their entries are looked for. Putting them in order takes some four times as
+/// many.
 const MOST_WAITING: usize = 0x20_0000;
 
 /// The table that lies in a file already, beside its indexes; their pages are marked. Ok exactly where it lies there as it was
@@ -70,8 +70,7 @@ pub fn open<P: Pages>(
     }
     let (versions, left) = opening.finish(alloc, pages)?;
     check_events(alloc, &told, route, &left)?;
-    put_after(&mut waiting, &left)?;
-    check_all(alloc, pages, indexes, &waiting)?;
+    check_last(alloc, pages, indexes, &left, waiting)?;
     Ok(EventTable::with(told.schema, versions))
 }
 
@@ -108,8 +107,8 @@ fn reach_indexes<P: Pages>(
     Ok(())
 }
 
-/// Puts the cells after those that wait. Where these are many then, their entries are looked for in each index, and none waits
-/// any longer. It is refused with 90, with 91, and with 94 only where one of them has no entry in an index. No page changes.
+/// Puts the cells after those that wait. As often as many do, their entries are looked for in each index, and none waits any
+/// longer. It is refused with 90, with 91, and with 94 only where one of them has no entry in an index. No page changes.
 fn gather<P: Pages>(
     alloc: Global,
     pages: &mut P,
@@ -132,7 +131,33 @@ fn gather<P: Pages>(
     if indexes.is_empty() {
         return Ok(());
     }
-    put_after(waiting, cells)?;
+    for place in 0..cells.len() {
+        gather_one(alloc, pages, indexes, cells.get(place), waiting)?;
+    }
+    Ok(())
+}
+
+/// Puts one cell after those that wait, as `gather` does.
+fn gather_one<P: Pages>(
+    alloc: Global,
+    pages: &mut P,
+    indexes: &[AttrIndex],
+    cell: &[u8],
+    waiting: &mut Cells,
+) -> Result<(), Refusal>
+    requires width { length cell.now ≡ record_width waiting.old }
+    requires indexes { AllByRecursion (λ index. index.field.cell_width ≡ record_width waiting.old) indexes.now }
+    ensures rests { OnlyReads P.Pages result pages.old pages.new }
+    ensures width { record_width waiting.new ≡ record_width waiting.old }
+    ensures entered { P.is_tied pages.old → OnOk result (HaveAllEntries (P.store pages.old).map indexes.now (listed waiting.new)
+        → HaveAllEntries (P.store pages.old).map indexes.now (listed waiting.old ++ cell.now ∷ [])) }
+    ensures among { OnOk result ((all : List (List ℕ)) → AllByRecursion (Contains all) (listed waiting.old ++ cell.now ∷ [])
+        → AllByRecursion (Contains all) (listed waiting.new)) }
+    ensures refused { IfErr result (λ why. (why ≡ Refusal.OutOfMemory) ⊎ (why ≡ Refusal.Disk) ⊎ (why ≡ Refusal.DamagedFile)) }
+    ensures damaged { P.is_tied pages.old → result ≡ Err Refusal.DamagedFile → AreNotEntered (P.store pages.old).map indexes.now
+        (listed waiting.old ++ cell.now ∷ []) }
+{
+    waiting.push(cell)?;
     if waiting.len() < MOST_WAITING / waiting.width() {
         return Ok(());
     }
@@ -141,16 +166,25 @@ fn gather<P: Pages>(
     Ok(())
 }
 
-/// Puts the cells after the others.
-fn put_after(others: &mut Cells, cells: &Cells) -> Result<(), AllocError>
-    requires { record_width cells.now ≡ record_width others.old }
-    ensures all { OnOk result (listed others.new ≡ listed others.old ++ listed cells.now) }
-    ensures width { record_width others.new ≡ record_width others.old }
+/// Ok where those that wait and the cells each have their entries in each index. It is refused as `gather` is.
+fn check_last<P: Pages>(
+    alloc: Global,
+    pages: &mut P,
+    indexes: &[AttrIndex],
+    cells: &Cells,
+    mut waiting: Cells,
+) -> Result<(), Refusal>
+    requires width { record_width cells.now ≡ record_width waiting }
+    requires indexes { AllByRecursion (λ index. index.field.cell_width ≡ record_width waiting) indexes.now }
+    ensures rests { OnlyReads P.Pages result pages.old pages.new }
+    ensures entered { P.is_tied pages.old → OnOk result (HaveAllEntries (P.store pages.old).map indexes.now
+        (listed waiting ++ listed cells.now)) }
+    ensures refused { IfErr result (λ why. (why ≡ Refusal.OutOfMemory) ⊎ (why ≡ Refusal.Disk) ⊎ (why ≡ Refusal.DamagedFile)) }
+    ensures damaged { P.is_tied pages.old → result ≡ Err Refusal.DamagedFile → AreNotEntered (P.store pages.old).map indexes.now
+        (listed waiting ++ listed cells.now) }
 {
-    for place in 0..cells.len() {
-        others.push(cells.get(place))?;
-    }
-    Ok(())
+    gather(alloc, pages, indexes, cells, &mut waiting)?;
+    check_all(alloc, pages, indexes, &waiting)
 }
 
 /// Ok where each of the cells has its entry in each index. It is refused with 90, with 91, and with 94 only where one of them has

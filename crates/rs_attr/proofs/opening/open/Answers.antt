@@ -4,9 +4,9 @@ use Rattle.std.proofs.lemmas.Result.{err_from_is_err_and}
 use Rattle.std.specs.List.{AllByRecursion, Contains}
 use Rattle.rs_attr.specs.Calls.{IsFound}
 use Rattle.rs_attr.specs.Meant.{SayMeant}
-use Rattle.rs_attr.specs.Opening.{HaveAllEntries, OpensNoTable, OpensTable}
+use Rattle.rs_attr.specs.Opening.{OpensNoTable, OpensTable}
 use Rattle.rs_attr.specs.Tables.{IndexState}
-use Rattle.rs_attr.proofs.Opened.{AreAmong, below_all, below_next, below_none, both_among, found_back, meant_all, meant_next, meant_none, no_entered_table, no_fresh_table, no_indexes_table, no_meant_table, no_told_table, opens_table, otherwise_as, passed_as, passed_then, stands_back, told_so}
+use Rattle.rs_attr.proofs.Opened.{below_all, below_next, below_none, both_among, found_back, meant_all, meant_next, meant_none, no_entered_table, no_fresh_table, no_indexes_table, no_meant_table, no_told_table, opens_table, otherwise_as, passed_as, passed_then, stands_back, told_so}
 use Rattle.rs_attr.proofs.PartsChecked.{all_entries_back, first_entered, not_entered_back, second_entered}
 use Rattle.rs_attr.proofs.Routes.{order_at, part_left, part_within, read_at}
 use Rattle.rs_attr.specs.declared.told.ToldTable.{ToldTable}
@@ -283,32 +283,23 @@ returns-in_err-check_events-2-clause-opens g c = λ tied.
     (found_back old mid same opening.told (told_of (event_width c.args.told.schema.items) c.args.told.records) c.loop-next.invariant.told (cells_from opening.low) (listed c.in_ok-versions.left) (c.in_ok-versions.ensures.left later))
     (not_meant c.in_err-check_events-2.field-0.0 why c.in_err-check_events-2.ensures.refused))
 
-pub put_after-requires : goal.put_after-requires
-put_after-requires g c = c.in_ok-versions.ensures.left_width ∙ ap (λ (t : Told). t.width) c.loop-next.invariant.told ∙ sym c.loop-next.invariant.wide
-
-pub returns-in_err-put_after-clause-rests : goal.returns-in_err-put_after-clause-rests
-returns-in_err-put_after-clause-rests g c =
-    let p = err_from_is_err_and c.from_residual-in_err-put_after.result c.from_residual-in_err-put_after.ensures.1 in
-    rw (p.1, p.2) (rests_refused g.P.Pages.is_tied g.P.Pages.store g.P.Pages.keeps (c.in_ok-versions.versions, c.in_ok-versions.left) refusal.OutOfMemory c.args.pages.now c.finish.new.pages (λ is. cc)
-    (rests_then g.P.Pages.is_tied g.P.Pages.store g.P.Pages.keeps tt (Ok (c.in_ok-versions.versions, c.in_ok-versions.left)) c.args.pages.now c.loop-next.pages c.finish.new.pages g.met.P.Pages.keeps_trans g.met.P.Pages.keeps_tied
-    c.loop-next.invariant.rests c.in_ok-versions.ensures.rests))
-
-pub check_all-requires : goal.check_all-requires
-check_all-requires g c = record {
-  indexes = subst (λ (w : ℕ). AllByRecursion (λ (index : IndexState). index.field.cell_width ≡ w) c.args.indexes.now) (sym (c.in_ok-put_after.ensures.width ∙ c.loop-next.invariant.wide)) c.requires.indexes;
+pub check_last-requires : goal.check_last-requires
+check_last-requires g c = record {
+  width = c.in_ok-versions.ensures.left_width ∙ ap (λ (t : Told). t.width) c.loop-next.invariant.told ∙ sym c.loop-next.invariant.wide;
+  indexes = subst (λ (w : ℕ). AllByRecursion (λ (index : IndexState). index.field.cell_width ≡ w) c.args.indexes.now) (sym c.loop-next.invariant.wide) c.requires.indexes;
 }
 
-pub returns-in_err-check_all-clause-rests : goal.returns-in_err-check_all-clause-rests
-returns-in_err-check_all-clause-rests g c =
-    let p = err_from_is_err_and c.from_residual-in_err-check_all.result c.from_residual-in_err-check_all.ensures.1 in
-    rw (p.1, p.2) (rests_err g.P.Pages.is_tied g.P.Pages.store g.P.Pages.keeps c.in_err-check_all.field-0.0 c.args.pages.now c.check_all.new.pages
-    (rests_then g.P.Pages.is_tied g.P.Pages.store g.P.Pages.keeps tt (Err c.in_err-check_all.field-0.0) c.args.pages.now c.loop-next.pages c.check_all.new.pages g.met.P.Pages.keeps_trans g.met.P.Pages.keeps_tied
+pub returns-in_err-check_last-clause-rests : goal.returns-in_err-check_last-clause-rests
+returns-in_err-check_last-clause-rests g c =
+    let p = err_from_is_err_and c.from_residual-in_err-check_last.result c.from_residual-in_err-check_last.ensures.1 in
+    rw (p.1, p.2) (rests_err g.P.Pages.is_tied g.P.Pages.store g.P.Pages.keeps c.in_err-check_last.field-0.0 c.args.pages.now c.check_last.new.pages
+    (rests_then g.P.Pages.is_tied g.P.Pages.store g.P.Pages.keeps tt (Err c.in_err-check_last.field-0.0) c.args.pages.now c.loop-next.pages c.check_last.new.pages g.met.P.Pages.keeps_trans g.met.P.Pages.keeps_tied
     c.loop-next.invariant.rests
-    (rests_then g.P.Pages.is_tied g.P.Pages.store g.P.Pages.keeps (c.in_ok-versions.versions, c.in_ok-versions.left) (Err c.in_err-check_all.field-0.0) c.loop-next.pages c.finish.new.pages c.check_all.new.pages
-    g.met.P.Pages.keeps_trans g.met.P.Pages.keeps_tied c.in_ok-versions.ensures.rests c.in_err-check_all.ensures.rests)))
+    (rests_then g.P.Pages.is_tied g.P.Pages.store g.P.Pages.keeps (c.in_ok-versions.versions, c.in_ok-versions.left) (Err c.in_err-check_last.field-0.0) c.loop-next.pages c.finish.new.pages c.check_last.new.pages
+    g.met.P.Pages.keeps_trans g.met.P.Pages.keeps_tied c.in_ok-versions.ensures.rests c.in_err-check_last.ensures.rests)))
 
-pub returns-in_err-check_all-clause-opens : goal.returns-in_err-check_all-clause-opens
-returns-in_err-check_all-clause-opens g c = λ tied.
+pub returns-in_err-check_last-clause-opens : goal.returns-in_err-check_last-clause-opens
+returns-in_err-check_last-clause-opens g c = λ tied.
     let old = (g.P.Pages.store c.args.pages.now).map in
     let mid = (g.P.Pages.store c.loop-next.pages).map in
     let last = (g.P.Pages.store c.finish.new.pages).map in
@@ -318,26 +309,25 @@ returns-in_err-check_all-clause-opens g c = λ tied.
     let same = c.loop-next.invariant.rests.rests.keeps.pages tied in
     let upto = rests_then g.P.Pages.is_tied g.P.Pages.store g.P.Pages.keeps tt (Ok (c.in_ok-versions.versions, c.in_ok-versions.left)) c.args.pages.now c.loop-next.pages c.finish.new.pages g.met.P.Pages.keeps_trans
     g.met.P.Pages.keeps_tied c.loop-next.invariant.rests c.in_ok-versions.ensures.rests in
-    let p = err_from_is_err_and c.from_residual-in_err-check_all.result c.from_residual-in_err-check_all.ensures.1 in
-    refused_open c.from_residual-in_err-check_all.result p.0 p.1 (λ is.
-    let why : c.in_err-check_all.field-0.0 ≡ refusal.DamagedFile = cc (p.1, p.2, is) in
-    no_entered_table old c.args.indexes.now told c.args.routes.now (taken c.args.reached.now) (listed c.put_after.new.others)
-    (subst (AreAmong told.schema.items old told.records.root) (sym c.in_ok-put_after.ensures.all)
+    let p = err_from_is_err_and c.from_residual-in_err-check_last.result c.from_residual-in_err-check_last.ensures.1 in
+    refused_open c.from_residual-in_err-check_last.result p.0 p.1 (λ is.
+    let why : c.in_err-check_last.field-0.0 ≡ refusal.DamagedFile = cc (p.1, p.2, is) in
+    no_entered_table old c.args.indexes.now told c.args.routes.now (taken c.args.reached.now) (listed c.loop-next.waiting ++ listed c.in_ok-versions.left)
     (both_among told.schema.items old told.records (λ (cell : List ℕ). not (is_below cell opening.low)) (listed c.loop-next.waiting) (listed c.in_ok-versions.left) (c.loop-next.invariant.among tied)
-    (found_back old mid same opening.told (told_of (event_width told.schema.items) told.records) c.loop-next.invariant.told (cells_from opening.low) (listed c.in_ok-versions.left) (c.in_ok-versions.ensures.left later))))
-    (not_entered_back old last (upto.rests.keeps.pages tied) c.args.indexes.now (listed c.put_after.new.others)
-    (c.in_err-check_all.ensures.damaged (g.met.P.Pages.keeps_tied c.args.pages.now c.finish.new.pages upto.below tied) (ap Err why))))
+    (found_back old mid same opening.told (told_of (event_width told.schema.items) told.records) c.loop-next.invariant.told (cells_from opening.low) (listed c.in_ok-versions.left) (c.in_ok-versions.ensures.left later)))
+    (not_entered_back old last (upto.rests.keeps.pages tied) c.args.indexes.now (listed c.loop-next.waiting ++ listed c.in_ok-versions.left)
+    (c.in_err-check_last.ensures.damaged (g.met.P.Pages.keeps_tied c.args.pages.now c.finish.new.pages upto.below tied) (ap Err why))))
 
 pub with-requires : goal.with-requires
 with-requires g c = record { width = c.in_ok-versions.ensures.width ∙ ap (λ (t : Told). t.width) c.loop-next.invariant.told }
 
 pub returns-clause-rests : goal.returns-clause-rests
 returns-clause-rests g c =
-    rests_ok g.P.Pages.is_tied g.P.Pages.store g.P.Pages.keeps tt c.with.result c.args.pages.now c.check_all.new.pages
-    (rests_then g.P.Pages.is_tied g.P.Pages.store g.P.Pages.keeps tt (Ok tt) c.args.pages.now c.loop-next.pages c.check_all.new.pages g.met.P.Pages.keeps_trans g.met.P.Pages.keeps_tied
+    rests_ok g.P.Pages.is_tied g.P.Pages.store g.P.Pages.keeps tt c.with.result c.args.pages.now c.check_last.new.pages
+    (rests_then g.P.Pages.is_tied g.P.Pages.store g.P.Pages.keeps tt (Ok tt) c.args.pages.now c.loop-next.pages c.check_last.new.pages g.met.P.Pages.keeps_trans g.met.P.Pages.keeps_tied
     c.loop-next.invariant.rests
-    (rests_then g.P.Pages.is_tied g.P.Pages.store g.P.Pages.keeps (c.in_ok-versions.versions, c.in_ok-versions.left) (Ok tt) c.loop-next.pages c.finish.new.pages c.check_all.new.pages
-    g.met.P.Pages.keeps_trans g.met.P.Pages.keeps_tied c.in_ok-versions.ensures.rests c.in_ok-check_all.ensures.rests))
+    (rests_then g.P.Pages.is_tied g.P.Pages.store g.P.Pages.keeps (c.in_ok-versions.versions, c.in_ok-versions.left) (Ok tt) c.loop-next.pages c.finish.new.pages c.check_last.new.pages
+    g.met.P.Pages.keeps_trans g.met.P.Pages.keeps_tied c.in_ok-versions.ensures.rests c.in_ok-check_last.ensures.rests))
 
 pub returns-clause-table : goal.returns-clause-table
 returns-clause-table g c = record {
@@ -365,8 +355,7 @@ returns-clause-opens g c = λ tied.
     g.met.P.Pages.keeps_tied c.loop-next.invariant.rests c.in_ok-versions.ensures.rests in
     let versions = c.in_ok-versions.versions in
     let finds = found_back old mid same opening.told (told_of (event_width types) told.records) said (cells_from opening.low) (listed c.in_ok-versions.left) (c.in_ok-versions.ensures.left later) in
-    let entered = subst (HaveAllEntries old c.args.indexes.now) c.in_ok-put_after.ensures.all
-    (all_entries_back old last (upto.rests.keeps.pages tied) c.args.indexes.now (listed c.put_after.new.others) (c.in_ok-check_all.ensures.entered (g.met.P.Pages.keeps_tied c.args.pages.now c.finish.new.pages upto.below tied))) in
+    let entered = (all_entries_back old last (upto.rests.keeps.pages tied) c.args.indexes.now (listed c.loop-next.waiting ++ listed c.in_ok-versions.left) (c.in_ok-check_last.ensures.entered (g.met.P.Pages.keeps_tied c.args.pages.now c.finish.new.pages upto.below tied))) in
     record {
       opens = subst (λ (s : Standing). OpensTable old told s c.args.indexes.now c.args.routes.now (taken c.args.reached.now) (taken c.reach_indexes.new.reached)) (sym c.with.ensures.working)
           (opens_table old c.args.indexes.now told c.args.routes.now (taken c.args.reached.now) first (c.in_ok-opening.ensures.rests.rests.keeps.pages tied) (taken c.begin.new.reached)
