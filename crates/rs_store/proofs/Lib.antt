@@ -2,6 +2,7 @@ pub mod Beside
 pub mod Brought
 pub mod Files
 pub mod Given
+pub mod HeldChanges
 pub mod IndexStates
 pub mod Indexed
 pub mod Keeping

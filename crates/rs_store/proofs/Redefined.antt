@@ -111,6 +111,8 @@ module _ {D : Type 0} (d : disk.Ghosts D) where
     sound = λ from state stands may. leaves.sound from state stands (allowed from state stands may);
     catalog = leaves.catalog;
     referents = leaves.referents;
+    opened = leaves.opened;
+    changes = leaves.changes;
     accepted = leaves.accepted;
     failures = leaves.failures;
     full = leaves.full;

@@ -15,7 +15,7 @@ use Rattle.rs_file_changes.specs.Clearing.{ClearsReferents, ClearsTable}
 use Rattle.rs_file_changes.specs.Parts.{IsAsItWas, IsCommitted, KeepsCommitted, SameOpened}
 use Rattle.rs_file_changes.proofs.Lists.{each_then}
 use Rattle.rs_machine.specs.State.{State}
-use Rattle.rs_pager.specs.Maps.{IsTied, KeepsBelow, committed, pager_store, working}
+use Rattle.rs_pager.specs.Maps.{IsTied, KeepsBelow, KeepsChanges, committed, pager_store, working}
 use Rattle.rs_pager.specs.Paged.{Paged}
 use Rattle.rs_pages.specs.PageMap.{PageMap}
 use Rattle.rs_pages.proofs.Stores.{SamePages-trans}
@@ -31,6 +31,7 @@ use Rattle.rs_store.specs.Changing.{Always}
 use Rattle.rs_store.specs.Kept.{IsAtRest, Keeps, StandsIn, StoreState}
 use Rattle.rs_store.specs.Releasing.{HasReleased, LeavesReleased}
 use Rattle.rs_store.specs.Settling.{HasBegun, IsKept, Settles}
+use Rattle.rs_store.proofs.HeldChanges.{still_as_it_was, still_by_changes}
 use Rattle.rs_store.proofs.Keeping.{pages_back, store_over}
 use Rattle.rs_store.proofs.Same.{SameMeant, SameSays, SameState, meant_moves, same_accepted, state_moves}
 use Rattle.rs_store.proofs.Settled.{EventsStay, LiveByRecords, LiveJoined, ReferentsStay, clears_table, flag_stays, holds_same, left_refused, live_same, may_next, memory_same, parts_of, records_same, rests_refused, stands_at_first}
@@ -61,13 +62,6 @@ loses_same oldest most gone old one other same loses = record {
 
 -- ---- what is open
 
-same_tables : (tables : List OpenedTable) → AllZip SameOpened tables tables
-same_tables [] = tt
-same_tables (table ∷ tables) = (record { records = refl; indexes = refl }, same_tables tables)
-
-as_it_is : (file : OpenedFile) → IsAsItWas file file
-as_it_is file = record { definitions = refl; pages = refl; accepted = refl; tables = same_tables file.tables.items; referents = refl }
-
 -- what was cleared leaves what is open and in memory at rest, kept or taken back
 pub rests_released : {D T : Type 0} (d : disk.Ghosts D) (result : Result T Refusal) (between last : Paged D) (file changed settled : OpenedFile) (catalog : Definitions) → IsAtRest file catalog
     → KeepsCommitted file changed → OnOk result (MayChange changed) → Settles d result between last changed settled → IsAtRest settled catalog
@@ -88,11 +82,12 @@ rests_released d (Err why) between last file changed settled catalog rests keeps
 
 module _ {D : Type 0} (d : disk.Ghosts D) where
   -- nothing was begun, since the disk failed
-  pub unreleased : {T : Type 0} (why : Refusal) (old new : StoreState D) → KeepsStore d old new → why ≡ refusal.Disk
+  pub unreleased : {T : Type 0} (why : Refusal) (old new : StoreState D) → KeepsStore d old new → KeepsChanges old.pager new.pager → why ≡ refusal.Disk
       → d.failures new.pager.disk ≡ counted_on (d.failures old.pager.disk) → LeavesReleased d {T = T} (Err why) old new
-  unreleased why old new keeps is_disk counted = record {
+  unreleased why old new keeps same is_disk counted = record {
     stays = keeps.contents;
-    opened = subst (λ (file : OpenedFile). IsAsItWas old.file file) (sym keeps.file) (as_it_is old.file);
+    opened = still_as_it_was old.file new.file keeps.file;
+    changes = still_by_changes d old.pager new.pager same;
     refused = inr (inl is_disk);
     sound = λ from state stands is. let e : why ≡ refusal.DamagedFile = cc in absurd (cc (e, is_disk));
     catalog = keeps.catalog;
@@ -115,6 +110,7 @@ module _ {D : Type 0} (d : disk.Ghosts D) where
     left_released (Ok answer) stores keeps whole room kept = record {
       stays = λ contents held. tt;
       opened = tt;
+      changes = tt;
       refused = tt;
       sound = λ from state stands is. absurd cc;
       catalog = begun.keeps.catalog;
@@ -129,7 +125,8 @@ module _ {D : Type 0} (d : disk.Ghosts D) where
         let left = left_refused d old first between last file changed settled catalog referents is_marked begun below {may = Always} {T = T} why catalog referents stores keeps whole back refl (λ route. refl) in
         record {
           stays = left.stays;
-          opened = subst (λ (f : OpenedFile). IsAsItWas f settled) begun.keeps.file (back.file.back file whole keeps);
+          opened = left.opened;
+          changes = left.changes;
           refused = elim stores.ends.cause [
             | inl memory ↦ inl memory
             | inr (inl failed) ↦ inr (inl failed)

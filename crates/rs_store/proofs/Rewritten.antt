@@ -14,7 +14,7 @@ use Rattle.rs_disk.specs.declared.disk.Disk as disk
 use Rattle.rs_file_changes.specs.Parts.{IsCommitted, KeepsCommitted}
 use Rattle.rs_machine.specs.State.{State}
 use Rattle.rs_machine.specs.declared.limits.TheConstants.{CHANGES}
-use Rattle.rs_pager.specs.Maps.{IsTied, KeepsBelow, KeepsDiskMasked, KeepsMaps, pager_store, working}
+use Rattle.rs_pager.specs.Maps.{IsTied, KeepsBelow, KeepsChanges, KeepsDiskMasked, KeepsMaps, pager_store, working}
 use Rattle.rs_pager.specs.Paged.{Paged}
 use Rattle.rs_refusal.specs.Counts.{counted_on}
 use Rattle.rs_refusal.specs.declared.refusal.Refusal.{Refusal}
@@ -24,7 +24,8 @@ use Rattle.rs_state_laws.specs.Changing.{ChangesFile, HoldsNoFile}
 use Rattle.rs_store.specs.Changing.{LeavesStore}
 use Rattle.rs_store.specs.Kept.{StoreState}
 use Rattle.rs_store.specs.Rewriting.{GoesOn, Rewrites, WhereKept}
-use Rattle.rs_store.specs.Settling.{HasBegun, Settles}
+use Rattle.rs_store.specs.Settling.{BeginsWith, HasBegun, Settles}
+use Rattle.rs_store.proofs.HeldChanges.{changes-trans, still_as_it_was, still_by_changes}
 use Rattle.rs_store.proofs.Keeping.{store_over}
 use Rattle.rs_store.proofs.Rows.{KeptGives, by_part}
 use Rattle.rs_store.proofs.Settled.{begins, begun_keeps, left_settled, left_unbegun, rests_made, rests_refused}
@@ -49,6 +50,8 @@ module _ {D : Type 0} (d : disk.Ghosts D) where
         elim unmade [ inl memory ↦ absurd (cc (e, memory)) | inr damaged ↦ damaged.1 state allowed ];
     catalog = goes.keeps.catalog;
     referents = λ route. ap (λ (held : Numbered HeldReferents). referents_on held route) goes.keeps.referents;
+    opened = still_as_it_was old.file new.file goes.keeps.file;
+    changes = still_by_changes d old.pager new.pager goes.changes;
     accepted = ap (λ (file : OpenedFile). file.accepted) goes.keeps.file;
     failures = record {
       disk = λ is. elim unmade [ inl memory ↦ absurd (cc (is, memory)) | inr damaged ↦ absurd (cc (is, damaged.0)) ];
@@ -84,20 +87,21 @@ module _ {D : Type 0} (d : disk.Ghosts D) where
 
   -- nor was anything begun where the disk failed
   pub rewrites_unbegun : (oldest : ℕ) (change : Contents → Contents → Type 0) (items : CatalogueItems) (why : Refusal) (old new : Paged D) (was : OpenedFile)
-      → KeepsMaps d old new → KeepsDiskMasked d old new → why ≡ refusal.Disk → d.failures new.disk ≡ counted_on (d.failures old.disk)
+      → KeepsMaps d old new → KeepsDiskMasked d old new → KeepsChanges old new → why ≡ refusal.Disk → d.failures new.disk ≡ counted_on (d.failures old.disk)
       → Rewrites d oldest change items (Err why) old new was was
-  rewrites_unbegun oldest change items why old new was maps masked is_disk counted = rewrites_left oldest change items why old new was
+  rewrites_unbegun oldest change items why old new was maps masked same is_disk counted = rewrites_left oldest change items why old new was
       (λ store catalog referents is_marked goes.
-      left_unbegun d why store (store_over d new was catalog referents is_marked) (begun_keeps d store old new was catalog referents is_marked goes.keeps maps masked) is_disk
+      left_unbegun d why store (store_over d new was catalog referents is_marked) (begun_keeps d store old new was catalog referents is_marked goes.keeps maps masked)
+      (changes-trans store.pager old new goes.changes same) is_disk
       (counted ∙ ap counted_on goes.failures))
 
   module _ (old first between last : Paged D) (file changed settled : OpenedFile) (maps : KeepsMaps d old first) (masked : KeepsDiskMasked d old first)
-      (unfailed : d.failures first.disk ≡ d.failures old.disk) (below : KeepsBelow d first between) (kept_gives : KeptGives d) (oldest : ℕ) (change : Contents → Contents → Type 0)
+      (unfailed : d.failures first.disk ≡ d.failures old.disk) (holding : BeginsWith d old first) (below : KeepsBelow d first between) (kept_gives : KeptGives d) (oldest : ℕ) (change : Contents → Contents → Type 0)
       (definitions : StoredCatalogue) (room : file.accepted < CHANGES) (whole : IsCommitted file)
       (births : AllByRecursion (λ route. route.born ≤ file.accepted + 1) (said_catalogue definitions).routes) where
     begun : (store : StoreState D) (catalog : Definitions) (referents : Numbered HeldReferents) (is_marked : Bool) → GoesOn d store (store_over d old file catalog referents is_marked)
         → HasBegun d store (store_over d first file catalog referents is_marked)
-    begun store catalog referents is_marked goes = begins d store old first file catalog referents is_marked goes.keeps maps masked goes.failures unfailed
+    begun store catalog referents is_marked goes = begins d store old first file catalog referents is_marked goes.keeps maps masked goes.failures unfailed goes.changes holding
 
     -- a change that was begun, and then kept or taken back
     pub rewrites_settled : (result : Result (Unit {0}) Refusal) → StoresAfter {T = Unit {0}} (IsTied d first → HoldsNoFile (working d first) file) result (pager_store d first) (pager_store d between)

@@ -31,7 +31,7 @@ use Rattle.rs_machine.specs.Lawful.{AreColumnsOfTable, AreViewsMeant, Each}
 use Rattle.rs_machine.specs.State.{State}
 use Rattle.rs_machine.specs.declared.limits.TheConstants.{CHANGES}
 use Rattle.rs_page.specs.declared.file_header.TheConstants.{FLAG_OFFSET}
-use Rattle.rs_pager.specs.Maps.{IsTied, KeepsBelow, KeepsDiskMasked, KeepsMaps, committed, pager_store, working}
+use Rattle.rs_pager.specs.Maps.{IsTied, KeepsBelow, KeepsChanges, KeepsDiskMasked, KeepsMaps, committed, pager_store, working}
 use Rattle.rs_pager.specs.Paged.{Paged}
 use Rattle.rs_pages.specs.PageMap.{PageMap, SamePages}
 use Rattle.rs_pages.proofs.Stores.{SamePages-trans}
@@ -46,7 +46,8 @@ use Rattle.rs_state_laws.specs.Standing.{AreInMemory, IsOpenedFile, StandsAt}
 use Rattle.rs_store.specs.Calls.{KeepsStore}
 use Rattle.rs_store.specs.Changing.{HasBecome, LeavesStore}
 use Rattle.rs_store.specs.Kept.{IsAtRest, Keeps, StandsIn, StoreState}
-use Rattle.rs_store.specs.Settling.{HasBegun, IsFileKept, IsFileTakenBack, IsKept, IsTakenBack, Settles}
+use Rattle.rs_store.specs.Settling.{BeginsWith, HasBegun, IsFileKept, IsFileTakenBack, IsKept, IsTakenBack, Settles}
+use Rattle.rs_store.proofs.HeldChanges.{begins_after, still_as_it_was, still_by_changes, still_taken_back}
 use Rattle.rs_store.proofs.Keeping.{flag_of, keeps_by_maps, keeps_store-trans, pages_back, store_over}
 use Rattle.rs_store.proofs.Same.{SameMeant, SameSays, SameState, meant_moves, same_accepted, state_moves}
 use Rattle.rs_value.specs.declared.column.ColumnType.{ColumnType}
@@ -220,22 +221,25 @@ module _ {D : Type 0} (d : disk.Ghosts D) where
 
   pub begins : (old : StoreState D) (was now : Paged D) (file : OpenedFile) (catalog : Definitions) (referents : Numbered HeldReferents) (is_marked : Bool)
       → KeepsStore d old (store_over d was file catalog referents is_marked) → KeepsMaps d was now → KeepsDiskMasked d was now
-      → d.failures was.disk ≡ d.failures old.pager.disk → d.failures now.disk ≡ d.failures was.disk
+      → d.failures was.disk ≡ d.failures old.pager.disk → d.failures now.disk ≡ d.failures was.disk → KeepsChanges old.pager was → BeginsWith d was now
       → HasBegun d old (store_over d now file catalog referents is_marked)
-  begins old was now file catalog referents is_marked keeps maps masked first second = record {
+  begins old was now file catalog referents is_marked keeps maps masked first second same begun = record {
     keeps = begun_keeps old was now file catalog referents is_marked keeps maps masked;
+    begins = begins_after d old.pager was now same begun;
     failures = second ∙ first;
   }
 
   -- no change was begun, since the disk failed
-  pub left_unbegun : {may : State → Type 0} {T : Type 0} (why : Refusal) (old new : StoreState D) → KeepsStore d old new → why ≡ refusal.Disk
+  pub left_unbegun : {may : State → Type 0} {T : Type 0} (why : Refusal) (old new : StoreState D) → KeepsStore d old new → KeepsChanges old.pager new.pager → why ≡ refusal.Disk
       → d.failures new.pager.disk ≡ counted_on (d.failures old.pager.disk) → LeavesStore d may {T = T} (Err why) old new
-  left_unbegun why old new keeps is_disk counted = record {
+  left_unbegun why old new keeps same is_disk counted = record {
     stays = keeps.contents;
     cause = inr (inl is_disk);
     sound = λ from state stands allowed is. let e : why ≡ refusal.DamagedFile = cc in absurd (cc (e, is_disk));
     catalog = keeps.catalog;
     referents = λ route. ap (λ (held : Numbered HeldReferents). referents_on held route) keeps.referents;
+    opened = still_as_it_was old.file new.file keeps.file;
+    changes = still_by_changes d old.pager new.pager same;
     accepted = ap (λ (file : OpenedFile). file.accepted) keeps.file;
     failures = record { disk = λ is. counted; other = λ isnt. absurd (isnt is_disk) };
     full = record { full = λ is. absurd (cc (is, is_disk)); other = λ isnt. omega (arith, keeps.full) };
@@ -305,6 +309,8 @@ module _ {D : Type 0} (d : disk.Ghosts D) where
               ];
           catalog = same ∙ begun.keeps.catalog;
           referents = λ route. alike route ∙ ap (λ (r : Numbered HeldReferents). referents_on r route) begun.keeps.referents;
+          opened = subst (λ (f : OpenedFile). IsAsItWas f settled) begun.keeps.file restored;
+          changes = still_taken_back d old.pager first between last begun.begins below back.abandons;
           accepted = restored.accepted ∙ ap (λ (f : OpenedFile). f.accepted) begun.keeps.file;
           failures = record {
             disk = λ is. ap d.failures back.abandons.disk ∙ stores.ends.count.disk is ∙ ap counted_on begun.failures;
@@ -333,6 +339,8 @@ module _ {D : Type 0} (d : disk.Ghosts D) where
       sound = λ from state stands allowed is. absurd cc;
       catalog = tt;
       referents = tt;
+      opened = tt;
+      changes = tt;
       accepted = kept.file.accepted ∙ next ∙ ap (λ (f : OpenedFile). f.accepted + 1) begun.keeps.file;
       failures = ap d.failures kept.commits.disk ∙ stores.ends.failures ∙ begun.failures;
       full = kept.commits.full ∙ stores.ends.full ∙ begun.keeps.full;
@@ -465,6 +473,12 @@ rests_refused file changed settled catalog rests keeps back =
 pub born_later : (one other : ℕ) (routes : List RouteItem) → one ≤ other → AllByRecursion (λ route. route.born ≤ one) routes → AllByRecursion (λ route. route.born ≤ other) routes
 born_later one other [] later born = tt
 born_later one other (r ∷ rs) later born = (omega (arith, later, born.0), born_later one other rs later born.1)
+
+-- the routes that a catalogue at rest lists were born by the next version
+pub births_listed : (file : OpenedFile) (catalog : Definitions) → IsAtRest file catalog → AllByRecursion (λ route. route.born ≤ file.accepted + 1) (listing_of catalog).routes
+births_listed file catalog rests =
+    born_later file.accepted (file.accepted + 1) (listing_of catalog).routes (omega arith)
+    (subst (λ (items : CatalogueItems). AllByRecursion (λ route. route.born ≤ file.accepted) items.routes) (sym rests.listing) rests.births)
 
 -- So does one that was made, where the catalogue lists the definitions, whose routes were born by the next version.
 pub rests_made : (file changed settled : OpenedFile) (definitions : StoredCatalogue) (now : Definitions) → file.accepted < CHANGES → IsNext definitions file changed → IsFileKept changed settled

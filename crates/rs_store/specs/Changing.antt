@@ -1,5 +1,5 @@
 -- What a change makes of a store: the state of the next version, in which live versions see what they saw.
-use Rattle.std.specs.Prelude.{◌≡◌, ◌≢◌, ◌≤◌, ◌+◌, ℕ, Err, Result, MatchResult, OnErr, OnOk, Some, IfErr, ◌⊎◌}
+use Rattle.std.specs.Prelude.{◌≡◌, ◌≢◌, ◌≤◌, ◌+◌, ℕ, Err, Result, MatchResult, OnErr, OnOk, Some, true, IfErr, ◌⊎◌}
 use Rattle.std.specs.FinMap as names
 use Rattle.rs_catalog.specs.Definitions.{Definitions, RouteItem, TableItem}
 use Rattle.rs_catalog.specs.Events.{behind}
@@ -9,9 +9,12 @@ use Rattle.rs_disk.specs.declared.disk.Disk as disk
 use Rattle.rs_facts.specs.Fact.{Name}
 use Rattle.rs_facts.specs.Runs.{Stretch}
 use Rattle.rs_facts.specs.Spans.{IsPlaced}
+use Rattle.rs_file_changes.specs.Parts.{IsAsItWas}
 use Rattle.rs_machine.specs.Checks.{column_types}
 use Rattle.rs_machine.specs.State.{State}
+use Rattle.rs_pager.specs.Maps.{HoldsNoChange, KeepsChanges}
 use Rattle.rs_pager.specs.Opened.{CountsFault}
+use Rattle.rs_pager.specs.Paged.{Paged}
 use Rattle.rs_refusal.specs.Counts.{counted_on}
 use Rattle.rs_refusal.specs.declared.refusal.Refusal.{Refusal}
 use Rattle.rs_refusal.specs.declared.refusal.Refusal.TheVariants as refusal
@@ -60,15 +63,28 @@ module _ {D : Type 0} (d : disk.Ghosts D) where
     pub full : why ≡ refusal.FileFull → new ≡ counted_on old
     pub other : why ≢ refusal.FileFull → old ≤ new
 
-  -- What a change leaves, whatever it is: after a refusal the store keeps what it kept, and the same is in memory. 91 comes exactly
-  -- where the disk's failures rose, by one; 92 only where the full refusals rose; 94 never where the store stands in a state that may
-  -- change so.
+  -- no page is held as changed: all were written, and the disk is synced
+  pub record HasWritten (p : Paged D) : Type 0 where
+    pub none : HoldsNoChange p
+    pub synced : d.is_synced p.disk ≡ true
+
+  -- the held changes are as they were, or all of them have been written; no page is committed besides
+  pub record StillHolds (old new : Paged D) : Type 0 where
+    pub committed_fields : new.committed_fields ≡ old.committed_fields
+    pub working_fields : new.working ≡ old.working
+    pub changes : KeepsChanges old new ⊎ HasWritten new
+
+  -- What a change leaves, whatever it is: after a refusal the store keeps what it kept, the same is in memory, and what is open and the
+  -- held changes are as they were, whatever the disk is. 91 comes exactly where the disk's failures rose, by one; 92 only where the full
+  -- refusals rose; 94 never where the store stands in a state that may change so.
   pub record LeavesStore (may : State → Type 0) {T : Type 0} (result : Result T Refusal) (old new : StoreState D) : Type 0 where
     pub stays : (contents : Contents) → Keeps d old contents → OnErr result (Keeps d new contents)
     pub cause : IfErr result WantsChanging
     pub sound : (from : ℕ) (state : State) → StandsIn d from old state → may state → result ≢ Err refusal.DamagedFile
     pub catalog : OnErr result (new.catalog ≡ old.catalog)
     pub referents : OnErr result ((route : ℕ) → referents_on new.referents route ≡ referents_on old.referents route)
+    pub opened : OnErr result (IsAsItWas old.file new.file)
+    pub changes : OnErr result (StillHolds old.pager new.pager)
     pub accepted : MatchResult result (λ _. new.file.accepted ≡ old.file.accepted + 1) (λ _. new.file.accepted ≡ old.file.accepted)
     pub failures : MatchResult result (λ _. d.failures new.pager.disk ≡ d.failures old.pager.disk)
         (λ why. CountsFault why (d.failures old.pager.disk) (d.failures new.pager.disk))

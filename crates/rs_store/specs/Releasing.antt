@@ -10,6 +10,7 @@ use Rattle.rs_refusal.specs.declared.refusal.Refusal.{Refusal}
 use Rattle.rs_refusal.specs.declared.refusal.Refusal.TheVariants as refusal
 use Rattle.rs_standing.specs.Live.{KeepsLive}
 use Rattle.rs_state_laws.specs.Clearing.{LosesRecords}
+use Rattle.rs_store.specs.Changing.{StillHolds}
 use Rattle.rs_store.specs.Kept.{Keeps, StandsIn, StoreState}
 
 module _ {D : Type 0} (d : disk.Ghosts D) where
@@ -21,11 +22,12 @@ module _ {D : Type 0} (d : disk.Ghosts D) where
     pub live : KeepsLive oldest old stands.contents
 
   -- What is left, whatever is answered: the catalogue, the referents in memory and the version that was accepted last. After a refusal
-  -- the store keeps what it kept, and what is open is as it was. 91 comes exactly where the disk's failures rose, by one; 92 never, and
+  -- the store keeps what it kept, and what is open and the held changes are as they were. 91 comes exactly where the disk's failures rose, by one; 92 never, and
   -- 94 never where the store stands in a state.
   pub record LeavesReleased {T : Type 0} (result : Result T Refusal) (old new : StoreState D) : Type 0 where
     pub stays : (contents : Contents) → Keeps d old contents → OnErr result (Keeps d new contents)
     pub opened : OnErr result (IsAsItWas old.file new.file)
+    pub changes : OnErr result (StillHolds d old.pager new.pager)
     pub refused : RefusesToLoad result
     pub sound : (from : ℕ) (state : State) → StandsIn d from old state → result ≢ Err refusal.DamagedFile
     pub catalog : new.catalog ≡ old.catalog

@@ -11,6 +11,7 @@ use Rattle.rs_disk.specs.declared.disk.Disk as disk
 use Rattle.rs_file_changes.specs.Calls.{ChangesDefinitions}
 use Rattle.rs_machine.specs.Lawful.{AreColumnsOfTable, AreViewsMeant, Each}
 use Rattle.rs_machine.specs.State.{State}
+use Rattle.rs_pager.specs.Maps.{KeepsChanges}
 use Rattle.rs_pager.specs.Paged.{Paged}
 use Rattle.rs_refusal.specs.declared.refusal.Refusal.{Refusal}
 use Rattle.rs_state_laws.specs.Changing.{GivesState}
@@ -43,9 +44,10 @@ abbrev pub WhereKept : CatalogueItems → State → Type 0
 WhereKept items state = CanBeKept items
 
 module _ {D : Type 0} (d : disk.Ghosts D) where
-  -- what the old store kept the new one keeps, and the disk has not failed since
+  -- what the old store kept the new one keeps, the held changes are the same, and the disk has not failed since
   pub record GoesOn (old now : StoreState D) : Type 0 where
     pub keeps : KeepsStore d old now
+    pub changes : KeepsChanges old.pager now.pager
     pub failures : d.failures now.pager.disk ≡ d.failures old.pager.disk
 
   -- What becomes of a store whose pages and open file were changed so, with these definitions, or in which that was refused: whatever

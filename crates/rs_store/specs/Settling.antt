@@ -1,15 +1,16 @@
 -- What becomes of the pages and of what is open once a change was made or refused.
-use Rattle.std.specs.Prelude.{◌≡◌, ℕ, MatchResult, Result}
+use Rattle.std.specs.Prelude.{◌≡◌, ℕ, MatchResult, None, Result}
 use Rattle.rs_contents.specs.declared.opened.OpenedFile.{OpenedFile}
 use Rattle.rs_disk.specs.declared.disk.Disk as disk
 use Rattle.rs_file_changes.specs.Calls.{StaysOpened}
 use Rattle.rs_file_changes.specs.Parts.{HaveAllDiedBy, IsAsItWas, IsCommitted, IsReady, KeepsCommitted}
 use Rattle.rs_pager.specs.Maps.{IsTied, committed, working}
 use Rattle.rs_pager.specs.Opened.{Abandons, Commits}
-use Rattle.rs_pager.specs.Paged.{Paged}
+use Rattle.rs_pager.specs.Paged.{Paged, held}
 use Rattle.rs_pages.specs.PageMap.{SamePages}
 use Rattle.rs_refusal.specs.declared.refusal.Refusal.{Refusal}
 use Rattle.rs_store.specs.Calls.{KeepsStore}
+use Rattle.rs_store.specs.Changing.{StillHolds}
 use Rattle.rs_store.specs.Kept.{StoreState}
 
 -- what is open is the same, and nothing of it has changed since the last commit
@@ -28,9 +29,16 @@ pub record IsFileTakenBack (was is : OpenedFile) : Type 0 where
   pub ready : IsReady was → IsReady is
 
 module _ {D : Type 0} (d : disk.Ghosts D) where
+  -- the held changes are as they were or written, and the working pages are the committed ones
+  pub record BeginsWith (old now : Paged D) : Type 0 where
+    pub holds : StillHolds d old now
+    pub copies : (number : ℕ) → (held now number).copy ≡ None
+    pub fields : now.working ≡ now.committed_fields
+
   -- changes are begun in the pages of a store that keeps whatever the old one kept
   pub record HasBegun (old now : StoreState D) : Type 0 where
     pub keeps : KeepsStore d old now
+    pub begins : BeginsWith old.pager now.pager
     pub failures : d.failures now.pager.disk ≡ d.failures old.pager.disk
 
   -- the working pages are the committed ones from now on, and so is what is open

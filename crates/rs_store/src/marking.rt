@@ -2,6 +2,7 @@
 
 ghost use Rattle.std.specs.Prelude.{◌≡◌, true, IsOkUnless, OnOk};
 ghost use Rattle.rs_disk.specs.Counts.{Counts};
+ghost use Rattle.rs_pager.specs.Maps.{KeepsChanges};
 ghost use Rattle.rs_store.specs.Calls.{KeepsStore};
 
 use crate::store::Store;
@@ -13,6 +14,7 @@ impl<D: Disk> Store<D> {
     /// alone, after which any byte may be there. Nothing else changes.
     pub(crate) fn mark(&mut self) -> Result<(), Refusal>
         ensures keeps { KeepsStore D.Disk self.old self.new }
+        ensures changes { KeepsChanges self.old.pager self.new.pager }
         ensures marked { OnOk result (self.new.is_marked ≡ true) }
         ensures refused { IsOkUnless result Refusal.Disk }
         ensures count { Counts result (D.failures self.old.pager.disk) (D.failures self.new.pager.disk) }

@@ -1,5 +1,5 @@
 -- What came into memory and was refused by the file is out of it again.
-use Rattle.std.proofs.Common.{◌≡◌, ◌∙◌, ap, subst, string_bytes, sym}
+use Rattle.std.proofs.Common.{◌≡◌, ◌∙◌, ap, subst, string_bytes, sym, ◌≤◌, ◌+◌, Err, Result, inl, refl}
 use Rattle.rs_catalog.specs.Changes as changes
 use Rattle.rs_catalog.specs.Definitions.{Definitions, ViewItem}
 use Rattle.rs_definitions.specs.Listing.{listing_of}
@@ -9,6 +9,13 @@ use Rattle.rs_store.specs.Rewriting.{Rewrites}
 use Rattle.rs_store.proofs.Redefined.{err_never, ok_never, redefines}
 use Rattle.rs_store.proofs.Referred.{taken_again}
 use Rattle.rs_store.proofs.Results.{err_always, ok_always}
+use Rattle.rs_refusal.specs.declared.refusal.Refusal.TheVariants as refusal
+use Rattle.std.proofs.lemmas.Result.{err_from_is_err_and}
+use Rattle.std.specs.List.{AllByRecursion}
+use Rattle.rs_catalog_pages.specs.Items.{RouteItem}
+use Rattle.rs_refusal.specs.declared.refusal.Refusal.{Refusal}
+use Rattle.rs_store.proofs.Rewritten.{rewrites_unmade}
+use Rattle.rs_store.proofs.Settled.{births_listed}
 use Rattle.rs_store.proofs.defining.define_view_in_both.Goals as goal
 
 pub returns-then-is_err-clause-redefines : goal.returns-then-is_err-clause-redefines
@@ -39,3 +46,18 @@ returns-else-is_err-clause-redefines g c =
     c.requires.rests c.requires.rests.columns
     (ok_always {P = c.define_view.new.self ≡ next} made.result c.in_ok-define_view.ensures.ok)
     (err_never (c.define_view.new.self ≡ was) made.result (sym c.is_err.ensures.value ∙ c.if-is_err.false))
+
+pub write_definitions_of-made-requires-clause-births : goal.write_definitions_of-made-requires-clause-births
+write_definitions_of-made-requires-clause-births g c =
+    subst (λ (k : Definitions). AllByRecursion (λ (route : RouteItem). route.born ≤ c.args.file.now.accepted + 1) (listing_of k).routes) (sym c.in_ok-define_view.ensures.ok)
+    (births_listed c.args.file.now c.args.catalog.now c.requires.rests)
+
+pub returns-in_err-define_view-clause-redefines : goal.returns-in_err-define_view-clause-redefines
+returns-in_err-define_view-clause-redefines g c =
+    let was = c.args.catalog.now in
+    let next = changes.with_view was c.args.name.bytes (record { query = c.args.query; text = string_bytes c.args.text }) in
+    let refused : Result (Unit {0}) Refusal = Err refusal.OutOfMemory in
+    let p = err_from_is_err_and c.from_residual.result c.from_residual.ensures.1 in
+    rw (p.1, p.2) (redefines g.D.Disk c.args.oldest next refused c.args.pager.now c.args.pager.now c.args.file.now c.args.file.now was c.define_view.new.self
+    (rewrites_unmade g.D.Disk c.args.oldest (ChangesDefinitions (listing_of next)) (listing_of next) refusal.OutOfMemory c.args.pager.now c.args.file.now (inl refl))
+    c.requires.rests c.requires.rests.columns tt c.in_err-define_view.ensures.err)

@@ -1,12 +1,17 @@
 -- What the file was refused stays in memory, and what went out of it goes out of memory.
-use Rattle.std.proofs.Common.{◌≡◌, Err, Ok, Result, refl, subst}
+use Rattle.std.proofs.Common.{◌≡◌, Err, Ok, Result, refl, subst, ◌≤◌, ◌+◌, inl, sym}
 use Rattle.std.proofs.lemmas.Result.{err_from_is_err_and}
 use Rattle.rs_catalog.specs.Changes as changes
-use Rattle.rs_catalog_pages.specs.Items.{CatalogueItems}
+use Rattle.rs_catalog_pages.specs.Items.{CatalogueItems, RouteItem}
 use Rattle.rs_file_changes.specs.Calls.{ChangesDefinitions}
 use Rattle.rs_refusal.specs.declared.refusal.Refusal.{Refusal}
 use Rattle.rs_store.specs.Rewriting.{Rewrites}
 use Rattle.rs_store.proofs.Redefined.{redefines}
+use Rattle.rs_refusal.specs.declared.refusal.Refusal.TheVariants as refusal
+use Rattle.std.specs.List.{AllByRecursion}
+use Rattle.rs_definitions.specs.Listing.{listing_of}
+use Rattle.rs_store.proofs.Rewritten.{rewrites_unmade}
+use Rattle.rs_store.proofs.Settled.{births_listed}
 use Rattle.rs_store.proofs.defining.drop_view_from_both.Goals as goal
 
 pub returns-in_err-rewrite-clause-redefines : goal.returns-in_err-rewrite-clause-redefines
@@ -29,3 +34,18 @@ returns-clause-redefines g c =
     (subst (λ (items : CatalogueItems). Rewrites d c.args.oldest (ChangesDefinitions items) items done c.args.pager.now c.rewrite.new.pager c.args.file.now c.rewrite.new.file)
     c.in_ok-definitions.ensures c.in_ok-rewrite.ensures.rewrites)
     c.requires.rests c.requires.rests.columns c.drop_view.ensures tt
+
+pub rewrite-requires-clause-births : goal.rewrite-requires-clause-births
+rewrite-requires-clause-births g c =
+    subst (λ (items : CatalogueItems). AllByRecursion (λ (route : RouteItem). route.born ≤ c.args.file.now.accepted + 1) items.routes) (sym c.in_ok-definitions.ensures)
+    (births_listed c.args.file.now c.args.catalog.now c.requires.rests)
+
+pub returns-in_err-definitions-clause-redefines : goal.returns-in_err-definitions-clause-redefines
+returns-in_err-definitions-clause-redefines g c =
+    let was = c.args.catalog.now in
+    let next = changes.without_view was c.args.name.now.bytes in
+    let refused : Result (Unit {0}) Refusal = Err refusal.OutOfMemory in
+    let p = err_from_is_err_and c.from_residual.result c.from_residual.ensures.1 in
+    rw (p.1, p.2) (redefines g.D.Disk c.args.oldest next refused c.args.pager.now c.args.pager.now c.args.file.now c.args.file.now was was
+    (rewrites_unmade g.D.Disk c.args.oldest (ChangesDefinitions (listing_of next)) (listing_of next) refusal.OutOfMemory c.args.pager.now c.args.file.now (inl refl))
+    c.requires.rests c.requires.rests.columns tt refl)

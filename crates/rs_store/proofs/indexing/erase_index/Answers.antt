@@ -1,5 +1,5 @@
 -- The definitions without the index are checked, and go into the file as the index goes out of it.
-use Rattle.std.proofs.Common.{◌≡◌, ◌≤◌, ◌<◌, ◌+◌, ◌∙◌, ℕ, Result, List, Some, ap, inr, is_some, map, slice_get, subst, sym, true, arith}
+use Rattle.std.proofs.Common.{◌≡◌, ◌≤◌, ◌<◌, ◌+◌, ◌∙◌, ℕ, Result, List, Some, ap, inr, is_some, map, slice_get, subst, sym, true, arith, inl, refl}
 use Rattle.std.specs.FinMap as names
 use Rattle.std.specs.List.{AllByRecursion}
 use Rattle.std.specs.Option.{option_copied}
@@ -23,6 +23,8 @@ use Rattle.rs_store.proofs.Indexed.{index_at, index_less, table_listed}
 use Rattle.rs_store.proofs.Rewritten.{rewrites_settled, rewrites_unbegun, rewrites_unmade}
 use Rattle.rs_store.proofs.Settled.{born_later}
 use Rattle.rs_store.proofs.Tabled.{changes_by}
+use Rattle.rs_store.proofs.HeldChanges.{begins_with}
+use Rattle.rs_refusal.specs.declared.refusal.Refusal.TheVariants as refusal
 use Rattle.rs_store.proofs.indexing.erase_index.Goals as goal
 
 pub table_place-place-requires-clause-there : goal.table_place-place-requires-clause-there
@@ -76,7 +78,7 @@ returns-in_err-begin-clause-rewrites g c =
     let now = listing_of (changes.without_index c.args.catalog.now c.args.name.now.bytes) in
     let p = err_from_is_err_and c.from_residual-in_err-begin.result c.from_residual-in_err-begin.ensures.1 in
     rw (p.1, p.2) (rewrites_unbegun g.D.Disk c.args.oldest (ChangesListed now) now c.in_err-begin.field-0.0 c.args.pager.now c.begin.new.self c.args.file.now
-    c.begin.ensures.keeps c.begin.ensures.masked c.in_err-begin.ensures.refusal c.in_err-begin.ensures.count)
+    c.begin.ensures.keeps c.begin.ensures.masked c.in_err-begin.ensures.refused.0 c.in_err-begin.ensures.refusal c.in_err-begin.ensures.count)
 
 pub drop_index-made-requires-clause-births : goal.drop_index-made-requires-clause-births
 drop_index-made-requires-clause-births g c =
@@ -171,10 +173,17 @@ returns-clause-rewrites g c =
     (subst (λ (r : Result (Unit {0}) Refusal). Rewrites d c.args.oldest (ChangesListed (said_catalogue stored)) (said_catalogue stored) r c.args.pager.now c.settle.new.pager
     c.args.file.now c.settle.new.file) (sym c.settle.ensures.same)
     (rewrites_settled d c.args.pager.now first between c.settle.new.pager c.args.file.now changed c.settle.new.file
-    c.begin.ensures.keeps c.begin.ensures.masked c.in_ok-begin.ensures.count c.drop_index-made.ensures.leaves.keeps c.kept_change_gives_its_state.ensures c.args.oldest
+    c.begin.ensures.keeps c.begin.ensures.masked c.in_ok-begin.ensures.count
+    (begins_with d c.args.pager.now c.begin.new.self c.in_ok-begin.ensures.few c.in_ok-begin.ensures.many c.begin.ensures.copies c.begin.ensures.same c.begin.ensures.keeps) c.drop_index-made.ensures.leaves.keeps c.kept_change_gives_its_state.ensures c.args.oldest
     (ChangesListed (said_catalogue stored)) stored c.requires.room c.requires.rests.committed
     (subst (λ (items : CatalogueItems). AllByRecursion (λ (route : RouteItem). route.born ≤ c.args.file.now.accepted + 1) items.routes) (sym says) births)
     result c.drop_index-made.ensures.leaves.stores c.drop_index-made.ensures.next c.drop_index-made.ensures.keeps
     (λ tied. changes_by c.args.oldest (working d first) (working d between) c.args.file.now changed (ChangesIndexes place (said_catalogue stored)) (ChangesListed (said_catalogue stored)) result
     (λ before next opened changes. record { place = place; changes = changes }) (c.drop_index-made.ensures.changes tied))
     c.settle.ensures.settles))
+
+pub returns-in_err-stored-clause-rewrites : goal.returns-in_err-stored-clause-rewrites
+returns-in_err-stored-clause-rewrites g c =
+    let now = listing_of (changes.without_index c.args.catalog.now c.args.name.now.bytes) in
+    let p = err_from_is_err_and c.from_residual.result c.from_residual.ensures.1 in
+    rw (p.1, p.2) (rewrites_unmade g.D.Disk c.args.oldest (ChangesListed now) now refusal.OutOfMemory c.args.pager.now c.args.file.now (inl refl))

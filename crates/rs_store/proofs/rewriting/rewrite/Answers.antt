@@ -6,6 +6,7 @@ use Rattle.rs_file_changes.specs.Calls.{ChangesDefinitions}
 use Rattle.rs_refusal.specs.declared.refusal.Refusal.{Refusal}
 use Rattle.rs_store.specs.Rewriting.{Rewrites}
 use Rattle.rs_store.proofs.Rewritten.{rewrites_settled, rewrites_unbegun, rewrites_unmade}
+use Rattle.rs_store.proofs.HeldChanges.{begins_with}
 use Rattle.rs_store.proofs.rewriting.rewrite.Goals as goal
 
 pub returns-in_err-check_definitions-clause-rewrites : goal.returns-in_err-check_definitions-clause-rewrites
@@ -20,7 +21,7 @@ returns-in_err-begin-clause-rewrites g c =
     let items = said_catalogue c.args.definitions in
     let p = err_from_is_err_and c.from_residual-in_err-begin.result c.from_residual-in_err-begin.ensures.1 in
     rw (p.1, p.2) (rewrites_unbegun g.D.Disk c.args.oldest (ChangesDefinitions items) items c.in_err-begin.field-0.0 c.args.pager.now c.begin.new.self c.args.file.now
-    c.begin.ensures.keeps c.begin.ensures.masked c.in_err-begin.ensures.refusal c.in_err-begin.ensures.count)
+    c.begin.ensures.keeps c.begin.ensures.masked c.in_err-begin.ensures.refused.0 c.in_err-begin.ensures.refusal c.in_err-begin.ensures.count)
 
 pub returns-clause-rewrites : goal.returns-clause-rewrites
 returns-clause-rewrites g c =
@@ -28,6 +29,7 @@ returns-clause-rewrites g c =
     let items = said_catalogue c.args.definitions in
     subst (λ (r : Result (Unit {0}) Refusal). Rewrites d c.args.oldest (ChangesDefinitions items) items r c.args.pager.now c.settle.new.pager c.args.file.now c.settle.new.file) (sym c.settle.ensures.same)
     (rewrites_settled d c.args.pager.now c.begin.new.self c.redefine-made.new.pages c.settle.new.pager c.args.file.now c.redefine-made.new.file c.settle.new.file
-    c.begin.ensures.keeps c.begin.ensures.masked c.in_ok-begin.ensures.count c.redefine-made.ensures.leaves.keeps c.kept_change_gives_its_state.ensures c.args.oldest (ChangesDefinitions items)
+    c.begin.ensures.keeps c.begin.ensures.masked c.in_ok-begin.ensures.count
+    (begins_with d c.args.pager.now c.begin.new.self c.in_ok-begin.ensures.few c.in_ok-begin.ensures.many c.begin.ensures.copies c.begin.ensures.same c.begin.ensures.keeps) c.redefine-made.ensures.leaves.keeps c.kept_change_gives_its_state.ensures c.args.oldest (ChangesDefinitions items)
     c.args.definitions c.requires.room c.requires.committed c.requires.births c.redefine-made.result c.redefine-made.ensures.leaves.stores c.redefine-made.ensures.next
     c.redefine-made.ensures.keeps c.redefine-made.ensures.defines c.settle.ensures.settles)

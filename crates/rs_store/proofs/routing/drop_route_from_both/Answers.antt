@@ -1,5 +1,5 @@
 -- What the file was refused stays in memory, and what went out of it goes out of memory.
-use Rattle.std.proofs.Common.{◌≤◌, ◌+◌, Err, Ok, Result, refl, subst, sym}
+use Rattle.std.proofs.Common.{◌≤◌, ◌+◌, Err, Ok, Result, refl, subst, sym, inl}
 use Rattle.std.specs.List.{AllByRecursion}
 use Rattle.std.proofs.lemmas.Result.{err_from_is_err_and}
 use Rattle.rs_catalog.specs.Changes as changes
@@ -10,6 +10,8 @@ use Rattle.rs_state_laws.specs.Parts.{DropsRoute}
 use Rattle.rs_store.specs.Rewriting.{Rewrites}
 use Rattle.rs_store.proofs.Redefined.{stood_there}
 use Rattle.rs_store.proofs.Routed.{births_less, erases}
+use Rattle.rs_refusal.specs.declared.refusal.Refusal.TheVariants as refusal
+use Rattle.rs_store.proofs.Rewritten.{rewrites_unmade}
 use Rattle.rs_store.proofs.routing.drop_route_from_both.Goals as goal
 
 pub erase_route-requires-clause-births : goal.erase_route-requires-clause-births
@@ -43,3 +45,13 @@ returns-clause-erases g c =
     (subst (λ (items : CatalogueItems). Rewrites d c.args.oldest (DropsRoute c.args.number items) items done c.args.pager.now c.erase_route.new.pager c.args.file.now c.erase_route.new.file)
     c.in_ok-definitions.ensures c.in_ok-erase_route.ensures.rewrites)
     c.requires.rests c.requires.rests.columns c.drop_route.ensures tt
+
+pub returns-in_err-definitions-clause-erases : goal.returns-in_err-definitions-clause-erases
+returns-in_err-definitions-clause-erases g c =
+    let was = c.args.catalog.now in
+    let next = changes.without_route was c.args.name.now.bytes in
+    let refused : Result (Unit {0}) Refusal = Err refusal.OutOfMemory in
+    let p = err_from_is_err_and c.from_residual.result c.from_residual.ensures.1 in
+    rw (p.1, p.2) (erases g.D.Disk c.args.oldest c.args.number next refused c.args.pager.now c.args.pager.now c.args.file.now c.args.file.now was was
+    (rewrites_unmade g.D.Disk c.args.oldest (DropsRoute c.args.number (listing_of next)) (listing_of next) refusal.OutOfMemory c.args.pager.now c.args.file.now (inl refl))
+    c.requires.rests c.requires.rests.columns tt refl)

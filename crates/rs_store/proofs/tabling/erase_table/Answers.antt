@@ -1,5 +1,5 @@
 -- The definitions without the table are checked, and go into the file as the table goes out of it.
-use Rattle.std.proofs.Common.{◌≡◌, ◌≤◌, ◌<◌, ◌+◌, ◌∙◌, ℕ, Result, List, Some, ap, inr, slice_get, subst, sym, arith}
+use Rattle.std.proofs.Common.{◌≡◌, ◌≤◌, ◌<◌, ◌+◌, ◌∙◌, ℕ, Result, List, Some, ap, inr, slice_get, subst, sym, arith, inl, refl}
 use Rattle.std.specs.FinMap as names
 use Rattle.std.specs.List.{AllByRecursion}
 use Rattle.std.specs.Option.{option_copied}
@@ -21,6 +21,8 @@ use Rattle.rs_store.proofs.Rewritten.{rewrites_settled, rewrites_unbegun, rewrit
 use Rattle.rs_store.proofs.Settled.{born_later}
 use Rattle.rs_store.proofs.TableLess.{listed_less, loses_at}
 use Rattle.rs_store.proofs.Tabled.{changes_by}
+use Rattle.rs_store.proofs.HeldChanges.{begins_with}
+use Rattle.rs_refusal.specs.declared.refusal.Refusal.TheVariants as refusal
 use Rattle.rs_store.proofs.tabling.erase_table.Goals as goal
 
 pub check_definitions-requires : goal.check_definitions-requires
@@ -72,7 +74,7 @@ returns-in_err-begin-clause-rewrites g c =
     let now = listing_of (changes.without_table catalog name) in
     let p = err_from_is_err_and c.from_residual-in_err-begin.result c.from_residual-in_err-begin.ensures.1 in
     rw (p.1, p.2) (rewrites_unbegun g.D.Disk c.args.oldest (TakesNamed catalog.tables name now) now c.in_err-begin.field-0.0 c.args.pager.now c.begin.new.self c.args.file.now
-    c.begin.ensures.keeps c.begin.ensures.masked c.in_err-begin.ensures.refusal c.in_err-begin.ensures.count)
+    c.begin.ensures.keeps c.begin.ensures.masked c.in_err-begin.ensures.refused.0 c.in_err-begin.ensures.refusal c.in_err-begin.ensures.count)
 
 pub drop_table-made-requires-clause-births : goal.drop_table-made-requires-clause-births
 drop_table-made-requires-clause-births g c =
@@ -166,7 +168,8 @@ returns-clause-rewrites g c =
     (subst (λ (r : Result (Unit {0}) Refusal). Rewrites d c.args.oldest (TakesNamed catalog.tables name (said_catalogue stored)) (said_catalogue stored) r c.args.pager.now c.settle.new.pager
     c.args.file.now c.settle.new.file) (sym c.settle.ensures.same)
     (rewrites_settled d c.args.pager.now first between c.settle.new.pager c.args.file.now changed c.settle.new.file
-    c.begin.ensures.keeps c.begin.ensures.masked c.in_ok-begin.ensures.count c.drop_table-made.ensures.leaves.keeps c.kept_change_gives_its_state.ensures c.args.oldest
+    c.begin.ensures.keeps c.begin.ensures.masked c.in_ok-begin.ensures.count
+    (begins_with d c.args.pager.now c.begin.new.self c.in_ok-begin.ensures.few c.in_ok-begin.ensures.many c.begin.ensures.copies c.begin.ensures.same c.begin.ensures.keeps) c.drop_table-made.ensures.leaves.keeps c.kept_change_gives_its_state.ensures c.args.oldest
     (TakesNamed catalog.tables name (said_catalogue stored)) stored c.requires.room c.requires.rests.committed
     (subst (λ (items : CatalogueItems). AllByRecursion (λ (route : RouteItem). route.born ≤ c.args.file.now.accepted + 1) items.routes) (sym says) births)
     result c.drop_table-made.ensures.leaves.stores c.drop_table-made.ensures.next c.drop_table-made.ensures.keeps
@@ -179,3 +182,11 @@ returns-clause-rewrites g c =
       takes = takes;
     }) (c.drop_table-made.ensures.takes tied))
     c.settle.ensures.settles))
+
+pub returns-in_err-stored-clause-rewrites : goal.returns-in_err-stored-clause-rewrites
+returns-in_err-stored-clause-rewrites g c =
+    let name = c.args.name.now.bytes in
+    let catalog = c.args.catalog.now in
+    let now = listing_of (changes.without_table catalog name) in
+    let p = err_from_is_err_and c.from_residual.result c.from_residual.ensures.1 in
+    rw (p.1, p.2) (rewrites_unmade g.D.Disk c.args.oldest (TakesNamed catalog.tables name now) now refusal.OutOfMemory c.args.pager.now c.args.file.now (inl refl))

@@ -1,5 +1,5 @@
 -- The definitions that the catalogue lists are checked, and go into the file with the table.
-use Rattle.std.proofs.Common.{◌≡◌, ◌≤◌, ◌<◌, ◌+◌, ◌∙◌, Result, List, Some, ap, inr, slice_get, subst, sym, arith}
+use Rattle.std.proofs.Common.{◌≡◌, ◌≤◌, ◌<◌, ◌+◌, ◌∙◌, Result, List, Some, ap, inr, slice_get, subst, sym, arith, inl, refl}
 use Rattle.std.specs.List.{AllByRecursion}
 use Rattle.std.proofs.lemmas.Result.{err_from_is_err_and}
 use Rattle.rs_catalog_pages.specs.Items.{CatalogueItems, RouteItem}
@@ -16,6 +16,8 @@ use Rattle.rs_store.specs.Tabling.{HasColumnsAt, HasNumbered, PutsNumbered}
 use Rattle.rs_store.proofs.Given.{given_once, small_numbers}
 use Rattle.rs_store.proofs.Rewritten.{rewrites_settled, rewrites_unbegun, rewrites_unmade}
 use Rattle.rs_store.proofs.Tabled.{changes_by, has_numbered, number_listed, table_at}
+use Rattle.rs_store.proofs.HeldChanges.{begins_with}
+use Rattle.rs_refusal.specs.declared.refusal.Refusal.TheVariants as refusal
 use Rattle.rs_store.proofs.tabling.write_table.Goals as goal
 
 pub check_definitions-requires : goal.check_definitions-requires
@@ -44,7 +46,7 @@ returns-in_err-begin-clause-rewrites g c =
     let items = listing_of c.args.catalog.now in
     let p = err_from_is_err_and c.from_residual-in_err-begin.result c.from_residual-in_err-begin.ensures.1 in
     rw (p.1, p.2) (rewrites_unbegun g.D.Disk c.args.oldest (PutsNumbered c.args.number items) items c.in_err-begin.field-0.0 c.args.pager.now c.begin.new.self c.args.file.now
-    c.begin.ensures.keeps c.begin.ensures.masked c.in_err-begin.ensures.refusal c.in_err-begin.ensures.count)
+    c.begin.ensures.keeps c.begin.ensures.masked c.in_err-begin.ensures.refused.0 c.in_err-begin.ensures.refusal c.in_err-begin.ensures.count)
 
 pub define_table-made-requires-clause-given : goal.define_table-made-requires-clause-given
 define_table-made-requires-clause-given g c = subst AreGivenOnce (sym c.in_ok-stored.ensures) (given_once c.args.catalog.now c.stand.ensures)
@@ -79,10 +81,17 @@ returns-clause-rewrites g c =
     (subst (λ (r : Result (Unit {0}) Refusal). Rewrites d c.args.oldest (PutsNumbered c.args.number (said_catalogue stored)) (said_catalogue stored) r c.args.pager.now c.settle.new.pager
     c.args.file.now c.settle.new.file) (sym c.settle.ensures.same)
     (rewrites_settled d c.args.pager.now first between c.settle.new.pager c.args.file.now changed c.settle.new.file
-    c.begin.ensures.keeps c.begin.ensures.masked c.in_ok-begin.ensures.count c.define_table-made.ensures.leaves.keeps c.kept_change_gives_its_state.ensures c.args.oldest
+    c.begin.ensures.keeps c.begin.ensures.masked c.in_ok-begin.ensures.count
+    (begins_with d c.args.pager.now c.begin.new.self c.in_ok-begin.ensures.few c.in_ok-begin.ensures.many c.begin.ensures.copies c.begin.ensures.same c.begin.ensures.keeps) c.define_table-made.ensures.leaves.keeps c.kept_change_gives_its_state.ensures c.args.oldest
     (PutsNumbered c.args.number (said_catalogue stored)) stored c.requires.room c.requires.committed
     (subst (λ (items : CatalogueItems). AllByRecursion (λ (route : RouteItem). route.born ≤ c.args.file.now.accepted + 1) items.routes) (sym says) c.requires.births)
     result c.define_table-made.ensures.leaves.stores c.define_table-made.ensures.next c.define_table-made.ensures.keeps
     (λ tied. changes_by c.args.oldest (working d first) (working d between) c.args.file.now changed (PutsTable place types (said_catalogue stored)) (PutsNumbered c.args.number (said_catalogue stored)) result
     (λ one next opened puts. record { place = place; types = types; at = listed; puts = puts }) (c.define_table-made.ensures.puts tied))
     c.settle.ensures.settles))
+
+pub returns-in_err-stored-clause-rewrites : goal.returns-in_err-stored-clause-rewrites
+returns-in_err-stored-clause-rewrites g c =
+    let items = listing_of c.args.catalog.now in
+    let p = err_from_is_err_and c.from_residual.result c.from_residual.ensures.1 in
+    rw (p.1, p.2) (rewrites_unmade g.D.Disk c.args.oldest (PutsNumbered c.args.number items) items refusal.OutOfMemory c.args.pager.now c.args.file.now (inl refl))

@@ -1,5 +1,5 @@
 -- The index goes into memory, and then into the file or out of memory again.
-use Rattle.std.proofs.Common.{◌≡◌, ◌≤◌, ◌<◌, ◌+◌, ◌∙◌, ℕ, Result, Some, ap, false, refl, subst, sym, true, arith}
+use Rattle.std.proofs.Common.{◌≡◌, ◌≤◌, ◌<◌, ◌+◌, ◌∙◌, ℕ, Result, Some, ap, false, refl, subst, sym, true, arith, inl}
 use Rattle.std.specs.FinMap as names
 use Rattle.std.specs.List.{AllByRecursion}
 use Rattle.std.specs.Result.{is_err}
@@ -22,6 +22,11 @@ use Rattle.rs_store.proofs.Keeping.{store_over}
 use Rattle.rs_store.proofs.Redefined.{err_never, left_where}
 use Rattle.rs_store.proofs.Results.{err_always}
 use Rattle.rs_store.proofs.TableMore.{of_made, of_refused}
+use Rattle.rs_pager.specs.Maps.{KeepsChanges}
+use Rattle.std.proofs.lemmas.Result.{err_from_is_err_and}
+use Rattle.rs_store.proofs.Settled.{left_unbegun}
+use Rattle.rs_refusal.specs.declared.refusal.Refusal.TheVariants as refusal
+use Rattle.rs_store.proofs.Rewritten.{left_unmade}
 use Rattle.rs_store.proofs.store.Store.define_index.Goals as goal
 
 pub write_index-made-requires-clause-more : goal.write_index-made-requires-clause-more
@@ -113,6 +118,7 @@ returns-then-is_err-clause-leaves g c =
     let at = store_over d was.pager was.file was.catalog was.referents was.is_marked in
     let goes : GoesOn d old at = record {
       keeps = subst (λ (s : StoreState g.row.D.Denot). KeepsStore d old s) (sym c.self.view_is) c.mark.ensures.keeps;
+      changes = subst (λ (s : StoreState g.row.D.Denot). KeepsChanges old.pager s.pager) (sym c.self.view_is) c.mark.ensures.changes;
       failures = ap (λ (s : StoreState g.row.D.Denot). d.failures s.pager.disk) c.self.view_is ∙ c.in_ok-mark.ensures.count;
     } in
     let after : State → State = λ state. with_index state name (record { table = c.args.table.bytes; column = c.args.column }) in
@@ -143,6 +149,7 @@ returns-else-is_err-clause-leaves g c =
     let at = store_over d was.pager was.file was.catalog was.referents was.is_marked in
     let goes : GoesOn d old at = record {
       keeps = subst (λ (s : StoreState g.row.D.Denot). KeepsStore d old s) (sym c.self.view_is) c.mark.ensures.keeps;
+      changes = subst (λ (s : StoreState g.row.D.Denot). KeepsChanges old.pager s.pager) (sym c.self.view_is) c.mark.ensures.changes;
       failures = ap (λ (s : StoreState g.row.D.Denot). d.failures s.pager.disk) c.self.view_is ∙ c.in_ok-mark.ensures.count;
     } in
     let after : State → State = λ state. with_index state name (record { table = c.args.table.bytes; column = c.args.column }) in
@@ -169,9 +176,30 @@ returns-else-is_err-clause-defines g c = λ from state stands low high lawful.
     let at = store_over d was.pager was.file was.catalog was.referents was.is_marked in
     let goes : GoesOn d old at = record {
       keeps = subst (λ (s : StoreState g.row.D.Denot). KeepsStore d old s) (sym c.self.view_is) c.mark.ensures.keeps;
+      changes = subst (λ (s : StoreState g.row.D.Denot). KeepsChanges old.pager s.pager) (sym c.self.view_is) c.mark.ensures.changes;
       failures = ap (λ (s : StoreState g.row.D.Denot). d.failures s.pager.disk) c.self.view_is ∙ c.in_ok-mark.ensures.count;
     } in
     let after : State → State = λ state. with_index state name (record { table = c.args.table.bytes; column = c.args.column }) in
     let gives = index_gives d old at goes c.requires.room c.index_listed_gives_its_state.ensures.defined name item added is c.stand-2.ensures new in
     c.write_index-made.ensures.rewrites.becomes old was.catalog added was.referents was.referents was.is_marked goes from state (after state) stands low high
     (gives from c.args.oldest state stands low lawful) lawful.views
+
+pub returns-in_err-mark-clause-leaves : goal.returns-in_err-mark-clause-leaves
+returns-in_err-mark-clause-leaves g c =
+    let p = err_from_is_err_and c.from_residual.result c.from_residual.ensures.1 in
+    rw (p.1, p.2) (left_unbegun g.D.Disk c.in_err-mark.field-0.0 c.args.self.now c.mark.new.self c.mark.ensures.keeps c.mark.ensures.changes
+    c.in_err-mark.ensures.refused c.in_err-mark.ensures.count)
+
+pub returns-in_err-define_index-clause-leaves : goal.returns-in_err-define_index-clause-leaves
+returns-in_err-define_index-clause-leaves g c =
+    let d = g.D.Disk in
+    let old = c.args.self.now in
+    let was = c.self.inside in
+    let goes : GoesOn d old (store_over d was.pager was.file was.catalog was.referents was.is_marked) = record {
+      keeps = subst (λ (s : StoreState g.row.D.Denot). KeepsStore d old s) (sym c.self.view_is) c.mark.ensures.keeps;
+      changes = subst (λ (s : StoreState g.row.D.Denot). KeepsChanges old.pager s.pager) (sym c.self.view_is) c.mark.ensures.changes;
+      failures = ap (λ (s : StoreState g.row.D.Denot). d.failures s.pager.disk) c.self.view_is ∙ c.in_ok-mark.ensures.count;
+    } in
+    let p = err_from_is_err_and c.from_residual-in_err-define_index.result c.from_residual-in_err-define_index.ensures.1 in
+    rw (p.1, p.2) (left_unmade d refusal.OutOfMemory old (store_over d was.pager was.file c.define_index.new.self was.referents was.is_marked)
+    (subst (λ (k : Definitions). GoesOn d old (store_over d was.pager was.file k was.referents was.is_marked)) (sym c.in_err-define_index.ensures.err) goes) (inl refl))

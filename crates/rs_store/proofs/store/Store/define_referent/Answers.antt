@@ -7,7 +7,7 @@ use Rattle.rs_catalog.specs.Referents.{at_number, referents_on}
 use Rattle.rs_contents.specs.declared.opened.OpenedFile.{OpenedFile}
 use Rattle.rs_machine.specs.Step.{with_referents}
 use Rattle.rs_machine.specs.declared.limits.TheConstants.{CHANGES}
-use Rattle.rs_pager.specs.Maps.{working}
+use Rattle.rs_pager.specs.Maps.{KeepsChanges, working}
 use Rattle.rs_refusal.specs.Counts.{counted_on}
 use Rattle.rs_refusal.specs.declared.refusal.Refusal.{Refusal}
 use Rattle.rs_state_laws.specs.Changing.{ChangesFile}
@@ -19,6 +19,7 @@ use Rattle.rs_store.proofs.Keeping.{store_over}
 use Rattle.rs_store.proofs.Results.{err_always}
 use Rattle.rs_store.proofs.Rows.{by_part, made_both, next_below}
 use Rattle.rs_store.proofs.Settled.{begins, begun_keeps, left_settled, left_unbegun, rests_settled, stands_at_first}
+use Rattle.rs_store.proofs.HeldChanges.{begins_with, changes-trans}
 use Rattle.rs_store.proofs.store.Store.define_referent.Goals as goal
 
 pub returns-in_err-begin-clause-leaves : goal.returns-in_err-begin-clause-leaves
@@ -28,12 +29,13 @@ returns-in_err-begin-clause-leaves g c =
     let was = c.self.inside in
     let first = c.begin.new.self in
     let kept = subst (λ (s : StoreState g.row.D.Denot). KeepsStore d old s) (sym c.self.view_is) c.mark.ensures.keeps in
+    let same = subst (λ (s : StoreState g.row.D.Denot). KeepsChanges old.pager s.pager) (sym c.self.view_is) c.mark.ensures.changes in
     let failed : d.failures was.pager.disk ≡ d.failures old.pager.disk =
     ap (λ (s : StoreState g.row.D.Denot). d.failures s.pager.disk) c.self.view_is ∙ c.in_ok-mark.ensures.count in
     let p = err_from_is_err_and c.from_residual-in_err-begin.result c.from_residual-in_err-begin.ensures.1 in
     rw (p.1, p.2) (left_unbegun d c.in_err-begin.field-0.0 old (store_over d first was.file was.catalog was.referents was.is_marked)
     (begun_keeps d old was.pager first was.file was.catalog was.referents was.is_marked kept c.begin.ensures.keeps c.begin.ensures.masked)
-    c.in_err-begin.ensures.refusal (c.in_err-begin.ensures.count ∙ ap counted_on failed))
+    (changes-trans old.pager was.pager first same c.in_err-begin.ensures.refused.0) c.in_err-begin.ensures.refusal (c.in_err-begin.ensures.count ∙ ap counted_on failed))
 
 pub invariant_of-self-2 : goal.invariant_of-self-2
 invariant_of-self-2 g c =
@@ -54,9 +56,11 @@ returns-clause-leaves g c =
     let last = c.settle.new.pager in
     let result = c.define_in_both-made.result in
     let kept = subst (λ (s : StoreState g.row.D.Denot). KeepsStore d old s) (sym c.self.view_is) c.mark.ensures.keeps in
+    let same = subst (λ (s : StoreState g.row.D.Denot). KeepsChanges old.pager s.pager) (sym c.self.view_is) c.mark.ensures.changes in
     let failed : d.failures was.pager.disk ≡ d.failures old.pager.disk =
     ap (λ (s : StoreState g.row.D.Denot). d.failures s.pager.disk) c.self.view_is ∙ c.in_ok-mark.ensures.count in
-    let begun = begins d old was.pager first was.file was.catalog was.referents was.is_marked kept c.begin.ensures.keeps c.begin.ensures.masked failed c.in_ok-begin.ensures.count in
+    let begun = begins d old was.pager first was.file was.catalog was.referents was.is_marked kept c.begin.ensures.keeps c.begin.ensures.masked failed c.in_ok-begin.ensures.count same
+    (begins_with d was.pager first c.in_ok-begin.ensures.few c.in_ok-begin.ensures.many c.begin.ensures.copies c.begin.ensures.same c.begin.ensures.keeps) in
     subst (λ (r : Result (Unit {0}) Refusal). LeavesStore d Always r old (store_over d last c.settle.new.file was.catalog c.define_in_both-made.new.referents was.is_marked)) (sym c.settle.ensures.same)
     (left_settled d old first c.define_in_both-made.new.pages last was.file c.define_in_both-made.new.file c.settle.new.file was.catalog was.referents was.is_marked begun c.define_in_both-made.ensures.leaves.keeps
     result was.file.definitions was.catalog c.define_in_both-made.new.referents c.define_in_both-made.ensures.leaves.stores c.define_in_both-made.ensures.next c.define_in_both-made.ensures.keeps c.self.invariant.rests.committed
@@ -74,9 +78,11 @@ returns-clause-puts g c = λ from state stands low high route on there numbered 
     let settled = c.settle.new.file in
     let result = c.define_in_both-made.result in
     let kept = subst (λ (s : StoreState g.row.D.Denot). KeepsStore d old s) (sym c.self.view_is) c.mark.ensures.keeps in
+    let same = subst (λ (s : StoreState g.row.D.Denot). KeepsChanges old.pager s.pager) (sym c.self.view_is) c.mark.ensures.changes in
     let failed : d.failures was.pager.disk ≡ d.failures old.pager.disk =
     ap (λ (s : StoreState g.row.D.Denot). d.failures s.pager.disk) c.self.view_is ∙ c.in_ok-mark.ensures.count in
-    let begun = begins d old was.pager first was.file was.catalog was.referents was.is_marked kept c.begin.ensures.keeps c.begin.ensures.masked failed c.in_ok-begin.ensures.count in
+    let begun = begins d old was.pager first was.file was.catalog was.referents was.is_marked kept c.begin.ensures.keeps c.begin.ensures.masked failed c.in_ok-begin.ensures.count same
+    (begins_with d was.pager first c.in_ok-begin.ensures.few c.in_ok-begin.ensures.many c.begin.ensures.copies c.begin.ensures.same c.begin.ensures.keeps) in
     let one = c.args.referent.now in
     let name = one.name.bytes in
     let held = c.define_in_both-made.new.referents in
@@ -99,3 +105,9 @@ returns-clause-puts g c = λ from state stands low high route on there numbered 
     route name one.measure on part route_there is
     (subst (λ (n : ℕ). referents_on held ≡ at_number n (names.insert (referents_on was.referents n) name one.measure) (referents_on was.referents)) (sym numbered) put) puts lawful)
     lawful.views keeps))
+
+pub returns-in_err-mark-clause-leaves : goal.returns-in_err-mark-clause-leaves
+returns-in_err-mark-clause-leaves g c =
+    let p = err_from_is_err_and c.from_residual.result c.from_residual.ensures.1 in
+    rw (p.1, p.2) (left_unbegun g.D.Disk c.in_err-mark.field-0.0 c.args.self.now c.mark.new.self c.mark.ensures.keeps c.mark.ensures.changes
+    c.in_err-mark.ensures.refused c.in_err-mark.ensures.count)

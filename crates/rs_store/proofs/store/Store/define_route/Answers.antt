@@ -1,5 +1,5 @@
 -- The route goes into memory, and then into the file or out of memory again.
-use Rattle.std.proofs.Common.{◌≡◌, ◌≤◌, ◌+◌, ◌∙◌, ℕ, ap, false, refl, subst, sym}
+use Rattle.std.proofs.Common.{◌≡◌, ◌≤◌, ◌+◌, ◌∙◌, ℕ, ap, false, refl, subst, sym, inl}
 use Rattle.std.specs.List.{AllByRecursion}
 use Rattle.rs_catalog.specs.Changes as changes
 use Rattle.rs_catalog.specs.Definitions.{AreDefinitions, Definitions, RouteItem}
@@ -12,7 +12,7 @@ use Rattle.rs_file_changes.specs.Calls.{ChangesDefinitions}
 use Rattle.rs_machine.specs.Lawful.{IsLawful}
 use Rattle.rs_machine.specs.State.{State, has}
 use Rattle.rs_machine.specs.Step.{with_route}
-use Rattle.rs_pager.specs.Maps.{committed}
+use Rattle.rs_pager.specs.Maps.{KeepsChanges, committed}
 use Rattle.rs_store.specs.Calls.{KeepsStore}
 use Rattle.rs_store.specs.Kept.{StoreState}
 use Rattle.rs_store.specs.Rewriting.{GoesOn, Redefines, Rewrites}
@@ -21,6 +21,10 @@ use Rattle.rs_store.proofs.Redefined.{Gives, become_redefined, left_redefined, n
 use Rattle.rs_store.proofs.Referred.{taken_again}
 use Rattle.rs_store.proofs.Routed.{births_more, err_by, none_carries, ok_by}
 use Rattle.rs_store.proofs.store.Store.define_route.Given.{Over}
+use Rattle.std.proofs.lemmas.Result.{err_from_is_err_and}
+use Rattle.rs_store.proofs.Settled.{left_unbegun}
+use Rattle.rs_refusal.specs.declared.refusal.Refusal.TheVariants as refusal
+use Rattle.rs_store.proofs.Rewritten.{left_unmade}
 use Rattle.rs_store.proofs.store.Store.define_route.Goals as goal
 
 pub write_route_of-requires-clause-births : goal.write_route_of-requires-clause-births
@@ -50,6 +54,7 @@ module _ (g : Over) (c : goal.After-write_route_of g) where
   goes : GoesOn g.D.Disk c.args.self.now was
   goes = record {
     keeps = subst (λ (s : StoreState g.row.D.Denot). KeepsStore g.D.Disk c.args.self.now s) (sym c.self.view_is) c.mark.ensures.keeps;
+    changes = subst (λ (s : StoreState g.row.D.Denot). KeepsChanges c.args.self.now.pager s.pager) (sym c.self.view_is) c.mark.ensures.changes;
     failures = ap (λ (s : StoreState g.row.D.Denot). g.D.Disk.failures s.pager.disk) c.self.view_is ∙ c.in_ok-mark.ensures.count;
   }
 
@@ -100,3 +105,23 @@ pub returns-clause-defines : goal.returns-clause-defines
 returns-clause-defines g c = λ from state stands low high lawful.
     become_redefined g.D.Disk c.args.self.now (was g c) (goes g c) c.write_route_of.new.pager c.write_route_of.new.file c.write_route_of.new.catalog (next g c) c.args.oldest
     c.write_route_of.result (become g c) (may g c) (after g c) (gives g c) from state stands low high lawful lawful.views
+
+pub returns-in_err-mark-clause-leaves : goal.returns-in_err-mark-clause-leaves
+returns-in_err-mark-clause-leaves g c =
+    let p = err_from_is_err_and c.from_residual.result c.from_residual.ensures.1 in
+    rw (p.1, p.2) (left_unbegun g.D.Disk c.in_err-mark.field-0.0 c.args.self.now c.mark.new.self c.mark.ensures.keeps c.mark.ensures.changes
+    c.in_err-mark.ensures.refused c.in_err-mark.ensures.count)
+
+pub returns-in_err-_number-clause-leaves : goal.returns-in_err-_number-clause-leaves
+returns-in_err-_number-clause-leaves g c =
+    let d = g.D.Disk in
+    let old = c.args.self.now in
+    let was = c.self.inside in
+    let goes : GoesOn d old (store_over d was.pager was.file was.catalog was.referents was.is_marked) = record {
+      keeps = subst (λ (s : StoreState g.row.D.Denot). KeepsStore d old s) (sym c.self.view_is) c.mark.ensures.keeps;
+      changes = subst (λ (s : StoreState g.row.D.Denot). KeepsChanges old.pager s.pager) (sym c.self.view_is) c.mark.ensures.changes;
+      failures = ap (λ (s : StoreState g.row.D.Denot). d.failures s.pager.disk) c.self.view_is ∙ c.in_ok-mark.ensures.count;
+    } in
+    let p = err_from_is_err_and c.from_residual-in_err-_number.result c.from_residual-in_err-_number.ensures.1 in
+    rw (p.1, p.2) (left_unmade d refusal.OutOfMemory old (store_over d was.pager was.file c.define_route.new.self was.referents was.is_marked)
+    (subst (λ (k : Definitions). GoesOn d old (store_over d was.pager was.file k was.referents was.is_marked)) (sym c.in_err-_number.ensures.err) goes) (inl refl))

@@ -19,6 +19,8 @@ use Rattle.rs_store.proofs.Keeping.{store_over}
 use Rattle.rs_store.proofs.Placed.{has_one}
 use Rattle.rs_store.proofs.Redefined.{left_where}
 use Rattle.rs_store.proofs.TableLess.{placed_listed}
+use Rattle.rs_pager.specs.Maps.{KeepsChanges}
+use Rattle.rs_store.proofs.Settled.{left_unbegun}
 use Rattle.rs_store.proofs.store.Store.drop_index.Goals as goal
 
 pub invariant_of-self : goal.invariant_of-self
@@ -47,6 +49,7 @@ returns-in_err-erase_index-clause-leaves g c =
     let at = store_over d was.pager was.file was.catalog was.referents was.is_marked in
     let goes : GoesOn d old at = record {
       keeps = subst (λ (s : StoreState g.row.D.Denot). KeepsStore d old s) (sym c.self.view_is) c.mark.ensures.keeps;
+      changes = subst (λ (s : StoreState g.row.D.Denot). KeepsChanges old.pager s.pager) (sym c.self.view_is) c.mark.ensures.changes;
       failures = ap (λ (s : StoreState g.row.D.Denot). d.failures s.pager.disk) c.self.view_is ∙ c.in_ok-mark.ensures.count;
     } in
     let listed : was.catalog ≡ old.catalog = ap (λ (s : StoreState g.row.D.Denot). s.catalog) c.self.view_is ∙ c.mark.ensures.keeps.catalog in
@@ -90,6 +93,7 @@ returns-clause-leaves g c =
     let at = store_over d was.pager was.file was.catalog was.referents was.is_marked in
     let goes : GoesOn d old at = record {
       keeps = subst (λ (s : StoreState g.row.D.Denot). KeepsStore d old s) (sym c.self.view_is) c.mark.ensures.keeps;
+      changes = subst (λ (s : StoreState g.row.D.Denot). KeepsChanges old.pager s.pager) (sym c.self.view_is) c.mark.ensures.changes;
       failures = ap (λ (s : StoreState g.row.D.Denot). d.failures s.pager.disk) c.self.view_is ∙ c.in_ok-mark.ensures.count;
     } in
     let listed : was.catalog ≡ old.catalog = ap (λ (s : StoreState g.row.D.Denot). s.catalog) c.self.view_is ∙ c.mark.ensures.keeps.catalog in
@@ -117,6 +121,7 @@ returns-clause-drops g c = λ from state stands low high lawful.
     let at = store_over d was.pager was.file was.catalog was.referents was.is_marked in
     let goes : GoesOn d old at = record {
       keeps = subst (λ (s : StoreState g.row.D.Denot). KeepsStore d old s) (sym c.self.view_is) c.mark.ensures.keeps;
+      changes = subst (λ (s : StoreState g.row.D.Denot). KeepsChanges old.pager s.pager) (sym c.self.view_is) c.mark.ensures.changes;
       failures = ap (λ (s : StoreState g.row.D.Denot). d.failures s.pager.disk) c.self.view_is ∙ c.in_ok-mark.ensures.count;
     } in
     let listed : was.catalog ≡ old.catalog = ap (λ (s : StoreState g.row.D.Denot). s.catalog) c.self.view_is ∙ c.mark.ensures.keeps.catalog in
@@ -126,3 +131,9 @@ returns-clause-drops g c = λ from state stands low high lawful.
     subst (λ (k : Definitions). HasBecome d c.args.oldest stands.contents (store_over d last file k was.referents was.is_marked) (without_index state name)) (sym c.drop_index.ensures)
     (c.in_ok-erase_index.ensures.rewrites.becomes old was.catalog fewer was.referents was.referents was.is_marked goes from state (without_index state name) stands low high
     (gives from c.args.oldest state stands low lawful) lawful.views)
+
+pub returns-in_err-mark-clause-leaves : goal.returns-in_err-mark-clause-leaves
+returns-in_err-mark-clause-leaves g c =
+    let p = err_from_is_err_and c.from_residual.result c.from_residual.ensures.1 in
+    rw (p.1, p.2) (left_unbegun g.D.Disk c.in_err-mark.field-0.0 c.args.self.now c.mark.new.self c.mark.ensures.keeps c.mark.ensures.changes
+    c.in_err-mark.ensures.refused c.in_err-mark.ensures.count)

@@ -17,6 +17,8 @@ use Rattle.rs_store.specs.Rewriting.{GoesOn, WhereKept}
 use Rattle.rs_store.proofs.Keeping.{store_over}
 use Rattle.rs_store.proofs.Redefined.{left_where}
 use Rattle.rs_store.proofs.RouteLess.{less_gives, less_kept, may}
+use Rattle.rs_pager.specs.Maps.{KeepsChanges}
+use Rattle.rs_store.proofs.Settled.{left_unbegun}
 use Rattle.rs_store.proofs.store.Store.drop_route.Goals as goal
 
 pub returns-in_err-drop_route_from_both-clause-leaves : goal.returns-in_err-drop_route_from_both-clause-leaves
@@ -29,6 +31,7 @@ returns-in_err-drop_route_from_both-clause-leaves g c =
     let at = store_over d was.pager was.file was.catalog was.referents was.is_marked in
     let goes : GoesOn d old at = record {
       keeps = subst (λ (s : StoreState g.row.D.Denot). KeepsStore d old s) (sym c.self.view_is) c.mark.ensures.keeps;
+      changes = subst (λ (s : StoreState g.row.D.Denot). KeepsChanges old.pager s.pager) (sym c.self.view_is) c.mark.ensures.changes;
       failures = ap (λ (s : StoreState g.row.D.Denot). d.failures s.pager.disk) c.self.view_is ∙ c.in_ok-mark.ensures.count;
     } in
     let one = c.unwrap.result in
@@ -54,6 +57,7 @@ returns-clause-leaves g c =
     let at = store_over d was.pager was.file was.catalog was.referents was.is_marked in
     let goes : GoesOn d old at = record {
       keeps = subst (λ (s : StoreState g.row.D.Denot). KeepsStore d old s) (sym c.self.view_is) c.mark.ensures.keeps;
+      changes = subst (λ (s : StoreState g.row.D.Denot). KeepsChanges old.pager s.pager) (sym c.self.view_is) c.mark.ensures.changes;
       failures = ap (λ (s : StoreState g.row.D.Denot). d.failures s.pager.disk) c.self.view_is ∙ c.in_ok-mark.ensures.count;
     } in
     let one = c.unwrap.result in
@@ -77,6 +81,7 @@ returns-clause-drops g c = λ from state stands low high past nothing lawful.
     let at = store_over d was.pager was.file was.catalog was.referents was.is_marked in
     let goes : GoesOn d old at = record {
       keeps = subst (λ (s : StoreState g.row.D.Denot). KeepsStore d old s) (sym c.self.view_is) c.mark.ensures.keeps;
+      changes = subst (λ (s : StoreState g.row.D.Denot). KeepsChanges old.pager s.pager) (sym c.self.view_is) c.mark.ensures.changes;
       failures = ap (λ (s : StoreState g.row.D.Denot). d.failures s.pager.disk) c.self.view_is ∙ c.in_ok-mark.ensures.count;
     } in
     let one = c.unwrap.result in
@@ -91,3 +96,9 @@ returns-clause-drops g c = λ from state stands low high past nothing lawful.
     (c.in_ok-drop_route_from_both.ensures.erases.rewrites.becomes old was.catalog next was.referents held was.is_marked goes from state (without_route state name) stands low high
     (λ part drops. less_gives d old at goes c.requires.room c.store_stands_in_one_state.ensures.state name one c.stand.ensures there unused c.route_dropped_gives_its_state.ensures held ended
     from c.args.oldest state stands past (nothing, lawful) part (subst (λ n. DropsRoute n (listing_of next) stands.contents part) c.number-number.ensures drops)) lawful.views)
+
+pub returns-in_err-mark-clause-leaves : goal.returns-in_err-mark-clause-leaves
+returns-in_err-mark-clause-leaves g c =
+    let p = err_from_is_err_and c.from_residual.result c.from_residual.ensures.1 in
+    rw (p.1, p.2) (left_unbegun g.D.Disk c.in_err-mark.field-0.0 c.args.self.now c.mark.new.self c.mark.ensures.keeps c.mark.ensures.changes
+    c.in_err-mark.ensures.refused c.in_err-mark.ensures.count)

@@ -6,13 +6,15 @@ use Rattle.rs_catalog.specs.Definitions.{Definitions, ViewItem}
 use Rattle.rs_machine.specs.Lawful.{IsLawful}
 use Rattle.rs_machine.specs.State.{State, has}
 use Rattle.rs_machine.specs.Step.{without_view}
-use Rattle.rs_pager.specs.Maps.{committed}
+use Rattle.rs_pager.specs.Maps.{KeepsChanges, committed}
 use Rattle.rs_store.specs.Calls.{KeepsStore}
 use Rattle.rs_store.specs.Kept.{StoreState}
 use Rattle.rs_store.specs.Rewriting.{GoesOn}
 use Rattle.rs_store.proofs.Keeping.{store_over}
 use Rattle.rs_store.proofs.Redefined.{Gives, become_redefined, left_redefined, next_lives, stands_still, stood_there}
 use Rattle.rs_store.proofs.store.Store.drop_view.Given.{Over}
+use Rattle.std.proofs.lemmas.Result.{err_from_is_err_and}
+use Rattle.rs_store.proofs.Settled.{left_unbegun}
 use Rattle.rs_store.proofs.store.Store.drop_view.Goals as goal
 
 module _ (g : Over) (c : goal.After-drop_view_from_both g) where
@@ -22,6 +24,7 @@ module _ (g : Over) (c : goal.After-drop_view_from_both g) where
   goes : GoesOn g.D.Disk c.args.self.now was
   goes = record {
     keeps = subst (λ (s : StoreState g.row.D.Denot). KeepsStore g.D.Disk c.args.self.now s) (sym c.self.view_is) c.mark.ensures.keeps;
+    changes = subst (λ (s : StoreState g.row.D.Denot). KeepsChanges c.args.self.now.pager s.pager) (sym c.self.view_is) c.mark.ensures.changes;
     failures = ap (λ (s : StoreState g.row.D.Denot). g.D.Disk.failures s.pager.disk) c.self.view_is ∙ c.in_ok-mark.ensures.count;
   }
 
@@ -52,3 +55,9 @@ pub returns-clause-drops : goal.returns-clause-drops
 returns-clause-drops g c = λ from state stands low high lawful.
     become_redefined g.D.Disk c.args.self.now (was g c) (goes g c) c.drop_view_from_both.new.pager c.drop_view_from_both.new.file c.drop_view_from_both.new.catalog (next g c) c.args.oldest
     c.drop_view_from_both.result c.drop_view_from_both.ensures.redefines (may g c) (after g c) (gives g c) from state stands low high lawful lawful.views
+
+pub returns-in_err-mark-clause-leaves : goal.returns-in_err-mark-clause-leaves
+returns-in_err-mark-clause-leaves g c =
+    let p = err_from_is_err_and c.from_residual.result c.from_residual.ensures.1 in
+    rw (p.1, p.2) (left_unbegun g.D.Disk c.in_err-mark.field-0.0 c.args.self.now c.mark.new.self c.mark.ensures.keeps c.mark.ensures.changes
+    c.in_err-mark.ensures.refused c.in_err-mark.ensures.count)

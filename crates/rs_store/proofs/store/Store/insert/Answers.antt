@@ -11,7 +11,7 @@ use Rattle.rs_facts.specs.declared.fact.Span.{Span}
 use Rattle.rs_machine.specs.State.{State}
 use Rattle.rs_machine.specs.Step.{with_facts_along, with_table}
 use Rattle.rs_machine.specs.declared.limits.TheConstants.{CHANGES}
-use Rattle.rs_pager.specs.Maps.{working}
+use Rattle.rs_pager.specs.Maps.{KeepsChanges, working}
 use Rattle.rs_refusal.specs.Counts.{counted_on}
 use Rattle.rs_refusal.specs.declared.refusal.Refusal.{Refusal}
 use Rattle.rs_state_laws.specs.Changing.{ChangesFile}
@@ -25,6 +25,7 @@ use Rattle.rs_store.proofs.Keeping.{store_over}
 use Rattle.rs_store.proofs.Results.{err_always}
 use Rattle.rs_store.proofs.Rows.{made_and_kept, row_put}
 use Rattle.rs_store.proofs.Settled.{begins, begun_keeps, left_settled, left_unbegun, rests_settled}
+use Rattle.rs_store.proofs.HeldChanges.{begins_with, changes-trans}
 use Rattle.rs_store.proofs.store.Store.insert.Goals as goal
 
 pub returns-in_err-begin-clause-leaves : goal.returns-in_err-begin-clause-leaves
@@ -34,12 +35,13 @@ returns-in_err-begin-clause-leaves g c =
     let was = c.self-2.inside in
     let first = c.begin.new.self in
     let kept = subst (λ (s : StoreState g.row.D.Denot). KeepsStore d old s) (sym c.self-2.view_is) c.mark.ensures.keeps in
+    let same = subst (λ (s : StoreState g.row.D.Denot). KeepsChanges old.pager s.pager) (sym c.self-2.view_is) c.mark.ensures.changes in
     let failed : d.failures was.pager.disk ≡ d.failures old.pager.disk =
     ap (λ (s : StoreState g.row.D.Denot). d.failures s.pager.disk) c.self-2.view_is ∙ c.in_ok-mark.ensures.count in
     let p = err_from_is_err_and c.from_residual-in_err-begin.result c.from_residual-in_err-begin.ensures.1 in
     rw (p.1, p.2) (left_unbegun d c.in_err-begin.field-0.0 old (store_over d first was.file was.catalog was.referents was.is_marked)
     (begun_keeps d old was.pager first was.file was.catalog was.referents was.is_marked kept c.begin.ensures.keeps c.begin.ensures.masked)
-    c.in_err-begin.ensures.refusal (c.in_err-begin.ensures.count ∙ ap counted_on failed))
+    (changes-trans old.pager was.pager first same c.in_err-begin.ensures.refused.0) c.in_err-begin.ensures.refusal (c.in_err-begin.ensures.count ∙ ap counted_on failed))
 
 pub invariant_of-self-2 : goal.invariant_of-self-2
 invariant_of-self-2 g c =
@@ -60,9 +62,11 @@ returns-clause-leaves g c =
     let last = c.settle.new.pager in
     let result = c.insert-made.result in
     let kept = subst (λ (s : StoreState g.row.D.Denot). KeepsStore d old s) (sym c.self-2.view_is) c.mark.ensures.keeps in
+    let same = subst (λ (s : StoreState g.row.D.Denot). KeepsChanges old.pager s.pager) (sym c.self-2.view_is) c.mark.ensures.changes in
     let failed : d.failures was.pager.disk ≡ d.failures old.pager.disk =
     ap (λ (s : StoreState g.row.D.Denot). d.failures s.pager.disk) c.self-2.view_is ∙ c.in_ok-mark.ensures.count in
-    let begun = begins d old was.pager first was.file was.catalog was.referents was.is_marked kept c.begin.ensures.keeps c.begin.ensures.masked failed c.in_ok-begin.ensures.count in
+    let begun = begins d old was.pager first was.file was.catalog was.referents was.is_marked kept c.begin.ensures.keeps c.begin.ensures.masked failed c.in_ok-begin.ensures.count same
+    (begins_with d was.pager first c.in_ok-begin.ensures.few c.in_ok-begin.ensures.many c.begin.ensures.copies c.begin.ensures.same c.begin.ensures.keeps) in
     subst (λ (r : Result ℕ Refusal). LeavesStore d Always r old (store_over d last c.settle.new.file was.catalog was.referents was.is_marked)) (sym c.settle.ensures.same)
     (left_settled d old first c.insert-made.new.pages last was.file c.insert-made.new.file c.settle.new.file was.catalog was.referents was.is_marked begun c.insert-made.ensures.leaves.keeps
     result was.file.definitions was.catalog was.referents c.insert-made.ensures.leaves.stores c.insert-made.ensures.next c.insert-made.ensures.keeps c.self-2.invariant.rests.committed
@@ -83,9 +87,11 @@ returns-clause-inserts g c = λ from state stands low high there is lawful.
     let lies = c.requires.lies in
     let one = c.insertion_of-insertion.result in
     let kept = subst (λ (s : StoreState g.row.D.Denot). KeepsStore d old s) (sym c.self-2.view_is) c.mark.ensures.keeps in
+    let same = subst (λ (s : StoreState g.row.D.Denot). KeepsChanges old.pager s.pager) (sym c.self-2.view_is) c.mark.ensures.changes in
     let failed : d.failures was.pager.disk ≡ d.failures old.pager.disk =
     ap (λ (s : StoreState g.row.D.Denot). d.failures s.pager.disk) c.self-2.view_is ∙ c.in_ok-mark.ensures.count in
-    let begun = begins d old was.pager first was.file was.catalog was.referents was.is_marked kept c.begin.ensures.keeps c.begin.ensures.masked failed c.in_ok-begin.ensures.count in
+    let begun = begins d old was.pager first was.file was.catalog was.referents was.is_marked kept c.begin.ensures.keeps c.begin.ensures.masked failed c.in_ok-begin.ensures.count same
+    (begins_with d was.pager first c.in_ok-begin.ensures.few c.in_ok-begin.ensures.many c.begin.ensures.copies c.begin.ensures.same c.begin.ensures.keeps) in
     let listed : c.self.inside.catalog ≡ old.catalog = ap (λ (s : StoreState g.row.D.Denot). s.catalog) c.self.view_is in
     let still : c.self.inside.file ≡ was.file = ap (λ (s : StoreState g.row.D.Denot). s.file) c.self.view_is ∙ sym kept.file in
     let table_there : names.get c.self.inside.catalog.tables name ≡ Some lies.table = ap (λ (k : Definitions). names.get k.tables name) listed ∙ lies.table_there in
@@ -110,3 +116,9 @@ returns-clause-inserts g c = λ from state stands low high there is lawful.
     (subst (λ (k : Kind). ChangesFile c.args.oldest (working d first) (working d between) was.file changed (InsertsRow one.table k one.route (seen one.span) count))
     (c.insertion_of-insertion.ensures.kind lies.table table_there) changes)))
     keeps))
+
+pub returns-in_err-mark-clause-leaves : goal.returns-in_err-mark-clause-leaves
+returns-in_err-mark-clause-leaves g c =
+    let p = err_from_is_err_and c.from_residual.result c.from_residual.ensures.1 in
+    rw (p.1, p.2) (left_unbegun g.D.Disk c.in_err-mark.field-0.0 c.args.self.now c.mark.new.self c.mark.ensures.keeps c.mark.ensures.changes
+    c.in_err-mark.ensures.refused c.in_err-mark.ensures.count)

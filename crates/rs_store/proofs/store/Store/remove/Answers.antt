@@ -8,7 +8,7 @@ use Rattle.rs_spans.specs.Removal.{goes_by}
 use Rattle.rs_facts.specs.Remove.{removed_facts}
 use Rattle.rs_machine.specs.Step.{with_table, without_facts}
 use Rattle.rs_machine.specs.declared.limits.TheConstants.{CHANGES}
-use Rattle.rs_pager.specs.Maps.{working}
+use Rattle.rs_pager.specs.Maps.{KeepsChanges, working}
 use Rattle.rs_refusal.specs.Counts.{counted_on}
 use Rattle.rs_refusal.specs.declared.refusal.Refusal.{Refusal}
 use Rattle.rs_state_laws.specs.Changing.{ChangesFile}
@@ -22,6 +22,7 @@ use Rattle.rs_store.proofs.Placed.{has_one}
 use Rattle.rs_store.proofs.Results.{err_always}
 use Rattle.rs_store.proofs.Rows.{made_and_kept, rows_taken}
 use Rattle.rs_store.proofs.Settled.{begins, begun_keeps, left_settled, left_unbegun, rests_settled}
+use Rattle.rs_store.proofs.HeldChanges.{begins_with, changes-trans}
 use Rattle.rs_store.proofs.store.Store.remove.Goals as goal
 
 pub returns-in_err-begin-clause-leaves : goal.returns-in_err-begin-clause-leaves
@@ -31,12 +32,13 @@ returns-in_err-begin-clause-leaves g c =
     let was = c.self-2.inside in
     let first = c.begin.new.self in
     let kept = subst (λ (s : StoreState g.row.D.Denot). KeepsStore d old s) (sym c.self-2.view_is) c.mark.ensures.keeps in
+    let same = subst (λ (s : StoreState g.row.D.Denot). KeepsChanges old.pager s.pager) (sym c.self-2.view_is) c.mark.ensures.changes in
     let failed : d.failures was.pager.disk ≡ d.failures old.pager.disk =
     ap (λ (s : StoreState g.row.D.Denot). d.failures s.pager.disk) c.self-2.view_is ∙ c.in_ok-mark.ensures.count in
     let p = err_from_is_err_and c.from_residual-in_err-begin.result c.from_residual-in_err-begin.ensures.1 in
     rw (p.1, p.2) (left_unbegun d c.in_err-begin.field-0.0 old (store_over d first was.file was.catalog was.referents was.is_marked)
     (begun_keeps d old was.pager first was.file was.catalog was.referents was.is_marked kept c.begin.ensures.keeps c.begin.ensures.masked)
-    c.in_err-begin.ensures.refusal (c.in_err-begin.ensures.count ∙ ap counted_on failed))
+    (changes-trans old.pager was.pager first same c.in_err-begin.ensures.refused.0) c.in_err-begin.ensures.refusal (c.in_err-begin.ensures.count ∙ ap counted_on failed))
 
 pub invariant_of-self-2 : goal.invariant_of-self-2
 invariant_of-self-2 g c =
@@ -57,9 +59,11 @@ returns-clause-leaves g c =
     let last = c.settle.new.pager in
     let result = c.remove-made.result in
     let kept = subst (λ (s : StoreState g.row.D.Denot). KeepsStore d old s) (sym c.self-2.view_is) c.mark.ensures.keeps in
+    let same = subst (λ (s : StoreState g.row.D.Denot). KeepsChanges old.pager s.pager) (sym c.self-2.view_is) c.mark.ensures.changes in
     let failed : d.failures was.pager.disk ≡ d.failures old.pager.disk =
     ap (λ (s : StoreState g.row.D.Denot). d.failures s.pager.disk) c.self-2.view_is ∙ c.in_ok-mark.ensures.count in
-    let begun = begins d old was.pager first was.file was.catalog was.referents was.is_marked kept c.begin.ensures.keeps c.begin.ensures.masked failed c.in_ok-begin.ensures.count in
+    let begun = begins d old was.pager first was.file was.catalog was.referents was.is_marked kept c.begin.ensures.keeps c.begin.ensures.masked failed c.in_ok-begin.ensures.count same
+    (begins_with d was.pager first c.in_ok-begin.ensures.few c.in_ok-begin.ensures.many c.begin.ensures.copies c.begin.ensures.same c.begin.ensures.keeps) in
     subst (λ (r : Result ℕ Refusal). LeavesStore d Always r old (store_over d last c.settle.new.file was.catalog was.referents was.is_marked)) (sym c.settle.ensures.same)
     (left_settled d old first c.remove-made.new.pages last was.file c.remove-made.new.file c.settle.new.file was.catalog was.referents was.is_marked begun c.remove-made.ensures.leaves.keeps
     result was.file.definitions was.catalog was.referents c.remove-made.ensures.leaves.stores c.remove-made.ensures.next c.remove-made.ensures.keeps c.self-2.invariant.rests.committed
@@ -79,9 +83,11 @@ returns-clause-removes g c = λ from state stands low high there is lawful.
     let route = c.args.route.now.bytes in
     let place = c.table_place.result in
     let kept = subst (λ (s : StoreState g.row.D.Denot). KeepsStore d old s) (sym c.self-2.view_is) c.mark.ensures.keeps in
+    let same = subst (λ (s : StoreState g.row.D.Denot). KeepsChanges old.pager s.pager) (sym c.self-2.view_is) c.mark.ensures.changes in
     let failed : d.failures was.pager.disk ≡ d.failures old.pager.disk =
     ap (λ (s : StoreState g.row.D.Denot). d.failures s.pager.disk) c.self-2.view_is ∙ c.in_ok-mark.ensures.count in
-    let begun = begins d old was.pager first was.file was.catalog was.referents was.is_marked kept c.begin.ensures.keeps c.begin.ensures.masked failed c.in_ok-begin.ensures.count in
+    let begun = begins d old was.pager first was.file was.catalog was.referents was.is_marked kept c.begin.ensures.keeps c.begin.ensures.masked failed c.in_ok-begin.ensures.count same
+    (begins_with d was.pager first c.in_ok-begin.ensures.few c.in_ok-begin.ensures.many c.begin.ensures.copies c.begin.ensures.same c.begin.ensures.keeps) in
     let listed : c.self.inside.catalog ≡ old.catalog = ap (λ (s : StoreState g.row.D.Denot). s.catalog) c.self.view_is in
     let still : c.self.inside.file ≡ was.file = ap (λ (s : StoreState g.row.D.Denot). s.file) c.self.view_is ∙ sym kept.file in
     let table = has_one old.catalog.tables name c.requires.table in
@@ -103,3 +109,9 @@ returns-clause-removes g c = λ from state stands low high there is lawful.
     at.numbered there is lawful count
     (subst (λ (n : ℕ). ChangesFile c.args.oldest (working d first) (working d between) was.file changed (RemovesRows place n c.args.lo c.args.hi c.args.goes count)) c.number.ensures changes)
     keeps))
+
+pub returns-in_err-mark-clause-leaves : goal.returns-in_err-mark-clause-leaves
+returns-in_err-mark-clause-leaves g c =
+    let p = err_from_is_err_and c.from_residual.result c.from_residual.ensures.1 in
+    rw (p.1, p.2) (left_unbegun g.D.Disk c.in_err-mark.field-0.0 c.args.self.now c.mark.new.self c.mark.ensures.keeps c.mark.ensures.changes
+    c.in_err-mark.ensures.refused c.in_err-mark.ensures.count)

@@ -1,0 +1,112 @@
+-- The changes that a pager holds, as others are begun and taken back, and what is open as it is.
+use Rattle.std.proofs.Common.{◌≡◌, ◌≤◌, ◌<◌, ◌∙◌, ◌⊎◌, ◌∷◌, ℕ, List, Option, None, [], true, ap, inl, inr, length, refl, subst, sym}
+use Rattle.std.proofs.lemmas.Bool.{cases_lt}
+use Rattle.rs_contents.specs.declared.opened.OpenedFile.{OpenedFile}
+use Rattle.rs_contents.specs.declared.opened.OpenedTable.{OpenedTable}
+use Rattle.rs_disk.specs.declared.disk.Disk as disk
+use Rattle.rs_file_changes.specs.Parts.{IsAsItWas, SameOpened}
+use Rattle.rs_pager.specs.Maps.{HoldsNoChange, KeepsBelow, KeepsChanges, KeepsMaps, committed, working}
+use Rattle.rs_pager.specs.Opened.{Abandons}
+use Rattle.rs_pager.specs.Paged.{Paged, held}
+use Rattle.rs_pager.specs.declared.pager.TheConstants.{MOST_CHANGED}
+use Rattle.rs_pages.specs.Held.{HeldPage}
+use Rattle.rs_pages.specs.PageMap.{SamePages}
+use Rattle.rs_store.specs.Changing.{HasWritten, StillHolds}
+use Rattle.rs_store.specs.Settling.{BeginsWith}
+use Rattle.std.specs.List.{AllZip}
+
+-- ---- what is open
+
+same_tables : (tables : List OpenedTable) → AllZip SameOpened tables tables
+same_tables [] = tt
+same_tables (table ∷ tables) = (record { records = refl; indexes = refl }, same_tables tables)
+
+as_it_is : (file : OpenedFile) → IsAsItWas file file
+as_it_is file = record { definitions = refl; pages = refl; accepted = refl; tables = same_tables file.tables.items; referents = refl }
+
+-- what is open is the same, and so it is as it was
+pub still_as_it_was : (was is : OpenedFile) → is ≡ was → IsAsItWas was is
+still_as_it_was was is same = subst (λ (file : OpenedFile). IsAsItWas was file) (sym same) (as_it_is was)
+
+-- ---- held changes
+
+pub changes-refl : {D : Type 0} (p : Paged D) → KeepsChanges p p
+changes-refl p = record { held = λ number. refl; lacks = refl; committed_fields = refl; working_fields = refl }
+
+pub changes-trans : {D : Type 0} (a b c : Paged D) → KeepsChanges a b → KeepsChanges b c → KeepsChanges a c
+changes-trans a b c one other = record {
+  held = λ number. other.held number ∙ one.held number;
+  lacks = other.lacks ∙ one.lacks;
+  committed_fields = other.committed_fields ∙ one.committed_fields;
+  working_fields = other.working_fields ∙ one.working_fields;
+}
+
+-- a copy that came after changes were begun is gone
+abandoned_again : (was between is : HeldPage) → between.committed ≡ was.committed → was.copy ≡ None → is ≡ record between { copy = None } → is ≡ was
+abandoned_again was between is committed copy abandoned =
+    abandoned ∙ ap (λ (page : Option (List ℕ)). record was { committed = page; copy = None }) committed ∙ ap (λ (page : Option (List ℕ)). record was { copy = page }) (sym copy)
+
+module _ {D : Type 0} (d : disk.Ghosts D) where
+  pub still_by_changes : (old new : Paged D) → KeepsChanges old new → StillHolds d old new
+  still_by_changes old new keeps = record { committed_fields = keeps.committed_fields; working_fields = keeps.working_fields; changes = inl keeps }
+
+  none_later : (old new : Paged D) → KeepsChanges old new → HoldsNoChange old → HoldsNoChange new
+  none_later old new keeps none = record { none = λ number. keeps.held number ∙ none.none number; lacks = keeps.lacks ∙ none.lacks }
+
+  -- what was held still is, or was written, where the same is held from then on and the disk is as synced as it was
+  pub still_later : (a b c : Paged D) → StillHolds d a b → KeepsChanges b c → d.is_synced c.disk ≡ d.is_synced b.disk → StillHolds d a c
+  still_later a b c holds keeps synced = record {
+    committed_fields = keeps.committed_fields ∙ holds.committed_fields;
+    working_fields = keeps.working_fields ∙ holds.working_fields;
+    changes = elim holds.changes [
+      | inl same ↦ inl (changes-trans a b c same keeps)
+      | inr written ↦ inr (record { none = none_later b c keeps written.none; synced = synced ∙ written.synced })
+    ];
+  }
+
+  still_after : (a b c : Paged D) → KeepsChanges a b → StillHolds d b c → StillHolds d a c
+  still_after a b c keeps holds = record {
+    committed_fields = holds.committed_fields ∙ keeps.committed_fields;
+    working_fields = holds.working_fields ∙ keeps.working_fields;
+    changes = elim holds.changes [
+      | inl same ↦ inl (changes-trans a b c keeps same)
+      | inr written ↦ inr written
+    ];
+  }
+
+  -- ---- changes that were begun
+
+  -- where few pages were held, they are held still; else all were written
+  pub begins_with : {X : Type 0} (was now : Paged D) → (length was.changes ≤ MOST_CHANGED → X × (now ≡ record was { is_begun = true }))
+      → (MOST_CHANGED < length was.changes → HoldsNoChange now × (now.changes ≡ []) × (d.is_synced now.disk ≡ true))
+      → ((number : ℕ) → (held now number).copy ≡ None) → SamePages (working d now) (committed d now) → KeepsMaps d was now → BeginsWith d was now
+  begins_with was now few many copies same maps = record {
+    holds = record {
+      committed_fields = maps.committed_fields;
+      working_fields = maps.working_fields;
+      changes = elim (cases_lt MOST_CHANGED (length was.changes)) [
+        | inl above ↦ let written = many above in inr (record { none = written.0; synced = written.2 })
+        | inr within ↦ inl (subst (λ (p : Paged D). KeepsChanges was p) (sym (few within).1)
+            (record { held = λ number. refl; lacks = refl; committed_fields = refl; working_fields = refl }))
+      ];
+    };
+    copies = copies;
+    fields = same.fields;
+  }
+
+  pub begins_after : (a b c : Paged D) → KeepsChanges a b → BeginsWith d b c → BeginsWith d a c
+  begins_after a b c keeps begins = record { holds = still_after a b c keeps begins.holds; copies = begins.copies; fields = begins.fields }
+
+  -- changes that were begun and taken back leave what was held
+  taken_back : (first between last : Paged D) → BeginsWith d first first → KeepsBelow d first between → Abandons between last → KeepsChanges first last
+  taken_back first between last begins below back = record {
+    held = λ number. abandoned_again (held first number) (held between number) (held last number) (below.changed number) (begins.copies number) (back.held number);
+    lacks = back.lacks ∙ below.lacks;
+    committed_fields = back.committed_fields ∙ below.committed_fields;
+    working_fields = back.working ∙ below.committed_fields ∙ sym begins.fields;
+  }
+
+  pub still_taken_back : (old first between last : Paged D) → BeginsWith d old first → KeepsBelow d first between → Abandons between last → StillHolds d old last
+  still_taken_back old first between last begins below back =
+      let again : BeginsWith d first first = record { holds = still_by_changes first first (changes-refl first); copies = begins.copies; fields = begins.fields } in
+      still_later old first last begins.holds (taken_back first between last again below back) (ap d.is_synced back.disk ∙ below.synced)

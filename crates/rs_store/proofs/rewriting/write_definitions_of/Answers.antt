@@ -1,0 +1,14 @@
+-- Where no memory is left for the list of the definitions, nothing was begun.
+use Rattle.std.proofs.Common.{inl, refl}
+use Rattle.std.proofs.lemmas.Result.{err_from_is_err_and}
+use Rattle.rs_definitions.specs.Listing.{listing_of}
+use Rattle.rs_file_changes.specs.Calls.{ChangesDefinitions}
+use Rattle.rs_refusal.specs.declared.refusal.Refusal.TheVariants as refusal
+use Rattle.rs_store.proofs.Rewritten.{rewrites_unmade}
+use Rattle.rs_store.proofs.rewriting.write_definitions_of.Goals as goal
+
+pub returns-in_err-definitions-clause-rewrites : goal.returns-in_err-definitions-clause-rewrites
+returns-in_err-definitions-clause-rewrites g c =
+    let items = listing_of c.args.catalog.now in
+    let p = err_from_is_err_and c.from_residual.result c.from_residual.ensures.1 in
+    rw (p.1, p.2) (rewrites_unmade g.D.Disk c.args.oldest (ChangesDefinitions items) items refusal.OutOfMemory c.args.pager.now c.args.file.now (inl refl))
