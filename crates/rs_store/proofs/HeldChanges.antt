@@ -1,19 +1,22 @@
 -- The changes that a pager holds, as others are begun and taken back, and what is open as it is.
-use Rattle.std.proofs.Common.{◌≡◌, ◌≤◌, ◌<◌, ◌∙◌, ◌⊎◌, ◌∷◌, ℕ, List, Option, None, [], true, ap, inl, inr, length, refl, subst, sym}
+use Rattle.std.proofs.Common.{◌≡◌, ◌≤◌, ◌<◌, ◌∙◌, ◌⊎◌, ◌∷◌, ℕ, List, Option, None, Result, Ok, Err, [], true, ap, inl, inr, length, refl, subst, sym}
 use Rattle.std.proofs.lemmas.Bool.{cases_lt}
 use Rattle.rs_contents.specs.declared.opened.OpenedFile.{OpenedFile}
 use Rattle.rs_contents.specs.declared.opened.OpenedTable.{OpenedTable}
 use Rattle.rs_disk.specs.declared.disk.Disk as disk
 use Rattle.rs_file_changes.specs.Parts.{IsAsItWas, SameOpened}
-use Rattle.rs_pager.specs.Maps.{HoldsNoChange, KeepsBelow, KeepsChanges, KeepsMaps, committed, working}
+use Rattle.rs_pager.specs.Maps.{HoldsNoChange, IsTied, KeepsBelow, KeepsChanges, KeepsMaps, committed, pager_store, working}
 use Rattle.rs_pager.specs.Opened.{Abandons}
 use Rattle.rs_pager.specs.Paged.{Paged, held}
 use Rattle.rs_pager.specs.declared.pager.TheConstants.{MOST_CHANGED}
 use Rattle.rs_pages.specs.Held.{HeldPage}
+use Rattle.rs_pages.specs.Lending.{RestsAfter}
 use Rattle.rs_pages.specs.PageMap.{SamePages}
+use Rattle.rs_refusal.specs.declared.refusal.Refusal.{Refusal}
 use Rattle.rs_store.specs.Changing.{HasWritten, StillHolds}
 use Rattle.rs_store.specs.Settling.{BeginsWith}
 use Rattle.std.specs.List.{AllZip}
+use Rattle.std.specs.Prelude.{OnErr, OnOk}
 
 -- ---- what is open
 
@@ -64,7 +67,7 @@ module _ {D : Type 0} (d : disk.Ghosts D) where
     ];
   }
 
-  still_after : (a b c : Paged D) → KeepsChanges a b → StillHolds d b c → StillHolds d a c
+  pub still_after : (a b c : Paged D) → KeepsChanges a b → StillHolds d b c → StillHolds d a c
   still_after a b c keeps holds = record {
     committed_fields = holds.committed_fields ∙ keeps.committed_fields;
     working_fields = holds.working_fields ∙ keeps.working_fields;
@@ -110,3 +113,29 @@ module _ {D : Type 0} (d : disk.Ghosts D) where
   still_taken_back old first between last begins below back =
       let again : BeginsWith d first first = record { holds = still_by_changes first first (changes-refl first); copies = begins.copies; fields = begins.fields } in
       still_later old first last begins.holds (taken_back first between last again below back) (ap d.is_synced back.disk ∙ below.synced)
+
+  -- ---- changes that were written, and pages that were read
+
+  -- what is flushed is written, or held still
+  pub still_flushed : (was now : Paged D) (r : Result (Unit {0}) Refusal) → KeepsMaps d was now → OnErr r (KeepsChanges was now) → OnOk r (HoldsNoChange now)
+      → OnOk r (d.is_synced now.disk ≡ true) → StillHolds d was now
+  still_flushed was now (Ok answer) maps held none synced = record {
+    committed_fields = maps.committed_fields;
+    working_fields = maps.working_fields;
+    changes = inr (record { none = none; synced = synced });
+  }
+  still_flushed was now (Err why) maps held none synced = still_by_changes was now held
+
+  -- a read holds the same changes
+  pub changes_by_reading : {T : Type 0} (r : Result T Refusal) (was now : Paged D) → RestsAfter (IsTied d) (pager_store d) (KeepsBelow d) r was now → KeepsChanges was now
+  changes_by_reading r was now rests = record {
+    held = rests.rests.keeps.held;
+    lacks = rests.below.lacks;
+    committed_fields = rests.below.committed_fields;
+    working_fields = rests.rests.keeps.fields;
+  }
+
+  -- and so does a pager whose clean pages were dropped
+  pub changes_by_forgetting : (was now : Paged D) → now ≡ record was { clean = [] } → KeepsChanges was now
+  changes_by_forgetting was now forgets =
+      subst (λ (p : Paged D). KeepsChanges was p) (sym forgets) (record { held = λ number. refl; lacks = refl; committed_fields = refl; working_fields = refl })

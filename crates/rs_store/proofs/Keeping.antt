@@ -1,4 +1,5 @@
 -- What a store keeps while its pager is called, and once it was read anew.
+use Rattle.std.specs.Prelude.{OnErr}
 use Rattle.std.proofs.Common.{◌≡◌, ◌≤◌, ◌∙◌, ℕ, Bool, IsTrue, Result, Ok, Err, true, subst, sym, refl, arith}
 use Rattle.rs_catalog.specs.Definitions.{Definitions, Numbered}
 use Rattle.rs_catalog.specs.Referents.{HeldReferents}
@@ -9,7 +10,7 @@ use Rattle.rs_disk.specs.Content.{Content}
 use Rattle.rs_disk.specs.declared.disk.Disk as disk
 use Rattle.rs_machine.specs.State.{State}
 use Rattle.rs_page.specs.declared.file_header.TheConstants.{FLAG_OFFSET}
-use Rattle.rs_pager.specs.Maps.{IsTied, KeepsBelow, KeepsMaps, committed, pager_store, working}
+use Rattle.rs_pager.specs.Maps.{IsTied, KeepsBelow, KeepsChanges, KeepsMaps, committed, pager_store, working}
 use Rattle.rs_pager.specs.Opened.{SetsFlag}
 use Rattle.rs_pager.specs.Paged.{Paged}
 use Rattle.rs_pager.specs.Stored.{Stores}
@@ -21,9 +22,11 @@ use Rattle.rs_refusal.specs.declared.refusal.Refusal.TheVariants as refusal
 use Rattle.rs_standing.specs.Meant.{IsMeant}
 use Rattle.rs_standing.specs.Standing.{IsFileOf, StandsFor}
 use Rattle.rs_store.specs.Calls.{KeepsSame, KeepsStore, LeavesAllButFlag, Reopens, Saves}
+use Rattle.rs_store.specs.Changing.{StillHolds}
 use Rattle.rs_store.specs.Kept.{Keeps, StandsIn, StoreState}
 use Rattle.rs_store.specs.Loading.{LoadsState, StandsForNone}
-use Rattle.rs_store.proofs.Results.{ok_always}
+use Rattle.rs_store.proofs.HeldChanges.{still_later}
+use Rattle.rs_store.proofs.Results.{err_with, ok_always}
 use Rattle.rs_store.proofs.Beside.{same_but_flag-is, same_but_flag-set, same_but_flag-trans}
 use Rattle.rs_store.proofs.Same.{FileHoldsOne, SameMeant, SameSays, SameState, fewer_meant, meant_moves, same_accepted, state_moves}
 
@@ -241,11 +244,15 @@ module _ {D : Type 0} (d : disk.Ghosts D) where
   -- ---- answers
 
   pub reopens_err : (why : Refusal) (old new : StoreState D) → KeepsStore d old new → ((oldest : ℕ) (state : State) → StandsIn d oldest old state → why ≡ refusal.DamagedFile → ⊥)
-      → Reopens d (Err why) old new
-  reopens_err why old new keeps sound = record {
+      → StillHolds d old.pager new.pager → Reopens d (Err why) old new
+  reopens_err why old new keeps sound holds = record {
     same = λ contents kept. tt;
     state = λ oldest state stands. tt;
     stays = keeps.contents;
+    file = keeps.file;
+    catalog = keeps.catalog;
+    referents = keeps.referents;
+    changes = holds;
     sound = λ oldest state stands is. sound oldest state stands cc;
     honesty = keeps.honesty;
     limit = keeps.limit;
@@ -253,11 +260,16 @@ module _ {D : Type 0} (d : disk.Ghosts D) where
   }
 
   -- what was kept before is what is read anew
-  pub reopens_after : (r : Result (Unit {0}) Refusal) (a b c : StoreState D) → KeepsStore d a b → Reopens d r b c → Reopens d r a c
-  reopens_after r a b c one other = record {
+  pub reopens_after : (r : Result (Unit {0}) Refusal) (a b c : StoreState D) → KeepsStore d a b → Reopens d r b c → StillHolds d a.pager b.pager
+      → OnErr r (KeepsChanges b.pager c.pager) → d.is_synced c.pager.disk ≡ d.is_synced b.pager.disk → Reopens d r a c
+  reopens_after r a b c one other holds reads synced = record {
     same = λ contents kept. other.same contents (one.contents contents kept);
     state = λ oldest state stands. other.state oldest state (stands_kept oldest a b state one stands);
     stays = λ contents kept. other.stays contents (one.contents contents kept);
+    file = err_with r (λ (same : c.file ≡ b.file). same ∙ one.file) other.file;
+    catalog = err_with r (λ (same : c.catalog ≡ b.catalog). same ∙ one.catalog) other.catalog;
+    referents = err_with r (λ (same : c.referents ≡ b.referents). same ∙ one.referents) other.referents;
+    changes = err_with r (λ (same : KeepsChanges b.pager c.pager). still_later d a.pager b.pager c.pager holds same synced) reads;
     sound = λ oldest state stands. other.sound oldest state (stands_kept oldest a b state one stands);
     honesty = other.honesty ∙ one.honesty;
     limit = other.limit ∙ one.limit;

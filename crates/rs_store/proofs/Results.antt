@@ -9,3 +9,7 @@ ok_always (Err e) p = tt
 pub err_always : {T E P : Type 0} (r : Result T E) → P → OnErr r P
 err_always (Ok x) p = tt
 err_always (Err e) p = p
+
+pub err_with : {T E P Q : Type 0} (r : Result T E) → (P → Q) → OnErr r P → OnErr r Q
+err_with (Ok x) gives p = tt
+err_with (Err e) gives p = gives p

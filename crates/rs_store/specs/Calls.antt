@@ -13,6 +13,7 @@ use Rattle.rs_pages.specs.PageMap.{SamePages}
 use Rattle.rs_refusal.specs.declared.refusal.Refusal.{Refusal}
 use Rattle.rs_refusal.specs.declared.refusal.Refusal.TheVariants as refusal
 use Rattle.rs_standing.specs.Standing.{IsFileOf, Stands}
+use Rattle.rs_store.specs.Changing.{StillHolds}
 use Rattle.rs_store.specs.Kept.{Keeps, StandsIn, StoreState}
 
 -- ---- disks
@@ -111,12 +112,17 @@ module _ {D : Type 0} (d : disk.Ghosts D) where
     pub keeps : Keeps d store now
     pub same : SameContents contents now
 
-  -- What is read anew is what the store kept, and it stands in the same state. After a refusal it keeps what it kept. A store that
-  -- stands in a state isn't found damaged.
+  -- What is read anew is what the store kept, and it stands in the same state. After a refusal it keeps what it kept, and whatever the
+  -- disk is, the same is open and in memory, and the held changes are as they were or written. A store that stands in a state isn't found
+  -- damaged.
   pub record Reopens (result : Result (Unit {0}) Refusal) (old new : StoreState D) : Type 0 where
     pub same : (contents : Contents) → Keeps d old contents → OnOk result (KeepsSame contents new)
     pub state : (oldest : ℕ) (state : State) → StandsIn d oldest old state → OnOk result (StandsIn d oldest new state)
     pub stays : (contents : Contents) → Keeps d old contents → OnErr result (Keeps d new contents)
+    pub file : OnErr result (new.file ≡ old.file)
+    pub catalog : OnErr result (new.catalog ≡ old.catalog)
+    pub referents : OnErr result (new.referents ≡ old.referents)
+    pub changes : OnErr result (StillHolds d old.pager new.pager)
     pub sound : (oldest : ℕ) (state : State) → StandsIn d oldest old state → result ≢ Err refusal.DamagedFile
     pub honesty : d.is_honest new.pager.disk ≡ d.is_honest old.pager.disk
     pub limit : new.pager.limit ≡ old.pager.limit

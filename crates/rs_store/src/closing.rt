@@ -1,12 +1,14 @@
 //! This module writes what a store keeps to its disk: it is saved, read anew, and closed.
 
-ghost use Rattle.std.specs.Prelude.{◌≡◌, ℕ, true, false, IsOkUnless, IsTrue, MatchResult, OnOk};
+ghost use Rattle.std.specs.Prelude.{◌≡◌, ℕ, true, false, IsOkUnless, IsTrue, MatchResult, OnErr, OnOk};
 ghost use Rattle.rs_contents.specs.Calls.{RefusesToLoad};
 ghost use Rattle.rs_disk.specs.Counts.{Counts};
 ghost use Rattle.rs_machine.specs.State.{State};
+ghost use Rattle.rs_pager.specs.Maps.{KeepsChanges};
 ghost use Rattle.rs_pager.specs.Opened.{CountsFault};
 ghost use Rattle.rs_standing.specs.Standing.{Stands};
 ghost use Rattle.rs_store.specs.Calls.{Closes, CountsClosing, KeepsStore, Reopens, Saves};
+ghost use Rattle.rs_store.specs.Changing.{StillHolds};
 ghost use Rattle.rs_store.specs.Kept.{StandsIn};
 
 use crate::loading::{Loaded, load_state};
@@ -21,9 +23,10 @@ use std::alloc::Global;
 
 impl<D: Disk> Store<D> {
     /// Writes all that the disk lacks, and waits until it is on the medium; the disk is marked as open first where it isn't. The store
-    /// keeps what it kept, whatever is answered. It is refused with 91 alone.
+    /// keeps what it kept, whatever is answered, and after a refusal it holds the same changes. It is refused with 91 alone.
     pub fn save(&mut self) -> Result<(), Refusal>
         ensures keeps { KeepsStore D.Disk self.old self.new }
+        ensures changes { StillHolds D.Disk self.old.pager self.new.pager }
         ensures saves { Saves D.Disk result self.old self.new }
         ensures refused { IsOkUnless result Refusal.Disk }
         ensures count { Counts result (D.failures self.old.pager.disk) (D.failures self.new.pager.disk) }
@@ -63,6 +66,7 @@ impl<D: Disk> Store<D> {
     /// 94; after a refusal the store keeps what it kept.
     fn read_anew(&mut self, alloc: Global) -> Result<(), Refusal>
         ensures reopens { Reopens D.Disk result self.old self.new }
+        ensures changes { OnErr result (KeepsChanges self.old.pager self.new.pager) }
         ensures marked { self.new.is_marked ≡ self.old.is_marked }
         ensures synced { D.is_synced self.new.pager.disk ≡ D.is_synced self.old.pager.disk }
         ensures seen { IsTrue (D.is_honest self.old.pager.disk) → D.seen self.new.pager.disk ≡ D.seen self.old.pager.disk }

@@ -5,10 +5,12 @@ use Rattle.rs_contents.specs.Contents.{Contents}
 use Rattle.rs_disk.specs.Content.{Content}
 use Rattle.rs_machine.specs.State.{State}
 use Rattle.rs_page.specs.declared.file_header.TheConstants.{FLAG_OFFSET}
+use Rattle.rs_pager.specs.Maps.{KeepsChanges}
 use Rattle.rs_pager.specs.Paged.{Paged}
 use Rattle.rs_refusal.specs.declared.refusal.Refusal.TheVariants as refusal
 use Rattle.rs_store.specs.Calls.{KeepsSame, KeepsStore, Reopens}
 use Rattle.rs_store.specs.Kept.{Keeps, StandsIn, StoreState}
+use Rattle.rs_store.proofs.HeldChanges.{changes-trans, changes_by_forgetting, changes_by_reading, still_by_changes}
 use Rattle.rs_store.proofs.Keeping.{flag_of, keeps_anew, keeps_by_moves, keeps_store-trans, moves-trans, moves_by_maps, moves_by_reading, not_none, reopens_err, reopens_after, stands_anew, stands_kept, store_over}
 use Rattle.rs_store.proofs.store.Store.read_anew.Goals as goal
 
@@ -28,7 +30,18 @@ returns-in_err-file-clause-reopens g c =
     (reopens_err d c.in_err-file.field-0.0 (over was.pager) (over last) (keeps_store-trans d (over was.pager) (over bare) (over last) dropped read)
     (λ oldest state stands is.
     let still = stands_kept d oldest (over was.pager) (over bare) state dropped stands in
-    not_none d oldest (over bare) state still (c.in_err-file.ensures.damaged still.keeps.tied (ap Err is)))))
+    not_none d oldest (over bare) state still (c.in_err-file.ensures.damaged still.keeps.tied (ap Err is)))
+    (still_by_changes d was.pager last (changes-trans was.pager bare last (changes_by_forgetting d was.pager bare c.forget.ensures.forgets) (changes_by_reading d c.load_state.result bare last c.load_state.ensures.rests)))))
+
+pub returns-in_err-file-clause-changes : goal.returns-in_err-file-clause-changes
+returns-in_err-file-clause-changes g c =
+    let d = g.D.Disk in
+    let was = c.self.inside in
+    let bare = c.forget.new.self in
+    let last = c.load_state.new.pages in
+    let p = err_from_is_err_and c.from_residual.result c.from_residual.ensures.1 in
+    rw p.1 (subst (λ (s : StoreState g.row.D.Denot). KeepsChanges s.pager last) c.self.view_is
+    (changes-trans was.pager bare last (changes_by_forgetting d was.pager bare c.forget.ensures.forgets) (changes_by_reading d c.load_state.result bare last c.load_state.ensures.rests)))
 
 pub returns-clause-reopens : goal.returns-clause-reopens
 returns-clause-reopens g c =
@@ -50,8 +63,12 @@ returns-clause-reopens g c =
       state = λ oldest state stands. stands_anew d c.meant_contents_stay_meant.ensures.says c.meant_contents_stay_meant.ensures.same c.contents_have_one_state.ensures.same oldest (over bare) now state stands
           (anew stands.contents stands.keeps);
       stays = λ contents kept. tt;
+      file = tt;
+      catalog = tt;
+      referents = tt;
+      changes = tt;
       sound = λ oldest state stands is. absurd cc;
       honesty = moves.honesty;
       limit = moves.limit;
       full = moves.full;
-    }))
+    }) (still_by_changes d was.pager bare (changes_by_forgetting d was.pager bare c.forget.ensures.forgets)) tt c.load_state.ensures.rests.below.synced)

@@ -3,9 +3,11 @@ use Rattle.std.proofs.Common.{◌≡◌, ◌∙◌, ℕ, IsTrue, true, refl, sub
 use Rattle.std.proofs.lemmas.Result.{on_ok_weaker}
 use Rattle.rs_machine.specs.State.{State}
 use Rattle.rs_page.specs.declared.file_header.TheConstants.{FLAG_OFFSET}
+use Rattle.rs_pager.specs.Maps.{KeepsChanges}
 use Rattle.rs_pager.specs.Opened.{WritesAll}
 use Rattle.rs_store.specs.Calls.{KeepsStore}
 use Rattle.rs_store.specs.Kept.{StandsIn, StoreState}
+use Rattle.rs_store.proofs.HeldChanges.{still_after, still_by_changes, still_flushed}
 use Rattle.rs_store.proofs.Keeping.{file_of_state, keeps_by_maps, keeps_store-trans, stands_kept, store_over}
 use Rattle.rs_store.proofs.Results.{ok_always}
 use Rattle.rs_store.proofs.store.Store.save.Goals as goal
@@ -36,3 +38,14 @@ returns-clause-saves g c =
       synced = c.flush.ensures.synced;
       marked = ok_always c.flush.result (ap (λ (s : StoreState g.row.D.Denot). s.is_marked) c.self.view_is ∙ c.in_ok-mark.ensures.marked);
     }
+
+pub returns-in_err-mark-clause-changes : goal.returns-in_err-mark-clause-changes
+returns-in_err-mark-clause-changes g c = still_by_changes g.D.Disk c.args.self.now.pager c.mark.new.self.pager c.mark.ensures.changes
+
+pub returns-clause-changes : goal.returns-clause-changes
+returns-clause-changes g c =
+    let was = c.self.inside in
+    let last = c.flush.new.self in
+    still_after g.D.Disk c.args.self.now.pager was.pager last
+    (subst (λ (s : StoreState g.row.D.Denot). KeepsChanges c.args.self.now.pager s.pager) (sym c.self.view_is) c.mark.ensures.changes)
+    (still_flushed g.D.Disk was.pager last c.flush.result c.flush.ensures.keeps c.flush.ensures.changes c.flush.ensures.no_change c.flush.ensures.synced)
