@@ -1,7 +1,10 @@
--- What a change of a table at a version leaves of the pages.
-use Rattle.std.specs.Prelude.{ℕ, ◌≤◌, List, Result}
-use Rattle.rs_attr.specs.Tables.{HoldsTable, IndexState, all_of}
+-- What a change of a table at a version needs, and what it leaves of the pages and of what is open.
+use Rattle.std.specs.Prelude.{◌≡◌, ◌<◌, ℕ, ◌≤◌, List, Result, true}
+use Rattle.rs_attr.specs.Calls.{KeepsTable}
+use Rattle.rs_attr.specs.Tables.{AreOn, HoldsTable, IndexState, all_of}
+use Rattle.rs_cell_versions.specs.Version.{HaveDiedBy}
 use Rattle.rs_cell_versions.specs.Versioned.{Standing}
+use Rattle.rs_cell_versions.specs.declared.cell.TheConstants.{LIVING}
 use Rattle.rs_contents.specs.declared.opened.OpenedTable.{OpenedTable}
 use Rattle.rs_page_owners.specs.Calls as owners
 use Rattle.rs_page_owners.specs.Counts.{◌&◌}
@@ -22,3 +25,17 @@ pub record HoldsNoTableBy (version : ℕ) (types : List ColumnType) (pages : Pag
 abbrev pub Leaves : {P T : Type 0} → Ghosts P → OpenedTable → ℕ → Result T Refusal → P → P → Type 0
 Leaves pages was version result old new =
     owners.Leaves pages (HoldsNoTableBy version was.records.types (pages.store old).map was.records.working was.indexes.items) result old new
+
+-- Changes are begun, and the table can be changed at the version: its indexes are on its columns, a record can die at the version, and no
+-- record that is known to be dead died later.
+pub record MayEdit {P : Type 0} (pages : Ghosts P) (table : OpenedTable) (version : ℕ) (old : P) : Type 0 where
+  pub begun : (pages.store old).is_begun ≡ true
+  pub indexes : AreOn table.records.types table.indexes.items
+  pub mortal : version < LIVING
+  pub order : HaveDiedBy version table.records.working.dead
+
+-- The columns of a table, the fields of its indexes and what stood there at the last commit stay, and no record that is known to be dead
+-- died after the version.
+pub record KeepsAt (version : ℕ) (was is : OpenedTable) : Type 0 where
+  pub table : KeepsTable was.records is.records was.indexes.items is.indexes.items
+  pub order : HaveDiedBy version is.records.working.dead

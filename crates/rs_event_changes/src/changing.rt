@@ -1,12 +1,10 @@
 //! The steps of a change: events end, and others come.
 
-ghost use Rattle.std.specs.Prelude.{◌≡◌, ◌<◌, ◌∷◌, [], OnOk, length, map, true};
+ghost use Rattle.std.specs.Prelude.{◌≡◌, ◌∷◌, [], OnOk, length, map, true};
 ghost use Rattle.std.specs.List.{AllByRecursion};
 ghost use Rattle.rs_attr.specs.Calls.{KeepsTable};
 ghost use Rattle.rs_attr.specs.Tables.{AreOn};
-ghost use Rattle.rs_cell_versions.specs.Version.{HaveDiedBy};
-ghost use Rattle.rs_cell_versions.specs.declared.cell.TheConstants.{LIVING};
-ghost use Rattle.rs_event_changes.specs.Calls.{Leaves};
+ghost use Rattle.rs_event_changes.specs.Calls.{KeepsAt, Leaves, MayEdit};
 ghost use Rattle.rs_event_changes.specs.Chains.{ComeAll};
 ghost use Rattle.rs_event_changes.specs.Inner.{ChangesNow, Ended, EndedOne, LeavesWith, Made};
 ghost use Rattle.rs_facts.specs.Spans.{seen};
@@ -34,17 +32,13 @@ pub(crate) fn make<P: Pages>(
     route: u32,
     edit: &Edit,
 ) -> Result<(), Refusal>
-    requires begun { (P.store pages.old).is_begun ≡ true }
+    requires may { MayEdit P.Pages table.old version pages.old }
     requires width { record_width edit.now.gone ≡ event_width table.old.records.types }
     requires rows { AllByRecursion (λ span. IsRowOf table.old.records.types span.row) (map seen edit.now.come.items) }
-    requires indexes { AreOn table.old.records.types table.old.indexes.items }
-    requires version { version < LIVING }
-    requires order { HaveDiedBy version table.old.records.working.dead }
     ensures leaves { LeavesWith P.Pages table.old version (listed edit.now.gone) result pages.old pages.new }
     ensures made { P.is_tied pages.old → OnOk result (Made (P.store pages.old).map (P.store pages.new).map table.old table.new version
         route (listed edit.now.gone) (map seen edit.now.come.items)) }
-    ensures table { KeepsTable table.old.records table.new.records table.old.indexes.items table.new.indexes.items }
-    ensures order { HaveDiedBy version table.new.records.working.dead }
+    ensures keeps { KeepsAt version table.old table.new }
 {
     end_each(alloc, pages, table, version, &edit.gone)?;
     add_each(alloc, pages, table, version, route, &edit.come)?;
@@ -59,16 +53,12 @@ fn end_each<P: Pages>(
     version: u64,
     cells: &Cells,
 ) -> Result<(), Refusal>
-    requires begun { (P.store pages.old).is_begun ≡ true }
+    requires may { MayEdit P.Pages table.old version pages.old }
     requires width { record_width cells.now ≡ event_width table.old.records.types }
-    requires indexes { AreOn table.old.records.types table.old.indexes.items }
-    requires version { version < LIVING }
-    requires order { HaveDiedBy version table.old.records.working.dead }
     ensures leaves { LeavesWith P.Pages table.old version (listed cells.now) result pages.old pages.new }
     ensures ended { P.is_tied pages.old → OnOk result (Ended (P.store pages.old).map (P.store pages.new).map table.old table.new version
         (listed cells.now)) }
-    ensures table { KeepsTable table.old.records table.new.records table.old.indexes.items table.new.indexes.items }
-    ensures order { HaveDiedBy version table.new.records.working.dead }
+    ensures keeps { KeepsAt version table.old table.new }
 {
     for place in 0..cells.len() {
         end_one(alloc, pages, table, version, cells.get(place))?;
@@ -84,16 +74,12 @@ fn end_one<P: Pages>(
     version: u64,
     cell: &[u8],
 ) -> Result<(), Refusal>
-    requires begun { (P.store pages.old).is_begun ≡ true }
+    requires may { MayEdit P.Pages table.old version pages.old }
     requires width { length cell.now ≡ event_width table.old.records.types }
-    requires indexes { AreOn table.old.records.types table.old.indexes.items }
-    requires version { version < LIVING }
-    requires order { HaveDiedBy version table.old.records.working.dead }
     ensures leaves { LeavesWith P.Pages table.old version (cell.now ∷ []) result pages.old pages.new }
     ensures ended { P.is_tied pages.old → OnOk result (EndedOne (P.store pages.old).map (P.store pages.new).map table.old table.new version
         cell.now) }
-    ensures table { KeepsTable table.old.records table.new.records table.old.indexes.items table.new.indexes.items }
-    ensures order { HaveDiedBy version table.new.records.working.dead }
+    ensures keeps { KeepsAt version table.old table.new }
 {
     if !is_living(cell) {
         return Err(Refusal::DamagedFile);

@@ -3,12 +3,8 @@
 //! It reads the events that overlap or touch the span and no others. Those of the row end and one event takes their place, as wide as
 //! they and the span together.
 
-ghost use Rattle.std.specs.Prelude.{◌≡◌, ◌<◌, ◌+◌, ◌-◌, ◌^◌, IfOk, min, true};
-ghost use Rattle.rs_attr.specs.Calls.{KeepsTable};
-ghost use Rattle.rs_attr.specs.Tables.{AreOn};
-ghost use Rattle.rs_cell_versions.specs.Version.{HaveDiedBy};
-ghost use Rattle.rs_cell_versions.specs.declared.cell.TheConstants.{LIVING};
-ghost use Rattle.rs_event_changes.specs.Calls.{Leaves};
+ghost use Rattle.std.specs.Prelude.{◌≡◌, ◌+◌, ◌-◌, ◌^◌, IfOk, min};
+ghost use Rattle.rs_event_changes.specs.Calls.{KeepsAt, Leaves, MayEdit};
 ghost use Rattle.rs_event_changes.specs.Changes.{Inserted};
 ghost use Rattle.rs_facts.specs.Spans.{IsPlaced, gap_of, seen};
 ghost use Rattle.rs_value.specs.Values.{IsRowOf};
@@ -38,17 +34,13 @@ pub fn insert<P: Pages>(
     route: u32,
     span: &Span,
 ) -> Result<u64, Refusal>
-    requires begun { (P.store pages.old).is_begun ≡ true }
+    requires may { MayEdit P.Pages table.old version pages.old }
     requires row { IsRowOf table.old.records.types (row_of span.now.tuple.value) }
     requires placed { IsPlaced kind (seen span.now) }
-    requires indexes { AreOn table.old.records.types table.old.indexes.items }
-    requires version { version < LIVING }
-    requires order { HaveDiedBy version table.old.records.working.dead }
     ensures leaves { Leaves P.Pages table.old version result pages.old pages.new }
     ensures inserts { P.is_tied pages.old → IfOk result (λ count. Inserted (P.store pages.old).map (P.store pages.new).map table.old table.new
         kind version route (seen span.now) count) }
-    ensures table { KeepsTable table.old.records table.new.records table.old.indexes.items table.new.indexes.items }
-    ensures order { HaveDiedBy version table.new.records.working.dead }
+    ensures keeps { KeepsAt version table.old table.new }
 {
     what_gave_way_is_still_seen();
     let (from, upto) = reach(kind, span.lo, span.hi);

@@ -2,13 +2,9 @@
 //!
 //! It reads the events that lie between them and no others. Those whose rows go end, and what of them sticks out comes.
 
-ghost use Rattle.std.specs.Prelude.{◌≡◌, ◌<◌, IfOk, true};
+ghost use Rattle.std.specs.Prelude.{IfOk};
 ghost use Rattle.std.specs.Option.{option_copied};
-ghost use Rattle.rs_attr.specs.Calls.{KeepsTable};
-ghost use Rattle.rs_attr.specs.Tables.{AreOn};
-ghost use Rattle.rs_cell_versions.specs.Version.{HaveDiedBy};
-ghost use Rattle.rs_cell_versions.specs.declared.cell.TheConstants.{LIVING};
-ghost use Rattle.rs_event_changes.specs.Calls.{Leaves};
+ghost use Rattle.rs_event_changes.specs.Calls.{KeepsAt, Leaves, MayEdit};
 ghost use Rattle.rs_event_changes.specs.Changes.{Removed};
 
 use crate::changing::make;
@@ -44,15 +40,11 @@ pub fn remove<P: Pages>(
     stretch: RouteStretch,
     goes: Option<&Condition>,
 ) -> Result<u128, Refusal>
-    requires begun { (P.store pages.old).is_begun ≡ true }
-    requires indexes { AreOn table.old.records.types table.old.indexes.items }
-    requires version { version < LIVING }
-    requires order { HaveDiedBy version table.old.records.working.dead }
+    requires may { MayEdit P.Pages table.old version pages.old }
     ensures leaves { Leaves P.Pages table.old version result pages.old pages.new }
     ensures removes { P.is_tied pages.old → IfOk result (λ count. Removed (P.store pages.old).map (P.store pages.new).map table.old table.new
         version stretch.route stretch.lo stretch.hi (option_copied goes.entry) count) }
-    ensures table { KeepsTable table.old.records table.new.records table.old.indexes.items table.new.indexes.items }
-    ensures order { HaveDiedBy version table.new.records.working.dead }
+    ensures keeps { KeepsAt version table.old table.new }
 {
     what_gave_way_is_still_seen();
     let RouteStretch { route, lo, hi } = stretch;

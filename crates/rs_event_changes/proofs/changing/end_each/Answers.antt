@@ -24,24 +24,22 @@ loop-place-init g c =
       works = Works-refl first;
       nothing = CountsNothing-refl first;
       table = record { types = refl; committed = refl; kept = refl };
-      order = c.requires.order;
+      order = c.requires.may.order;
       ended = λ tied gone say. ended_none table.records.types c.args.version first.map table.records.working table.indexes.items gone say (SamePages-refl first.map);
     }
-
-pub end_one-requires-clause-begun : goal.end_one-requires-clause-begun
-end_one-requires-clause-begun g c = c.loop-place.invariant.works.counts.begun ∙ c.requires.begun
 
 pub end_one-requires-clause-width : goal.end_one-requires-clause-width
 end_one-requires-clause-width g c =
     cell_wide c.args.cells.now c.loop-place.place c.get.result.now c.get.ensures ∙ c.requires.width ∙ ap event_width (sym c.loop-place.invariant.table.types)
 
-pub end_one-requires-clause-indexes : goal.end_one-requires-clause-indexes
-end_one-requires-clause-indexes g c =
-    subst (λ types. AreOn types c.loop-place.table.indexes.items) (sym c.loop-place.invariant.table.types)
-    (still_on c.args.table.now.records.types c.args.table.now.indexes.items c.loop-place.table.indexes.items c.loop-place.invariant.table.kept c.requires.indexes)
-
-pub end_one-requires-clause-order : goal.end_one-requires-clause-order
-end_one-requires-clause-order g c = c.loop-place.invariant.order
+pub end_one-requires-clause-may : goal.end_one-requires-clause-may
+end_one-requires-clause-may g c = record {
+  begun = c.loop-place.invariant.works.counts.begun ∙ c.requires.may.begun;
+  indexes = subst (λ types. AreOn types c.loop-place.table.indexes.items) (sym c.loop-place.invariant.table.types)
+      (still_on c.args.table.now.records.types c.args.table.now.indexes.items c.loop-place.table.indexes.items c.loop-place.invariant.table.kept c.requires.may.indexes);
+  mortal = c.requires.may.mortal;
+  order = c.loop-place.invariant.order;
+}
 
 pub returns-in_err-end_one-clause-leaves : goal.returns-in_err-end_one-clause-leaves
 returns-in_err-end_one-clause-leaves g c =
@@ -65,11 +63,14 @@ returns-in_err-end_one-clause-leaves g c =
           c.in_err-end_one.ensures.leaves.works);
     }
 
-pub returns-in_err-end_one-clause-table : goal.returns-in_err-end_one-clause-table
-returns-in_err-end_one-clause-table g c = record {
-  types = c.in_err-end_one.ensures.table.types ∙ c.loop-place.invariant.table.types;
-  committed = c.in_err-end_one.ensures.table.committed ∙ c.loop-place.invariant.table.committed;
-  kept = c.in_err-end_one.ensures.table.kept ∙ c.loop-place.invariant.table.kept;
+pub returns-in_err-end_one-clause-keeps : goal.returns-in_err-end_one-clause-keeps
+returns-in_err-end_one-clause-keeps g c = record {
+  table = record {
+    types = c.in_err-end_one.ensures.keeps.table.types ∙ c.loop-place.invariant.table.types;
+    committed = c.in_err-end_one.ensures.keeps.table.committed ∙ c.loop-place.invariant.table.committed;
+    kept = c.in_err-end_one.ensures.keeps.table.kept ∙ c.loop-place.invariant.table.kept;
+  };
+  order = c.in_err-end_one.ensures.keeps.order;
 }
 
 pub loop-place-preserved : goal.loop-place-preserved
@@ -88,11 +89,11 @@ loop-place-preserved g c =
       works = Works-trans first last now c.loop-place.invariant.works c.in_ok-end_one.ensures.leaves.works.works;
       nothing = CountsNothing-trans first last now c.loop-place.invariant.nothing c.in_ok-end_one.ensures.leaves.works.ends;
       table = record {
-        types = c.in_ok-end_one.ensures.table.types ∙ c.loop-place.invariant.table.types;
-        committed = c.in_ok-end_one.ensures.table.committed ∙ c.loop-place.invariant.table.committed;
-        kept = c.in_ok-end_one.ensures.table.kept ∙ c.loop-place.invariant.table.kept;
+        types = c.in_ok-end_one.ensures.keeps.table.types ∙ c.loop-place.invariant.table.types;
+        committed = c.in_ok-end_one.ensures.keeps.table.committed ∙ c.loop-place.invariant.table.committed;
+        kept = c.in_ok-end_one.ensures.keeps.table.kept ∙ c.loop-place.invariant.table.kept;
       };
-      order = c.in_ok-end_one.ensures.order;
+      order = c.in_ok-end_one.ensures.keeps.order;
       ended = λ tied.
           let step = c.in_ok-end_one.ensures.ended (g.met.P.Pages.keeps_tied c.args.pages.now c.loop-place.pages c.loop-place.invariant.keeps tied) in
           ended_next was.records.types version first.map last.map now.map was.records.working next.records.working is.records.working was.indexes.items next.indexes.items is.indexes.items
@@ -113,5 +114,5 @@ returns-clause-ended g c = λ tied.
     let whole : take c.loop-place.place cells ≡ cells = take_all c.loop-place.place cells (omega (arith, c.len-place-end.ensures)) in
     subst (Ended (g.P.Pages.store c.args.pages.now).map (g.P.Pages.store c.loop-place.pages).map c.args.table.now c.loop-place.table c.args.version) whole (c.loop-place.invariant.ended tied)
 
-pub returns-clause-table : goal.returns-clause-table
-returns-clause-table g c = c.loop-place.invariant.table
+pub returns-clause-keeps : goal.returns-clause-keeps
+returns-clause-keeps g c = record { table = c.loop-place.invariant.table; order = c.loop-place.invariant.order }

@@ -31,17 +31,17 @@ returns-in_err-end_each-clause-leaves g c =
     }
 
 pub add_each-requires-clause-begun : goal.add_each-requires-clause-begun
-add_each-requires-clause-begun g c = c.in_ok-end_each.ensures.leaves.works.works.counts.begun ∙ c.requires.begun
+add_each-requires-clause-begun g c = c.in_ok-end_each.ensures.leaves.works.works.counts.begun ∙ c.requires.may.begun
 
 pub add_each-requires-clause-rows : goal.add_each-requires-clause-rows
 add_each-requires-clause-rows g c =
     subst (λ (l : List Span). AllByRecursion (λ (s : Stretch). IsRowOf c.end_each.new.table.records.types s.row) (map seen l)) (sym c.deref.ensures.value)
-    (subst (λ types. AllByRecursion (λ (s : Stretch). IsRowOf types s.row) (map seen c.args.edit.now.come.items)) (sym c.in_ok-end_each.ensures.table.types) c.requires.rows)
+    (subst (λ types. AllByRecursion (λ (s : Stretch). IsRowOf types s.row) (map seen c.args.edit.now.come.items)) (sym c.in_ok-end_each.ensures.keeps.table.types) c.requires.rows)
 
 pub add_each-requires-clause-indexes : goal.add_each-requires-clause-indexes
 add_each-requires-clause-indexes g c =
-    subst (λ types. AreOn types c.end_each.new.table.indexes.items) (sym c.in_ok-end_each.ensures.table.types)
-    (still_on c.args.table.now.records.types c.args.table.now.indexes.items c.end_each.new.table.indexes.items c.in_ok-end_each.ensures.table.kept c.requires.indexes)
+    subst (λ types. AreOn types c.end_each.new.table.indexes.items) (sym c.in_ok-end_each.ensures.keeps.table.types)
+    (still_on c.args.table.now.records.types c.args.table.now.indexes.items c.end_each.new.table.indexes.items c.in_ok-end_each.ensures.keeps.table.kept c.requires.may.indexes)
 
 pub returns-in_err-add_each-clause-leaves : goal.returns-in_err-add_each-clause-leaves
 returns-in_err-add_each-clause-leaves g c =
@@ -58,7 +58,7 @@ returns-in_err-add_each-clause-leaves g c =
           first mid (g.P.Pages.store c.add_each.new.pages) c.in_ok-end_each.ensures.leaves.works.works c.in_ok-end_each.ensures.leaves.works.ends
           (λ none tied.
           none_made was.records.types c.args.version cells first.map mid.map was.records.working next.records.working was.indexes.items next.indexes.items (c.in_ok-end_each.ensures.ended tied)
-          (subst (λ types. HoldsNoTableBy c.args.version types mid.map next.records.working next.indexes.items) c.in_ok-end_each.ensures.table.types
+          (subst (λ types. HoldsNoTableBy c.args.version types mid.map next.records.working next.indexes.items) c.in_ok-end_each.ensures.keeps.table.types
           (none (g.met.P.Pages.keeps_tied c.args.pages.now c.end_each.new.pages c.in_ok-end_each.ensures.leaves.keeps tied))))
           c.in_err-add_each.ensures.leaves.works);
     }
@@ -89,7 +89,7 @@ returns-clause-made g c = λ tied gone say.
     let come = map seen c.args.edit.now.come.items in
     let step = c.in_ok-add_each.ensures.came (g.met.P.Pages.keeps_tied c.args.pages.now c.end_each.new.pages c.in_ok-end_each.ensures.leaves.keeps tied) in
     let listed_so = subst (λ (l : List Span). ChangesTable next.records.types mid.map last.map next.records.working is.records.working next.indexes.items is.indexes.items version version (ComeAll route version (map seen l))) c.deref.ensures.value step in
-    let typed = subst (λ types. ChangesTable types mid.map last.map next.records.working is.records.working next.indexes.items is.indexes.items version version (ComeAll route version come)) c.in_ok-end_each.ensures.table.types listed_so in
+    let typed = subst (λ types. ChangesTable types mid.map last.map next.records.working is.records.working next.indexes.items is.indexes.items version version (ComeAll route version come)) c.in_ok-end_each.ensures.keeps.table.types listed_so in
     changes_then was.records.types first.map mid.map last.map was.records.working next.records.working is.records.working was.indexes.items next.indexes.items is.indexes.items version version version
     (EndAll was.records.types version gone) (ComeAll route version come) (GivesWay was.records.types version route gone come) (λ a b d x y. record { between = b; ended = x; came = y })
     (c.in_ok-end_each.ensures.ended tied gone say) typed

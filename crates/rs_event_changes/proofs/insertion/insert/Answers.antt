@@ -1,5 +1,5 @@
 -- What was found is joined, and the edit is made.
-use Rattle.std.proofs.Common.{ℕ, Ok, Err, map, sym, subst, inl, inr}
+use Rattle.std.proofs.Common.{◌∙◌, ℕ, Ok, Err, map, sym, subst, inl, inr}
 use Rattle.std.specs.List.{AllByRecursion}
 use Rattle.std.proofs.lemmas.Result.{err_from_is_err_and}
 use Rattle.rs_facts.specs.Runs.{Stretch}
@@ -66,6 +66,14 @@ returns-in_err-joined-clause-leaves g c =
       ]);
     }
 
+pub make-requires-clause-may : goal.make-requires-clause-may
+make-requires-clause-may g c = record {
+  begun = c.in_ok-found.ensures.rests.rests.counts.begun ∙ c.requires.may.begun;
+  indexes = c.requires.may.indexes;
+  mortal = c.requires.may.mortal;
+  order = c.requires.may.order;
+}
+
 pub make-requires-clause-rows : goal.make-requires-clause-rows
 make-requires-clause-rows g c =
     subst (λ types. AllByRecursion (λ (s : Stretch). IsRowOf types s.row) (map seen c.in_ok-joined.joined.edit.come.items)) c.schema.ensures c.in_ok-joined.ensures.rows
@@ -90,7 +98,7 @@ returns-in_err-make-clause-leaves g c =
           (λ there tied.
           none_with_these was.records.types c.args.version first.map mid.map (rests.rests.keeps.pages tied) was.records.working was.indexes.items
           (is_visible c.args.version c.args.route c.reach-from.result.0 c.reach-from.result.1) (listed found) (c.in_ok-found.ensures.found tied) (listed edit.gone)
-          (are_there was.records.types c.args.kind c.args.version c.args.route c.requires.version (seen c.args.span.now) c.requires.placed c.reach-from.result.0 c.reach-from.result.1 c.reach-from.ensures.from c.reach-from.ensures.upto
+          (are_there was.records.types c.args.kind c.args.version c.args.route c.requires.may.mortal (seen c.args.span.now) c.requires.placed c.reach-from.result.0 c.reach-from.result.1 c.reach-from.ensures.from c.reach-from.ensures.upto
           first.map was.records.working (listed found) (listed edit.gone) (map seen edit.come.items) c.in_ok-joined.joined.count (c.in_ok-found.ensures.found tied) joins)
           (there (g.met.P.Pages.keeps_tied c.args.pages.now c.visible.new.pages rests.below tied)))
           c.in_err-make.ensures.leaves.works);
@@ -107,7 +115,7 @@ returns-clause-inserts g c = λ tied accepted before.
     let edit = c.in_ok-joined.joined.edit in
     let rests = c.in_ok-found.ensures.rests in
     let joins = subst (λ types. Joins types (seen c.args.span.now) (listed found) (listed edit.gone) (map seen edit.come.items) c.in_ok-joined.joined.count) c.schema.ensures c.in_ok-joined.ensures.joins in
-    inserted was.records.types c.args.kind c.args.version c.args.route c.requires.version (seen c.args.span.now) c.requires.placed c.reach-from.result.0 c.reach-from.result.1 c.reach-from.ensures.from c.reach-from.ensures.upto
+    inserted was.records.types c.args.kind c.args.version c.args.route c.requires.may.mortal (seen c.args.span.now) c.requires.placed c.reach-from.result.0 c.reach-from.result.1 c.reach-from.ensures.from c.reach-from.ensures.upto
     first.map was.records.working (listed found) (listed edit.gone) (map seen edit.come.items) c.in_ok-joined.joined.count (c.in_ok-found.ensures.found tied) joins
     mid.map last.map (rests.rests.keeps.pages tied) is.records.working was.indexes.items is.indexes.items c.what_gave_way_is_still_seen.ensures
     (c.in_ok-make.ensures.made (g.met.P.Pages.keeps_tied c.args.pages.now c.visible.new.pages rests.below tied)) accepted before

@@ -1,5 +1,5 @@
 -- What was found is taken out, and the edit is made.
-use Rattle.std.proofs.Common.{ℕ, Ok, Err, map, sym, subst, inl, inr, arith}
+use Rattle.std.proofs.Common.{◌∙◌, ℕ, Ok, Err, map, sym, subst, inl, inr, arith}
 use Rattle.std.specs.Option.{option_copied}
 use Rattle.rs_spans.specs.Removal.{goes_by}
 use Rattle.std.specs.List.{AllByRecursion}
@@ -68,6 +68,14 @@ returns-in_err-left-clause-leaves g c =
       ]);
     }
 
+pub make-requires-clause-may : goal.make-requires-clause-may
+make-requires-clause-may g c = record {
+  begun = c.in_ok-found.ensures.rests.rests.counts.begun ∙ c.requires.may.begun;
+  indexes = c.requires.may.indexes;
+  mortal = c.requires.may.mortal;
+  order = c.requires.may.order;
+}
+
 pub make-requires-clause-rows : goal.make-requires-clause-rows
 make-requires-clause-rows g c =
     subst (λ types. AllByRecursion (λ (s : Stretch). IsRowOf types s.row) (map seen c.in_ok-left.left.edit.come.items)) c.schema.ensures c.in_ok-left.ensures.rows
@@ -92,7 +100,7 @@ returns-in_err-make-clause-leaves g c =
           (λ there tied.
           none_with_these was.records.types c.args.version first.map mid.map (rests.rests.keeps.pages tied) was.records.working was.indexes.items
           (is_visible c.args.version c.args.stretch.route c.args.stretch.lo c.args.stretch.hi) (listed found) (c.in_ok-found.ensures.found tied) (listed edit.gone)
-          (are_there was.records.types c.args.version c.args.stretch.route c.requires.version c.args.stretch.lo c.args.stretch.hi (option_copied c.args.goes) first.map was.records.working
+          (are_there was.records.types c.args.version c.args.stretch.route c.requires.may.mortal c.args.stretch.lo c.args.stretch.hi (option_copied c.args.goes) first.map was.records.working
           (listed found) (listed edit.gone) (map seen edit.come.items) c.in_ok-left.left.count (c.in_ok-found.ensures.found tied) takes)
           (there (g.met.P.Pages.keeps_tied c.args.pages.now c.visible.new.pages rests.below tied)))
           c.in_err-make.ensures.leaves.works);
@@ -101,7 +109,7 @@ returns-in_err-make-clause-leaves g c =
 pub returns-then-hi-lo-clause-removes : goal.returns-then-hi-lo-clause-removes
 returns-then-hi-lo-clause-removes g c = λ tied accepted before.
     let was = c.args.table.now in
-    none_removed was.records.types c.args.version c.args.stretch.route c.requires.version c.args.stretch.lo c.args.stretch.hi (option_copied c.args.goes) (g.P.Pages.store c.args.pages.now).map was.records.working was.indexes.items
+    none_removed was.records.types c.args.version c.args.stretch.route c.requires.may.mortal c.args.stretch.lo c.args.stretch.hi (option_copied c.args.goes) (g.P.Pages.store c.args.pages.now).map was.records.working was.indexes.items
     (omega (arith, c.if-hi-lo.true)) accepted before
 
 pub returns-clause-removes : goal.returns-clause-removes
@@ -115,7 +123,7 @@ returns-clause-removes g c = λ tied accepted before.
     let edit = c.in_ok-left.left.edit in
     let rests = c.in_ok-found.ensures.rests in
     let takes = subst (λ types. Takes types c.args.stretch.lo c.args.stretch.hi (goes_by (option_copied c.args.goes)) (listed found) (listed edit.gone) (map seen edit.come.items) c.in_ok-left.left.count) c.schema.ensures c.in_ok-left.ensures.takes in
-    removed_in_pages was.records.types c.args.version c.args.stretch.route c.requires.version c.args.stretch.lo c.args.stretch.hi (option_copied c.args.goes) first.map was.records.working
+    removed_in_pages was.records.types c.args.version c.args.stretch.route c.requires.may.mortal c.args.stretch.lo c.args.stretch.hi (option_copied c.args.goes) first.map was.records.working
     (listed found) (listed edit.gone) (map seen edit.come.items) c.in_ok-left.left.count (c.in_ok-found.ensures.found tied) takes
     (omega (arith, c.if-hi-lo.false)) mid.map last.map (rests.rests.keeps.pages tied) is.records.working was.indexes.items is.indexes.items c.what_gave_way_is_still_seen.ensures
     (c.in_ok-make.ensures.made (g.met.P.Pages.keeps_tied c.args.pages.now c.visible.new.pages rests.below tied)) accepted before

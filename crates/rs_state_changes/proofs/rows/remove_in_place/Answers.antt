@@ -14,11 +14,15 @@ use Rattle.rs_state_changes.specs.InPlace.{MakesAt}
 use Rattle.rs_state_changes.proofs.TablesPlaced.{leaves_placed, made_placed, order_later, order_placed, tables_died}
 use Rattle.rs_state_changes.proofs.rows.remove_in_place.Goals as goal
 
-pub remove-requires-clause-indexes : goal.remove-requires-clause-indexes
-remove-requires-clause-indexes g c = place_on_cells c.args.file.now c.args.removal.now.table c.index_mut.result.now c.requires.place c.index_mut.ensures.value c.requires.may.ready
-
-pub remove-requires-clause-order : goal.remove-requires-clause-order
-remove-requires-clause-order g c = order_placed c.args.file.now c.args.removal.now.table c.index_mut.result.now c.requires.place c.index_mut.ensures.value c.requires.may.order
+pub remove-requires : goal.remove-requires
+remove-requires g c = record {
+  may = record {
+    begun = c.requires.begun;
+    indexes = place_on_cells c.args.file.now c.args.removal.now.table c.index_mut.result.now c.requires.place c.index_mut.ensures.value c.requires.may.ready;
+    mortal = omega (arith, c.requires.room);
+    order = order_placed c.args.file.now c.args.removal.now.table c.index_mut.result.now c.requires.place c.index_mut.ensures.value c.requires.may.order;
+  };
+}
 
 pub returns-clause-leaves : goal.returns-clause-leaves
 returns-clause-leaves g c =
@@ -37,7 +41,7 @@ returns-clause-removes g c = λ tied.
     let version : ℕ = was.accepted + 1 in
     IfOk-weaker c.remove.result (Removed old new one now version c.args.removal.now.route c.args.removal.now.lo c.args.removal.now.hi (option_copied c.as_ref-goes.result))
     (λ count. MakesAt old new was is place (Removes was.accepted version c.args.removal.now.route c.args.removal.now.lo c.args.removal.now.hi c.args.removal.now.goes count))
-    (λ count did. made_placed was place one c.requires.place c.index_mut.ensures.value now c.remove.ensures.table old new is (Removes was.accepted version c.args.removal.now.route c.args.removal.now.lo c.args.removal.now.hi c.args.removal.now.goes count) refl refl refl refl
+    (λ count did. made_placed was place one c.requires.place c.index_mut.ensures.value now c.remove.ensures.keeps.table old new is (Removes was.accepted version c.args.removal.now.route c.args.removal.now.lo c.args.removal.now.hi c.args.removal.now.goes count) refl refl refl refl
     (subst (λ (goes : Option Condition). ChangesTable one.records.types old new one.records.working now.records.working one.indexes.items now.indexes.items was.accepted version
     (Removes was.accepted version c.args.removal.now.route c.args.removal.now.lo c.args.removal.now.hi goes count)) c.as_ref-goes.ensures.value (did was.accepted (omega arith))))
     (c.remove.ensures.removes tied)
@@ -47,13 +51,13 @@ returns-clause-keeps g c = record {
   definitions = refl;
   pages = refl;
   accepted = refl;
-  tables = place_keeps c.args.file.now c.args.removal.now.table c.index_mut.result.now c.requires.place c.index_mut.ensures.value c.remove.new.table c.remove.ensures.table;
+  tables = place_keeps c.args.file.now c.args.removal.now.table c.index_mut.result.now c.requires.place c.index_mut.ensures.value c.remove.new.table c.remove.ensures.keeps.table;
   referents = refl;
 }
 
 pub returns-clause-order : goal.returns-clause-order
 returns-clause-order g c = record {
-  tables = tables_died c.args.file.now c.args.removal.now.table c.index_mut.result.now c.requires.place c.index_mut.ensures.value c.remove.new.table c.remove.ensures.table
-      c.requires.may.order c.remove.ensures.order;
+  tables = tables_died c.args.file.now c.args.removal.now.table c.index_mut.result.now c.requires.place c.index_mut.ensures.value c.remove.new.table c.remove.ensures.keeps.table
+      c.requires.may.order c.remove.ensures.keeps.order;
   referents = (order_later c.args.file.now.accepted (c.args.file.now.accepted + 1) c.args.file.now (omega arith) c.requires.may.order).referents;
 }
