@@ -1,18 +1,13 @@
 //! Other definitions of the same tables and indexes, and a route that goes with its referents.
 
-ghost use Rattle.std.specs.Prelude.{◌≡◌, ◌≤◌, ◌<◌, ◌+◌, ◌^◌, ℕ, true, OnErr, OnOk, length};
-ghost use Rattle.std.specs.List.{AllByRecursion};
-ghost use Rattle.rs_catalog_pages.specs.Fitting.{FitsCatalogue, IsShort};
+ghost use Rattle.std.specs.Prelude.{◌≡◌, ◌≤◌, ◌<◌, ◌+◌, ◌^◌, ℕ, true, OnOk, length};
 ghost use Rattle.rs_catalog_pages.specs.Said.{said_catalogue};
 ghost use Rattle.rs_cell_versions.specs.Version.{HaveDiedBy};
 ghost use Rattle.rs_cell_versions.specs.declared.cell.TheConstants.{LIVING};
 ghost use Rattle.rs_file_changes.specs.Calls.{ChangesDefinitions};
-ghost use Rattle.rs_file_changes.specs.Parts.{KeepsCommitted};
-ghost use Rattle.rs_machine.specs.declared.limits.TheConstants.{CHANGES};
 ghost use Rattle.rs_page_owners.specs.Calls.{Leaves};
-ghost use Rattle.rs_state_changes.specs.Calls.{IsNext, LeavesFile, MayChange};
+ghost use Rattle.rs_state_changes.specs.Calls.{Changes, ComesNext, HasTablesOf, LeavesFile, MayDefine};
 ghost use Rattle.rs_state_changes.specs.Ending.{HoldsNoReferents, SaysNoLiving};
-ghost use Rattle.rs_state_laws.specs.Changing.{ChangesFile};
 ghost use Rattle.rs_state_laws.specs.Parts.{DropsRoute, EndsAllOn};
 ghost use Rattle.rs_versioned.specs.Records.{ChangesRecords, HasEnded};
 ghost use Rattle.rs_versioned.specs.Referents.{ReferentRecord, SaysReferent, kept_referents, referent_width};
@@ -37,19 +32,11 @@ pub fn redefine<P: Pages>(
     oldest: u64,
     definitions: StoredCatalogue,
 ) -> Result<(), Refusal>
-    requires begun { (P.store pages.old).is_begun ≡ true }
-    requires may { MayChange file.old }
-    requires room { file.old.accepted < CHANGES }
-    requires fits { FitsCatalogue (said_catalogue definitions) }
-    requires short { IsShort (said_catalogue definitions) }
-    requires tables { (said_catalogue definitions).tables ≡ (said_catalogue file.old.definitions).tables }
-    requires indexes { (said_catalogue definitions).indexes ≡ (said_catalogue file.old.definitions).indexes }
-    requires births { AllByRecursion (λ route. route.born ≤ file.old.accepted + 1) (said_catalogue definitions).routes }
+    requires may { MayDefine P.Pages file.old definitions pages.old }
+    requires same { HasTablesOf (said_catalogue file.old.definitions) (said_catalogue definitions) }
     ensures leaves { LeavesFile P.Pages file.old result pages.old pages.new }
-    ensures defines { P.is_tied pages.old → OnOk result (ChangesFile oldest (P.store pages.old).map (P.store pages.new).map file.old file.new
-        (ChangesDefinitions (said_catalogue definitions))) }
-    ensures next { OnOk result (IsNext definitions file.old file.new) }
-    ensures keeps { OnErr result (KeepsCommitted file.old file.new) }
+    ensures defines { Changes P.Pages oldest file.old file.new (ChangesDefinitions (said_catalogue definitions)) result pages.old pages.new }
+    ensures opened { ComesNext definitions result file.old file.new }
 {
     let before = garbage(file);
     let former = write_definitions(alloc, pages, file, definitions)?;
@@ -72,20 +59,12 @@ pub fn drop_route<P: Pages>(
     definitions: StoredCatalogue,
     route: u32,
 ) -> Result<(), Refusal>
-    requires begun { (P.store pages.old).is_begun ≡ true }
-    requires may { MayChange file.old }
-    requires room { file.old.accepted < CHANGES }
-    requires fits { FitsCatalogue (said_catalogue definitions) }
-    requires short { IsShort (said_catalogue definitions) }
-    requires tables { (said_catalogue definitions).tables ≡ (said_catalogue file.old.definitions).tables }
-    requires indexes { (said_catalogue definitions).indexes ≡ (said_catalogue file.old.definitions).indexes }
-    requires births { AllByRecursion (λ route. route.born ≤ file.old.accepted + 1) (said_catalogue definitions).routes }
+    requires may { MayDefine P.Pages file.old definitions pages.old }
+    requires same { HasTablesOf (said_catalogue file.old.definitions) (said_catalogue definitions) }
     requires route { route + 1 < 2 ^ 32 }
     ensures leaves { LeavesFile P.Pages file.old result pages.old pages.new }
-    ensures drops { P.is_tied pages.old → OnOk result (ChangesFile oldest (P.store pages.old).map (P.store pages.new).map file.old file.new
-        (DropsRoute route (said_catalogue definitions))) }
-    ensures next { OnOk result (IsNext definitions file.old file.new) }
-    ensures keeps { OnErr result (KeepsCommitted file.old file.new) }
+    ensures drops { Changes P.Pages oldest file.old file.new (DropsRoute route (said_catalogue definitions)) result pages.old pages.new }
+    ensures opened { ComesNext definitions result file.old file.new }
 {
     let before = garbage(file);
     let version = file.accepted + 1;

@@ -1,11 +1,8 @@
 //! A referent that comes, moves or goes.
 
-ghost use Rattle.std.specs.Prelude.{◌≡◌, ◌<◌, ◌+◌, ◌^◌, true, OnErr, OnOk};
+ghost use Rattle.std.specs.Prelude.{◌<◌, ◌+◌, ◌^◌};
 ghost use Rattle.std.specs.List.{AllByRecursion};
-ghost use Rattle.rs_file_changes.specs.Parts.{KeepsCommitted};
-ghost use Rattle.rs_machine.specs.declared.limits.TheConstants.{CHANGES};
-ghost use Rattle.rs_state_changes.specs.Calls.{IsNext, LeavesFile, MayChange};
-ghost use Rattle.rs_state_laws.specs.Changing.{ChangesFile};
+ghost use Rattle.rs_state_changes.specs.Calls.{Changes, ComesNext, LeavesFile, MayAccept};
 ghost use Rattle.rs_state_laws.specs.Parts.{EndsReferent, MovesReferent, PutsReferent};
 
 use crate::completing::complete;
@@ -26,15 +23,11 @@ pub fn define_referent<P: Pages>(
     oldest: u64,
     referent: &Referent,
 ) -> Result<(), Refusal>
-    requires begun { (P.store pages.old).is_begun ≡ true }
-    requires may { MayChange file.old }
-    requires room { file.old.accepted < CHANGES }
+    requires may { MayAccept P.Pages file.old pages.old }
     requires name { AllByRecursion (λ byte. 0 < byte) referent.now.name.bytes }
     ensures leaves { LeavesFile P.Pages file.old result pages.old pages.new }
-    ensures puts { P.is_tied pages.old → OnOk result (ChangesFile oldest (P.store pages.old).map (P.store pages.new).map file.old file.new
-        (PutsReferent referent.now.route referent.now.name.bytes referent.now.measure)) }
-    ensures next { OnOk result (IsNext file.old.definitions file.old file.new) }
-    ensures keeps { OnErr result (KeepsCommitted file.old file.new) }
+    ensures puts { Changes P.Pages oldest file.old file.new (PutsReferent referent.now.route referent.now.name.bytes referent.now.measure) result pages.old pages.new }
+    ensures opened { ComesNext file.old.definitions result file.old file.new }
 {
     let before = garbage(file);
     let version = file.accepted + 1;
@@ -51,16 +44,12 @@ pub fn move_referent<P: Pages>(
     oldest: u64,
     referent: &Referent,
 ) -> Result<(), Refusal>
-    requires begun { (P.store pages.old).is_begun ≡ true }
-    requires may { MayChange file.old }
-    requires room { file.old.accepted < CHANGES }
+    requires may { MayAccept P.Pages file.old pages.old }
     requires name { AllByRecursion (λ byte. 0 < byte) referent.now.name.bytes }
     requires route { referent.now.route + 1 < 2 ^ 32 }
     ensures leaves { LeavesFile P.Pages file.old result pages.old pages.new }
-    ensures moves { P.is_tied pages.old → OnOk result (ChangesFile oldest (P.store pages.old).map (P.store pages.new).map file.old file.new
-        (MovesReferent referent.now.route referent.now.name.bytes referent.now.measure)) }
-    ensures next { OnOk result (IsNext file.old.definitions file.old file.new) }
-    ensures keeps { OnErr result (KeepsCommitted file.old file.new) }
+    ensures moves { Changes P.Pages oldest file.old file.new (MovesReferent referent.now.route referent.now.name.bytes referent.now.measure) result pages.old pages.new }
+    ensures opened { ComesNext file.old.definitions result file.old file.new }
 {
     let before = garbage(file);
     let version = file.accepted + 1;
@@ -79,15 +68,11 @@ pub fn drop_referent<P: Pages>(
     route: u32,
     name: &Name,
 ) -> Result<(), Refusal>
-    requires begun { (P.store pages.old).is_begun ≡ true }
-    requires may { MayChange file.old }
-    requires room { file.old.accepted < CHANGES }
+    requires may { MayAccept P.Pages file.old pages.old }
     requires route { route + 1 < 2 ^ 32 }
     ensures leaves { LeavesFile P.Pages file.old result pages.old pages.new }
-    ensures ends { P.is_tied pages.old → OnOk result (ChangesFile oldest (P.store pages.old).map (P.store pages.new).map file.old file.new
-        (EndsReferent route name.now.bytes)) }
-    ensures next { OnOk result (IsNext file.old.definitions file.old file.new) }
-    ensures keeps { OnErr result (KeepsCommitted file.old file.new) }
+    ensures ends { Changes P.Pages oldest file.old file.new (EndsReferent route name.now.bytes) result pages.old pages.new }
+    ensures opened { ComesNext file.old.definitions result file.old file.new }
 {
     let before = garbage(file);
     let version = file.accepted + 1;

@@ -1,17 +1,13 @@
 //! A row put along a span of a route, and rows taken away between two thousandths of it.
 
-ghost use Rattle.std.specs.Prelude.{◌≡◌, ◌<◌, ◌+◌, true, length, IfOk, OnErr, OnOk, Some, slice_get};
-ghost use Rattle.rs_contents.specs.declared.opened.OpenedTable.{OpenedTable};
+ghost use Rattle.std.specs.Prelude.{◌<◌, ◌+◌, length, IfOk};
 ghost use Rattle.rs_event_changes.specs.Changes.{Inserts, Removes};
-ghost use Rattle.rs_facts.specs.Spans.{IsPlaced, seen};
+ghost use Rattle.rs_facts.specs.Spans.{seen};
 ghost use Rattle.rs_file_changes.specs.Parts.{HaveAllDiedBy, KeepsCommitted};
-ghost use Rattle.rs_machine.specs.declared.limits.TheConstants.{CHANGES};
-ghost use Rattle.rs_state_changes.specs.Calls.{IsNext, LeavesFile, MayChange};
+ghost use Rattle.rs_state_changes.specs.Calls.{ComesNext, IsRowAt, LeavesFile, MayAccept};
 ghost use Rattle.rs_state_changes.specs.InPlace.{MakesAt};
 ghost use Rattle.rs_state_laws.specs.Changing.{ChangesFile};
 ghost use Rattle.rs_state_laws.specs.Parts.{InsertsRow, RemovesRows};
-ghost use Rattle.rs_value.specs.Values.{IsRowOf};
-ghost use Rattle.rs_value.specs.View.{row_of};
 
 use crate::completing::complete;
 use crate::counting::garbage;
@@ -61,18 +57,12 @@ pub fn insert<P: Pages>(
     oldest: u64,
     insertion: &Insertion,
 ) -> Result<u64, Refusal>
-    requires begun { (P.store pages.old).is_begun ≡ true }
-    requires may { MayChange file.old }
-    requires room { file.old.accepted < CHANGES }
-    requires place { insertion.now.table < length file.old.tables.items }
-    requires row { (table : OpenedTable) → slice_get file.old.tables.items insertion.now.table ≡ Some table
-        → IsRowOf table.records.types (row_of insertion.now.span.tuple.value) }
-    requires placed { IsPlaced insertion.now.kind (seen insertion.now.span) }
+    requires may { MayAccept P.Pages file.old pages.old }
+    requires row { IsRowAt file.old insertion.now.table insertion.now.kind insertion.now.span }
     ensures leaves { LeavesFile P.Pages file.old result pages.old pages.new }
     ensures inserts { P.is_tied pages.old → IfOk result (λ count. ChangesFile oldest (P.store pages.old).map (P.store pages.new).map file.old file.new
         (InsertsRow insertion.now.table insertion.now.kind insertion.now.route (seen insertion.now.span) count)) }
-    ensures next { OnOk result (IsNext file.old.definitions file.old file.new) }
-    ensures keeps { OnErr result (KeepsCommitted file.old file.new) }
+    ensures opened { ComesNext file.old.definitions result file.old file.new }
 {
     let before = garbage(file);
     let count = insert_in_place(alloc, pages, file, insertion)?;
@@ -87,13 +77,8 @@ fn insert_in_place<P: Pages>(
     file: &mut OpenedFile,
     insertion: &Insertion,
 ) -> Result<u64, Refusal>
-    requires begun { (P.store pages.old).is_begun ≡ true }
-    requires may { MayChange file.old }
-    requires room { file.old.accepted < CHANGES }
-    requires place { insertion.now.table < length file.old.tables.items }
-    requires row { (table : OpenedTable) → slice_get file.old.tables.items insertion.now.table ≡ Some table
-        → IsRowOf table.records.types (row_of insertion.now.span.tuple.value) }
-    requires placed { IsPlaced insertion.now.kind (seen insertion.now.span) }
+    requires may { MayAccept P.Pages file.old pages.old }
+    requires row { IsRowAt file.old insertion.now.table insertion.now.kind insertion.now.span }
     ensures leaves { LeavesFile P.Pages file.old result pages.old pages.new }
     ensures inserts { P.is_tied pages.old → IfOk result (λ count. MakesAt (P.store pages.old).map (P.store pages.new).map file.old file.new insertion.now.table
         (Inserts insertion.now.kind file.old.accepted (file.old.accepted + 1) insertion.now.route (seen insertion.now.span) count)) }
@@ -121,15 +106,12 @@ pub fn remove<P: Pages>(
     oldest: u64,
     removal: &Removal,
 ) -> Result<u128, Refusal>
-    requires begun { (P.store pages.old).is_begun ≡ true }
-    requires may { MayChange file.old }
-    requires room { file.old.accepted < CHANGES }
+    requires may { MayAccept P.Pages file.old pages.old }
     requires place { removal.now.table < length file.old.tables.items }
     ensures leaves { LeavesFile P.Pages file.old result pages.old pages.new }
     ensures removes { P.is_tied pages.old → IfOk result (λ count. ChangesFile oldest (P.store pages.old).map (P.store pages.new).map file.old file.new
         (RemovesRows removal.now.table removal.now.route removal.now.lo removal.now.hi removal.now.goes count)) }
-    ensures next { OnOk result (IsNext file.old.definitions file.old file.new) }
-    ensures keeps { OnErr result (KeepsCommitted file.old file.new) }
+    ensures opened { ComesNext file.old.definitions result file.old file.new }
 {
     let before = garbage(file);
     let count = remove_in_place(alloc, pages, file, removal)?;
@@ -144,9 +126,7 @@ fn remove_in_place<P: Pages>(
     file: &mut OpenedFile,
     removal: &Removal,
 ) -> Result<u128, Refusal>
-    requires begun { (P.store pages.old).is_begun ≡ true }
-    requires may { MayChange file.old }
-    requires room { file.old.accepted < CHANGES }
+    requires may { MayAccept P.Pages file.old pages.old }
     requires place { removal.now.table < length file.old.tables.items }
     ensures leaves { LeavesFile P.Pages file.old result pages.old pages.new }
     ensures removes { P.is_tied pages.old → IfOk result (λ count. MakesAt (P.store pages.old).map (P.store pages.new).map file.old file.new removal.now.table

@@ -3,7 +3,7 @@
 //! Records are cleared first, then the part changes, and at last the definitions and the directory are written. Where they are not,
 //! what is open gets its tables and indexes back, which takes no memory.
 
-ghost use Rattle.std.specs.Prelude.{◌≡◌, ◌≢◌, ◌≤◌, ◌<◌, ◌+◌, ◌*◌, ℕ, true, length, Err, IfOk, IsOk, IsOkUnless, OnErr, OnOk, Some, slice_get};
+ghost use Rattle.std.specs.Prelude.{◌≡◌, ◌≤◌, ◌<◌, ◌+◌, ◌*◌, ℕ, true, length, Err, IfOk, IsOk, IsOkUnless, OnErr, OnOk};
 ghost use Rattle.std.specs.List.{AllByRecursion, insert};
 ghost use Rattle.std.specs.Vec.{vec_capacity, vec_len};
 ghost use Rattle.rs_attr.specs.Calls as attr;
@@ -17,9 +17,8 @@ ghost use Rattle.rs_file_changes.specs.Calls.{Leaves};
 ghost use Rattle.rs_file_changes.specs.Parts.{HaveAllDiedBy, IsReady, KeepsCommitted, KeepsOpened, Makes};
 ghost use Rattle.rs_machine.specs.declared.limits.TheConstants.{CHANGES};
 ghost use Rattle.rs_pages.specs.PageMap.{PageMap};
-ghost use Rattle.rs_state_changes.specs.Calls.{IsNext, LeavesFile, MayChange};
+ghost use Rattle.rs_state_changes.specs.Calls.{Changes, ComesNext, LeavesFile, MayDefine};
 ghost use Rattle.rs_state_changes.specs.Tables.{ComesTable, HasIndexAt, HasIndexOfAt, HasTableAt, HoldsNoneBeside, IsIndexPut, IsIndexTaken, IsTablePut, IsWritten, LeavesNext, LosesTableAt, StaySame, WritesNext};
-ghost use Rattle.rs_state_laws.specs.Changing.{ChangesFile};
 ghost use Rattle.rs_state_laws.specs.Parts.{ChangesIndexes, ChangesTableAt, PutsTable, TakesTable};
 ghost use Rattle.rs_versioned.specs.Events.{event_width};
 ghost use Rattle.rs_versioned.specs.Records.{HasNone};
@@ -46,6 +45,17 @@ pub struct IndexPlace {
     pub position: usize,
 }
 
+/// An index that is made: where it comes, and the column that it is of.
+#[derive(Clone, Copy)]
+pub struct NewIndex {
+    /// The table's place.
+    pub table: usize,
+    /// The position among its indexes.
+    pub position: usize,
+    /// The column's place.
+    pub column: usize,
+}
+
 /// Puts a table without events at its place, and writes the definitions, which have that table more. Versions from `oldest` on see what
 /// they saw. It is refused with 90, with 91, with 92 where the file is full, and with 94 only where the file holds no contents with what
 /// is open.
@@ -58,19 +68,12 @@ pub fn define_table<P: Pages>(
     place: usize,
     schema: Schema,
 ) -> Result<(), Refusal>
-    requires begun { (P.store pages.old).is_begun ≡ true }
-    requires may { MayChange file.old }
-    requires room { file.old.accepted < CHANGES }
-    requires fits { FitsCatalogue (said_catalogue definitions) }
-    requires short { IsShort (said_catalogue definitions) }
-    requires births { AllByRecursion (λ route. route.born ≤ file.old.accepted + 1) (said_catalogue definitions).routes }
+    requires may { MayDefine P.Pages file.old definitions pages.old }
     requires given { AreGivenOnce (said_catalogue definitions) }
     requires more { HasTableAt place schema.items (said_catalogue file.old.definitions) (said_catalogue definitions) }
     ensures leaves { LeavesFile P.Pages file.old result pages.old pages.new }
-    ensures puts { P.is_tied pages.old → OnOk result (ChangesFile oldest (P.store pages.old).map (P.store pages.new).map file.old file.new
-        (PutsTable place schema.items (said_catalogue definitions))) }
-    ensures next { OnOk result (IsNext definitions file.old file.new) }
-    ensures keeps { OnErr result (KeepsCommitted file.old file.new) }
+    ensures puts { Changes P.Pages oldest file.old file.new (PutsTable place schema.items (said_catalogue definitions)) result pages.old pages.new }
+    ensures opened { ComesNext definitions result file.old file.new }
 {
     let version = file.accepted + 1;
     clear(alloc, pages, file, oldest, CLEARED, version as usize)?;
@@ -94,19 +97,12 @@ pub fn drop_table<P: Pages>(
     definitions: StoredCatalogue,
     place: usize,
 ) -> Result<(), Refusal>
-    requires begun { (P.store pages.old).is_begun ≡ true }
-    requires may { MayChange file.old }
-    requires room { file.old.accepted < CHANGES }
-    requires fits { FitsCatalogue (said_catalogue definitions) }
-    requires short { IsShort (said_catalogue definitions) }
-    requires births { AllByRecursion (λ route. route.born ≤ file.old.accepted + 1) (said_catalogue definitions).routes }
+    requires may { MayDefine P.Pages file.old definitions pages.old }
     requires given { AreGivenOnce (said_catalogue definitions) }
     requires less { LosesTableAt place (said_catalogue file.old.definitions) (said_catalogue definitions) }
     ensures leaves { LeavesFile P.Pages file.old result pages.old pages.new }
-    ensures takes { P.is_tied pages.old → OnOk result (ChangesFile oldest (P.store pages.old).map (P.store pages.new).map file.old file.new
-        (TakesTable place (said_catalogue definitions))) }
-    ensures next { OnOk result (IsNext definitions file.old file.new) }
-    ensures keeps { OnErr result (KeepsCommitted file.old file.new) }
+    ensures takes { Changes P.Pages oldest file.old file.new (TakesTable place (said_catalogue definitions)) result pages.old pages.new }
+    ensures opened { ComesNext definitions result file.old file.new }
 {
     empty_place(pages, file, place)?;
     let version = file.accepted + 1;
@@ -130,23 +126,15 @@ pub fn define_index<P: Pages>(
     file: &mut OpenedFile,
     oldest: u64,
     definitions: StoredCatalogue,
-    place: IndexPlace,
-    column: usize,
+    place: NewIndex,
     routes: &[u32],
 ) -> Result<(), Refusal>
-    requires begun { (P.store pages.old).is_begun ≡ true }
-    requires may { MayChange file.old }
-    requires room { file.old.accepted < CHANGES }
-    requires fits { FitsCatalogue (said_catalogue definitions) }
-    requires short { IsShort (said_catalogue definitions) }
-    requires births { AllByRecursion (λ route. route.born ≤ file.old.accepted + 1) (said_catalogue definitions).routes }
+    requires may { MayDefine P.Pages file.old definitions pages.old }
     requires given { AreGivenOnce (said_catalogue definitions) }
-    requires more { HasIndexOfAt place.table place.position column (said_catalogue file.old.definitions) (said_catalogue definitions) }
+    requires more { HasIndexOfAt place.table place.position place.column (said_catalogue file.old.definitions) (said_catalogue definitions) }
     ensures leaves { LeavesFile P.Pages file.old result pages.old pages.new }
-    ensures changes { P.is_tied pages.old → OnOk result (ChangesFile oldest (P.store pages.old).map (P.store pages.new).map file.old file.new
-        (ChangesIndexes place.table (said_catalogue definitions))) }
-    ensures next { OnOk result (IsNext definitions file.old file.new) }
-    ensures keeps { OnErr result (KeepsCommitted file.old file.new) }
+    ensures changes { Changes P.Pages oldest file.old file.new (ChangesIndexes place.table (said_catalogue definitions)) result pages.old pages.new }
+    ensures opened { ComesNext definitions result file.old file.new }
 {
     let version = file.accepted + 1;
     clear(alloc, pages, file, oldest, CLEARED, version as usize)?;
@@ -155,7 +143,7 @@ pub fn define_index<P: Pages>(
         pages,
         &mut file.tables[place.table],
         place.position,
-        column,
+        place.column,
         routes,
     )?;
     match write_next(alloc, pages, file, definitions) {
@@ -176,19 +164,12 @@ pub fn drop_index<P: Pages>(
     definitions: StoredCatalogue,
     place: IndexPlace,
 ) -> Result<(), Refusal>
-    requires begun { (P.store pages.old).is_begun ≡ true }
-    requires may { MayChange file.old }
-    requires room { file.old.accepted < CHANGES }
-    requires fits { FitsCatalogue (said_catalogue definitions) }
-    requires short { IsShort (said_catalogue definitions) }
-    requires births { AllByRecursion (λ route. route.born ≤ file.old.accepted + 1) (said_catalogue definitions).routes }
+    requires may { MayDefine P.Pages file.old definitions pages.old }
     requires given { AreGivenOnce (said_catalogue definitions) }
     requires less { HasIndexAt place.table place.position (said_catalogue definitions) (said_catalogue file.old.definitions) }
     ensures leaves { LeavesFile P.Pages file.old result pages.old pages.new }
-    ensures changes { P.is_tied pages.old → OnOk result (ChangesFile oldest (P.store pages.old).map (P.store pages.new).map file.old file.new
-        (ChangesIndexes place.table (said_catalogue definitions))) }
-    ensures next { OnOk result (IsNext definitions file.old file.new) }
-    ensures keeps { OnErr result (KeepsCommitted file.old file.new) }
+    ensures changes { Changes P.Pages oldest file.old file.new (ChangesIndexes place.table (said_catalogue definitions)) result pages.old pages.new }
+    ensures opened { ComesNext definitions result file.old file.new }
 {
     let version = file.accepted + 1;
     clear(alloc, pages, file, oldest, CLEARED, version as usize)?;

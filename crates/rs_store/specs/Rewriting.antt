@@ -14,6 +14,7 @@ use Rattle.rs_machine.specs.State.{State}
 use Rattle.rs_pager.specs.Maps.{KeepsChanges}
 use Rattle.rs_pager.specs.Paged.{Paged}
 use Rattle.rs_refusal.specs.declared.refusal.Refusal.{Refusal}
+pub use Rattle.rs_state_changes.specs.Calls.{HasTablesOf}
 use Rattle.rs_state_laws.specs.Changing.{GivesState}
 use Rattle.rs_store.specs.Calls.{KeepsStore}
 use Rattle.rs_store.specs.Changing.{HasBecome, LeavesStore}
@@ -31,11 +32,6 @@ pub record AreNumbersSmall (items : CatalogueItems) : Type 0 where
 pub record CanBeKept (items : CatalogueItems) : Type 0 where
   pub meant : AreMeant items
   pub texts : All (λ view. length view.text < 2 ^ 16) items.views
-
--- they are listed among the same tables and indexes as these are
-pub record HasTablesOf (was items : CatalogueItems) : Type 0 where
-  pub tables : items.tables ≡ was.tables
-  pub indexes : items.indexes ≡ was.indexes
 
 -- ---- a store whose file is changed
 

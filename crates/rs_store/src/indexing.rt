@@ -33,7 +33,7 @@ use rs_machine_laws::view_lines::shortest_line_defines_the_view;
 use rs_methods::Name;
 use rs_pager::Pager;
 use rs_refusal::Refusal;
-use rs_state_changes::IndexPlace;
+use rs_state_changes::{IndexPlace, NewIndex};
 use rs_state_laws::tables::index_listed_gives_its_state;
 use std::alloc::{AllocError, Global};
 
@@ -145,14 +145,13 @@ fn write_index<D: Disk>(
     );
     let routes = numbers_of(alloc, stored.routes.as_slice())?;
     pager.begin()?;
-    let at = IndexPlace {
+    let column = usize::from(index.column());
+    let at = NewIndex {
         table: place,
         position,
+        column,
     };
-    let column = usize::from(index.column());
-    let made = rs_state_changes::define_index(
-        alloc, pager, file, oldest, stored, at, column, &routes,
-    );
+    let made = rs_state_changes::define_index(alloc, pager, file, oldest, stored, at, &routes);
     settle(pager, file, made)
 }
 

@@ -6,14 +6,12 @@ ghost use Rattle.std.specs.List.{AllByRecursion};
 ghost use Rattle.rs_catalog.specs.Definitions.{RouteItem};
 ghost use Rattle.rs_catalog.specs.Referents.{at_number, referents_on};
 ghost use Rattle.rs_facts.specs.Fact.{Name as ListName};
-ghost use Rattle.rs_file_changes.specs.Parts.{KeepsCommitted};
 ghost use Rattle.rs_machine.specs.Lawful.{IsLawful};
 ghost use Rattle.rs_machine.specs.State.{State, has};
 ghost use Rattle.rs_machine.specs.Step.{with_referents};
 ghost use Rattle.rs_machine.specs.declared.limits.TheConstants.{CHANGES};
 ghost use Rattle.rs_methods.specs.Position.{start_name};
-ghost use Rattle.rs_state_changes.specs.Calls.{IsNext, LeavesFile, MayChange};
-ghost use Rattle.rs_state_laws.specs.Changing.{ChangesFile};
+ghost use Rattle.rs_state_changes.specs.Calls.{Changes, ComesNext, LeavesFile, MayAccept};
 ghost use Rattle.rs_state_laws.specs.Parts.{PutsReferent};
 ghost use Rattle.rs_store.specs.Changing.{Always, HasBecome, LeavesStore};
 ghost use Rattle.rs_store.specs.Kept.{StandsIn};
@@ -187,17 +185,13 @@ fn define_in_both<P: Pages>(
     oldest: u64,
     referent: &Referent,
 ) -> Result<(), Refusal>
-    requires begun { (P.store pages.old).is_begun ≡ true }
-    requires may { MayChange file.old }
-    requires room { file.old.accepted < CHANGES }
+    requires may { MayAccept P.Pages file.old pages.old }
     requires not_start { referent.now.name.bytes ≢ start_name }
     requires name { AllByRecursion (λ byte. 0 < byte) referent.now.name.bytes }
     requires new { has (referents_on referents.old referent.now.route) referent.now.name.bytes ≡ false }
     ensures leaves { LeavesFile P.Pages file.old result pages.old pages.new }
-    ensures puts { P.is_tied pages.old → OnOk result (ChangesFile oldest (P.store pages.old).map (P.store pages.new).map file.old file.new
-        (PutsReferent referent.now.route referent.now.name.bytes referent.now.measure)) }
-    ensures next { OnOk result (IsNext file.old.definitions file.old file.new) }
-    ensures keeps { OnErr result (KeepsCommitted file.old file.new) }
+    ensures puts { Changes P.Pages oldest file.old file.new (PutsReferent referent.now.route referent.now.name.bytes referent.now.measure) result pages.old pages.new }
+    ensures opened { ComesNext file.old.definitions result file.old file.new }
     ensures held { OnOk result (referents_on referents.new ≡ at_number referent.now.route
         (names.insert (referents_on referents.old referent.now.route) referent.now.name.bytes referent.now.measure) (referents_on referents.old)) }
     ensures back { OnErr result ((route : ℕ) → referents_on referents.new route ≡ referents_on referents.old route) }

@@ -22,10 +22,10 @@ returns-in_err-end_referents_on-clause-leaves g c =
     c.in_err-end_referents_on.ensures.leaves.keeps (stored_none old) (λ none tied. no_referents_no_file old.map was (none tied))
     (storing_by_works damaged (Err c.in_err-end_referents_on.field-0.0) old (g.P.Pages.store c.end_referents_on.new.pages) c.in_err-end_referents_on.ensures.leaves.works))
 
-pub returns-in_err-end_referents_on-clause-keeps : goal.returns-in_err-end_referents_on-clause-keeps
-returns-in_err-end_referents_on-clause-keeps g c =
+pub returns-in_err-end_referents_on-clause-opened : goal.returns-in_err-end_referents_on-clause-opened
+returns-in_err-end_referents_on-clause-opened g c =
     let p = err_from_is_err_and c.from_residual.result c.from_residual.ensures.1 in
-    rw p.1 (keeps_ended c.args.file.now c.end_referents_on.new.referents c.in_err-end_referents_on.ensures.committed)
+    rw p.1 (record { next = tt; stays = keeps_ended c.args.file.now c.end_referents_on.new.referents c.in_err-end_referents_on.ensures.committed })
 
 pub returns-in_err-former-clause-leaves : goal.returns-in_err-former-clause-leaves
 returns-in_err-former-clause-leaves g c =
@@ -44,25 +44,25 @@ returns-in_err-former-clause-leaves g c =
     (none (g.met.P.Pages.keeps_tied c.args.pages.now c.end_referents_on.new.pages ended.leaves.keeps tied)))
     c.in_err-former.ensures.leaves.works)
 
-pub returns-in_err-former-clause-keeps : goal.returns-in_err-former-clause-keeps
-returns-in_err-former-clause-keeps g c =
+pub returns-in_err-former-clause-opened : goal.returns-in_err-former-clause-opened
+returns-in_err-former-clause-opened g c =
     let was = c.args.file.now in
     let p = err_from_is_err_and c.from_residual-in_err-former.result c.from_residual-in_err-former.ensures.1 in
-    rw p.1 (subst (KeepsCommitted was) (sym c.in_err-former.ensures.stays) (keeps_ended was c.end_referents_on.new.referents c.in_ok-end_referents_on.ensures.committed))
+    rw p.1 (record { next = tt; stays = subst (KeepsCommitted was) (sym c.in_err-former.ensures.stays) (keeps_ended was c.end_referents_on.new.referents c.in_ok-end_referents_on.ensures.committed) })
 
 pub complete-requires-clause-ready : goal.complete-requires-clause-ready
 complete-requires-clause-ready g c =
     let was = c.args.file.now in
     let first : OpenedFile = record was { referents = c.end_referents_on.new.referents } in
     ready_then c.args.definitions first c.write_definitions.new.file c.in_ok-former.former c.in_ok-former.ensures.former
-    (ready_after was first (keeps_ended was c.end_referents_on.new.referents c.in_ok-end_referents_on.ensures.committed) c.requires.may.ready) c.requires.tables c.requires.indexes
+    (ready_after was first (keeps_ended was c.end_referents_on.new.referents c.in_ok-end_referents_on.ensures.committed) c.requires.may.opened.ready) c.requires.same.tables c.requires.same.indexes
 
 pub complete-requires-clause-order : goal.complete-requires-clause-order
 complete-requires-clause-order g c =
     let was = c.args.file.now in
     let first : OpenedFile = record was { referents = c.end_referents_on.new.referents } in
     order_then c.args.definitions first c.write_definitions.new.file c.in_ok-former.former c.in_ok-former.ensures.former
-    (order_ended was.accepted (was.accepted + 1) was c.end_referents_on.new.referents (omega arith) c.requires.may.order c.in_ok-end_referents_on.ensures.order)
+    (order_ended was.accepted (was.accepted + 1) was c.end_referents_on.new.referents (omega arith) c.requires.may.opened.order c.in_ok-end_referents_on.ensures.order)
 
 pub returns-in-Ok-clause-drops : goal.returns-in-Ok-clause-drops
 returns-in-Ok-clause-drops g c = λ tied.
@@ -83,9 +83,9 @@ returns-in-Ok-clause-drops g c = λ tied.
     (c.in_ok-former.ensures.defines tied_half (was.accepted + 1) (was.accepted + 1) (omega arith)))
     c.args.oldest c.garbage-before.result (g.P.Pages.store c.complete.new.pages).map c.complete.new.file c.garbage-before.ensures
     (drops_stay c.args.route listing)
-    (λ contents holds opened. births_then c.args.definitions first between former gives (was.accepted + 1) c.requires.births)
-    (λ contents holds opened. numbers_same old contents was between (ap (λ d. (said_catalogue d).tables) gives.definitions_are ∙ c.requires.tables)
-    (ap (λ d. (said_catalogue d).indexes) gives.definitions_are ∙ c.requires.indexes) holds opened)
+    (λ contents holds opened. births_then c.args.definitions first between former gives (was.accepted + 1) c.requires.may.births)
+    (λ contents holds opened. numbers_same old contents was between (ap (λ d. (said_catalogue d).tables) gives.definitions_are ∙ c.requires.same.tables)
+    (ap (λ d. (said_catalogue d).indexes) gives.definitions_are ∙ c.requires.same.indexes) holds opened)
     (c.in-Ok.ensures.completes (g.met.P.Pages.keeps_tied c.end_referents_on.new.pages c.write_definitions.new.pages c.in_ok-former.ensures.leaves.keeps tied_half))
 
 pub returns-in-Err-clause-leaves : goal.returns-in-Err-clause-leaves

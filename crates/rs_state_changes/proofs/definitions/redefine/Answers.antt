@@ -18,20 +18,20 @@ returns-in_err-former-clause-leaves g c =
     rw (p.1, p.2) (leaves_refused g.P.Pages was (g.P.Pages.is_tied c.args.pages.now → HoldsNoParts old.map was) c.in_err-former.field-0.0 c.args.pages.now c.args.pages.now c.write_definitions.new.pages
     c.in_err-former.ensures.leaves.keeps (stored_none old) (λ none tied. no_file old.map was (none tied)) c.in_err-former.ensures.leaves.works)
 
-pub returns-in_err-former-clause-keeps : goal.returns-in_err-former-clause-keeps
-returns-in_err-former-clause-keeps g c =
+pub returns-in_err-former-clause-opened : goal.returns-in_err-former-clause-opened
+returns-in_err-former-clause-opened g c =
     let was = c.args.file.now in
     let p = err_from_is_err_and c.from_residual.result c.from_residual.ensures.1 in
-    rw p.1 (subst (KeepsCommitted was) (sym c.in_err-former.ensures.stays) (keeps_none was))
+    rw p.1 (record { next = tt; stays = subst (KeepsCommitted was) (sym c.in_err-former.ensures.stays) (keeps_none was) })
 
 pub complete-requires-clause-ready : goal.complete-requires-clause-ready
 complete-requires-clause-ready g c =
-    ready_then c.args.definitions c.args.file.now c.write_definitions.new.file c.in_ok-former.former c.in_ok-former.ensures.former c.requires.may.ready c.requires.tables c.requires.indexes
+    ready_then c.args.definitions c.args.file.now c.write_definitions.new.file c.in_ok-former.former c.in_ok-former.ensures.former c.requires.may.opened.ready c.requires.same.tables c.requires.same.indexes
 
 pub complete-requires-clause-order : goal.complete-requires-clause-order
 complete-requires-clause-order g c =
     let was = c.args.file.now in
-    order_then c.args.definitions was c.write_definitions.new.file c.in_ok-former.former c.in_ok-former.ensures.former (order_later was.accepted (was.accepted + 1) was (omega arith) c.requires.may.order)
+    order_then c.args.definitions was c.write_definitions.new.file c.in_ok-former.former c.in_ok-former.ensures.former (order_later was.accepted (was.accepted + 1) was (omega arith) c.requires.may.opened.order)
 
 pub returns-in-Ok-clause-defines : goal.returns-in-Ok-clause-defines
 returns-in-Ok-clause-defines g c = λ tied.
@@ -45,9 +45,9 @@ returns-in-Ok-clause-defines g c = λ tied.
     (makes_next (ChangesDefinitions listing) (ChangesDefinitions listing) old mid was between (λ contents now same is. is) (c.in_ok-former.ensures.defines tied was.accepted (was.accepted + 1) (omega arith)))
     c.args.oldest c.garbage-before.result (g.P.Pages.store c.complete.new.pages).map c.complete.new.file c.garbage-before.ensures
     (λ contents now change. ap (λ (c : Contents). c.directory) change.rest)
-    (λ contents holds opened. births_then c.args.definitions was between c.in_ok-former.former gives (was.accepted + 1) c.requires.births)
-    (λ contents holds opened. numbers_same old contents was between (ap (λ d. (said_catalogue d).tables) gives.definitions_are ∙ c.requires.tables)
-    (ap (λ d. (said_catalogue d).indexes) gives.definitions_are ∙ c.requires.indexes) holds opened)
+    (λ contents holds opened. births_then c.args.definitions was between c.in_ok-former.former gives (was.accepted + 1) c.requires.may.births)
+    (λ contents holds opened. numbers_same old contents was between (ap (λ d. (said_catalogue d).tables) gives.definitions_are ∙ c.requires.same.tables)
+    (ap (λ d. (said_catalogue d).indexes) gives.definitions_are ∙ c.requires.same.indexes) holds opened)
     (c.in-Ok.ensures.completes (g.met.P.Pages.keeps_tied c.args.pages.now c.write_definitions.new.pages c.in_ok-former.ensures.leaves.keeps tied))
 
 pub returns-in-Err-clause-leaves : goal.returns-in-Err-clause-leaves

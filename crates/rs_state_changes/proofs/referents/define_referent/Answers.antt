@@ -13,11 +13,11 @@ returns-in_err-put_referent-clause-leaves g c =
     rw (p.1, p.2) (part_refused g.P.Pages c.args.file.now c.in_err-put_referent.field-0.0 c.args.pages.now c.put_referent.new.pages c.in_err-put_referent.ensures.leaves)
 
 pub complete-requires-clause-ready : goal.complete-requires-clause-ready
-complete-requires-clause-ready g c = ready_after c.args.file.now c.put_referent.new.file c.in_ok-put_referent.ensures.keeps c.requires.may.ready
+complete-requires-clause-ready g c = ready_after c.args.file.now c.put_referent.new.file c.in_ok-put_referent.ensures.keeps c.requires.may.opened.ready
 
 pub complete-requires-clause-order : goal.complete-requires-clause-order
 complete-requires-clause-order g c =
-    subst (λ n. HaveAllDiedBy (n + 1) c.put_referent.new.file) (sym c.in_ok-put_referent.ensures.keeps.accepted) (c.in_ok-put_referent.ensures.order (c.args.file.now.accepted + 1) (order_next c.args.file.now.accepted c.args.file.now c.requires.may.order))
+    subst (λ n. HaveAllDiedBy (n + 1) c.put_referent.new.file) (sym c.in_ok-put_referent.ensures.keeps.accepted) (c.in_ok-put_referent.ensures.order (c.args.file.now.accepted + 1) (order_next c.args.file.now.accepted c.args.file.now c.requires.may.opened.order))
 
 pub returns-in_err-complete-clause-leaves : goal.returns-in_err-complete-clause-leaves
 returns-in_err-complete-clause-leaves g c =
@@ -34,10 +34,10 @@ returns-in_err-complete-clause-leaves g c =
     (λ tied. puts_next old.map mid.map was between c.args.referent.now.route c.args.referent.now.name.bytes c.args.referent.now.measure (c.in_ok-put_referent.ensures.puts tied))
     c.in_err-complete.ensures.leaves)
 
-pub returns-in_err-complete-clause-keeps : goal.returns-in_err-complete-clause-keeps
-returns-in_err-complete-clause-keeps g c =
+pub returns-in_err-complete-clause-opened : goal.returns-in_err-complete-clause-opened
+returns-in_err-complete-clause-opened g c =
     let p = err_from_is_err_and c.from_residual-in_err-complete.result c.from_residual-in_err-complete.ensures.1 in
-    rw (p.1) (keeps_then c.args.file.now c.put_referent.new.file c.complete.new.file c.in_ok-put_referent.ensures.keeps c.in_err-complete.ensures.keeps)
+    rw p.1 (record { next = tt; stays = keeps_then c.args.file.now c.put_referent.new.file c.complete.new.file c.in_ok-put_referent.ensures.keeps c.in_err-complete.ensures.keeps })
 
 pub returns-clause-puts : goal.returns-clause-puts
 returns-clause-puts g c = λ tied.

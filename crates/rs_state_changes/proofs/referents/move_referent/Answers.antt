@@ -29,15 +29,15 @@ returns-in_err-put_referent-clause-leaves g c =
     (none (g.met.P.Pages.keeps_tied c.args.pages.now c.end_referent.new.pages c.in_ok-end_referent.ensures.leaves.keeps tied)))
     (storing_by_works (g.P.Pages.is_tied c.end_referent.new.pages → HoldsNoParts mid.map between) (Err c.in_err-put_referent.field-0.0) mid new c.in_err-put_referent.ensures.leaves.works))
 
-pub returns-in_err-put_referent-clause-keeps : goal.returns-in_err-put_referent-clause-keeps
-returns-in_err-put_referent-clause-keeps g c =
+pub returns-in_err-put_referent-clause-opened : goal.returns-in_err-put_referent-clause-opened
+returns-in_err-put_referent-clause-opened g c =
     let p = err_from_is_err_and c.from_residual-in_err-put_referent.result c.from_residual-in_err-put_referent.ensures.1 in
-    rw (p.1) (keeps_then c.args.file.now c.end_referent.new.file c.put_referent.new.file c.in_ok-end_referent.ensures.keeps c.in_err-put_referent.ensures.keeps)
+    rw p.1 (record { next = tt; stays = keeps_then c.args.file.now c.end_referent.new.file c.put_referent.new.file c.in_ok-end_referent.ensures.keeps c.in_err-put_referent.ensures.keeps })
 
 pub complete-requires-clause-ready : goal.complete-requires-clause-ready
 complete-requires-clause-ready g c =
     ready_after c.args.file.now c.put_referent.new.file
-    (keeps_then c.args.file.now c.end_referent.new.file c.put_referent.new.file c.in_ok-end_referent.ensures.keeps c.in_ok-put_referent.ensures.keeps) c.requires.may.ready
+    (keeps_then c.args.file.now c.end_referent.new.file c.put_referent.new.file c.in_ok-end_referent.ensures.keeps c.in_ok-put_referent.ensures.keeps) c.requires.may.opened.ready
 
 pub complete-requires-clause-order : goal.complete-requires-clause-order
 complete-requires-clause-order g c =
@@ -65,11 +65,14 @@ returns-in_err-complete-clause-leaves g c =
     (c.in_ok-put_referent.ensures.puts (g.met.P.Pages.keeps_tied c.args.pages.now c.end_referent.new.pages c.in_ok-end_referent.ensures.leaves.keeps tied)))
     c.in_err-complete.ensures.leaves)
 
-pub returns-in_err-complete-clause-keeps : goal.returns-in_err-complete-clause-keeps
-returns-in_err-complete-clause-keeps g c =
+pub returns-in_err-complete-clause-opened : goal.returns-in_err-complete-clause-opened
+returns-in_err-complete-clause-opened g c =
     let p = err_from_is_err_and c.from_residual-in_err-complete.result c.from_residual-in_err-complete.ensures.1 in
-    rw (p.1) (keeps_then c.args.file.now c.put_referent.new.file c.complete.new.file
-    (keeps_then c.args.file.now c.end_referent.new.file c.put_referent.new.file c.in_ok-end_referent.ensures.keeps c.in_ok-put_referent.ensures.keeps) c.in_err-complete.ensures.keeps)
+    rw p.1 (record {
+      next = tt;
+      stays = keeps_then c.args.file.now c.put_referent.new.file c.complete.new.file
+          (keeps_then c.args.file.now c.end_referent.new.file c.put_referent.new.file c.in_ok-end_referent.ensures.keeps c.in_ok-put_referent.ensures.keeps) c.in_err-complete.ensures.keeps;
+    })
 
 pub returns-clause-moves : goal.returns-clause-moves
 returns-clause-moves g c = λ tied.

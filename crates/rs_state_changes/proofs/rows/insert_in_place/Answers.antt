@@ -13,15 +13,15 @@ use Rattle.rs_state_changes.proofs.rows.insert_in_place.Goals as goal
 
 pub insert-requires-clause-may : goal.insert-requires-clause-may
 insert-requires-clause-may g c = record {
-  begun = c.requires.begun;
-  indexes = place_on_cells c.args.file.now c.args.insertion.now.table c.index_mut.result.now c.requires.place c.index_mut.ensures.value c.requires.may.ready;
-  mortal = omega (arith, c.requires.room);
-  order = order_placed c.args.file.now c.args.insertion.now.table c.index_mut.result.now c.requires.place c.index_mut.ensures.value c.requires.may.order;
+  begun = c.requires.may.begun;
+  indexes = place_on_cells c.args.file.now c.args.insertion.now.table c.index_mut.result.now c.requires.row.there c.index_mut.ensures.value c.requires.may.opened.ready;
+  mortal = omega (arith, c.requires.may.room);
+  order = order_placed c.args.file.now c.args.insertion.now.table c.index_mut.result.now c.requires.row.there c.index_mut.ensures.value c.requires.may.opened.order;
 }
 
 pub returns-clause-leaves : goal.returns-clause-leaves
 returns-clause-leaves g c =
-    leaves_placed c.args.file.now c.args.insertion.now.table c.index_mut.result.now c.requires.place c.index_mut.ensures.value g.P.Pages (c.args.file.now.accepted + 1) c.insert.result
+    leaves_placed c.args.file.now c.args.insertion.now.table c.index_mut.result.now c.requires.row.there c.index_mut.ensures.value g.P.Pages (c.args.file.now.accepted + 1) c.insert.result
     c.args.pages.now c.insert.new.pages (omega arith) c.insert.ensures.leaves
 
 pub returns-clause-inserts : goal.returns-clause-inserts
@@ -36,7 +36,7 @@ returns-clause-inserts g c = λ tied.
     let version : ℕ = was.accepted + 1 in
     IfOk-weaker c.insert.result (Inserted old new one now c.args.insertion.now.kind version c.args.insertion.now.route (seen c.args.insertion.now.span))
     (λ count. MakesAt old new was is place (Inserts c.args.insertion.now.kind was.accepted version c.args.insertion.now.route (seen c.args.insertion.now.span) count))
-    (λ count did. made_placed was place one c.requires.place c.index_mut.ensures.value now c.insert.ensures.keeps.table old new is (Inserts c.args.insertion.now.kind was.accepted version c.args.insertion.now.route (seen c.args.insertion.now.span) count) refl refl refl refl
+    (λ count did. made_placed was place one c.requires.row.there c.index_mut.ensures.value now c.insert.ensures.keeps.table old new is (Inserts c.args.insertion.now.kind was.accepted version c.args.insertion.now.route (seen c.args.insertion.now.span) count) refl refl refl refl
     (did was.accepted (omega arith)))
     (c.insert.ensures.inserts tied)
 
@@ -45,13 +45,13 @@ returns-clause-keeps g c = record {
   definitions = refl;
   pages = refl;
   accepted = refl;
-  tables = place_keeps c.args.file.now c.args.insertion.now.table c.index_mut.result.now c.requires.place c.index_mut.ensures.value c.insert.new.table c.insert.ensures.keeps.table;
+  tables = place_keeps c.args.file.now c.args.insertion.now.table c.index_mut.result.now c.requires.row.there c.index_mut.ensures.value c.insert.new.table c.insert.ensures.keeps.table;
   referents = refl;
 }
 
 pub returns-clause-order : goal.returns-clause-order
 returns-clause-order g c = record {
-  tables = tables_died c.args.file.now c.args.insertion.now.table c.index_mut.result.now c.requires.place c.index_mut.ensures.value c.insert.new.table c.insert.ensures.keeps.table
-      c.requires.may.order c.insert.ensures.keeps.order;
-  referents = (order_later c.args.file.now.accepted (c.args.file.now.accepted + 1) c.args.file.now (omega arith) c.requires.may.order).referents;
+  tables = tables_died c.args.file.now c.args.insertion.now.table c.index_mut.result.now c.requires.row.there c.index_mut.ensures.value c.insert.new.table c.insert.ensures.keeps.table
+      c.requires.may.opened.order c.insert.ensures.keeps.order;
+  referents = (order_later c.args.file.now.accepted (c.args.file.now.accepted + 1) c.args.file.now (omega arith) c.requires.may.opened.order).referents;
 }

@@ -12,7 +12,7 @@ use Rattle.rs_versioned.specs.Events.{Event}
 use Rattle.rs_state_changes.proofs.rows.remove.Goals as goal
 
 pub complete-requires-clause-ready : goal.complete-requires-clause-ready
-complete-requires-clause-ready g c = ready_after c.args.file.now c.remove_in_place.new.file c.in_ok-count.ensures.keeps c.requires.may.ready
+complete-requires-clause-ready g c = ready_after c.args.file.now c.remove_in_place.new.file c.in_ok-count.ensures.keeps c.requires.may.opened.ready
 
 pub returns-in_err-complete-clause-leaves : goal.returns-in_err-complete-clause-leaves
 returns-in_err-complete-clause-leaves g c =
@@ -30,10 +30,10 @@ returns-in_err-complete-clause-leaves g c =
     (λ tied. made_next place by old.map mid.map was between (c.in_ok-count.ensures.removes tied))
     c.in_err-complete.ensures.leaves)
 
-pub returns-in_err-complete-clause-keeps : goal.returns-in_err-complete-clause-keeps
-returns-in_err-complete-clause-keeps g c =
+pub returns-in_err-complete-clause-opened : goal.returns-in_err-complete-clause-opened
+returns-in_err-complete-clause-opened g c =
     let p = err_from_is_err_and c.from_residual-in_err-complete.result c.from_residual-in_err-complete.ensures.1 in
-    rw p.1 (keeps_then c.args.file.now c.remove_in_place.new.file c.complete.new.file c.in_ok-count.ensures.keeps c.in_err-complete.ensures.keeps)
+    rw p.1 (record { next = tt; stays = keeps_then c.args.file.now c.remove_in_place.new.file c.complete.new.file c.in_ok-count.ensures.keeps c.in_err-complete.ensures.keeps })
 
 pub returns-clause-removes : goal.returns-clause-removes
 returns-clause-removes g c = λ tied.

@@ -17,10 +17,10 @@ use Rattle.rs_state_changes.proofs.rows.remove_in_place.Goals as goal
 pub remove-requires : goal.remove-requires
 remove-requires g c = record {
   may = record {
-    begun = c.requires.begun;
-    indexes = place_on_cells c.args.file.now c.args.removal.now.table c.index_mut.result.now c.requires.place c.index_mut.ensures.value c.requires.may.ready;
-    mortal = omega (arith, c.requires.room);
-    order = order_placed c.args.file.now c.args.removal.now.table c.index_mut.result.now c.requires.place c.index_mut.ensures.value c.requires.may.order;
+    begun = c.requires.may.begun;
+    indexes = place_on_cells c.args.file.now c.args.removal.now.table c.index_mut.result.now c.requires.place c.index_mut.ensures.value c.requires.may.opened.ready;
+    mortal = omega (arith, c.requires.may.room);
+    order = order_placed c.args.file.now c.args.removal.now.table c.index_mut.result.now c.requires.place c.index_mut.ensures.value c.requires.may.opened.order;
   };
 }
 
@@ -58,6 +58,6 @@ returns-clause-keeps g c = record {
 pub returns-clause-order : goal.returns-clause-order
 returns-clause-order g c = record {
   tables = tables_died c.args.file.now c.args.removal.now.table c.index_mut.result.now c.requires.place c.index_mut.ensures.value c.remove.new.table c.remove.ensures.keeps.table
-      c.requires.may.order c.remove.ensures.keeps.order;
-  referents = (order_later c.args.file.now.accepted (c.args.file.now.accepted + 1) c.args.file.now (omega arith) c.requires.may.order).referents;
+      c.requires.may.opened.order c.remove.ensures.keeps.order;
+  referents = (order_later c.args.file.now.accepted (c.args.file.now.accepted + 1) c.args.file.now (omega arith) c.requires.may.opened.order).referents;
 }

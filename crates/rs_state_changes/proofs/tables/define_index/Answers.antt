@@ -35,9 +35,9 @@ index_mut-requires g c =
     let f1 : OpenedFile = c.clear.new.file in
     let place : ℕ = c.args.place.table in
     let keeps = c.in_ok-clear.ensures.keeps in
-    let more = subst (λ (d : StoredCatalogue). HasIndexOfAt place c.args.place.position c.args.column (said_catalogue d) (said_catalogue c.args.definitions)) (sym keeps.definitions) c.requires.more in
+    let more = subst (λ (d : StoredCatalogue). HasIndexOfAt place c.args.place.position c.args.place.column (said_catalogue d) (said_catalogue c.args.definitions)) (sym keeps.definitions) c.requires.more in
     let there = indexed_there (said_catalogue c.args.definitions) f1 place c.args.place.position more.more in
-    omega (arith, open_there f1 place more.more.table (ready_after was f1 keeps c.requires.may.ready) there, f1.tables.ok.0)
+    omega (arith, open_there f1 place more.more.table (ready_after was f1 keeps c.requires.may.opened.ready) there, f1.tables.ok.0)
 
 pub put_index-requires-clause-column : goal.put_index-requires-clause-column
 put_index-requires-clause-column g c =
@@ -45,12 +45,12 @@ put_index-requires-clause-column g c =
     let f1 : OpenedFile = c.clear.new.file in
     let place : ℕ = c.args.place.table in
     let keeps = c.in_ok-clear.ensures.keeps in
-    let ready = ready_after was f1 keeps c.requires.may.ready in
-    let more = subst (λ (d : StoredCatalogue). HasIndexOfAt place c.args.place.position c.args.column (said_catalogue d) (said_catalogue c.args.definitions)) (sym keeps.definitions) c.requires.more in
+    let ready = ready_after was f1 keeps c.requires.may.opened.ready in
+    let more = subst (λ (d : StoredCatalogue). HasIndexOfAt place c.args.place.position c.args.place.column (said_catalogue d) (said_catalogue c.args.definitions)) (sym keeps.definitions) c.requires.more in
     let below = open_there f1 place more.more.table ready (indexed_there (said_catalogue c.args.definitions) f1 place c.args.place.position more.more) in
     let one : OpenedTable = c.index_mut.result.now in
     let here = here_is f1 place one below c.index_mut.ensures.value in
-    (index_fits (said_catalogue c.args.definitions) f1 place c.args.place.position c.args.column one ready here more).0
+    (index_fits (said_catalogue c.args.definitions) f1 place c.args.place.position c.args.place.column one ready here more).0
 
 pub put_index-requires-clause-fits : goal.put_index-requires-clause-fits
 put_index-requires-clause-fits g c =
@@ -58,12 +58,12 @@ put_index-requires-clause-fits g c =
     let f1 : OpenedFile = c.clear.new.file in
     let place : ℕ = c.args.place.table in
     let keeps = c.in_ok-clear.ensures.keeps in
-    let ready = ready_after was f1 keeps c.requires.may.ready in
-    let more = subst (λ (d : StoredCatalogue). HasIndexOfAt place c.args.place.position c.args.column (said_catalogue d) (said_catalogue c.args.definitions)) (sym keeps.definitions) c.requires.more in
+    let ready = ready_after was f1 keeps c.requires.may.opened.ready in
+    let more = subst (λ (d : StoredCatalogue). HasIndexOfAt place c.args.place.position c.args.place.column (said_catalogue d) (said_catalogue c.args.definitions)) (sym keeps.definitions) c.requires.more in
     let below = open_there f1 place more.more.table ready (indexed_there (said_catalogue c.args.definitions) f1 place c.args.place.position more.more) in
     let one : OpenedTable = c.index_mut.result.now in
     let here = here_is f1 place one below c.index_mut.ensures.value in
-    (index_fits (said_catalogue c.args.definitions) f1 place c.args.place.position c.args.column one ready here more).1
+    (index_fits (said_catalogue c.args.definitions) f1 place c.args.place.position c.args.place.column one ready here more).1
 
 pub put_index-requires-clause-position : goal.put_index-requires-clause-position
 put_index-requires-clause-position g c =
@@ -71,12 +71,12 @@ put_index-requires-clause-position g c =
     let f1 : OpenedFile = c.clear.new.file in
     let place : ℕ = c.args.place.table in
     let keeps = c.in_ok-clear.ensures.keeps in
-    let ready = ready_after was f1 keeps c.requires.may.ready in
-    let more = subst (λ (d : StoredCatalogue). HasIndexOfAt place c.args.place.position c.args.column (said_catalogue d) (said_catalogue c.args.definitions)) (sym keeps.definitions) c.requires.more in
+    let ready = ready_after was f1 keeps c.requires.may.opened.ready in
+    let more = subst (λ (d : StoredCatalogue). HasIndexOfAt place c.args.place.position c.args.place.column (said_catalogue d) (said_catalogue c.args.definitions)) (sym keeps.definitions) c.requires.more in
     let below = open_there f1 place more.more.table ready (indexed_there (said_catalogue c.args.definitions) f1 place c.args.place.position more.more) in
     let one : OpenedTable = c.index_mut.result.now in
     let here = here_is f1 place one below c.index_mut.ensures.value in
-    (index_fits (said_catalogue c.args.definitions) f1 place c.args.place.position c.args.column one ready here more).2
+    (index_fits (said_catalogue c.args.definitions) f1 place c.args.place.position c.args.place.column one ready here more).2
 
 pub returns-in_err-put_index-clause-leaves : goal.returns-in_err-put_index-clause-leaves
 returns-in_err-put_index-clause-leaves g c =
@@ -84,9 +84,9 @@ returns-in_err-put_index-clause-leaves g c =
     let f1 : OpenedFile = c.clear.new.file in
     let place : ℕ = c.args.place.table in
     let keeps = c.in_ok-clear.ensures.keeps in
-    let more = subst (λ (d : StoredCatalogue). HasIndexOfAt place c.args.place.position c.args.column (said_catalogue d) (said_catalogue c.args.definitions)) (sym keeps.definitions) c.requires.more in
+    let more = subst (λ (d : StoredCatalogue). HasIndexOfAt place c.args.place.position c.args.place.column (said_catalogue d) (said_catalogue c.args.definitions)) (sym keeps.definitions) c.requires.more in
     let there = indexed_there (said_catalogue c.args.definitions) f1 place c.args.place.position more.more in
-    let below = open_there f1 place more.more.table (ready_after was f1 keeps c.requires.may.ready) there in
+    let below = open_there f1 place more.more.table (ready_after was f1 keeps c.requires.may.opened.ready) there in
     let one : OpenedTable = c.index_mut.result.now in
     let s0 = g.P.Pages.store c.args.pages.now in
     let s1 = g.P.Pages.store c.clear.new.pages in
@@ -99,24 +99,28 @@ returns-in_err-put_index-clause-leaves g c =
     (place_none f1 place one below c.index_mut.ensures.value s1.map (none (g.met.P.Pages.keeps_tied c.args.pages.now c.clear.new.pages c.in_ok-clear.ensures.leaves.keeps tied)))))
     (storing_by_works later (Err c.in_err-put_index.field-0.0) s1 (g.P.Pages.store c.put_index.new.pages) c.in_err-put_index.ensures.leaves.works))
 
-pub returns-in_err-put_index-clause-keeps : goal.returns-in_err-put_index-clause-keeps
-returns-in_err-put_index-clause-keeps g c =
+pub returns-in_err-put_index-clause-opened : goal.returns-in_err-put_index-clause-opened
+returns-in_err-put_index-clause-opened g c =
     let was : OpenedFile = c.args.file.now in
     let f1 : OpenedFile = c.clear.new.file in
     let place : ℕ = c.args.place.table in
     let keeps = c.in_ok-clear.ensures.keeps in
-    let more = subst (λ (d : StoredCatalogue). HasIndexOfAt place c.args.place.position c.args.column (said_catalogue d) (said_catalogue c.args.definitions)) (sym keeps.definitions) c.requires.more in
+    let more = subst (λ (d : StoredCatalogue). HasIndexOfAt place c.args.place.position c.args.place.column (said_catalogue d) (said_catalogue c.args.definitions)) (sym keeps.definitions) c.requires.more in
     let there = indexed_there (said_catalogue c.args.definitions) f1 place c.args.place.position more.more in
-    let below = open_there f1 place more.more.table (ready_after was f1 keeps c.requires.may.ready) there in
+    let below = open_there f1 place more.more.table (ready_after was f1 keeps c.requires.may.opened.ready) there in
     let now : OpenedTable = c.put_index.new.table in
     let f2 : OpenedFile = record f1 { tables = with_item f1.tables place now } in
-    any_err c.from_residual-in_err-put_index.result (keeps_then was f1 f2 keeps (record {
-      definitions = refl;
-      pages = refl;
-      accepted = refl;
-      tables = place_kept f1 place c.index_mut.result.now below c.index_mut.ensures.value now c.in_err-put_index.ensures.table;
-      referents = refl;
-    }))
+    let p = err_from_is_err_and c.from_residual-in_err-put_index.result c.from_residual-in_err-put_index.ensures.1 in
+    rw p.1 (record {
+      next = tt;
+      stays = keeps_then was f1 f2 keeps (record {
+        definitions = refl;
+        pages = refl;
+        accepted = refl;
+        tables = place_kept f1 place c.index_mut.result.now below c.index_mut.ensures.value now c.in_err-put_index.ensures.table;
+        referents = refl;
+      });
+    })
 
 pub write_next-requires-clause-ready : goal.write_next-requires-clause-ready
 write_next-requires-clause-ready g c =
@@ -124,19 +128,19 @@ write_next-requires-clause-ready g c =
     let f1 : OpenedFile = c.clear.new.file in
     let place : ℕ = c.args.place.table in
     let keeps = c.in_ok-clear.ensures.keeps in
-    let ready = ready_after was f1 keeps c.requires.may.ready in
-    let more = subst (λ (d : StoredCatalogue). HasIndexOfAt place c.args.place.position c.args.column (said_catalogue d) (said_catalogue c.args.definitions)) (sym keeps.definitions) c.requires.more in
+    let ready = ready_after was f1 keeps c.requires.may.opened.ready in
+    let more = subst (λ (d : StoredCatalogue). HasIndexOfAt place c.args.place.position c.args.place.column (said_catalogue d) (said_catalogue c.args.definitions)) (sym keeps.definitions) c.requires.more in
     let there = indexed_there (said_catalogue c.args.definitions) f1 place c.args.place.position more.more in
     let below = open_there f1 place more.more.table ready there in
     let one : OpenedTable = c.index_mut.result.now in
     let now : OpenedTable = c.put_index.new.table in
     let f2 : OpenedFile = record f1 { definitions = c.args.definitions; tables = with_item f1.tables place now } in
-    ready_with_index f1 f2 ready c.requires.given place c.args.place.position c.args.column more one now (here_is f1 place one below c.index_mut.ensures.value)
+    ready_with_index f1 f2 ready c.requires.given place c.args.place.position c.args.place.column more one now (here_is f1 place one below c.index_mut.ensures.value)
     c.in_ok-put_index.ensures.put refl
 
 pub write_next-requires-clause-births : goal.write_next-requires-clause-births
 write_next-requires-clause-births g c =
-    births_still (said_catalogue c.args.definitions).routes c.args.file.now.accepted c.clear.new.file.accepted c.in_ok-clear.ensures.keeps.accepted c.requires.births
+    births_still (said_catalogue c.args.definitions).routes c.args.file.now.accepted c.clear.new.file.accepted c.in_ok-clear.ensures.keeps.accepted c.requires.may.births
 
 pub index_mut-requires-in-Err : goal.index_mut-requires-in-Err
 index_mut-requires-in-Err g c =
@@ -144,9 +148,9 @@ index_mut-requires-in-Err g c =
     let f1 : OpenedFile = c.clear.new.file in
     let place : ℕ = c.args.place.table in
     let keeps = c.in_ok-clear.ensures.keeps in
-    let more = subst (λ (d : StoredCatalogue). HasIndexOfAt place c.args.place.position c.args.column (said_catalogue d) (said_catalogue c.args.definitions)) (sym keeps.definitions) c.requires.more in
+    let more = subst (λ (d : StoredCatalogue). HasIndexOfAt place c.args.place.position c.args.place.column (said_catalogue d) (said_catalogue c.args.definitions)) (sym keeps.definitions) c.requires.more in
     let there = indexed_there (said_catalogue c.args.definitions) f1 place c.args.place.position more.more in
-    omega (arith, open_there f1 place more.more.table (ready_after was f1 keeps c.requires.may.ready) there, f1.tables.ok.0, ap (λ (f : OpenedFile). vec_len f.tables) c.in-Err.ensures.stays)
+    omega (arith, open_there f1 place more.more.table (ready_after was f1 keeps c.requires.may.opened.ready) there, f1.tables.ok.0, ap (λ (f : OpenedFile). vec_len f.tables) c.in-Err.ensures.stays)
 
 pub remove-index-requires : goal.remove-index-requires
 remove-index-requires g c =
@@ -154,8 +158,8 @@ remove-index-requires g c =
     let f1 : OpenedFile = c.clear.new.file in
     let place : ℕ = c.args.place.table in
     let keeps = c.in_ok-clear.ensures.keeps in
-    let ready = ready_after was f1 keeps c.requires.may.ready in
-    let more = subst (λ (d : StoredCatalogue). HasIndexOfAt place c.args.place.position c.args.column (said_catalogue d) (said_catalogue c.args.definitions)) (sym keeps.definitions) c.requires.more in
+    let ready = ready_after was f1 keeps c.requires.may.opened.ready in
+    let more = subst (λ (d : StoredCatalogue). HasIndexOfAt place c.args.place.position c.args.place.column (said_catalogue d) (said_catalogue c.args.definitions)) (sym keeps.definitions) c.requires.more in
     let below = open_there f1 place more.more.table ready (indexed_there (said_catalogue c.args.definitions) f1 place c.args.place.position more.more) in
     let one : OpenedTable = c.index_mut.result.now in
     let here = here_is f1 place one below c.index_mut.ensures.value in
@@ -164,7 +168,7 @@ remove-index-requires g c =
     let other : OpenedTable = c.index_mut-in-Err.result.now in
     let same : other ≡ now = read_back f1 place one below c.index_mut.ensures.value now other
     (c.index_mut-in-Err.ensures.value ∙ ap (λ (f : OpenedFile). get_or f.tables.items place other) c.in-Err.ensures.stays) in
-    let inside = (index_fits (said_catalogue c.args.definitions) f1 place c.args.place.position c.args.column one ready here more).2 in
+    let inside = (index_fits (said_catalogue c.args.definitions) f1 place c.args.place.position c.args.place.column one ready here more).2 in
     let put = c.in_ok-put_index.ensures.put in
     omega (arith, inside, other.indexes.ok.0, ap (λ (t : OpenedTable). length t.indexes.items) same, ap length put.indexes, length-insert one.indexes.items c.args.place.position put.index inside)
 
@@ -176,9 +180,9 @@ returns-in-Ok-clause-changes g c = λ tied.
     let oldest : ℕ = c.args.oldest in
     let gone : ℕ = c.in_ok-clear.field-0 in
     let keeps = c.in_ok-clear.ensures.keeps in
-    let more = subst (λ (d : StoredCatalogue). HasIndexOfAt place c.args.place.position c.args.column (said_catalogue d) (said_catalogue c.args.definitions)) (sym keeps.definitions) c.requires.more in
+    let more = subst (λ (d : StoredCatalogue). HasIndexOfAt place c.args.place.position c.args.place.column (said_catalogue d) (said_catalogue c.args.definitions)) (sym keeps.definitions) c.requires.more in
     let there = indexed_there (said_catalogue c.args.definitions) f1 place c.args.place.position more.more in
-    let below = open_there f1 place more.more.table (ready_after was f1 keeps c.requires.may.ready) there in
+    let below = open_there f1 place more.more.table (ready_after was f1 keeps c.requires.may.opened.ready) there in
     let one : OpenedTable = c.index_mut.result.now in
     let now : OpenedTable = c.put_index.new.table in
     let f2 : OpenedFile = record f1 { tables = with_item f1.tables place now } in
@@ -194,25 +198,28 @@ returns-in-Ok-clause-changes g c = λ tied.
     (λ contents last whole. index_commutes oldest gone (said_catalogue c.args.definitions) c.write_next.new.file.pages.items place contents last whole)
     (c.in-Ok.ensures.writes tied2) c.in-Ok.ensures.opened
 
-pub returns-in-Ok-clause-next : goal.returns-in-Ok-clause-next
-returns-in-Ok-clause-next g c =
+pub returns-in-Ok-clause-opened : goal.returns-in-Ok-clause-opened
+returns-in-Ok-clause-opened g c =
     let was : OpenedFile = c.args.file.now in
     let f1 : OpenedFile = c.clear.new.file in
     let place : ℕ = c.args.place.table in
     let keeps = c.in_ok-clear.ensures.keeps in
-    let ready = ready_after was f1 keeps c.requires.may.ready in
-    let more = subst (λ (d : StoredCatalogue). HasIndexOfAt place c.args.place.position c.args.column (said_catalogue d) (said_catalogue c.args.definitions)) (sym keeps.definitions) c.requires.more in
+    let ready = ready_after was f1 keeps c.requires.may.opened.ready in
+    let more = subst (λ (d : StoredCatalogue). HasIndexOfAt place c.args.place.position c.args.place.column (said_catalogue d) (said_catalogue c.args.definitions)) (sym keeps.definitions) c.requires.more in
     let below = open_there f1 place more.more.table ready (indexed_there (said_catalogue c.args.definitions) f1 place c.args.place.position more.more) in
     let one : OpenedTable = c.index_mut.result.now in
     let here = here_is f1 place one below c.index_mut.ensures.value in
     let now : OpenedTable = c.put_index.new.table in
     let f2 : OpenedFile = record f1 { tables = with_item f1.tables place now } in
     let f3 : OpenedFile = record f1 { definitions = c.args.definitions; tables = with_item f1.tables place now } in
-    let order = c.in_ok-clear.ensures.order was.accepted c.requires.may.order in
-    next_written c.args.definitions was f2 c.write_next.new.file keeps.accepted
-    (ready_with_index f1 f3 ready c.requires.given place c.args.place.position c.args.column more one now here c.in_ok-put_index.ensures.put refl)
-    (record { tables = place_order f1 place one below c.index_mut.ensures.value now was.accepted c.in_ok-put_index.ensures.put.records order.tables; referents = order.referents })
-    c.in-Ok.ensures.opened
+    let order = c.in_ok-clear.ensures.order was.accepted c.requires.may.opened.order in
+    record {
+      next = next_written c.args.definitions was f2 c.write_next.new.file keeps.accepted
+          (ready_with_index f1 f3 ready c.requires.given place c.args.place.position c.args.place.column more one now here c.in_ok-put_index.ensures.put refl)
+          (record { tables = place_order f1 place one below c.index_mut.ensures.value now was.accepted c.in_ok-put_index.ensures.put.records order.tables; referents = order.referents })
+          c.in-Ok.ensures.opened;
+      stays = tt;
+    }
 
 pub returns-in-Err-clause-leaves : goal.returns-in-Err-clause-leaves
 returns-in-Err-clause-leaves g c =
@@ -220,8 +227,8 @@ returns-in-Err-clause-leaves g c =
     let f1 : OpenedFile = c.clear.new.file in
     let place : ℕ = c.args.place.table in
     let keeps = c.in_ok-clear.ensures.keeps in
-    let ready = ready_after was f1 keeps c.requires.may.ready in
-    let more = subst (λ (d : StoredCatalogue). HasIndexOfAt place c.args.place.position c.args.column (said_catalogue d) (said_catalogue c.args.definitions)) (sym keeps.definitions) c.requires.more in
+    let ready = ready_after was f1 keeps c.requires.may.opened.ready in
+    let more = subst (λ (d : StoredCatalogue). HasIndexOfAt place c.args.place.position c.args.place.column (said_catalogue d) (said_catalogue c.args.definitions)) (sym keeps.definitions) c.requires.more in
     let below = open_there f1 place more.more.table ready (indexed_there (said_catalogue c.args.definitions) f1 place c.args.place.position more.more) in
     let one : OpenedTable = c.index_mut.result.now in
     let here = here_is f1 place one below c.index_mut.ensures.value in
@@ -246,14 +253,14 @@ returns-in-Err-clause-leaves g c =
     (ap (λ (r : _). r.types) c.in_ok-put_index.ensures.put.records) (c.in_ok-clear.ensures.clears tied) (c.in_ok-put_index.ensures.changes tied1)) (none tied2))
     c.in-Err.ensures.leaves.stores
 
-pub returns-in-Err-clause-keeps : goal.returns-in-Err-clause-keeps
-returns-in-Err-clause-keeps g c =
+pub returns-in-Err-clause-opened : goal.returns-in-Err-clause-opened
+returns-in-Err-clause-opened g c =
     let was : OpenedFile = c.args.file.now in
     let f1 : OpenedFile = c.clear.new.file in
     let place : ℕ = c.args.place.table in
     let keeps = c.in_ok-clear.ensures.keeps in
-    let ready = ready_after was f1 keeps c.requires.may.ready in
-    let more = subst (λ (d : StoredCatalogue). HasIndexOfAt place c.args.place.position c.args.column (said_catalogue d) (said_catalogue c.args.definitions)) (sym keeps.definitions) c.requires.more in
+    let ready = ready_after was f1 keeps c.requires.may.opened.ready in
+    let more = subst (λ (d : StoredCatalogue). HasIndexOfAt place c.args.place.position c.args.place.column (said_catalogue d) (said_catalogue c.args.definitions)) (sym keeps.definitions) c.requires.more in
     let below = open_there f1 place more.more.table ready (indexed_there (said_catalogue c.args.definitions) f1 place c.args.place.position more.more) in
     let one : OpenedTable = c.index_mut.result.now in
     let here = here_is f1 place one below c.index_mut.ensures.value in
@@ -265,7 +272,7 @@ returns-in-Err-clause-keeps g c =
     let other : OpenedTable = c.index_mut-in-Err.result.now in
     let same : other ≡ now = read_back f1 place one below c.index_mut.ensures.value now other
     (c.index_mut-in-Err.ensures.value ∙ ap (λ (f : OpenedFile). get_or f.tables.items place other) stays) in
-    let inside = (index_fits (said_catalogue c.args.definitions) f1 place c.args.place.position c.args.column one ready here more).2 in
+    let inside = (index_fits (said_catalogue c.args.definitions) f1 place c.args.place.position c.args.place.column one ready here more).2 in
     let last : OpenedTable = record { records = other.records; indexes = c.remove-index.new.self } in
     let restored : KeepsOpened one last = record {
       types = ap (λ (t : OpenedTable). t.records.types) same ∙ ap (λ (r : _). r.types) put.records;
@@ -274,10 +281,13 @@ returns-in-Err-clause-keeps g c =
           ∙ ap (λ (xs : List IndexState). remove xs c.args.place.position) put.indexes ∙ removed_again one.indexes.items c.args.place.position put.index inside);
     } in
     let f4 : OpenedFile = record f3 { tables = with_item f3.tables place last } in
-    keeps_then was f1 f4 keeps (record {
-      definitions = ap (λ (f : OpenedFile). f.definitions) stays;
-      pages = ap (λ (f : OpenedFile). f.pages) stays;
-      accepted = ap (λ (f : OpenedFile). f.accepted) stays;
-      tables = subst (AllZip KeepsOpened f1.tables.items) (sym (ap (λ (f : OpenedFile). set f.tables.items place last) stays)) (place_restored f1 place one below c.index_mut.ensures.value now last restored);
-      referents = ap (λ (f : OpenedFile). f.referents.committed) stays;
-    })
+    record {
+      next = tt;
+      stays = keeps_then was f1 f4 keeps (record {
+        definitions = ap (λ (f : OpenedFile). f.definitions) stays;
+        pages = ap (λ (f : OpenedFile). f.pages) stays;
+        accepted = ap (λ (f : OpenedFile). f.accepted) stays;
+        tables = subst (AllZip KeepsOpened f1.tables.items) (sym (ap (λ (f : OpenedFile). set f.tables.items place last) stays)) (place_restored f1 place one below c.index_mut.ensures.value now last restored);
+        referents = ap (λ (f : OpenedFile). f.referents.committed) stays;
+      });
+    }

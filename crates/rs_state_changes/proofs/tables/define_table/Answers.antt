@@ -35,11 +35,12 @@ put_table-requires-clause-place g c =
     let f1 : OpenedFile = c.clear.new.file in
     let keeps = c.in_ok-clear.ensures.keeps in
     let more = subst (λ (d : StoredCatalogue). HasTableAt c.args.place c.args.schema.items (said_catalogue d) (said_catalogue c.args.definitions)) (sym keeps.definitions) c.requires.more in
-    place_to_come (said_catalogue c.args.definitions) f1 c.args.place c.args.schema.items (ready_after was f1 keeps c.requires.may.ready) more
+    place_to_come (said_catalogue c.args.definitions) f1 c.args.place c.args.schema.items (ready_after was f1 keeps c.requires.may.opened.ready) more
 
-pub returns-in_err-put_table-clause-keeps : goal.returns-in_err-put_table-clause-keeps
-returns-in_err-put_table-clause-keeps g c =
-    any_err c.from_residual-in_err-put_table.result (keeps_then c.args.file.now c.clear.new.file c.put_table.new.file c.in_ok-clear.ensures.keeps c.in_err-put_table.ensures.stays)
+pub returns-in_err-put_table-clause-opened : goal.returns-in_err-put_table-clause-opened
+returns-in_err-put_table-clause-opened g c =
+    let p = err_from_is_err_and c.from_residual-in_err-put_table.result c.from_residual-in_err-put_table.ensures.1 in
+    rw p.1 (record { next = tt; stays = keeps_then c.args.file.now c.clear.new.file c.put_table.new.file c.in_ok-clear.ensures.keeps c.in_err-put_table.ensures.stays })
 
 pub write_next-requires-clause-ready : goal.write_next-requires-clause-ready
 write_next-requires-clause-ready g c =
@@ -50,12 +51,12 @@ write_next-requires-clause-ready g c =
     let keeps = c.in_ok-clear.ensures.keeps in
     let more = subst (λ (d : StoredCatalogue). HasTableAt c.args.place c.args.schema.items (said_catalogue d) (said_catalogue c.args.definitions)) (sym keeps.definitions) c.requires.more in
     let put = c.in_ok-put_table.ensures.put in
-    ready_with_table f1 f3 (ready_after was f1 keeps c.requires.may.ready) c.requires.given c.args.place c.args.schema.items more put.table put.types_are put.no_indexes put.tables
+    ready_with_table f1 f3 (ready_after was f1 keeps c.requires.may.opened.ready) c.requires.given c.args.place c.args.schema.items more put.table put.types_are put.no_indexes put.tables
 
 pub write_next-requires-clause-births : goal.write_next-requires-clause-births
 write_next-requires-clause-births g c =
     births_still (said_catalogue c.args.definitions).routes c.args.file.now.accepted c.put_table.new.file.accepted
-    (ap (λ (f : OpenedFile). f.accepted) c.in_ok-put_table.ensures.put.rest ∙ c.in_ok-clear.ensures.keeps.accepted) c.requires.births
+    (ap (λ (f : OpenedFile). f.accepted) c.in_ok-put_table.ensures.put.rest ∙ c.in_ok-clear.ensures.keeps.accepted) c.requires.may.births
 
 pub remove-table-requires : goal.remove-table-requires
 remove-table-requires g c =
@@ -64,7 +65,7 @@ remove-table-requires g c =
     let f2 : OpenedFile = c.put_table.new.file in
     let keeps = c.in_ok-clear.ensures.keeps in
     let more = subst (λ (d : StoredCatalogue). HasTableAt c.args.place c.args.schema.items (said_catalogue d) (said_catalogue c.args.definitions)) (sym keeps.definitions) c.requires.more in
-    let inside = place_to_come (said_catalogue c.args.definitions) f1 c.args.place c.args.schema.items (ready_after was f1 keeps c.requires.may.ready) more in
+    let inside = place_to_come (said_catalogue c.args.definitions) f1 c.args.place c.args.schema.items (ready_after was f1 keeps c.requires.may.opened.ready) more in
     let put = c.in_ok-put_table.ensures.put in
     omega (arith, inside, ap (λ (f : OpenedFile). vec_len f.tables) c.in-Err.ensures.stays, f2.tables.ok.0, ap length put.tables, length-insert f1.tables.items c.args.place put.table inside)
 
@@ -86,21 +87,24 @@ returns-in-Ok-clause-puts g c = λ tied.
     (λ contents last whole. table_commutes oldest gone (said_catalogue c.args.definitions) c.write_next.new.file.pages.items place contents last types whole)
     (c.in-Ok.ensures.writes (g.met.P.Pages.keeps_tied c.args.pages.now c.clear.new.pages c.in_ok-clear.ensures.leaves.keeps tied)) c.in-Ok.ensures.opened
 
-pub returns-in-Ok-clause-next : goal.returns-in-Ok-clause-next
-returns-in-Ok-clause-next g c =
+pub returns-in-Ok-clause-opened : goal.returns-in-Ok-clause-opened
+returns-in-Ok-clause-opened g c =
     let was : OpenedFile = c.args.file.now in
     let f1 : OpenedFile = c.clear.new.file in
     let f2 : OpenedFile = c.put_table.new.file in
     let f3 : OpenedFile = record f2 { definitions = c.args.definitions } in
     let keeps = c.in_ok-clear.ensures.keeps in
-    let ready = ready_after was f1 keeps c.requires.may.ready in
+    let ready = ready_after was f1 keeps c.requires.may.opened.ready in
     let more = subst (λ (d : StoredCatalogue). HasTableAt c.args.place c.args.schema.items (said_catalogue d) (said_catalogue c.args.definitions)) (sym keeps.definitions) c.requires.more in
     let inside = place_to_come (said_catalogue c.args.definitions) f1 c.args.place c.args.schema.items ready more in
     let put = c.in_ok-put_table.ensures.put in
-    next_written c.args.definitions was f2 c.write_next.new.file (ap (λ (f : OpenedFile). f.accepted) put.rest ∙ keeps.accepted)
-    (ready_with_table f1 f3 ready c.requires.given c.args.place c.args.schema.items more put.table put.types_are put.no_indexes put.tables)
-    (order_with_table c.args.place c.args.schema.items was.accepted f1 f2 inside put (c.in_ok-clear.ensures.order was.accepted c.requires.may.order))
-    c.in-Ok.ensures.opened
+    record {
+      next = next_written c.args.definitions was f2 c.write_next.new.file (ap (λ (f : OpenedFile). f.accepted) put.rest ∙ keeps.accepted)
+          (ready_with_table f1 f3 ready c.requires.given c.args.place c.args.schema.items more put.table put.types_are put.no_indexes put.tables)
+          (order_with_table c.args.place c.args.schema.items was.accepted f1 f2 inside put (c.in_ok-clear.ensures.order was.accepted c.requires.may.opened.order))
+          c.in-Ok.ensures.opened;
+      stays = tt;
+    }
 
 pub returns-in-Err-clause-leaves : goal.returns-in-Err-clause-leaves
 returns-in-Err-clause-leaves g c =
@@ -124,24 +128,27 @@ returns-in-Err-clause-leaves g c =
     (none (g.met.P.Pages.keeps_tied c.args.pages.now c.clear.new.pages c.in_ok-clear.ensures.leaves.keeps tied)))
     c.in-Err.ensures.leaves.stores
 
-pub returns-in-Err-clause-keeps : goal.returns-in-Err-clause-keeps
-returns-in-Err-clause-keeps g c =
+pub returns-in-Err-clause-opened : goal.returns-in-Err-clause-opened
+returns-in-Err-clause-opened g c =
     let was : OpenedFile = c.args.file.now in
     let f1 : OpenedFile = c.clear.new.file in
     let f3 : OpenedFile = c.write_next.new.file in
     let f4 : OpenedFile = record f3 { tables = c.remove-table.new.self } in
     let keeps = c.in_ok-clear.ensures.keeps in
     let more = subst (λ (d : StoredCatalogue). HasTableAt c.args.place c.args.schema.items (said_catalogue d) (said_catalogue c.args.definitions)) (sym keeps.definitions) c.requires.more in
-    let inside = place_to_come (said_catalogue c.args.definitions) f1 c.args.place c.args.schema.items (ready_after was f1 keeps c.requires.may.ready) more in
+    let inside = place_to_come (said_catalogue c.args.definitions) f1 c.args.place c.args.schema.items (ready_after was f1 keeps c.requires.may.opened.ready) more in
     let put = c.in_ok-put_table.ensures.put in
     let stays = c.in-Err.ensures.stays in
     let same : c.remove-table.new.self.items ≡ f1.tables.items =
     c.remove-table.ensures.items ∙ ap (λ (f : OpenedFile). remove f.tables.items c.args.place) stays ∙ ap (λ (ts : List OpenedTable). remove ts c.args.place) put.tables
     ∙ removed_again f1.tables.items c.args.place put.table inside in
-    keeps_then was f1 f4 keeps (record {
-      definitions = ap (λ (f : OpenedFile). f.definitions) (stays ∙ put.rest);
-      pages = ap (λ (f : OpenedFile). f.pages) (stays ∙ put.rest);
-      accepted = ap (λ (f : OpenedFile). f.accepted) (stays ∙ put.rest);
-      tables = subst (AllZip KeepsOpened f1.tables.items) (sym same) (each_same KeepsOpened same_kept f1.tables.items);
-      referents = ap (λ (f : OpenedFile). f.referents.committed) (stays ∙ put.rest);
-    })
+    record {
+      next = tt;
+      stays = keeps_then was f1 f4 keeps (record {
+        definitions = ap (λ (f : OpenedFile). f.definitions) (stays ∙ put.rest);
+        pages = ap (λ (f : OpenedFile). f.pages) (stays ∙ put.rest);
+        accepted = ap (λ (f : OpenedFile). f.accepted) (stays ∙ put.rest);
+        tables = subst (AllZip KeepsOpened f1.tables.items) (sym same) (each_same KeepsOpened same_kept f1.tables.items);
+        referents = ap (λ (f : OpenedFile). f.referents.committed) (stays ∙ put.rest);
+      });
+    }

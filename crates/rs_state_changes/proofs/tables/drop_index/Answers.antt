@@ -36,7 +36,7 @@ index_mut-requires g c =
     let place : ℕ = c.args.place.table in
     let keeps = c.in_ok-clear.ensures.keeps in
     let there : slice_get (said_catalogue f1.definitions).tables place ≡ Some c.requires.less.table = ap (λ (d : StoredCatalogue). slice_get (said_catalogue d).tables place) keeps.definitions ∙ c.requires.less.there in
-    omega (arith, open_there f1 place c.requires.less.table (ready_after was f1 keeps c.requires.may.ready) there, f1.tables.ok.0)
+    omega (arith, open_there f1 place c.requires.less.table (ready_after was f1 keeps c.requires.may.opened.ready) there, f1.tables.ok.0)
 
 pub take_index-requires-clause-position : goal.take_index-requires-clause-position
 take_index-requires-clause-position g c =
@@ -44,7 +44,7 @@ take_index-requires-clause-position g c =
     let f1 : OpenedFile = c.clear.new.file in
     let place : ℕ = c.args.place.table in
     let keeps = c.in_ok-clear.ensures.keeps in
-    let ready = ready_after was f1 keeps c.requires.may.ready in
+    let ready = ready_after was f1 keeps c.requires.may.opened.ready in
     let less = subst (λ (d : StoredCatalogue). HasIndexAt place c.args.place.position (said_catalogue c.args.definitions) (said_catalogue d)) (sym keeps.definitions) c.requires.less in
     let below = open_there f1 place less.table ready less.there in
     let one : OpenedTable = c.index_mut.result.now in
@@ -57,7 +57,7 @@ take_index-requires-clause-indexes g c =
     let f1 : OpenedFile = c.clear.new.file in
     let place : ℕ = c.args.place.table in
     let keeps = c.in_ok-clear.ensures.keeps in
-    let ready = ready_after was f1 keeps c.requires.may.ready in
+    let ready = ready_after was f1 keeps c.requires.may.opened.ready in
     let there : slice_get (said_catalogue f1.definitions).tables place ≡ Some c.requires.less.table = ap (λ (d : StoredCatalogue). slice_get (said_catalogue d).tables place) keeps.definitions ∙ c.requires.less.there in
     place_on_cells f1 place c.index_mut.result.now (open_there f1 place c.requires.less.table ready there) c.index_mut.ensures.value ready
 
@@ -68,7 +68,7 @@ returns-in_err-index-clause-leaves g c =
     let place : ℕ = c.args.place.table in
     let keeps = c.in_ok-clear.ensures.keeps in
     let there : slice_get (said_catalogue f1.definitions).tables place ≡ Some c.requires.less.table = ap (λ (d : StoredCatalogue). slice_get (said_catalogue d).tables place) keeps.definitions ∙ c.requires.less.there in
-    let below = open_there f1 place c.requires.less.table (ready_after was f1 keeps c.requires.may.ready) there in
+    let below = open_there f1 place c.requires.less.table (ready_after was f1 keeps c.requires.may.opened.ready) there in
     let one : OpenedTable = c.index_mut.result.now in
     let s0 = g.P.Pages.store c.args.pages.now in
     let s1 = g.P.Pages.store c.clear.new.pages in
@@ -81,23 +81,27 @@ returns-in_err-index-clause-leaves g c =
     (place_none f1 place one below c.index_mut.ensures.value s1.map (none (g.met.P.Pages.keeps_tied c.args.pages.now c.clear.new.pages c.in_ok-clear.ensures.leaves.keeps tied)))))
     (storing_by_works later (Err c.in_err-index.field-0.0) s1 (g.P.Pages.store c.take_index.new.pages) c.in_err-index.ensures.leaves.works))
 
-pub returns-in_err-index-clause-keeps : goal.returns-in_err-index-clause-keeps
-returns-in_err-index-clause-keeps g c =
+pub returns-in_err-index-clause-opened : goal.returns-in_err-index-clause-opened
+returns-in_err-index-clause-opened g c =
     let was : OpenedFile = c.args.file.now in
     let f1 : OpenedFile = c.clear.new.file in
     let place : ℕ = c.args.place.table in
     let keeps = c.in_ok-clear.ensures.keeps in
     let there : slice_get (said_catalogue f1.definitions).tables place ≡ Some c.requires.less.table = ap (λ (d : StoredCatalogue). slice_get (said_catalogue d).tables place) keeps.definitions ∙ c.requires.less.there in
-    let below = open_there f1 place c.requires.less.table (ready_after was f1 keeps c.requires.may.ready) there in
+    let below = open_there f1 place c.requires.less.table (ready_after was f1 keeps c.requires.may.opened.ready) there in
     let now : OpenedTable = c.take_index.new.table in
     let f2 : OpenedFile = record f1 { tables = with_item f1.tables place now } in
-    any_err c.from_residual-in_err-index.result (keeps_then was f1 f2 keeps (record {
-      definitions = refl;
-      pages = refl;
-      accepted = refl;
-      tables = place_kept f1 place c.index_mut.result.now below c.index_mut.ensures.value now c.in_err-index.ensures.table;
-      referents = refl;
-    }))
+    let p = err_from_is_err_and c.from_residual-in_err-index.result c.from_residual-in_err-index.ensures.1 in
+    rw p.1 (record {
+      next = tt;
+      stays = keeps_then was f1 f2 keeps (record {
+        definitions = refl;
+        pages = refl;
+        accepted = refl;
+        tables = place_kept f1 place c.index_mut.result.now below c.index_mut.ensures.value now c.in_err-index.ensures.table;
+        referents = refl;
+      });
+    })
 
 pub write_next-requires-clause-ready : goal.write_next-requires-clause-ready
 write_next-requires-clause-ready g c =
@@ -105,7 +109,7 @@ write_next-requires-clause-ready g c =
     let f1 : OpenedFile = c.clear.new.file in
     let place : ℕ = c.args.place.table in
     let keeps = c.in_ok-clear.ensures.keeps in
-    let ready = ready_after was f1 keeps c.requires.may.ready in
+    let ready = ready_after was f1 keeps c.requires.may.opened.ready in
     let there : slice_get (said_catalogue f1.definitions).tables place ≡ Some c.requires.less.table = ap (λ (d : StoredCatalogue). slice_get (said_catalogue d).tables place) keeps.definitions ∙ c.requires.less.there in
     let below = open_there f1 place c.requires.less.table ready there in
     let one : OpenedTable = c.index_mut.result.now in
@@ -117,7 +121,7 @@ write_next-requires-clause-ready g c =
 
 pub write_next-requires-clause-births : goal.write_next-requires-clause-births
 write_next-requires-clause-births g c =
-    births_still (said_catalogue c.args.definitions).routes c.args.file.now.accepted c.clear.new.file.accepted c.in_ok-clear.ensures.keeps.accepted c.requires.births
+    births_still (said_catalogue c.args.definitions).routes c.args.file.now.accepted c.clear.new.file.accepted c.in_ok-clear.ensures.keeps.accepted c.requires.may.births
 
 pub index_mut-requires-in-Err : goal.index_mut-requires-in-Err
 index_mut-requires-in-Err g c =
@@ -126,7 +130,7 @@ index_mut-requires-in-Err g c =
     let place : ℕ = c.args.place.table in
     let keeps = c.in_ok-clear.ensures.keeps in
     let there : slice_get (said_catalogue f1.definitions).tables place ≡ Some c.requires.less.table = ap (λ (d : StoredCatalogue). slice_get (said_catalogue d).tables place) keeps.definitions ∙ c.requires.less.there in
-    omega (arith, open_there f1 place c.requires.less.table (ready_after was f1 keeps c.requires.may.ready) there, f1.tables.ok.0, ap (λ (f : OpenedFile). vec_len f.tables) c.in-Err.ensures.stays)
+    omega (arith, open_there f1 place c.requires.less.table (ready_after was f1 keeps c.requires.may.opened.ready) there, f1.tables.ok.0, ap (λ (f : OpenedFile). vec_len f.tables) c.in-Err.ensures.stays)
 
 pub put_at-put-requires : goal.put_at-put-requires
 put_at-put-requires g c =
@@ -134,7 +138,7 @@ put_at-put-requires g c =
     let f1 : OpenedFile = c.clear.new.file in
     let place : ℕ = c.args.place.table in
     let keeps = c.in_ok-clear.ensures.keeps in
-    let ready = ready_after was f1 keeps c.requires.may.ready in
+    let ready = ready_after was f1 keeps c.requires.may.opened.ready in
     let less = subst (λ (d : StoredCatalogue). HasIndexAt place c.args.place.position (said_catalogue c.args.definitions) (said_catalogue d)) (sym keeps.definitions) c.requires.less in
     let below = open_there f1 place less.table ready less.there in
     let one : OpenedTable = c.index_mut.result.now in
@@ -177,7 +181,7 @@ returns-in-Ok-clause-changes g c = λ tied.
     let gone : ℕ = c.in_ok-clear.field-0 in
     let keeps = c.in_ok-clear.ensures.keeps in
     let there : slice_get (said_catalogue f1.definitions).tables place ≡ Some c.requires.less.table = ap (λ (d : StoredCatalogue). slice_get (said_catalogue d).tables place) keeps.definitions ∙ c.requires.less.there in
-    let below = open_there f1 place c.requires.less.table (ready_after was f1 keeps c.requires.may.ready) there in
+    let below = open_there f1 place c.requires.less.table (ready_after was f1 keeps c.requires.may.opened.ready) there in
     let one : OpenedTable = c.index_mut.result.now in
     let now : OpenedTable = c.take_index.new.table in
     let f2 : OpenedFile = record f1 { tables = with_item f1.tables place now } in
@@ -193,13 +197,13 @@ returns-in-Ok-clause-changes g c = λ tied.
     (λ contents last whole. index_commutes oldest gone (said_catalogue c.args.definitions) c.write_next.new.file.pages.items place contents last whole)
     (c.in-Ok.ensures.writes tied2) c.in-Ok.ensures.opened
 
-pub returns-in-Ok-clause-next : goal.returns-in-Ok-clause-next
-returns-in-Ok-clause-next g c =
+pub returns-in-Ok-clause-opened : goal.returns-in-Ok-clause-opened
+returns-in-Ok-clause-opened g c =
     let was : OpenedFile = c.args.file.now in
     let f1 : OpenedFile = c.clear.new.file in
     let place : ℕ = c.args.place.table in
     let keeps = c.in_ok-clear.ensures.keeps in
-    let ready = ready_after was f1 keeps c.requires.may.ready in
+    let ready = ready_after was f1 keeps c.requires.may.opened.ready in
     let less = subst (λ (d : StoredCatalogue). HasIndexAt place c.args.place.position (said_catalogue c.args.definitions) (said_catalogue d)) (sym keeps.definitions) c.requires.less in
     let below = open_there f1 place less.table ready less.there in
     let one : OpenedTable = c.index_mut.result.now in
@@ -207,11 +211,14 @@ returns-in-Ok-clause-next g c =
     let now : OpenedTable = c.take_index.new.table in
     let f2 : OpenedFile = record f1 { tables = with_item f1.tables place now } in
     let f3 : OpenedFile = record f1 { definitions = c.args.definitions; tables = with_item f1.tables place now } in
-    let order = c.in_ok-clear.ensures.order was.accepted c.requires.may.order in
-    next_written c.args.definitions was f2 c.write_next.new.file keeps.accepted
-    (ready_without_index f1 f3 ready c.requires.given place c.args.place.position less one now here c.in_ok-index.ensures.taken.records c.in_ok-index.ensures.taken.indexes refl)
-    (record { tables = place_order f1 place one below c.index_mut.ensures.value now was.accepted c.in_ok-index.ensures.taken.records order.tables; referents = order.referents })
-    c.in-Ok.ensures.opened
+    let order = c.in_ok-clear.ensures.order was.accepted c.requires.may.opened.order in
+    record {
+      next = next_written c.args.definitions was f2 c.write_next.new.file keeps.accepted
+          (ready_without_index f1 f3 ready c.requires.given place c.args.place.position less one now here c.in_ok-index.ensures.taken.records c.in_ok-index.ensures.taken.indexes refl)
+          (record { tables = place_order f1 place one below c.index_mut.ensures.value now was.accepted c.in_ok-index.ensures.taken.records order.tables; referents = order.referents })
+          c.in-Ok.ensures.opened;
+      stays = tt;
+    }
 
 pub returns-in-Err-clause-leaves : goal.returns-in-Err-clause-leaves
 returns-in-Err-clause-leaves g c =
@@ -219,7 +226,7 @@ returns-in-Err-clause-leaves g c =
     let f1 : OpenedFile = c.clear.new.file in
     let place : ℕ = c.args.place.table in
     let keeps = c.in_ok-clear.ensures.keeps in
-    let ready = ready_after was f1 keeps c.requires.may.ready in
+    let ready = ready_after was f1 keeps c.requires.may.opened.ready in
     let less = subst (λ (d : StoredCatalogue). HasIndexAt place c.args.place.position (said_catalogue c.args.definitions) (said_catalogue d)) (sym keeps.definitions) c.requires.less in
     let below = open_there f1 place less.table ready less.there in
     let one : OpenedTable = c.index_mut.result.now in
@@ -245,13 +252,13 @@ returns-in-Err-clause-leaves g c =
     (ap (λ (r : _). r.types) c.in_ok-index.ensures.taken.records) (c.in_ok-clear.ensures.clears tied) (c.in_ok-index.ensures.changes tied1)) (none tied2))
     c.in-Err.ensures.leaves.stores
 
-pub returns-in-Err-clause-keeps : goal.returns-in-Err-clause-keeps
-returns-in-Err-clause-keeps g c =
+pub returns-in-Err-clause-opened : goal.returns-in-Err-clause-opened
+returns-in-Err-clause-opened g c =
     let was : OpenedFile = c.args.file.now in
     let f1 : OpenedFile = c.clear.new.file in
     let place : ℕ = c.args.place.table in
     let keeps = c.in_ok-clear.ensures.keeps in
-    let ready = ready_after was f1 keeps c.requires.may.ready in
+    let ready = ready_after was f1 keeps c.requires.may.opened.ready in
     let less = subst (λ (d : StoredCatalogue). HasIndexAt place c.args.place.position (said_catalogue c.args.definitions) (said_catalogue d)) (sym keeps.definitions) c.requires.less in
     let below = open_there f1 place less.table ready less.there in
     let one : OpenedTable = c.index_mut.result.now in
@@ -273,10 +280,13 @@ returns-in-Err-clause-keeps g c =
       kept = ap kept_parts (put ∙ ap (λ (t : OpenedTable). insert t.indexes.items c.args.place.position c.in_ok-index.index) same) ∙ taken.kept;
     } in
     let f4 : OpenedFile = record f3 { tables = with_item f3.tables place last } in
-    keeps_then was f1 f4 keeps (record {
-      definitions = ap (λ (f : OpenedFile). f.definitions) stays;
-      pages = ap (λ (f : OpenedFile). f.pages) stays;
-      accepted = ap (λ (f : OpenedFile). f.accepted) stays;
-      tables = subst (AllZip KeepsOpened f1.tables.items) (sym (ap (λ (f : OpenedFile). set f.tables.items place last) stays)) (place_restored f1 place one below c.index_mut.ensures.value now last restored);
-      referents = ap (λ (f : OpenedFile). f.referents.committed) stays;
-    })
+    record {
+      next = tt;
+      stays = keeps_then was f1 f4 keeps (record {
+        definitions = ap (λ (f : OpenedFile). f.definitions) stays;
+        pages = ap (λ (f : OpenedFile). f.pages) stays;
+        accepted = ap (λ (f : OpenedFile). f.accepted) stays;
+        tables = subst (AllZip KeepsOpened f1.tables.items) (sym (ap (λ (f : OpenedFile). set f.tables.items place last) stays)) (place_restored f1 place one below c.index_mut.ensures.value now last restored);
+        referents = ap (λ (f : OpenedFile). f.referents.committed) stays;
+      });
+    }

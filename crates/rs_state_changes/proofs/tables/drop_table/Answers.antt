@@ -26,7 +26,7 @@ use Rattle.rs_versioned.specs.Records.{HasNone}
 use Rattle.rs_state_changes.proofs.tables.drop_table.Goals as goal
 
 pub empty_place-requires-clause-place : goal.empty_place-requires-clause-place
-empty_place-requires-clause-place g c = place_to_go (said_catalogue c.args.definitions) c.args.file.now c.args.place c.requires.may.ready c.requires.less
+empty_place-requires-clause-place g c = place_to_go (said_catalogue c.args.definitions) c.args.file.now c.args.place c.requires.may.opened.ready c.requires.less
 
 pub returns-in_err-empty_place-clause-leaves : goal.returns-in_err-empty_place-clause-leaves
 returns-in_err-empty_place-clause-leaves g c =
@@ -34,7 +34,7 @@ returns-in_err-empty_place-clause-leaves g c =
     rw (p.1, p.2) (part_refused g.P.Pages c.args.file.now c.in_err-empty_place.field-0.0 c.args.pages.now c.empty_place.new.pages c.in_err-empty_place.ensures.leaves)
 
 pub clear-requires-clause-ready : goal.clear-requires-clause-ready
-clear-requires-clause-ready g c = ready_after c.args.file.now c.empty_place.new.file c.in_ok-empty_place.ensures.keeps c.requires.may.ready
+clear-requires-clause-ready g c = ready_after c.args.file.now c.empty_place.new.file c.in_ok-empty_place.ensures.keeps c.requires.may.opened.ready
 
 pub returns-in_err-clear-clause-leaves : goal.returns-in_err-clear-clause-leaves
 returns-in_err-clear-clause-leaves g c =
@@ -53,9 +53,10 @@ returns-in_err-clear-clause-leaves g c =
     (none (g.met.P.Pages.keeps_tied c.args.pages.now c.empty_place.new.pages c.in_ok-empty_place.ensures.leaves.keeps tied))))
     (storing_by_works later (Err c.in_err-clear.field-0.0) s1 (g.P.Pages.store c.clear.new.pages) c.in_err-clear.ensures.leaves.works))
 
-pub returns-in_err-clear-clause-keeps : goal.returns-in_err-clear-clause-keeps
-returns-in_err-clear-clause-keeps g c =
-    any_err c.from_residual-in_err-clear.result (keeps_then c.args.file.now c.empty_place.new.file c.clear.new.file c.in_ok-empty_place.ensures.keeps c.in_err-clear.ensures.keeps)
+pub returns-in_err-clear-clause-opened : goal.returns-in_err-clear-clause-opened
+returns-in_err-clear-clause-opened g c =
+    let p = err_from_is_err_and c.from_residual-in_err-clear.result c.from_residual-in_err-clear.ensures.1 in
+    rw p.1 (record { next = tt; stays = keeps_then c.args.file.now c.empty_place.new.file c.clear.new.file c.in_ok-empty_place.ensures.keeps c.in_err-clear.ensures.keeps })
 
 pub remove-table-requires : goal.remove-table-requires
 remove-table-requires g c =
@@ -65,7 +66,7 @@ remove-table-requires g c =
     let keeps1 = c.in_ok-empty_place.ensures.keeps in
     let f2 : OpenedFile = c.clear.new.file in
     let keeps = keeps_then was f1 f2 keeps1 c.in_ok-clear.ensures.keeps in
-    let ready = ready_after was f2 keeps c.requires.may.ready in
+    let ready = ready_after was f2 keeps c.requires.may.opened.ready in
     let less = subst (λ (d : StoredCatalogue). LosesTableAt place (said_catalogue d) (said_catalogue c.args.definitions)) (sym keeps.definitions) c.requires.less in
     let inside = place_to_go (said_catalogue c.args.definitions) f2 place ready less in
     omega (arith, inside, f2.tables.ok.0)
@@ -78,7 +79,7 @@ write_next-requires-clause-ready g c =
     let keeps1 = c.in_ok-empty_place.ensures.keeps in
     let f2 : OpenedFile = c.clear.new.file in
     let keeps = keeps_then was f1 f2 keeps1 c.in_ok-clear.ensures.keeps in
-    let ready = ready_after was f2 keeps c.requires.may.ready in
+    let ready = ready_after was f2 keeps c.requires.may.opened.ready in
     let less = subst (λ (d : StoredCatalogue). LosesTableAt place (said_catalogue d) (said_catalogue c.args.definitions)) (sym keeps.definitions) c.requires.less in
     let inside = place_to_go (said_catalogue c.args.definitions) f2 place ready less in
     ready_without_table f2 (record f2 { definitions = c.args.definitions; tables = c.remove-table.new.self }) ready c.requires.given place less c.remove-table.ensures.items
@@ -86,7 +87,7 @@ write_next-requires-clause-ready g c =
 pub write_next-requires-clause-births : goal.write_next-requires-clause-births
 write_next-requires-clause-births g c =
     births_still (said_catalogue c.args.definitions).routes c.args.file.now.accepted c.clear.new.file.accepted
-    (c.in_ok-clear.ensures.keeps.accepted ∙ c.in_ok-empty_place.ensures.keeps.accepted) c.requires.births
+    (c.in_ok-clear.ensures.keeps.accepted ∙ c.in_ok-empty_place.ensures.keeps.accepted) c.requires.may.births
 
 pub returns-in-Ok-clause-takes : goal.returns-in-Ok-clause-takes
 returns-in-Ok-clause-takes g c = λ tied.
@@ -96,7 +97,7 @@ returns-in-Ok-clause-takes g c = λ tied.
     let keeps1 = c.in_ok-empty_place.ensures.keeps in
     let f2 : OpenedFile = c.clear.new.file in
     let keeps = keeps_then was f1 f2 keeps1 c.in_ok-clear.ensures.keeps in
-    let ready = ready_after was f2 keeps c.requires.may.ready in
+    let ready = ready_after was f2 keeps c.requires.may.opened.ready in
     let less = subst (λ (d : StoredCatalogue). LosesTableAt place (said_catalogue d) (said_catalogue c.args.definitions)) (sym keeps.definitions) c.requires.less in
     let inside = place_to_go (said_catalogue c.args.definitions) f2 place ready less in
     let f3 : OpenedFile = record f2 { tables = c.remove-table.new.self } in
@@ -116,26 +117,29 @@ returns-in-Ok-clause-takes g c = λ tied.
     (λ contents last whole. table_gone oldest gone (said_catalogue c.args.definitions) c.write_next.new.file.pages.items place contents last whole)
     (c.in-Ok.ensures.writes tied2) c.in-Ok.ensures.opened
 
-pub returns-in-Ok-clause-next : goal.returns-in-Ok-clause-next
-returns-in-Ok-clause-next g c =
+pub returns-in-Ok-clause-opened : goal.returns-in-Ok-clause-opened
+returns-in-Ok-clause-opened g c =
     let was : OpenedFile = c.args.file.now in
     let f1 : OpenedFile = c.empty_place.new.file in
     let place : ℕ = c.args.place in
     let keeps1 = c.in_ok-empty_place.ensures.keeps in
     let f2 : OpenedFile = c.clear.new.file in
     let keeps = keeps_then was f1 f2 keeps1 c.in_ok-clear.ensures.keeps in
-    let ready = ready_after was f2 keeps c.requires.may.ready in
+    let ready = ready_after was f2 keeps c.requires.may.opened.ready in
     let less = subst (λ (d : StoredCatalogue). LosesTableAt place (said_catalogue d) (said_catalogue c.args.definitions)) (sym keeps.definitions) c.requires.less in
     let inside = place_to_go (said_catalogue c.args.definitions) f2 place ready less in
     let f3 : OpenedFile = record f2 { tables = c.remove-table.new.self } in
-    let order = c.in_ok-clear.ensures.order was.accepted (c.in_ok-empty_place.ensures.order was.accepted c.requires.may.order) in
-    next_written c.args.definitions was f3 c.write_next.new.file keeps.accepted
-    (ready_without_table f2 (record f2 { definitions = c.args.definitions; tables = c.remove-table.new.self }) ready c.requires.given place less c.remove-table.ensures.items)
-    (record {
-      tables = subst (AllByRecursion (λ (table : OpenedTable). HaveDiedBy was.accepted table.records.working.dead)) (sym c.remove-table.ensures.items) (order_without_table place was.accepted f2.tables.items inside order.tables);
-      referents = order.referents;
-    })
-    c.in-Ok.ensures.opened
+    let order = c.in_ok-clear.ensures.order was.accepted (c.in_ok-empty_place.ensures.order was.accepted c.requires.may.opened.order) in
+    record {
+      next = next_written c.args.definitions was f3 c.write_next.new.file keeps.accepted
+          (ready_without_table f2 (record f2 { definitions = c.args.definitions; tables = c.remove-table.new.self }) ready c.requires.given place less c.remove-table.ensures.items)
+          (record {
+            tables = subst (AllByRecursion (λ (table : OpenedTable). HaveDiedBy was.accepted table.records.working.dead)) (sym c.remove-table.ensures.items) (order_without_table place was.accepted f2.tables.items inside order.tables);
+            referents = order.referents;
+          })
+          c.in-Ok.ensures.opened;
+      stays = tt;
+    }
 
 pub returns-in-Err-clause-leaves : goal.returns-in-Err-clause-leaves
 returns-in-Err-clause-leaves g c =
@@ -145,7 +149,7 @@ returns-in-Err-clause-leaves g c =
     let keeps1 = c.in_ok-empty_place.ensures.keeps in
     let f2 : OpenedFile = c.clear.new.file in
     let keeps = keeps_then was f1 f2 keeps1 c.in_ok-clear.ensures.keeps in
-    let ready = ready_after was f2 keeps c.requires.may.ready in
+    let ready = ready_after was f2 keeps c.requires.may.opened.ready in
     let less = subst (λ (d : StoredCatalogue). LosesTableAt place (said_catalogue d) (said_catalogue c.args.definitions)) (sym keeps.definitions) c.requires.less in
     let inside = place_to_go (said_catalogue c.args.definitions) f2 place ready less in
     let f3 : OpenedFile = record f2 { tables = c.remove-table.new.self } in
@@ -170,15 +174,15 @@ returns-in-Err-clause-leaves g c =
     c.remove-table.ensures.items refl refl refl) (none tied2))
     c.in-Err.ensures.leaves.stores
 
-pub returns-in-Err-clause-keeps : goal.returns-in-Err-clause-keeps
-returns-in-Err-clause-keeps g c =
+pub returns-in-Err-clause-opened : goal.returns-in-Err-clause-opened
+returns-in-Err-clause-opened g c =
     let was : OpenedFile = c.args.file.now in
     let f1 : OpenedFile = c.empty_place.new.file in
     let place : ℕ = c.args.place in
     let keeps1 = c.in_ok-empty_place.ensures.keeps in
     let f2 : OpenedFile = c.clear.new.file in
     let keeps = keeps_then was f1 f2 keeps1 c.in_ok-clear.ensures.keeps in
-    let ready = ready_after was f2 keeps c.requires.may.ready in
+    let ready = ready_after was f2 keeps c.requires.may.opened.ready in
     let less = subst (λ (d : StoredCatalogue). LosesTableAt place (said_catalogue d) (said_catalogue c.args.definitions)) (sym keeps.definitions) c.requires.less in
     let inside = place_to_go (said_catalogue c.args.definitions) f2 place ready less in
     let f3 : OpenedFile = record f2 { tables = c.remove-table.new.self } in
@@ -192,10 +196,13 @@ returns-in-Err-clause-keeps g c =
     let same : c.put_at-put.new.list.items ≡ f2.tables.items =
     put ∙ ap (λ (f : OpenedFile). insert f.tables.items place c.remove-table.result) stays ∙ ap (λ (ts : List OpenedTable). insert ts place c.remove-table.result) c.remove-table.ensures.items
     ∙ put_again place f2.tables.items c.remove-table.result inside c.remove-table.ensures.value in
-    keeps_then was f2 f5 keeps (record {
-      definitions = ap (λ (f : OpenedFile). f.definitions) stays;
-      pages = ap (λ (f : OpenedFile). f.pages) stays;
-      accepted = ap (λ (f : OpenedFile). f.accepted) stays;
-      tables = subst (AllZip KeepsOpened f2.tables.items) (sym same) (each_same KeepsOpened same_kept f2.tables.items);
-      referents = ap (λ (f : OpenedFile). f.referents.committed) stays;
-    })
+    record {
+      next = tt;
+      stays = keeps_then was f2 f5 keeps (record {
+        definitions = ap (λ (f : OpenedFile). f.definitions) stays;
+        pages = ap (λ (f : OpenedFile). f.pages) stays;
+        accepted = ap (λ (f : OpenedFile). f.accepted) stays;
+        tables = subst (AllZip KeepsOpened f2.tables.items) (sym same) (each_same KeepsOpened same_kept f2.tables.items);
+        referents = ap (λ (f : OpenedFile). f.referents.committed) stays;
+      });
+    }

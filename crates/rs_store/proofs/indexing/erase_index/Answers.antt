@@ -80,8 +80,8 @@ returns-in_err-begin-clause-rewrites g c =
     rw (p.1, p.2) (rewrites_unbegun g.D.Disk c.args.oldest (ChangesListed now) now c.in_err-begin.field-0.0 c.args.pager.now c.begin.new.self c.args.file.now
     c.begin.ensures.keeps c.begin.ensures.masked c.in_err-begin.ensures.refused.0 c.in_err-begin.ensures.refusal c.in_err-begin.ensures.count)
 
-pub drop_index-made-requires-clause-births : goal.drop_index-made-requires-clause-births
-drop_index-made-requires-clause-births g c =
+pub drop_index-made-requires-clause-may : goal.drop_index-made-requires-clause-may
+drop_index-made-requires-clause-may g c =
     let d = g.D.Disk in
     let name = c.args.name.now.bytes in
     let catalog = c.args.catalog.now in
@@ -97,7 +97,14 @@ drop_index-made-requires-clause-births g c =
     let births : AllByRecursion (λ (route : RouteItem). route.born ≤ c.args.file.now.accepted + 1) now.routes =
     born_later c.args.file.now.accepted (c.args.file.now.accepted + 1) now.routes (omega arith)
     (subst (λ (items : CatalogueItems). AllByRecursion (λ (route : RouteItem). route.born ≤ c.args.file.now.accepted) items.routes) (sym c.requires.rests.listing) c.requires.rests.births) in
-    subst (λ (items : CatalogueItems). AllByRecursion (λ (route : RouteItem). route.born ≤ c.args.file.now.accepted + 1) items.routes) (sym says) births
+    record {
+      begun = c.in_ok-begin.ensures.begun;
+      opened = c.requires.rests.may;
+      room = c.requires.room;
+      fits = c.in_ok-check_definitions.ensures.fits;
+      short = c.in_ok-check_definitions.ensures.short;
+      births = subst (λ (items : CatalogueItems). AllByRecursion (λ (route : RouteItem). route.born ≤ c.args.file.now.accepted + 1) items.routes) (sym says) births;
+    }
 
 pub drop_index-made-requires-clause-given : goal.drop_index-made-requires-clause-given
 drop_index-made-requires-clause-given g c =
@@ -177,7 +184,7 @@ returns-clause-rewrites g c =
     (begins_with d c.args.pager.now c.begin.new.self c.in_ok-begin.ensures.few c.in_ok-begin.ensures.many c.begin.ensures.copies c.begin.ensures.same c.begin.ensures.keeps) c.drop_index-made.ensures.leaves.keeps c.kept_change_gives_its_state.ensures c.args.oldest
     (ChangesListed (said_catalogue stored)) stored c.requires.room c.requires.rests.committed
     (subst (λ (items : CatalogueItems). AllByRecursion (λ (route : RouteItem). route.born ≤ c.args.file.now.accepted + 1) items.routes) (sym says) births)
-    result c.drop_index-made.ensures.leaves.stores c.drop_index-made.ensures.next c.drop_index-made.ensures.keeps
+    result c.drop_index-made.ensures.leaves.stores c.drop_index-made.ensures.opened.next c.drop_index-made.ensures.opened.stays
     (λ tied. changes_by c.args.oldest (working d first) (working d between) c.args.file.now changed (ChangesIndexes place (said_catalogue stored)) (ChangesListed (said_catalogue stored)) result
     (λ before next opened changes. record { place = place; changes = changes }) (c.drop_index-made.ensures.changes tied))
     c.settle.ensures.settles))

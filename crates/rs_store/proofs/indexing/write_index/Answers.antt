@@ -44,9 +44,16 @@ returns-in_err-begin-clause-rewrites g c =
     rw (p.1, p.2) (rewrites_unbegun g.D.Disk c.args.oldest (ChangesListed items) items c.in_err-begin.field-0.0 c.args.pager.now c.begin.new.self c.args.file.now
     c.begin.ensures.keeps c.begin.ensures.masked c.in_err-begin.ensures.refused.0 c.in_err-begin.ensures.refusal c.in_err-begin.ensures.count)
 
-pub define_index-made-requires-clause-births : goal.define_index-made-requires-clause-births
-define_index-made-requires-clause-births g c =
-    subst (λ (items : CatalogueItems). AllByRecursion (λ (route : RouteItem). route.born ≤ c.args.file.now.accepted + 1) items.routes) (sym c.in_ok-stored.ensures) c.requires.births
+pub define_index-made-requires-clause-may : goal.define_index-made-requires-clause-may
+define_index-made-requires-clause-may g c =
+    record {
+      begun = c.in_ok-begin.ensures.begun;
+      opened = c.requires.may;
+      room = c.requires.room;
+      fits = c.in_ok-check_definitions.ensures.fits;
+      short = c.in_ok-check_definitions.ensures.short;
+      births = subst (λ (items : CatalogueItems). AllByRecursion (λ (route : RouteItem). route.born ≤ c.args.file.now.accepted + 1) items.routes) (sym c.in_ok-stored.ensures) c.requires.births;
+    }
 
 pub define_index-made-requires-clause-given : goal.define_index-made-requires-clause-given
 define_index-made-requires-clause-given g c = subst AreGivenOnce (sym c.in_ok-stored.ensures) (given_once c.args.catalog.now c.stand.ensures)
@@ -88,7 +95,7 @@ returns-clause-rewrites g c =
     (begins_with d c.args.pager.now c.begin.new.self c.in_ok-begin.ensures.few c.in_ok-begin.ensures.many c.begin.ensures.copies c.begin.ensures.same c.begin.ensures.keeps) c.define_index-made.ensures.leaves.keeps c.kept_change_gives_its_state.ensures c.args.oldest
     (ChangesListed (said_catalogue stored)) stored c.requires.room c.requires.committed
     (subst (λ (items : CatalogueItems). AllByRecursion (λ (route : RouteItem). route.born ≤ c.args.file.now.accepted + 1) items.routes) (sym says) c.requires.births)
-    result c.define_index-made.ensures.leaves.stores c.define_index-made.ensures.next c.define_index-made.ensures.keeps
+    result c.define_index-made.ensures.leaves.stores c.define_index-made.ensures.opened.next c.define_index-made.ensures.opened.stays
     (λ tied. changes_by c.args.oldest (working d first) (working d between) c.args.file.now changed (ChangesIndexes c.args.place (said_catalogue stored)) (ChangesListed (said_catalogue stored)) result
     (λ before next opened changes. record { place = c.args.place; changes = changes }) (c.define_index-made.ensures.changes tied))
     c.settle.ensures.settles))

@@ -23,6 +23,16 @@ returns-in_err-begin-clause-rewrites g c =
     rw (p.1, p.2) (rewrites_unbegun g.D.Disk c.args.oldest (DropsRoute c.args.number items) items c.in_err-begin.field-0.0 c.args.pager.now c.begin.new.self c.args.file.now
     c.begin.ensures.keeps c.begin.ensures.masked c.in_err-begin.ensures.refused.0 c.in_err-begin.ensures.refusal c.in_err-begin.ensures.count)
 
+pub drop_route-made-requires-clause-may : goal.drop_route-made-requires-clause-may
+drop_route-made-requires-clause-may g c = record {
+  begun = c.in_ok-begin.ensures.begun;
+  opened = c.requires.may;
+  room = c.requires.room;
+  fits = c.in_ok-check_definitions.ensures.fits;
+  short = c.in_ok-check_definitions.ensures.short;
+  births = c.requires.births;
+}
+
 pub returns-clause-rewrites : goal.returns-clause-rewrites
 returns-clause-rewrites g c =
     let d = g.D.Disk in
@@ -31,5 +41,5 @@ returns-clause-rewrites g c =
     (rewrites_settled d c.args.pager.now c.begin.new.self c.drop_route-made.new.pages c.settle.new.pager c.args.file.now c.drop_route-made.new.file c.settle.new.file
     c.begin.ensures.keeps c.begin.ensures.masked c.in_ok-begin.ensures.count
     (begins_with d c.args.pager.now c.begin.new.self c.in_ok-begin.ensures.few c.in_ok-begin.ensures.many c.begin.ensures.copies c.begin.ensures.same c.begin.ensures.keeps) c.drop_route-made.ensures.leaves.keeps c.kept_change_gives_its_state.ensures c.args.oldest (DropsRoute c.args.number items)
-    c.args.definitions c.requires.room c.requires.committed c.requires.births c.drop_route-made.result c.drop_route-made.ensures.leaves.stores c.drop_route-made.ensures.next
-    c.drop_route-made.ensures.keeps c.drop_route-made.ensures.drops c.settle.ensures.settles)
+    c.args.definitions c.requires.room c.requires.committed c.requires.births c.drop_route-made.result c.drop_route-made.ensures.leaves.stores c.drop_route-made.ensures.opened.next
+    c.drop_route-made.ensures.opened.stays c.drop_route-made.ensures.drops c.settle.ensures.settles)

@@ -76,8 +76,8 @@ returns-in_err-begin-clause-rewrites g c =
     rw (p.1, p.2) (rewrites_unbegun g.D.Disk c.args.oldest (TakesNamed catalog.tables name now) now c.in_err-begin.field-0.0 c.args.pager.now c.begin.new.self c.args.file.now
     c.begin.ensures.keeps c.begin.ensures.masked c.in_err-begin.ensures.refused.0 c.in_err-begin.ensures.refusal c.in_err-begin.ensures.count)
 
-pub drop_table-made-requires-clause-births : goal.drop_table-made-requires-clause-births
-drop_table-made-requires-clause-births g c =
+pub drop_table-made-requires-clause-may : goal.drop_table-made-requires-clause-may
+drop_table-made-requires-clause-may g c =
     let d = g.D.Disk in
     let name = c.args.name.now.bytes in
     let catalog = c.args.catalog.now in
@@ -94,7 +94,14 @@ drop_table-made-requires-clause-births g c =
     let births : AllByRecursion (λ (route : RouteItem). route.born ≤ c.args.file.now.accepted + 1) now.routes =
     born_later c.args.file.now.accepted (c.args.file.now.accepted + 1) now.routes (omega arith)
     (subst (λ (items : CatalogueItems). AllByRecursion (λ (route : RouteItem). route.born ≤ c.args.file.now.accepted) items.routes) (sym c.requires.rests.listing) c.requires.rests.births) in
-    subst (λ (items : CatalogueItems). AllByRecursion (λ (route : RouteItem). route.born ≤ c.args.file.now.accepted + 1) items.routes) (sym says) births
+    record {
+      begun = c.in_ok-begin.ensures.begun;
+      opened = c.requires.rests.may;
+      room = c.requires.room;
+      fits = c.in_ok-check_definitions.ensures.fits;
+      short = c.in_ok-check_definitions.ensures.short;
+      births = subst (λ (items : CatalogueItems). AllByRecursion (λ (route : RouteItem). route.born ≤ c.args.file.now.accepted + 1) items.routes) (sym says) births;
+    }
 
 pub drop_table-made-requires-clause-given : goal.drop_table-made-requires-clause-given
 drop_table-made-requires-clause-given g c =
@@ -172,7 +179,7 @@ returns-clause-rewrites g c =
     (begins_with d c.args.pager.now c.begin.new.self c.in_ok-begin.ensures.few c.in_ok-begin.ensures.many c.begin.ensures.copies c.begin.ensures.same c.begin.ensures.keeps) c.drop_table-made.ensures.leaves.keeps c.kept_change_gives_its_state.ensures c.args.oldest
     (TakesNamed catalog.tables name (said_catalogue stored)) stored c.requires.room c.requires.rests.committed
     (subst (λ (items : CatalogueItems). AllByRecursion (λ (route : RouteItem). route.born ≤ c.args.file.now.accepted + 1) items.routes) (sym says) births)
-    result c.drop_table-made.ensures.leaves.stores c.drop_table-made.ensures.next c.drop_table-made.ensures.keeps
+    result c.drop_table-made.ensures.leaves.stores c.drop_table-made.ensures.opened.next c.drop_table-made.ensures.opened.stays
     (λ tied. changes_by c.args.oldest (working d first) (working d between) c.args.file.now changed (TakesTable place (said_catalogue stored)) (TakesNamed catalog.tables name (said_catalogue stored)) result
     (λ before next opened takes. record {
       item = one;

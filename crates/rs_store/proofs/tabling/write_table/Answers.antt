@@ -60,6 +60,16 @@ define_table-made-requires-clause-more g c =
     (table_at c.args.number was now c.requires.more (given_once c.args.catalog.now c.stand.ensures).tables_once c.in_ok-stored.stored c.in_ok-stored.ensures
     c.columns_at-place.result.0 c.columns_at-place.result.1.items at)
 
+pub define_table-made-requires-clause-may : goal.define_table-made-requires-clause-may
+define_table-made-requires-clause-may g c = record {
+  begun = c.in_ok-begin.ensures.begun;
+  opened = c.requires.may;
+  room = c.requires.room;
+  fits = c.in_ok-check_definitions.ensures.fits;
+  short = c.in_ok-check_definitions.ensures.short;
+  births = subst (λ (items : CatalogueItems). AllByRecursion (λ (route : RouteItem). route.born ≤ c.args.file.now.accepted + 1) items.routes) (sym c.in_ok-stored.ensures) c.requires.births;
+}
+
 pub returns-clause-rewrites : goal.returns-clause-rewrites
 returns-clause-rewrites g c =
     let d = g.D.Disk in
@@ -85,7 +95,7 @@ returns-clause-rewrites g c =
     (begins_with d c.args.pager.now c.begin.new.self c.in_ok-begin.ensures.few c.in_ok-begin.ensures.many c.begin.ensures.copies c.begin.ensures.same c.begin.ensures.keeps) c.define_table-made.ensures.leaves.keeps c.kept_change_gives_its_state.ensures c.args.oldest
     (PutsNumbered c.args.number (said_catalogue stored)) stored c.requires.room c.requires.committed
     (subst (λ (items : CatalogueItems). AllByRecursion (λ (route : RouteItem). route.born ≤ c.args.file.now.accepted + 1) items.routes) (sym says) c.requires.births)
-    result c.define_table-made.ensures.leaves.stores c.define_table-made.ensures.next c.define_table-made.ensures.keeps
+    result c.define_table-made.ensures.leaves.stores c.define_table-made.ensures.opened.next c.define_table-made.ensures.opened.stays
     (λ tied. changes_by c.args.oldest (working d first) (working d between) c.args.file.now changed (PutsTable place types (said_catalogue stored)) (PutsNumbered c.args.number (said_catalogue stored)) result
     (λ one next opened puts. record { place = place; types = types; at = listed; puts = puts }) (c.define_table-made.ensures.puts tied))
     c.settle.ensures.settles))

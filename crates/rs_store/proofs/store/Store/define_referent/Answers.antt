@@ -37,6 +37,15 @@ returns-in_err-begin-clause-leaves g c =
     (begun_keeps d old was.pager first was.file was.catalog was.referents was.is_marked kept c.begin.ensures.keeps c.begin.ensures.masked)
     (changes-trans old.pager was.pager first same c.in_err-begin.ensures.refused.0) c.in_err-begin.ensures.refusal (c.in_err-begin.ensures.count ∙ ap counted_on failed))
 
+pub define_in_both-made-requires-clause-may : goal.define_in_both-made-requires-clause-may
+define_in_both-made-requires-clause-may g c =
+    let same : c.self.inside.file ≡ c.args.self.now.file = ap (λ (s : StoreState g.row.D.Denot). s.file) c.self.view_is ∙ c.mark.ensures.keeps.file in
+    record {
+      begun = c.in_ok-begin.ensures.begun;
+      opened = c.self.invariant.rests.may;
+      room = subst (λ (f : OpenedFile). f.accepted < CHANGES) (sym same) c.requires.room;
+    }
+
 pub invariant_of-self-2 : goal.invariant_of-self-2
 invariant_of-self-2 g c =
     let was = c.self.inside in
@@ -44,7 +53,7 @@ invariant_of-self-2 g c =
     record {
       shut = c.settle.ensures.shut;
       rests = rests_settled g.D.Disk c.define_in_both-made.result c.define_in_both-made.new.pages c.settle.new.pager was.file c.define_in_both-made.new.file c.settle.new.file was.catalog
-          c.self.invariant.rests (subst (λ (f : OpenedFile). f.accepted < CHANGES) (sym same) c.requires.room) c.define_in_both-made.ensures.next c.define_in_both-made.ensures.keeps c.settle.ensures.settles;
+          c.self.invariant.rests (subst (λ (f : OpenedFile). f.accepted < CHANGES) (sym same) c.requires.room) c.define_in_both-made.ensures.opened.next c.define_in_both-made.ensures.opened.stays c.settle.ensures.settles;
     }
 
 pub returns-clause-leaves : goal.returns-clause-leaves
@@ -63,7 +72,7 @@ returns-clause-leaves g c =
     (begins_with d was.pager first c.in_ok-begin.ensures.few c.in_ok-begin.ensures.many c.begin.ensures.copies c.begin.ensures.same c.begin.ensures.keeps) in
     subst (λ (r : Result (Unit {0}) Refusal). LeavesStore d Always r old (store_over d last c.settle.new.file was.catalog c.define_in_both-made.new.referents was.is_marked)) (sym c.settle.ensures.same)
     (left_settled d old first c.define_in_both-made.new.pages last was.file c.define_in_both-made.new.file c.settle.new.file was.catalog was.referents was.is_marked begun c.define_in_both-made.ensures.leaves.keeps
-    result was.file.definitions was.catalog c.define_in_both-made.new.referents c.define_in_both-made.ensures.leaves.stores c.define_in_both-made.ensures.next c.define_in_both-made.ensures.keeps c.self.invariant.rests.committed
+    result was.file.definitions was.catalog c.define_in_both-made.new.referents c.define_in_both-made.ensures.leaves.stores c.define_in_both-made.ensures.opened.next c.define_in_both-made.ensures.opened.stays c.self.invariant.rests.committed
     c.settle.ensures.settles (err_always result refl) c.define_in_both-made.ensures.back)
 
 pub returns-clause-puts : goal.returns-clause-puts

@@ -38,6 +38,15 @@ returns-in_err-begin-clause-leaves g c =
     (begun_keeps d old was.pager first was.file was.catalog was.referents was.is_marked kept c.begin.ensures.keeps c.begin.ensures.masked)
     (changes-trans old.pager was.pager first same c.in_err-begin.ensures.refused.0) c.in_err-begin.ensures.refusal (c.in_err-begin.ensures.count ∙ ap counted_on failed))
 
+pub drop_referent-made-requires-clause-may : goal.drop_referent-made-requires-clause-may
+drop_referent-made-requires-clause-may g c =
+    let same : c.self-2.inside.file ≡ c.args.self.now.file = ap (λ (s : StoreState g.row.D.Denot). s.file) c.self-2.view_is ∙ c.mark.ensures.keeps.file in
+    record {
+      begun = c.in_ok-begin.ensures.begun;
+      opened = c.self-2.invariant.rests.may;
+      room = subst (λ (f : OpenedFile). f.accepted < CHANGES) (sym same) c.requires.room;
+    }
+
 pub invariant_of-self-in_err-settle : goal.invariant_of-self-in_err-settle
 invariant_of-self-in_err-settle g c =
     let was = c.self-2.inside in
@@ -45,7 +54,7 @@ invariant_of-self-in_err-settle g c =
     record {
       shut = c.settle.ensures.shut;
       rests = rests_settled g.D.Disk c.drop_referent-made.result c.drop_referent-made.new.pages c.settle.new.pager was.file c.drop_referent-made.new.file c.settle.new.file was.catalog
-          c.self-2.invariant.rests (subst (λ (f : OpenedFile). f.accepted < CHANGES) (sym same) c.requires.room) c.drop_referent-made.ensures.next c.drop_referent-made.ensures.keeps c.settle.ensures.settles;
+          c.self-2.invariant.rests (subst (λ (f : OpenedFile). f.accepted < CHANGES) (sym same) c.requires.room) c.drop_referent-made.ensures.opened.next c.drop_referent-made.ensures.opened.stays c.settle.ensures.settles;
     }
 
 pub returns-in_err-settle-clause-leaves : goal.returns-in_err-settle-clause-leaves
@@ -68,7 +77,7 @@ returns-in_err-settle-clause-leaves g c =
     let p = err_from_is_err_and c.from_residual-in_err-settle.result c.from_residual-in_err-settle.ensures.1 in
     rw (p.1, p.2) (subst (λ (r : Result (Unit {0}) Refusal). LeavesStore d Always r old (store_over d last settled was.catalog was.referents was.is_marked)) (sym c.settle.ensures.same ∙ c.in_err-settle.was)
     (left_settled d old first between last was.file changed settled was.catalog was.referents was.is_marked begun c.drop_referent-made.ensures.leaves.keeps
-    result was.file.definitions was.catalog was.referents c.drop_referent-made.ensures.leaves.stores c.drop_referent-made.ensures.next c.drop_referent-made.ensures.keeps
+    result was.file.definitions was.catalog was.referents c.drop_referent-made.ensures.leaves.stores c.drop_referent-made.ensures.opened.next c.drop_referent-made.ensures.opened.stays
     c.self-2.invariant.rests.committed c.settle.ensures.settles (err_always result refl) (err_always result (λ route. refl))))
 
 pub invariant_of-self-2 : goal.invariant_of-self-2
@@ -78,7 +87,7 @@ invariant_of-self-2 g c =
     record {
       shut = c.settle.ensures.shut;
       rests = rests_settled g.D.Disk c.drop_referent-made.result c.drop_referent-made.new.pages c.settle.new.pager was.file c.drop_referent-made.new.file c.settle.new.file was.catalog
-          c.self-2.invariant.rests (subst (λ (f : OpenedFile). f.accepted < CHANGES) (sym same) c.requires.room) c.drop_referent-made.ensures.next c.drop_referent-made.ensures.keeps c.settle.ensures.settles;
+          c.self-2.invariant.rests (subst (λ (f : OpenedFile). f.accepted < CHANGES) (sym same) c.requires.room) c.drop_referent-made.ensures.opened.next c.drop_referent-made.ensures.opened.stays c.settle.ensures.settles;
     }
 
 pub returns-clause-drops : goal.returns-clause-drops

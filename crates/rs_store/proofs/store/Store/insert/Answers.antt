@@ -43,6 +43,15 @@ returns-in_err-begin-clause-leaves g c =
     (begun_keeps d old was.pager first was.file was.catalog was.referents was.is_marked kept c.begin.ensures.keeps c.begin.ensures.masked)
     (changes-trans old.pager was.pager first same c.in_err-begin.ensures.refused.0) c.in_err-begin.ensures.refusal (c.in_err-begin.ensures.count ∙ ap counted_on failed))
 
+pub insert-made-requires-clause-may : goal.insert-made-requires-clause-may
+insert-made-requires-clause-may g c =
+    let same : c.self-2.inside.file ≡ c.args.self.now.file = ap (λ (s : StoreState g.row.D.Denot). s.file) c.self-2.view_is ∙ c.mark.ensures.keeps.file in
+    record {
+      begun = c.in_ok-begin.ensures.begun;
+      opened = c.self-2.invariant.rests.may;
+      room = subst (λ (f : OpenedFile). f.accepted < CHANGES) (sym same) c.requires.room;
+    }
+
 pub invariant_of-self-2 : goal.invariant_of-self-2
 invariant_of-self-2 g c =
     let was = c.self-2.inside in
@@ -50,7 +59,7 @@ invariant_of-self-2 g c =
     record {
       shut = c.settle.ensures.shut;
       rests = rests_settled g.D.Disk c.insert-made.result c.insert-made.new.pages c.settle.new.pager was.file c.insert-made.new.file c.settle.new.file was.catalog
-          c.self-2.invariant.rests (subst (λ (f : OpenedFile). f.accepted < CHANGES) (sym same) c.requires.room) c.insert-made.ensures.next c.insert-made.ensures.keeps c.settle.ensures.settles;
+          c.self-2.invariant.rests (subst (λ (f : OpenedFile). f.accepted < CHANGES) (sym same) c.requires.room) c.insert-made.ensures.opened.next c.insert-made.ensures.opened.stays c.settle.ensures.settles;
     }
 
 pub returns-clause-leaves : goal.returns-clause-leaves
@@ -69,7 +78,7 @@ returns-clause-leaves g c =
     (begins_with d was.pager first c.in_ok-begin.ensures.few c.in_ok-begin.ensures.many c.begin.ensures.copies c.begin.ensures.same c.begin.ensures.keeps) in
     subst (λ (r : Result ℕ Refusal). LeavesStore d Always r old (store_over d last c.settle.new.file was.catalog was.referents was.is_marked)) (sym c.settle.ensures.same)
     (left_settled d old first c.insert-made.new.pages last was.file c.insert-made.new.file c.settle.new.file was.catalog was.referents was.is_marked begun c.insert-made.ensures.leaves.keeps
-    result was.file.definitions was.catalog was.referents c.insert-made.ensures.leaves.stores c.insert-made.ensures.next c.insert-made.ensures.keeps c.self-2.invariant.rests.committed
+    result was.file.definitions was.catalog was.referents c.insert-made.ensures.leaves.stores c.insert-made.ensures.opened.next c.insert-made.ensures.opened.stays c.self-2.invariant.rests.committed
     c.settle.ensures.settles (err_always result refl) (err_always result (λ route. refl)))
 
 pub returns-clause-inserts : goal.returns-clause-inserts

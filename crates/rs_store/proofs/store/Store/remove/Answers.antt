@@ -40,6 +40,15 @@ returns-in_err-begin-clause-leaves g c =
     (begun_keeps d old was.pager first was.file was.catalog was.referents was.is_marked kept c.begin.ensures.keeps c.begin.ensures.masked)
     (changes-trans old.pager was.pager first same c.in_err-begin.ensures.refused.0) c.in_err-begin.ensures.refusal (c.in_err-begin.ensures.count ∙ ap counted_on failed))
 
+pub remove-made-requires-clause-may : goal.remove-made-requires-clause-may
+remove-made-requires-clause-may g c =
+    let same : c.self-2.inside.file ≡ c.args.self.now.file = ap (λ (s : StoreState g.row.D.Denot). s.file) c.self-2.view_is ∙ c.mark.ensures.keeps.file in
+    record {
+      begun = c.in_ok-begin.ensures.begun;
+      opened = c.self-2.invariant.rests.may;
+      room = subst (λ (f : OpenedFile). f.accepted < CHANGES) (sym same) c.requires.room;
+    }
+
 pub invariant_of-self-2 : goal.invariant_of-self-2
 invariant_of-self-2 g c =
     let was = c.self-2.inside in
@@ -47,7 +56,7 @@ invariant_of-self-2 g c =
     record {
       shut = c.settle.ensures.shut;
       rests = rests_settled g.D.Disk c.remove-made.result c.remove-made.new.pages c.settle.new.pager was.file c.remove-made.new.file c.settle.new.file was.catalog
-          c.self-2.invariant.rests (subst (λ (f : OpenedFile). f.accepted < CHANGES) (sym same) c.requires.room) c.remove-made.ensures.next c.remove-made.ensures.keeps c.settle.ensures.settles;
+          c.self-2.invariant.rests (subst (λ (f : OpenedFile). f.accepted < CHANGES) (sym same) c.requires.room) c.remove-made.ensures.opened.next c.remove-made.ensures.opened.stays c.settle.ensures.settles;
     }
 
 pub returns-clause-leaves : goal.returns-clause-leaves
@@ -66,7 +75,7 @@ returns-clause-leaves g c =
     (begins_with d was.pager first c.in_ok-begin.ensures.few c.in_ok-begin.ensures.many c.begin.ensures.copies c.begin.ensures.same c.begin.ensures.keeps) in
     subst (λ (r : Result ℕ Refusal). LeavesStore d Always r old (store_over d last c.settle.new.file was.catalog was.referents was.is_marked)) (sym c.settle.ensures.same)
     (left_settled d old first c.remove-made.new.pages last was.file c.remove-made.new.file c.settle.new.file was.catalog was.referents was.is_marked begun c.remove-made.ensures.leaves.keeps
-    result was.file.definitions was.catalog was.referents c.remove-made.ensures.leaves.stores c.remove-made.ensures.next c.remove-made.ensures.keeps c.self-2.invariant.rests.committed
+    result was.file.definitions was.catalog was.referents c.remove-made.ensures.leaves.stores c.remove-made.ensures.opened.next c.remove-made.ensures.opened.stays c.self-2.invariant.rests.committed
     c.settle.ensures.settles (err_always result refl) (err_always result (λ route. refl)))
 
 pub returns-clause-removes : goal.returns-clause-removes
