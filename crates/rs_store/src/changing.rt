@@ -29,6 +29,15 @@ use rs_state_changes::{Insertion, Removal};
 use rs_state_laws::rows::{row_put_gives_its_state, rows_taken_away_give_their_state};
 use std::alloc::Global;
 
+/// A section of a route, in thousandths.
+#[derive(Clone, Copy)]
+pub struct Section {
+    /// The first thousandth inside.
+    pub lo: u32,
+    /// The first thousandth after it.
+    pub hi: u32,
+}
+
 impl<D: Disk> Store<D> {
     /// Puts a row along a span of a route, in thousandths, and answers how many facts are new. Versions from `oldest` on see what they
     /// saw. It is refused with 90, with 91, and with 92 where the file is full; with 94 only where the disk does not give back what was
@@ -66,16 +75,15 @@ impl<D: Disk> Store<D> {
         settle(&mut self.pager, &mut self.file, made)
     }
 
-    /// Takes the rows away between two thousandths of a route that meet a condition, or all, and answers how many facts went. It is
-    /// refused as `insert` is.
+    /// Takes the rows away on a section of a route that meet a condition, or all, and answers how many facts went. It is refused as
+    /// `insert` is.
     pub fn remove(
         &mut self,
         alloc: Global,
         oldest: u64,
         table: &Name,
         route: &Name,
-        lo: u32,
-        hi: u32,
+        section: Section,
         goes: Option<Condition>,
     ) -> Result<u128, Refusal>
         requires table { has self.old.catalog.tables table.now.bytes ≡ true }
@@ -84,17 +92,17 @@ impl<D: Disk> Store<D> {
         ensures leaves { LeavesStore D.Disk Always result self.old self.new }
         ensures removes { (from : ℕ) (state : State) (stands : StandsIn D.Disk from self.old state) → from ≤ oldest → oldest ≤ self.old.file.accepted + 1
             → (there : Table) → names.get state.tables table.now.bytes ≡ Some there
-            → IsLawful (with_table state table.now.bytes (without_facts there route.now.bytes lo hi (goes_by goes)))
-            → IfOk result (λ count. HasBecome D.Disk oldest stands.contents self.new (with_table state table.now.bytes (without_facts there route.now.bytes lo hi (goes_by goes)))
-            × (count ≡ removed_facts there.facts route.now.bytes lo hi (goes_by goes))) }
+            → IsLawful (with_table state table.now.bytes (without_facts there route.now.bytes section.lo section.hi (goes_by goes)))
+            → IfOk result (λ count. HasBecome D.Disk oldest stands.contents self.new (with_table state table.now.bytes (without_facts there route.now.bytes section.lo section.hi (goes_by goes)))
+            × (count ≡ removed_facts there.facts route.now.bytes section.lo section.hi (goes_by goes))) }
     {
         kept_change_gives_its_state::<D>();
         rows_taken_away_give_their_state();
         let removal = Removal {
             table: table_place(&self.file, &self.catalog, table),
             route: self.catalog.route(route).unwrap().number(),
-            lo,
-            hi,
+            lo: section.lo,
+            hi: section.hi,
             goes,
         };
         self.mark()?;

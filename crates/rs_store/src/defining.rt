@@ -58,9 +58,7 @@ impl<D: Disk> Store<D> {
             &mut self.file,
             &mut self.catalog,
             oldest,
-            name,
-            query,
-            text,
+            ViewDefinition { name, query, text },
         )
     }
 
@@ -87,6 +85,14 @@ impl<D: Disk> Store<D> {
     }
 }
 
+/// A view as a line defines it: its name, its query, and the query's text.
+#[derive(Drop)]
+struct ViewDefinition {
+    name: Name,
+    query: Query,
+    text: String,
+}
+
 /// Puts a new view into memory and then into the file; where the file refuses it, it goes out of memory again.
 fn define_view_in_both<D: Disk>(
     alloc: Global,
@@ -94,18 +100,17 @@ fn define_view_in_both<D: Disk>(
     file: &mut OpenedFile,
     catalog: &mut Catalog,
     oldest: u64,
-    name: Name,
-    query: Query,
-    text: String,
+    view: ViewDefinition,
 ) -> Result<(), Refusal>
     requires shut { pager.old.is_begun ≡ false }
     requires rests { IsAtRest file.old catalog.old }
     requires room { file.old.accepted < CHANGES }
-    requires new { has catalog.old.views name.bytes ≡ false }
-    ensures redefines { Redefines D.Disk oldest (changes.with_view catalog.old name.bytes (record { query = query; text = string_bytes text })) result
+    requires new { has catalog.old.views view.name.bytes ≡ false }
+    ensures redefines { Redefines D.Disk oldest (changes.with_view catalog.old view.name.bytes (record { query = view.query; text = string_bytes view.text })) result
         pager.old pager.new file.old file.new catalog.old catalog.new }
     ensures shut { pager.new.is_begun ≡ false }
 {
+    let ViewDefinition { name, query, text } = view;
     catalog.define_view(name, query, text)?;
     let made = write_definitions_of(alloc, pager, file, oldest, catalog);
     if made.is_err() {

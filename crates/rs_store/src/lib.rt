@@ -2,7 +2,7 @@
 #![tactic(auto)]
 
 mod aligning;
-mod changing;
+pub mod changing;
 mod closing;
 mod creating;
 mod defining;
@@ -22,6 +22,7 @@ pub mod store;
 mod tabling;
 pub mod versions;
 
+pub use changing::Section;
 pub use reading::IndexKey;
 pub use store::Store;
 pub use versions::NamedRoute;

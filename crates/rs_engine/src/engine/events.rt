@@ -16,6 +16,7 @@ use rs_disk::Disk;
 use rs_machine_laws::lawful::accepted_step_leaves_the_state_lawful;
 use rs_methods::Name;
 use rs_refusal::Refusal;
+use rs_store::Section;
 use rs_syntax::{Atom, EventLocation, Window};
 use rs_value::Literal;
 
@@ -66,10 +67,14 @@ impl<D: Disk> Engine<D> {
             goes,
         } = removal;
         let oldest = self.oldest();
-        let gone = self
-            .live
-            .store
-            .remove(self.alloc, oldest, table, &route, lo, hi, goes)?;
+        let gone = self.live.store.remove(
+            self.alloc,
+            oldest,
+            table,
+            &route,
+            Section { lo, hi },
+            goes,
+        )?;
         self.live.oldest = oldest;
         Ok(gone)
     }

@@ -22,23 +22,23 @@ pub returns-then-is_err-clause-redefines : goal.returns-then-is_err-clause-redef
 returns-then-is_err-clause-redefines g c =
     let d = g.D.Disk in
     let was = c.args.catalog.now in
-    let item : ViewItem = record { query = c.args.query; text = string_bytes c.args.text } in
-    let next = changes.with_view was c.args.name.bytes item in
+    let item : ViewItem = record { query = c.args.view.query; text = string_bytes c.args.view.text } in
+    let next = changes.with_view was c.args.view.name.bytes item in
     let made = c.write_definitions_of-made in
     redefines d c.args.oldest next made.result c.args.pager.now made.new.pager c.args.file.now made.new.file was c.drop_view.new.self
     (subst (λ (n : Definitions). Rewrites d c.args.oldest (ChangesDefinitions (listing_of n)) (listing_of n) made.result c.args.pager.now made.new.pager c.args.file.now made.new.file)
     c.in_ok-define_view.ensures.ok made.ensures.rewrites)
     c.requires.rests c.requires.rests.columns
     (ok_never (c.drop_view.new.self ≡ next) made.result (sym c.is_err.ensures.value ∙ c.if-is_err.true))
-    (err_always made.result (c.drop_view.ensures ∙ ap (λ (n : Definitions). changes.without_view n c.args.name.bytes) c.in_ok-define_view.ensures.ok
-    ∙ ap (λ (views : Names ViewItem). record was { views = views }) (taken_again was.views c.args.name.bytes item c.requires.new)))
+    (err_always made.result (c.drop_view.ensures ∙ ap (λ (n : Definitions). changes.without_view n c.args.view.name.bytes) c.in_ok-define_view.ensures.ok
+    ∙ ap (λ (views : Names ViewItem). record was { views = views }) (taken_again was.views c.args.view.name.bytes item c.requires.new)))
 
 pub returns-else-is_err-clause-redefines : goal.returns-else-is_err-clause-redefines
 returns-else-is_err-clause-redefines g c =
     let d = g.D.Disk in
     let was = c.args.catalog.now in
-    let item : ViewItem = record { query = c.args.query; text = string_bytes c.args.text } in
-    let next = changes.with_view was c.args.name.bytes item in
+    let item : ViewItem = record { query = c.args.view.query; text = string_bytes c.args.view.text } in
+    let next = changes.with_view was c.args.view.name.bytes item in
     let made = c.write_definitions_of-made in
     redefines d c.args.oldest next made.result c.args.pager.now made.new.pager c.args.file.now made.new.file was c.define_view.new.self
     (subst (λ (n : Definitions). Rewrites d c.args.oldest (ChangesDefinitions (listing_of n)) (listing_of n) made.result c.args.pager.now made.new.pager c.args.file.now made.new.file)
@@ -55,7 +55,7 @@ write_definitions_of-made-requires-clause-births g c =
 pub returns-in_err-define_view-clause-redefines : goal.returns-in_err-define_view-clause-redefines
 returns-in_err-define_view-clause-redefines g c =
     let was = c.args.catalog.now in
-    let next = changes.with_view was c.args.name.bytes (record { query = c.args.query; text = string_bytes c.args.text }) in
+    let next = changes.with_view was c.args.view.name.bytes (record { query = c.args.view.query; text = string_bytes c.args.view.text }) in
     let refused : Result (Unit {0}) Refusal = Err refusal.OutOfMemory in
     let p = err_from_is_err_and c.from_residual.result c.from_residual.ensures.1 in
     rw (p.1, p.2) (redefines g.D.Disk c.args.oldest next refused c.args.pager.now c.args.pager.now c.args.file.now c.args.file.now was c.define_view.new.self

@@ -104,19 +104,19 @@ returns-clause-removes g c = λ from state stands low high there is lawful.
     let table_there : names.get c.self.inside.catalog.tables name ≡ Some table.0 = ap (λ (k : Definitions). names.get k.tables name) listed ∙ table.1 in
     let route_there : names.get c.self.inside.catalog.routes route ≡ Some on = sym c.route.ensures ∙ c.unwrap.ensures in
     let at : IsPlaceOf was.file table.0 place = subst (λ (f : OpenedFile). IsPlaceOf f table.0 place) still (c.table_place.ensures table.0 table_there) in
-    let next = with_table state name (without_facts there route c.args.lo c.args.hi (goes_by c.args.goes)) in
+    let next = with_table state name (without_facts there route c.args.section.lo c.args.section.hi (goes_by c.args.goes)) in
     subst (λ (r : Result ℕ Refusal). IfOk r (λ count. HasBecome d c.args.oldest stands.contents (store_over d last settled was.catalog was.referents was.is_marked) next
-    × (count ≡ removed_facts there.facts route c.args.lo c.args.hi (goes_by c.args.goes)))) (sym c.settle.ensures.same)
+    × (count ≡ removed_facts there.facts route c.args.section.lo c.args.section.hi (goes_by c.args.goes)))) (sym c.settle.ensures.same)
     (made_and_kept d
-    (λ count. ChangesFile c.args.oldest (working d first) (working d between) was.file changed (RemovesRows place c.number.result c.args.lo c.args.hi c.args.goes count))
+    (λ count. ChangesFile c.args.oldest (working d first) (working d between) was.file changed (RemovesRows place c.number.result c.args.section.lo c.args.section.hi c.args.goes count))
     (λ count. HasBecome d c.args.oldest stands.contents (store_over d last settled was.catalog was.referents was.is_marked) next
-    × (count ≡ removed_facts there.facts route c.args.lo c.args.hi (goes_by c.args.goes)))
+    × (count ≡ removed_facts there.facts route c.args.section.lo c.args.section.hi (goes_by c.args.goes)))
     c.remove-made.result between last changed settled (c.remove-made.ensures.removes (begun.keeps.contents stands.contents stands.keeps).tied) c.settle.ensures.settles
     (λ count changes keeps. rows_taken d old first between last was.file changed settled was.catalog was.referents was.is_marked begun c.remove-made.ensures.leaves.keeps
-    c.kept_change_gives_its_state.ensures from c.args.oldest state stands low high c.requires.room c.rows_taken_away_give_their_state.ensures name route table.0 on place c.args.lo c.args.hi c.args.goes
+    c.kept_change_gives_its_state.ensures from c.args.oldest state stands low high c.requires.room c.rows_taken_away_give_their_state.ensures name route table.0 on place c.args.section.lo c.args.section.hi c.args.goes
     (ap (λ (k : Definitions). names.get k.tables name) kept.catalog ∙ table.1) (ap (λ (k : Definitions). names.get k.routes route) (kept.catalog ∙ sym listed) ∙ route_there)
     at.numbered there is lawful count
-    (subst (λ (n : ℕ). ChangesFile c.args.oldest (working d first) (working d between) was.file changed (RemovesRows place n c.args.lo c.args.hi c.args.goes count)) c.number.ensures changes)
+    (subst (λ (n : ℕ). ChangesFile c.args.oldest (working d first) (working d between) was.file changed (RemovesRows place n c.args.section.lo c.args.section.hi c.args.goes count)) c.number.ensures changes)
     keeps))
 
 pub returns-in_err-mark-clause-leaves : goal.returns-in_err-mark-clause-leaves
