@@ -1,10 +1,10 @@
 //! This module writes what a store keeps to its disk: it is saved, read anew, and closed.
 
-ghost use Rattle.std.specs.Prelude.{◌≡◌, ℕ, true, false, IsOkUnless, IsTrue, MatchResult, OnErr, OnOk};
+ghost use Rattle.std.specs.Prelude.{◌≡◌, ◌≢◌, ℕ, true, false, Err, IsOkUnless, IsTrue, MatchResult, OnErr, OnOk};
 ghost use Rattle.rs_contents.specs.Calls.{RefusesToLoad};
 ghost use Rattle.rs_disk.specs.Counts.{Counts};
 ghost use Rattle.rs_machine.specs.State.{State};
-ghost use Rattle.rs_pager.specs.Maps.{KeepsChanges};
+ghost use Rattle.rs_pager.specs.Maps.{HoldsNoChange, KeepsChanges};
 ghost use Rattle.rs_pager.specs.Opened.{CountsFault};
 ghost use Rattle.rs_standing.specs.Standing.{Stands};
 ghost use Rattle.rs_store.specs.Calls.{Closes, CountsClosing, KeepsStore, Reopens, Saves};
@@ -28,6 +28,7 @@ impl<D: Disk> Store<D> {
         ensures keeps { KeepsStore D.Disk self.old self.new }
         ensures changes { StillHolds D.Disk self.old.pager self.new.pager }
         ensures saves { Saves D.Disk result self.old self.new }
+        ensures written { OnOk result (HoldsNoChange self.new.pager) }
         ensures refused { IsOkUnless result Refusal.Disk }
         ensures count { Counts result (D.failures self.old.pager.disk) (D.failures self.new.pager.disk) }
     {
@@ -35,8 +36,8 @@ impl<D: Disk> Store<D> {
         self.pager.flush()
     }
 
-    /// Saves, and reads and checks the whole file anew, beside what is in use, which it then takes the place of. The open flag is not
-    /// looked at. It is refused with 90, with 91, and with 94 only where the disk does not give back what was written; after a refusal
+    /// Saves, and reads and checks the whole file anew, page 0 first, beside what is in use, which it then takes the place of. The open
+    /// flag is not looked at. It is refused with 90, with 91, and with 94 only where the disk does not give back what was written; after a refusal
     /// the store keeps what it kept.
     pub fn reopen(&mut self, alloc: Global) -> Result<(), Refusal>
         ensures reopens { Reopens D.Disk result self.old self.new }
@@ -46,6 +47,7 @@ impl<D: Disk> Store<D> {
             (λ why. CountsFault why (D.failures self.old.pager.disk) (D.failures self.new.pager.disk)) }
     {
         self.save()?;
+        self.check_first_page()?;
         self.read_anew(alloc)
     }
 
@@ -60,6 +62,23 @@ impl<D: Disk> Store<D> {
             Ok(()) => Ok(store.into_disk()),
             Err(refusal) => Err((store, refusal)),
         }
+    }
+
+    /// Reads page 0 anew, once all is written. It is refused with 91, and with 94 where page 0 is no longer what was written; whatever is
+    /// answered, the store keeps what it kept.
+    fn check_first_page(&mut self) -> Result<(), Refusal>
+        requires written { HoldsNoChange self.old.pager }
+        ensures keeps { KeepsStore D.Disk self.old self.new }
+        ensures changes { KeepsChanges self.old.pager self.new.pager }
+        ensures marked { self.new.is_marked ≡ self.old.is_marked }
+        ensures synced { D.is_synced self.new.pager.disk ≡ D.is_synced self.old.pager.disk }
+        ensures seen { IsTrue (D.is_honest self.old.pager.disk) → D.seen self.new.pager.disk ≡ D.seen self.old.pager.disk }
+        ensures sound { (oldest : ℕ) (state : State) → StandsIn D.Disk oldest self.old state → result ≢ Err Refusal.DamagedFile }
+        ensures refused { RefusesToLoad result }
+        ensures count { MatchResult result (λ _. D.failures self.new.pager.disk ≡ D.failures self.old.pager.disk)
+            (λ why. CountsFault why (D.failures self.old.pager.disk) (D.failures self.new.pager.disk)) }
+    {
+        self.pager.check_first_page()
     }
 
     /// Reads and checks the whole file beside what is in use, and puts it in the place of that. It is refused with 90, with 91 and with

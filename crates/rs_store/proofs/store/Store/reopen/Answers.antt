@@ -1,6 +1,8 @@
--- What was saved is read anew.
+-- What was saved is read anew, page 0 first.
+use Rattle.std.proofs.Common.{Err, Ok, ap}
 use Rattle.std.proofs.lemmas.Result.{err_from_is_err_and}
-use Rattle.rs_store.proofs.Keeping.{reopens_after, reopens_err, saves_after}
+use Rattle.rs_store.proofs.HeldChanges.{still_later}
+use Rattle.rs_store.proofs.Keeping.{keeps_store-trans, reopens_after, reopens_err, saves_after, stands_kept}
 use Rattle.rs_store.proofs.store.Store.reopen.Goals as goal
 
 pub returns-in_err-save-clause-reopens : goal.returns-in_err-save-clause-reopens
@@ -9,12 +11,35 @@ returns-in_err-save-clause-reopens g c =
     rw (p.1, p.2) (reopens_err g.D.Disk c.in_err-save.field-0.0 c.args.self.now c.save.new.self c.save.ensures.keeps
     (λ oldest state stands is. absurd (cc (is, c.in_err-save.ensures.refused))) c.save.ensures.changes)
 
+pub returns-in_err-check_first_page-clause-reopens : goal.returns-in_err-check_first_page-clause-reopens
+returns-in_err-check_first_page-clause-reopens g c =
+    let d = g.D.Disk in
+    let was = c.args.self.now in
+    let saved = c.save.new.self in
+    let looked = c.check_first_page.new.self in
+    let p = err_from_is_err_and c.from_residual-in_err-check_first_page.result c.from_residual-in_err-check_first_page.ensures.1 in
+    rw (p.1, p.2) (reopens_err d c.in_err-check_first_page.field-0.0 was looked (keeps_store-trans d was saved looked c.save.ensures.keeps c.check_first_page.ensures.keeps)
+    (λ oldest state stands is. c.in_err-check_first_page.ensures.sound oldest state (stands_kept d oldest was saved state c.save.ensures.keeps stands) (ap Err is))
+    (still_later d was.pager saved.pager looked.pager c.save.ensures.changes c.check_first_page.ensures.changes c.check_first_page.ensures.synced))
+
 pub returns-clause-reopens : goal.returns-clause-reopens
 returns-clause-reopens g c =
-    reopens_after g.D.Disk c.read_anew.result c.args.self.now c.save.new.self c.read_anew.new.self c.save.ensures.keeps c.read_anew.ensures.reopens
-    c.save.ensures.changes c.read_anew.ensures.changes c.read_anew.ensures.synced
+    let d = g.D.Disk in
+    let was = c.args.self.now in
+    let saved = c.save.new.self in
+    let looked = c.check_first_page.new.self in
+    reopens_after d c.read_anew.result was looked c.read_anew.new.self (keeps_store-trans d was saved looked c.save.ensures.keeps c.check_first_page.ensures.keeps)
+    c.read_anew.ensures.reopens
+    (still_later d was.pager saved.pager looked.pager c.save.ensures.changes c.check_first_page.ensures.changes c.check_first_page.ensures.synced)
+    c.read_anew.ensures.changes c.read_anew.ensures.synced
 
 pub returns-clause-saves : goal.returns-clause-saves
 returns-clause-saves g c =
-    saves_after g.D.Disk c.read_anew.result c.args.self.now c.save.new.self c.read_anew.new.self c.save.ensures.keeps c.in_ok-save.ensures.saves c.read_anew.ensures.seen
-    c.read_anew.ensures.reopens.limit c.read_anew.ensures.synced c.read_anew.ensures.marked
+    let d = g.D.Disk in
+    let was = c.args.self.now in
+    let saved = c.save.new.self in
+    let looked = c.check_first_page.new.self in
+    saves_after d c.read_anew.result was looked c.read_anew.new.self (keeps_store-trans d was saved looked c.save.ensures.keeps c.check_first_page.ensures.keeps)
+    (saves_after d (Ok tt) was saved looked c.save.ensures.keeps c.in_ok-save.ensures.saves c.check_first_page.ensures.seen c.check_first_page.ensures.keeps.limit
+    c.check_first_page.ensures.synced c.check_first_page.ensures.marked)
+    c.read_anew.ensures.seen c.read_anew.ensures.reopens.limit c.read_anew.ensures.synced c.read_anew.ensures.marked
