@@ -1,5 +1,5 @@
 -- The three images are among those that a crash may leave.
-use Rattle.std.proofs.Common.{◌≡◌, inr, ℕ, ◌+◌, true, false, List, [], ◌∷◌, length, replicate, arith, refl, sym, subst, Result, Ok, Err, IfOk}
+use Rattle.std.proofs.Common.{◌≡◌, inr, ℕ, ◌+◌, true, false, List, [], ◌∷◌, length, replicate, arith, refl, sym, ap, ◌∙◌, subst, Result, Ok, Err, IfOk}
 use Rattle.std.proofs.lemmas.List.{length-replicate}
 use Rattle.rs_disk.specs.Content.{Content}
 use Rattle.rs_disk.specs.Crash.{Torn}
@@ -10,7 +10,7 @@ use Rattle.rs_recording_disk.specs.declared.image.Unsynced.{Unsynced}
 use Rattle.rs_recording_disk.specs.declared.image.Unsynced.TheVariants.{Kept, Lost, Filled}
 use Rattle.rs_recording_disk.specs.Image.{image_after, image_of}
 use Rattle.rs_recording_disk.specs.Recorded.{written, replayed, EndsInZeros, LeavesAfter, Leaves}
-use Rattle.rs_recording_disk.specs.Laws.{written_keeps, written_ends, keeps_is_torn, content_is_left, image_ends}
+use Rattle.rs_recording_disk.specs.Laws.{written_keeps, written_ends, keeps_is_torn, content_is_left, image_ends, kept_reads}
 use Rattle.rs_recording_disk.proofs.Steps.{torn_not}
 
 -- a range that is filled
@@ -59,3 +59,8 @@ pub if_ok_is_left : {T E : Type 0} (content : T → Content) (result : Result T 
 if_ok_is_left content (Ok x) unsynced start past ends is_image =
     subst (Leaves start past) (sym is_image) (image_is_left unsynced start past ends)
 if_ok_is_left content (Err _) unsynced start past ends is_image = is_image
+
+pub if_ok_is_kept : {T E : Type 0} (content : T → Content) (result : Result T E) (unsynced : Unsynced) (start : Content) (past : List Call) → unsynced ≡ Kept → IfOk result (λ x. content x ≡ image_of unsynced start past) → IfOk result (λ x. content x ≡ replayed start past)
+if_ok_is_kept content (Ok x) unsynced start past kept is_image =
+    is_image ∙ ap (λ way. image_of way start past) kept ∙ kept_reads start past
+if_ok_is_kept content (Err _) unsynced start past kept is_image = is_image

@@ -1,5 +1,5 @@
 -- A disk that records its calls keeps the model of crashes.
-use Rattle.std.proofs.Common.{inl, inr, ℕ, ◌+◌, ◌*◌, ◌≤◌, true, false, List, [], ◌∷◌, length, arith, refl, sym, subst}
+use Rattle.std.proofs.Common.{◌≡◌, inl, inr, ℕ, ◌+◌, ◌*◌, ◌≤◌, true, false, List, [], ◌∷◌, length, arith, refl, sym, ap, subst}
 use Rattle.std.proofs.lemmas.Bool.{cases_lt}
 use Rattle.std.proofs.lemmas.Bool.Decides.{nat_tests}
 use Rattle.std.proofs.lemmas.List.{get_or_past}
@@ -8,6 +8,8 @@ use Rattle.rs_disk.specs.Content.{Content, content_of, KeepsOthers, IsCutTo}
 use Rattle.rs_disk.specs.Crash.{Torn}
 use Rattle.rs_recording_disk.specs.declared.call.Call.{Call}
 use Rattle.rs_recording_disk.specs.declared.call.Call.TheVariants.{Read, Write, Sync, Cut}
+use Rattle.rs_recording_disk.specs.declared.image.Unsynced.TheVariants.{Kept}
+use Rattle.rs_recording_disk.specs.Image.{image_of}
 use Rattle.rs_recording_disk.specs.Recorded.{written, cut_to, content_after, replayed, EndsInZeros, LeavesAfter, Leaves, LeftAfter, Recorded, content_now, LeavesNow, LeftSince}
 
 -- what is written in part keeps all but the range
@@ -143,3 +145,12 @@ reads_now recorded =
 
 pub only_left : (recorded : Recorded) (image : Content) → LeftSince recorded recorded image → LeavesNow recorded image
 only_left recorded = only_now (content_of recorded.start) recorded.past
+
+-- the image in which all is kept is the content itself
+pub kept_reads : (start : Content) (past : List Call) → image_of Kept start past ≡ replayed start past
+kept_reads start [] = refl
+kept_reads start (Read ∷ earlier) = kept_reads start earlier
+kept_reads start (Write range ∷ earlier) = ap (written range.at range.bytes) (kept_reads start earlier)
+kept_reads start (Sync true ∷ earlier) = refl
+kept_reads start (Sync false ∷ earlier) = kept_reads start earlier
+kept_reads start (Cut pages is_done ∷ earlier) = ap (content_after (Cut pages is_done)) (kept_reads start earlier)

@@ -1,7 +1,8 @@
 -- What a disk holds after the calls that were recorded of it, and what a crash may leave.
-use Rattle.std.specs.Prelude.{Result, OnOk, IsErr, ◌≡◌, ◌⊎◌, ℕ, ◌+◌, ◌-◌, ◌*◌, ◌≤◌, min, max, true, false, List, [], ◌∷◌, length, slice_index, if◌then◌else◌, nat_lt, nat_le, ◌&&◌}
+use Rattle.std.specs.Prelude.{Result, OnOk, OnErr, IsErr, ◌≡◌, ◌⊎◌, ℕ, ◌+◌, ◌-◌, ◌*◌, ◌/◌, ◌≤◌, min, max, Bool, true, false, List, [], ◌∷◌, length, take, slice_index, if◌then◌else◌, nat_lt, nat_le, ◌&&◌}
 use Rattle.rs_page.specs.declared.page.TheConstants.{PAGE_SIZE}
 use Rattle.rs_disk.specs.declared.failing.FailedCut.{FailedCut}
+use Rattle.rs_disk.specs.declared.failing.FailedCut.TheVariants.{Done, NotDone}
 use Rattle.rs_disk.specs.Calls.{Calls}
 use Rattle.rs_disk.specs.Content.{Content, content_of}
 use Rattle.rs_disk.specs.Crash.{Torn, CutOrNot, Follows}
@@ -92,6 +93,25 @@ LeftSince from recorded = LeftAfter (length from.past) (content_of recorded.star
 -- a call that succeeded is recorded as it was asked
 abbrev pub Records : {T E : Type 0} → Result T E → Call → RecordedDisk → RecordedDisk → Type 0
 Records result call old new = OnOk result (new.recorded ≡ with_call call old.recorded)
+
+-- whether a cut that is to fail is done
+abbrev pub is_cut : FailedCut → Bool
+is_cut Done = true
+is_cut NotDone = false
+
+-- the first bytes of a write of these, and how many more it was of
+abbrev pub first_bytes : ℕ → ℕ → List ℕ → Call
+first_bytes many at bytes = Write (record { at = at; bytes = take many bytes; unwritten = length bytes - many })
+
+-- A call that failed was not recorded, and nothing changed; or it was its turn to fail, and it is recorded so.
+abbrev pub RecordsFailed : {T E : Type 0} → Result T E → Type 0 → Call → Recorded → Recorded → Type 0
+RecordsFailed result is_turn call old new = OnErr result ((new ≡ old) ⊎ (is_turn × (new ≡ with_call call old)))
+
+-- A write that failed may be recorded as one of which nothing was written; in its turn half of it was.
+abbrev pub RecordsFailedWrite : {T E : Type 0} → Result T E → Type 0 → ℕ → List ℕ → Recorded → Recorded → Type 0
+RecordsFailedWrite result is_turn at bytes old new = OnErr result ((new ≡ old)
+    ⊎ ((new ≡ with_call (first_bytes 0 at bytes) old)
+    ⊎ (is_turn × (new ≡ with_call (first_bytes (length bytes / 2) at bytes) old))))
 
 -- the last of the calls left fails
 pub record FailsInTurn {T E : Type 0} (result : Result T E) (old new : RecordedDisk) : Type 0 where

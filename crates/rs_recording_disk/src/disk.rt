@@ -5,7 +5,7 @@ ghost use Rattle.rs_disk.specs.Content.{content_of, CutsTo, Gives, Holds, KeepsO
 ghost use Rattle.rs_disk.specs.Counts.{Counts, Syncs};
 ghost use Rattle.rs_disk.specs.Crash.{CutOrNot, Only, Passes, Same, Torn};
 ghost use Rattle.rs_recording_disk.specs.Image.{image_of, past_at};
-ghost use Rattle.rs_recording_disk.specs.Recorded.{content_now, FailsInTurn, Leaves, LeavesNow, LeftSince, Records};
+ghost use Rattle.rs_recording_disk.specs.Recorded.{content_now, FailsInTurn, is_cut, Leaves, LeavesNow, LeftSince, Records, RecordsFailed, RecordsFailedWrite, replayed};
 ghost use Rattle.rs_disk.specs.Calls.{no_calls};
 
 use crate::call::Call;
@@ -78,6 +78,8 @@ impl RecordingDisk {
         ensures image { IfOk result (λ bytes. content_of bytes.items
             ≡ image_of unsynced (content_of self.now.recorded.start)
             (past_at moment self.now.recorded.past)) }
+        ensures kept { unsynced ≡ Unsynced.Kept → IfOk result (λ bytes. content_of bytes.items
+            ≡ replayed (content_of self.now.recorded.start) (past_at moment self.now.recorded.past)) }
         ensures left { IfOk result (λ bytes. Leaves (content_of self.now.recorded.start)
             (past_at moment self.now.recorded.past) (content_of bytes.items)) }
     {
@@ -128,6 +130,7 @@ impl Disk for RecordingDisk {
         ensures synced { self.new.calls.is_synced ≡ self.old.calls.is_synced }
         ensures crash { Passes LeavesNow LeftSince Same self.old.recorded self.new.recorded }
         ensures recorded { Records result Call.Read self.old self.new }
+        ensures failed { RecordsFailed result (self.old.calls_left ≡ 1) Call.Read self.old.recorded self.new.recorded }
         ensures turn { FailsInTurn result self.old self.new }
     {
         let is_failing = is_failing_call(&mut self.calls_left);
@@ -145,6 +148,8 @@ impl Disk for RecordingDisk {
             self.old.recorded self.new.recorded }
         ensures recorded { Records result
             (Call.Write (record { at = at; bytes = bytes.now; unwritten = 0 })) self.old self.new }
+        ensures failed { RecordsFailedWrite result (self.old.calls_left ≡ 1) at bytes.now
+            self.old.recorded self.new.recorded }
         ensures turn { FailsInTurn result self.old self.new }
     {
         let is_failing = is_failing_call(&mut self.calls_left);
@@ -160,6 +165,8 @@ impl Disk for RecordingDisk {
         ensures durable { OnOk result
             (Only (content_now self.new.recorded) (LeavesNow self.new.recorded)) }
         ensures recorded { Records result (Call.Sync true) self.old self.new }
+        ensures failed { RecordsFailed result (self.old.calls_left ≡ 1) (Call.Sync false)
+            self.old.recorded self.new.recorded }
         ensures turn { FailsInTurn result self.old self.new }
     {
         let is_failing = is_failing_call(&mut self.calls_left);
@@ -175,6 +182,8 @@ impl Disk for RecordingDisk {
         ensures crash { Passes LeavesNow LeftSince (CutOrNot (PAGE_SIZE * pages))
             self.old.recorded self.new.recorded }
         ensures recorded { Records result (Call.Cut pages true) self.old self.new }
+        ensures failed { RecordsFailed result (self.old.calls_left ≡ 1) (Call.Cut pages (is_cut self.old.failed_cut))
+            self.old.recorded self.new.recorded }
         ensures turn { FailsInTurn result self.old self.new }
     {
         let is_failing = is_failing_call(&mut self.calls_left);

@@ -2,6 +2,7 @@
 
 ghost use Rattle.std.specs.Prelude.{◌≡◌, ◌+◌, ◌^◌, ◌<◌, false, true, IfOk, OnOk, length, replicate, reverse};
 ghost use Rattle.rs_disk.specs.Content.{content_of};
+ghost use Rattle.rs_recording_disk.specs.declared.image.TheConstants.{FILL};
 ghost use Rattle.rs_recording_disk.specs.Image.{image_after, image_of, left_of_cut, left_of_write};
 ghost use Rattle.rs_recording_disk.specs.Recorded.{content_after, cut_to, written};
 
@@ -12,6 +13,11 @@ use std::alloc::{AllocError, Global};
 
 /// The byte that fills the ranges that were written.
 pub const FILL: u8 = 165;
+
+/// The byte is 165.
+pub fn fill_is_that()
+    ensures { FILL ≡ 165 }
+{}
 
 /// What a crash makes of what was written and cut since the last sync.
 #[derive(Clone, Copy, Debug, PartialEq, Eq)]

@@ -2,10 +2,10 @@
 //!
 //! Room for the record of a call is made before the call is done. Where that is refused, nothing changes.
 
-ghost use Rattle.std.specs.Prelude.{◌≡◌, ◌+◌, ◌-◌, ◌^◌, ◌/◌, min, ◌*◌, ◌<◌, ◌≤◌, [], ◌∷◌, IfOk, IsErr, IsTrue, OnErr, OnOk, false, true, length, reverse, vec_len, vec_capacity};
+ghost use Rattle.std.specs.Prelude.{◌≡◌, ◌⊎◌, ◌+◌, ◌-◌, ◌^◌, ◌/◌, min, ◌*◌, ◌<◌, ◌≤◌, [], ◌∷◌, IfOk, IsErr, IsTrue, OnErr, OnOk, false, true, length, reverse, vec_len, vec_capacity};
 ghost use Rattle.rs_disk.specs.Content.{content_of, CutsTo, Gives, Holds, KeepsOthers};
 ghost use Rattle.rs_recording_disk.specs.Image.{image_of, past_at};
-ghost use Rattle.rs_recording_disk.specs.Recorded.{content_now, cut_to, Leaves, LeavesNow, LeftSince, with_call, written};
+ghost use Rattle.rs_recording_disk.specs.Recorded.{content_now, cut_to, first_bytes, is_cut, Leaves, LeavesNow, LeftSince, RecordsFailed, RecordsFailedWrite, replayed, with_call, written};
 ghost use Rattle.rs_disk.specs.Crash.{CutOrNot, Only, Passes, Same, Torn};
 
 use crate::call::{Call, WrittenRange};
@@ -57,6 +57,7 @@ impl Recording {
         ensures same { content_now self.new ≡ content_now self.old }
         ensures crash { Passes LeavesNow LeftSince Same self.old self.new }
         ensures recorded { OnOk result (self.new ≡ with_call Call.Read self.old) }
+        ensures failed { RecordsFailed result (IsTrue is_failing) Call.Read self.old self.new }
         ensures fails { IsTrue is_failing → IsErr result }
     {
         make_room(&mut self.calls)?;
@@ -75,6 +76,7 @@ impl Recording {
         ensures crash { Passes LeavesNow LeftSince (Torn at (length bytes.now)) self.old self.new }
         ensures recorded { OnOk result (self.new ≡ with_call
             (Call.Write (record { at = at; bytes = bytes.now; unwritten = 0 })) self.old) }
+        ensures failed { RecordsFailedWrite result (IsTrue is_failing) at bytes.now self.old self.new }
         ensures fails { IsTrue is_failing → IsErr result }
     {
         if is_failing {
@@ -95,6 +97,8 @@ impl Recording {
             (Torn at (length part.now + unwritten)) self.old self.new }
         ensures recorded { OnOk result (self.new ≡ with_call
             (Call.Write (record { at = at; bytes = part.now; unwritten = unwritten })) self.old) }
+        ensures failed { OnErr result ((self.new ≡ self.old) ⊎ (self.new ≡ with_call
+            (Call.Write (record { at = at; bytes = []; unwritten = length part.now + unwritten })) self.old)) }
     {
         let mut kept = part.to_vec(self.alloc).map_err(|_| DiskFault)?;
         make_room(&mut self.calls)?;
@@ -111,6 +115,7 @@ impl Recording {
         ensures crash { Passes LeavesNow LeftSince Same self.old self.new }
         ensures durable { OnOk result (Only (content_now self.new) (LeavesNow self.new)) }
         ensures recorded { OnOk result (self.new ≡ with_call (Call.Sync true) self.old) }
+        ensures failed { RecordsFailed result (IsTrue is_failing) (Call.Sync false) self.old self.new }
         ensures fails { IsTrue is_failing → IsErr result }
     {
         make_room(&mut self.calls)?;
@@ -131,6 +136,7 @@ impl Recording {
         ensures crash { Passes LeavesNow LeftSince (CutOrNot (PAGE_SIZE * pages))
             self.old self.new }
         ensures recorded { OnOk result (self.new ≡ with_call (Call.Cut pages true) self.old) }
+        ensures failed { RecordsFailed result (IsTrue is_failing) (Call.Cut pages (is_cut failed_cut)) self.old self.new }
         ensures fails { IsTrue is_failing → IsErr result }
     {
         make_room(&mut self.calls)?;
@@ -159,6 +165,8 @@ impl Recording {
         requires { moment ≤ length self.now.past }
         ensures image { IfOk result (λ bytes. content_of bytes.items
             ≡ image_of unsynced (content_of self.now.start) (past_at moment self.now.past)) }
+        ensures kept { unsynced ≡ Unsynced.Kept → IfOk result (λ bytes. content_of bytes.items
+            ≡ replayed (content_of self.now.start) (past_at moment self.now.past)) }
         ensures left { IfOk result (λ bytes. Leaves (content_of self.now.start)
             (past_at moment self.now.past) (content_of bytes.items)) }
     {
@@ -194,6 +202,7 @@ fn write_or_clear(disk: &mut MemoryDisk, at: u64, bytes: &mut Vec<u8>) -> Result
     ensures content { content_of disk.new.bytes
         ≡ written at bytes.new.items (content_of disk.old.bytes) }
     ensures kept { OnOk result (bytes.new.items ≡ bytes.old.items) }
+    ensures cleared { OnErr result (bytes.new.items ≡ []) }
     ensures fewer { length bytes.new.items ≤ length bytes.old.items }
 {
     let outcome = disk.write(at, bytes.as_slice());
