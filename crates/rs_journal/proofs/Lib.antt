@@ -1,5 +1,6 @@
 pub mod Advancing
 pub mod Homes
+pub mod Making
 pub mod Reaching
 pub mod Recovering
 pub mod Staging

@@ -2,9 +2,10 @@
 use Rattle.std.proofs.lemmas.Bool.{cases_lt}
 use Rattle.std.proofs.Common.{Result, Ok, Err, IsErr, OnOk, OnErr, IsTrue, max, ◌≡◌, ◌≢◌, ◌⊎◌, inl, inr, ℕ, ◌+◌, ◌-◌, ◌*◌, ◌<◌, ◌≤◌, arith, refl, sym, ap, ◌∙◌, subst}
 use Rattle.rs_refusal.specs.declared.refusal.Refusal.{Refusal}
-use Rattle.rs_disk.specs.Crash.{Same, CutOrNot}
+use Rattle.rs_refusal.specs.declared.refusal.Refusal.TheVariants.{DamagedFile}
+use Rattle.rs_disk.specs.Crash.{Same, CutOrNot, Only}
 use Rattle.rs_disk.specs.declared.disk.Disk as disk
-use Rattle.rs_disk.specs.Content.{Content}
+use Rattle.rs_disk.specs.Content.{Content, CutsTo, IsCutTo}
 use Rattle.rs_page.specs.declared.page.TheConstants.{PAGE_SIZE}
 use Rattle.rs_journal.specs.Journal.{Journal, Ascends, AreBelow, HasJournal, Carries, Recovers, RecoversBy, IsTold, Tells, number_pages, copies_start}
 use Rattle.rs_journal.specs.Stages.{IsHome, IsQuiet, Goes, GateAlone}
@@ -12,7 +13,7 @@ use Rattle.rs_journal.specs.Reaches.{Reaches}
 use Rattle.rs_journal.proofs.Staging.{quiet-gives, not-gate}
 use Rattle.rs_journal.proofs.Words.{word-same}
 use Rattle.rs_journal.specs.Pages.{Pages, IsOfPages, HasPages, word_at}
-use Rattle.rs_journal.specs.Recovery.{NumbersSoFar, SaysCount, OnDamaged, Brought, GaveAll, Recovered, number_in}
+use Rattle.rs_journal.specs.Recovery.{NumbersSoFar, SaysCount, HasNoMore, IsDamaged, OnDamaged, Brought, GaveAll, Recovered, number_in}
 
 pub numbers-none : (first : ℕ) (number : ℕ → ℕ) → NumbersSoFar first 0 0 number
 numbers-none first number = record {
@@ -109,11 +110,59 @@ pub told-same : {T : Type 0} (result : Result T Refusal) (before now : Content) 
     → OnOk result (now.byte 64 ≡ 1 → IsTold now) → OnOk result (before.byte 64 ≡ 1 → IsTold before)
 told-same result before now same told = subst (λ content. OnOk result (content.byte 64 ≡ 1 → IsTold content)) same told
 
+pub on_damaged : {T P Q : Type 0} (result : Result T Refusal) → (P → Q) → OnDamaged result P → OnDamaged result Q
+on_damaged (Err DamagedFile) more claim = more claim
+on_damaged _ more claim = tt
+
+-- a refusal that is passed on
+pub damaged-passed : (T U P Q : Type 0) (e : Refusal) (answer : Result U Refusal) → answer ≡ Err e → (P → Q)
+    → OnDamaged {T = T} (Err e) P → OnDamaged answer Q
+damaged-passed T U P Q DamagedFile answer is more claim =
+    subst (λ (passed : Result U Refusal). OnDamaged passed Q) (sym is) (more claim)
+damaged-passed T U P Q _ answer is more claim =
+    subst (λ (passed : Result U Refusal). OnDamaged passed Q) (sym is) tt
+
 pub damaged-same : {T : Type 0} (result : Result T Refusal) (before now : Content) → now ≡ before
-    → OnDamaged result ((pages : Pages) → SaysCount pages → Recovers now pages → ⊥)
-    → OnDamaged result ((pages : Pages) → SaysCount pages → Recovers before pages → ⊥)
-damaged-same result before now same damaged =
-    subst (λ content. OnDamaged result ((pages : Pages) → SaysCount pages → Recovers content pages → ⊥)) same damaged
+    → OnDamaged result (IsDamaged now) → OnDamaged result (IsDamaged before)
+damaged-same result before now same damaged = subst (λ content. OnDamaged result (IsDamaged content)) same damaged
+
+-- an open gate, and no journal that is well formed
+pub damaged-by : (before now : Content) → now ≡ before → before.byte 64 ≡ 1
+    → ((journal : Journal) → Tells now journal → PAGE_SIZE ≤ now.size → ⊥) → IsDamaged before
+damaged-by before now same opened none =
+    let none' : (journal : Journal) → Tells before journal → PAGE_SIZE ≤ before.size → ⊥
+    = subst (λ (content : Content). (journal : Journal) → Tells content journal → PAGE_SIZE ≤ content.size → ⊥) same none in
+    record {
+      opened = opened;
+      no_journal = none';
+      no_pages = λ pages says gives.
+          let by = gives.opened opened in
+          let some : 0 < pages.count = says.some in
+          let long : PAGE_SIZE * pages.count ≤ before.size = by.overlays.size in
+          none' by.journal by.tells (omega arith);
+    }
+
+-- a gate that was closed stays closed where the file is cut, and past its end
+pub cut-shut : (pages : ℕ) (a b : Content) → IsCutTo (PAGE_SIZE * pages) a b → ((i : ℕ) → b.size ≤ i → b.byte i ≡ 0)
+    → a.byte 64 ≡ 0 → b.byte 64 ≡ 0
+cut-shut pages a b cut zeros closed = elim (cases_lt 0 pages) [
+  | inl some ↦ cut.kept 64 (omega arith) ∙ closed
+  | inr none ↦ zeros 64 (omega (arith, cut.size))
+]
+
+-- a file that is cut to the count in page 0 says this count still
+pub cut-counts : (pages : ℕ) (a b : Content) → IsCutTo (PAGE_SIZE * pages) a b → pages ≡ word_at a.byte 32 → HasNoMore b
+cut-counts pages a b cut read = elim (cases_lt 0 pages) [
+  | inl some ↦
+      let still : word_at b.byte 32 ≡ word_at a.byte 32 = word-same b.byte a.byte 32 (λ k lt. cut.kept (32 + k) (omega arith)) in
+      omega (arith, cut.size, read, still)
+  | inr none ↦ omega (arith, cut.size)
+]
+
+pub is-cut : {T E : Type 0} (result : Result T E) (bound : ℕ) (P : Type 0) (a b : Content)
+    → (IsCutTo bound a b → P) → CutsTo result bound a b → OnOk result P
+is-cut (Ok _) bound P a b then cut = then cut
+is-cut (Err _) bound P a b then cut = tt
 
 module _ {D : Type 0} (d : disk.Ghosts D) where
   -- where the first sync fails
@@ -131,6 +180,7 @@ module _ {D : Type 0} (d : disk.Ghosts D) where
         | inr f ↦ inr (inr (subst (d.may_leave old) (sym f.steps) f.was_left))
       ];
     };
+    from_sync = inl (record { failed = refl; before = reaches });
   }
 
   reads-by : {T E : Type 0} (pages : Pages) (result : Result T E) (mid new : D)
@@ -147,8 +197,9 @@ module _ {D : Type 0} (d : disk.Ghosts D) where
 
   -- and where it doesn't
   pub recovered-synced : {T E : Type 0} (pages : Pages) (result : Result T E) (old mid new : D) → Reaches d Same old mid → d.keeps_crashes new ≡ d.keeps_crashes mid
+      → (IsTrue (d.keeps_crashes old) → Only (d.seen mid) (d.may_leave mid))
       → Goes d (λ image. Recovers image pages) (IsQuiet pages) result mid new → Recovered d pages result old new
-  recovered-synced pages result old mid new reaches keeping goes = record {
+  recovered-synced pages result old mid new reaches keeping durable goes = record {
     done = goes.done;
     reads = reads-by pages result mid new goes;
     images = λ keeps. images-by pages result old mid new goes (subst IsTrue (sym (keeping ∙ reaches.keeping)) keeps);
@@ -161,6 +212,7 @@ module _ {D : Type 0} (d : disk.Ghosts D) where
         | inr is ↦ inr (inl is)
       ];
     };
+    from_sync = inr (record { synced = mid; before = reaches; durable = durable; goes = goes });
   }
 
 -- the home pages of a journal that is there lie in the file

@@ -1,7 +1,7 @@
 -- From stage to stage, image by image.
 use Rattle.std.proofs.lemmas.Bool.{cases_lt, cases_eq}
-use Rattle.std.proofs.Common.{◌≡◌, ◌⊎◌, inl, inr, ℕ, zero, suc, ◌+◌, ◌*◌, ◌-◌, ◌<◌, ◌≤◌, arith, sym, ap, ◌∙◌, subst}
-use Rattle.rs_disk.specs.Content.{Content}
+use Rattle.std.proofs.Common.{◌≡◌, ◌⊎◌, inl, inr, ℕ, zero, suc, ◌+◌, ◌*◌, ◌-◌, ◌<◌, ◌≤◌, arith, sym, ap, ◌∙◌, subst, Result, Ok, Err}
+use Rattle.rs_disk.specs.Content.{Content, CutsTo}
 use Rattle.rs_disk.specs.Crash.{CutOrNot}
 use Rattle.rs_page.specs.declared.page.TheConstants.{PAGE_SIZE}
 use Rattle.rs_journal.specs.Pages.{Pages, IsOutside, IsOfPages, HasPages}
@@ -120,14 +120,14 @@ home-on journal checkpoint a b carries home keeps =
     }
 
 -- the page among these in which the byte lies
-record Found (count : ℕ) (number : ℕ → ℕ) (i : ℕ) : Type 0 where
-  place : ℕ
-  lt : place < count
-  offset : ℕ
-  within : offset < PAGE_SIZE
-  is : i ≡ PAGE_SIZE * number place + offset
+pub record Found (count : ℕ) (number : ℕ → ℕ) (i : ℕ) : Type 0 where
+  pub place : ℕ
+  pub lt : place < count
+  pub offset : ℕ
+  pub within : offset < PAGE_SIZE
+  pub is : i ≡ PAGE_SIZE * number place + offset
 
-apart-or : (count : ℕ) (number : ℕ → ℕ) (i : ℕ) → Found count number i ⊎ IsApart count number i
+pub apart-or : (count : ℕ) (number : ℕ → ℕ) (i : ℕ) → Found count number i ⊎ IsApart count number i
 apart-or zero number i = inr (λ k lt. absurd (omega arith))
 apart-or (suc n) number i = elim (apart-or n number i) [
   | inl f ↦ inl (record { place = f.place; lt = let below : f.place < n = f.lt in omega arith; offset = f.offset; within = f.within; is = f.is })
@@ -171,6 +171,11 @@ is-closed journal checkpoint a closing is = record {
   closed = λ one. absurd (omega (arith, is, one));
   pages_there = closing.pages_there;
 }
+
+-- a cut is done or not
+pub cut-or-not : {T E : Type 0} (result : Result T E) (bound : ℕ) (a b : Content) → CutsTo result bound a b → CutOrNot bound a b
+cut-or-not (Ok t) bound a b cut = inl cut
+cut-or-not (Err e) bound a b cut = cut
 
 -- and the file is cut
 pub cut-on : (bound : ℕ) (pages : Pages) (a b : Content) → 0 < pages.count → pages.count ≤ bound → IsQuiet pages a

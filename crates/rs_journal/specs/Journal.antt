@@ -128,6 +128,22 @@ pub record Makes (journal : Journal) (kept checkpoint : Pages) : Type 0 where
       → (i < PAGE_SIZE * kept.count) × (kept.byte i ≡ checkpoint.byte i)
   pub no_copy : journal.count ≡ 0 → checkpoint.count ≤ kept.count
 
+-- the page with this number is copied
+pub record IsCopied (journal : Journal) (number : ℕ) : Type 0 where
+  pub place : ℕ
+  pub inside : place < journal.count
+  pub is : journal.number place ≡ number
+
+-- each page from the first count up to the second is copied
+abbrev pub Fills : Journal → ℕ → ℕ → Type 0
+Fills journal from to = (number : ℕ) → from ≤ number → number < to → IsCopied journal number
+
+-- so many pages that the journal makes of the pages kept last
+pub record MadePages (journal : Journal) (kept : Pages) (count : ℕ) : Type 0 where
+  pub checkpoint : Pages
+  pub counts : checkpoint.count ≡ count
+  pub makes : Makes journal kept checkpoint
+
 module _ {C : Type 0} (c : copies.Ghosts C) where
   -- the journal of these copies from this page on
   abbrev pub journal_of : ℕ → C → Journal

@@ -22,6 +22,11 @@ pub record HasPages (pages : Pages) (content : Content) : Type 0 where
   pub size : PAGE_SIZE * pages.count ≤ content.size
   pub bytes : (i : ℕ) → i < PAGE_SIZE * pages.count → IsOfPages i → content.byte i ≡ pages.byte i
 
+-- the same pages, whatever they have for the gate and the journal's fields
+pub record SamePages (one other : Pages) : Type 0 where
+  pub count : one.count ≡ other.count
+  pub bytes : (i : ℕ) → i < PAGE_SIZE * one.count → IsOfPages i → one.byte i ≡ other.byte i
+
 -- the number in the four bytes from an offset on, the highest byte first
 unfoldable pub word_at : (ℕ → ℕ) → ℕ → ℕ
 word_at byte at = 16777216 * byte at + 65536 * byte (at + 1) + 256 * byte (at + 2) + byte (at + 3)

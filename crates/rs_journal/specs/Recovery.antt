@@ -1,16 +1,17 @@
 -- What recovery reads of a journal, and what it answers.
-use Rattle.std.specs.Prelude.{◌≡◌, ◌⊎◌, ℕ, ◌+◌, ◌-◌, ◌*◌, ◌^◌, ◌<◌, ◌≤◌, IsTrue, Result, Ok, Err, OnOk, OnErr}
+use Rattle.std.specs.Prelude.{◌≡◌, ◌⊎◌, ℕ, ◌+◌, ◌-◌, ◌*◌, ◌^◌, ◌<◌, ◌≤◌, IsTrue, Result, Ok, Err, IsErr, OnOk, OnErr}
 use Rattle.rs_refusal.specs.Counts.{counted_on}
 use Rattle.rs_refusal.specs.declared.refusal.Refusal.{Refusal}
 use Rattle.rs_refusal.specs.declared.refusal.Refusal.TheVariants.{Disk, DamagedFile}
 use Rattle.rs_disk.specs.Content.{Content}
+use Rattle.rs_disk.specs.Crash.{Same, Only}
 use Rattle.rs_disk.specs.declared.disk.Disk as disk
 use Rattle.rs_page.specs.declared.page.TheConstants.{PAGE_SIZE}
-use Rattle.rs_journal.specs.declared.limits.TheConstants.{FIELDS, PAGE_COUNT}
+use Rattle.rs_journal.specs.declared.limits.TheConstants.{GATE, FIELDS, PAGE_COUNT}
 use Rattle.rs_journal.specs.Pages.{Pages, HasPages, word_at}
 use Rattle.rs_journal.specs.Journal.{Journal, Ascends, AreBelow, end_page, number_pages, Tells, Recovers}
-use Rattle.rs_journal.specs.Stages.{IsQuiet, IsLeftAlone, HasHome, Stands, Meanwhile}
-use Rattle.rs_journal.specs.Reaches.{KeepsWhere}
+use Rattle.rs_journal.specs.Stages.{IsQuiet, IsLeftAlone, HasHome, Stands, Meanwhile, Goes}
+use Rattle.rs_journal.specs.Reaches.{KeepsWhere, Reaches}
 
 -- the number at a place of a journal from this page on
 abbrev pub number_in : Content → ℕ → ℕ → ℕ
@@ -71,12 +72,35 @@ CountsFaults (Err Disk) old new = new ≡ counted_on old
 CountsFaults (Err DamagedFile) old new = new ≡ old
 CountsFaults (Err _) old new = ⊥
 
+-- the file is no longer than the pages that page 0 counts
+abbrev pub HasNoMore : Content → Type 0
+HasNoMore content = content.size ≤ PAGE_SIZE * word_at content.byte PAGE_COUNT
+
+-- the gate is open, and no well-formed journal is there in a file that has a page 0; so it gives no pages
+pub record IsDamaged (content : Content) : Type 0 where
+  pub opened : content.byte GATE ≡ 1
+  pub no_journal : (journal : Journal) → Tells content journal → PAGE_SIZE ≤ content.size → ⊥
+  pub no_pages : (pages : Pages) → SaysCount pages → Recovers content pages → ⊥
+
 -- a refusal by damaged bytes is right
 abbrev pub OnDamaged : {T : Type 0} → Result T Refusal → Type 0 → Type 0
 OnDamaged (Err DamagedFile) claim = claim
 OnDamaged _ claim = Unit {0}
 
 module _ {D : Type 0} (d : disk.Ghosts D) where
+  -- the first sync of recovery fails, and there is no other call
+  pub record NotSynced {T E : Type 0} (result : Result T E) (old new : D) : Type 0 where
+    pub failed : IsErr result
+    pub before : Reaches d Same old new
+
+  -- The first sync of recovery succeeds, and leaves a disk of which a crash leaves what a read gives. From there on each
+  -- image gives the pages.
+  pub record FromSync {T E : Type 0} (pages : Pages) (result : Result T E) (old new : D) : Type 0 where
+    pub synced : D
+    pub before : Reaches d Same old synced
+    pub durable : IsTrue (d.keeps_crashes old) → Only (d.seen synced) (d.may_leave synced)
+    pub goes : Goes d (λ image. Recovers image pages) (IsQuiet pages) result synced new
+
   -- what recovery leaves of a disk that gives these pages: after Ok they are the ones kept; after a fault a read gives
   -- them still, and so does each image that a crash may leave, or it is among those of the start
   pub record Recovered {T E : Type 0} (pages : Pages) (result : Result T E) (old new : D) : Type 0 where
@@ -86,3 +110,4 @@ module _ {D : Type 0} (d : disk.Ghosts D) where
         (((image : Content) → d.may_leave new image → Recovers image pages)
         ⊎ ((image : Content) → d.may_leave new image → d.may_leave old image))
     pub meanwhile : Meanwhile d (λ image. Recovers image pages ⊎ d.may_leave old image) old new
+    pub from_sync : NotSynced result old new ⊎ FromSync pages result old new

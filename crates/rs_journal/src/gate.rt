@@ -1,14 +1,15 @@
 //! The gate: one byte of page 0, written alone, and the cut of the file.
 
 ghost use Rattle.std.specs.Prelude.{◌≡◌, ◌*◌, ◌<◌, ◌≤◌, max, true, IsTrue, OnOk, IsOkUnless};
+ghost use Rattle.rs_disk.specs.Content.{CutsTo};
 ghost use Rattle.rs_disk.specs.Counts.{Counts};
-ghost use Rattle.rs_disk.specs.Crash.{Only, CutOrNot};
+ghost use Rattle.rs_disk.specs.Crash.{Only};
 ghost use Rattle.rs_page.specs.declared.page.TheConstants.{PAGE_SIZE};
 ghost use Rattle.rs_journal.specs.Journal.{Journal, Carries, Makes};
 ghost use Rattle.rs_journal.specs.Pages.{Pages, IsOutside};
 ghost use Rattle.rs_journal.specs.Reaches.{KeepsWhere, Reaches};
 ghost use Rattle.rs_journal.specs.Stages.{IsQuiet, IsGate, IsHome, IsClosing, Stands, Goes, Remains, GateAlone};
-ghost use Rattle.rs_journal.specs.declared.limits.TheConstants.{GATE, GATE_END};
+ghost use Rattle.rs_journal.specs.declared.limits.TheConstants.{GATE, GATE_END, CLOSED};
 
 use crate::limits::{CLOSED, GATE, OPEN};
 use crate::writing::{sync, write_at};
@@ -48,6 +49,7 @@ pub(crate) fn close_gate<D: Disk>(disk: &mut D) -> Result<(), Refusal>
     ensures goes { (journal : Journal) (checkpoint : Pages) → Carries journal checkpoint
         → Stands D.Disk (IsClosing journal checkpoint) disk.old
         → Goes D.Disk (IsClosing journal checkpoint) (IsQuiet checkpoint) result disk.old disk.new }
+    ensures written { IsTrue (D.is_honest disk.old) → OnOk result ((D.seen disk.new).byte GATE ≡ CLOSED) }
     ensures gate_alone { IsTrue (D.is_honest disk.old) → GateAlone (D.seen disk.old) (D.seen disk.new) }
     ensures honesty { D.is_honest disk.new ≡ D.is_honest disk.old }
     ensures keeping { D.keeps_crashes disk.new ≡ D.keeps_crashes disk.old }
@@ -62,7 +64,8 @@ pub(crate) fn close_gate<D: Disk>(disk: &mut D) -> Result<(), Refusal>
 pub fn cut<D: Disk>(disk: &mut D, pages: u32) -> Result<(), Refusal>
     ensures remains { (kept : Pages) → 0 < kept.count → kept.count ≤ pages
         → Stands D.Disk (IsQuiet kept) disk.old → Remains D.Disk (IsQuiet kept) disk.old disk.new }
-    ensures cut { IsTrue (D.is_honest disk.old) → CutOrNot (PAGE_SIZE * pages) (D.seen disk.old) (D.seen disk.new) }
+    ensures cut { IsTrue (D.is_honest disk.old)
+        → CutsTo result (PAGE_SIZE * pages) (D.seen disk.old) (D.seen disk.new) }
     ensures honesty { D.is_honest disk.new ≡ D.is_honest disk.old }
     ensures keeping { D.keeps_crashes disk.new ≡ D.keeps_crashes disk.old }
     ensures refused { IsOkUnless result Refusal.Disk }

@@ -9,6 +9,7 @@ pub mod copies;
 mod gate;
 mod home;
 mod journal;
+pub mod laws;
 pub mod limits;
 mod reading;
 mod recovery;

@@ -10,7 +10,7 @@ ghost use Rattle.rs_page.specs.declared.page.TheConstants.{PAGE_SIZE};
 ghost use Rattle.rs_journal.specs.Journal.{Journal, Ascends, AreBelow, Carries, Tells, IsTold, Recovers};
 ghost use Rattle.rs_journal.specs.Pages.{Pages, word_at};
 ghost use Rattle.rs_journal.specs.Reaches.{KeepsWhere, Reaches};
-ghost use Rattle.rs_journal.specs.Recovery.{IsInside, IsThere, Brought, GaveAll, number_in, journal_in, SaysCount, CountsFaults, OnDamaged, Recovered};
+ghost use Rattle.rs_journal.specs.Recovery.{IsInside, IsThere, Brought, GaveAll, HasNoMore, IsDamaged, number_in, journal_in, SaysCount, CountsFaults, OnDamaged, Recovered};
 ghost use Rattle.rs_journal.specs.Stages.{IsQuiet, IsHome, IsClosing, IsNotInPage, IsLeftAlone, HasHomeBytes, HasHome, Stands, Goes};
 ghost use Rattle.rs_journal.specs.declared.limits.TheConstants.{GATE, OPEN};
 
@@ -34,11 +34,13 @@ pub fn recover<D: Disk>(disk: &mut D) -> Result<(), Refusal>
     ensures gave { IsTrue (D.is_honest disk.old) → OnOk result (GaveAll (D.seen disk.old) (D.seen disk.new)) }
     ensures told { IsTrue (D.is_honest disk.old)
         → OnOk result ((D.seen disk.old).byte GATE ≡ OPEN → IsTold (D.seen disk.old)) }
-    ensures damaged { IsTrue (D.is_honest disk.old) → OnDamaged result
-        ((pages : Pages) → SaysCount pages → Recovers (D.seen disk.old) pages → ⊥) }
+    ensures damaged { IsTrue (D.is_honest disk.old) → OnDamaged result (IsDamaged (D.seen disk.old)) }
+    ensures shut { IsTrue (D.is_honest disk.old) → OnOk result ((D.seen disk.new).byte GATE ≢ OPEN) }
+    ensures cut { IsTrue (D.is_honest disk.old) → (D.seen disk.old).byte GATE ≡ OPEN
+        → OnOk result (HasNoMore (D.seen disk.new)) }
     ensures closed { IsTrue (D.is_honest disk.old) → (D.seen disk.old).byte GATE ≢ OPEN
-        → D.seen disk.new ≡ D.seen disk.old }
-    ensures untouched { IsTrue (D.is_honest disk.old) → OnDamaged result (D.seen disk.new ≡ D.seen disk.old) }
+        → Reaches D.Disk Same disk.old disk.new }
+    ensures untouched { OnDamaged result (Reaches D.Disk Same disk.old disk.new) }
     ensures honesty { D.is_honest disk.new ≡ D.is_honest disk.old }
     ensures keeping { D.keeps_crashes disk.new ≡ D.keeps_crashes disk.old }
     ensures count { CountsFaults result (D.failures disk.old) (D.failures disk.new) }
@@ -55,11 +57,13 @@ fn recover_synced<D: Disk>(disk: &mut D) -> Result<(), Refusal>
     ensures gave { IsTrue (D.is_honest disk.old) → OnOk result (GaveAll (D.seen disk.old) (D.seen disk.new)) }
     ensures told { IsTrue (D.is_honest disk.old)
         → OnOk result ((D.seen disk.old).byte GATE ≡ OPEN → IsTold (D.seen disk.old)) }
-    ensures damaged { IsTrue (D.is_honest disk.old) → OnDamaged result
-        ((pages : Pages) → SaysCount pages → Recovers (D.seen disk.old) pages → ⊥) }
+    ensures damaged { IsTrue (D.is_honest disk.old) → OnDamaged result (IsDamaged (D.seen disk.old)) }
+    ensures shut { IsTrue (D.is_honest disk.old) → OnOk result ((D.seen disk.new).byte GATE ≢ OPEN) }
+    ensures cut { IsTrue (D.is_honest disk.old) → (D.seen disk.old).byte GATE ≡ OPEN
+        → OnOk result (HasNoMore (D.seen disk.new)) }
     ensures closed { IsTrue (D.is_honest disk.old) → (D.seen disk.old).byte GATE ≢ OPEN
-        → D.seen disk.new ≡ D.seen disk.old }
-    ensures untouched { IsTrue (D.is_honest disk.old) → OnDamaged result (D.seen disk.new ≡ D.seen disk.old) }
+        → Reaches D.Disk Same disk.old disk.new }
+    ensures untouched { OnDamaged result (Reaches D.Disk Same disk.old disk.new) }
     ensures honesty { D.is_honest disk.new ≡ D.is_honest disk.old }
     ensures keeping { D.keeps_crashes disk.new ≡ D.keeps_crashes disk.old }
     ensures count { CountsFaults result (D.failures disk.old) (D.failures disk.new) }
@@ -80,6 +84,8 @@ fn repeat<D: Disk>(disk: &mut D, first: u32, count: u32) -> Result<(), Refusal>
     ensures gave { (journal : Journal) → IsTrue (D.is_honest disk.old)
         → IsThere first count journal (D.seen disk.old) → (D.seen disk.old).byte GATE ≡ OPEN
         → OnOk result (GaveAll (D.seen disk.old) (D.seen disk.new)) }
+    ensures shut { IsTrue (D.is_honest disk.old) → OnOk result ((D.seen disk.new).byte GATE ≢ OPEN) }
+    ensures cut { IsTrue (D.is_honest disk.old) → OnOk result (HasNoMore (D.seen disk.new)) }
     ensures honesty { D.is_honest disk.new ≡ D.is_honest disk.old }
     ensures keeping { D.keeps_crashes disk.new ≡ D.keeps_crashes disk.old }
     ensures refused { IsOkUnless result Refusal.Disk }

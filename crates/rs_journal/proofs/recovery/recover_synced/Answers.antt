@@ -1,12 +1,12 @@
 -- The gate is open, and the journal well formed.
-use Rattle.std.proofs.Common.{◌≢◌, ◌≡◌, ◌∙◌, IsTrue, ap, subst, sym, rules}
+use Rattle.std.proofs.Common.{◌≢◌, ◌≡◌, ◌∙◌, ℕ, IsTrue, ap, subst, sym, rules}
 use Rattle.rs_disk.specs.Content.{Content}
 use Rattle.rs_journal.specs.Journal.{Recovers}
 use Rattle.rs_journal.specs.Pages.{word_at}
 use Rattle.rs_journal.specs.Stages.{IsHome}
 use Rattle.rs_journal.proofs.Advancing.{stands-less, meanwhile-less, meanwhile-then, remains-same}
 use Rattle.rs_journal.proofs.Reaching.{same-then}
-use Rattle.rs_journal.proofs.Recovering.{carries-told, home-told, gave-same, gave-closed}
+use Rattle.rs_journal.proofs.Recovering.{carries-told, home-told, gave-same, gave-closed, damaged-by, damaged-passed}
 use Rattle.rs_journal.specs.Recovery.{IsThere, journal_in}
 use Rattle.rs_journal.proofs.recovery.recover_synced.Goals as goal
 
@@ -47,3 +47,10 @@ pub returns-then-branch-ne-OPEN-clause-gave : goal.returns-then-branch-ne-OPEN-c
 returns-then-branch-ne-OPEN-clause-gave g c = λ honest.
     let closed : c.in_ok-read_gate.field-0 ≢ 1 = search rules in
     gave-closed _ _ (λ is. closed (c.in_ok-read_gate.ensures.gate honest ∙ is)) (c.read_gate.ensures.reaches.reads honest)
+
+pub returns-in_err-first-clause-damaged : goal.returns-in_err-first-clause-damaged
+returns-in_err-first-clause-damaged g c = λ honest.
+    let seen = g.D.Disk.seen c.args.disk.now in
+    let still : IsTrue (g.D.Disk.is_honest c.read_gate.new.disk) = subst IsTrue (sym c.read_gate.ensures.reaches.honesty) honest in
+    let opened : seen.byte 64 ≡ 1 = sym (c.in_ok-read_gate.ensures.gate honest) ∙ search rules in
+    damaged-passed (ℕ × ℕ) _ _ _ _ c.from_residual-in_err-first.result (search rules) (damaged-by _ _ (c.read_gate.ensures.reaches.reads honest) opened) (c.in_err-first.ensures.damaged still)

@@ -1,12 +1,13 @@
 -- The home pages, the gate, the cut.
-use Rattle.std.proofs.Common.{IsTrue, subst, sym, ◌≤◌, ◌*◌, ◌∙◌, arith, rules}
+use Rattle.std.proofs.Common.{IsTrue, ap, subst, sym, ◌≤◌, ◌*◌, ◌∙◌, arith, rules}
 use Rattle.rs_journal.proofs.Advancing.{on_err, stands-less, meanwhile-less, meanwhile-then, remains-same}
 use Rattle.rs_journal.proofs.Reaching.{on_ok}
-use Rattle.rs_journal.proofs.Staging.{home-gives, closing-gives, quiet-gives}
-use Rattle.rs_journal.proofs.Recovering.{count-there, gave-by}
+use Rattle.rs_journal.proofs.Staging.{home-gives, closing-gives, quiet-gives, cut-or-not}
+use Rattle.rs_journal.proofs.Recovering.{count-there, cut-counts, cut-shut, gave-by, is-cut}
 use Rattle.rs_disk.specs.Content.{Content}
 use Rattle.rs_disk.specs.Crash.{CutOrNot}
 use Rattle.rs_page.specs.declared.page.TheConstants.{PAGE_SIZE}
+use Rattle.rs_journal.specs.Pages.{word_at}
 use Rattle.rs_journal.proofs.recovery.repeat.Goals as goal
 
 pub returns-in_err-bring_back-clause-goes : goal.returns-in_err-bring_back-clause-goes
@@ -71,5 +72,22 @@ returns-clause-gave g c = λ journal honest there is.
     let second : IsTrue (g.D.Disk.is_honest c.bring_back.new.disk) = subst IsTrue (sym c.bring_back.ensures.honesty) honest in
     let third : IsTrue (g.D.Disk.is_honest c.close_gate.new.disk) = subst IsTrue (sym c.close_gate.ensures.honesty) second in
     let last : IsTrue (g.D.Disk.is_honest c.read_word.new.disk) = subst IsTrue (sym c.read_word.ensures.reaches.honesty) third in
-    let cut = subst (λ (content : Content). CutOrNot (PAGE_SIZE * c.in_ok-pages.pages) content (g.D.Disk.seen c.cut.new.disk)) (c.read_word.ensures.reaches.reads third) (c.cut.ensures.cut last) in
+    let cut = subst (λ (content : Content). CutOrNot (PAGE_SIZE * c.in_ok-pages.pages) content (g.D.Disk.seen c.cut.new.disk)) (c.read_word.ensures.reaches.reads third) (cut-or-not _ _ _ _ (c.cut.ensures.cut last)) in
     on_ok _ _ (gave-by journal _ _ _ _ c.in_ok-pages.pages there.tells is (c.in_ok-bring_back.ensures.brought journal honest there) (c.close_gate.ensures.gate_alone second) cut)
+
+pub returns-clause-shut : goal.returns-clause-shut
+returns-clause-shut g c = λ honest.
+    let second : IsTrue (g.D.Disk.is_honest c.bring_back.new.disk) = subst IsTrue (sym c.bring_back.ensures.honesty) honest in
+    let third : IsTrue (g.D.Disk.is_honest c.close_gate.new.disk) = subst IsTrue (sym c.close_gate.ensures.honesty) second in
+    let fourth : IsTrue (g.D.Disk.is_honest c.read_word.new.disk) = subst IsTrue (sym c.read_word.ensures.reaches.honesty) third in
+    let last : IsTrue (g.D.Disk.is_honest c.cut.new.disk) = subst IsTrue (sym c.cut.ensures.honesty) fourth in
+    let closed = ap (λ (content : Content). content.byte 64) (c.read_word.ensures.reaches.reads third) ∙ c.in_ok-close_gate.ensures.written second in
+    is-cut _ _ _ _ _ (λ cut is. absurd (omega (arith, is, cut-shut c.in_ok-pages.pages _ _ cut (g.met.D.Disk.zeros_past_the_end c.cut.new.disk last) closed))) (c.cut.ensures.cut fourth)
+
+pub returns-clause-cut : goal.returns-clause-cut
+returns-clause-cut g c = λ honest.
+    let second : IsTrue (g.D.Disk.is_honest c.bring_back.new.disk) = subst IsTrue (sym c.bring_back.ensures.honesty) honest in
+    let third : IsTrue (g.D.Disk.is_honest c.close_gate.new.disk) = subst IsTrue (sym c.close_gate.ensures.honesty) second in
+    let last : IsTrue (g.D.Disk.is_honest c.read_word.new.disk) = subst IsTrue (sym c.read_word.ensures.reaches.honesty) third in
+    let read = c.in_ok-pages.ensures.word third ∙ sym (ap (λ (content : Content). word_at content.byte 32) (c.read_word.ensures.reaches.reads third)) in
+    is-cut _ _ _ _ _ (λ cut. cut-counts c.in_ok-pages.pages _ _ cut read) (c.cut.ensures.cut last)
