@@ -1,0 +1,15 @@
+mod Lists
+mod Stores
+mod NamedThings
+mod Walks
+mod Routes
+mod Tables
+mod Alignments
+mod Indexes
+mod Referents
+mod RowSteps
+mod RowFacts
+mod Rows
+mod MoreViews
+mod Views
+mod Rebuilding

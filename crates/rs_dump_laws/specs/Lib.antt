@@ -1,0 +1,4 @@
+pub mod Accepted
+pub mod Parts
+pub mod Dump
+pub mod Lines
