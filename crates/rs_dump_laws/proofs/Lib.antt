@@ -13,3 +13,4 @@ mod Rows
 mod MoreViews
 mod Views
 mod Rebuilding
+mod Soundness

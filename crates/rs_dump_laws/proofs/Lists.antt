@@ -1,5 +1,5 @@
 -- What is so of all elements of a list, and of those that are in it.
-use Rattle.std.proofs.Common.{◌≡◌, ◌≢◌, ◌∙◌, ℕ, ◌<◌, Bool, true, false, ◌⊎◌, inl, inr, List, [], ◌∷◌, ◌++◌, length, refl, sym, ap, subst, arith}
+use Rattle.std.proofs.Common.{◌≡◌, ◌≢◌, ◌∙◌, ℕ, ◌<◌, Bool, true, false, ◌⊎◌, inl, inr, List, [], ◌∷◌, ◌++◌, length, map, refl, sym, ap, subst, arith}
 use Rattle.std.specs.Prelude.{Contains}
 use Rattle.std.specs.List.{AllByRecursion, list_any}
 use Rattle.std.proofs.lemmas.Bool.{or_cases, or_left, or_right}
@@ -53,3 +53,13 @@ module _ {X : Type 0} where
     | inl same ↦ or_left (test y) (list_any test xs) (ap test same ∙ told)
     | inr later ↦ or_right (test y) (list_any test xs) (any_from test xs x later told)
   ]
+
+  -- ---- lists made of lists
+
+  pub all_append : (P : X → Type 0) (xs ys : List X) → AllByRecursion P xs → AllByRecursion P ys → AllByRecursion P (xs ++ ys)
+  all_append P [] ys front back = back
+  all_append P (x ∷ xs) ys front back = (front.0, all_append P xs ys front.1 back)
+
+pub all_map : {X Y : Type 0} (P : Y → Type 0) (Q : X → Type 0) (f : X → Y) → ((x : X) → Q x → P (f x)) → (xs : List X) → AllByRecursion Q xs → AllByRecursion P (map f xs)
+all_map P Q f gives [] all = tt
+all_map P Q f gives (x ∷ xs) all = (gives x all.0, all_map P Q f gives xs all.1)

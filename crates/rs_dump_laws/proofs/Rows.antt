@@ -98,7 +98,7 @@ run_span state route ends Point places run is lies =
     ∙ ap (λ hi. Ok (run.lo, hi)) more
 
 -- some thousandth at which a run's row holds
-first_held : (kind : Kind) (places : Places) (run : Stretch) → IsMaximalRun kind places run → contains (places run.lo) run.row ≡ true
+pub first_held : (kind : Kind) (places : Places) (run : Stretch) → IsMaximalRun kind places run → contains (places run.lo) run.row ≡ true
 first_held Line places run is = let some = is.some in is.holds run.lo (omega arith) some
 first_held Point places run is = is.holds
 
