@@ -14,3 +14,4 @@ mod MoreViews
 mod Views
 mod Rebuilding
 mod Soundness
+mod Answers

@@ -2,3 +2,4 @@ pub mod Accepted
 pub mod Parts
 pub mod Dump
 pub mod Lines
+pub mod Replaying

@@ -5,3 +5,4 @@
 #![tactic(auto)]
 
 pub mod dump;
+pub mod replaying;
