@@ -15,3 +15,7 @@ mod Views
 mod Rebuilding
 mod Soundness
 mod Answers
+mod Flat
+mod ListedParts
+mod ViewOrders
+mod SomeDump

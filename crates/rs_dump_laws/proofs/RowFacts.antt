@@ -56,7 +56,7 @@ upto_end Line k ends lies = (lies.0, omega (arith, lies.1))
 upto_end Point k ends lies = (lies.0, omega (arith, lies.1))
 
 -- the facts of a table on a route lie on it
-lie_within : (routes : Names RouteEnds) (name : Name) (table : Table) (route : Name) (ends : RouteEnds) → IsTable routes name table → names.get routes route ≡ Some ends → LieWithin ends.start (ends.finish + 1) (table.facts route)
+pub lie_within : (routes : Names RouteEnds) (name : Name) (table : Table) (route : Name) (ends : RouteEnds) → IsTable routes name table → names.get routes route ≡ Some ends → LieWithin ends.start (ends.finish + 1) (table.facts route)
 lie_within routes name table route ends is there k row held =
     let fact = is.facts route k row held in
     upto_end table.kind k ends (subst (MayHoldAt table.kind k) (some_same fact.lies.ends ends (sym fact.lies.there ∙ there)) fact.lies.is_so)

@@ -5,4 +5,6 @@
 #![tactic(auto)]
 
 pub mod dump;
+pub mod keeping;
+pub mod listing;
 pub mod replaying;
