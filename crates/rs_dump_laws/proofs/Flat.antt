@@ -9,7 +9,7 @@ use Rattle.rs_dump_laws.proofs.Lists.{all_append, all_both, all_map, all_weaker,
 pub all_same : {X : Type 0} (P Q : X → Type 0) (xs : List X) → ((x : X) → P x → Q x) → ((x : X) → Q x → P x) → AreAll P xs → AreAll Q xs
 all_same P Q xs there back all = record { once = all.once; each = all_weaker P Q there xs all.each; complete = λ x is. all.complete x (back x is) }
 
-once_append : {X : Type 0} (xs ys : List X) → AreOnce xs → AreOnce ys → ((x : X) → Contains xs x → AllByRecursion (λ y. x ≢ y) ys) → AreOnce (xs ++ ys)
+pub once_append : {X : Type 0} (xs ys : List X) → AreOnce xs → AreOnce ys → ((x : X) → Contains xs x → AllByRecursion (λ y. x ≢ y) ys) → AreOnce (xs ++ ys)
 once_append [] ys one other apart = other
 once_append (x ∷ xs) ys one other apart =
     (all_append (λ y. x ≢ y) xs ys one.0 (apart x (at_head x xs)), once_append xs ys one.1 other (λ z among. apart z (in_tail x z xs among)))

@@ -19,3 +19,5 @@ mod Flat
 mod ListedParts
 mod ViewOrders
 mod SomeDump
+mod KeptViews
+mod KeptStates

@@ -45,7 +45,7 @@ at_start : fresh ≡ stage names.empty no_referents names.empty names.empty 0
 unfolding fresh
 at_start = refl
 
-none_under : {X P : Type 0} (name : Name) (thing : X) → names.get (names.empty {X = X} {R = name_cmp}) name ≡ Some thing → P
+pub none_under : {X P : Type 0} (name : Name) (thing : X) → names.get (names.empty {X = X} {R = name_cmp}) name ≡ Some thing → P
 none_under name thing there = let e = sym (get-empty name_cmp name) ∙ there in cc
 
 module _ (state : State) (lawful : IsLawful state) (parts : Parts) (are : ArePartsOf state parts) where
