@@ -29,21 +29,21 @@ use Rattle.rs_dump_laws.proofs.Walks.{holds, next_is}
 -- ---- checks that passed
 
 -- what a check let through
-then_ok : {A B : Type 0} (check : Result A Refusal) (next : A → Result B Refusal) (made : B) → (check >>= next) ≡ Ok made → (a : A) × (next a ≡ Ok made)
+pub then_ok : {A B : Type 0} (check : Result A Refusal) (next : A → Result B Refusal) (made : B) → (check >>= next) ≡ Ok made → (a : A) × (next a ≡ Ok made)
 then_ok (Ok a) next made e = (a, e)
 then_ok {A} {B} (Err refusal) next made e = absurd (let wrong : ◌≡◌ {A = Result B Refusal} (Err refusal) (Ok made) = e in cc)
 
-nodes_passed : (state : State) (query : QueryTree) (made : Query) → checked state query ≡ Ok made → nodes_checked state (opened state.views query) ≡ Ok made
+pub nodes_passed : (state : State) (query : QueryTree) (made : Query) → checked state query ≡ Ok made → nodes_checked state (opened state.views query) ≡ Ok made
 nodes_passed state query made e =
     let one = then_ok (names_known state (names_in query)) (λ _. alignments_known state (alignments_in query) >>= (λ _. unless (fits_limits (opened state.views query)) Limit >>= (λ _. nodes_checked state (opened state.views query)))) made e in
     let two = then_ok (alignments_known state (alignments_in query)) (λ _. unless (fits_limits (opened state.views query)) Limit >>= (λ _. nodes_checked state (opened state.views query))) made one.1 in
     (then_ok (unless (fits_limits (opened state.views query)) Limit) (λ _. nodes_checked state (opened state.views query)) made two.1).1
 
-known_ok : (state : State) (list : List Name) → AreKnown state list → names_known state list ≡ Ok tt
+pub known_ok : (state : State) (list : List Name) → AreKnown state list → names_known state list ≡ Ok tt
 known_ok state [] known = refl
 known_ok state (name ∷ list) known = ap (λ b. unless b NoSuchName >>= (λ _. names_known state list)) known.0 ∙ known_ok state list known.1
 
-aligned_ok : (state : State) (list : List Name) → AreAlignments state list → alignments_known state list ≡ Ok tt
+pub aligned_ok : (state : State) (list : List Name) → AreAlignments state list → alignments_known state list ≡ Ok tt
 aligned_ok state [] known = refl
 aligned_ok state (name ∷ list) known = ap (λ b. unless b NoSuchName >>= (λ _. alignments_known state list)) known.0 ∙ aligned_ok state list known.1
 

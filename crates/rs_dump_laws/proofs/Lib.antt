@@ -21,3 +21,4 @@ mod ViewOrders
 mod SomeDump
 mod KeptViews
 mod KeptStates
+mod NamedViews
