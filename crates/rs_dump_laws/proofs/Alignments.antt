@@ -1,5 +1,5 @@
 -- The alignments of a dump are accepted.
-use Rattle.std.proofs.Common.{◌≡◌, ◌∙◌, ℕ, suc, ◌+◌, ◌-◌, ◌<◌, ◌≤◌, true, false, ◌&&◌, Bool, List, [], ◌∷◌, length, map, Result, Ok, refl, sym, ap, subst, arith}
+use Rattle.std.proofs.Common.{◌≡◌, ◌∙◌, ℕ, suc, ◌+◌, ◌-◌, ◌<◌, ◌≤◌, true, false, ◌&&◌, List, [], ◌∷◌, length, map, Ok, refl, ap, subst, arith}
 use Rattle.std.specs.Prelude.{fold, nat_le, nat_lt}
 use Rattle.std.specs.List.{AllByRecursion}
 use Rattle.std.specs.FinMap as names
@@ -8,7 +8,6 @@ use Rattle.rs_refusal.specs.declared.refusal.Refusal.TheVariants.{EmptySpan, Lim
 use Rattle.rs_facts.specs.Fact.{Name, Names}
 use Rattle.rs_facts.specs.Query.{Piece, RouteEnds}
 use Rattle.rs_facts.specs.WellFormed.{ArePiecesOn, IsPieceOn}
-use Rattle.rs_syntax.specs.Tree.{PieceTree}
 use Rattle.rs_machine.specs.State.{State, has}
 use Rattle.rs_machine.specs.Checks.{found, is_on_route, piece_checked, piece_lies, pieces_checked, unless}
 use Rattle.rs_machine.specs.Lawful.{IsAlignment}
@@ -17,7 +16,7 @@ use Rattle.rs_machine.specs.declared.limits.TheConstants.{ALIGNMENTS, CHANGES, P
 use Rattle.rs_dump_laws.specs.Accepted.{Accepted}
 use Rattle.rs_dump_laws.specs.Dump.{alignment_command, written_piece}
 use Rattle.rs_dump_laws.proofs.NamedThings.{AreNewNames, itself, put_all_named, room_for_first}
-use Rattle.rs_dump_laws.proofs.Walks.{AreTaken, IsTaken, fails, holds, is_below, is_found, may, next_is, taken}
+use Rattle.rs_dump_laws.proofs.Walks.{AreTaken, IsTaken, fails, holds, is_found, may, next_is, taken}
 
 -- ---- pieces
 
@@ -63,13 +62,14 @@ one_taken : (state : State) (alignment : Name × List Piece) → has state.align
     → names.len state.alignments < ALIGNMENTS → state.changes < CHANGES → IsTaken alignment_command put_alignment state alignment
 one_taken state alignment new is few room =
     let many = as_many_written alignment.1 in let most = is.few in
-    let written = map written_piece alignment.1 in
-    (0,
+    let written = map written_piece alignment.1 in (
+      0,
       next_is (unless _ NameTaken) tt _ (fails (has state.alignments alignment.0) NameTaken new)
-      ∙ next_is (unless _ Limit) tt _ (holds (nat_lt (names.len state.alignments) ALIGNMENTS && nat_le (length written) PIECES) Limit
-      (and_from (nat_lt (names.len state.alignments) ALIGNMENTS) (nat_le (length written) PIECES) (lt-ltb (names.len state.alignments) ALIGNMENTS few) (le-leb (length written) PIECES (omega arith))))
-      ∙ next_is (pieces_checked state.routes written) alignment.1 _ (all_pass state.routes alignment.1 is.lie)
-      ∙ next_is (may_change state) tt _ (may state room))
+          ∙ next_is (unless _ Limit) tt _ (holds (nat_lt (names.len state.alignments) ALIGNMENTS && nat_le (length written) PIECES) Limit
+          (and_from (nat_lt (names.len state.alignments) ALIGNMENTS) (nat_le (length written) PIECES) (lt-ltb (names.len state.alignments) ALIGNMENTS few) (le-leb (length written) PIECES (omega arith))))
+          ∙ next_is (pieces_checked state.routes written) alignment.1 _ (all_pass state.routes alignment.1 is.lie)
+          ∙ next_is (may_change state) tt _ (may state room),
+    )
 
 all_taken : (state : State) (list : List (Name × List Piece)) → AreNewNames itself state.alignments list → AllByRecursion (λ alignment. IsAlignment state.routes alignment.0 alignment.1) list
     → names.len (put_all_named itself state.alignments list) ≤ ALIGNMENTS → state.changes + length list ≤ CHANGES → AreTaken alignment_command put_alignment state list

@@ -1,15 +1,14 @@
 -- Lines that ask commands which are accepted one after another are answered OK.
-use Rattle.std.proofs.Common.{◌≡◌, ◌≢◌, ◌∙◌, ℕ, ◌≤◌, true, List, [], ◌∷◌, map, Option, Some, None, Result, Ok, Err, ◌⊎◌, inl, inr, refl, sym, ap, subst, arith}
+use Rattle.std.proofs.Common.{◌≡◌, ◌∙◌, ℕ, List, [], ◌∷◌, Some, None, Result, Ok, Err, inl, inr, refl, sym, ap, subst, arith}
 use Rattle.std.specs.Prelude.{take}
 use Rattle.rs_measure.specs.FixedPoint.{number_of_digits}
 use Rattle.std.specs.List.{AllByRecursion}
 use Rattle.rs_refusal.specs.declared.refusal.Refusal.{Refusal}
-use Rattle.rs_refusal.specs.declared.refusal.Refusal.TheVariants.{OutOfMemory}
 use Rattle.rs_syntax.specs.Tree.{CommandTree}
 use Rattle.rs_syntax.specs.Verdict.{Reads}
 use Rattle.rs_machine.specs.Answered.{Answer, Answered, AnswersLine, Replies, answer}
-use Rattle.rs_machine.specs.Request.{Asks, Request, SessionReads, command, no_command, session_digits, unreadable, without_return}
-use Rattle.rs_machine.specs.Served.{Answers, CountsOn, Machine, NamesAWant, Reply, Served, done, refused}
+use Rattle.rs_machine.specs.Request.{Asks, Request, SessionReads, command, no_command, unreadable, without_return}
+use Rattle.rs_machine.specs.Served.{Answers, CountsOn, Machine, Served, done}
 use Rattle.rs_machine.specs.State.{State}
 use Rattle.rs_machine.specs.Step.{Effect, outcome}
 use Rattle.rs_machine_laws.specs.Given.{is_accepted}
@@ -38,7 +37,7 @@ can_answer (tree ∷ commands) old state new same accepted said =
     let others = can_answer commands next effect.state new refl accepted.2 said.1 in
     let is : outcome old.state 0 tree ≡ Ok effect = ap (λ s. outcome s 0 tree) same ∙ accepted.1 in
     let served : Answers old (outcome old.state 0 tree) (done effect.rows effect.count) next =
-        subst (λ r. Answers old r (done effect.rows effect.count) next) (sym is) (refl, refl, same_counts old effect.state) in
+    subst (λ r. Answers old r (done effect.rows effect.count) next) (sym is) (refl, refl, same_counts old effect.state) in
     (given_for effect ∷ others.0, others.1, (next, inl (command 0 tree, said.0, (refl, inl served)), others.2), (record { session = refl; accepted = refl }, others.3))
 
 -- ---- they are

@@ -1,10 +1,10 @@
 -- Lists that have all that is so: mapped, and put together of others.
-use Rattle.std.proofs.Common.{◌≡◌, ◌≢◌, ◌∙◌, ◌⊎◌, inl, inr, List, [], ◌∷◌, ◌++◌, map, refl, sym, ap, subst}
+use Rattle.std.proofs.Common.{◌≡◌, ◌≢◌, inl, inr, List, [], ◌∷◌, ◌++◌, map, refl, sym, subst}
 use Rattle.std.specs.Prelude.{Contains, flat_map}
 use Rattle.std.specs.List.{AllByRecursion}
 use Rattle.std.proofs.lemmas.List.Elements.{Contains-append_left, Contains-append_right}
 use Rattle.rs_dump_laws.specs.Parts.{AreAll, AreOnce}
-use Rattle.rs_dump_laws.proofs.Lists.{all_append, all_both, all_map, all_weaker, at_head, first_or_later, from_each, in_tail, none_in_nothing, of_each}
+use Rattle.rs_dump_laws.proofs.Lists.{all_append, all_both, all_map, all_weaker, at_head, first_or_later, in_tail, none_in_nothing, of_each}
 
 pub all_same : {X : Type 0} (P Q : X → Type 0) (xs : List X) → ((x : X) → P x → Q x) → ((x : X) → Q x → P x) → AreAll P xs → AreAll Q xs
 all_same P Q xs there back all = record { once = all.once; each = all_weaker P Q there xs all.each; complete = λ x is. all.complete x (back x is) }

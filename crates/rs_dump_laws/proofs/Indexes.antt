@@ -1,6 +1,6 @@
 -- The indexes of a dump are accepted, each by the name of its column.
-use Rattle.std.proofs.Common.{◌≡◌, ◌≢◌, ◌∙◌, ℕ, zero, suc, ◌+◌, ◌<◌, ◌≤◌, true, false, cond, List, [], ◌∷◌, get_or, length, map, Option, Some, Ok, refl, sym, ap, subst, arith}
-use Rattle.std.specs.Prelude.{fold, if◌then◌else◌}
+use Rattle.std.proofs.Common.{◌≡◌, ◌≢◌, ◌∙◌, ℕ, zero, suc, ◌+◌, ◌<◌, ◌≤◌, true, false, List, [], ◌∷◌, length, map, Option, Some, Ok, sym, ap, subst, arith}
+use Rattle.std.specs.Prelude.{fold}
 use Rattle.std.specs.List.{AllByRecursion}
 use Rattle.std.specs.FinMap as names
 use Rattle.rs_refusal.specs.declared.refusal.Refusal.TheVariants.{Limit, NameTaken, NoSuchColumn, NoSuchName}
@@ -11,14 +11,13 @@ use Rattle.rs_planning.specs.Basis.{IndexedColumn}
 use Rattle.rs_machine.specs.State.{State, has}
 use Rattle.rs_machine.specs.Checks.{column_names, found, unless}
 use Rattle.rs_machine.specs.Checking.{column_place, place_in}
-use Rattle.rs_machine.specs.Lawful.{AreDistinct, IsIndex}
+use Rattle.rs_machine.specs.Lawful.{AreDistinct}
 use Rattle.rs_machine.specs.Step.{may_change, with_index}
 use Rattle.rs_machine.specs.declared.limits.TheConstants.{CHANGES, INDEXES}
 use Rattle.rs_dump_laws.specs.Accepted.{Accepted}
 use Rattle.rs_dump_laws.specs.Dump.{index_command, indexed_name}
-use Rattle.rs_dump_laws.proofs.Lists.{of_each}
 use Rattle.rs_dump_laws.proofs.NamedThings.{AreNewNames, itself, put_all_named, room_for_first, same_name-apart, same_name-itself}
-use Rattle.rs_dump_laws.proofs.Walks.{AreTaken, IsTaken, fails, holds, is_below, is_found, may, next_is, taken}
+use Rattle.rs_dump_laws.proofs.Walks.{AreTaken, IsTaken, fails, is_below, is_found, may, next_is, taken}
 
 -- ---- columns
 
@@ -69,13 +68,14 @@ module _ (named : State) where
   one_taken state index same new is few room =
       let there : names.get state.tables index.1.table ≡ Some is.table = ap (λ ts. names.get ts index.1.table) same ∙ is.there in
       let column : column_place is.table.columns (indexed_name named index.1) ≡ Ok index.1.column =
-          ap (λ (o : Option Table). column_place is.table.columns (name_at (table_columns o) index.1.column)) is.there ∙ place_found is.table.columns index.1.column is.column is.distinct in
-      (0,
+      ap (λ (o : Option Table). column_place is.table.columns (name_at (table_columns o) index.1.column)) is.there ∙ place_found is.table.columns index.1.column is.column is.distinct in (
+        0,
         next_is (found _ NoSuchName) is.table _ (is_found (names.get state.tables index.1.table) NoSuchName is.table there)
-        ∙ next_is (column_place is.table.columns (indexed_name named index.1)) index.1.column _ column
-        ∙ next_is (unless _ NameTaken) tt _ (fails (has state.indexes index.0) NameTaken new)
-        ∙ next_is (unless _ Limit) tt _ (is_below (names.len state.indexes) INDEXES Limit few)
-        ∙ next_is (may_change state) tt _ (may state room))
+            ∙ next_is (column_place is.table.columns (indexed_name named index.1)) index.1.column _ column
+            ∙ next_is (unless _ NameTaken) tt _ (fails (has state.indexes index.0) NameTaken new)
+            ∙ next_is (unless _ Limit) tt _ (is_below (names.len state.indexes) INDEXES Limit few)
+            ∙ next_is (may_change state) tt _ (may state room),
+      )
 
   all_taken : (state : State) (list : List (Name × IndexedColumn)) → state.tables ≡ named.tables → AreNewNames itself state.indexes list → AllByRecursion (λ index. IsOfColumn named.tables index.1) list
       → names.len (put_all_named itself state.indexes list) ≤ INDEXES → state.changes + length list ≤ CHANGES → AreTaken (index_command named) put_index state list

@@ -1,5 +1,5 @@
 -- A lawful state without some of its views and alignments is lawful, and its views pass.
-use Rattle.std.proofs.Common.{◌≡◌, ◌∙◌, ℕ, zero, suc, ◌+◌, ◌≤◌, Bool, true, false, ◌&&◌, ◌||◌, List, [], ◌∷◌, ◌++◌, Option, Some, None, is_some, Result, Ok, Err, refl, sym, ap, subst, arith}
+use Rattle.std.proofs.Common.{◌≡◌, ◌∙◌, ℕ, zero, suc, ◌≤◌, Bool, true, false, ◌||◌, List, [], ◌∷◌, ◌++◌, Option, Some, None, is_some, Result, Ok, Err, refl, sym, ap, subst, arith}
 use Rattle.std.specs.Prelude.{unwrap_or, nat_le}
 use Rattle.std.specs.List.{AllByRecursion}
 use Rattle.std.specs.FinMap as names
@@ -14,12 +14,12 @@ use Rattle.rs_machine.specs.Checks.{◌>>=◌, found, has_table_or_view, unless}
 use Rattle.rs_machine.specs.Checking.{alike, alignments_known, checked, cover_checked, dissolve_checked, filter_checked, fits_limits, names_known, nodes_checked, overlay_checked, rename_checked, window_checked}
 use Rattle.rs_machine.specs.Lawful.{AreAlignments, AreKnown, IsLawful, IsViewMeant, widened}
 use Rattle.rs_machine.specs.Opening.{alignments_in, depth, names_in, nodes, opened, opened_once, opened_times}
-use Rattle.rs_machine.specs.declared.limits.TheConstants.{ALIGNMENTS, DEPTH, NODES, VIEWS}
+use Rattle.rs_machine.specs.declared.limits.TheConstants.{DEPTH, NODES}
 use Rattle.rs_dump_laws.specs.Dump.{ViewsPass}
-use Rattle.rs_dump_laws.specs.Kept.{IsKeeping, Keeping, MayBeKept, kept_of}
+use Rattle.rs_dump_laws.specs.Kept.{IsKeeping, Keeping, kept_of}
 use Rattle.rs_dump_laws.proofs.KeptViews.{KeptFirst, begun_all, kept_fewer, kept_first, put_both, still_kept, was_kept}
 use Rattle.rs_dump_laws.proofs.ListedParts.{entries_all}
-use Rattle.rs_dump_laws.proofs.Lists.{all_append, all_back, all_both, all_front, all_weaker}
+use Rattle.rs_dump_laws.proofs.Lists.{all_append, all_back, all_both, all_front}
 use Rattle.rs_dump_laws.proofs.MoreViews.{IsBegun, no_views, opened_all}
 use Rattle.rs_dump_laws.proofs.NamedThings.{all_named, all_new, itself, put_all_named}
 use Rattle.rs_dump_laws.proofs.Rebuilding.{none_under}
@@ -258,11 +258,12 @@ module _ (state : State) (keeping : Keeping) where
         let good = good_opening name query was.1 was.0 in
         let few = meant.is.few_nodes in
         let flat = meant.is.not_deep in
-        let size = opened kept.views query in
-        (may.made,
+        let size = opened kept.views query in (
+          may.made,
           next_is (names_known kept (names_in query)) tt _ (known_ok kept (names_in query) meant.is.known)
-          ∙ next_is (alignments_known kept (alignments_in query)) tt _ (aligned_ok kept (alignments_in query) meant.is.alignments)
-          ∙ next_is (unless (fits_limits size) Limit) tt _ (holds (fits_limits size) Limit (and_from (nat_le (nodes size) NODES) (nat_le (depth size) DEPTH) (le-leb (nodes size) NODES few) (le-leb (depth size) DEPTH flat)))
-          ∙ ap (nodes_checked kept) (opened_kept name query there)
-          ∙ nodes_kept (opened state.views query) good.alignments
-          ∙ nodes_passed state query may.made may.passes)
+              ∙ next_is (alignments_known kept (alignments_in query)) tt _ (aligned_ok kept (alignments_in query) meant.is.alignments)
+              ∙ next_is (unless (fits_limits size) Limit) tt _ (holds (fits_limits size) Limit (and_from (nat_le (nodes size) NODES) (nat_le (depth size) DEPTH) (le-leb (nodes size) NODES few) (le-leb (depth size) DEPTH flat)))
+              ∙ ap (nodes_checked kept) (opened_kept name query there)
+              ∙ nodes_kept (opened state.views query) good.alignments
+              ∙ nodes_passed state query may.made may.passes,
+        )

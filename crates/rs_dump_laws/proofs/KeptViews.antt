@@ -1,10 +1,9 @@
 -- The views that are kept of a state, before those that are left out.
-use Rattle.std.proofs.Common.{◌≡◌, ◌≢◌, ◌∙◌, ℕ, ◌+◌, ◌≤◌, Bool, true, false, cond, not, ◌⊎◌, inl, inr, List, [], ◌∷◌, ◌++◌, length, Option, Some, None, is_some, refl, sym, ap, subst, arith}
-use Rattle.std.specs.Prelude.{Contains, filter, fold}
-use Rattle.std.specs.List.{AllByRecursion, list_any}
+use Rattle.std.proofs.Common.{◌≡◌, ◌≢◌, ◌∙◌, ◌≤◌, Bool, true, false, cond, not, inl, inr, List, [], ◌∷◌, ◌++◌, length, Some, None, is_some, refl, sym, ap, subst, arith}
+use Rattle.std.specs.Prelude.{Contains, filter}
+use Rattle.std.specs.List.{AllByRecursion}
 use Rattle.std.specs.FinMap as names
 use Rattle.std.specs.FinMap.{get-retain_keys, len-empty}
-use Rattle.std.specs.declared.cmp.Ordering.TheVariants.{Equal}
 use Rattle.std.proofs.lemmas.Bool.{not_from_false}
 use Rattle.std.proofs.lemmas.List.Elements.{Contains-append_left, Contains-append_right}
 use Rattle.rs_facts.specs.Fact.{Name, Names, name_cmp}
@@ -16,7 +15,7 @@ use Rattle.rs_machine.proofs.NameOrder.{name_cmp-antisymmetric}
 use Rattle.rs_dump_laws.specs.Parts.{AreAll, AreOnce, IsUnder, NameViewsBefore}
 use Rattle.rs_dump_laws.proofs.Flat.{once_append}
 use Rattle.rs_dump_laws.proofs.ListedParts.{entries_all}
-use Rattle.rs_dump_laws.proofs.Lists.{all_append, all_both, all_weaker, at_head, first_or_later, from_each, in_tail, none_in_nothing, of_each, some_of_any}
+use Rattle.rs_dump_laws.proofs.Lists.{all_append, all_both, all_weaker, at_head, first_or_later, in_tail, of_each, some_of_any}
 use Rattle.rs_dump_laws.proofs.MoreViews.{IsBegun, begun_further}
 use Rattle.rs_dump_laws.proofs.NamedThings.{all_named, all_new, itself, len_all, put_all_named, same_name-true}
 

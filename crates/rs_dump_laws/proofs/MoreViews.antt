@@ -1,5 +1,5 @@
 -- Views stay in order when one more is defined, and queries that do not name it open as before.
-use Rattle.std.proofs.Common.{◌≡◌, ◌≢◌, ◌∙◌, ℕ, suc, ◌+◌, ◌<◌, ◌≤◌, ◌⊎◌, inl, inr, true, false, ◌||◌, Bool, cond, Contains, List, [], ◌∷◌, Some, None, is_some, refl, sym, ap, subst, arith}
+use Rattle.std.proofs.Common.{◌≡◌, ◌∙◌, ℕ, suc, ◌+◌, ◌<◌, ◌⊎◌, inl, inr, true, false, Bool, cond, Contains, List, [], ◌∷◌, Some, None, is_some, refl, sym, ap, subst, arith}
 use Rattle.std.specs.List.{AllByRecursion, list_any}
 use Rattle.std.specs.FinMap as names
 use Rattle.std.specs.FinMap.{get-empty, get-insert}

@@ -10,7 +10,7 @@ use Rattle.rs_facts.specs.Insert.{same_name}
 use Rattle.rs_machine.specs.State.{has}
 use Rattle.rs_machine.proofs.NameOrder.{name_cmp-total, name_cmp-antisymmetric}
 use Rattle.rs_dump_laws.specs.Parts.{AreAll, IsUnder}
-use Rattle.rs_dump_laws.proofs.Stores.{Store, put_all, AreNew, IsAnsweredBy, answered, listed_new}
+use Rattle.rs_dump_laws.proofs.Stores.{Store, AreNew, IsAnsweredBy, answered, listed_new}
 
 pub some_same : {X : Type 0} (x y : X) → Some x ≡ Some y → x ≡ y
 some_same x y e = ap (λ o. unwrap_or o x) e

@@ -1,5 +1,5 @@
 -- The views that a view names pass the checks of their DEFINE lines where it does.
-use Rattle.std.proofs.Common.{◌≡◌, ◌∙◌, ℕ, zero, suc, ◌≤◌, Bool, true, false, ◌&&◌, ◌⊎◌, inl, inr, List, [], ◌∷◌, ◌++◌, Option, Some, None, Result, Ok, Err, refl, sym, ap, subst, arith}
+use Rattle.std.proofs.Common.{◌≡◌, ◌∙◌, ℕ, zero, suc, inl, inr, List, [], ◌∷◌, Some, Result, Ok, Err, refl, sym, ap, subst}
 use Rattle.std.specs.Prelude.{Contains, unwrap_or, nat_le}
 use Rattle.std.specs.FinMap as names
 use Rattle.std.proofs.lemmas.Bool.{and_from, le-leb}
@@ -16,7 +16,7 @@ use Rattle.rs_machine.specs.Lawful.{IsLawful}
 use Rattle.rs_machine.specs.Opening.{alignments_in, depth, names_in, nodes, opened, opened_times}
 use Rattle.rs_machine.specs.declared.limits.TheConstants.{DEPTH, NODES}
 use Rattle.rs_machine_laws.proofs.Opening.{settled}
-use Rattle.rs_dump_laws.proofs.KeptStates.{aligned_ok, known_ok, nodes_passed, then_ok}
+use Rattle.rs_dump_laws.proofs.KeptStates.{aligned_ok, known_ok, nodes_passed}
 use Rattle.rs_dump_laws.proofs.Lists.{of_each}
 use Rattle.rs_dump_laws.proofs.Walks.{holds, next_is}
 
@@ -117,13 +117,14 @@ views_named_pass state name other query inner made lawful there also among passe
     let part = named_passes state (names.len state.views) other query (made, whole) among in
     let is = (lawful.views.each other inner also).is in
     let opens : opened_times (names.len state.views) state.views (named other) ≡ opened state.views inner =
-        sym (settled state.views (named other) lawful.views.order) ∙ ap (λ o. opened_times (names.len state.views) state.views (unwrap_or o (named other))) also in
+    sym (settled state.views (named other) lawful.views.order) ∙ ap (λ o. opened_times (names.len state.views) state.views (unwrap_or o (named other))) also in
     let few = is.few_nodes in
     let flat = is.not_deep in
-    let size = opened state.views inner in
-    (part.0,
+    let size = opened state.views inner in (
+      part.0,
       next_is (names_known state (names_in inner)) tt _ (known_ok state (names_in inner) is.known)
-      ∙ next_is (alignments_known state (alignments_in inner)) tt _ (aligned_ok state (alignments_in inner) is.alignments)
-      ∙ next_is (unless (fits_limits size) Limit) tt _ (holds (fits_limits size) Limit (and_from (nat_le (nodes size) NODES) (nat_le (depth size) DEPTH) (le-leb (nodes size) NODES few) (le-leb (depth size) DEPTH flat)))
-      ∙ sym (ap (nodes_checked state) opens)
-      ∙ part.1)
+          ∙ next_is (alignments_known state (alignments_in inner)) tt _ (aligned_ok state (alignments_in inner) is.alignments)
+          ∙ next_is (unless (fits_limits size) Limit) tt _ (holds (fits_limits size) Limit (and_from (nat_le (nodes size) NODES) (nat_le (depth size) DEPTH) (le-leb (nodes size) NODES few) (le-leb (depth size) DEPTH flat)))
+          ∙ sym (ap (nodes_checked state) opens)
+          ∙ part.1,
+    )

@@ -1,15 +1,13 @@
 -- The commands of a dump rebuild the state.
-use Rattle.std.proofs.Common.{◌≡◌, ◌∙◌, ℕ, ◌+◌, ◌<◌, ◌≤◌, List, [], ◌∷◌, ◌++◌, length, map, Option, Some, refl, sym, ap, subst, arith, length-append}
-use Rattle.std.specs.List.{AllByRecursion}
+use Rattle.std.proofs.Common.{◌≡◌, ◌∙◌, ℕ, ◌+◌, ◌≤◌, List, [], ◌∷◌, ◌++◌, length, map, Some, refl, sym, ap, subst, arith, length-append}
 use Rattle.std.specs.Option.{option_map}
 use Rattle.std.specs.FinMap as names
 use Rattle.std.specs.FinMap.{get-empty, len-empty}
 use Rattle.rs_facts.specs.Fact.{Name, Names, name_cmp}
 use Rattle.rs_facts.specs.Query.{Piece, RouteEnds, Table}
 use Rattle.rs_planning.specs.Basis.{IndexedColumn}
-use Rattle.rs_syntax.specs.Tree.{CommandTree, QueryTree}
+use Rattle.rs_syntax.specs.Tree.{CommandTree}
 use Rattle.rs_machine.specs.State.{State, fresh, no_cursors, no_referents}
-use Rattle.rs_machine.specs.Checks.{column_names}
 use Rattle.rs_machine.specs.Lawful.{AreColumnsOfTable, IsAlignment, IsLawful, IsReferent, IsRoute}
 use Rattle.rs_machine.specs.declared.limits.TheConstants.{ALIGNMENTS, CHANGES, INDEXES, REFERENTS, ROUTES, TABLES, VIEWS}
 use Rattle.rs_dump_laws.specs.Accepted.{Accepted}
@@ -20,7 +18,7 @@ use Rattle.rs_dump_laws.proofs.Indexes.{IsOfColumn, indexes_accepted}
 use Rattle.rs_dump_laws.proofs.Lists.{all_weaker}
 use Rattle.rs_dump_laws.proofs.MoreViews.{IsBegun, no_views}
 use Rattle.rs_dump_laws.proofs.NamedThings.{all_named, all_new, all_valued, itself, len_all, put_all_named}
-use Rattle.rs_dump_laws.proofs.Referents.{Referents, all_new_referents, all_referents, put_all_referents, referents_accepted}
+use Rattle.rs_dump_laws.proofs.Referents.{Referents, all_new_referents, all_referents, referents_accepted}
 use Rattle.rs_dump_laws.proofs.Routes.{routes_accepted}
 use Rattle.rs_dump_laws.proofs.RowFacts.{all_rows}
 use Rattle.rs_dump_laws.proofs.Rows.{IsStill, rows_accepted}

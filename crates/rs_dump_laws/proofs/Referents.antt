@@ -1,5 +1,5 @@
 -- The referents of a dump are accepted, each at its measure.
-use Rattle.std.proofs.Common.{◌≡◌, ◌≢◌, ◌∙◌, ℕ, ◌+◌, ◌<◌, ◌≤◌, Bool, true, false, ◌&&◌, ◌||◌, cond, List, [], ◌∷◌, length, map, Option, Some, None, is_some, Ok, refl, sym, ap, subst, arith}
+use Rattle.std.proofs.Common.{◌≡◌, ◌≢◌, ◌∙◌, ℕ, ◌+◌, ◌<◌, ◌≤◌, true, false, ◌&&◌, ◌||◌, cond, List, [], ◌∷◌, length, map, Some, None, is_some, refl, sym, ap, subst, arith}
 use Rattle.std.specs.Prelude.{fold, if◌then◌else◌}
 use Rattle.std.specs.List.{AllByRecursion}
 use Rattle.std.specs.FinMap as names
@@ -18,7 +18,7 @@ use Rattle.rs_machine.proofs.NameOrder.{name_cmp-total, name_cmp-antisymmetric}
 use Rattle.rs_dump_laws.specs.Accepted.{Accepted}
 use Rattle.rs_dump_laws.specs.Dump.{referent_command}
 use Rattle.rs_dump_laws.specs.Parts.{AreAll, IsReferentOf, PlacedReferent}
-use Rattle.rs_dump_laws.proofs.NamedThings.{len_one_more, none_less, same_name-apart, same_name-back, same_name-itself, same_name-true, some_same}
+use Rattle.rs_dump_laws.proofs.NamedThings.{len_one_more, none_less, same_name-apart, same_name-itself, same_name-true, some_same}
 use Rattle.rs_dump_laws.proofs.Stores.{AreNew, IsAnsweredBy, Store, answered, listed_new}
 use Rattle.rs_dump_laws.proofs.Walks.{AreTaken, IsTaken, fails, is_below, is_found, lies_there, may, next_is, taken}
 
@@ -135,12 +135,14 @@ no_name state one other new = ap (λ b. b || has (state.referents one.route) one
 
 one_taken : (state : State) (one : PlacedReferent) → has (state.referents one.route) one.name ≡ false → IsReferent state.routes one.route one.name one.measure
     → names.len (state.referents one.route) < REFERENTS → state.changes < CHANGES → IsTaken referent_command put_referent state one
-one_taken state one new is few room = (0,
+one_taken state one new is few room = (
+  0,
   next_is (found _ NoSuchRoute) is.lies.ends _ (is_found (names.get state.routes one.route) NoSuchRoute is.lies.ends is.lies.there)
-  ∙ next_is (position_on state one.route is.lies.ends (absolute one.measure)) one.measure _ (lies_there state one.route is.lies.ends one.measure is.lies.is_so)
-  ∙ next_is (unless _ NameTaken) tt _ (fails (has_referent state one.route one.name) NameTaken (no_name state one is.not_start new))
-  ∙ next_is (unless _ Limit) tt _ (is_below (names.len (state.referents one.route)) REFERENTS Limit few)
-  ∙ next_is (may_change state) tt _ (may state room))
+      ∙ next_is (position_on state one.route is.lies.ends (absolute one.measure)) one.measure _ (lies_there state one.route is.lies.ends one.measure is.lies.is_so)
+      ∙ next_is (unless _ NameTaken) tt _ (fails (has_referent state one.route one.name) NameTaken (no_name state one is.not_start new))
+      ∙ next_is (unless _ Limit) tt _ (is_below (names.len (state.referents one.route)) REFERENTS Limit few)
+      ∙ next_is (may_change state) tt _ (may state room),
+)
 
 all_taken : (state : State) (list : List PlacedReferent) → AreNewReferents state.referents list → AllByRecursion (λ one. IsReferent state.routes one.route one.name one.measure) list
     → ((route : Name) → names.len (put_all_referents state.referents list route) ≤ REFERENTS) → state.changes + length list ≤ CHANGES → AreTaken referent_command put_referent state list

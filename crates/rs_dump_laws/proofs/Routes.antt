@@ -1,5 +1,5 @@
 -- The routes of a dump are accepted.
-use Rattle.std.proofs.Common.{◌≡◌, ◌∙◌, ℕ, ◌+◌, ◌<◌, ◌≤◌, false, List, [], ◌∷◌, ◌++◌, length, map, refl, sym, ap, subst, arith}
+use Rattle.std.proofs.Common.{◌≡◌, ◌∙◌, ℕ, ◌+◌, ◌<◌, ◌≤◌, false, List, [], ◌∷◌, length, map, ap, subst, arith}
 use Rattle.std.specs.Prelude.{fold, nat_lt}
 use Rattle.std.specs.List.{AllByRecursion}
 use Rattle.std.specs.FinMap as names
@@ -24,11 +24,13 @@ abbrev with_routes : State → Names RouteEnds → ℕ → State
 with_routes state routes changes = record state { routes = routes; changes = changes }
 
 one_taken : (state : State) (route : Name × RouteEnds) → has state.routes route.0 ≡ false → IsRoute route.0 route.1 → names.len state.routes < ROUTES → state.changes < CHANGES → IsTaken route_command put_route state route
-one_taken state route new is few room = (0,
+one_taken state route new is few room = (
+  0,
   next_is (unless _ NameTaken) tt _ (fails (has state.routes route.0) NameTaken new)
-  ∙ next_is (unless _ EmptySpan) tt _ (holds (nat_lt route.1.start route.1.finish) EmptySpan (lt-ltb route.1.start route.1.finish is.start_below_end))
-  ∙ next_is (unless _ Limit) tt _ (is_below (names.len state.routes) ROUTES Limit few)
-  ∙ next_is (may_change state) tt _ (may state room))
+      ∙ next_is (unless _ EmptySpan) tt _ (holds (nat_lt route.1.start route.1.finish) EmptySpan (lt-ltb route.1.start route.1.finish is.start_below_end))
+      ∙ next_is (unless _ Limit) tt _ (is_below (names.len state.routes) ROUTES Limit few)
+      ∙ next_is (may_change state) tt _ (may state room),
+)
 
 all_taken : (state : State) (list : List (Name × RouteEnds)) → AreNewNames itself state.routes list → AllByRecursion (λ route. IsRoute route.0 route.1) list
     → names.len (put_all_named itself state.routes list) ≤ ROUTES → state.changes + length list ≤ CHANGES → AreTaken route_command put_route state list

@@ -1,11 +1,10 @@
 -- The rows of a dump, put into empty tables in whatever order, give the tables of the state.
-use Rattle.std.proofs.Common.{◌≡◌, ◌∙◌, ℕ, suc, ◌+◌, ◌<◌, ◌≤◌, Bool, true, false, ◌&&◌, ◌||◌, inl, inr, List, [], ◌∷◌, Option, Some, None, refl, sym, ap, subst, arith}
-use Rattle.std.specs.Prelude.{Contains}
+use Rattle.std.proofs.Common.{◌≡◌, ◌∙◌, ℕ, ◌+◌, ◌<◌, ◌≤◌, Bool, true, false, ◌&&◌, ◌||◌, List, Option, Some, None, refl, sym, ap, subst, arith}
 use Rattle.std.specs.List.{list_any}
 use Rattle.std.specs.Option.{option_map}
 use Rattle.std.specs.FinMap as names
 use Rattle.std.specs.FinMap.{same_map}
-use Rattle.std.proofs.lemmas.Bool.{and_from, and_parts, or_cases}
+use Rattle.std.proofs.lemmas.Bool.{and_from, and_parts}
 use Rattle.rs_value.specs.declared.column.Kind.{Kind}
 use Rattle.rs_value.specs.declared.column.Kind.TheVariants.{Point, Line}
 use Rattle.rs_value.specs.Row.{Row}
@@ -13,7 +12,6 @@ use Rattle.rs_facts.specs.Fact.{Name, Names, Places, contains}
 use Rattle.rs_facts.specs.Insert.{same_name}
 use Rattle.rs_facts.specs.Query.{RouteEnds, Table}
 use Rattle.rs_facts.specs.Runs.{IsMaximalRun, LieWithin, Stretch, runs_of}
-use Rattle.rs_facts.specs.Spans.{places_of}
 use Rattle.rs_facts.proofs.RunMeaning.{runs-mean}
 use Rattle.rs_facts.proofs.RunsOf.{runs_of-runs}
 use Rattle.rs_facts.proofs.Sets.{contains-none, same_places}

@@ -50,7 +50,7 @@ its_table tables one q same (Some table) there =
 pub get-put_row : (tables : Names Table) (one : PlacedRow) (q : Name) → names.get (put_row tables one) q ≡ option_map (λ table. changed q table one) (names.get tables q)
 get-put_row tables one q =
     elim (same_name q one.table) as (λ b. same_name q one.table ≡ b
-        → names.get (put_row tables one) q ≡ option_map (λ table. if b then with_facts_along table one.route one.span.lo one.span.hi one.span.row else table) (names.get tables q)) [
+    → names.get (put_row tables one) q ≡ option_map (λ table. if b then with_facts_along table one.route one.span.lo one.span.hi one.span.row else table) (names.get tables q)) [
       | true ↦ λ same.
           let at = ap (names.get tables) (same_name-true q one.table same) in
           its_table tables one q same (names.get tables one.table) at
@@ -104,7 +104,7 @@ put_on : (table : Table) (one : PlacedRow) (route : Name) (k : ℕ) (row : Row)
 unfolding on_route holds
 put_on table one route k row =
     elim (same_name route one.route) as (λ b. same_name route one.route ≡ b
-        → contains ((if b then with_row one.span.lo one.span.hi one.span.row (table.facts one.route) else table.facts route) k) row ≡ ((b && holds row k one.span) || contains (table.facts route k) row)) [
+    → contains ((if b then with_row one.span.lo one.span.hi one.span.row (table.facts one.route) else table.facts route) k) row ≡ ((b && holds row k one.span) || contains (table.facts route k) row)) [
       | true ↦ λ same.
           ap (λ r. contains (with_row one.span.lo one.span.hi one.span.row (table.facts r) k) row) (sym (same_name-true route one.route same))
           ∙ contains-with_row one.span.lo one.span.hi one.span.row (table.facts route) k row
@@ -115,7 +115,7 @@ contains-changed : (name : Name) (table : Table) (one : PlacedRow) (route : Name
     → contains ((changed name table one).facts route k) row ≡ (tells name route k row one || contains (table.facts route k) row)
 contains-changed name table one route k row =
     elim (same_name name one.table) as (λ b. contains ((if b then with_facts_along table one.route one.span.lo one.span.hi one.span.row else table).facts route k) row
-        ≡ ((b && (same_name route one.route && holds row k one.span)) || contains (table.facts route k) row)) [
+    ≡ ((b && (same_name route one.route && holds row k one.span)) || contains (table.facts route k) row)) [
       | true ↦ put_on table one route k row
       | false ↦ refl
     ]

@@ -1,11 +1,10 @@
 -- The rows of a dump are accepted, in whatever order.
-use Rattle.std.proofs.Common.{◌≡◌, ◌∙◌, ℕ, suc, ◌+◌, ◌-◌, ◌<◌, ◌≤◌, ◌≢◌, Bool, true, false, ◌&&◌, ◌==◌, not, List, [], ◌∷◌, length, map, min, Option, Some, None, Result, Ok, refl, sym, ap, subst, arith}
-use Rattle.std.specs.Prelude.{fold, if◌then◌else◌, nat_le, nat_lt}
+use Rattle.std.proofs.Common.{◌≡◌, ◌∙◌, ℕ, suc, ◌+◌, ◌-◌, ◌<◌, ◌≤◌, Bool, true, ◌==◌, not, List, [], ◌∷◌, length, map, min, Option, Some, None, Ok, refl, sym, ap, subst, arith}
+use Rattle.std.specs.Prelude.{fold, if◌then◌else◌, nat_lt}
 use Rattle.std.specs.List.{AllByRecursion}
 use Rattle.std.specs.Option.{option_map}
 use Rattle.std.specs.FinMap as names
 use Rattle.std.proofs.lemmas.Bool.{and_from, eq-eqb, le-leb, lt-ltb}
-use Rattle.rs_refusal.specs.declared.refusal.Refusal.{Refusal}
 use Rattle.rs_refusal.specs.declared.refusal.Refusal.TheVariants.{EmptySpan, NoSuchName, NoSuchRoute, PointOrLineWanted, TextTooLong, WrongValues}
 use Rattle.rs_methods.specs.Position.{absolute}
 use Rattle.rs_value.specs.declared.column.Kind.{Kind}
@@ -13,18 +12,18 @@ use Rattle.rs_value.specs.declared.column.Kind.TheVariants.{Point, Line}
 use Rattle.rs_value.specs.declared.column.TheConstants.{TEXT_BYTES}
 use Rattle.rs_value.specs.declared.column.ColumnType.{ColumnType}
 use Rattle.rs_value.specs.declared.column.ColumnType.TheVariants as types
-use Rattle.rs_value.specs.Fitting.{each_passes, has_room, has_type, misfit}
+use Rattle.rs_value.specs.Fitting.{each_passes, has_room, has_type}
 use Rattle.rs_value.specs.Row.{Datum, Row, null, number, text}
 use Rattle.rs_value.specs.Values.{IsOfType, IsRowOf}
 use Rattle.rs_facts.specs.Fact.{Name, Names, Places, contains}
 use Rattle.rs_facts.specs.Insert.{new_facts}
 use Rattle.rs_facts.specs.Query.{Column, RouteEnds, Table, table_kind}
-use Rattle.rs_facts.specs.Runs.{IsMaximalRun, LieWithin, Stretch}
+use Rattle.rs_facts.specs.Runs.{IsMaximalRun, Stretch}
 use Rattle.rs_syntax.specs.Sound.{AreColumns, IsColumnType}
 use Rattle.rs_syntax.specs.Tree.{EventLocationTree}
 use Rattle.rs_machine.specs.State.{State}
 use Rattle.rs_machine.specs.Checks.{column_types, event_span, found, location_kind, no_refusal, position_on, row_fits, same_kind, unless}
-use Rattle.rs_machine.specs.Lawful.{IsLawful, IsTable, MayHoldAt, OnRoute}
+use Rattle.rs_machine.specs.Lawful.{IsLawful, MayHoldAt}
 use Rattle.rs_machine.specs.Step.{counted, may_change, row_inserted, with_facts_along, with_table}
 use Rattle.rs_machine.specs.declared.limits.TheConstants.{CHANGES}
 use Rattle.rs_dump_laws.specs.Accepted.{Accepted}
@@ -150,17 +149,18 @@ module _ (named : State) (lawful : IsLawful named) where
       let on : names.get state.routes one.route ≡ Some ends = ap (λ rs. names.get rs one.route) same ∙ fact.lies.there in
       let kind : table_kind (names.get named.tables one.table) ≡ still.other.kind = ap table_kind is.there ∙ sym still.kind in
       let lies : (k : ℕ) → contains (is.table.facts one.route k) one.span.row ≡ true → MayHoldAt is.table.kind k ends =
-          λ k held. let other = facts one.route k one.span.row held in
-          subst (MayHoldAt is.table.kind k) (some_same other.lies.ends ends (sym other.lies.there ∙ fact.lies.there)) other.lies.is_so in
+      λ k held. let other = facts one.route k one.span.row held in
+      subst (MayHoldAt is.table.kind k) (some_same other.lies.ends ends (sym other.lies.there ∙ fact.lies.there)) other.lies.is_so in
       let spans : event_span state one.route ends (location_of still.other.kind one.span) ≡ Ok (one.span.lo, one.span.hi) =
-          ap (λ kind. event_span state one.route ends (location_of kind one.span)) still.kind ∙ run_span state one.route ends is.table.kind (is.table.facts one.route) one.span is.maximal lies in
+      ap (λ kind. event_span state one.route ends (location_of kind one.span)) still.kind ∙ run_span state one.route ends is.table.kind (is.table.facts one.route) one.span is.maximal lies in
       let columns = (lawful.tables one.table is.table is.there).columns.sound in
-      let fits : row_fits still.other.columns one.span.row ≡ Ok tt = ap (λ columns. row_fits columns one.span.row) still.columns ∙ row_of_columns-fits is.table.columns one.span.row columns fact.fits in
-      (new_facts still.other.facts one.route one.span.lo one.span.hi one.span.row,
+      let fits : row_fits still.other.columns one.span.row ≡ Ok tt = ap (λ columns. row_fits columns one.span.row) still.columns ∙ row_of_columns-fits is.table.columns one.span.row columns fact.fits in (
+        new_facts still.other.facts one.route one.span.lo one.span.hi one.span.row,
         ap (λ kind. row_inserted state one.table one.route (location_of kind one.span) one.span.row) kind
-        ∙ inserted state one.table one.route (location_of still.other.kind one.span) one.span.row ends still.other one.span.lo one.span.hi on still.there spans (own_kind still.other.kind one.span) fits room
-        ∙ ap (λ (o : Option Table). Ok (counted (new_facts still.other.facts one.route one.span.lo one.span.hi one.span.row) (record state { tables = put_found state.tables one o; changes = state.changes + 1 })))
-        (sym still.there))
+            ∙ inserted state one.table one.route (location_of still.other.kind one.span) one.span.row ends still.other one.span.lo one.span.hi on still.there spans (own_kind still.other.kind one.span) fits room
+            ∙ ap (λ (o : Option Table). Ok (counted (new_facts still.other.facts one.route one.span.lo one.span.hi one.span.row) (record state { tables = put_found state.tables one o; changes = state.changes + 1 })))
+            (sym still.there),
+      )
 
   all_taken : (state : State) (list : List PlacedRow) → state.routes ≡ named.routes → HasItsTables state.tables → AllByRecursion (IsRunOf named) list → state.changes + length list ≤ CHANGES
       → AreTaken (row_command named) place_row state list

@@ -1,9 +1,9 @@
 -- Each lawful state has a dump.
-use Rattle.std.proofs.Common.{◌≡◌, ◌≢◌, ℕ, ◌+◌, List, [], ◌∷◌, Option, Some, None, refl, sym, subst}
+use Rattle.std.proofs.Common.{◌≡◌, ◌≢◌, ℕ, ◌+◌, List, [], ◌∷◌, Option, Some, refl, sym, subst}
 use Rattle.std.specs.declared.cmp.Ordering.TheVariants.{Less}
 use Rattle.std.specs.FinMap as names
 use Rattle.rs_value.specs.declared.column.Kind.{Kind}
-use Rattle.rs_facts.specs.Fact.{Name, Names, Places}
+use Rattle.rs_facts.specs.Fact.{Name, Places}
 use Rattle.rs_facts.specs.Query.{RouteEnds, Table}
 use Rattle.rs_facts.specs.Runs.{AreOrdered, AreRunsOf, Stretch, runs_of, stretch_cmp}
 use Rattle.rs_facts.specs.Spans as facts

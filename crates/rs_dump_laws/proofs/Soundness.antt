@@ -1,5 +1,5 @@
 -- Each command of a dump of a lawful state is sound.
-use Rattle.std.proofs.Common.{◌≡◌, ◌∙◌, ℕ, zero, suc, ◌+◌, ◌-◌, ◌<◌, ◌≤◌, true, List, [], ◌∷◌, ◌++◌, length, map, Option, Some, refl, sym, ap, subst, arith}
+use Rattle.std.proofs.Common.{◌≡◌, ◌∙◌, ℕ, zero, suc, ◌-◌, ◌<◌, ◌≤◌, true, List, [], ◌∷◌, length, map, Option, Some, refl, sym, ap, subst, arith}
 use Rattle.std.specs.List.{AllByRecursion}
 use Rattle.std.specs.FinMap as names
 use Rattle.rs_measure.specs.declared.measure.TheConstants.{GREATEST_MEASURE}
@@ -9,17 +9,17 @@ use Rattle.rs_value.specs.declared.column.ColumnType.{ColumnType}
 use Rattle.rs_value.specs.declared.column.ColumnType.TheVariants as types
 use Rattle.rs_value.specs.Row.{Datum, Row, null, number, text}
 use Rattle.rs_value.specs.Values.{AreValues, IsOfType, IsRowOf, IsValue}
-use Rattle.rs_facts.specs.Fact.{Name, Names, contains}
+use Rattle.rs_facts.specs.Fact.{Name, contains}
 use Rattle.rs_facts.specs.Query.{Column, Piece, RouteEnds, Table, column_at, table_columns, table_kind}
 use Rattle.rs_facts.specs.Runs.{IsMaximalRun, Stretch}
-use Rattle.rs_facts.specs.WellFormed.{ArePiecesOn, IsPieceOn}
+use Rattle.rs_facts.specs.WellFormed.{ArePiecesOn}
 use Rattle.rs_planning.specs.Basis.{IndexedColumn}
-use Rattle.rs_syntax.specs.Sound.{AreColumns, IsEventLocation, IsMeasure, IsName, IsPiece, IsSound}
-use Rattle.rs_syntax.specs.Tree.{CommandTree, PieceTree, QueryTree}
+use Rattle.rs_syntax.specs.Sound.{AreColumns, IsEventLocation, IsName, IsPiece, IsSound}
+use Rattle.rs_syntax.specs.Tree.{CommandTree, QueryTree}
 use Rattle.rs_machine.specs.State.{State}
 use Rattle.rs_machine.specs.Checks.{column_types}
-use Rattle.rs_machine.specs.Lawful.{IsAlignment, IsLawful, MayHoldAt}
-use Rattle.rs_dump_laws.specs.Dump.{IsDumpOf, alignment_command, commands_of, index_command, indexed_name, location_of, referent_command, route_command, row_command, table_command, view_command, written_piece}
+use Rattle.rs_machine.specs.Lawful.{IsLawful, MayHoldAt}
+use Rattle.rs_dump_laws.specs.Dump.{IsDumpOf, alignment_command, commands_of, index_command, location_of, referent_command, route_command, row_command, table_command, view_command, written_piece}
 use Rattle.rs_dump_laws.specs.Parts.{ArePartsOf, IsReferentOf, IsRunOf, IsUnder, Parts, PlacedReferent, PlacedRow}
 use Rattle.rs_dump_laws.proofs.Alignments.{as_many_written}
 use Rattle.rs_dump_laws.proofs.Lists.{all_append, all_map}
@@ -83,8 +83,8 @@ module _ (state : State) (lawful : IsLawful state) where
       let ends = fact.lies.ends in
       let route = route_sound one.route ends fact.lies.there in
       let lies : (k : ℕ) → contains (is.table.facts one.route k) one.span.row ≡ true → MayHoldAt is.table.kind k ends =
-          λ k held. let other = table.facts one.route k one.span.row held in
-          subst (MayHoldAt is.table.kind k) (some_same other.lies.ends ends (sym other.lies.there ∙ fact.lies.there)) other.lies.is_so in
+      λ k held. let other = table.facts one.route k one.span.row held in
+      subst (MayHoldAt is.table.kind k) (some_same other.lies.ends ends (sym other.lies.there ∙ fact.lies.there)) other.lies.is_so in
       let values = values_of is.table.columns one.span.row fact.fits in
       let some = table.columns.some in let many = values.1 in
       (table.named, route.0, location_sound (table_kind (names.get state.tables one.table)) is.table one.route ends one.span (ap table_kind is.there) is.maximal route.1 lies, omega arith, values.0)
@@ -116,9 +116,11 @@ module _ (state : State) (lawful : IsLawful state) where
   index_sound : (index : Name × IndexedColumn) → IsUnder state.indexes index → IsSound (index_command state index)
   index_sound index under =
       let is = lawful.indexes index.0 index.1 under in
-      let table = lawful.tables index.1.table is.table is.there in
-      (is.named, table.named,
-        subst (λ (o : Option Table). IsName (column_at (table_columns o) index.1.column).0) (sym is.there) (column_named is.table.columns index.1.column is.column table.columns.sound))
+      let table = lawful.tables index.1.table is.table is.there in (
+        is.named,
+        table.named,
+        subst (λ (o : Option Table). IsName (column_at (table_columns o) index.1.column).0) (sym is.there) (column_named is.table.columns index.1.column is.column table.columns.sound),
+      )
 
   all_sound : (texts : Name → List ℕ) (parts : Parts) → ArePartsOf state parts → AllByRecursion IsSound (commands_of texts state parts)
   all_sound texts parts are =

@@ -1,7 +1,7 @@
 -- Things that are put one after another into a store, which then answers questions by them.
 --
 -- What stands under names is such a store, asked by name, and so are the referents of all routes, asked by route and name.
-use Rattle.std.proofs.Common.{◌≡◌, ◌≢◌, ◌∙◌, Bool, true, false, cond, ◌⊎◌, inl, inr, List, [], ◌∷◌, Option, Some, None, refl, sym, ap, subst}
+use Rattle.std.proofs.Common.{◌≡◌, ◌≢◌, ◌∙◌, Bool, true, false, cond, inl, inr, List, [], ◌∷◌, Option, Some, None, refl, sym, ap}
 use Rattle.std.specs.Prelude.{Contains, fold}
 use Rattle.std.specs.List.{AllByRecursion}
 use Rattle.rs_dump_laws.specs.Parts.{AreOnce, AreAll}

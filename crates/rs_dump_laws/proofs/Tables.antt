@@ -1,5 +1,5 @@
 -- The tables of a dump are accepted, each without its rows.
-use Rattle.std.proofs.Common.{◌≡◌, ◌≢◌, ◌∙◌, ℕ, ◌+◌, ◌<◌, ◌≤◌, false, ◌||◌, List, [], ◌∷◌, length, map, is_some, refl, sym, ap, subst, arith}
+use Rattle.std.proofs.Common.{◌≡◌, ◌≢◌, ◌∙◌, ℕ, ◌+◌, ◌<◌, ◌≤◌, false, ◌||◌, List, [], ◌∷◌, length, map, is_some, refl, ap, subst, arith}
 use Rattle.std.specs.Prelude.{fold, nat_le}
 use Rattle.std.specs.List.{AllByRecursion, list_any}
 use Rattle.std.specs.FinMap as names
@@ -48,12 +48,14 @@ no_name state name none new = ap (λ b. b || has state.views name) new ∙ ap (�
 
 one_taken : (state : State) (table : Name × Table) → state.views ≡ names.empty → has state.tables table.0 ≡ false → AreColumnsOfTable table.1.columns
     → names.len state.tables < TABLES → state.changes < CHANGES → IsTaken table_command put_table state table
-one_taken state table none new are few room = (0,
+one_taken state table none new are few room = (
+  0,
   next_is (unless _ NameTaken) tt _ (fails (has_table_or_view state table.0) NameTaken (no_name state table.0 none new))
-  ∙ next_is (unless _ ColumnTwice) tt _ (fails (some_name_twice (column_names table.1.columns)) ColumnTwice (none_twice (column_names table.1.columns) are.distinct))
-  ∙ next_is (unless _ Limit) tt _ (holds (nat_le (length table.1.columns) COLUMNS) Limit (le-leb (length table.1.columns) COLUMNS are.few))
-  ∙ next_is (unless _ Limit) tt _ (is_below (names.len state.tables) TABLES Limit few)
-  ∙ next_is (may_change state) tt _ (may state room))
+      ∙ next_is (unless _ ColumnTwice) tt _ (fails (some_name_twice (column_names table.1.columns)) ColumnTwice (none_twice (column_names table.1.columns) are.distinct))
+      ∙ next_is (unless _ Limit) tt _ (holds (nat_le (length table.1.columns) COLUMNS) Limit (le-leb (length table.1.columns) COLUMNS are.few))
+      ∙ next_is (unless _ Limit) tt _ (is_below (names.len state.tables) TABLES Limit few)
+      ∙ next_is (may_change state) tt _ (may state room),
+)
 
 all_taken : (state : State) (list : List (Name × Table)) → state.views ≡ names.empty → AreNewNames emptied state.tables list → AllByRecursion (λ table. AreColumnsOfTable table.1.columns) list
     → names.len (put_all_named emptied state.tables list) ≤ TABLES → state.changes + length list ≤ CHANGES → AreTaken table_command put_table state list

@@ -1,15 +1,14 @@
 -- Views that are in order can be listed so that none names itself or a later one.
-use Rattle.std.proofs.Common.{◌≡◌, ◌≢◌, ◌∙◌, ℕ, ◌<◌, ◌≤◌, Bool, true, false, cond, ◌⊎◌, inl, inr, List, [], ◌∷◌, refl, sym, ap, subst, arith}
+use Rattle.std.proofs.Common.{◌≡◌, ◌≢◌, ℕ, ◌≤◌, true, false, ◌⊎◌, inl, inr, List, [], ◌∷◌, refl, sym, subst, arith}
 use Rattle.std.specs.Prelude.{Contains, nat_le, if◌then◌else◌}
-use Rattle.std.specs.List.{AllByRecursion, list_any}
-use Rattle.std.specs.FinMap as names
+use Rattle.std.specs.List.{AllByRecursion}
 use Rattle.std.proofs.lemmas.Bool.{leb-true, leb-false}
 use Rattle.rs_facts.specs.Fact.{Name, Names}
 use Rattle.rs_facts.specs.Insert.{same_name}
 use Rattle.rs_syntax.specs.Tree.{QueryTree}
 use Rattle.rs_machine.specs.Opening.{AreInOrder, names_in, names_query}
 use Rattle.rs_dump_laws.specs.Parts.{AreAll, AreOnce, IsUnder, NameViewsBefore}
-use Rattle.rs_dump_laws.proofs.Lists.{all_both, all_weaker, at_head, first_or_later, in_tail, none_in_nothing, of_each, some_of_any}
+use Rattle.rs_dump_laws.proofs.Lists.{all_both, all_weaker, at_head, first_or_later, in_tail, none_in_nothing, some_of_any}
 use Rattle.rs_dump_laws.proofs.NamedThings.{same_name-true}
 
 -- ---- sorted by a number
@@ -106,8 +105,10 @@ module _ (views : Names QueryTree) (order : AreInOrder views) where
   in_order : (list : List (Name × QueryTree)) → AllByRecursion (IsUnder views) list → Rise place_of list → NameViewsBefore list
   in_order [] each rise = tt
   in_order (view ∷ more) each rise = (
-    (not_named view view each.0 each.0 (omega arith),
-      all_both (IsUnder views) (λ later. place_of view ≤ place_of later) (λ later. names_query later.0 view.1 ≡ false) (λ later also low. not_named view later each.0 also low) more each.1 rise.0),
+    (
+      not_named view view each.0 each.0 (omega arith),
+      all_both (IsUnder views) (λ later. place_of view ≤ place_of later) (λ later. names_query later.0 view.1 ≡ false) (λ later also low. not_named view later each.0 also low) more each.1 rise.0,
+    ),
     in_order more each.1 rise.1,
   )
 

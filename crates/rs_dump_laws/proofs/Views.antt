@@ -1,5 +1,5 @@
 -- The views of a dump are accepted, each after those that it names.
-use Rattle.std.proofs.Common.{◌≡◌, ◌∙◌, ℕ, ◌+◌, ◌<◌, ◌≤◌, true, false, ◌||◌, List, [], ◌∷◌, length, map, Some, Result, Ok, Err, refl, sym, ap, subst, arith}
+use Rattle.std.proofs.Common.{◌≡◌, ◌∙◌, ℕ, ◌+◌, ◌<◌, ◌≤◌, false, ◌||◌, List, [], ◌∷◌, length, map, Result, Ok, refl, sym, ap, subst, arith}
 use Rattle.std.specs.Prelude.{fold}
 use Rattle.std.specs.List.{AllByRecursion}
 use Rattle.std.specs.FinMap as names
@@ -8,7 +8,7 @@ use Rattle.rs_refusal.specs.declared.refusal.Refusal.TheVariants.{Limit, NameTak
 use Rattle.rs_facts.specs.Fact.{Name, Names}
 use Rattle.rs_facts.specs.Insert.{same_name}
 use Rattle.rs_facts.specs.Query.{Query, transform_rows, window_rows}
-use Rattle.rs_syntax.specs.Tree.{QueryTree, WindowTree, covered, dissolved, filtered, merged, named, overlaid, part_of_route, renamed, subtracted, transformed, whole_route, windowed}
+use Rattle.rs_syntax.specs.Tree.{QueryTree, covered, dissolved, filtered, merged, named, overlaid, part_of_route, renamed, subtracted, transformed, whole_route, windowed}
 use Rattle.rs_machine.specs.State.{State, has, no_cursors}
 use Rattle.rs_machine.specs.Checks.{◌>>=◌, alignment_named, has_table_or_view, unless}
 use Rattle.rs_machine.specs.Checking.{alike, alignments_known, checked, cover_checked, dissolve_checked, filter_checked, fits_limits, names_known, nodes_checked, overlay_checked, rename_checked, window_checked}
@@ -20,7 +20,7 @@ use Rattle.rs_machine.specs.declared.limits.TheConstants.{CHANGES, VIEWS}
 use Rattle.rs_dump_laws.specs.Accepted.{Accepted}
 use Rattle.rs_dump_laws.specs.Dump.{ViewsPass, view_command}
 use Rattle.rs_dump_laws.specs.Parts.{IsUnder}
-use Rattle.rs_dump_laws.proofs.MoreViews.{AvoidsAll, IsBegun, avoids_all, begun_further, has_all, opened_all}
+use Rattle.rs_dump_laws.proofs.MoreViews.{IsBegun, avoids_all, begun_further, has_all, opened_all}
 use Rattle.rs_dump_laws.proofs.NamedThings.{itself, put_all_named, room_for_first}
 use Rattle.rs_dump_laws.proofs.Walks.{AreTaken, IsTaken, fails, is_below, may, next_is, taken}
 
@@ -123,12 +123,13 @@ module _ (state : State) (texts : Name → List ℕ) (pass : ViewsPass state) (e
       → IsUnder state.views view → names.len views < VIEWS → changes < CHANGES → IsTaken (view_command texts) put_view (with_views state views changes) view
   one_taken views changes view more is whole under few room =
       let made = pass view.0 view.1 under in
-      let none = no_name views changes view.0 (each view.0 view.1 under).no_table is.new.0 in
-      (0,
+      let none = no_name views changes view.0 (each view.0 view.1 under).no_table is.new.0 in (
+        0,
         next_is (checked (with_views state views changes) view.1) made.0 _ (next_passes views changes view more is whole ∙ made.1)
-        ∙ next_is (unless _ NameTaken) tt _ (fails (has_table_or_view (with_views state views changes) view.0) NameTaken none)
-        ∙ next_is (unless _ Limit) tt _ (is_below (names.len views) VIEWS Limit few)
-        ∙ next_is (may_change (with_views state views changes)) tt _ (may (with_views state views changes) room))
+            ∙ next_is (unless _ NameTaken) tt _ (fails (has_table_or_view (with_views state views changes) view.0) NameTaken none)
+            ∙ next_is (unless _ Limit) tt _ (is_below (names.len views) VIEWS Limit few)
+            ∙ next_is (may_change (with_views state views changes)) tt _ (may (with_views state views changes) room),
+      )
 
   all_taken : (views : Names QueryTree) (changes : ℕ) (list : List (Name × QueryTree)) → IsBegun views list → put_all_named itself views list ≡ state.views → AllByRecursion (IsUnder state.views) list
       → names.len (put_all_named itself views list) ≤ VIEWS → changes + length list ≤ CHANGES → AreTaken (view_command texts) put_view (with_views state views changes) list

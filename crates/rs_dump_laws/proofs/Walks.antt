@@ -1,17 +1,17 @@
 -- Commands that put things into the state one after another.
-use Rattle.std.proofs.Common.{◌≡◌, ◌∙◌, ℕ, ◌+◌, ◌<◌, ◌≤◌, Bool, true, false, ◌&&◌, cond, not, List, [], ◌∷◌, ◌++◌, map, Option, Some, None, Result, Ok, Err, refl, sym, ap, subst, arith}
+use Rattle.std.proofs.Common.{◌≡◌, ℕ, ◌<◌, Bool, true, false, cond, not, List, [], ◌∷◌, ◌++◌, map, Option, Some, Result, Ok, Err, refl, ap, subst}
 use Rattle.std.specs.Prelude.{fold, nat_le, nat_lt}
 use Rattle.std.proofs.lemmas.Bool.{le-leb, lt-ltb, and_from}
 use Rattle.rs_refusal.specs.declared.refusal.Refusal.{Refusal}
 use Rattle.rs_refusal.specs.declared.refusal.Refusal.TheVariants.{Limit, OutsideTheRoute}
-use Rattle.rs_methods.specs.Position.{absolute, on_route}
+use Rattle.rs_methods.specs.Position.{absolute}
 use Rattle.rs_facts.specs.Fact.{Name}
 use Rattle.rs_facts.specs.Query.{RouteEnds}
 use Rattle.rs_syntax.specs.Tree.{CommandTree}
 use Rattle.rs_machine.specs.State.{State}
 use Rattle.rs_machine.specs.Checks.{◌>>=◌, found, position_on, unless}
 use Rattle.rs_machine.specs.Lawful.{IsPlaceOf}
-use Rattle.rs_machine.specs.Step.{Effect, counted, may_change, outcome}
+use Rattle.rs_machine.specs.Step.{counted, may_change, outcome}
 use Rattle.rs_machine.specs.declared.limits.TheConstants.{CHANGES}
 use Rattle.rs_dump_laws.specs.Accepted.{Accepted}
 

@@ -1,4 +1,3 @@
-use Rattle.std.proofs.Common.{sym}
 use Rattle.rs_machine.specs.State.{fresh}
 use Rattle.rs_dump_laws.specs.Dump.{rebuilt}
 use Rattle.std.specs.Prelude.{length}
