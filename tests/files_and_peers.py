@@ -115,6 +115,11 @@ def bytes_at(path):
         return file.read()
 
 
+def as_closed(data):
+    """The bytes of a file, with the flag that says that it is closed."""
+    return data[:OPEN_FLAG] + b"\0" + data[OPEN_FLAG + 1 :]
+
+
 def put(path, data, place=0):
     """Puts bytes into a file, which is made if need be."""
     with open(path, "r+b" if os.path.exists(path) else "wb") as file:
@@ -285,15 +290,18 @@ def a_file_of_each_kind_of_definition_is_opened(program):
 
 def files_of_earlier_builds_are_answered_from(program):
     names = sorted(name[: -len(".road")] for name in os.listdir(KEPT) if name.endswith(".road"))
-    expect("how many files are kept", len(names) >= 2, True)
+    kept = {name: bytes_at(os.path.join(KEPT, name + ".road")) for name in names}
+    expect("how many files are kept", len(names) >= 3, True)
+    expect("dead records in kept files", [Pages(data).directory().dead() for data in kept.values()], [0, 6, 0])
     for name in names:
         file = program.file(name)
-        put(file, bytes_at(os.path.join(KEPT, name + ".road")))
+        put(file, kept[name])
         (conversation,) = conversations_of(os.path.join(KEPT, name + ".txt"))
         sent = b"".join(exchange.sent for exchange in conversation.exchanges)
         wanted = b"".join(bytes(exchange.wanted) for exchange in conversation.exchanges)
         program.expect(["run", "--file", file], sent, wanted)
         program.expect(["run", "--file", file], b"0 REOPEN\n", b"0 OK 0\n")
+        expect("dead records after that", Pages(bytes_at(file)).directory().dead(), 0)
 
 
 def a_file_in_use_is_not_opened(program):

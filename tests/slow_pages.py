@@ -67,6 +67,10 @@ class Directory(NamedTuple):
     referents: TreeItem
     accepted: int
 
+    def dead(self):
+        """How many records are dead, which are kept for a version that saw them."""
+        return sum(item.dead for item in [*self.tables, self.referents])
+
 
 class Pages:
     """The pages of a file up to the count that page 0 tells, and which of them were taken."""

@@ -81,8 +81,7 @@ def complaint_of(path, is_clear):
     found = read(data)
     if found.state is None:
         return "the slow reader says of the file %s, %s" % (found.answer.decode(), found.why)
-    directory = Pages(data).directory()
-    dead = sum(item.dead for item in [*directory.tables, directory.referents])
+    dead = Pages(data).directory().dead()
     return "the file has %d dead records" % dead if dead and is_clear else None
 
 

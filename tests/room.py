@@ -1,0 +1,397 @@
+#!/usr/bin/env python3
+"""What no line shows of an engine: how many pages it holds in memory, how many records are dead, and how it serves a file of few pages.
+
+    room.py [--program PATH] [--jobs N] [TEST ..]
+
+The program is `rs_room`, which answers lines over a file within a limit of pages, and says after each reply how many changed and
+how many clean pages are held, and how many records are dead. PATH is `crates/rs_room/out/rs_room` by default; a TEST is the name
+of a function of the list TESTS. It prints what is not as wanted, and at last `N passed, M failed`.
+"""
+
+import argparse
+import concurrent.futures
+import os
+import random
+import re
+import subprocess
+import sys
+import tempfile
+from itertools import accumulate, groupby
+from typing import NamedTuple
+
+from files_and_peers import WIDE_TABLE, Ended, Unexpected, as_closed, bytes_at, expect
+from slow_file import read
+from slow_pages import PAGE_BYTES, Pages
+
+HERE = os.path.dirname(os.path.abspath(__file__))
+PROGRAM = os.path.join(os.path.dirname(HERE), "crates", "rs_room", "out", "rs_room")
+LONGEST = 600  # seconds that a reply or an end may take
+SENT_AT_ONCE = 16_384  # bytes of lines: a pipe holds more
+SEED = 0
+
+MOST_PAGES = 1_048_576  # of any file
+MOST_CHANGED, MOST_CLEAN = 1_200, 256  # pages that are held after a step
+CLEARED = 64  # dead records that go at a change or a CLOSE, where there are as many
+
+SPANS = 100  # separate ones, all removed beside a cursor
+WIDE_ROWS = 20_000  # seven of them in a page
+FEW_PAGES = 40
+FILLINGS = 100
+REPORT_ROWS, REPORT_PART = 2_000, 100
+CHANGES = 10_000
+
+# What is said of an engine after each reply.
+HELD = re.compile(rb"# held (\d+) (\d+) garbage (\d+)\n")
+
+ROUTE = b"0 DEFINE ROUTE A FROM 0 TO 100\n"
+TABLE = b"0 DEFINE LINE TABLE t (n INT)\n"
+FULL = b"0 ERR 92 file full\n"
+
+
+class Told(NamedTuple):
+    """A reply, and how many changed and clean pages are held then, and how many records are dead."""
+
+    reply: bytes
+    changed: int
+    clean: int
+    garbage: int
+
+    def is_ok(self):
+        return self.reply.splitlines()[-1].split(b" ")[1] == b"OK"
+
+
+class Room:
+    """A run of the program, over a file within a limit of pages, or in memory."""
+
+    def __init__(self, program, *words):
+        pipe = subprocess.PIPE
+        words = [program, *map(str, words)]
+        self.process = subprocess.Popen(words, stdin=pipe, stdout=pipe, stderr=pipe, bufsize=0)
+
+    def __enter__(self):
+        return self
+
+    def __exit__(self, *_fault):
+        self.process.kill()
+        self.process.communicate()
+
+    def ask(self, line):
+        """What is told of a line."""
+        return self.ask_all([line])[0]
+
+    def ask_all(self, lines):
+        """What is told of each of some lines."""
+        told = []
+        batch = list(accumulate(map(len, lines)))
+        for _, group in groupby(zip(batch, lines), lambda one: one[0] // SENT_AT_ONCE):
+            some = [line for _, line in group]
+            self.process.stdin.write(b"".join(some))
+            told += self.told(len(some))
+        return told
+
+    def told(self, count):
+        """What is told of the next lines, so many."""
+        data, found = bytearray(), []
+        while len(found) < count:
+            piece = os.read(self.process.stdout.fileno(), 1 << 20)
+            if not piece:
+                raise Unexpected("it ended after %d of %d replies: %.300r" % (len(found), count, self.end()))
+            data += piece
+            if piece.endswith(b"\n"):
+                found = list(HELD.finditer(data))
+        starts = [0, *(one.end() for one in found)]
+        return [Told(bytes(data[start : one.start()]), *map(int, one.groups())) for start, one in zip(starts, found)]
+
+    def accepted(self, lines):
+        """What is told of lines, each of which is accepted."""
+        told = self.ask_all(lines)
+        for line, one in zip(lines, told):
+            expect("%.80r is accepted" % line, (one.is_ok(), one.reply if not one.is_ok() else b""), (True, b""))
+        return told
+
+    def end(self):
+        out, errors = self.process.communicate(timeout=LONGEST)
+        return Ended(self.process.returncode, out, errors)
+
+    def expect_end(self):
+        expect("the end", self.end(), Ended(0, b"", b""))
+
+
+class Program(NamedTuple):
+    """The program, and a folder for the files of one test."""
+
+    path: str
+    folder: str
+
+    def file(self):
+        return os.path.join(self.folder, "file")
+
+    def over_file(self, limit=MOST_PAGES):
+        return Room(self.path, self.file(), limit)
+
+    def in_memory(self):
+        return Room(self.path)
+
+
+# Rows.
+
+
+def separate(number):
+    """A line that inserts a row at a place of its own, apart from all others."""
+    return b"0 INSERT INTO t ON A FROM %s VALUES (%d)\n" % (span(number), number)
+
+
+def removed(number):
+    """A line that removes that row."""
+    return b"0 REMOVE t ON A FROM %s\n" % span(number)
+
+
+def span(number):
+    return b"%s TO %s" % (measure(2 * number), measure(2 * number + 1))
+
+
+def measure(thousandths):
+    return b"%d.%03d" % divmod(thousandths, 1000)
+
+
+def row_line(number, session=0):
+    return b"%d ROW A %s %s %d\n" % (session, measure(2 * number), measure(2 * number + 1), number)
+
+
+def rows_reply(lines, session=0):
+    return b"".join(lines) + b"%d OK %d\n" % (session, len(lines))
+
+
+def wide_values(number):
+    """Twelve texts of 40 bytes."""
+    return [b"'%06d-%02d-%s'" % (number, column, b"x" * 30) for column in range(12)]
+
+
+def wide(number):
+    return b"0 INSERT INTO wide ON A FROM %s VALUES (%s)\n" % (span(number), b", ".join(wide_values(number)))
+
+
+def wide_line(number):
+    return b"0 ROW A %s %s %s\n" % (measure(2 * number), measure(2 * number + 1), b" ".join(wide_values(number)))
+
+
+# Dead records.
+
+
+def a_row_that_a_cursor_sees_is_kept_until_its_close(program):
+    for over in (program.in_memory, program.over_file):
+        with over() as room:
+            room.accepted([ROUTE, TABLE, b"0 DEFINE REFERENT A K AT 1\n", separate(0), b"1 OPEN c FOR t\n"])
+            for line, garbage in (
+                (removed(0), 1),
+                (b"0 MOVE REFERENT A K TO 2\n", 2),
+                (b"0 DROP REFERENT A K\n", 3),
+                (b"1 CLOSE c\n", 0),
+                (separate(1), 0),
+                (removed(1), 0),
+            ):
+                expect("dead records after %r" % line, room.accepted([line])[0].garbage, garbage)
+            room.expect_end()
+
+
+def records_of_a_closed_cursor_are_cleared(program):
+    """A hundred rows, removed by one line beside a cursor: its CLOSE clears 64 of them at least, and a change the rest."""
+    with program.over_file() as room:
+        room.accepted([ROUTE, TABLE, *map(separate, range(SPANS))])
+        opened, gone = room.accepted([b"1 OPEN c FOR t\n", b"0 REMOVE t ON A\n"])
+        expect("dead records beside the cursor", (opened.garbage, gone.garbage), (0, SPANS))
+        [saved] = room.accepted([b"0 SAVE\n"])
+        expect("dead records after SAVE, and in the file", (saved.garbage, dead_records(program)), (SPANS, SPANS))
+        fetched = room.ask(b"1 FETCH c 1000\n").reply
+        expect("what the cursor gives", fetched, rows_reply([row_line(number, 1) for number in range(SPANS)], 1))
+        [closed] = room.accepted([b"1 CLOSE c\n"])
+        expect("at most 36 dead records after CLOSE: %d" % closed.garbage, closed.garbage <= SPANS - CLEARED, True)
+        room.accepted([b"0 SAVE\n"])
+        expect("dead records in the file then", dead_records(program), closed.garbage)
+        expect("dead records after a change more", room.accepted([separate(0)])[0].garbage, 0)
+        room.expect_end()
+    expect("dead records in the file that was closed", dead_records(program), 0)
+
+
+def what_another_cursor_sees_stays(program):
+    """Of two cursors, each of which sees records that the other does not need, a CLOSE leaves those of the other."""
+    half = SPANS // 2
+    for first, then, left in ((b"old", b"new", half), (b"new", b"old", SPANS)):
+        with program.in_memory() as room:
+            room.accepted([ROUTE, TABLE, *map(separate, range(SPANS)), b"1 OPEN old FOR t\n"])
+            room.accepted([*map(removed, range(half)), b"2 OPEN new FOR t\n"])
+            [*_, gone] = room.accepted([*map(removed, range(half, SPANS))])
+            expect("dead records beside both", gone.garbage, SPANS)
+            sessions = {b"old": 1, b"new": 2}
+            [closed] = room.accepted([b"%d CLOSE %s\n" % (sessions[first], first)])
+            expect("dead records after the CLOSE of %r" % first, closed.garbage, left)
+            wanted = [row_line(number, sessions[then]) for number in range(half if then == b"new" else 0, SPANS)]
+            fetched = room.ask(b"%d FETCH %s 1000\n" % (sessions[then], then)).reply
+            expect("what %r gives" % then, fetched, rows_reply(wanted, sessions[then]))
+            [closed] = room.accepted([b"%d CLOSE %s\n" % (sessions[then], then)])
+            expect("dead records after both", closed.garbage, max(0, left - CLEARED))
+            room.expect_end()
+
+
+def dead_records(program):
+    """How many records of the file are dead, as its directory says, which the slow reader compares with the records themselves."""
+    data = as_closed(bytes_at(program.file()))
+    expect("why the file is none", read(data).why, None)
+    return Pages(data).directory().dead()
+
+
+def a_long_report_beside_a_writer(program):
+    """What is dead beside a cursor is what has ended since its OPEN at the most, and what it sees at the least; after its CLOSE each
+    accepted change clears as much as it may."""
+    chance = random.Random(SEED)
+    with program.over_file() as room:
+        room.accepted([ROUTE, TABLE, *map(separate, range(0, 2 * REPORT_ROWS, 2)), b"1 OPEN report FOR t\n"])
+        wanted = [row_line(number, 1) for number in range(0, 2 * REPORT_ROWS, 2)]
+        living, ended, still_seen = set(range(0, 2 * REPORT_ROWS, 2)), 0, set()
+        given = 0
+        for start in range(0, CHANGES, REPORT_PART):
+            numbers = [chance.randrange(2 * REPORT_ROWS) for _ in range(REPORT_PART)]
+            lines = []
+            for number in numbers:
+                lines.append(removed(number) if number in living else separate(number))
+                living ^= {number}
+            for line, number, told in zip(lines, numbers, room.accepted(lines)):
+                expect("%r adds or takes a row" % line, told.reply, b"0 OK 1\n")
+                if line.split()[1] == b"REMOVE":
+                    ended += 1
+                    still_seen |= {number} & set(range(0, 2 * REPORT_ROWS, 2))
+                kept = len(still_seen)
+                expect("%d to %d dead records, not %d" % (kept, ended, told.garbage), kept <= told.garbage <= ended, True)
+            if start % (CHANGES // (REPORT_ROWS // REPORT_PART)) == 0:
+                part = wanted[given : given + REPORT_PART]
+                expect("the report from row %d on" % given, room.ask(b"1 FETCH report %d\n" % REPORT_PART).reply, rows_reply(part, 1))
+                given += len(part)
+        expect("how much of the report was given", given, REPORT_ROWS)
+        expect_clearing(room, room.accepted([b"1 CLOSE report\n"])[0].garbage, living)
+        expect("the rows after all", room.ask(b"0 SELECT t\n").reply, rows_reply(map_rows(living)))
+        room.expect_end()
+    expect("dead records in the file that was closed", dead_records(program), 0)
+
+
+def map_rows(numbers):
+    return [row_line(number) for number in sorted(numbers)]
+
+
+def expect_clearing(room, garbage, living):
+    """Changes one after another clear 64 dead records each, until none is left."""
+    expect("there are many dead records: %d" % garbage, garbage > 5 * CLEARED, True)
+    number = 2 * REPORT_ROWS
+    while garbage:
+        if number % 3:
+            ends, [told] = 0, room.accepted([separate(number)])
+            living.add(number)
+        else:
+            ends, gone = 1, min(living)
+            [told] = room.accepted([removed(gone)])
+            living.remove(gone)
+        most = max(0, garbage + ends - CLEARED)
+        expect("at most %d dead records, not %d" % (most, told.garbage), told.garbage <= most, True)
+        garbage, number = told.garbage, number + 1
+
+
+# Pages that are held.
+
+
+def few_pages_are_held(program):
+    """After each of 20,000 lines that insert wide rows, and after REOPEN and a SELECT of all, few pages are held."""
+    with program.over_file() as room:
+        told = room.accepted([ROUTE, WIDE_TABLE, *map(wide, range(WIDE_ROWS))])
+        told += room.accepted([b"0 REOPEN\n"])
+        selected = room.ask(b"0 SELECT wide\n")
+        expect("the rows", selected.reply, rows_reply([wide_line(number) for number in range(WIDE_ROWS)]))
+        told += [selected, *room.accepted([wide(WIDE_ROWS), b"0 SAVE\n"])]
+        changed, clean = max(one.changed for one in told), max(one.clean for one in told)
+        expect("at most (%d, %d) are held, not (%d, %d)" % (MOST_CHANGED, MOST_CLEAN, changed, clean),
+               changed <= MOST_CHANGED and clean <= MOST_CLEAN, True)
+        expect("that many pages are held at all", changed > 500, True)
+        room.expect_end()
+
+
+# A file of few pages.
+
+
+def a_full_file_can_be_emptied_and_filled_again(program):
+    """Rows go into a file of 40 pages until it is full; it answers then as before, also when it was closed and opened; and as many
+    rows go in each time that it was emptied."""
+    with program.over_file(FEW_PAGES) as room:
+        room.accepted([ROUTE])
+        fitted = fill(room)
+        wanted = rows_reply([wide_line(number) for number in range(fitted)])
+        expect_full(room, fitted, wanted)
+        room.expect_end()
+    expect("the pages of the file", len(bytes_at(program.file())) <= FEW_PAGES * PAGE_BYTES, True)
+    with program.over_file(FEW_PAGES) as room:
+        expect_full(room, fitted, wanted)
+        for _ in range(FILLINGS):
+            room.accepted([b"0 DROP TABLE wide\n"])
+            again = fill(room)
+            expect("%d rows fit, and %d did" % (again, fitted), again >= fitted, True)
+            fitted = again
+        expect_full(room, fitted, rows_reply([wide_line(number) for number in range(fitted)]))
+        room.expect_end()
+
+
+def fill(room):
+    """Defines the table of wide rows, and inserts rows until there is no room. Gives how many went in."""
+    room.accepted([WIDE_TABLE])
+    for number in range(7 * FEW_PAGES):
+        told = room.ask(wide(number))
+        if not told.is_ok():
+            expect("the refusal of a row", told.reply, FULL)
+            expect("many rows fit: %d" % number, number > 2 * FEW_PAGES, True)
+            return number
+    raise Unexpected("more rows than there is room for")
+
+
+def expect_full(room, number, wanted):
+    """The file is full: it has these rows, refuses one more, and then has them still."""
+    expect("the rows of a full file", room.ask(b"0 SELECT wide\n").reply, wanted)
+    expect("one row more", room.ask(wide(number)).reply, FULL)
+    expect("a row that is there", room.ask(wide(0)).reply, b"0 OK 0\n")
+    room.accepted([b"0 REOPEN\n"])
+    expect("the rows after REOPEN", room.ask(b"0 SELECT wide\n").reply, wanted)
+
+
+TESTS = [
+    a_row_that_a_cursor_sees_is_kept_until_its_close,
+    records_of_a_closed_cursor_are_cleared,
+    what_another_cursor_sees_stays,
+    a_long_report_beside_a_writer,
+    few_pages_are_held,
+    a_full_file_can_be_emptied_and_filled_again,
+]
+
+
+def fault_of(test, path):
+    """What is wrong in one test, or None."""
+    with tempfile.TemporaryDirectory(prefix="roadseg-") as folder:
+        try:
+            test(Program(path, folder))
+        except (Unexpected, OSError, subprocess.SubprocessError) as fault:
+            return "%s: %s" % (test.__name__, fault)
+    return None
+
+
+def main():
+    parser = argparse.ArgumentParser(description="Tests what an engine holds in memory, and a file of few pages.")
+    parser.add_argument("--program", default=PROGRAM, metavar="PATH")
+    parser.add_argument("--jobs", type=int, default=os.cpu_count() or 1, metavar="N")
+    parser.add_argument("names", nargs="*", metavar="TEST")
+    words = parser.parse_args()
+    path = os.path.abspath(words.program)
+    tests = [test for test in TESTS if not words.names or test.__name__ in words.names]
+    with concurrent.futures.ThreadPoolExecutor(words.jobs) as pool:
+        faults = [fault for fault in pool.map(lambda test: fault_of(test, path), tests) if fault]
+    for fault in faults:
+        print(fault)
+    print("%d passed, %d failed" % (len(tests) - len(faults), len(faults)))
+    return 1 if faults else 0
+
+
+if __name__ == "__main__":
+    sys.exit(main())
