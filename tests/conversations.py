@@ -4,8 +4,9 @@
     tests/conversations.py [--program CMD] [--create CMD] [--ways WAYS] [--timeout SECONDS] [--jobs N] [FILE ..]
     tests/conversations.py --expand FILE
 
-Each is held in three ways, and answered alike: `memory` is one run without a file, `file` one run over a file that was
-just created, `cut` several runs over such a file, which end at pseudo-random lines where no cursor is open (ways.py).
+Each is held in four ways, and answered alike: `memory` is one run without a file, `file` one run over a file that was
+just created, `cut` several runs over such a file, which end at pseudo-random lines where no cursor is open, and `beside` one
+run without a file in which other cursors are fetched from before each FETCH, held where there is one (ways.py).
 WAYS are some of these names, with commas between them. CMD answers lines without a file, and is
 `crates/roadseg/out/roadseg run` by default; what creates a file is its first word and `create` by default. Over a file
 both are given `--file` and a path.
@@ -47,7 +48,7 @@ import shlex
 import shutil
 import sys
 
-from ways import WAYS, add_options, answer_in, program_of
+from ways import FETCHED, WAYS, add_options, answer_in, program_of
 
 ROOT = os.path.dirname(os.path.dirname(os.path.abspath(__file__)))
 DOCUMENTS = ["README.md", os.path.join("docs", "LANGUAGE.md"), os.path.join("docs", "COOKBOOK.md")]
@@ -331,6 +332,11 @@ def complaints(conversation, way, program, timeout):
     return [WAYS[way] + one for one in found]
 
 
+def is_held(conversation, way):
+    """Whether a way differs from the others in a conversation."""
+    return way != "beside" or any(FETCHED.match(exchange.sent) for exchange in conversation.exchanges)
+
+
 def read_all(files):
     """The conversations of the files, and what is wrong with files that are none."""
     conversations, faults = [], []
@@ -348,7 +354,7 @@ def hold_all(conversations, faults, words):
     for fault in faults:
         print(fault)
     program = program_of(words)
-    turns = [(conversation, way) for conversation in conversations for way in words.ways]
+    turns = [(conversation, way) for conversation in conversations for way in words.ways if is_held(conversation, way)]
     with concurrent.futures.ThreadPoolExecutor(words.jobs) as pool:
         for found in pool.map(lambda turn: complaints(*turn, program, words.timeout), turns):
             if found:

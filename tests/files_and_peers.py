@@ -30,19 +30,22 @@ from typing import NamedTuple
 from conversations import conversations_of
 from file_writer import PAGE_BYTES, written
 from slow_file import lines_of, read
-from slow_pages import Pages
-from stored_machine import machine_of
+from slow_machine import Machine
+from slow_pages import FREE, PAGE_HEADER, Pages
+from stored_machine import contents_of, machine_of
 from whole_files import SOUND
 
 HERE = os.path.dirname(os.path.abspath(__file__))
 PROGRAM = os.path.join(os.path.dirname(HERE), "crates", "roadseg", "out", "roadseg")
-CURSORS = os.path.join(HERE, "conversations", "a-cursor-keeps-its-opening.txt")
+CONVERSATIONS = os.path.join(HERE, "conversations")
+CURSORS = os.path.join(CONVERSATIONS, "a-cursor-keeps-its-opening.txt")
 KEPT = os.path.join(HERE, "kept")  # files that an earlier build closed, each beside a conversation over it
 LONGEST = 60  # seconds that anything may take
 STALL = 1  # seconds
 NEAR = 32  # bytes
 PIECE_PAUSE = 0.001  # seconds between pieces of a line
 OPEN_FLAG = 28  # the place of its byte
+COUNT_OF_PAGES = 32  # and of three numbers in page 0: of pages, of the first free one, and of free ones
 FULL = "/dev/full"  # each write to it fails
 
 DEFINED = b"0 DEFINE ROUTE A FROM 0 TO 10\n0 DEFINE LINE TABLE pave (surf TEXT(8))\n"
@@ -52,9 +55,23 @@ FOUR_TIMES = b"".join(
     b"0 INSERT INTO pave ON A FROM %s VALUES ('AC')\n" % span for span in (b"0 TO 1", b"1 TO 2", b"0 TO 1", b"0.5 TO 2.5")
 )
 ROWS = b"0 ROW A 0.000 1.000 'AC'\n0 OK 1\n"
+# The conversations after each line of which the file is looked at.
+SAVED = (
+    "each-command-once",
+    "definitions-of-each-kind-come-and-go",
+    "an-index-finds-what-a-scan-finds",
+    "a-cursor-goes-on-as-it-began",
+    "drops-wait-for-cursors",
+    "reopen-closes-all-cursors",
+    "reopen-keeps-what-was-entered",
+)
+
 WIDE_ROUTE = b"0 DEFINE ROUTE A FROM 0 TO 10000\n"
 WIDE_TABLE = b"0 DEFINE LINE TABLE wide (%s)\n" % b", ".join(b"c%d TEXT(40)" % k for k in range(12))
 WIDE_ROWS = 3_000  # seven of them in a page
+NARROW_TABLE = b"0 DEFINE LINE TABLE narrow (n INT, m INT)\n"
+NARROW_INDEXES = [b"0 DEFINE INDEX narrow_%s ON narrow (%s)\n" % (column, column) for column in (b"n", b"m")]
+NARROW_ROWS = 9_000  # some eighty of them in a page
 TRANSLATED = b"0 TRANSLATE A 4 AS ABSOLUTE\n"
 PLACE = b"0 ROW 4.000\n0 OK 1\n"
 
@@ -157,17 +174,58 @@ def a_closed_file_is_as_the_format_says(program):
     expect("what is in it", list(lines_of(found.state)), list(lines_of(wanted.state)))
 
 
+def what_is_saved_stands_in_the_file(program):
+    """After SAVE, after each line, and after each REOPEN the file in use is, but for its flag, one of the slow machine's state."""
+    for name in SAVED:
+        [conversation] = conversations_of(os.path.join(CONVERSATIONS, name + ".txt"))
+        file, machine = program.file(name), Machine()
+        program.expect(["create", "--file", file], b"", b"")
+        with started(program, "run", "--file", file) as process:
+            for exchange in conversation.exchanges:
+                expect(exchange.sent, answer_to(process, exchange.sent), exchange.wanted)
+                machine.answer(bytes(exchange.sent).removesuffix(b"\n"))
+                if not exchange.sent.endswith(b"REOPEN\n"):
+                    expect("SAVE", answer_to(process, b"0 SAVE\n"), b"0 OK 0\n")
+                expect_state(file, machine)
+            expect("the end", ended(process), Ended(0, b"", b""))
+        expect("the file after %s" % name, read(bytes_at(file)).answer, b"OK")
+
+
+def expect_state(file, machine):
+    """The bytes of a file in use, but for its flag, stand for the state of a machine."""
+    data = bytes_at(file)
+    expect("the flag of a file in use", data[OPEN_FLAG], 1)
+    found = read(as_closed(data))
+    expect("why the file is none", found.why, None)
+    expect("what is in it", contents_of(machine_of(found.state)), contents_of(machine))
+
+
 def a_file_that_changes_in_use_is_judged_anew(program):
     """A byte of a file is another one when its page is read again: REOPEN says what the slow reader says of these bytes.
 
-    Page 0 alone is not read again: what it says is kept from the opening on.
+    On page 0 any other field is damage, also where the whole file would be another one of the same state; but the flag that says
+    that the file is open is not looked at.
     """
-    file = program.created(DEFINED + FOUR_TIMES, b"0 OK 0\n0 OK 0\n0 OK 1000\n0 OK 1000\n0 OK 0\n0 OK 500\n")
+    sent = DEFINED + FOUR_TIMES + b"0 DEFINE LINE TABLE gone (n INT)\n0 INSERT INTO gone ON A FROM 0 TO 1 VALUES (1)\n0 DROP TABLE gone\n"
+    file = program.created(sent, b"0 OK 0\n0 OK 0\n0 OK 1000\n0 OK 1000\n0 OK 0\n0 OK 500\n0 OK 0\n0 OK 1000\n0 OK 0\n")
     data = bytes_at(file)
+    expect("how many pages are free", Pages(data).free, 1)
     judged = Counter()
     with started(program, "run", "--file", file) as process:
         rows = answer_to(process, SELECTED)
         expect("the rows before", rows, b"0 ROW A 0.000 2.500 'AC'\n0 OK 1\n")
+        for flag in (b"\0", b"\7", b"\1"):
+            put(file, flag, OPEN_FLAG)
+            expect("REOPEN with the flag %r" % flag, answer_to(process, b"0 REOPEN\n"), b"0 OK 0\n")
+            expect("the rows with the flag %r" % flag, answer_to(process, SELECTED), rows)
+            expect("the flag after that", bytes_at(file)[OPEN_FLAG], flag[0])
+        put(file, with_a_page_more(bytes_at(file)))
+        expect("whether that is a file", read(as_closed(bytes_at(file))).answer, b"OK")
+        expect("REOPEN with a free page more", answer_to(process, b"0 REOPEN\n"), b"0 ERR 94 damaged file\n")
+        os.truncate(file, len(data))
+        put(file, data[:OPEN_FLAG])
+        put(file, data[OPEN_FLAG + 1 :], OPEN_FLAG + 1)
+        expect("REOPEN without it", answer_to(process, b"0 REOPEN\n"), b"0 OK 0\n")
         for place in places_near_bytes(data):
             byte = bytes([data[place] ^ 1 << place % 8])
             found = read(data[:place] + byte + data[place + 1 :])
@@ -189,9 +247,19 @@ def a_file_that_changes_in_use_is_judged_anew(program):
     expect("files of both sorts", min(judged.values()) > 100 and len(judged) == 2, True)
 
 
+def with_a_page_more(data):
+    """The bytes of a file with a free page more, at its end."""
+    pages = Pages(data)
+    page_0 = struct.pack(">III", pages.count + 1, pages.count, pages.free + 1)
+    header = PAGE_HEADER.pack(FREE, 0, 0, pages.count, pages.first_free, 0)
+    place = COUNT_OF_PAGES
+    return data[:place] + page_0 + data[place + len(page_0) :] + header + bytes(PAGE_BYTES - len(header))
+
+
 def places_near_bytes(data):
-    """The places after page 0 that are near some byte that is not 0, and each sixteenth of the others."""
-    return [place for place in range(PAGE_BYTES, len(data)) if place % 16 == 0 or any(data[place - NEAR : place + NEAR])]
+    """The places that are near some byte that is not 0, and each sixteenth of the others; but for that of the open flag."""
+    near = (place for place in range(len(data)) if place % 16 == 0 or any(data[max(0, place - NEAR) : place + NEAR]))
+    return [place for place in near if place != OPEN_FLAG]
 
 
 def answer_to(process, line):
@@ -204,33 +272,49 @@ def answer_to(process, line):
 
 
 def a_line_reads_few_pages(program):
-    """Of a tree of some 450 pages, more than are held, a line reads those on its way to what it meets."""
+    """Of trees of more pages than are held, a line reads those on its way to what it meets, and none when it is asked again."""
     file = program.created()
     with started(program, "run", "--file", file) as process:
-        answers_to(process, [WIDE_ROUTE, WIDE_TABLE])
+        answers_to(process, [WIDE_ROUTE, WIDE_TABLE, NARROW_TABLE, *NARROW_INDEXES])
         answers_to(process, [wide_row(place) for place in range(WIDE_ROWS)])
+        answers_to(process, [narrow_row(place) for place in range(NARROW_ROWS)])
         answers_to(process, [b"0 REOPEN\n"])
-        height = height_of(bytes_at(file))
-        expect("a tree of some levels", height > 2, True)
-        for line, most, fewest in (
-            (b"0 SELECT WINDOW(wide, A FROM 100 TO 110)\n", height * (10 + 2), height),
-            (b"0 SELECT WINDOW(wide, A FROM 100 TO 110)\n", 0, 0),
-            (wide_row(200.5), height + 2, 1),
-            (wide_row(200.25), 0, 0),
-            (b"0 REMOVE wide ON A FROM 300 TO 300.001\n", 2 * height + 2, 1),
-            (b"0 REMOVE wide ON A FROM 300 TO 300.001\n", 0, 0),
+        data = bytes_at(file)
+        wide, narrow, *indexes = heights_of(data, 12 * 41), heights_of(data, 2 * 9, 1), *index_heights_of(data, 2 * 9)
+        expect("trees of some levels: %d, %d, %r" % (wide, narrow, indexes), wide > 2 and narrow > 1 and min(indexes) > 1, True)
+        of_all = sum(height + 1 for height in (narrow, *indexes))
+        for before, line, most, fewest in (
+            (b"0 REOPEN\n", b"0 SELECT WINDOW(wide, A FROM 100 TO 110)\n", wide * (10 + 2), wide),
+            (b"0 REOPEN\n", wide_row(200.5), wide + 2, 1),
+            (b"0 REOPEN\n", b"0 REMOVE wide ON A FROM 300 TO 300.001\n", 2 * wide + 2, 1),
+            (b"0 TOTAL wide BY ()\n", narrow_row(NARROW_ROWS // 2 + 0.5), of_all + 1, 3),
+            (b"0 TOTAL wide BY ()\n", b"0 REMOVE narrow ON A FROM 7 TO 7.001\n", 2 * of_all + 1, 3),
+            (b"0 TOTAL wide BY ()\n", b"0 SELECT WHERE(WINDOW(narrow, A FROM 400 TO 900), n = 123)\n", 2 * max(indexes) + 2, 1),
         ):
-            before = reads_of(process)
-            answers_to(process, [line])
-            reads = reads_of(process) - before - 1  # the line itself is read too
+            answers_to(process, [before])
+            reads, writes = calls_for(process, line)
             expect("%d reads of pages for %.60r, %d to %d" % (reads, line, fewest, most), fewest <= reads <= most, True)
+            expect("writes for %.60r" % line, writes, 0 if b" SELECT " not in line else writes)
+            expect("reads for the same again", calls_for(process, line)[0], 0)
         expect("the end", ended(process), Ended(0, b"", b""))
+
+
+def calls_for(process, line):
+    """How many reads and writes of its file the process makes for a line that is accepted, whose reply is written by one call."""
+    before = calls_of(process)
+    answers_to(process, [line])
+    return [after - earlier - 1 for earlier, after in zip(before, calls_of(process))]
 
 
 def wide_row(place):
     """A line that inserts a row of the widest table along a thousandth."""
     values = b", ".join(b"'%040d'" % k for k in range(12))
     return b"0 INSERT INTO wide ON A FROM %.3f TO %.3f VALUES (%s)\n" % (place, place + 0.001, values)
+
+
+def narrow_row(place):
+    """A line that inserts a row of two numbers along a thousandth."""
+    return b"0 INSERT INTO narrow ON A FROM %.3f TO %.3f VALUES (%d, %d)\n" % (place, place + 0.001, place % 499, place // 3)
 
 
 def answers_to(process, lines):
@@ -240,16 +324,23 @@ def answers_to(process, lines):
         expect("the end of the answer to %.60r" % line, end.split(b" ")[:2], [b"0", b"OK"])
 
 
-def reads_of(process):
-    """How many reads the process has made."""
+def calls_of(process):
+    """How many reads and how many writes the process has made."""
     with open("/proc/%d/io" % process.pid, encoding="ascii") as file:
-        return int(re.search(r"syscr: (\d+)", file.read())[1])
+        counts = file.read()
+    return [int(re.search(name + r": (\d+)", counts)[1]) for name in ("syscr", "syscw")]
 
 
-def height_of(data):
-    """The levels of the first table's tree, which is of the widest rows."""
+def heights_of(data, row_bytes, table=0):
+    """The levels of a table's tree, whose rows have so many bytes."""
     pages = Pages(data)
-    return len(pages.levels(pages.directory().tables[0].root, 28 + 12 * 41, 4))
+    return len(pages.levels(pages.directory().tables[table].root, 28 + row_bytes, 4))
+
+
+def index_heights_of(data, row_bytes):
+    """The levels of the trees of two indexes of numbers, of a table whose rows have so many bytes."""
+    pages = Pages(data)
+    return [len(pages.levels(root, 9 + 28 + row_bytes, 0)) for root in pages.directory().indexes[:2]]
 
 
 def a_missing_file_is_not_opened(program):
@@ -672,6 +763,7 @@ TESTS = [
     a_file_is_created_once,
     a_file_keeps_what_it_was_told,
     a_closed_file_is_as_the_format_says,
+    what_is_saved_stands_in_the_file,
     a_file_that_changes_in_use_is_judged_anew,
     a_line_reads_few_pages,
     a_missing_file_is_not_opened,

@@ -22,7 +22,7 @@ queries are asked again. And files are created.
 - With all reads and writes of the file cut short nothing changes, neither a reply nor a byte of the file that is left.
 
 MOST says which conversations are taken, and how many growths and device calls of each way are refused, evenly spread where
-that isn't each. --all takes all conversations, and so is taken one that is named: each growth and each device call is refused,
+that isn't each. Of the first line in whose step more pages are written home than may be held each device call is refused. --all takes all conversations, and so is taken one that is named: each growth and each device call is refused,
 or of long ones fewer. --most says how many at the most. It prints how refusals were told, what is not as wanted, and at last
 `N passed, M failed`, counted in runs.
 """
@@ -50,6 +50,7 @@ FORKING = multiprocessing.get_context("fork")  # what is to be done is not sent 
 RUNS_OF_A_TASK = 25
 OPEN_FLAG = 28  # the place of its byte
 SHORT = 1_000  # bytes of a short read or write
+MOST_HELD = 1_024  # changed pages: a step that finds more writes them home before it begins
 
 
 # The conversations that are taken, and how many growths, and how many device calls, of each way are refused at the most.
@@ -172,6 +173,13 @@ class Held:
             expect("the end", run.end(self.tail), WELL)
             self.counts = run.counts()
         return program.bytes_left() if self.is_over_file() else None
+
+    def flushing_calls(self):
+        """The numbers of the device calls of the first line that writes home more pages than may be held, where one does."""
+        for before, after in itertools.pairwise(self.calls_after):
+            if after - before > MOST_HELD:
+                return range(before + 1, after + 1)
+        return []
 
     def left_by_short_calls(self, program):
         """The bytes of the file where each read and write of it is cut short."""
@@ -298,6 +306,9 @@ class Creation:
 
     name = "a file is created"
 
+    def flushing_calls(self):
+        return []
+
     def __init__(self):
         self.data, self.counts = None, None
 
@@ -347,23 +358,23 @@ class Work:
     turns = []
 
 
-def refused_in_turn(held, refusal):
+def refused_in_turn(held, refusal, with_halves):
     """The kind of call that is refused, and how that is told; in a second run also of one that is half done before it fails."""
     kind, how = held.judged(Work.program, refusal)
     yield kind, how
-    if kind in HALVES:
+    if kind in HALVES and with_halves:
         yield HALVES[kind], held.judged(Work.program, refusal._replace(is_half_done=True))[1]
 
 
 def judged(task):
-    """Makes the runs of a task: of the turn at a place, with each of these refusals. Gives how often they were told in which
-    way, and what is not as wanted."""
-    place, refusals = task
+    """Makes the runs of a task: of the turn at a place, with each of these refusals, also half done where that is said. Gives how
+    often they were told in which way, and what is not as wanted."""
+    place, refusals, with_halves = task
     held = Work.turns[place]
     told, faults = Counter(), []
     for refusal in refusals:
         try:
-            told.update(refused_in_turn(held, refusal))
+            told.update(refused_in_turn(held, refusal, with_halves))
         except Wrong as fault:
             faults.append("%s, %s: %s" % (held.name, refusal, fault))
     return told, faults
@@ -424,16 +435,29 @@ def numbers_of(count, most):
     return range(stride, count + 1, stride)
 
 
+def numbers_beside(turn, most):
+    """The numbers of the device calls that are refused beside those that are evenly spread."""
+    spread = numbers_of(turn.counts.calls(), most)
+    return [number for number in turn.flushing_calls() if number not in spread]
+
+
 def tasks_of(place, turn, most):
     """The refusals of a turn, some at a time."""
     refusals = [Refusal(growth=number) for number in numbers_of(turn.counts.growths, most)]
     refusals += [Refusal(call=number) for number in numbers_of(turn.counts.calls(), most)]
-    return [(place, refusals[first:first + RUNS_OF_A_TASK]) for first in range(0, len(refusals), RUNS_OF_A_TASK)]
+    beside = [Refusal(call=number) for number in numbers_beside(turn, most)]
+    return [(place, some, True) for some in parts_of(refusals)] + [(place, some, False) for some in parts_of(beside)]
+
+
+def parts_of(refusals):
+    """The refusals, some at a time."""
+    return [refusals[first:first + RUNS_OF_A_TASK] for first in range(0, len(refusals), RUNS_OF_A_TASK)]
 
 
 def told_of(turn, most, told):
     """What is printed of a turn."""
     refused = [len(numbers_of(count, most)) for count in (turn.counts.growths, turn.counts.calls())]
+    refused[1] += len(numbers_beside(turn, most))
     ways = ", ".join("%s %s %d" % (*key, count) for key, count in sorted(told.items()))
     return "%s: %d of %d growths, %d of %d device calls: %s" % (
         turn.name, refused[0], turn.counts.growths, refused[1], turn.counts.calls(), ways)

@@ -1,4 +1,4 @@
-"""The slow machine in the state that the slow reader read of a file: `machine_of(state)`.
+"""The slow machine in the state that the slow reader read of a file: `machine_of(state)`; and what two machines are compared by.
 
 It shares nothing with the crates. This machine is asked and never changed: a command that it would carry out as a
 change is `Changing`. Of a table with a span too long for a set of rows at each of its thousandths it knows the runs
@@ -76,6 +76,18 @@ def machine_of(state):
     for name in queries:
         put_view(machine, name, queries)
     return machine
+
+
+def contents_of(machine):
+    """What a machine has that a file keeps: two machines have the same where these are equal. None of its tables is long."""
+    routes = {name: (route.start, route.finish, route.referents) for name, route in machine.routes.items()}
+    tables = {name: (table.is_line, table.types, rows_of(table)) for name, table in machine.tables.items()}
+    return machine.changes, routes, tables, machine.indexes, machine.views, machine.alignments
+
+
+def rows_of(table):
+    """The rows at each thousandth of each route where there are any."""
+    return {(route, place): rows for route, places in table.rows.items() for place, rows in places.items() if rows}
 
 
 def put_table(machine, said, spans):

@@ -1,5 +1,6 @@
 """The ways in which the program answers the same lines: `memory` is one run without a file, `file` one run over a file
-that was just created, and `cut` several runs, one after another, over such a file.
+that was just created, `cut` several runs, one after another, over such a file, and `beside` one run without a file in which
+other cursors are opened, fetched from and closed before each FETCH, so that no line is there that was formed ahead for it.
 
 Cursors end with their run, so a run ends only where none is open. A file that is left is read by the slow reader of files.
 """
@@ -7,12 +8,13 @@ Cursors end with their run, so a run ends only where none is open. A file that i
 import argparse
 import os
 import random
+import re
 import shlex
 import tempfile
 from bisect import bisect_right
 from typing import NamedTuple
 
-from programs import LONGEST_RUN, Answer, answer_of
+from programs import LONGEST_RUN, Answer, answer_of, replies_of
 from slow_file import read
 from slow_pages import Pages
 
@@ -21,11 +23,15 @@ PROGRAM = shlex.quote(os.path.join(os.path.dirname(HERE), "crates", "roadseg", "
 SHARED_MEMORY = "/dev/shm"
 
 # The ways, and what is said before a fault of each.
-WAYS = {"memory": "", "file": "over a file: ", "cut": "in several runs: "}
+WAYS = {"memory": "", "file": "over a file: ", "cut": "in several runs: ", "beside": "beside other cursors: "}
 
 # After how many pseudo-random lines a run ends at the most, and the seed of these lines.
 MOST_CUTS = 5
 SEED = 0
+
+# As many cursors as a session may have, which are opened beside a FETCH.
+MOST_CURSORS = 4
+SESSION, FETCHED, OPENED = re.compile(rb"\s*(\d+)"), re.compile(rb" *\d+ *FETCH\b"), re.compile(rb" *\d+ *OPEN +\w+ +FOR(.*)\n")
 
 
 class Roadseg(NamedTuple):
@@ -60,6 +66,8 @@ def answer_in(way, program, lines, replies, longest=LONGEST_RUN):
     """What is answered to the lines in one way. Where they are cut is said by the replies that are wanted."""
     if way == "memory":
         return answer_of(program.run, b"".join(lines), longest)
+    if way == "beside":
+        return answer_beside_cursors(program, lines, replies, longest)
     bounds = [0, *(cuts_of(lines, replies) if way == "cut" else []), len(lines)]
     parts = [b"".join(lines[first:end]) for first, end in zip(bounds, bounds[1:])]
     folder = SHARED_MEMORY if os.path.isdir(SHARED_MEMORY) else None
@@ -71,6 +79,28 @@ def answer_in(way, program, lines, replies, longest=LONGEST_RUN):
         complaint = next((answer.complaint for answer in answers if answer.complaint), None)
         complaint = complaint or complaint_of(file, ends_without_cursors(lines, replies))
     return Answer(b"".join(answer.out for answer in answers), complaint)
+
+
+def answer_beside_cursors(program, lines, replies, longest):
+    """What is answered to the lines, where other cursors are fetched from before each FETCH."""
+    sent = list(with_other_cursors(lines, replies))
+    answer = answer_of(program.run, b"".join(line for line, _ in sent), longest)
+    found = replies_of(answer.out)
+    kept = [reply for reply, (_, is_asked) in zip(found, sent) if is_asked]
+    return Answer(b"".join(kept + found[len(sent) :]), answer.complaint)
+
+
+def with_other_cursors(lines, replies):
+    """The lines, and others before each FETCH; each with whether it is one of the lines."""
+    used = {int(found[1]) for line in lines if (found := SESSION.match(line))}
+    session, query = max(set(range(64)) - used, default=None), None
+    for line, reply in zip(lines, [*replies, b""]):
+        if query is not None and session is not None and FETCHED.match(line):
+            for words in (b"OPEN other%d FOR" + query, b"FETCH other%d 1", b"CLOSE other%d"):
+                yield from ((b"%d " % session + words % number + b"\n", False) for number in range(MOST_CURSORS))
+        yield line, True
+        if (found := OPENED.fullmatch(line)) and reply.split()[1:2] == [b"OK"]:
+            query = found[1].replace(b"%", b"%%")
 
 
 def complaint_of(path, is_clear):
