@@ -1,8 +1,8 @@
 #!/usr/bin/env bash
 # The gate: the kit's `rt ci` proves every crate, tries the must-fail edits and runs the tests and the programs. Then the
 # programs that it built hold the conversations, answer pseudo-random lines beside the slow machine, are run on files of all
-# sorts, for peers over TCP and by the client in Python, make CSV into lines, open files beside the slow reader of files, and
-# have their growths and the calls of their file refused in turn.
+# sorts, for peers over TCP and by the client in Python, say what they hold in memory, make CSV into lines, open files beside
+# the slow reader of files, and have their growths and the calls of their file refused in turn.
 set -eu
 cd "$(dirname "$0")/.."
 # each check by one process: several for one check take a fifth more of the processors
@@ -10,9 +10,13 @@ RT_JOBS="${RT_JOBS:-$(nproc)}" rt ci
 if [ ! -x crates/roadseg/out/roadseg ]; then
     (cd crates/roadseg && rt run -- --help > /dev/null)
 fi
+if [ ! -x crates/rs_room/out/rs_room ]; then
+    (cd crates/rs_room && rt run < /dev/null > /dev/null)
+fi
 python3 tests/conversations.py
 python3 tests/compare.py
 python3 tests/files_and_peers.py
+python3 tests/room.py
 python3 tests/clients.py
 python3 tests/csv_lines.py
 python3 tests/files.py

@@ -4,8 +4,9 @@
     compare.py [--program CMD] [--create CMD] [--ways WAYS] [--slow CMD]
                [--lines N] [--rounds N] [--seed S] [--only R] [--counts]
 
-The slow machine answers the lines of a round once, and the program in three ways: in one run
-over memory, in one over a file, and in several over one file (ways.py). Where the answers
+The slow machine answers the lines of a round once, and the program in four ways: in one run
+over memory, in one over a file, in several over one file, and in one over memory in which other
+cursors are fetched from before each FETCH (ways.py). Where the answers
 differ, the lines are shortened to a few that still differ, and these are printed with both
 answers. How many lines of each sort there were is asserted too (tally.py), and that positions
 are read back as they are printed (positions.py). The same numbers give the same lines each

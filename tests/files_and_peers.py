@@ -69,6 +69,8 @@ SAVED = (
 WIDE_ROUTE = b"0 DEFINE ROUTE A FROM 0 TO 10000\n"
 WIDE_TABLE = b"0 DEFINE LINE TABLE wide (%s)\n" % b", ".join(b"c%d TEXT(40)" % k for k in range(12))
 WIDE_ROWS = 3_000  # seven of them in a page
+LONG_TABLE = b"0 DEFINE LINE TABLE long (n INT)\n"
+LONG_TABLES = (100_000, 400_000)  # rows, some hundred of them in a page
 NARROW_TABLE = b"0 DEFINE LINE TABLE narrow (n INT, m INT)\n"
 NARROW_INDEXES = [b"0 DEFINE INDEX narrow_%s ON narrow (%s)\n" % (column, column) for column in (b"n", b"m")]
 NARROW_ROWS = 9_000  # some eighty of them in a page
@@ -297,6 +299,39 @@ def a_line_reads_few_pages(program):
             expect("writes for %.60r" % line, writes, 0 if b" SELECT " not in line else writes)
             expect("reads for the same again", calls_for(process, line)[0], 0)
         expect("the end", ended(process), Ended(0, b"", b""))
+
+
+def a_long_table_is_read_by_its_height(program):
+    """Of a table of 100,000 and of 400,000 rows a line reads the pages on its way, however many there are."""
+    for rows in LONG_TABLES:
+        file = program.file("%d" % rows)
+        program.expect(["create", "--file", file], b"", b"")
+        loaded = program.run("run", "--file", file, sent=b"".join([WIDE_ROUTE, LONG_TABLE, *map(long_row, range(rows))]))
+        expect("the load of %d rows" % rows, loaded == Ended(0, b"0 OK 0\n" * 2 + b"0 OK 1\n" * rows, b""), True)
+        height = heights_of(bytes_at(file), 9)
+        expect("the height of a tree of %d rows: %d" % (rows, height), 2 <= height <= 4, True)
+        with started(program, "run", "--file", file) as process:
+            answers_to(process, [b"0 SAVE\n"])
+            place = 3 * rows // 2
+            for line, most in (
+                (b"0 SELECT WINDOW(long, A FROM %s TO %s)\n" % (measured(place), measured(place + 30)), 2 * height),
+                (long_row(rows // 3 + 0.4), height + 2),
+                (b"0 REMOVE long ON A FROM %s TO %s\n" % (measured(rows // 4 * 3), measured(rows // 4 * 3 + 1)), 2 * height + 2),
+            ):
+                reads = calls_for(process, line)[0]
+                expect("%d reads of %d rows for %.60r, 1 to %d" % (reads, rows, line, most), 1 <= reads <= most, True)
+                expect("reads for the same again", calls_for(process, line)[0], 0)
+            expect("the end", ended(process), Ended(0, b"", b""))
+
+
+def long_row(number):
+    """A line that inserts a row of its own along a thousandth."""
+    place = int(3 * number)
+    return b"0 INSERT INTO long ON A FROM %s TO %s VALUES (%d)\n" % (measured(place), measured(place + 1), place)
+
+
+def measured(thousandths):
+    return b"%d.%03d" % divmod(thousandths, 1000)
 
 
 def calls_for(process, line):
@@ -766,6 +801,7 @@ TESTS = [
     what_is_saved_stands_in_the_file,
     a_file_that_changes_in_use_is_judged_anew,
     a_line_reads_few_pages,
+    a_long_table_is_read_by_its_height,
     a_missing_file_is_not_opened,
     a_damaged_file_is_refused,
     a_file_that_was_not_closed_is_refused,
