@@ -240,58 +240,66 @@ def dead_records(program):
     return Pages(data).directory().dead()
 
 
+class Change(NamedTuple):
+    """A line that adds or takes a row, and of how many records it is known then that they have ended, and that a cursor sees them."""
+
+    line: bytes
+    ended: int
+    still_seen: int
+
+
+class Writer:
+    """Adds and takes rows at pseudo-random places, beside a cursor that saw those that there were at first."""
+
+    def __init__(self, seen):
+        self.chance = random.Random(SEED)
+        self.seen, self.living = frozenset(seen), set(seen)
+        self.ended, self.still_seen = 0, set()
+
+    def next(self):
+        number = self.chance.randrange(2 * REPORT_ROWS)
+        line = removed(number) if number in self.living else separate(number)
+        if number in self.living:
+            self.ended += 1
+            self.still_seen |= {number} & self.seen
+        self.living ^= {number}
+        return Change(line, self.ended, len(self.still_seen))
+
+    def change(self, room, count):
+        """So many changes, after each of which no more records are dead than have ended, and all of them that the cursor sees."""
+        changes = [self.next() for _ in range(count)]
+        for change, told in zip(changes, room.accepted([change.line for change in changes])):
+            expect("the reply to %r" % change.line, told.reply, b"0 OK 1\n")
+            is_between = change.still_seen <= told.garbage <= change.ended
+            expect("%d dead records, %d to %d" % (told.garbage, change.still_seen, change.ended), is_between, True)
+
+    def clear(self, room, garbage):
+        """Changes one after another, each of which clears 64 dead records, until none is left."""
+        expect("there are many dead records: %d" % garbage, garbage > 5 * CLEARED, True)
+        while garbage:
+            before = self.ended
+            [told] = room.accepted([self.next().line])
+            most = max(0, garbage + self.ended - before - CLEARED)
+            expect("%d dead records, at most %d" % (told.garbage, most), told.garbage <= most, True)
+            garbage = told.garbage
+
+
 def a_long_report_beside_a_writer(program):
-    """What is dead beside a cursor is what has ended since its OPEN at the most, and what it sees at the least; after its CLOSE each
-    accepted change clears as much as it may."""
-    chance = random.Random(SEED)
+    """A report is fetched in twenty parts, with five hundred changes before each; then its cursor is closed."""
     with program.over_file() as room:
-        room.accepted([ROUTE, TABLE, *map(separate, range(0, 2 * REPORT_ROWS, 2)), b"1 OPEN report FOR t\n"])
-        wanted = [row_line(number, 1) for number in range(0, 2 * REPORT_ROWS, 2)]
-        living, ended, still_seen = set(range(0, 2 * REPORT_ROWS, 2)), 0, set()
-        given = 0
-        for start in range(0, CHANGES, REPORT_PART):
-            numbers = [chance.randrange(2 * REPORT_ROWS) for _ in range(REPORT_PART)]
-            lines = []
-            for number in numbers:
-                lines.append(removed(number) if number in living else separate(number))
-                living ^= {number}
-            for line, number, told in zip(lines, numbers, room.accepted(lines)):
-                expect("%r adds or takes a row" % line, told.reply, b"0 OK 1\n")
-                if line.split()[1] == b"REMOVE":
-                    ended += 1
-                    still_seen |= {number} & set(range(0, 2 * REPORT_ROWS, 2))
-                kept = len(still_seen)
-                expect("%d to %d dead records, not %d" % (kept, ended, told.garbage), kept <= told.garbage <= ended, True)
-            if start % (CHANGES // (REPORT_ROWS // REPORT_PART)) == 0:
-                part = wanted[given : given + REPORT_PART]
-                expect("the report from row %d on" % given, room.ask(b"1 FETCH report %d\n" % REPORT_PART).reply, rows_reply(part, 1))
-                given += len(part)
-        expect("how much of the report was given", given, REPORT_ROWS)
-        expect_clearing(room, room.accepted([b"1 CLOSE report\n"])[0].garbage, living)
-        expect("the rows after all", room.ask(b"0 SELECT t\n").reply, rows_reply(map_rows(living)))
+        writer = Writer(range(0, 2 * REPORT_ROWS, 2))
+        rows = sorted(writer.seen)
+        room.accepted([ROUTE, TABLE, *map(separate, rows), b"1 OPEN report FOR t\n"])
+        for start in range(0, REPORT_ROWS, REPORT_PART):
+            writer.change(room, CHANGES * REPORT_PART // REPORT_ROWS)
+            wanted = [row_line(number, 1) for number in rows[start : start + REPORT_PART]]
+            reply = room.ask(b"1 FETCH report %d\n" % REPORT_PART).reply
+            expect("the report from row %d on" % start, reply, rows_reply(wanted, 1))
+        expect("the rest of the report", room.ask(b"1 FETCH report 1\n").reply, rows_reply([], 1))
+        writer.clear(room, room.accepted([b"1 CLOSE report\n"])[0].garbage)
+        expect("the rows after all", room.ask(b"0 SELECT t\n").reply, rows_reply(list(map(row_line, sorted(writer.living)))))
         room.expect_end()
     expect("dead records in the file that was closed", dead_records(program), 0)
-
-
-def map_rows(numbers):
-    return [row_line(number) for number in sorted(numbers)]
-
-
-def expect_clearing(room, garbage, living):
-    """Changes one after another clear 64 dead records each, until none is left."""
-    expect("there are many dead records: %d" % garbage, garbage > 5 * CLEARED, True)
-    number = 2 * REPORT_ROWS
-    while garbage:
-        if number % 3:
-            ends, [told] = 0, room.accepted([separate(number)])
-            living.add(number)
-        else:
-            ends, gone = 1, min(living)
-            [told] = room.accepted([removed(gone)])
-            living.remove(gone)
-        most = max(0, garbage + ends - CLEARED)
-        expect("at most %d dead records, not %d" % (most, told.garbage), told.garbage <= most, True)
-        garbage, number = told.garbage, number + 1
 
 
 # Pages that are held.
