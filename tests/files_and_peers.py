@@ -312,11 +312,11 @@ def a_long_table_is_read_by_its_height(program):
         expect("the height of a tree of %d rows: %d" % (rows, height), 2 <= height <= 4, True)
         with started(program, "run", "--file", file) as process:
             answers_to(process, [b"0 SAVE\n"])
-            place = 3 * rows // 2
+            place, other = 3 * (rows // 10), 3 * (rows // 12)  # of rows that were not read last
             for line, most in (
                 (b"0 SELECT WINDOW(long, A FROM %s TO %s)\n" % (measured(place), measured(place + 30)), 2 * height),
-                (long_row(rows // 3 + 0.4), height + 2),
-                (b"0 REMOVE long ON A FROM %s TO %s\n" % (measured(rows // 4 * 3), measured(rows // 4 * 3 + 1)), 2 * height + 2),
+                (long_row(rows // 8 + 0.4), height + 1),
+                (b"0 REMOVE long ON A FROM %s TO %s\n" % (measured(other), measured(other + 1)), 2 * height + 1),
             ):
                 reads = calls_for(process, line)[0]
                 expect("%d reads of %d rows for %.60r, 1 to %d" % (reads, rows, line, most), 1 <= reads <= most, True)

@@ -13,20 +13,20 @@ import concurrent.futures
 import os
 import random
 import re
+import select
 import subprocess
 import sys
 import tempfile
-from itertools import accumulate, groupby
 from typing import NamedTuple
 
 from files_and_peers import WIDE_TABLE, Ended, Unexpected, as_closed, bytes_at, expect
+from refusing import batches
 from slow_file import read
 from slow_pages import PAGE_BYTES, Pages
 
 HERE = os.path.dirname(os.path.abspath(__file__))
 PROGRAM = os.path.join(os.path.dirname(HERE), "crates", "rs_room", "out", "rs_room")
 LONGEST = 600  # seconds that a reply or an end may take
-SENT_AT_ONCE = 16_384  # bytes of lines: a pipe holds more
 SEED = 0
 
 MOST_PAGES = 1_048_576  # of any file
@@ -67,6 +67,8 @@ class Room:
         pipe = subprocess.PIPE
         words = [program, *map(str, words)]
         self.process = subprocess.Popen(words, stdin=pipe, stdout=pipe, stderr=pipe, bufsize=0)
+        self.poll = select.poll()
+        self.poll.register(self.process.stdout, select.POLLIN)
 
     def __enter__(self):
         return self
@@ -82,9 +84,7 @@ class Room:
     def ask_all(self, lines):
         """What is told of each of some lines."""
         told = []
-        batch = list(accumulate(map(len, lines)))
-        for _, group in groupby(zip(batch, lines), lambda one: one[0] // SENT_AT_ONCE):
-            some = [line for _, line in group]
+        for some in batches(lines):
             self.process.stdin.write(b"".join(some))
             told += self.told(len(some))
         return told
@@ -93,6 +93,8 @@ class Room:
         """What is told of the next lines, so many."""
         data, found = bytearray(), []
         while len(found) < count:
+            if not self.poll.poll(LONGEST * 1_000):
+                raise Unexpected("no reply within %d seconds" % LONGEST)
             piece = os.read(self.process.stdout.fileno(), 1 << 20)
             if not piece:
                 raise Unexpected("it ended after %d of %d replies: %.300r" % (len(found), count, self.end()))
