@@ -288,9 +288,9 @@ def a_line_reads_few_pages(program):
         for before, line, most, fewest in (
             (b"0 REOPEN\n", b"0 SELECT WINDOW(wide, A FROM 100 TO 110)\n", wide * (10 + 2), wide),
             (b"0 REOPEN\n", wide_row(200.5), wide + 2, 1),
-            (b"0 REOPEN\n", b"0 REMOVE wide ON A FROM 300 TO 300.001\n", 2 * wide + 2, 1),
+            (b"0 REOPEN\n", b"0 REMOVE wide ON A FROM 300 TO 300.001\n", wide + 2, 1),
             (b"0 TOTAL wide BY ()\n", narrow_row(NARROW_ROWS // 2 + 0.5), of_all + 1, 3),
-            (b"0 TOTAL wide BY ()\n", b"0 REMOVE narrow ON A FROM 7 TO 7.001\n", 2 * of_all + 1, 3),
+            (b"0 TOTAL wide BY ()\n", b"0 REMOVE narrow ON A FROM 7 TO 7.001\n", of_all + 1, 3),
             (b"0 TOTAL wide BY ()\n", b"0 SELECT WHERE(WINDOW(narrow, A FROM 400 TO 900), n = 123)\n", 2 * max(indexes) + 2, 1),
         ):
             answers_to(process, [before])
@@ -315,8 +315,8 @@ def a_long_table_is_read_by_its_height(program):
             place, other = 3 * (rows // 10), 3 * (rows // 12)  # of rows that were not read last
             for line, most in (
                 (b"0 SELECT WINDOW(long, A FROM %s TO %s)\n" % (measured(place), measured(place + 30)), 2 * height),
-                (long_row(rows // 8 + 0.4), height + 1),
-                (b"0 REMOVE long ON A FROM %s TO %s\n" % (measured(other), measured(other + 1)), 2 * height + 1),
+                (long_row(rows // 8 + 0.4), height + 2),
+                (b"0 REMOVE long ON A FROM %s TO %s\n" % (measured(other), measured(other + 1)), height + 2),
             ):
                 reads = calls_for(process, line)[0]
                 expect("%d reads of %d rows for %.60r, 1 to %d" % (reads, rows, line, most), 1 <= reads <= most, True)
