@@ -1,12 +1,17 @@
-//! These laws say that an engine is one machine, which state it stands for as a source, that its plans are chosen by that state, and
-//! that a session has a number in its range.
+//! These laws say that an engine is one machine, which lines its cursors have left, which state it stands for as a source, that its
+//! plans are chosen by that state, and that a session has a number in its range.
 
-ghost use Rattle.std.specs.Prelude.{◌<◌, List};
+ghost use Rattle.std.specs.Prelude.{◌≡◌, ◌<◌, ℕ, List, Some};
+ghost use Rattle.std.specs.FinMap as names;
 ghost use Rattle.rs_answers.specs.Counts.{AreCounted};
+ghost use Rattle.rs_cursor.specs.Held.{held_of};
+ghost use Rattle.rs_cursor.specs.declared.cursor.Cursor.{Cursor};
+ghost use Rattle.rs_engine.specs.Giving.{HasItsLines};
 ghost use Rattle.rs_engine.specs.Kept.{EngineState, IsMachine, seen_at};
 ghost use Rattle.rs_engine.specs.Laws.{StoreLaws};
 ghost use Rattle.rs_engine.specs.Reads.{IsSeenNow, StandsNow, counted_of};
 ghost use Rattle.rs_engine.specs.Single.{IsOneMachine};
+ghost use Rattle.rs_facts.specs.Fact.{Name};
 ghost use Rattle.rs_machine.specs.Served.{Machine};
 ghost use Rattle.rs_machine.specs.declared.limits.TheConstants.{SESSIONS};
 ghost use Rattle.rs_plan.specs.declared.counts.Index.{Index};
@@ -25,6 +30,13 @@ pub fn machine_is_the_only_one<D: Disk>()
 {
     stores_have_their_laws::<D>();
 }
+
+/// Whichever step left the engine so: each cursor that is open, of any session, has the machine's lines left. What `next_lines` gives of
+/// it, where that is not refused, are the first of them, since all that its clauses ask is so.
+pub fn open_cursors_have_the_lines_of_the_machine<D: Disk>()
+    ensures { (engine : EngineState D) (machine : Machine) → IsMachine D.Disk engine machine → (session : ℕ) (name : Name) (cursor : Cursor)
+        → names.get (held_of engine.cursors.held session) name ≡ Some cursor → HasItsLines D.Disk engine machine session name cursor }
+{}
 
 /// A store that stands in a state has that of what is in memory, and a change shows live versions what they were shown.
 pub(crate) fn stores_have_their_laws<D: Disk>()
