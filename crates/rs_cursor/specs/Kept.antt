@@ -4,9 +4,11 @@ use Rattle.std.specs.FinMap as maps
 use Rattle.std.specs.List.{slice_get}
 use Rattle.rs_answers.specs.Portions.{IsStart}
 use Rattle.rs_answers.specs.Routes.{entry_of}
-use Rattle.rs_answers.specs.Versions.{SeenVersion, lines_seen_on}
+use Rattle.rs_answers.specs.Versions.{LiesOnRoutes, SeenVersion, lines_seen_on}
 use Rattle.rs_answers.specs.declared.routes.NamedRoute.{NamedRoute}
 use Rattle.rs_catalog.specs.Definitions.{RouteItem}
+use Rattle.rs_cursor.specs.Held.{lines_left}
+use Rattle.rs_cursor.specs.declared.cursor.Cursor.{Cursor}
 use Rattle.rs_cursor.specs.declared.kept.KeptLines.{KeptLines}
 use Rattle.rs_cursor.specs.declared.place.Place.{Place}
 use Rattle.rs_facts.specs.Fact.{Name}
@@ -31,11 +33,23 @@ pub record IsRouteAt (seen : SeenVersion) (number : ℕ) (named : NamedRoute) : 
   pub there : slice_get (maps.entries seen.routes) number ≡ Some (entry_of named)
   pub shown : maps.get seen.routes named.name.bytes ≡ Some named.route
 
+-- The plan is evaluated at a version that is shown, in which it has rows on routes alone and this route is at the place.
+pub record IsStopOf (Shows : ℕ → SeenVersion → Type 0) (cursor : Cursor) (place : Place) (named : NamedRoute) (seen : SeenVersion) : Type 0 where
+  pub shows : Shows cursor.version seen
+  pub lies : LiesOnRoutes seen cursor.plan
+  pub at : IsRouteAt seen place.route named
+
 -- lines are appended, and of those that were left the others are left
 pub record GivesFrom (left after old new : List RowText) : Type 0 where
   pub given : List RowText
   pub parts : left ≡ given ++ after
   pub gives : new ≡ old ++ given
+
+-- From the one place to the other the lines that are appended are those of the cursor that come there, at whatever version of which this is
+-- so; the others are left.
+pub record GivesLines (Has : SeenVersion → Type 0) (cursor : Cursor) (from to : Place) (old new : List RowText) : Type 0 where
+  pub at : (versions : ℕ → SeenVersion) → Has (versions cursor.version)
+      → GivesFrom (lines_left versions (record cursor { place = from })) (lines_left versions (record cursor { place = to })) old new
 
 -- so many lines of those that were left are given, or all, and the others are left
 pub record GivesWanted (wanted : ℕ) (left given after : List RowText) : Type 0 where

@@ -6,7 +6,7 @@
 ghost use Rattle.std.specs.Prelude.{◌≡◌, ◌+◌, ◌-◌, ◌<◌, ◌≤◌, ◌^◌, ℕ, drop, length, min, take, IfOk, IfSome, vec_len};
 ghost use Rattle.rs_answers.specs.Versions.{LiesOnRoutes, SeenVersion};
 ghost use Rattle.rs_cursor.specs.Held.{lines_left};
-ghost use Rattle.rs_cursor.specs.Kept.{AreKept, AreLinesAt, GivesFrom, GivesWanted, GoesOn, IsRouteAt};
+ghost use Rattle.rs_cursor.specs.Kept.{AreKept, AreLinesAt, GivesFrom, GivesLines, GivesWanted, GoesOn, IsStopOf};
 ghost use Rattle.rs_cursor.specs.declared.cursor.Cursor.{Cursor};
 ghost use Rattle.rs_exec.specs.Leaving.{EndsWith};
 ghost use Rattle.rs_serve.specs.ReplyView.{rows_of};
@@ -112,11 +112,9 @@ fn push_lines<V: Versions>(
 ) -> Result<Place, Refusal>
     requires next { stop.now.place.route + 1 < 2 ^ 32 }
     requires some { 0 < stop.now.most }
-    ensures gives { IfOk result (λ to. (versions : ℕ → SeenVersion) → V.shows store.old cursor.now.version (versions cursor.now.version)
-        → LiesOnRoutes (versions cursor.now.version) cursor.now.plan → IsRouteAt (versions cursor.now.version) stop.now.place.route stop.now.named.now
-        → IfSome kept.old (AreKept (versions cursor.now.version) cursor.now.plan cursor.now.method)
-        → GivesFrom (lines_left versions (record cursor.now { place = stop.now.place })) (lines_left versions (record cursor.now { place = to })) (rows_of lines.old.items) (rows_of lines.new.items)) }
-    ensures keeps { (shown : SeenVersion) → V.shows store.old cursor.now.version shown → LiesOnRoutes shown cursor.now.plan → IsRouteAt shown stop.now.place.route stop.now.named.now
+    ensures gives { IfOk result (λ to. GivesLines (λ shown. IsStopOf (V.shows store.old) cursor.now stop.now.place stop.now.named.now shown
+        × IfSome kept.old (AreKept shown cursor.now.plan cursor.now.method)) cursor.now stop.now.place to (rows_of lines.old.items) (rows_of lines.new.items)) }
+    ensures keeps { (shown : SeenVersion) → IsStopOf (V.shows store.old) cursor.now stop.now.place stop.now.named.now shown
         → IfSome kept.old (AreKept shown cursor.now.plan cursor.now.method) → IfSome kept.new (AreKept shown cursor.now.plan cursor.now.method) }
     ensures goes_on { IfOk result (λ to. GoesOn stop.now.place to stop.now.most (vec_len lines.old) (vec_len lines.new)) }
     ensures ends { EndsWith V.Source store.old store.new result }
@@ -158,10 +156,9 @@ fn push_formed<V: Versions>(
 ) -> Result<Place, Refusal>
     requires next { stop.now.place.route + 1 < 2 ^ 32 }
     requires some { 0 < stop.now.most }
-    ensures gives { IfOk result (λ to. (versions : ℕ → SeenVersion) → V.shows store.old cursor.now.version (versions cursor.now.version)
-        → LiesOnRoutes (versions cursor.now.version) cursor.now.plan → IsRouteAt (versions cursor.now.version) stop.now.place.route stop.now.named.now
-        → GivesFrom (lines_left versions (record cursor.now { place = stop.now.place })) (lines_left versions (record cursor.now { place = to })) (rows_of lines.old.items) (rows_of lines.new.items)) }
-    ensures keeps { (shown : SeenVersion) → V.shows store.old cursor.now.version shown → LiesOnRoutes shown cursor.now.plan → IsRouteAt shown stop.now.place.route stop.now.named.now
+    ensures gives { IfOk result (λ to. GivesLines (IsStopOf (V.shows store.old) cursor.now stop.now.place stop.now.named.now)
+        cursor.now stop.now.place to (rows_of lines.old.items) (rows_of lines.new.items)) }
+    ensures keeps { (shown : SeenVersion) → IsStopOf (V.shows store.old) cursor.now stop.now.place stop.now.named.now shown
         → IfSome kept.new (AreKept shown cursor.now.plan cursor.now.method) }
     ensures goes_on { IfOk result (λ to. GoesOn stop.now.place to stop.now.most (vec_len lines.old) (vec_len lines.new)) }
     ensures ends { EndsWith V.Source store.old store.new result }

@@ -29,13 +29,13 @@ loop-place-preserved g c =
           let each = lines_seen_on shown cursor.plan cursor.method in
           let now = g.met.V.Versions.shows_stay store c.loop-place.store before.leaves.passes cursor.version shown shows in
           let at = route-at shown routes place.route named (c.in_ok-routes.ensures.shown shown shows) (omega arith) c.index.ensures in
-          let gives = after.gives (λ (version : ℕ). shown) now lies at (before.keeps shown shows lies kept) in
+          let gives = after.gives.at (λ (version : ℕ). shown) (record { shows = now; lies = lies; at = at }, before.keeps shown shows lies kept) in
           lines-more (lines_from each entries cursor.place) (rows_of c.loop-place.lines.items) gives.given (rows_of c.push_lines.new.lines.items) (lines_from each entries place)
           (lines_from each entries c.in_ok-place.place) (before.parted shown shows lies kept) gives.parts gives.gives;
       keeps = λ shown shows lies kept.
           let now = g.met.V.Versions.shows_stay store c.loop-place.store before.leaves.passes cursor.version shown shows in
           let at = route-at shown routes place.route named (c.in_ok-routes.ensures.shown shown shows) (omega arith) c.index.ensures in
-          after.keeps shown now lies at (before.keeps shown shows lies kept);
+          after.keeps shown (record { shows = now; lies = lies; at = at }) (before.keeps shown shows lies kept);
     }
 
 pub returns-in_err-place-clause-keeps : goal.returns-in_err-place-clause-keeps
@@ -44,7 +44,7 @@ returns-in_err-place-clause-keeps g c = λ shown shows lies kept.
     let place = c.loop-place.place in
     let now = g.met.V.Versions.shows_stay c.args.store.now c.loop-place.store before.leaves.passes c.args.cursor.now.version shown shows in
     let at = route-at shown c.in_ok-routes.routes.items place.route c.index.result.now (c.in_ok-routes.ensures.shown shown shows) (omega arith) c.index.ensures in
-    c.in_err-place.ensures.keeps shown now lies at (before.keeps shown shows lies kept)
+    c.in_err-place.ensures.keeps shown (record { shows = now; lies = lies; at = at }) (before.keeps shown shows lies kept)
 
 pub returns-clause-given : goal.returns-clause-given
 returns-clause-given g c = λ versions shows lies kept.
