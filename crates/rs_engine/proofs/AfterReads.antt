@@ -1,9 +1,13 @@
 -- A command that is served after a read: it is served as if the read had not been.
-use Rattle.std.proofs.Common.{◌≤◌, ℕ, Result, Ok, Err, inl, inr, arith}
+use Rattle.std.proofs.Common.{◌≡◌, ◌≤◌, ℕ, Result, Ok, Err, inl, inr, arith, refl, subst}
+use Rattle.rs_contents.specs.Contents.{Contents}
 use Rattle.rs_disk.specs.declared.disk.Disk as disk
+use Rattle.rs_engine.specs.Clearing.{HasCleared, IsServedClearing, WhereDone}
 use Rattle.rs_engine.specs.Kept.{EngineState, IsMachine}
 use Rattle.rs_engine.specs.Reads.{ReadsEngine}
 use Rattle.rs_engine.specs.Serving.{IsServed}
+use Rattle.rs_engine.proofs.Filing.{stays, stays_beside}
+use Rattle.rs_engine.proofs.Reading.{still}
 use Rattle.rs_machine.specs.Served.{Answers, CountsOn, IsUnchanged, Machine, NamesAWant, Reply}
 use Rattle.rs_machine.specs.Step.{Effect}
 use Rattle.rs_refusal.specs.Counts.{Rose}
@@ -42,4 +46,16 @@ module _ {D : Type 0} (d : disk.Ghosts D) (old new : EngineState D) (machine : M
     next = served.next;
     is = served.is;
     answer = elim served.answer [ inl answers ↦ inl (answers_from outcome reply served.next answers) | inr wants ↦ inr (wants_from reply served.next wants) ];
+  }
+
+  -- it has cleared what it would have cleared without the read
+  pub same_contents : (still d old new machine is reads).stands.contents ≡ is.stands.contents
+  unfolding still stays stays_beside
+  same_contents = refl
+
+  pub cleared_after : {changes : Contents → Contents → Type 0} (outcome : Result Effect Refusal) (reply : Reply) (final : EngineState D)
+      → IsServedClearing d changes outcome read_machine (still d old new machine is reads).stands.contents reply final → IsServedClearing d changes outcome machine is.stands.contents reply final
+  cleared_after {changes = changes} outcome reply final clearing = record {
+    served = served_after outcome reply final clearing.served;
+    cleared = subst (λ (before : Contents). WhereDone reply (HasCleared d changes before final)) same_contents clearing.cleared;
   }

@@ -15,6 +15,7 @@ use Rattle.rs_cursor.proofs.HeldLaws.{cases_put, held_before}
 use Rattle.rs_cursor.proofs.MachineCursors.{cursors_by-insert, cursors_by-remove, get-cursors_by}
 use Rattle.rs_disk.specs.declared.disk.Disk as disk
 use Rattle.rs_facts.specs.Fact.{Name, Names}
+use Rattle.rs_engine.specs.Clearing.{ByClose, IsServedClearing}
 use Rattle.rs_engine.specs.Giving.{GivesNext}
 use Rattle.rs_engine.specs.Kept.{AreLive, EngineState, IsLive, IsMachine, seen_at, with_cursors}
 use Rattle.rs_engine.specs.Reads.{ReadsCursor, WantsRead}
@@ -23,7 +24,8 @@ use Rattle.rs_engine.specs.declared.engine.open.OpenCursors.{OpenCursors}
 use Rattle.rs_engine.specs.Serving.{IsServed}
 use Rattle.rs_engine.specs.Laws.{StoreLaws}
 use Rattle.rs_engine.proofs.Machines.{LiveBeside, as_it_was, beside_of, counted_later, counted_rose, lines_on, stands_from, still_live}
-use Rattle.rs_engine.proofs.Filing.{stays_beside}
+use Rattle.rs_engine.proofs.Clearing.{cleared_by_close, refused_clearing}
+use Rattle.rs_engine.proofs.Filing.{changes_of, stays_beside}
 use Rattle.rs_engine.proofs.Reading.{refused_by_machine, wanting}
 use Rattle.rs_engine.proofs.Stepping.{StepsAreLawful}
 use Rattle.rs_machine.specs.Checks.{◌>>=◌, found}
@@ -31,7 +33,7 @@ use Rattle.rs_machine.specs.Lawful.{IsLawful}
 use Rattle.rs_machine.specs.Served.{Machine, done, refused}
 use Rattle.rs_machine.specs.State.{Cursors, RowText, State, cursors_at, has}
 use Rattle.rs_machine.specs.Step.{Effect, counted, cursor_closed, cursor_opened, effect, rows_fetched, with_cursor}
-use Rattle.rs_machine.specs.declared.limits.TheConstants.{SESSIONS}
+use Rattle.rs_machine.specs.declared.limits.TheConstants.{CHANGES, SESSIONS}
 use Rattle.rs_methods.specs.declared.position.Method.{Method}
 use Rattle.rs_serve.specs.ReplyView.{rows_of}
 use Rattle.rs_syntax.specs.Sound.{IsSound}
@@ -248,7 +250,7 @@ module _ {D : Type 0} (d : disk.Ghosts D) where
           → IsOldest (held_at session (names.remove (held_of old.cursors.held session) name) (held_of old.cursors.held)) old.store.file.accepted oldest
           → (old.oldest ≤ oldest → oldest ≤ old.store.file.accepted → HasReleased d oldest gone is.stands.contents new.store is.state) → LeavesReleased d {T = ℕ} (Ok gone) old.store new.store
           → new.oldest ≡ oldest → new.cursors.ahead ≡ None → held_of new.cursors.held ≡ held_at session (names.remove (held_of old.cursors.held session) name) (held_of old.cursors.held)
-          → IsServed d (cursor_closed machine.state session name) machine (done [] 0) new
+          → IsServedClearing d ByClose (cursor_closed machine.state session name) machine is.stands.contents (done [] 0) new
       closed there oldest gone least releases leaves lowest empty left =
           let held : ℕ → Names Cursor = held_of old.cursors.held in
           let versions = seen_at is.stands.contents in
@@ -268,24 +270,28 @@ module _ {D : Type 0} (d : disk.Ghosts D) where
           let beside : beside_of new ≡ record { oldest = oldest; accepted = old.store.file.accepted; cursors = new.cursors } = λ i. record { oldest = lowest i; accepted = accepted i; cursors = new.cursors } in
           let state : State = with_cursors (cursors_by (lines_left versions) new.cursors.held) machine.state in
           let out = close_there machine.state (lines_left versions) old.cursors.held (cursors_are old machine is) session name new.cursors.held there left in
-          subst (λ (o : Result Effect Refusal). IsServed d o machine (done [] 0) new) (sym out) (record {
-            next = record { state = state; failures = d.failures new.store.pager.disk; full_refusals = new.store.pager.full_refusals };
-            is = record {
-              state = is.state;
-              stands = stands_from d oldest new.oldest new.store is.state (sym lowest) released.stands;
-              live = subst (LiveBeside released.stands.contents) (sym beside) live;
-              is = ap (with_cursors (cursors_by (lines_left versions) new.cursors.held)) is.is ∙ ap (λ (cursors : ℕ → Cursors). with_cursors cursors is.state) (sym lines);
-              lawful = steps machine.state session (tree.close_cursor name) (counted 0 state) below sound is.lawful out;
-              failures = refl;
-              full_refusals = refl;
-              within = omega (arith, is.within, leaves.limit);
-            };
-            answer = inl (refl, refl, record { failures = omega (arith, is.failures, leaves.failures); full_refusals = omega (arith, is.full_refusals, leaves.full) });
-          })
+          let within : old.store.file.accepted ≤ CHANGES = omega (arith, changes_of d old.oldest old.store is.state is.stands, ap (λ (state : State). state.changes) is.is, is.lawful.limits.changes) in
+          record {
+            served = subst (λ (o : Result Effect Refusal). IsServed d o machine (done [] 0) new) (sym out) (record {
+              next = record { state = state; failures = d.failures new.store.pager.disk; full_refusals = new.store.pager.full_refusals };
+              is = record {
+                state = is.state;
+                stands = stands_from d oldest new.oldest new.store is.state (sym lowest) released.stands;
+                live = subst (LiveBeside released.stands.contents) (sym beside) live;
+                is = ap (with_cursors (cursors_by (lines_left versions) new.cursors.held)) is.is ∙ ap (λ (cursors : ℕ → Cursors). with_cursors cursors is.state) (sym lines);
+                lawful = steps machine.state session (tree.close_cursor name) (counted 0 state) below sound is.lawful out;
+                failures = refl;
+                full_refusals = refl;
+                within = omega (arith, is.within, leaves.limit);
+              };
+              answer = inl (refl, refl, record { failures = omega (arith, is.failures, leaves.failures); full_refusals = omega (arith, is.full_refusals, leaves.full) });
+            });
+            cleared = cleared_by_close d old new is.stands.contents is.state (held_at session (names.remove (held session) name) held) oldest gone least left accepted lowest within released;
+          }
 
       -- the store refused to clear records
       pub close_refused : (why : Refusal) → LeavesReleased d {T = ℕ} (Err why) old.store new.store → (new.cursors ≡ old.cursors) × (new.oldest ≡ old.oldest)
-          → IsServed d (cursor_closed machine.state session name) machine (refused why) new
+          → IsServedClearing d ByClose (cursor_closed machine.state session name) machine is.stands.contents (refused why) new
       close_refused why leaves same =
           let beside : beside_of new ≡ beside_of old = λ i. record { oldest = same.1 i; accepted = leaves.accepted i; cursors = same.0 i } in
           let next : Machine = record { state = machine.state; failures = d.failures new.store.pager.disk; full_refusals = new.store.pager.full_refusals } in
@@ -294,7 +300,7 @@ module _ {D : Type 0} (d : disk.Ghosts D) where
             | inr (inl failed) ↦ omega (arith, is.failures, leaves.failures.disk failed, counted_later (d.failures old.store.pager.disk))
             | inr (inr damaged) ↦ absurd (leaves.sound old.oldest is.state is.stands (ap Err damaged))
           ] in
-          record {
+          let served : IsServed d (cursor_closed machine.state session name) machine (refused why) new = record {
             next = next;
             is = as_it_was d old new machine is leaves.stays beside leaves.limit;
             answer = inr (
@@ -309,4 +315,5 @@ module _ {D : Type 0} (d : disk.Ghosts D) where
                 | inr (inr damaged) ↦ absurd (leaves.sound old.oldest is.state is.stands (ap Err damaged))
               ],
             );
-          }
+          } in
+          refused_clearing d served

@@ -128,7 +128,7 @@ module _ {D : Type 0} (d : disk.Ghosts D) where
   -- ---- an engine whose store keeps what it kept
 
   -- it is the machine that it was, but for the count of failures, though lines that were formed ahead may be others
-  pub stays_beside : (old new : EngineState D) (machine : Machine) (is : IsMachine d old machine) → ((contents : Contents) → Keeps d old.store contents → Keeps d new.store contents)
+  unfoldable pub stays_beside : (old new : EngineState D) (machine : Machine) (is : IsMachine d old machine) → ((contents : Contents) → Keeps d old.store contents → Keeps d new.store contents)
       → new.store.pager.full_refusals ≡ old.store.pager.full_refusals → new.store.pager.limit ≡ old.store.pager.limit → new.oldest ≡ old.oldest → new.cursors.held ≡ old.cursors.held
       → AreAhead (seen_at is.stands.contents) new.cursors → IsMachine d new (record machine { failures = d.failures new.store.pager.disk })
   stays_beside old new machine is keeps full limit low same ahead =
@@ -157,7 +157,7 @@ module _ {D : Type 0} (d : disk.Ghosts D) where
         within = omega (arith, is.within, limit);
       }
 
-  pub stays : (old new : EngineState D) (machine : Machine) → IsMachine d old machine → ((contents : Contents) → Keeps d old.store contents → Keeps d new.store contents)
+  unfoldable pub stays : (old new : EngineState D) (machine : Machine) → IsMachine d old machine → ((contents : Contents) → Keeps d old.store contents → Keeps d new.store contents)
       → new.store.pager.full_refusals ≡ old.store.pager.full_refusals → new.store.pager.limit ≡ old.store.pager.limit → new.oldest ≡ old.oldest → new.cursors ≡ old.cursors
       → IsMachine d new (record machine { failures = d.failures new.store.pager.disk })
   stays old new machine is keeps full limit low same =

@@ -13,6 +13,7 @@ pub mod Stepping
 pub mod Present
 pub mod Reading
 pub mod Checking
+pub mod Clearing
 pub mod CursorSteps
 pub mod Tables
 pub mod Saving

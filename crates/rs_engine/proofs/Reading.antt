@@ -64,7 +64,7 @@ module _ {D : Type 0} (d : disk.Ghosts D) where
     wanting outcome why (inr (inr damaged)) = absurd (damaged.1.none is.state is.stands)
 
   module _ (old new : EngineState D) (machine : Machine) (is : IsMachine d old machine) (reads : ReadsEngine d old new) where
-    pub still : IsMachine d new (read_on new machine)
+    unfoldable pub still : IsMachine d new (read_on new machine)
     still = stays d old new machine is reads.store.keeps.contents reads.store.keeps.full reads.store.keeps.limit reads.oldest reads.cursors
 
     pub read_wanted : (outcome : Result Effect Refusal) (why : Refusal) → WantsRead d why old new → IsServed d outcome machine (refused why) new

@@ -2,9 +2,12 @@
 use Rattle.std.proofs.Common.{◌≡◌, ◌∙◌, ◌<◌, ◌≤◌, ◌+◌, ◌⊎◌, ℕ, Result, Ok, Err, [], ap, false, inl, inr, refl, subst, sym, arith}
 use Rattle.rs_command_checks.specs.States.{Unseen, state_by}
 use Rattle.rs_command_checks.specs.declared.checks.Checks.{Checks}
+use Rattle.rs_contents.specs.Contents.{Contents}
 use Rattle.rs_disk.specs.declared.disk.Disk as disk
 use Rattle.rs_engine.specs.Kept.{AreChecksOf, EngineState, IsMachine, IsOldestIn, with_cursors}
+use Rattle.rs_engine.specs.Clearing.{ByChange, IsServedClearing}
 use Rattle.rs_engine.specs.Serving.{IsServed}
+use Rattle.rs_engine.proofs.Clearing.{cleared_by_change, refused_clearing}
 use Rattle.rs_engine.proofs.Machines.{at_machine, cursors_in, made_by_store, refused_by_checks, refused_by_store, wanting_memory}
 use Rattle.rs_engine.proofs.Nobody.{nobody_waits}
 use Rattle.rs_engine.specs.Laws.{StoreLaws}
@@ -68,16 +71,18 @@ module _ (steps : StepsAreLawful) where
         -- the store made the change
         pub step_made : {T : Type 0} (may : State → Type 0) (new : EngineState D) (answer : T) → LeavesStore d may {T = T} (Ok answer) old.store new.store
             → (new.cursors ≡ old.cursors) × (new.oldest ≡ oldest)
-            → HasBecome d oldest is.stands.contents new.store (step is.state) → IsServed d (outcome machine.state 0 tree) machine (done [] count) new
-        step_made may new answer leaves same becomes =
-            made_by_store d laws old new machine is (step is.state) oldest least becomes same.0 may (outcome machine.state 0 tree) answer count leaves same.1
-            (out ∙ ap (λ (state : State). Ok (counted count state)) next_beside) next_lawful
+            → HasBecome d oldest is.stands.contents new.store (step is.state) → IsServedClearing d ByChange (outcome machine.state 0 tree) machine is.stands.contents (done [] count) new
+        step_made may new answer leaves same becomes = record {
+          served = made_by_store d laws old new machine is (step is.state) oldest least becomes same.0 may (outcome machine.state 0 tree) answer count leaves same.1
+              (out ∙ ap (λ (state : State). Ok (counted count state)) next_beside) next_lawful;
+          cleared = cleared_by_change d old new is.stands.contents (step is.state) oldest least same.0 leaves.accepted same.1 next_lawful_alone becomes;
+        }
 
       -- the store refused it
       pub step_refused : {T : Type 0} (may : State → Type 0) (new : EngineState D) (why : Refusal) → LeavesStore d may {T = T} (Err why) old.store new.store → (new.cursors ≡ old.cursors) × (new.oldest ≡ old.oldest)
-          → (IsLawful (step is.state) → may is.state) → IsServed d (outcome machine.state 0 tree) machine (refused why) new
-      step_refused may new why leaves same allowed =
-          refused_by_store d may old new machine is (outcome machine.state 0 tree) why leaves same (allowed next_lawful_alone)
+          → (IsLawful (step is.state) → may is.state) → (before : Contents) → IsServedClearing d ByChange (outcome machine.state 0 tree) machine before (refused why) new
+      step_refused may new why leaves same allowed before =
+          refused_clearing d (refused_by_store d may old new machine is (outcome machine.state 0 tree) why leaves same (allowed next_lawful_alone))
 
 -- ---- a call that checks its command, and then has the store make the change
 
@@ -85,6 +90,10 @@ module _ (steps : StepsAreLawful) {D : Type 0} (d : disk.Ghosts D) (laws : Store
     (machine : Machine) (here : IsMachine d was machine) (tree : CommandTree) where
   abbrev before : IsMachine d old machine
   before = subst (λ (engine : EngineState D). IsMachine d engine machine) (sym same) here
+
+  -- it is answered so, and has cleared what it owes of what the store kept
+  abbrev pub Answered : Reply → EngineState D → Type 0
+  Answered = IsServedClearing d ByChange (outcome machine.state 0 tree) machine here.stands.contents
 
   -- what is so whichever spans tables have is so of the machine's state
   abbrev pub Found : Type 1
@@ -102,28 +111,27 @@ module _ (steps : StepsAreLawful) {D : Type 0} (d : disk.Ghosts D) (laws : Store
 
   -- the machine refuses it, and so did the checks
   pub check_refused_at : (result : Result ℕ Refusal) (answer : Result ℕ Refusal → Reply) (why : Refusal) (new : EngineState D) → new ≡ was → result ≡ Err why → answer (Err why) ≡ refused why
-      → outcome machine.state 0 tree ≡ Err why → IsServed d (outcome machine.state 0 tree) machine (answer result) new
+      → outcome machine.state 0 tree ≡ Err why → Answered (answer result) new
   check_refused_at result answer why new unchanged is says refuses =
-      subst (λ (reply : Reply). IsServed d (outcome machine.state 0 tree) machine reply new) (sym (ap answer is ∙ says))
-      (refused_by_checks d was new machine here unchanged (outcome machine.state 0 tree) why refuses)
+      subst (λ (reply : Reply). Answered reply new) (sym (ap answer is ∙ says))
+      (refused_clearing d (refused_by_checks d was new machine here unchanged (outcome machine.state 0 tree) why refuses))
 
   -- the checks refused it
   pub check_refused : (result : Result ℕ Refusal) (answer : Result ℕ Refusal → Reply) (why : Refusal) (new : EngineState D) → new ≡ was → result ≡ Err why → answer (Err why) ≡ refused why
-      → ((unseen : Unseen) → outcome (state_by checks unseen) 0 tree ≡ Err why) → IsServed d (outcome machine.state 0 tree) machine (answer result) new
+      → ((unseen : Unseen) → outcome (state_by checks unseen) 0 tree ≡ Err why) → Answered (answer result) new
   check_refused result answer why new unchanged is says out =
-      subst (λ (reply : Reply). IsServed d (outcome machine.state 0 tree) machine reply new) (sym (ap answer is ∙ says))
-      (refused_by_checks d was new machine here unchanged (outcome machine.state 0 tree) why (found (λ (state : State). outcome state 0 tree ≡ Err why) out))
+      check_refused_at result answer why new unchanged is says (found (λ (state : State). outcome state 0 tree ≡ Err why) out)
 
   -- they did, or memory was wanting
   pub check_wanting : (result : Result ℕ Refusal) (answer : Result ℕ Refusal → Reply) (why : Refusal) (new : EngineState D) → new ≡ was → result ≡ Err why → answer (Err why) ≡ refused why
-      → ((unseen : Unseen) → (why ≡ OutOfMemory) ⊎ (outcome (state_by checks unseen) 0 tree ≡ Err why)) → IsServed d (outcome machine.state 0 tree) machine (answer result) new
+      → ((unseen : Unseen) → (why ≡ OutOfMemory) ⊎ (outcome (state_by checks unseen) 0 tree ≡ Err why)) → Answered (answer result) new
   check_wanting result answer why new unchanged is says out =
-      subst (λ (reply : Reply). IsServed d (outcome machine.state 0 tree) machine reply new) (sym (ap answer is ∙ says))
-      (elim (found (λ (state : State). (why ≡ OutOfMemory) ⊎ (outcome state 0 tree ≡ Err why)) out) [
+      let served : IsServed d (outcome machine.state 0 tree) machine (refused why) new = elim (found (λ (state : State). (why ≡ OutOfMemory) ⊎ (outcome state 0 tree ≡ Err why)) out) [
         | inl memory ↦ subst (λ (w : Refusal). IsServed d (outcome machine.state 0 tree) machine (refused w) new) (sym memory)
             (wanting_memory d was new machine here unchanged (outcome machine.state 0 tree))
         | inr refuses ↦ refused_by_checks d was new machine here unchanged (outcome machine.state 0 tree) why refuses
-      ])
+      ] in
+      subst (λ (reply : Reply). Answered reply new) (sym (ap answer is ∙ says)) (refused_clearing d served)
 
   -- versions from the oldest one on are looked at once the change is made
   abbrev pub IsLeast : ℕ → Type 0
@@ -149,21 +157,22 @@ module _ (steps : StepsAreLawful) {D : Type 0} (d : disk.Ghosts D) (laws : Store
       pub made_at : {T : Type 0} (may : State → Type 0) (new : EngineState D) (answer : T) → LeavesStore d may {T = T} (Ok answer) old.store new.store
           → (oldest : ℕ) → (new.cursors ≡ old.cursors) × (new.oldest ≡ oldest) → IsLeast oldest
           → ((is : IsMachine d old machine) → FoundOf is → old.oldest ≤ oldest → oldest ≤ old.store.file.accepted + 1 → AloneAt oldest
-          → IsLawful (step is.state) → HasBecome d oldest is.stands.contents new.store (step is.state)) → IsServed d (outcome machine.state 0 tree) machine (done [] count) new
+          → IsLawful (step is.state) → HasBecome d oldest is.stands.contents new.store (step is.state)) → Answered (done [] count) new
       made_at may new answer leaves oldest stays least becomes =
           let least_here = least_of oldest least in
-          step_made steps d laws old machine before tree sound step takes count out oldest least_here may new answer leaves stays
-          (becomes before (found_of before) (oldest_after steps d laws old machine before tree sound step takes count out oldest least_here) least_here.within
-          (oldest_alone steps d laws old machine before tree sound step takes count out oldest least_here)
-          (next_lawful_alone steps d laws old machine before tree sound step takes count out))
+          subst (λ (engine : EngineState D). (is : IsMachine d engine machine) → IsServedClearing d ByChange (outcome machine.state 0 tree) machine is.stands.contents (done [] count) new) same
+          (λ is. step_made steps d laws old machine is tree sound step takes count out oldest least_here may new answer leaves stays
+          (becomes is (found_of is) (oldest_after steps d laws old machine is tree sound step takes count out oldest least_here) least_here.within
+          (oldest_alone steps d laws old machine is tree sound step takes count out oldest least_here)
+          (next_lawful_alone steps d laws old machine is tree sound step takes count out))) here
 
       -- the store refused it
       pub refused_at : {T : Type 0} (may : State → Type 0) (new : EngineState D) (result : Result ℕ Refusal) (answer : Result ℕ Refusal → Reply) (why : Refusal)
           → LeavesStore d may {T = T} (Err why) old.store new.store → (new.cursors ≡ old.cursors) × (new.oldest ≡ old.oldest) → ((is : IsMachine d old machine) → FoundOf is → IsLawful (step is.state) → may is.state)
-          → result ≡ Err why → answer (Err why) ≡ refused why → IsServed d (outcome machine.state 0 tree) machine (answer result) new
+          → result ≡ Err why → answer (Err why) ≡ refused why → Answered (answer result) new
       refused_at may new result answer why leaves stays allowed is says =
-          subst (λ (reply : Reply). IsServed d (outcome machine.state 0 tree) machine reply new) (sym (ap answer is ∙ says))
-          (step_refused steps d laws old machine before tree sound step takes count out may new why leaves stays (allowed before (found_of before)))
+          subst (λ (reply : Reply). Answered reply new) (sym (ap answer is ∙ says))
+          (step_refused steps d laws old machine before tree sound step takes count out may new why leaves stays (allowed before (found_of before)) here.stands.contents)
 
     -- the same where the checks accept it whatever they don't look at
     module _ (accepted : (unseen : Unseen) → outcome (state_by checks unseen) 0 tree ≡ Ok (counted count (step (state_by checks unseen)))) where
@@ -173,10 +182,10 @@ module _ (steps : StepsAreLawful) {D : Type 0} (d : disk.Ghosts D) (laws : Store
       pub change_made : {T : Type 0} (may : State → Type 0) (new : EngineState D) (answer : T) → LeavesStore d may {T = T} (Ok answer) old.store new.store
           → (oldest : ℕ) → (new.cursors ≡ old.cursors) × (new.oldest ≡ oldest) → IsLeast oldest
           → ((is : IsMachine d old machine) → FoundOf is → old.oldest ≤ oldest → oldest ≤ old.store.file.accepted + 1 → AloneAt oldest
-          → IsLawful (step is.state) → HasBecome d oldest is.stands.contents new.store (step is.state)) → IsServed d (outcome machine.state 0 tree) machine (done [] count) new
+          → IsLawful (step is.state) → HasBecome d oldest is.stands.contents new.store (step is.state)) → Answered (done [] count) new
       change_made = made_at out
 
       pub change_refused : {T : Type 0} (may : State → Type 0) (new : EngineState D) (result : Result ℕ Refusal) (answer : Result ℕ Refusal → Reply) (why : Refusal)
           → LeavesStore d may {T = T} (Err why) old.store new.store → (new.cursors ≡ old.cursors) × (new.oldest ≡ old.oldest) → ((is : IsMachine d old machine) → FoundOf is → IsLawful (step is.state) → may is.state)
-          → result ≡ Err why → answer (Err why) ≡ refused why → IsServed d (outcome machine.state 0 tree) machine (answer result) new
+          → result ≡ Err why → answer (Err why) ≡ refused why → Answered (answer result) new
       change_refused = refused_at out

@@ -1,4 +1,5 @@
 pub mod Ahead
+pub mod Clearing
 pub mod Files
 pub mod Giving
 pub mod Kept

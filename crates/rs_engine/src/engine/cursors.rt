@@ -11,6 +11,7 @@ ghost use Rattle.rs_checker.specs.CheckedView.{query_of};
 ghost use Rattle.rs_cursor.specs.Held.{held_at, held_of, lines_left};
 ghost use Rattle.rs_cursor.specs.declared.cursor.Cursor.{Cursor};
 ghost use Rattle.rs_engine.specs.Ahead.{AreAhead};
+ghost use Rattle.rs_engine.specs.Clearing.{ByClose, ServesClearing};
 ghost use Rattle.rs_engine.specs.Giving.{GivesNext};
 ghost use Rattle.rs_engine.specs.Kept.{IsMachine, seen_at};
 ghost use Rattle.rs_engine.specs.Reads.{ReadsCursor, WantsRead};
@@ -84,7 +85,7 @@ impl<D: Disk> Engine<D> {
     /// they are fewer. After a refusal (90, 91) the cursor is as it was.
     pub(crate) fn close_cursor(&mut self, session: Session, name: &Name) -> Result<u128, Refusal>
         requires sound { IsSound (tree.close_cursor name.now.bytes) }
-        ensures serves { Serves D.Disk (λ (state : State). cursor_closed state session name.now.bytes) (count_reply_of result) self.old self.new }
+        ensures serves { ServesClearing D.Disk ByClose (λ (state : State). cursor_closed state session name.now.bytes) (count_reply_of result) self.old self.new }
     {
         accepted_step_leaves_the_state_lawful();
         session_is_in_range(session);

@@ -5,7 +5,7 @@ ghost use Rattle.rs_command_checks.specs.Facts.{TellsOfFacts};
 ghost use Rattle.rs_engine.specs.Kept.{IsMachine};
 ghost use Rattle.rs_engine.specs.Reads.{ReadsEngine, WantsRead};
 ghost use Rattle.rs_engine.specs.Replied.{count_reply_of};
-ghost use Rattle.rs_engine.specs.Serving.{IsServed, Serves};
+ghost use Rattle.rs_engine.specs.Clearing.{ByChange, IsServedClearing, ServesClearing};
 ghost use Rattle.rs_machine.specs.Served.{Machine};
 ghost use Rattle.rs_machine.specs.Step.{alignment_dropped, index_dropped, route_dropped, table_dropped, view_dropped};
 ghost use Rattle.rs_syntax.specs.Sound.{IsSound};
@@ -24,7 +24,7 @@ impl<D: Disk> Engine<D> {
     /// is on it, or a session has a cursor (23); 27.
     pub(crate) fn drop_route(&mut self, name: &Name) -> Result<u128, Refusal>
         requires sound { IsSound (tree.drop_route name.now.bytes) }
-        ensures serves { Serves D.Disk (λ state. route_dropped state name.now.bytes) (count_reply_of result) self.old self.new }
+        ensures serves { ServesClearing D.Disk ByChange (λ state. route_dropped state name.now.bytes) (count_reply_of result) self.old self.new }
     {
         let has_facts = self.has_facts(name)?;
         self.take_route(name, has_facts)
@@ -46,8 +46,8 @@ impl<D: Disk> Engine<D> {
     /// Drops a route, of which the caller says whether some table has a fact on it.
     fn take_route(&mut self, name: &Name, has_facts: bool) -> Result<u128, Refusal>
         requires sound { IsSound (tree.drop_route name.now.bytes) }
-        ensures serves { (machine : Machine) → IsMachine D.Disk self.old machine → TellsOfFacts machine.state name.now.bytes has_facts
-            → IsServed D.Disk (route_dropped machine.state name.now.bytes) machine (count_reply_of result) self.new }
+        ensures serves { (machine : Machine) (is : IsMachine D.Disk self.old machine) → TellsOfFacts machine.state name.now.bytes has_facts
+            → IsServedClearing D.Disk ByChange (route_dropped machine.state name.now.bytes) machine is.stands.contents (count_reply_of result) self.new }
     {
         stores_have_their_laws::<D>();
         accepted_step_leaves_the_state_lawful();
@@ -61,7 +61,7 @@ impl<D: Disk> Engine<D> {
     /// Drops a table with its facts and its indexes. Checks, in order: 21; a view names it, or a session has a cursor (23); 27.
     pub(crate) fn drop_table(&mut self, name: &Name) -> Result<u128, Refusal>
         requires sound { IsSound (tree.drop_table name.now.bytes) }
-        ensures serves { Serves D.Disk (λ state. table_dropped state name.now.bytes) (count_reply_of result) self.old self.new }
+        ensures serves { ServesClearing D.Disk ByChange (λ state. table_dropped state name.now.bytes) (count_reply_of result) self.old self.new }
     {
         stores_have_their_laws::<D>();
         accepted_step_leaves_the_state_lawful();
@@ -75,7 +75,7 @@ impl<D: Disk> Engine<D> {
     /// Drops an index. Checks, in order: 21; a session has a cursor (23); 27.
     pub(crate) fn drop_index(&mut self, name: &Name) -> Result<u128, Refusal>
         requires sound { IsSound (tree.drop_index name.now.bytes) }
-        ensures serves { Serves D.Disk (λ state. index_dropped state name.now.bytes) (count_reply_of result) self.old self.new }
+        ensures serves { ServesClearing D.Disk ByChange (λ state. index_dropped state name.now.bytes) (count_reply_of result) self.old self.new }
     {
         stores_have_their_laws::<D>();
         accepted_step_leaves_the_state_lawful();
@@ -89,7 +89,7 @@ impl<D: Disk> Engine<D> {
     /// Drops a view. Checks, in order: 21; a view names it (23); 27.
     pub(crate) fn drop_view(&mut self, name: &Name) -> Result<u128, Refusal>
         requires sound { IsSound (tree.drop_view name.now.bytes) }
-        ensures serves { Serves D.Disk (λ state. view_dropped state name.now.bytes) (count_reply_of result) self.old self.new }
+        ensures serves { ServesClearing D.Disk ByChange (λ state. view_dropped state name.now.bytes) (count_reply_of result) self.old self.new }
     {
         stores_have_their_laws::<D>();
         accepted_step_leaves_the_state_lawful();
@@ -103,7 +103,7 @@ impl<D: Disk> Engine<D> {
     /// Drops an alignment. Checks, in order: 21; a view names it (23); 27.
     pub(crate) fn drop_alignment(&mut self, name: &Name) -> Result<u128, Refusal>
         requires sound { IsSound (tree.drop_alignment name.now.bytes) }
-        ensures serves { Serves D.Disk (λ state. alignment_dropped state name.now.bytes) (count_reply_of result) self.old self.new }
+        ensures serves { ServesClearing D.Disk ByChange (λ state. alignment_dropped state name.now.bytes) (count_reply_of result) self.old self.new }
     {
         stores_have_their_laws::<D>();
         accepted_step_leaves_the_state_lawful();

@@ -1,7 +1,7 @@
 //! The commands that put a row into a table and that take rows away.
 
 ghost use Rattle.rs_engine.specs.Replied.{count_reply_of};
-ghost use Rattle.rs_engine.specs.Serving.{Serves};
+ghost use Rattle.rs_engine.specs.Clearing.{ByChange, ServesClearing};
 ghost use Rattle.rs_machine.specs.Step.{row_inserted, rows_removed};
 ghost use Rattle.rs_syntax.specs.QueryView.{window_tree};
 ghost use Rattle.rs_syntax.specs.Sound.{IsSound};
@@ -30,7 +30,7 @@ impl<D: Disk> Engine<D> {
         values: &[Literal],
     ) -> Result<u128, Refusal>
         requires sound { IsSound (tree.insert table.now.bytes route.now.bytes (location_tree place.now) (literal_row values.now)) }
-        ensures serves { Serves D.Disk (λ state. row_inserted state table.now.bytes route.now.bytes (location_tree place.now) (literal_row values.now)) (count_reply_of result) self.old self.new }
+        ensures serves { ServesClearing D.Disk ByChange (λ state. row_inserted state table.now.bytes route.now.bytes (location_tree place.now) (literal_row values.now)) (count_reply_of result) self.old self.new }
     {
         stores_have_their_laws::<D>();
         accepted_step_leaves_the_state_lawful();
@@ -55,7 +55,7 @@ impl<D: Disk> Engine<D> {
         condition: &Option<Vec<Vec<Atom>>>,
     ) -> Result<u128, Refusal>
         requires sound { IsSound (tree.remove table.now.bytes (window_tree window.now) (removal_tree condition.now)) }
-        ensures serves { Serves D.Disk (λ state. rows_removed state table.now.bytes (window_tree window.now) (removal_tree condition.now)) (count_reply_of result) self.old self.new }
+        ensures serves { ServesClearing D.Disk ByChange (λ state. rows_removed state table.now.bytes (window_tree window.now) (removal_tree condition.now)) (count_reply_of result) self.old self.new }
     {
         stores_have_their_laws::<D>();
         accepted_step_leaves_the_state_lawful();

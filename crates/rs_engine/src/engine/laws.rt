@@ -1,25 +1,28 @@
 //! These laws say that an engine is one machine, which lines its cursors have left, which state it stands for as a source, that its
-//! plans are chosen by that state, and that a session has a number in its range.
+//! plans are chosen by that state, that a session has a number in its range, and what may be cleared where no cursor is open.
 
-ghost use Rattle.std.specs.Prelude.{◌≡◌, ◌<◌, ℕ, List, Some};
+ghost use Rattle.std.specs.Prelude.{◌≡◌, ◌<◌, ℕ, List, Some, false};
 ghost use Rattle.std.specs.FinMap as names;
 ghost use Rattle.rs_answers.specs.Counts.{AreCounted};
 ghost use Rattle.rs_cursor.specs.Held.{held_of};
 ghost use Rattle.rs_cursor.specs.declared.cursor.Cursor.{Cursor};
 ghost use Rattle.rs_engine.specs.Giving.{HasItsLines};
-ghost use Rattle.rs_engine.specs.Kept.{EngineState, IsMachine, seen_at};
+ghost use Rattle.rs_engine.specs.Kept.{EngineState, IsMachine, IsOldestIn, seen_at};
 ghost use Rattle.rs_engine.specs.Laws.{StoreLaws};
 ghost use Rattle.rs_engine.specs.Reads.{IsSeenNow, StandsNow, counted_of};
 ghost use Rattle.rs_engine.specs.Single.{IsOneMachine};
 ghost use Rattle.rs_facts.specs.Fact.{Name};
+ghost use Rattle.rs_file_changes.specs.Clearing.{clearable};
 ghost use Rattle.rs_machine.specs.Served.{Machine};
+ghost use Rattle.rs_machine.specs.State.{some_cursor};
 ghost use Rattle.rs_machine.specs.declared.limits.TheConstants.{SESSIONS};
 ghost use Rattle.rs_plan.specs.declared.counts.Index.{Index};
+ghost use Rattle.rs_store.specs.Kept.{garbage_of};
 
 use rs_disk::Disk;
 use rs_serve::Session;
 use rs_standing::live::version_that_sees_the_same_has_the_same_world;
-use rs_store::laws::store_stands_in_one_state;
+use rs_store::laws::{dead_records_may_be_cleared, store_stands_in_one_state};
 use rs_store_reads::laws::{
     living_records_are_the_runs_of_the_state, store_shows_the_facts_of_its_state,
 };
@@ -71,4 +74,15 @@ pub(crate) fn session_is_in_range(session: Session)
     ensures { session < SESSIONS }
 {
     session.number();
+}
+
+/// Where no cursor is open, the version that was accepted last is the oldest one that is looked at. Just the dead records may be cleared
+/// then: as many as `garbage` counts.
+pub fn dead_records_may_be_cleared_where_no_cursor_is_open<D: Disk>()
+    ensures oldest { (engine : EngineState D) (machine : Machine) → IsMachine D.Disk engine machine → some_cursor machine.state.cursors ≡ false
+        → (oldest : ℕ) → IsOldestIn engine engine.store.file.accepted oldest → oldest ≡ engine.store.file.accepted }
+    ensures dead { (engine : EngineState D) (machine : Machine) (is : IsMachine D.Disk engine machine)
+        → clearable engine.store.file.accepted is.stands.contents ≡ garbage_of engine.store.file }
+{
+    dead_records_may_be_cleared::<D>();
 }

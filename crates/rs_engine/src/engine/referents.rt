@@ -1,6 +1,6 @@
 //! The commands that define, move and drop a referent of a route.
 
-ghost use Rattle.rs_engine.specs.Serving.{Serves};
+ghost use Rattle.rs_engine.specs.Clearing.{ByChange, ServesClearing};
 ghost use Rattle.rs_machine.specs.Step.{referent_defined, referent_dropped, referent_moved};
 ghost use Rattle.rs_methods.specs.Position.{expression_of};
 ghost use Rattle.rs_engine.specs.Replied.{count_reply_of};
@@ -23,7 +23,7 @@ impl<D: Disk> Engine<D> {
         position: &Position,
     ) -> Result<u128, Refusal>
         requires sound { IsSound (tree.define_referent route.now.bytes name.bytes (expression_of position.now)) }
-        ensures serves { Serves D.Disk (λ state. referent_defined state route.now.bytes name.bytes (expression_of position.now)) (count_reply_of result) self.old self.new }
+        ensures serves { ServesClearing D.Disk ByChange (λ state. referent_defined state route.now.bytes name.bytes (expression_of position.now)) (count_reply_of result) self.old self.new }
     {
         stores_have_their_laws::<D>();
         accepted_step_leaves_the_state_lawful();
@@ -44,7 +44,7 @@ impl<D: Disk> Engine<D> {
         position: &Position,
     ) -> Result<u128, Refusal>
         requires sound { IsSound (tree.move_referent route.now.bytes name.bytes (expression_of position.now)) }
-        ensures serves { Serves D.Disk (λ state. referent_moved state route.now.bytes name.bytes (expression_of position.now)) (count_reply_of result) self.old self.new }
+        ensures serves { ServesClearing D.Disk ByChange (λ state. referent_moved state route.now.bytes name.bytes (expression_of position.now)) (count_reply_of result) self.old self.new }
     {
         stores_have_their_laws::<D>();
         accepted_step_leaves_the_state_lawful();
@@ -62,7 +62,7 @@ impl<D: Disk> Engine<D> {
     /// Drops a referent of a route. Checks, in order: 20; 25; it is START or a view's window lies by it (23); 27.
     pub(crate) fn drop_referent(&mut self, route: &Name, name: &Name) -> Result<u128, Refusal>
         requires sound { IsSound (tree.drop_referent route.now.bytes name.now.bytes) }
-        ensures serves { Serves D.Disk (λ state. referent_dropped state route.now.bytes name.now.bytes) (count_reply_of result) self.old self.new }
+        ensures serves { ServesClearing D.Disk ByChange (λ state. referent_dropped state route.now.bytes name.now.bytes) (count_reply_of result) self.old self.new }
     {
         stores_have_their_laws::<D>();
         accepted_step_leaves_the_state_lawful();

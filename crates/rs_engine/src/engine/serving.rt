@@ -1,6 +1,7 @@
 //! One step of the engine: a command of a session is served.
 
 ghost use Rattle.std.specs.Prelude.{◌≡◌};
+ghost use Rattle.rs_engine.specs.Clearing.{ClearsWhereAsked};
 ghost use Rattle.rs_engine.specs.Files.{SavesWhereAsked};
 ghost use Rattle.rs_engine.specs.Kept.{IsMachine};
 ghost use Rattle.rs_engine.specs.Replied.{count_reply_of, nothing_reply_of, rows_reply_of};
@@ -26,12 +27,15 @@ impl<D: Disk + Drop> Serve for Engine<D> {
 
     ghost is = { IsOneMachine D.Disk };
 
-    /// As the trait says. Where SAVE or REOPEN is accepted, the disk is synced, and a file of the state that the engine was in.
+    /// As the trait says. Where SAVE or REOPEN is accepted, the disk is synced, and a file of the state that the engine was in. Where a
+    /// change or a CLOSE is accepted, 64 of the records that no version sees any more that is looked at are gone, or all where they
+    /// are fewer.
     fn step(&mut self, session: Session, command: Command) -> Reply
         requires said { IsSaid session (tree_of command) }
         ensures served { (old : Machine) → IsOneMachine D.Disk self.old old → (new : Machine) × IsOneMachine D.Disk self.new new
             × Served old session (tree_of command) (reply_of result) new }
         ensures saved { SavesWhereAsked D.Disk (tree_of command) (reply_of result) self.old self.new }
+        ensures cleared { ClearsWhereAsked D.Disk (tree_of command) (reply_of result) self.old self.new }
         ensures alone { StandsAlone result.rows.items result.finish }
     {
         command_of_a_line_is_sound();
@@ -51,6 +55,7 @@ impl<D: Disk> Engine<D> {
         ensures served { (machine : Machine) → IsMachine D.Disk self.old machine
             → IsServed D.Disk (outcome machine.state session (tree_of command)) machine (reply_of result) self.new }
         ensures saved { SavesWhereAsked D.Disk (tree_of command) (reply_of result) self.old self.new }
+        ensures cleared { ClearsWhereAsked D.Disk (tree_of command) (reply_of result) self.old self.new }
         ensures alone { StandsAlone result.rows.items result.finish }
     {
         let alloc = self.alloc;

@@ -4,7 +4,8 @@ use Rattle.std.proofs.lemmas.Result.{err_from_is_err_and}
 use Rattle.std.specs.FinMap as names
 use Rattle.rs_cursor.specs.Held.{IsOldest, held_at, held_of, lines_left}
 use Rattle.rs_engine.specs.Kept.{EngineState, seen_at}
-use Rattle.rs_engine.specs.Serving.{Serves}
+use Rattle.rs_engine.specs.Clearing.{ByClose, ServesClearing}
+use Rattle.rs_engine.proofs.Clearing.{refused_clearing}
 use Rattle.rs_engine.proofs.CursorSteps.{close_none, close_refused, closed, cursors_are}
 use Rattle.rs_engine.proofs.Filing.{engine_with}
 use Rattle.rs_engine.proofs.Reading.{refused_at_once}
@@ -20,9 +21,9 @@ returns-then-not-has g c = record {
       let d = g.D.Disk in
       let name = c.args.name.now.bytes in
       let was = engine_with c.self.inside.live.store c.self.inside.live.oldest c.self.inside.cursors in
-      subst (λ (e : EngineState g.row.D.Denot). Serves d (λ (state : State). cursor_closed state c.args.session name) (refused NoSuchCursor) e e) c.self.view_is
-      (λ machine is. refused_at_once d was machine is (cursor_closed machine.state c.args.session name) NoSuchCursor
-      (inr (close_none machine.state (lines_left (seen_at is.stands.contents)) was.cursors.held (cursors_are d was machine is) c.args.session name (sym (c.if-not-has.ensures (lines_left (seen_at is.stands.contents)))))));
+      subst (λ (e : EngineState g.row.D.Denot). ServesClearing d ByClose (λ (state : State). cursor_closed state c.args.session name) (refused NoSuchCursor) e e) c.self.view_is
+      (λ machine is. refused_clearing d (refused_at_once d was machine is (cursor_closed machine.state c.args.session name) NoSuchCursor
+      (inr (close_none machine.state (lines_left (seen_at is.stands.contents)) was.cursors.held (cursors_are d was machine is) c.args.session name (sym (c.if-not-has.ensures (lines_left (seen_at is.stands.contents))))))));
 }
 
 pub returns-in_err-release : goal.returns-in_err-release
@@ -34,7 +35,7 @@ returns-in_err-release g c =
     let why = c.in_err-release.field-0.0 in
     let p = err_from_is_err_and c.from_residual.result c.from_residual.ensures.1 in
     rw (p.1, p.2) (record {
-      serves = subst (λ (e : EngineState g.row.D.Denot). Serves d (λ (state : State). cursor_closed state c.args.session name) (refused why) e now) c.self.view_is
+      serves = subst (λ (e : EngineState g.row.D.Denot). ServesClearing d ByClose (λ (state : State). cursor_closed state c.args.session name) (refused why) e now) c.self.view_is
           (λ machine is. close_refused d c.accepted_step_leaves_the_state_lawful.ensures was machine is c.args.session c.session_is_in_range.ensures name c.stores_have_their_laws.ensures c.requires.sound now why
           c.in_err-release.ensures.leaves (refl, refl));
     })
@@ -47,7 +48,7 @@ returns g c = record {
       let was = engine_with c.self.inside.live.store c.self.inside.live.oldest c.self.inside.cursors in
       let least = subst (λ (most : ℕ). IsOldest (held_at c.args.session (names.remove (held_of was.cursors.held c.args.session) name) (held_of was.cursors.held)) most c.oldest_without-oldest.result) c.accepted-accepted.ensures c.oldest_without-oldest.ensures in
       let now = engine_with c.release.new.self c.oldest_without-oldest.result (record { held = c.close.new.self; ahead = None }) in
-      subst (λ (e : EngineState g.row.D.Denot). Serves d (λ (state : State). cursor_closed state c.args.session name) (done [] 0) e now) c.self.view_is
+      subst (λ (e : EngineState g.row.D.Denot). ServesClearing d ByClose (λ (state : State). cursor_closed state c.args.session name) (done [] 0) e now) c.self.view_is
       (λ machine is. closed d c.accepted_step_leaves_the_state_lawful.ensures was machine is c.args.session c.session_is_in_range.ensures name c.stores_have_their_laws.ensures c.requires.sound now
       (sym (c.if-not-has.ensures (lines_left (seen_at is.stands.contents)))) c.oldest_without-oldest.result c.in_ok-release.field-0 least
       (c.in_ok-release.ensures.releases was.oldest is.state is.stands) c.in_ok-release.ensures.leaves refl refl c.close.ensures);

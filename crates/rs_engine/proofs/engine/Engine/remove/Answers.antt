@@ -7,7 +7,7 @@ use Rattle.rs_facts.specs.Query.{Table}
 use Rattle.rs_facts.specs.Remove.{removed_facts}
 use Rattle.rs_engine.specs.Kept.{EngineState, IsMachine}
 use Rattle.rs_engine.specs.Replied.{count_reply_of}
-use Rattle.rs_engine.specs.Serving.{IsServed}
+use Rattle.rs_engine.specs.Clearing.{ByChange, IsServedClearing}
 use Rattle.rs_engine.proofs.Stepping.{by_step, check_wanting, found, made_at, refused_at}
 use Rattle.rs_engine.proofs.Tables.{HasTableSo, table_so, table_step, with_table_named}
 use Rattle.rs_machine.specs.Served.{done}
@@ -76,7 +76,7 @@ returns g c =
           subst (λ (state : State). names.get state.tables name ≡ Some t.table) is.is t.there in
           let counted_so : c.in_ok-gone.gone ≡ count = by_step laws d states old c.args.self.now c.self.view_is c.checks.result c.checks.ensures machine here said c.requires.sound
           (with_table_named name next) (table_step name next) count t.is c.oldest-oldest.result c.oldest-oldest.ensures (λ is low high lawful. (c.in_ok-gone.ensures.removes old.oldest is.state is.stands low high t.table (there is) lawful).1) in
-          subst (λ (n : ℕ). IsServed d (outcome machine.state 0 said) machine (done [] n) now) (sym counted_so)
+          subst (λ (n : ℕ). IsServedClearing d ByChange (outcome machine.state 0 said) machine here.stands.contents (done [] n) now) (sym counted_so)
           (made_at laws d states old c.args.self.now c.self.view_is c.checks.result c.checks.ensures machine here said c.requires.sound
           (with_table_named name next) (table_step name next) count t.is Always now c.in_ok-gone.gone c.in_ok-gone.ensures.leaves
           c.oldest-oldest.result (refl, refl) c.oldest-oldest.ensures (λ is known low high level lawful. (c.in_ok-gone.ensures.removes old.oldest is.state is.stands low high t.table (there is) lawful).0));

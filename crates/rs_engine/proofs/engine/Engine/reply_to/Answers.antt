@@ -6,6 +6,7 @@ use Rattle.rs_machine.specs.Step.{row_inserted, totals_printed}
 use Rattle.arrayvec.specs.declared.array_string.ArrayString.{ArrayString}
 use Rattle.rs_syntax.specs.QueryView.{query_tree}
 use Rattle.rs_engine.proofs.Replying.{replied}
+use Rattle.rs_engine.proofs.Clearing.{cleared_as}
 use Rattle.rs_engine.proofs.Saving.{reopened_by, saved_as, saved_by}
 use Rattle.rs_serve.specs.Said.{IsSaid}
 use Rattle.rs_syntax.specs.View.{location_tree, summed_tree, tree_of}
@@ -15,51 +16,51 @@ use Rattle.rs_value.specs.declared.value.Literal.{Literal}
 use Rattle.rs_engine.proofs.engine.Engine.reply_to.Goals as goal
 
 pub returns-in-DefineRoute-clause-served : goal.returns-in-DefineRoute-clause-served
-returns-in-DefineRoute-clause-served g c machine is = replied g.D.Disk c.args.session machine c.in-DefineRoute.is c.count_reply.ensures.reply (c.define_route.ensures.serves machine is)
+returns-in-DefineRoute-clause-served g c machine is = replied g.D.Disk c.args.session machine c.in-DefineRoute.is c.count_reply.ensures.reply (c.define_route.ensures.serves machine is).served
 
 pub returns-in-DefineTable-clause-served : goal.returns-in-DefineTable-clause-served
-returns-in-DefineTable-clause-served g c machine is = replied g.D.Disk c.args.session machine c.in-DefineTable.is c.count_reply-in-DefineTable.ensures.reply (c.define_table.ensures.serves machine is)
+returns-in-DefineTable-clause-served g c machine is = replied g.D.Disk c.args.session machine c.in-DefineTable.is c.count_reply-in-DefineTable.ensures.reply (c.define_table.ensures.serves machine is).served
 
 pub returns-in-DefineReferent-clause-served : goal.returns-in-DefineReferent-clause-served
-returns-in-DefineReferent-clause-served g c machine is = replied g.D.Disk c.args.session machine c.in-DefineReferent.is c.count_reply-in-DefineReferent.ensures.reply (c.define_referent.ensures.serves machine is)
+returns-in-DefineReferent-clause-served g c machine is = replied g.D.Disk c.args.session machine c.in-DefineReferent.is c.count_reply-in-DefineReferent.ensures.reply (c.define_referent.ensures.serves machine is).served
 
 pub returns-in-DefineIndex-clause-served : goal.returns-in-DefineIndex-clause-served
-returns-in-DefineIndex-clause-served g c machine is = replied g.D.Disk c.args.session machine c.in-DefineIndex.is c.count_reply-in-DefineIndex.ensures.reply (c.define_index.ensures.serves machine is)
+returns-in-DefineIndex-clause-served g c machine is = replied g.D.Disk c.args.session machine c.in-DefineIndex.is c.count_reply-in-DefineIndex.ensures.reply (c.define_index.ensures.serves machine is).served
 
 pub returns-in-DefineView-clause-served : goal.returns-in-DefineView-clause-served
-returns-in-DefineView-clause-served g c machine is = replied g.D.Disk c.args.session machine c.in-DefineView.is c.count_reply-in-DefineView.ensures.reply (c.define_view.ensures.serves c.args.session (subst (λ (one : Command). IsSaid c.args.session (tree_of one)) c.in-DefineView.is c.requires.said) machine is)
+returns-in-DefineView-clause-served g c machine is = replied g.D.Disk c.args.session machine c.in-DefineView.is c.count_reply-in-DefineView.ensures.reply (c.define_view.ensures.serves c.args.session (subst (λ (one : Command). IsSaid c.args.session (tree_of one)) c.in-DefineView.is c.requires.said) machine is).served
 
 pub returns-in-DefineAlignment-clause-served : goal.returns-in-DefineAlignment-clause-served
-returns-in-DefineAlignment-clause-served g c machine is = replied g.D.Disk c.args.session machine c.in-DefineAlignment.is c.count_reply-in-DefineAlignment.ensures.reply (c.define_alignment.ensures.serves machine is)
+returns-in-DefineAlignment-clause-served g c machine is = replied g.D.Disk c.args.session machine c.in-DefineAlignment.is c.count_reply-in-DefineAlignment.ensures.reply (c.define_alignment.ensures.serves machine is).served
 
 pub returns-in-MoveReferent-clause-served : goal.returns-in-MoveReferent-clause-served
-returns-in-MoveReferent-clause-served g c machine is = replied g.D.Disk c.args.session machine c.in-MoveReferent.is c.count_reply-in-MoveReferent.ensures.reply (c.move_referent.ensures.serves machine is)
+returns-in-MoveReferent-clause-served g c machine is = replied g.D.Disk c.args.session machine c.in-MoveReferent.is c.count_reply-in-MoveReferent.ensures.reply (c.move_referent.ensures.serves machine is).served
 
 pub returns-in-DropRoute-clause-served : goal.returns-in-DropRoute-clause-served
-returns-in-DropRoute-clause-served g c machine is = replied g.D.Disk c.args.session machine c.in-DropRoute.is c.count_reply-in-DropRoute.ensures.reply (c.drop_route.ensures.serves machine is)
+returns-in-DropRoute-clause-served g c machine is = replied g.D.Disk c.args.session machine c.in-DropRoute.is c.count_reply-in-DropRoute.ensures.reply (c.drop_route.ensures.serves machine is).served
 
 pub returns-in-DropTable-clause-served : goal.returns-in-DropTable-clause-served
-returns-in-DropTable-clause-served g c machine is = replied g.D.Disk c.args.session machine c.in-DropTable.is c.count_reply-in-DropTable.ensures.reply (c.drop_table.ensures.serves machine is)
+returns-in-DropTable-clause-served g c machine is = replied g.D.Disk c.args.session machine c.in-DropTable.is c.count_reply-in-DropTable.ensures.reply (c.drop_table.ensures.serves machine is).served
 
 pub returns-in-DropIndex-clause-served : goal.returns-in-DropIndex-clause-served
-returns-in-DropIndex-clause-served g c machine is = replied g.D.Disk c.args.session machine c.in-DropIndex.is c.count_reply-in-DropIndex.ensures.reply (c.drop_index.ensures.serves machine is)
+returns-in-DropIndex-clause-served g c machine is = replied g.D.Disk c.args.session machine c.in-DropIndex.is c.count_reply-in-DropIndex.ensures.reply (c.drop_index.ensures.serves machine is).served
 
 pub returns-in-DropView-clause-served : goal.returns-in-DropView-clause-served
-returns-in-DropView-clause-served g c machine is = replied g.D.Disk c.args.session machine c.in-DropView.is c.count_reply-in-DropView.ensures.reply (c.drop_view.ensures.serves machine is)
+returns-in-DropView-clause-served g c machine is = replied g.D.Disk c.args.session machine c.in-DropView.is c.count_reply-in-DropView.ensures.reply (c.drop_view.ensures.serves machine is).served
 
 pub returns-in-DropAlignment-clause-served : goal.returns-in-DropAlignment-clause-served
-returns-in-DropAlignment-clause-served g c machine is = replied g.D.Disk c.args.session machine c.in-DropAlignment.is c.count_reply-in-DropAlignment.ensures.reply (c.drop_alignment.ensures.serves machine is)
+returns-in-DropAlignment-clause-served g c machine is = replied g.D.Disk c.args.session machine c.in-DropAlignment.is c.count_reply-in-DropAlignment.ensures.reply (c.drop_alignment.ensures.serves machine is).served
 
 pub returns-in-DropReferent-clause-served : goal.returns-in-DropReferent-clause-served
-returns-in-DropReferent-clause-served g c machine is = replied g.D.Disk c.args.session machine c.in-DropReferent.is c.count_reply-in-DropReferent.ensures.reply (c.drop_referent.ensures.serves machine is)
+returns-in-DropReferent-clause-served g c machine is = replied g.D.Disk c.args.session machine c.in-DropReferent.is c.count_reply-in-DropReferent.ensures.reply (c.drop_referent.ensures.serves machine is).served
 
 pub returns-in-Insert-clause-served : goal.returns-in-Insert-clause-served
 returns-in-Insert-clause-served g c machine is = replied g.D.Disk c.args.session machine c.in-Insert.is c.count_reply-in-Insert.ensures.reply
     (subst (λ (values : List Literal). IsServed g.D.Disk (row_inserted machine.state c.in-Insert.table.bytes c.in-Insert.route.bytes (location_tree c.in-Insert.place) (literal_row values)) machine
-    (count_reply_of c.insert.result) c.insert.new.self) c.deref.ensures.value (c.insert.ensures.serves machine is))
+    (count_reply_of c.insert.result) c.insert.new.self) c.deref.ensures.value (c.insert.ensures.serves machine is).served)
 
 pub returns-in-Remove-clause-served : goal.returns-in-Remove-clause-served
-returns-in-Remove-clause-served g c machine is = replied g.D.Disk c.args.session machine c.in-Remove.is c.count_reply-in-Remove.ensures.reply (c.remove.ensures.serves machine is)
+returns-in-Remove-clause-served g c machine is = replied g.D.Disk c.args.session machine c.in-Remove.is c.count_reply-in-Remove.ensures.reply (c.remove.ensures.serves machine is).served
 
 pub returns-in-Translate-clause-served : goal.returns-in-Translate-clause-served
 returns-in-Translate-clause-served g c machine is = replied g.D.Disk c.args.session machine c.in-Translate.is c.rows_reply.ensures.reply (c.translate.ensures.serves machine is)
@@ -82,7 +83,7 @@ pub returns-in-Fetch-clause-served : goal.returns-in-Fetch-clause-served
 returns-in-Fetch-clause-served g c machine is = replied g.D.Disk c.args.session machine c.in-Fetch.is c.rows_reply-in-Fetch.ensures.reply (c.fetch.ensures.serves machine is)
 
 pub returns-in-Close-clause-served : goal.returns-in-Close-clause-served
-returns-in-Close-clause-served g c machine is = replied g.D.Disk c.args.session machine c.in-Close.is c.count_reply-in-Close.ensures.reply (c.close_cursor.ensures.serves machine is)
+returns-in-Close-clause-served g c machine is = replied g.D.Disk c.args.session machine c.in-Close.is c.count_reply-in-Close.ensures.reply (c.close_cursor.ensures.serves machine is).served
 
 pub returns-in-Save-clause-served : goal.returns-in-Save-clause-served
 returns-in-Save-clause-served g c machine is = replied g.D.Disk c.args.session machine c.in-Save.is c.count_reply-in-Save.ensures.reply (c.save.ensures.serves machine is)
@@ -161,3 +162,75 @@ returns-in-Save-clause-saved g c = saved_as g.D.Disk _ _ _ c.args.command _ c.in
 
 pub returns-in-Reopen-clause-saved : goal.returns-in-Reopen-clause-saved
 returns-in-Reopen-clause-saved g c = saved_as g.D.Disk _ _ _ c.args.command _ c.in-Reopen.is (reopened_by g.D.Disk _ _ _ c.reopen.result c.nothing_reply.ensures.reply c.reopen.ensures.saves)
+
+pub returns-in-DefineRoute-clause-cleared : goal.returns-in-DefineRoute-clause-cleared
+returns-in-DefineRoute-clause-cleared g c = cleared_as g.D.Disk c.in-DefineRoute.is c.count_reply.ensures.reply (λ machine is. (c.define_route.ensures.serves machine is).cleared)
+
+pub returns-in-DefineTable-clause-cleared : goal.returns-in-DefineTable-clause-cleared
+returns-in-DefineTable-clause-cleared g c = cleared_as g.D.Disk c.in-DefineTable.is c.count_reply-in-DefineTable.ensures.reply (λ machine is. (c.define_table.ensures.serves machine is).cleared)
+
+pub returns-in-DefineReferent-clause-cleared : goal.returns-in-DefineReferent-clause-cleared
+returns-in-DefineReferent-clause-cleared g c = cleared_as g.D.Disk c.in-DefineReferent.is c.count_reply-in-DefineReferent.ensures.reply (λ machine is. (c.define_referent.ensures.serves machine is).cleared)
+
+pub returns-in-DefineIndex-clause-cleared : goal.returns-in-DefineIndex-clause-cleared
+returns-in-DefineIndex-clause-cleared g c = cleared_as g.D.Disk c.in-DefineIndex.is c.count_reply-in-DefineIndex.ensures.reply (λ machine is. (c.define_index.ensures.serves machine is).cleared)
+
+pub returns-in-DefineView-clause-cleared : goal.returns-in-DefineView-clause-cleared
+returns-in-DefineView-clause-cleared g c = cleared_as g.D.Disk c.in-DefineView.is c.count_reply-in-DefineView.ensures.reply (λ machine is. (c.define_view.ensures.serves c.args.session (subst (λ (one : Command). IsSaid c.args.session (tree_of one)) c.in-DefineView.is c.requires.said) machine is).cleared)
+
+pub returns-in-DefineAlignment-clause-cleared : goal.returns-in-DefineAlignment-clause-cleared
+returns-in-DefineAlignment-clause-cleared g c = cleared_as g.D.Disk c.in-DefineAlignment.is c.count_reply-in-DefineAlignment.ensures.reply (λ machine is. (c.define_alignment.ensures.serves machine is).cleared)
+
+pub returns-in-MoveReferent-clause-cleared : goal.returns-in-MoveReferent-clause-cleared
+returns-in-MoveReferent-clause-cleared g c = cleared_as g.D.Disk c.in-MoveReferent.is c.count_reply-in-MoveReferent.ensures.reply (λ machine is. (c.move_referent.ensures.serves machine is).cleared)
+
+pub returns-in-DropRoute-clause-cleared : goal.returns-in-DropRoute-clause-cleared
+returns-in-DropRoute-clause-cleared g c = cleared_as g.D.Disk c.in-DropRoute.is c.count_reply-in-DropRoute.ensures.reply (λ machine is. (c.drop_route.ensures.serves machine is).cleared)
+
+pub returns-in-DropTable-clause-cleared : goal.returns-in-DropTable-clause-cleared
+returns-in-DropTable-clause-cleared g c = cleared_as g.D.Disk c.in-DropTable.is c.count_reply-in-DropTable.ensures.reply (λ machine is. (c.drop_table.ensures.serves machine is).cleared)
+
+pub returns-in-DropIndex-clause-cleared : goal.returns-in-DropIndex-clause-cleared
+returns-in-DropIndex-clause-cleared g c = cleared_as g.D.Disk c.in-DropIndex.is c.count_reply-in-DropIndex.ensures.reply (λ machine is. (c.drop_index.ensures.serves machine is).cleared)
+
+pub returns-in-DropView-clause-cleared : goal.returns-in-DropView-clause-cleared
+returns-in-DropView-clause-cleared g c = cleared_as g.D.Disk c.in-DropView.is c.count_reply-in-DropView.ensures.reply (λ machine is. (c.drop_view.ensures.serves machine is).cleared)
+
+pub returns-in-DropAlignment-clause-cleared : goal.returns-in-DropAlignment-clause-cleared
+returns-in-DropAlignment-clause-cleared g c = cleared_as g.D.Disk c.in-DropAlignment.is c.count_reply-in-DropAlignment.ensures.reply (λ machine is. (c.drop_alignment.ensures.serves machine is).cleared)
+
+pub returns-in-DropReferent-clause-cleared : goal.returns-in-DropReferent-clause-cleared
+returns-in-DropReferent-clause-cleared g c = cleared_as g.D.Disk c.in-DropReferent.is c.count_reply-in-DropReferent.ensures.reply (λ machine is. (c.drop_referent.ensures.serves machine is).cleared)
+
+pub returns-in-Insert-clause-cleared : goal.returns-in-Insert-clause-cleared
+returns-in-Insert-clause-cleared g c = cleared_as g.D.Disk c.in-Insert.is c.count_reply-in-Insert.ensures.reply (λ machine is. (c.insert.ensures.serves machine is).cleared)
+
+pub returns-in-Remove-clause-cleared : goal.returns-in-Remove-clause-cleared
+returns-in-Remove-clause-cleared g c = cleared_as g.D.Disk c.in-Remove.is c.count_reply-in-Remove.ensures.reply (λ machine is. (c.remove.ensures.serves machine is).cleared)
+
+pub returns-in-Translate-clause-cleared : goal.returns-in-Translate-clause-cleared
+returns-in-Translate-clause-cleared g c = cleared_as g.D.Disk c.in-Translate.is c.rows_reply.ensures.reply (λ machine is. tt)
+
+pub returns-in-Select-clause-cleared : goal.returns-in-Select-clause-cleared
+returns-in-Select-clause-cleared g c = cleared_as g.D.Disk c.in-Select.is c.rows_reply-in-Select.ensures.reply (λ machine is. tt)
+
+pub returns-in-Total-clause-cleared : goal.returns-in-Total-clause-cleared
+returns-in-Total-clause-cleared g c = cleared_as g.D.Disk c.in-Total.is c.rows_reply-in-Total.ensures.reply (λ machine is. tt)
+
+pub returns-in-Explain-clause-cleared : goal.returns-in-Explain-clause-cleared
+returns-in-Explain-clause-cleared g c = cleared_as g.D.Disk c.in-Explain.is c.rows_reply-in-Explain.ensures.reply (λ machine is. tt)
+
+pub returns-in-Open-clause-cleared : goal.returns-in-Open-clause-cleared
+returns-in-Open-clause-cleared g c = cleared_as g.D.Disk c.in-Open.is c.count_reply-in-Open.ensures.reply (λ machine is. tt)
+
+pub returns-in-Fetch-clause-cleared : goal.returns-in-Fetch-clause-cleared
+returns-in-Fetch-clause-cleared g c = cleared_as g.D.Disk c.in-Fetch.is c.rows_reply-in-Fetch.ensures.reply (λ machine is. tt)
+
+pub returns-in-Close-clause-cleared : goal.returns-in-Close-clause-cleared
+returns-in-Close-clause-cleared g c = cleared_as g.D.Disk c.in-Close.is c.count_reply-in-Close.ensures.reply (λ machine is. (c.close_cursor.ensures.serves machine is).cleared)
+
+pub returns-in-Save-clause-cleared : goal.returns-in-Save-clause-cleared
+returns-in-Save-clause-cleared g c = cleared_as g.D.Disk c.in-Save.is c.count_reply-in-Save.ensures.reply (λ machine is. tt)
+
+pub returns-in-Reopen-clause-cleared : goal.returns-in-Reopen-clause-cleared
+returns-in-Reopen-clause-cleared g c = cleared_as g.D.Disk c.in-Reopen.is c.nothing_reply.ensures.reply (λ machine is. tt)
