@@ -6,8 +6,8 @@ ghost use Rattle.std.specs.Prelude.{◌≤◌, ◌+◌, ◌^◌, string_capacity
 ghost use Rattle.rs_answers.specs.Portions.{room_of};
 ghost use Rattle.rs_cursor.specs.declared.kept.TheConstants.{KEPT_BYTES};
 
-/// How many bytes lines that are formed ahead may take.
-pub const KEPT_BYTES: usize = 16_777_216;
+/// How many bytes the lines that are formed ahead of one cursor may take. An engine keeps those of four cursors.
+pub const KEPT_BYTES: usize = 4_194_304;
 
 /// Lines of one route of a cursor that were formed and are still to be given. Nothing rests on them: without them they are formed again.
 #[derive(Drop)]
@@ -23,7 +23,7 @@ pub struct KeptLines {
     ghost fits: { room_of lines.items ≤ KEPT_BYTES },
 }
 
-/// Lines that are kept take no more than 16 megabytes: the room of each text, and 48 bytes beside it.
-pub fn kept_lines_take_at_most_16_megabytes(kept: &KeptLines)
-    ensures { sum_by (λ line. string_capacity line + 48) kept.now.lines.items ≤ 2 ^ 24 }
+/// Lines that are kept take no more than 4 megabytes: the room of each text, and 48 bytes beside it.
+pub fn kept_lines_take_at_most_4_megabytes(kept: &KeptLines)
+    ensures { sum_by (λ line. string_capacity line + 48) kept.now.lines.items ≤ 2 ^ 22 }
 {}

@@ -1,36 +1,57 @@
--- Lines that were formed ahead of a cursor: those that a FETCH takes, and those that it leaves.
-use Rattle.std.proofs.Common.{◌≡◌, ◌∙◌, ℕ, Option, None, Some, subst, sym}
-use Rattle.std.proofs.lemmas.Option.{none-some, same_Some}
+-- Lines that were formed ahead of cursors: those that a FETCH takes, and those that it leaves.
+use Rattle.std.proofs.Common.{◌≡◌, ◌∙◌, ◌⊎◌, ℕ, List, [], Option, None, Some, ap, arith, inl, inr, length, subst, sym}
+use Rattle.std.proofs.lemmas.Option.{same_Some}
 use Rattle.std.specs.FinMap as names
-use Rattle.std.specs.Prelude.{IfSome}
+use Rattle.std.specs.Prelude.{Contains, IfSome}
 use Rattle.rs_answers.specs.Versions.{SeenVersion}
 use Rattle.rs_cursor.specs.Held.{held_of}
 use Rattle.rs_cursor.specs.Kept.{AreKept}
 use Rattle.rs_cursor.specs.declared.cursor.Cursor.{Cursor}
 use Rattle.rs_cursor.specs.declared.kept.KeptLines.{KeptLines}
-use Rattle.rs_engine.specs.Ahead.{AreAhead, IsAheadOf}
-use Rattle.rs_engine.specs.declared.engine.open.Ahead.{Ahead}
+use Rattle.rs_engine.specs.Ahead.{AreAhead, IsAheadOf, IsNewest}
+use Rattle.rs_engine.specs.declared.engine.ahead.Ahead.{Ahead}
+use Rattle.rs_engine.specs.declared.engine.ahead.LinesAhead.{LinesAhead}
 use Rattle.rs_engine.specs.declared.engine.open.OpenCursors.{OpenCursors}
 use Rattle.rs_facts.specs.Fact.{Name}
 
-module _ (versions : ℕ → SeenVersion) (session : ℕ) (name : Name) (cursor : Cursor) (cursors : OpenCursors) (there : names.get (held_of cursors.held session) name ≡ Some cursor) where
+-- where none are kept, these are not
+pub none_kept : (slots : List Ahead) → slots ≡ [] → (one : Ahead) → Contains slots one → ⊥
+none_kept slots empty one there =
+    let none : length slots ≡ 0 = ap length empty in
+    omega (arith, none, there.1)
+
+-- some lines of those that are kept are kept
+pub some_ahead : (versions : ℕ → SeenVersion) (old new : OpenCursors) → AreAhead versions old → ((one : Ahead) → Contains new.ahead.slots.items one → Contains old.ahead.slots.items one)
+    → ((one : Ahead) → Contains new.ahead.slots.items one → (cursor : Cursor) → names.get (held_of new.held one.session) one.name.bytes ≡ Some cursor
+    → names.get (held_of old.held one.session) one.name.bytes ≡ Some cursor)
+    → AreAhead versions new
+some_ahead versions old new are others were = record { each = λ ahead there cursor found. are.each ahead (others ahead there) cursor (were ahead there cursor found) }
+
+module _ (versions : ℕ → SeenVersion) (session : ℕ) (name : Name) (cursor : Cursor) (cursors : OpenCursors) (there : names.get (held_of cursors.held session) name ≡ Some cursor)
+    (are : AreAhead versions cursors) where
   abbrev AreOfCursor : KeptLines → Type 0
   AreOfCursor = AreKept (versions cursor.version) cursor.plan cursor.method
 
   -- those that are taken are the cursor's
-  pub taken_kept : AreAhead versions cursors → (taken : Option KeptLines) → IfSome taken (IsAheadOf session name cursors.ahead) → IfSome taken AreOfCursor
-  taken_kept all None of = tt
-  taken_kept all (Some lines) of =
-      subst AreOfCursor (sym of.lines_are) (all.each of.ahead of.is cursor ((λ i. names.get (held_of cursors.held (of.session_is i)) (of.name_is i)) ∙ there))
+  pub taken_kept : (taken : Option KeptLines) → IfSome taken (IsAheadOf session name cursors.ahead.slots.items) → IfSome taken AreOfCursor
+  taken_kept None from = tt
+  taken_kept (Some lines) from =
+      subst AreOfCursor (sym from.lines_are) (are.each from.ahead from.is cursor ((λ i. names.get (held_of cursors.held (from.of.0 i)) (from.of.1 i)) ∙ there))
 
-  -- and so are those that are left
-  pub kept_ahead : (kept : Option KeptLines) → IfSome kept AreOfCursor → (left : Option Ahead) → IfSome left (λ one. (one.session ≡ session) × (one.name.bytes ≡ name) × (kept ≡ Some one.lines))
-      → AreAhead versions (record { held = cursors.held; ahead = left })
-  kept_ahead kept are None of = record { each = λ ahead is found at. absurd (none-some ahead is) }
-  kept_ahead kept are (Some one) of = record {
+  -- and so are those that are put
+  newest_kept : (lines : Option KeptLines) → IfSome lines AreOfCursor → (one : Ahead) → IsNewest session name lines one → (found : Cursor)
+      → names.get (held_of cursors.held one.session) one.name.bytes ≡ Some found → AreKept (versions found.version) found.plan found.method one.lines
+  newest_kept lines kept one is found at =
+      let here : cursor ≡ found = same_Some cursor found (sym there ∙ sym (λ i. names.get (held_of cursors.held (is.of.0 i)) (is.of.1 i)) ∙ at) in
+      subst (λ (c : Cursor). AreKept (versions c.version) c.plan c.method one.lines) here (subst (λ (k : Option KeptLines). IfSome k AreOfCursor) is.lines_are kept)
+
+  pub put_ahead : (lines : Option KeptLines) → IfSome lines AreOfCursor → (left now : LinesAhead) → ((one : Ahead) → Contains left.slots.items one → Contains cursors.ahead.slots.items one)
+      → ((one : Ahead) → Contains now.slots.items one → Contains left.slots.items one ⊎ IsNewest session name lines one)
+      → AreAhead versions (record { held = cursors.held; ahead = now })
+  put_ahead lines kept left now others put = record {
     each = λ ahead is found at.
-        let same : one ≡ ahead = same_Some one ahead is in
-        let here : cursor ≡ found = same_Some cursor found (sym there ∙ sym (λ i. names.get (held_of cursors.held (of.0 i)) (of.1 i)) ∙ (λ i. names.get (held_of cursors.held (same i).session) (same i).name.bytes) ∙ at) in
-        subst (λ (c : Cursor). AreKept (versions c.version) c.plan c.method ahead.lines) here
-        (subst (λ (a : Ahead). AreOfCursor a.lines) same (subst (λ (k : Option KeptLines). IfSome k AreOfCursor) of.2 are));
+        elim (put ahead is) [
+          | inl before ↦ are.each ahead (others ahead before) found at
+          | inr newest ↦ newest_kept lines kept ahead newest found at
+        ];
   }

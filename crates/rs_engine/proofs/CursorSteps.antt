@@ -1,10 +1,9 @@
 -- The commands of cursors: what the machine answers, and the machine that the engine is then.
 use Rattle.std.proofs.Common.{◌≡◌, ◌∙◌, ◌⊎◌, ◌≤◌, ◌<◌, ℕ, List, [], Option, None, Some, Result, Ok, Err, true, false, ap, arith, drop, inl, inr, length, refl, subst, sym, take}
 use Rattle.std.proofs.lemmas.List.{length-map}
-use Rattle.std.proofs.lemmas.Option.{none-some}
 use Rattle.std.specs.FinMap as names
 use Rattle.std.specs.Option.{option_map}
-use Rattle.std.specs.Prelude.{IfOk, is_some, string_bytes}
+use Rattle.std.specs.Prelude.{Contains, IfOk, is_some, string_bytes}
 use Rattle.rs_answers.specs.Versions.{LiesOnRoutes, SeenVersion}
 use Rattle.rs_contents.specs.Contents.{Contents}
 use Rattle.rs_cursor.specs.Held.{HeldCursors, IsOldest, cursors_by, held_at, held_of, lines_left}
@@ -19,11 +18,14 @@ use Rattle.rs_engine.specs.Clearing.{ByClose, IsServedClearing}
 use Rattle.rs_engine.specs.Giving.{GivesNext}
 use Rattle.rs_engine.specs.Kept.{AreLive, EngineState, IsLive, IsMachine, seen_at, with_cursors}
 use Rattle.rs_engine.specs.Reads.{ReadsCursor, WantsRead}
-use Rattle.rs_engine.specs.Ahead.{AreAhead}
+use Rattle.rs_engine.specs.Ahead.{AreAhead, IsOf}
+use Rattle.rs_engine.specs.declared.engine.ahead.Ahead.{Ahead}
+use Rattle.rs_engine.specs.declared.engine.ahead.LinesAhead.{LinesAhead}
 use Rattle.rs_engine.specs.declared.engine.open.OpenCursors.{OpenCursors}
 use Rattle.rs_engine.specs.Serving.{IsServed}
 use Rattle.rs_engine.specs.Laws.{StoreLaws}
 use Rattle.rs_engine.proofs.Machines.{LiveBeside, as_it_was, beside_of, counted_later, counted_rose, lines_on, stands_from, still_live}
+use Rattle.rs_engine.proofs.Aheads.{some_ahead}
 use Rattle.rs_engine.proofs.Clearing.{cleared_by_close, refused_clearing}
 use Rattle.rs_engine.proofs.Filing.{changes_of, stays_beside}
 use Rattle.rs_engine.proofs.Reading.{refused_by_machine, wanting}
@@ -162,23 +164,30 @@ module _ {D : Type 0} (d : disk.Ghosts D) where
 
   module _ (steps : StepsAreLawful) (old : EngineState D) (machine : Machine) (is : IsMachine d old machine) (session : ℕ) (below : session < SESSIONS) (name : Name) where
     module _ (query : QueryTree) (method : Method) (sound : IsSound (tree.open_cursor name query method)) where
-      pub opened : (now : HeldCursors) (cursor : Cursor) (all : List RowText) → cursor.version ≡ old.store.file.accepted → LiesOnRoutes (seen_at is.stands.contents cursor.version) cursor.plan
+      pub opened : (now : HeldCursors) (left : LinesAhead) (cursor : Cursor) (all : List RowText) → cursor.version ≡ old.store.file.accepted → LiesOnRoutes (seen_at is.stands.contents cursor.version) cursor.plan
           → lines_left (seen_at is.stands.contents) cursor ≡ all
           → cursor_opened machine.state session name query method ≡ Ok (counted 0 (with_cursor machine.state session name all))
           → held_of now ≡ held_at session (names.insert (held_of old.cursors.held session) name cursor) (held_of old.cursors.held)
-          → IsServed d (cursor_opened machine.state session name query method) machine (done [] 0) (record { store = old.store; oldest = old.oldest; cursors = record { held = now; ahead = None } })
-      opened now cursor all version lies are accepted put =
-          let cursors : OpenCursors = record { held = now; ahead = None } in
+          → ((one : Ahead) → Contains left.slots.items one → Contains old.cursors.ahead.slots.items one) → ((one : Ahead) → Contains left.slots.items one → IsOf session name one → ⊥)
+          → IsServed d (cursor_opened machine.state session name query method) machine (done [] 0) (record { store = old.store; oldest = old.oldest; cursors = record { held = now; ahead = left } })
+      opened now left cursor all version lies are accepted put others none =
+          let cursors : OpenCursors = record { held = now; ahead = left } in
           let new : EngineState D = record { store = old.store; oldest = old.oldest; cursors = cursors } in
           let it : IsLive old.oldest old.store.file.accepted (seen_at is.stands.contents) cursor =
           record { from = omega (arith, version, is.stands.live, is.stands.keeps.opened.accepted); upto = omega (arith, version); lies = lies } in
+          let cases = λ (other : ℕ) (called : Name) (found : Cursor) (there : names.get (held_of now other) called ≡ Some found).
+          cases_put (held_of old.cursors.held) session name cursor other called found (ap (λ (held : ℕ → Names Cursor). names.get (held other) called) (sym put) ∙ there) in
           let live : AreLive old.oldest old.store.file.accepted (seen_at is.stands.contents) cursors = record {
             each = λ other called found there.
-                elim (cases_put (held_of old.cursors.held) session name cursor other called found (ap (λ (held : ℕ → Names Cursor). names.get (held other) called) (sym put) ∙ there)) [
+                elim (cases other called found there) [
                   | inl new_one ↦ subst (IsLive old.oldest old.store.file.accepted (seen_at is.stands.contents)) new_one.2 it
                   | inr before ↦ is.live.each other called found before
                 ];
-            ahead = record { each = λ ahead is_none. absurd (none-some ahead is_none) };
+            ahead = some_ahead (seen_at is.stands.contents) old.cursors cursors is.live.ahead others (λ one kept found there.
+                elim (cases one.session one.name.bytes found there) [
+                  | inl new_one ↦ absurd (none one kept (new_one.0, new_one.1))
+                  | inr before ↦ before
+                ]);
           } in
           let out = accepted ∙ ap (λ (state : State). Ok (counted 0 state))
           (open_put machine.state (lines_left (seen_at is.stands.contents)) old.cursors.held (cursors_are old machine is) session name now cursor all are put) in
@@ -204,6 +213,7 @@ module _ {D : Type 0} (d : disk.Ghosts D) where
             moves gives.cursor (at_read session name ∙ gives.there)
             ∙ ap (λ (held : HeldCursors). held_at session (names.insert (held_of held session) name moved) (held_of held)) reads.held in
             let it = is.live.each session name gives.cursor gives.there in
+            let still_kept = λ (ahead : Ahead) (there : Contains new.cursors.ahead.slots.items ahead). subst (λ (a : LinesAhead). Contains a.slots.items ahead) beside there in
             let cases = λ (other : ℕ) (called : Name) (found : Cursor) (there : names.get (held_of new.cursors.held other) called ≡ Some found).
             cases_put (held_of old.cursors.held) session name moved other called found (ap (λ (held : ℕ → Names Cursor). names.get (held other) called) (sym put) ∙ there) in
             let live : AreLive old.oldest old.store.file.accepted versions new.cursors = record {
@@ -216,8 +226,8 @@ module _ {D : Type 0} (d : disk.Ghosts D) where
                 each = λ ahead there found at.
                     elim (cases ahead.session ahead.name.bytes found at) [
                       | inl new_one ↦ subst (λ (c : Cursor). AreKept (versions c.version) c.plan c.method ahead.lines) new_one.2
-                          (kept.each ahead (sym beside ∙ there) gives.cursor (at_read ahead.session ahead.name.bytes ∙ (λ i. names.get (held_of old.cursors.held (new_one.0 i)) (new_one.1 i)) ∙ gives.there))
-                      | inr before ↦ kept.each ahead (sym beside ∙ there) found (at_read ahead.session ahead.name.bytes ∙ before)
+                          (kept.each ahead (still_kept ahead there) gives.cursor (at_read ahead.session ahead.name.bytes ∙ (λ i. names.get (held_of old.cursors.held (new_one.0 i)) (new_one.1 i)) ∙ gives.there))
+                      | inr before ↦ kept.each ahead (still_kept ahead there) found (at_read ahead.session ahead.name.bytes ∙ before)
                     ];
               };
             } in
@@ -249,9 +259,9 @@ module _ {D : Type 0} (d : disk.Ghosts D) where
       pub closed : has (cursors_by (lines_left (seen_at is.stands.contents)) old.cursors.held session) name ≡ true → (oldest gone : ℕ)
           → IsOldest (held_at session (names.remove (held_of old.cursors.held session) name) (held_of old.cursors.held)) old.store.file.accepted oldest
           → (old.oldest ≤ oldest → oldest ≤ old.store.file.accepted → HasReleased d oldest gone is.stands.contents new.store is.state) → LeavesReleased d {T = ℕ} (Ok gone) old.store new.store
-          → new.oldest ≡ oldest → new.cursors.ahead ≡ None → held_of new.cursors.held ≡ held_at session (names.remove (held_of old.cursors.held session) name) (held_of old.cursors.held)
+          → new.oldest ≡ oldest → ((one : Ahead) → Contains new.cursors.ahead.slots.items one → Contains old.cursors.ahead.slots.items one) → held_of new.cursors.held ≡ held_at session (names.remove (held_of old.cursors.held session) name) (held_of old.cursors.held)
           → IsServedClearing d ByClose (cursor_closed machine.state session name) machine is.stands.contents (done [] 0) new
-      closed there oldest gone least releases leaves lowest empty left =
+      closed there oldest gone least releases leaves lowest others left =
           let held : ℕ → Names Cursor = held_of old.cursors.held in
           let versions = seen_at is.stands.contents in
           let at : (other : ℕ) (called : Name) → names.get (held_at session (names.remove (held session) name) held other) called ≡ names.get (held_of new.cursors.held other) called =
@@ -263,9 +273,9 @@ module _ {D : Type 0} (d : disk.Ghosts D) where
           let low : old.oldest ≤ oldest = least.greatest old.oldest (omega (arith, is.stands.live, is.stands.keeps.opened.accepted))
           (λ other called cursor found. (is.live.each other called cursor (held_before held session name other called cursor found)).from) in
           let released = releases low least.within in
-          let none_ahead : AreAhead versions new.cursors = record { each = λ ahead there. absurd (none-some ahead (sym empty ∙ there)) } in
-          let lines = lines_on d laws old machine is new.store oldest is.state released.stands released.live new.cursors none_ahead were above in
-          let live = still_live d laws old machine is new.store oldest is.state released.stands released.live new.cursors none_ahead were above old.store.file.accepted (omega arith) in
+          let kept : AreAhead versions new.cursors = some_ahead versions old.cursors new.cursors is.live.ahead others (λ one there cursor found. were one.session one.name.bytes cursor found) in
+          let lines = lines_on d laws old machine is new.store oldest is.state released.stands released.live new.cursors kept were above in
+          let live = still_live d laws old machine is new.store oldest is.state released.stands released.live new.cursors kept were above old.store.file.accepted (omega arith) in
           let accepted : new.store.file.accepted ≡ old.store.file.accepted = leaves.accepted in
           let beside : beside_of new ≡ record { oldest = oldest; accepted = old.store.file.accepted; cursors = new.cursors } = λ i. record { oldest = lowest i; accepted = accepted i; cursors = new.cursors } in
           let state : State = with_cursors (cursors_by (lines_left versions) new.cursors.held) machine.state in

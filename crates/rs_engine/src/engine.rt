@@ -7,6 +7,7 @@ ghost use Rattle.std.specs.Prelude.{◌<◌, ◌+◌};
 ghost use Rattle.rs_engine.specs.Kept.{AreChecksOf, IsOldestIn};
 ghost use Rattle.rs_machine.specs.declared.limits.TheConstants.{CHANGES};
 
+pub mod ahead;
 mod cursors;
 mod definitions;
 mod drops;
@@ -18,6 +19,7 @@ pub mod open;
 mod queries;
 mod referents;
 mod serving;
+mod slots;
 
 use crate::engine::live::LiveStore;
 use crate::engine::open::OpenCursors;

@@ -29,7 +29,6 @@ use crate::engine::Engine;
 use crate::engine::laws::{
     engine_stands_for_its_state, session_is_in_range, stores_have_their_laws,
 };
-use crate::engine::open::{ahead_of, take_ahead};
 use rs_answers::laws::present_version_has_the_lines_of_the_query;
 use rs_checker::Checked;
 use rs_cursor::next_lines::{NextLines, next_lines};
@@ -60,7 +59,7 @@ impl<D: Disk> Engine<D> {
         let checked = self.check_new_cursor(session, &name, query, method)?;
         let cursor = self.cursor_of(checked, method)?;
         self.cursors.held.open(session, name, cursor)?;
-        self.cursors.ahead = None;
+        self.cursors.ahead.clear();
         Ok(0)
     }
 
@@ -98,7 +97,7 @@ impl<D: Disk> Engine<D> {
         self.live.store.release(self.alloc, oldest)?;
         self.live.oldest = oldest;
         self.cursors.held.close(session, name);
-        self.cursors.ahead = None;
+        self.cursors.ahead.forget(session, name);
         Ok(0)
     }
 
@@ -153,8 +152,7 @@ impl<D: Disk> Engine<D> {
         })
     }
 
-    /// The next lines of a cursor of a session, which stays where it is (60). Lines that were formed ahead of it are used, and those of
-    /// another cursor are dropped.
+    /// The next lines of a cursor of a session, which stays where it is (60). Lines that were formed ahead of it are used.
     fn next_of(&mut self, session: Session, name: &Name, rows: u32) -> Result<NextLines, Refusal>
         ensures given { (machine : Machine) (is : IsMachine D.Disk self.old machine)
             → IfOk result (GivesNext (seen_at is.stands.contents) self.old.cursors.held session name.now.bytes rows) }
@@ -165,9 +163,9 @@ impl<D: Disk> Engine<D> {
         let Some(cursor) = self.cursors.held.get(session, name) else {
             return Err(Refusal::NoSuchCursor);
         };
-        let mut kept = take_ahead(&mut self.cursors.ahead, session, name);
+        let mut kept = self.cursors.ahead.take(session, name);
         let next = next_lines(self.alloc, &mut self.live, cursor, rows, &mut kept);
-        self.cursors.ahead = ahead_of(session, name, kept);
+        self.cursors.ahead.put(session, name, kept);
         next
     }
 }

@@ -20,6 +20,7 @@ ghost use Rattle.rs_store.specs.Calls.{CountsClosing, HandsOver, WantsCreating, 
 ghost use Rattle.rs_store.specs.Kept.{garbage_of};
 
 use crate::engine::Engine;
+use crate::engine::ahead::LinesAhead;
 use crate::engine::live::LiveStore;
 use crate::engine::open::OpenCursors;
 use rs_cursor::Cursors;
@@ -132,7 +133,7 @@ impl<D: Disk> Engine<D> {
         self.live.store.reopen(self.alloc)?;
         self.live.oldest = self.live.store.accepted();
         self.cursors.held.close_all();
-        self.cursors.ahead = None;
+        self.cursors.ahead.clear();
         Ok(())
     }
 
@@ -166,7 +167,7 @@ fn engine_over<D: Disk>(alloc: Global, store: Store<D>) -> Engine<D>
         live: LiveStore { store, oldest },
         cursors: OpenCursors {
             held: Cursors::new(alloc),
-            ahead: None,
+            ahead: LinesAhead::new(alloc),
         },
     }
 }

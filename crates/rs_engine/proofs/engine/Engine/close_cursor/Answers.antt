@@ -1,5 +1,5 @@
 -- The cursor goes, is not there, or records can't be cleared.
-use Rattle.std.proofs.Common.{[], None, inr, refl, subst, sym, ℕ}
+use Rattle.std.proofs.Common.{[], inr, refl, subst, sym, ℕ}
 use Rattle.std.proofs.lemmas.Result.{err_from_is_err_and}
 use Rattle.std.specs.FinMap as names
 use Rattle.rs_cursor.specs.Held.{IsOldest, held_at, held_of, lines_left}
@@ -47,9 +47,9 @@ returns g c = record {
       let name = c.args.name.now.bytes in
       let was = engine_with c.self.inside.live.store c.self.inside.live.oldest c.self.inside.cursors in
       let least = subst (λ (most : ℕ). IsOldest (held_at c.args.session (names.remove (held_of was.cursors.held c.args.session) name) (held_of was.cursors.held)) most c.oldest_without-oldest.result) c.accepted-accepted.ensures c.oldest_without-oldest.ensures in
-      let now = engine_with c.release.new.self c.oldest_without-oldest.result (record { held = c.close.new.self; ahead = None }) in
+      let now = engine_with c.release.new.self c.oldest_without-oldest.result (record { held = c.close.new.self; ahead = c.forget.new.self }) in
       subst (λ (e : EngineState g.row.D.Denot). ServesClearing d ByClose (λ (state : State). cursor_closed state c.args.session name) (done [] 0) e now) c.self.view_is
       (λ machine is. closed d c.accepted_step_leaves_the_state_lawful.ensures was machine is c.args.session c.session_is_in_range.ensures name c.stores_have_their_laws.ensures c.requires.sound now
       (sym (c.if-not-has.ensures (lines_left (seen_at is.stands.contents)))) c.oldest_without-oldest.result c.in_ok-release.field-0 least
-      (c.in_ok-release.ensures.releases was.oldest is.state is.stands) c.in_ok-release.ensures.leaves refl refl c.close.ensures);
+      (c.in_ok-release.ensures.releases was.oldest is.state is.stands) c.in_ok-release.ensures.leaves refl c.forget.ensures c.close.ensures);
 }

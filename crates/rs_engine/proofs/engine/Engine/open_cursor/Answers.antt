@@ -1,11 +1,12 @@
 -- The query is refused by its checks, memory is wanting, or the cursor is opened.
-use Rattle.std.proofs.Common.{◌≡◌, [], None, refl, subst, sym}
+use Rattle.std.proofs.Common.{◌≡◌, [], refl, subst, sym}
 use Rattle.std.proofs.lemmas.Result.{err_from_is_err_and}
 use Rattle.std.specs.FinMap as names
 use Rattle.rs_checker.specs.CheckedView.{query_of}
 use Rattle.rs_cursor.specs.Held.{held_at, held_of}
 use Rattle.rs_engine.specs.Kept.{EngineState}
 use Rattle.rs_engine.specs.Serving.{IsServed, Serves}
+use Rattle.rs_engine.proofs.Aheads.{none_kept}
 use Rattle.rs_engine.proofs.CursorSteps.{opened}
 use Rattle.rs_engine.proofs.Filing.{engine_with}
 use Rattle.rs_engine.proofs.Machines.{wanting_memory}
@@ -55,8 +56,9 @@ returns g c = record {
       let cursor = c.in_ok-cursor.cursor in
       let now = c.open.new.self in
       let put = subst (λ (e : EngineState g.row.D.Denot). held_of now ≡ held_at c.args.session (names.insert (held_of e.cursors.held c.args.session) name cursor) (held_of e.cursors.held)) c.self.view_is c.in_ok-open.ensures.ok in
-      subst (λ (e : EngineState g.row.D.Denot). IsServed d asked machine (done [] 0) (engine_with e.store e.oldest (record { held = now; ahead = None }))) (sym c.self.view_is)
-      (opened d c.accepted_step_leaves_the_state_lawful.ensures c.args.self.now machine is c.args.session c.session_is_in_range.ensures name query c.args.method c.requires.sound now cursor
+      subst (λ (e : EngineState g.row.D.Denot). IsServed d asked machine (done [] 0) (engine_with e.store e.oldest (record { held = now; ahead = c.clear.new.self }))) (sym c.self.view_is)
+      (opened d c.accepted_step_leaves_the_state_lawful.ensures c.args.self.now machine is c.args.session c.session_is_in_range.ensures name query c.args.method c.requires.sound now c.clear.new.self cursor
       (lines_of machine.state (query_of c.in_ok-checked.checked.query) c.args.method) c.in_ok-cursor.ensures.version (c.in_ok-cursor.ensures.lies machine is) (c.in_ok-cursor.ensures.lines machine is)
-      (c.in_ok-checked.ensures.accepted machine is) put);
+      (c.in_ok-checked.ensures.accepted machine is) put
+      (λ one kept. absurd (none_kept c.clear.new.self.slots.items c.clear.ensures one kept)) (λ one kept of. none_kept c.clear.new.self.slots.items c.clear.ensures one kept));
 }

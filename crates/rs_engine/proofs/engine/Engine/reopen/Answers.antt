@@ -1,5 +1,5 @@
 -- The store stands in the same state, and there are no cursors.
-use Rattle.std.proofs.Common.{[], None, Ok, Err, ap, arith, inl, inr, refl, subst, sym}
+use Rattle.std.proofs.Common.{[], Ok, Err, ap, arith, inl, inr, refl, subst, sym}
 use Rattle.std.proofs.lemmas.Result.{err_from_is_err_and}
 use Rattle.rs_engine.specs.Files.{Saves}
 use Rattle.rs_engine.specs.Kept.{EngineState}
@@ -33,7 +33,7 @@ pub returns-clause-serves : goal.returns-clause-serves
 returns-clause-serves g c =
     let d = g.D.Disk in
     let was = engine_with c.self.inside.live.store c.self.inside.live.oldest c.self.inside.cursors in
-    let now = engine_with c.reopen.new.self c.accepted-self-inside.result (record { held = c.close_all.new.self; ahead = None }) in
+    let now = engine_with c.reopen.new.self c.accepted-self-inside.result (record { held = c.close_all.new.self; ahead = c.clear.new.self }) in
     subst (λ (e : EngineState g.row.D.Denot). Serves d (λ (state : State). Ok (counted 0 (without_cursors state))) (done [] 0) e now) c.self.view_is
     (λ machine is. served_anew d was now machine is
     (c.accepted_step_leaves_the_state_lawful.ensures machine.state 0 reopen (counted 0 (without_cursors machine.state)) (omega arith) tt is.lawful refl)
@@ -43,7 +43,7 @@ pub returns-clause-saves : goal.returns-clause-saves
 returns-clause-saves g c =
     let d = g.D.Disk in
     let was = engine_with c.self.inside.live.store c.self.inside.live.oldest c.self.inside.cursors in
-    let now = engine_with c.reopen.new.self c.accepted-self-inside.result (record { held = c.close_all.new.self; ahead = None }) in
+    let now = engine_with c.reopen.new.self c.accepted-self-inside.result (record { held = c.close_all.new.self; ahead = c.clear.new.self }) in
     subst (λ (e : EngineState g.row.D.Denot). Saves d (Ok tt) e now) c.self.view_is (record {
       file = λ machine is. subst (λ (state : State). IsFileOf now.store.pager.limit (d.seen now.store.pager.disk) state) (sym (without d was machine is))
           (c.in_ok-reopen.ensures.saves.file was.oldest is.state is.stands);
