@@ -23,4 +23,4 @@ pub returns-clause-sound : goal.returns-clause-sound
 returns-clause-sound g c =
     subst (λ (s : StoreState g.row.D.Denot). HoldsNoChange s.pager → (oldest : ℕ) (state : State) → StandsIn g.D.Disk oldest s state
     → c.check_first_page.result ≡ Err DamagedFile → ⊥) c.self.view_is
-    (λ written oldest state stands. c.check_first_page.ensures.sound stands.keeps.tied written) c.requires
+    (λ written oldest state stands. c.check_first_page.ensures.sound stands.keeps.tied written) c.requires.written

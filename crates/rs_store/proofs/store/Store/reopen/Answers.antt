@@ -1,6 +1,7 @@
 -- What was saved is read anew, page 0 first.
 use Rattle.std.proofs.Common.{Err, Ok, ap}
 use Rattle.std.proofs.lemmas.Result.{err_from_is_err_and}
+use Rattle.rs_refusal.specs.declared.refusal.Refusal.{Refusal}
 use Rattle.rs_store.proofs.HeldChanges.{still_later}
 use Rattle.rs_store.proofs.Keeping.{keeps_store-trans, reopens_after, reopens_err, saves_after, stands_kept}
 use Rattle.rs_store.proofs.store.Store.reopen.Goals as goal
@@ -40,6 +41,6 @@ returns-clause-saves g c =
     let saved = c.save.new.self in
     let looked = c.check_first_page.new.self in
     saves_after d c.read_anew.result was looked c.read_anew.new.self (keeps_store-trans d was saved looked c.save.ensures.keeps c.check_first_page.ensures.keeps)
-    (saves_after d (Ok tt) was saved looked c.save.ensures.keeps c.in_ok-save.ensures.saves c.check_first_page.ensures.seen c.check_first_page.ensures.keeps.limit
+    (saves_after d {F = Refusal} (Ok tt) was saved looked c.save.ensures.keeps c.in_ok-save.ensures.saves c.check_first_page.ensures.seen c.check_first_page.ensures.keeps.limit
     c.check_first_page.ensures.synced c.check_first_page.ensures.marked)
     c.read_anew.ensures.seen c.read_anew.ensures.reopens.limit c.read_anew.ensures.synced c.read_anew.ensures.marked
