@@ -9,6 +9,8 @@ mod balky;
 #[cfg(test)]
 mod balky_tests;
 #[cfg(test)]
+mod crash_images;
+#[cfg(test)]
 mod disk_steps;
 #[cfg(test)]
 mod expect;
@@ -21,6 +23,10 @@ mod fresh_path;
 #[cfg(test)]
 mod journal_tests;
 #[cfg(test)]
+mod lettered_files;
+#[cfg(test)]
 mod path_tests;
 #[cfg(test)]
 mod recording_disk_tests;
+#[cfg(test)]
+mod recovery_tests;

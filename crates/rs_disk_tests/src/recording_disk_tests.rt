@@ -44,7 +44,7 @@ const CALLS: [Step; 5] = [
 ];
 
 #[test]
-fn unsynced_writes_are_kept_lost_or_filled(rt: HostRuntime) -> Result<(), Fail> {
+fn what_is_not_synced_is_kept_lost_or_filled(rt: HostRuntime) -> Result<(), Fail> {
     let alloc = rt.alloc();
     let mut disk = two_pages(alloc, 0, FailedCut::Done)?;
     expect_all(take_all(&mut disk, &CALLS))?;
@@ -52,24 +52,10 @@ fn unsynced_writes_are_kept_lost_or_filled(rt: HostRuntime) -> Result<(), Fail> 
     let kept = leaves(alloc, &disk, 3, Unsynced::Kept, 8195, b"wxyza")?;
     let lost = leaves(alloc, &disk, 3, Unsynced::Lost, 8192, b"aaaaa")?;
     let filled = leaves(alloc, &disk, 3, Unsynced::Filled, 8195, &filled)?;
-    expect(kept && lost && filled, "before the cut")
-}
-
-#[test]
-fn a_cut_is_kept_or_lost(rt: HostRuntime) -> Result<(), Fail> {
-    let alloc = rt.alloc();
-    let mut disk = two_pages(alloc, 0, FailedCut::Done)?;
-    expect_all(take_all(&mut disk, &CALLS))?;
+    expect(kept && lost && filled, "before the cut")?;
     let kept = leaves(alloc, &disk, 4, Unsynced::Kept, 4096, b"wxyza")?;
     let lost = leaves(alloc, &disk, 4, Unsynced::Lost, 8192, b"aaaaa")?;
-    expect(kept && lost, "before the sync")
-}
-
-#[test]
-fn a_sync_that_succeeds_leaves_one_image(rt: HostRuntime) -> Result<(), Fail> {
-    let alloc = rt.alloc();
-    let mut disk = two_pages(alloc, 0, FailedCut::Done)?;
-    expect_all(take_all(&mut disk, &CALLS))?;
+    expect(kept && lost, "before the sync")?;
     for unsynced in [Unsynced::Kept, Unsynced::Lost, Unsynced::Filled] {
         let left = leaves(alloc, &disk, 5, unsynced, 4096, b"wxyza")?;
         expect(left, "after the sync")?;
@@ -88,17 +74,6 @@ fn a_sync_that_fails_leaves_what_was_left_before(rt: HostRuntime) -> Result<(), 
     expect(kept && lost && disk.failures() == 1, "as before the sync")
 }
 
-#[test]
-fn a_write_that_fails_may_leave_all_its_range_torn(rt: HostRuntime) -> Result<(), Fail> {
-    let alloc = rt.alloc();
-    let mut disk = two_pages(alloc, 1, FailedCut::Done)?;
-    expect(disk.write(0, b"wxyz").is_err(), "the write fails")?;
-    let filled = [165, 165, 165, 165, b'a'];
-    let kept = leaves(alloc, &disk, 1, Unsynced::Kept, 8192, b"wxaaa")?;
-    let filled = leaves(alloc, &disk, 1, Unsynced::Filled, 8192, &filled)?;
-    expect(kept && filled, "half of it is written")
-}
-
 /// How many pages a cut to one leaves where it fails.
 fn pages_after_a_failed_cut(alloc: Global, failed_cut: FailedCut) -> Result<u32, Fail> {
     let mut disk = two_pages(alloc, 1, failed_cut)?;
@@ -107,8 +82,14 @@ fn pages_after_a_failed_cut(alloc: Global, failed_cut: FailedCut) -> Result<u32,
 }
 
 #[test]
-fn a_failed_cut_of_a_recording_disk_is_done_or_not(rt: HostRuntime) -> Result<(), Fail> {
+fn a_change_that_fails_is_done_in_part(rt: HostRuntime) -> Result<(), Fail> {
     let alloc = rt.alloc();
+    let mut disk = two_pages(alloc, 1, FailedCut::Done)?;
+    expect(disk.write(0, b"wxyz").is_err(), "the write fails")?;
+    let filled = [165, 165, 165, 165, b'a'];
+    let kept = leaves(alloc, &disk, 1, Unsynced::Kept, 8192, b"wxaaa")?;
+    let filled = leaves(alloc, &disk, 1, Unsynced::Filled, 8192, &filled)?;
+    expect(kept && filled, "half of it is written")?;
     let done = pages_after_a_failed_cut(alloc, FailedCut::Done)?;
     let not_done = pages_after_a_failed_cut(alloc, FailedCut::NotDone)?;
     expect(done == 1 && not_done == 2, "one page is left, or two")
