@@ -15,6 +15,7 @@ if [ ! -x crates/rs_room/out/rs_room ]; then
 fi
 python3 tests/conversations.py
 python3 tests/compare.py
+python3 tests/compare_cursors.py
 python3 tests/files_and_peers.py
 python3 tests/room.py
 python3 tests/clients.py

@@ -56,6 +56,9 @@ class Round(NamedTuple):
     def lines(self):
         return RandomLines("%d %d" % (self.seed, self.number), self.kind).round(self.count)
 
+    def tally(self):
+        return Tally()
+
 
 class Compared(NamedTuple):
     """A round, its tally, and for each way what was wrong or None."""
@@ -82,7 +85,7 @@ def compare_round(task):
     slow = answer_of(programs.slow, b"".join(sent))
     faults = {way: fault_of(answer_beside(slow, way, programs, sent), slow) for way in ways}
     whole = [line for line in lines if line.sent.endswith(b"\n")]
-    tally = Tally()
+    tally = made.tally()
     for line, reply in zip(whole, replies_of(slow.out)):
         if "fixed" not in line.marks:
             tally.count(line.sent[:-1], line.marks, reply)

@@ -394,15 +394,41 @@ SORTS = [
     Sort(b"", rb"  ", OK, 40),
 ]
 
-PATTERNS = [(re.compile(sort.holds), re.compile(sort.answer, re.MULTILINE)) for sort in SORTS]
+# Where many cursors are kept open (cursor_lines.py).
+CURSOR_SORTS = [
+    Sort(b"FETCH ", rb"", ROW, 40),
+    Sort(b"FETCH ", rb"", ROW, 30, "late"),
+    Sort(b"FETCH ", rb"", ROW, 8, "very late"),
+    Sort(b"FETCH ", rb"", rb"@K", 1, "very late"),
+    Sort(b"FETCH ", rb"", ROW, 25, "all open"),
+    Sort(b"FETCH ", rb"", rb" ERR 12 ", 0.5),
+    Sort(b"FETCH ", rb"", rb" ERR 60 ", 3),
+    Sort(b"OPEN ", rb"", OK, 6),
+    Sort(b"OPEN ", rb"", rb" ERR 61 ", 0.3),
+    Sort(b"CLOSE ", rb"", OK, 4),
+    Sort(b"INSERT ", rb"", OK, 60),
+    Sort(b"REMOVE ", rb"", SOME, 6),
+    Sort(b"MOVE REFERENT ", rb"", OK, 20),
+    Sort(b"DEFINE VIEW ", rb"", OK, 5, "again"),
+    Sort(b"DEFINE ALIGNMENT ", rb"", OK, 5, "again"),
+    Sort(b"DEFINE INDEX ", rb"", OK, 0.1, "again"),
+    Sort(b"DROP TABLE ", rb"", rb" ERR 23 ", 0.3),
+    Sort(b"DROP INDEX ", rb"", rb" ERR 23 ", 0.3),
+    Sort(b"SAVE", rb"", OK, 2),
+    Sort(b"REOPEN", rb"", OK, 0.02),
+]
 
 
-def sorts_of(line, marks, reply):
-    """The places in SORTS of the sorts that a line (without its LF) is of."""
+def patterns_of(sorts):
+    return [(sort, re.compile(sort.holds), re.compile(sort.answer, re.MULTILINE)) for sort in sorts]
+
+
+def sorts_of(patterns, line, marks, reply):
+    """The places of the sorts that a line (without its LF) is of."""
     text = re.sub(rb"^\d+ ", b"", line).rstrip(b"\r")
     words = text.lstrip(b" ")
     found = []
-    for place, (sort, (holds, answer)) in enumerate(zip(SORTS, PATTERNS)):
+    for place, (sort, holds, answer) in enumerate(patterns):
         if (sort.mark is None or sort.mark in marks) and words.startswith(sort.begins):
             if holds.search(text) and answer.search(reply):
                 found.append(place)
@@ -421,7 +447,9 @@ def marks_of_totals(reply):
 class Tally:
     """How many lines of each sort were answered, how many there were in all, and how they were answered."""
 
-    def __init__(self):
+    def __init__(self, sorts=SORTS):
+        self.sorts = sorts
+        self.patterns = patterns_of(sorts)
         self.lines = 0
         self.seen = Counter()
         self.answers = Counter()
@@ -429,7 +457,7 @@ class Tally:
 
     def count(self, line, marks, reply):
         self.lines += 1
-        self.seen.update(sorts_of(line, marks | marks_of_totals(reply), reply))
+        self.seen.update(sorts_of(self.patterns, line, marks | marks_of_totals(reply), reply))
         answer = kind_of_answer(reply)
         self.answers[answer] += 1
         if "query" in marks:
@@ -444,7 +472,7 @@ class Tally:
 
     def table(self):
         """For each sort how many lines were of it, and how many had to be."""
-        return [(sort, self.seen[place], sort.least * self.lines / 1000) for place, sort in enumerate(SORTS)]
+        return [(sort, self.seen[place], sort.least * self.lines / 1000) for place, sort in enumerate(self.sorts)]
 
     def summary(self):
         """How many lines were accepted or got each refusal, and what became of the queries with operators."""

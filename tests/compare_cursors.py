@@ -1,0 +1,84 @@
+#!/usr/bin/env python3
+"""Compares the program with the slow machine over pseudo-random lines beside which many cursors are open.
+
+    compare_cursors.py [--program CMD] [--create CMD] [--ways WAYS] [--slow CMD]
+                       [--lines N] [--rounds N] [--sessions-lines N] [--seed S] [--only R] [--counts] [--all]
+
+Up to twelve cursors of six sessions are open at once, and are fetched from a few rows at a time, most of them after hundreds
+of changes: rows that come and go, referents that move, views and alignments that are dropped and defined anew under their
+names (cursor_lines.py). One round more has all 64 sessions, with four cursors each. What is compared, and how, is as in
+compare.py. `--all` is the long run: 100,000 lines in 40 rounds, and 10,000 changes of 64 sessions.
+The last line is `N passed, M failed`: rounds, once in each way, and sorts.
+"""
+
+import argparse
+import sys
+from multiprocessing import Pool
+
+from compare import SLOW, Programs, Round, compare_round, report_rounds, report_tally
+from cursor_lines import CursorLines
+from tally import CURSOR_SORTS, Tally
+from ways import add_options, program_of
+
+ALL_SESSIONS = "all sessions"
+SHARE = (4_000, 2, 1_500)  # lines, rounds, and lines of the round of all sessions
+ALL = (100_000, 40, 30_000)  # a third of them are changes
+
+
+class CursorRound(Round):
+    """A round with many cursors."""
+
+    def lines(self):
+        seed = "cursors %d %d" % (self.seed, self.number)
+        if self.kind == ALL_SESSIONS:
+            return CursorLines(seed, range(64), 256).round(self.count)
+        return CursorLines(seed).round(self.count)
+
+    def tally(self):
+        return Tally(CURSOR_SORTS)
+
+
+def rounds_of(chosen):
+    counts = [chosen.lines * (number + 1) // chosen.rounds - chosen.lines * number // chosen.rounds for number in range(chosen.rounds)]
+    rounds = [CursorRound(number, chosen.seed, "cursors", count) for number, count in enumerate(counts)]
+    rounds.append(CursorRound(chosen.rounds, chosen.seed, ALL_SESSIONS, chosen.sessions_lines))
+    return rounds if chosen.only is None else [rounds[chosen.only]]
+
+
+def options():
+    parser = argparse.ArgumentParser(description="Compares the program with the slow machine where many cursors are open.")
+    add_options(parser)
+    parser.add_argument("--slow", default=SLOW, help="what it is compared with (default: the slow machine)")
+    parser.add_argument("--lines", type=int, default=SHARE[0], help="pseudo-random lines beside twelve cursors")
+    parser.add_argument("--rounds", type=int, default=SHARE[1], help="fresh runs that share the lines")
+    parser.add_argument("--sessions-lines", type=int, default=SHARE[2], help="pseudo-random lines of all sessions")
+    parser.add_argument("--seed", type=int, default=0)
+    parser.add_argument("--only", type=int, help="the number of one round, which is run alone")
+    parser.add_argument("--counts", action="store_true", help="print how many lines of each sort there were")
+    parser.add_argument("--all", action="store_true", help="the long run")
+    parser.add_argument("--jobs", type=int, metavar="N")
+    chosen = parser.parse_args()
+    if chosen.all:
+        chosen.lines, chosen.rounds, chosen.sessions_lines = ALL
+    return chosen
+
+
+def main():
+    chosen = options()
+    programs = Programs(program_of(chosen), chosen.slow)
+    rounds = rounds_of(chosen)
+    tally = Tally(CURSOR_SORTS)
+    with Pool(chosen.jobs) as pool:
+        compared = list(pool.imap(compare_round, [(programs, chosen.ways, made) for made in rounds]))
+        for one in compared:
+            tally.add(one.tally)
+        results = [report_rounds(pool, programs, compared)]
+    results.append(report_tally(tally, chosen.only is None, chosen.counts))
+    passed, failed = (sum(numbers) for numbers in zip(*results))
+    print("%d lines in %d rounds of seed %d: %s" % (tally.lines, len(rounds), chosen.seed, tally.summary()))
+    print("%d passed, %d failed" % (passed, failed))
+    return 1 if failed else 0
+
+
+if __name__ == "__main__":
+    sys.exit(main())
