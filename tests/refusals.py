@@ -1,7 +1,7 @@
 #!/usr/bin/env python3
 """Refuses in turn each growth and each device call of the built program, and judges what it does then.
 
-    refusals.py [--program PATH] [--jobs N] [--all] [--most N] [CONVERSATION ..]
+    refusals.py [--program PATH] [--jobs N] [--worked] [--all] [--most N] [CONVERSATION ..]
 
 A growth asks the C library for memory; a device call reads, writes, syncs or shortens the file. The program runs with a
 library loaded before it (refusing.c) that refuses one of them, in each run another one: the first, the second, and so on up
@@ -22,8 +22,10 @@ queries are asked again. And files are created.
 - With all reads and writes of the file cut short nothing changes, neither a reply nor a byte of the file that is left.
 
 MOST says which conversations are taken, and how many growths and device calls of each way are refused, evenly spread where
-that isn't each. Of the first line in whose step more pages are written home than may be held each device call is refused. --all takes all conversations, and so is taken one that is named: each growth and each device call is refused,
-or of long ones fewer. --most says how many at the most. It prints how refusals were told, what is not as wanted, and at last
+that isn't each. Of the first line in whose step more pages are written home than may be held each device call is refused.
+--worked takes the worked conversations (worked.py), of which each growth and each device call is refused. --all takes all
+conversations, and so is taken one that is named: each growth and each device call is refused, or of long ones fewer. --most
+says how many at the most. It prints how refusals were told, what is not as wanted, and at last
 `N passed, M failed`, counted in runs.
 """
 
@@ -40,6 +42,7 @@ from typing import NamedTuple
 
 from conversations import conversations_of
 from refusing import NOTHING, Counts, Ended, Program, Refusal, Wrong, build, expect
+from worked import WORKED
 
 HERE = os.path.dirname(os.path.abspath(__file__))
 FOLDER = os.path.join(HERE, "conversations")
@@ -426,7 +429,7 @@ def most_of(turn, words):
         return EACH
     if words.is_all:
         return min(words.most, max(1, MOST_LINES // len(turn.lines)))
-    return min(words.most, MOST[turn.script.name])
+    return min(words.most, EACH if words.is_worked else MOST[turn.script.name])
 
 
 def numbers_of(count, most):
@@ -495,6 +498,8 @@ def names_of(words):
     """The names of the conversations that are taken."""
     if words.names:
         return words.names
+    if words.is_worked:
+        return WORKED
     if words.is_all:
         return sorted(name.removesuffix(".txt") for name in os.listdir(FOLDER) if name.endswith(".txt"))
     return list(MOST)
@@ -504,6 +509,7 @@ def arguments():
     parser = argparse.ArgumentParser(description=__doc__, formatter_class=argparse.RawDescriptionHelpFormatter)
     parser.add_argument("--program", default=PROGRAM, metavar="PATH")
     parser.add_argument("--jobs", type=int, default=os.cpu_count() or 1, metavar="N")
+    parser.add_argument("--worked", action="store_true", dest="is_worked")
     parser.add_argument("--all", action="store_true", dest="is_all")
     parser.add_argument("--most", type=int, default=EACH, metavar="N")
     parser.add_argument("names", nargs="*", metavar="CONVERSATION")

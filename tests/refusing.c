@@ -1,4 +1,4 @@
-/* Refuses one growth, or fails one device call, of the program that it is loaded before (LD_PRELOAD).
+/* Refuses one growth, or fails one device call, of the program that it is loaded before (LD_PRELOAD), or lies about its file.
  *
  * A growth is a call that asks the C library for memory; a device call reads, writes, syncs or shortens a regular file. They
  * are counted from 1, in the order in which they are made, from when this library is ready to the end of the process:
@@ -9,12 +9,16 @@
  *     LONGEST_CALL=N      no read and no write of a regular file takes more bytes than these
  *     REFUSED_TOLD=FD     a file that is mapped, in which all is told at once (`struct told`)
  *
+ * In that file whoever started the process may say at any time what the disk does from then on (`struct asked`): which page it
+ * gives falsely, which of its next writes tears, and past how many pages it is full.
+ *
  * It takes no memory itself: memory comes from the C library's own names for its calls, and files are reached by the system's
  * calls.
  */
 
 #define _GNU_SOURCE
 #include <errno.h>
+#include <malloc.h>
 #include <stdatomic.h>
 #include <stdbool.h>
 #include <stddef.h>
@@ -31,13 +35,32 @@ extern void *__libc_malloc(size_t size);
 extern void *__libc_calloc(size_t count, size_t size);
 extern void *__libc_realloc(void *old, size_t size);
 extern void *__libc_memalign(size_t alignment, size_t size);
+extern void __libc_free(void *memory);
+
+enum { PAGE_BYTES = 4096 };
 
 enum kind { GROWTH, READ, WRITE, SYNC, CUT, KINDS };
+
+enum lie { TRUTH, ZEROS, OTHER_BYTES };
+
+struct asked {
+    atomic_ulong lie;        /* an `enum lie`: what a reading of the lying page gives */
+    atomic_ulong page;       /* the number of that page */
+    atomic_ulong place;      /* of OTHER_BYTES, the place in that page of the byte that is another one */
+    atomic_ulong bits;       /* and which of its bits are */
+    atomic_ulong torn_write; /* the number, from 1 on, of the write after this is set that writes its first half and fails */
+    atomic_ulong room;       /* how many pages the file may have, 0 for any number; a write past them fails as on a full disk */
+};
 
 struct told {
     atomic_ulong counts[KINDS]; /* how many calls of each kind were made */
     atomic_ulong refused;       /* 1 more than the kind of the call that was refused, 0 before */
     atomic_ulong has_ended;     /* 1 where the process has come to its end by itself */
+    atomic_ulong lies;          /* how many readings were false, and how many writes were torn or had no room */
+    atomic_ulong bytes_read;    /* how many bytes reads of regular files asked for */
+    atomic_ulong memory;        /* how many bytes of memory are in use */
+    atomic_ulong most_memory;   /* and how many were at the most */
+    struct asked asked;
 };
 
 static struct told untold, *told = &untold;
@@ -83,19 +106,48 @@ static bool is_refused_growth(void)
     return true;
 }
 
+/* Counts memory that is given, and gives it on. */
+static void *counted(void *memory)
+{
+    unsigned long bytes = memory ? malloc_usable_size(memory) : 0;
+    unsigned long now = atomic_fetch_add(&told->memory, bytes) + bytes;
+    unsigned long most = told->most_memory;
+    while (now > most && !atomic_compare_exchange_weak(&told->most_memory, &most, now))
+        ;
+    return memory;
+}
+
+static void uncount(unsigned long bytes)
+{
+    atomic_fetch_sub(&told->memory, bytes);
+}
+
 void *malloc(size_t size)
 {
-    return is_refused_growth() ? NULL : __libc_malloc(size);
+    return is_refused_growth() ? NULL : counted(__libc_malloc(size));
 }
 
 void *calloc(size_t count, size_t size)
 {
-    return is_refused_growth() ? NULL : __libc_calloc(count, size);
+    return is_refused_growth() ? NULL : counted(__libc_calloc(count, size));
 }
 
 void *realloc(void *old, size_t size)
 {
-    return is_refused_growth() ? NULL : __libc_realloc(old, size);
+    if (is_refused_growth())
+        return NULL;
+    unsigned long before = old ? malloc_usable_size(old) : 0;
+    void *memory = __libc_realloc(old, size);
+    if (memory || size == 0)
+        uncount(before);
+    return counted(memory);
+}
+
+void free(void *memory)
+{
+    if (memory)
+        uncount(malloc_usable_size(memory));
+    __libc_free(memory);
 }
 
 void *reallocarray(void *old, size_t count, size_t size)
@@ -110,7 +162,7 @@ void *reallocarray(void *old, size_t count, size_t size)
 
 void *memalign(size_t alignment, size_t size)
 {
-    return is_refused_growth() ? NULL : __libc_memalign(alignment, size);
+    return is_refused_growth() ? NULL : counted(__libc_memalign(alignment, size));
 }
 
 void *aligned_alloc(size_t alignment, size_t size)
@@ -167,24 +219,78 @@ static ssize_t failed_read(void *bytes, size_t length)
     return failed();
 }
 
+/* Where the lying page is among the bytes that were read from a place on, gives it falsely. */
+static ssize_t with_lie(int file, unsigned char *bytes, ssize_t length, off_t at)
+{
+    struct asked *asked = &told->asked;
+    if (!is_counting || length <= 0 || at < 0 || !is_regular(file))
+        return length;
+    atomic_fetch_add(&told->bytes_read, (unsigned long)length);
+    off_t first = (off_t)(asked->page * PAGE_BYTES), end = first + PAGE_BYTES;
+    if (asked->lie == TRUTH || at >= end || at + length <= first)
+        return length;
+    for (off_t place = at > first ? at : first; place < end && place < at + length; place++) {
+        if (asked->lie == ZEROS)
+            bytes[place - at] = 0;
+        else if (place == first + (off_t)asked->place)
+            bytes[place - at] ^= (unsigned char)asked->bits;
+    }
+    atomic_fetch_add(&told->lies, 1);
+    return length;
+}
+
+static off_t place_in(int file)
+{
+    int before = errno;
+    off_t place = lseek(file, 0, SEEK_CUR);
+    errno = before;
+    return place;
+}
+
+/* Whether this write of a file tears, counted from when that was asked for. */
+static bool is_torn(int file)
+{
+    if (!is_counting || told->asked.torn_write == 0 || !is_regular(file))
+        return false;
+    return atomic_fetch_sub(&told->asked.torn_write, 1) == 1;
+}
+
+static bool is_past_room(int file, off_t end)
+{
+    return is_counting && told->asked.room != 0 && end > (off_t)(told->asked.room * PAGE_BYTES) && is_regular(file);
+}
+
+static ssize_t full(void)
+{
+    atomic_fetch_add(&told->lies, 1);
+    errno = ENOSPC;
+    return -1;
+}
+
 ssize_t read(int file, void *bytes, size_t length)
 {
     if (is_refused_call(READ, file))
         return failed_read(bytes, length);
-    return syscall(SYS_read, file, bytes, taken(file, length));
+    off_t at = place_in(file);
+    return with_lie(file, bytes, syscall(SYS_read, file, bytes, taken(file, length)), at);
 }
 
 ssize_t pread(int file, void *bytes, size_t length, off_t at)
 {
     if (is_refused_call(READ, file))
         return failed_read(bytes, length);
-    return syscall(SYS_pread64, file, bytes, taken(file, length), at);
+    return with_lie(file, bytes, syscall(SYS_pread64, file, bytes, taken(file, length), at), at);
 }
 
 ssize_t write(int file, const void *bytes, size_t length)
 {
-    if (is_refused_call(WRITE, file)) {
-        if (is_half_done)
+    bool is_refused = is_refused_call(WRITE, file), tears = is_torn(file);
+    if (is_past_room(file, place_in(file) + (off_t)length))
+        return full();
+    if (tears)
+        atomic_fetch_add(&told->lies, 1);
+    if (is_refused || tears) {
+        if (is_half_done || tears)
             syscall(SYS_write, file, bytes, length / 2);
         return failed();
     }
@@ -193,8 +299,13 @@ ssize_t write(int file, const void *bytes, size_t length)
 
 ssize_t pwrite(int file, const void *bytes, size_t length, off_t at)
 {
-    if (is_refused_call(WRITE, file)) {
-        if (is_half_done)
+    bool is_refused = is_refused_call(WRITE, file), tears = is_torn(file);
+    if (is_past_room(file, at + (off_t)length))
+        return full();
+    if (tears)
+        atomic_fetch_add(&told->lies, 1);
+    if (is_refused || tears) {
+        if (is_half_done || tears)
             syscall(SYS_pwrite64, file, bytes, length / 2, at);
         return failed();
     }

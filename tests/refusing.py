@@ -1,4 +1,5 @@
-"""Runs of the program in which a growth is refused or a device call fails: refusing.c is loaded before it, and tells of it."""
+"""Runs of the program in which a growth is refused, a device call fails, or the disk lies: refusing.c is loaded before it, and
+tells of it."""
 
 import mmap
 import os
@@ -17,9 +18,15 @@ SENT_AT_ONCE = 16_384  # bytes of lines: a pipe holds more
 # The last line of a reply.
 FINISH = re.compile(rb"^[0-9]+ (?:OK|ERR) [^\n]*\n", re.MULTILINE)
 
-# What the library tells: how many calls of each kind were made, which kind was refused, and whether the program came to its end.
+# What the library tells: how many calls of each kind were made, which kind was refused, whether the program came to its end, how
+# many calls were false, how many bytes reads asked for, and how many bytes of memory are in use and were at the most.
 KINDS = ("growth", "read", "write", "sync", "cut")
-TOLD = struct.Struct("@5L L L")
+TOLD = struct.Struct("@5L L L L L L L")
+REFUSED, HAS_ENDED, LIES, BYTES_READ, _MEMORY, MOST_MEMORY = range(len(KINDS), len(KINDS) + 6)
+
+# What it is asked to do from now on.
+ASKED = struct.Struct("@6L")
+ZEROS, OTHER_BYTES = 1, 2
 
 
 class Wrong(Exception):
@@ -58,6 +65,21 @@ class Refusal(NamedTuple):
 
 
 NOTHING = Refusal()
+
+
+class Lie(NamedTuple):
+    """What the disk does from now on: a page that it gives as zeros or with other bits of a byte; which of its next writes tears,
+    from 1 on; and how many pages it has room for."""
+
+    lie: int = 0
+    page: int = 0
+    place: int = 0
+    bits: int = 0
+    torn_write: int = 0
+    room: int = 0
+
+
+HONEST = Lie()
 
 
 class Counts(NamedTuple):
@@ -99,8 +121,8 @@ class Run:
 
     def __init__(self, program, words, refusal):
         told = os.memfd_create("told")
-        os.truncate(told, TOLD.size)
-        self.told = mmap.mmap(told, TOLD.size)
+        os.truncate(told, TOLD.size + ASKED.size)
+        self.told = mmap.mmap(told, TOLD.size + ASKED.size)
         self.is_noted = False
         settings = dict(os.environ, LD_PRELOAD=program.library, REFUSED_TOLD=str(told), **refusal.settings())
         pipe = subprocess.PIPE
@@ -157,11 +179,22 @@ class Run:
 
     def counts(self):
         """How many growths the run has asked for by now, and how many device calls it has made."""
-        return Counts(*TOLD.unpack(self.told)[:len(KINDS)])
+        return Counts(*self.told_now()[:len(KINDS)])
+
+    def told_now(self):
+        return TOLD.unpack_from(self.told)
+
+    def lie(self, lie):
+        """Has the disk do something from now on."""
+        ASKED.pack_into(self.told, TOLD.size, *lie)
+
+    def lies(self):
+        """How many calls were false by now."""
+        return self.told_now()[LIES]
 
     def refused_now(self):
         """The kind of call that was refused since this was asked last, if one was."""
-        refused = TOLD.unpack(self.told)[len(KINDS)]
+        refused = self.told_now()[REFUSED]
         if self.is_noted or refused == 0:
             return None
         self.is_noted = True
@@ -174,7 +207,7 @@ class Run:
             out, errors = self.process.communicate(timeout=LONGEST)
         except subprocess.TimeoutExpired:
             raise Wrong("no end within %d seconds" % LONGEST) from None
-        if not TOLD.unpack(self.told)[-1]:
+        if not self.told_now()[HAS_ENDED]:
             how = (self.process.returncode, errors)
             raise Wrong("it did not end by itself, or without refusing.c: status %d, %.300r" % how)
         return Ended(self.process.returncode, out, errors)
