@@ -1,7 +1,7 @@
 #!/usr/bin/env python3
 """Opens files with the built program and with the slow reader of files, and compares what both say.
 
-    files.py [--program PATH] [--seed S] [--turns N] [--turns-alone] [--only TURN]
+    files.py [--program PATH] [--seed S] [--turns N] [--turns-alone] [--only TURN] [--all-bytes]
 
 `roadseg run --file F` opens each file or refuses it 94 or 95, as the slow reader (slow_file.py) does from the bytes
 alone. A file that is opened is asked for what it holds (file_questions.py), and the answers have to be those of the
@@ -13,7 +13,8 @@ Three groups of files are compared: those written by hand (whole_files.py), of w
 closed file of a row that was inserted four times, with each byte changed in turn, to all 255 other values where a field
 is, and to one other value elsewhere; and pseudo-random ones (random_files.py), as many as there are turns. It prints
 what differs, for each group how many files were OK, 94 and 95, how many differ, and how many lines were answered, and
-at last `N passed, M failed`. `--turns 200000 --turns-alone` is the long run.
+at last `N passed, M failed`. `--turns 200000 --turns-alone` is the long run, and `--all-bytes` alone
+changes each byte of that row's file to all 255 other values.
 """
 
 import argparse
@@ -71,13 +72,13 @@ def written_cases():
     return [Case(file.name, file.data, file.wanted) for file in files()]
 
 
-def byte_cases():
-    """The closed file of the inserted row, with each byte changed."""
+def byte_cases(has_all=False):
+    """The closed file of the inserted row, with each byte changed, to all other values where a field is or where it is asked for."""
     file = written(SOUND["inserted"]())
     data = bytes(file.data)
     told = {place for name, places in file.fields.items() if not is_like_another(name) for place in places}
     for place, byte in enumerate(data):
-        changes = range(1, 256) if place in told else [1 << place % 8]
+        changes = range(1, 256) if has_all or place in told else [1 << place % 8]
         for change in changes:
             title = "byte %d of page %d is %d" % (place % 4096, place // 4096, byte ^ change)
             yield Case(title, file.with_bytes(place, bytes([byte ^ change])))
@@ -247,6 +248,7 @@ def options():
     parser.add_argument("--turns", type=int, default=300, help="pseudo-random files")
     parser.add_argument("--only", type=int, help="one turn alone")
     parser.add_argument("--turns-alone", action="store_true", help="pseudo-random files alone")
+    parser.add_argument("--all-bytes", action="store_true", help="each byte changed to each value, and nothing else")
     return parser.parse_args()
 
 
@@ -257,7 +259,10 @@ def main():
     results = []
     with Pool() as pool:
         these = partial(compare, path)
-        if chosen.only is None and not chosen.turns_alone:
+        if chosen.all_bytes:
+            results.append(report("each byte and value", pool.imap(these, batches_of(byte_cases(True)))))
+            turns = []
+        elif chosen.only is None and not chosen.turns_alone:
             results.append(report("written by hand", pool.imap(these, batches_of(written_cases()))))
             results.append(report("each byte changed", pool.imap(these, batches_of(byte_cases())), BYTES_CHANGED))
         these = partial(compare_turns, path, chosen.seed)

@@ -1,0 +1,218 @@
+#!/usr/bin/env python3
+"""Opens changed files of 5 to 3,000 pages with the built program, judges what is said beside the slow reader, and counts what
+opening them takes.
+
+    damaged_files.py [--program PATH] [--changes N] [--seed S] [--jobs N] [--all]
+
+Each file is a sound one with one change of bytes or pages (grown_files.py). It is judged as in files.py: `run --file` opens or
+refuses it as the slow reader of files does; where it is opened, its questions are answered as by the slow machine, its bytes
+stay, and after one definition more it stands for that state. For one change of ten it is also counted what opening it takes:
+
+- it reads each page once, and where the file has more pages than are kept once more, and besides at most 64 bytes for each page of
+  the file and four times the bytes of the catalogue;
+- it takes no more memory than 24 times the bytes of the file and a constant, whatever numbers stand in it. So each number of page
+  0, of the directory and of the catalogue is also set to its greatest value, and to 2^63 where it is that wide.
+
+2,000 changes are made by default, most of them of small files, and 1,000,000 with --all. It prints what is not as wanted, how
+many files were OK, 94 and 95, what was taken at the most, and at last `N passed, M failed`.
+"""
+
+import argparse
+import os
+import sys
+import tempfile
+from collections import Counter
+from functools import partial
+from itertools import islice
+from multiprocessing import Pool
+from typing import NamedTuple
+
+import files
+import refusing
+from file_writer import DAMAGED, NOT_CLOSED, OK, PAGE_BYTES, Description, Record, Route, Table, written
+from grown_files import SIZES, Change, grown, of_each_kind
+from slow_file import read
+
+SHARE, ALL = 2_000, 1_000_000  # changes
+BATCH = 25  # changes of one size that a process makes before it gives its counts
+COUNTED = 10  # of so many changes one is counted
+
+# How many of 200 batches are of files of each size.
+WEIGHTS = dict(zip(SIZES, (50, 45, 40, 30, 20, 9, 3, 1, 1, 1)))
+FEW = {1_000: 5, 3_000: 2}  # changes of a batch of such large files
+
+KEPT = 256  # pages
+
+# How much memory a run may take beside this constant, for each byte of the file: a record of the narrowest row is 30 bytes, and
+# some 700 in memory, where those of one route are together.
+CONSTANT, FACTOR = 1_000_000, 24
+ASKED = b"0 TRANSLATE none 0 AS ABSOLUTE\n"
+REFUSED = b"0 ERR 20 no such route\n"
+NUMBERS_OF = ("page 0 ", "page 1 ", "pages", "first free", "free", "first catalogue", "catalogue bytes", "slot ", "index slot ",
+              "referents ", "accepted", "count of ", "route ", "table ", "index ", "view ", "alignment ")  # fmt: skip
+
+
+class Opened(NamedTuple):
+    """What opening a file took: bytes that were read beyond each page once, and bytes of memory at the most."""
+
+    bytes_beyond: int
+    memory: int
+
+
+def opened(program, data, answer):
+    """Opens a file, and counts."""
+    with program.run(program.file_of(data)) as run:
+        reply = run.ask(ASKED)
+        told = run.told_now() if reply else None
+        ended = run.end()
+        told = told or run.told_now()
+    refusing.expect("the reply", reply, REFUSED if answer == OK else b"")
+    refusing.expect("the end", ended, refusing.Ended(0 if answer == OK else 1, b"", files.SAID[answer]))
+    pages = len(data) // PAGE_BYTES + 1
+    return Opened(told[refusing.BYTES_READ] - PAGE_BYTES * pages, told[refusing.MOST_MEMORY])
+
+
+def check_opened(program, case, answer):
+    """Counts what opening a file takes, and gives what is too much."""
+    took = opened(program, case.data, answer)
+    pages = len(case.data) // PAGE_BYTES + 1
+    catalogue = min(int.from_bytes(case.data[48:52], "big"), len(case.data))
+    again = PAGE_BYTES * pages if pages > KEPT else 0
+    faults = []
+    if took.bytes_beyond > again + 64 * pages + 4 * catalogue:
+        faults.append("%s: %d bytes are read beyond each of %d pages once" % (case.title, took.bytes_beyond, pages))
+    if took.memory > CONSTANT + FACTOR * len(case.data):
+        faults.append("%s: %d bytes of memory are taken for %d bytes" % (case.title, took.memory, len(case.data)))
+    return took, faults
+
+
+# Groups of files.
+
+
+class Work:
+    """The program of this process and of those that it starts, as other programs run it and with refusing.c before it."""
+
+    path = library = folder = None
+
+    @staticmethod
+    def counted():
+        return refusing.Program(Work.path, Work.library, Work.folder)
+
+
+def changes_of(batch, seed):
+    """The changes of a batch, which are of files of one size."""
+    sizes = [size for size, weight in WEIGHTS.items() for _ in range(weight)]
+    size = sizes[batch * 73 % len(sizes)]
+    turns = range(batch * BATCH, batch * BATCH + FEW.get(size, BATCH))
+    for change in (Change(size, seed, turn) for turn in turns):
+        yield files.Case(change.title, bytes(change.data))
+
+
+def compared(seed, batch):
+    """Compares what is said of the files of a batch, and counts what opening some of them takes."""
+    cases = list(changes_of(batch, seed))
+    found = files.compare(Work.path, cases)
+    most, faults = Opened(-sys.maxsize, 0), found.faults
+    for case in cases[::COUNTED]:
+        try:
+            took, more = check_opened(Work.counted(), case, read(case.data).answer)
+            most, faults = Opened(*map(max, most, took)), faults + more
+        except refusing.Wrong as fault:
+            faults.append("%s: %s" % (case.title, fault))
+    return found._replace(faults=faults), most
+
+
+def batches_of(changes):
+    """As many batches as have so many changes."""
+    batch = 0
+    while changes > 0:
+        yield batch
+        sizes = [size for size, weight in WEIGHTS.items() for _ in range(weight)]
+        changes -= FEW.get(sizes[batch * 73 % len(sizes)], BATCH)
+        batch += 1
+
+
+def greatest_numbers():
+    """A file with each of its numbers in turn as great as it can be."""
+    file = written(of_each_kind())
+    for name, places in file.fields.items():
+        if name.startswith(NUMBERS_OF) and len(places) in (1, 2, 4, 8) and " cell " not in name:
+            for value in {256 ** len(places) - 1, 256 ** len(places) // 2}:
+                yield files.Case("%s is %d" % (name, value), file.with_fields({name: value}))
+
+
+def narrow_file():
+    """A file of as many records as go into some pages, all on one route."""
+    records = [Record(0, 2 * number, 2 * number + 1, (b"x",), 2) for number in range(20_000)]
+    return Description([Route(b"A", 0, 0, 50_000, 1)], [Table(b"t", 0, 1, [(b"c", 1)], records)], accepted=9)
+
+
+def sound_files():
+    for size in SIZES:
+        yield files.Case("a sound file of %d pages" % size, grown(size))
+    yield files.Case("a sound file of narrow rows", bytes(written(narrow_file()).data))
+
+
+def counted(cases):
+    """Counts what opening files takes."""
+    most, faults, answers = Opened(-sys.maxsize, 0), [], Counter()
+    for case in cases:
+        answer = read(case.data).answer
+        answers[answer] += 1
+        try:
+            took, more = check_opened(Work.counted(), case, answer)
+            most, faults = Opened(*map(max, most, took)), faults + more
+        except refusing.Wrong as fault:
+            faults.append("%s: %s" % (case.title, fault))
+    return answers, most, faults
+
+
+def parts_of(cases):
+    return iter(lambda: list(islice(cases, BATCH)), [])
+
+
+def told_of(title, answers, most, faults):
+    for fault in faults[: files.MOST_PRINTED]:
+        print(fault)
+    numbers = [answers[answer] for answer in (OK, DAMAGED, NOT_CLOSED)]
+    print("%s: %d OK, %d 94, %d 95, %d differ; at most %d bytes read beyond each page once, and %d bytes of memory"
+          % (title, *numbers, len(faults), *most), flush=True)
+    return sum(numbers) - len(faults), len(faults)
+
+
+def arguments():
+    parser = argparse.ArgumentParser(description=__doc__, formatter_class=argparse.RawDescriptionHelpFormatter)
+    parser.add_argument("--program", default=files.PROGRAM, metavar="PATH")
+    parser.add_argument("--changes", type=int, default=SHARE)
+    parser.add_argument("--seed", type=int, default=0)
+    parser.add_argument("--jobs", type=int)
+    parser.add_argument("--all", action="store_true", dest="is_all")
+    words = parser.parse_args()
+    words.changes = ALL if words.is_all else words.changes
+    return words
+
+
+def main():
+    words = arguments()
+    folder = files.SHARED_MEMORY if os.path.isdir(files.SHARED_MEMORY) else None
+    answers, most, faults = Counter(), Opened(-sys.maxsize, 0), []
+    with tempfile.TemporaryDirectory(prefix="roadseg-", dir=folder) as folder:
+        Work.path, Work.library, Work.folder = os.path.abspath(words.program), refusing.build(folder), folder
+        with Pool(words.jobs) as pool:
+            results = []
+            for title, cases in (("sound files", sound_files()), ("greatest numbers", greatest_numbers())):
+                answers, most, faults = Counter(), Opened(-sys.maxsize, 0), []
+                for some, took, found in pool.imap(counted, parts_of(cases)):
+                    answers, most, faults = answers + some, Opened(*map(max, most, took)), faults + found
+                results.append(told_of(title, answers, most, faults))
+            answers, most, faults = Counter(), Opened(-sys.maxsize, 0), []
+            for one, took in pool.imap(partial(compared, words.seed), batches_of(words.changes)):
+                answers, most, faults = answers + one.counts, Opened(*map(max, most, took)), faults + one.faults
+            results.append(told_of("changes of seed %d" % words.seed, answers, most, faults))
+    passed, failed = (sum(numbers) for numbers in zip(*results))
+    print("%d passed, %d failed" % (passed, failed))
+    return 1 if failed else 0
+
+
+if __name__ == "__main__":
+    sys.exit(main())
