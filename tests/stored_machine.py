@@ -1,7 +1,7 @@
 """The slow machine in the state that the slow reader read of a file: `machine_of(state)`; and what two machines are compared by.
 
-It shares nothing with the crates. This machine is asked and never changed: a command that it would carry out as a
-change is `Changing`. Of a table with a span too long for a set of rows at each of its thousandths it knows the runs
+It shares nothing with the crates. This machine is asked and never changed, unless it is a `ChangingMachine`: a command that
+it would carry out as a change is `Changing`. Of a table with a span too long for a set of rows at each of its thousandths it knows the runs
 that were read, and no more: a command whose answer comes of such thousandths is `TooLong`.
 """
 
@@ -58,9 +58,16 @@ class StoredMachine(Machine):
         return self.runs_of_tables[query]
 
 
-def machine_of(state):
+class ChangingMachine(StoredMachine):
+    """The machine that a file holds, which carries out changes too. No span of the file may be long."""
+
+    count_change = Machine.count_change
+    runs = Machine.runs
+
+
+def machine_of(state, kind=StoredMachine):
     """The machine in this state."""
-    machine, said = StoredMachine(state.accepted), state.catalogue
+    machine, said = kind(state.accepted), state.catalogue
     machine.routes = {route.name: Route(route.start, route.finish) for route in said.routes}
     for route, name, place in state.referents:
         machine.routes[route].referents[name] = place
