@@ -39,8 +39,8 @@ class CursorRound(Round):
 
 
 def rounds_of(chosen):
-    counts = [chosen.lines * (number + 1) // chosen.rounds - chosen.lines * number // chosen.rounds for number in range(chosen.rounds)]
-    rounds = [CursorRound(number, chosen.seed, "cursors", count) for number, count in enumerate(counts)]
+    count = chosen.lines // chosen.rounds
+    rounds = [CursorRound(number, chosen.seed, "cursors", count) for number in range(chosen.rounds)]
     rounds.append(CursorRound(chosen.rounds, chosen.seed, ALL_SESSIONS, chosen.sessions_lines))
     return rounds if chosen.only is None else [rounds[chosen.only]]
 
