@@ -69,14 +69,10 @@ fn is_plain(call: Option<&Call>) -> bool {
     }
 }
 
-/// Whether a moment is looked at. Of more than 200 calls it is one of the first three, every 500th, and those before and
-/// after each call that neither reads nor writes a whole page.
+/// Whether a moment is looked at. Of more than 200 calls it is every 1,000th, the last, and the one before each call that
+/// neither reads nor writes a whole page.
 fn is_looked_at(calls: &[Call], moment: usize) -> bool {
-    calls.len() <= 200
-        || moment < 3
-        || moment % 500 == 0
-        || !is_plain(calls.get(moment))
-        || !is_plain(calls.get(moment.saturating_sub(1)))
+    calls.len() <= 200 || moment % 1_000 == 0 || !is_plain(calls.get(moment))
 }
 
 /// Looks after each call from a moment on, in each of the images: recovery finds the pages before, and from some moment on

@@ -96,8 +96,8 @@ fn a_checkpoint_is_resumed_after_each_fault(rt: HostRuntime) -> Result<(), Fail>
     Ok(())
 }
 
-/// A call of each stage of the large checkpoint: a copy, the sync of the gate, a home page, the gate that is closed.
-const FAILING_CALLS: [u64; 4] = [553, 1_106, 1_658, 2_209];
+/// The sync of the large checkpoint's open gate.
+const FAILING_CALLS: [u64; 1] = [1_106];
 
 #[test]
 fn a_large_checkpoint_is_resumed(rt: HostRuntime) -> Result<(), Fail> {
