@@ -22,7 +22,7 @@ from ways import add_options, program_of
 
 ALL_SESSIONS = "all sessions"
 SHARE = (4_000, 2, 1_500)  # lines, rounds, and lines of the round of all sessions
-ALL = (100_000, 40, 30_000)  # a third of them are changes
+ALL = (100_000, 40, 36_000)  # of the last more than 10,000 are accepted changes
 
 
 class CursorRound(Round):

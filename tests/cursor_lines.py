@@ -13,6 +13,7 @@ from random_parts import KnownTable
 
 SESSIONS = (0, 1, 2, 7, 40, 63)
 MOST_OPEN = 12
+FEWEST_OPEN = 0.9  # of as many as there may be; with fewer a cursor is opened before one is fetched from
 
 # After so many changes a cursor is fetched from very late.
 HUNDREDS = 200
@@ -23,7 +24,7 @@ WEIGHTS = {
     "define_view": 2, "drop_view": 2, "renew_view": 6, "define_alignment": 2, "drop_alignment": 1, "renew_alignment": 6,
     "define_index": 2, "drop_index": 0.7, "drop_table": 0.5, "drop_route": 0.5, "define_route": 0.5, "define_table": 0.5,
     "select_query": 6, "total": 2, "translate": 1, "open_cursor": 10, "fetch": 45, "close_cursor": 1.2,
-    "close_all": 0.3, "save": 1.5, "reopen": 0.05,
+    "close_all": 0.5, "save": 1.5, "reopen": 0.15,
 }  # fmt: skip
 
 # What is counted as a change of what a cursor was opened on.
@@ -49,6 +50,8 @@ class CursorLines(RandomLines):
     def __init__(self, seed, sessions=SESSIONS, most_open=MOST_OPEN):
         super().__init__(seed, "short")
         self.sessions, self.most_open = sessions, most_open
+        is_crowd = most_open > MOST_OPEN
+        self.weights = {**WEIGHTS, "close_all": 0, "reopen": 0} if is_crowd else WEIGHTS
         self.asked = {}  # how many rows of each cursor were asked for
 
     def flaw(self, share=1.0):
@@ -58,6 +61,14 @@ class CursorLines(RandomLines):
         for _ in range(FIRST_EVENTS):
             tokens, effect = self.insert()
             yield self.flawless(tokens)
+            effect()
+
+    def first_indexes(self):
+        """The first indexes, and as many cursors as there may be."""
+        yield from super().first_indexes()
+        while len(self.cursors) < self.most_open:
+            tokens, effect = self.open_cursor()
+            yield b"%d %s" % (self.session_number, b" ".join(tokens))
             effect()
 
     def know_table(self, name, is_line, columns):
@@ -72,10 +83,10 @@ class CursorLines(RandomLines):
         """The name of the next command, and what writes it: what waits, or any, if there is what it needs."""
         if self.waiting:
             return "waiting", self.waiting.pop()
-        name = self.random.choices(list(WEIGHTS), WEIGHTS.values())[0]
+        name = self.random.choices(list(self.weights), self.weights.values())[0]
         if name == "open_cursor" and len(self.cursors) >= self.most_open:
             name = "fetch"
-        if name == "fetch" and len(self.cursors) < self.most_open / 2:
+        if name == "fetch" and len(self.cursors) < FEWEST_OPEN * self.most_open:
             name = "open_cursor"
         self.changes += name in ("renew_view", "renew_alignment")  # the others are counted where they are accepted
         return name, getattr(self, name)
