@@ -26,9 +26,11 @@ module _ {D : Type 0} (d : disk.Ghosts D)
       (next, only new next (does.closes.stays machine is.is), refl)
   part_goes opened_again old new machine does is =
       let opened = does.opens.opens in
-      let next = machine_with d opened.state new in
-      (next, only new next opened.is,
-      one_state does.limit old.store.pager.limit (d.seen does.disk) opened.state (without_cursors machine.state) opened.stood (does.closes.stands machine is.is))
+      let next = machine_with d opened.state new in (
+        next,
+        only new next opened.is,
+        one_state does.limit old.store.pager.limit (d.seen does.disk) opened.state (without_cursors machine.state) opened.stood (does.closes.stands machine is.is),
+      )
 
   pub parts_go_on : (parts : List Part) (old new : EngineState D) (machine : Machine) → AreDone d parts old new → IsOneMachine d old machine
       → (last : Machine) × IsOneMachine d new last × GoOn parts machine last
