@@ -1,0 +1,8 @@
+mod MeasureTexts
+mod Words
+mod Defining
+mod ListWords
+mod Tables
+mod Alignments
+mod Inserts
+mod AllLines
