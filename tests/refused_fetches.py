@@ -17,7 +17,7 @@ import sys
 import tempfile
 from collections import Counter
 
-from refusals import EACH, FAULTS_SHOWN, FORKING, PROGRAM, RUNS_OF_A_TASK, WELL, Held, Line, Script, Work, judged, numbers_of
+from refusals import EACH, FAULTS_SHOWN, FORKING, PROGRAM, WELL, Held, Line, Script, Work, judged, numbers_of, parts_of
 from refusing import Program, Refusal, Wrong, build, expect
 from slow_machine import Machine
 
@@ -141,7 +141,7 @@ def main():
         held.count(program)
         Work.turns = [held]
         refusals = refusals_of(held, words.most)
-        tasks = [(0, refusals[first : first + RUNS_OF_A_TASK]) for first in range(0, len(refusals), RUNS_OF_A_TASK)]
+        tasks = [(0, part, True) for part in parts_of(refusals)]
         with FORKING.Pool(words.jobs) as pool:
             for ways, found in pool.imap(judged, tasks):
                 told.update(ways)
