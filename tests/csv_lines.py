@@ -311,8 +311,11 @@ def main():
         check_watched()
         check_refused_growths()
     except Unexpected as fault:
-        sys.exit("csv_lines: %s" % fault)
+        print("csv_lines: %s" % fault)
+        print("0 passed, 1 failed")
+        sys.exit(1)
     print("csv and explain: %d records made into lines, %d refusals explained" % (records, refusals))
+    print("%d passed, 0 failed" % (records + refusals))
 
 
 if __name__ == "__main__":
