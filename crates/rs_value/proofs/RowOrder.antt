@@ -1,4 +1,4 @@
--- The order of rows is total, only equal rows tie, and it is the order of the tuples of the code.
+-- The order of rows is total, only equal rows tie, and it is the order of the values of the code.
 use Rattle.std.proofs.Common.{◌≡◌, List, [], ◌∷◌, map, Bool, IsTrue, ◌==◌, ◌↔◌, refl, sym, ap, ◌∙◌, subst}
 use Rattle.std.specs.declared.cmp.Ordering.{Ordering}
 use Rattle.std.specs.declared.cmp.Ordering.TheVariants.{Less, Equal, Greater}

@@ -1,6 +1,5 @@
 -- What the values and literals of the code say.
 use Rattle.std.specs.Prelude.{List, map, string_bytes}
-use Rattle.arrayvec.specs.ArrayVec.{ArrayVec}
 use Rattle.rs_value.specs.declared.value.Value.{Value}
 use Rattle.rs_value.specs.declared.value.Value.TheVariants as values
 use Rattle.rs_value.specs.declared.value.Literal.{Literal}
@@ -12,8 +11,8 @@ datum_of values.Null = null
 datum_of (values.Int n) = number n
 datum_of (values.Text bytes) = text bytes.bytes
 
-unfoldable pub row_of : ArrayVec Value → Row
-row_of tuple = map datum_of tuple.items
+unfoldable pub row_of : List Value → Row
+row_of values = map datum_of values
 
 abbrev pub literal_datum : Literal → Datum
 literal_datum literals.Null = null

@@ -51,13 +51,12 @@ pub fn column_width(column: ColumnType) -> usize
 
 /// Writes a row of the columns over as many bytes as it takes, column by column. NULL is zeros. A number
 /// is 1 and its distance from -2^63 in eight bytes, the highest first; a text is 1, its bytes, and zeros.
-pub fn encode(schema: &Schema, tuple: &Tuple, bytes: &mut [u8])
-    requires row { IsRowOf schema.now.items (row_of tuple.now) }
+pub fn encode(schema: &Schema, values: &[Value], bytes: &mut [u8])
+    requires row { IsRowOf schema.now.items (row_of values.now) }
     requires width { length bytes.old ≡ row_width schema.now.items }
-    ensures says { SaysRow schema.now.items bytes.new (row_of tuple.now) }
+    ensures says { SaysRow schema.now.items bytes.new (row_of values.now) }
 {
     let columns = schema.as_slice();
-    let values = tuple.as_slice();
     let mut at = 0;
     for (i, column) in columns.iter().enumerate() {
         let end = at + column_width(*column);
@@ -120,7 +119,7 @@ fn fill_up(text: &[u8], bytes: &mut [u8])
 /// another than a row takes, a value begins with a byte other than 0 or 1, a byte other than 0 follows NULL or a
 /// text, a number is beyond 10^12, or a text is no UTF-8 or holds a control character.
 pub fn decode(schema: &Schema, bytes: &[u8]) -> Option<Tuple>
-    ensures row { IfSome result (λ tuple. SaysRow schema.now.items bytes.now (row_of tuple)) }
+    ensures row { IfSome result (λ tuple. SaysRow schema.now.items bytes.now (row_of tuple.items)) }
     ensures none { IfNone result ((row : Row) → SaysRow schema.now.items bytes.now row → ⊥) }
 {
     let columns = schema.as_slice();

@@ -17,7 +17,7 @@ use rs_refusal::Refusal;
 /// longer than its column.
 pub fn fits(schema: &Schema, literals: &[Literal]) -> Result<Tuple, Refusal>
     ensures ok { OnOk result (misfit schema.now.items (literal_row literals.now) ≡ None) }
-    ensures row { IfOk result (λ tuple. row_of tuple ≡ literal_row literals.now) }
+    ensures row { IfOk result (λ tuple. row_of tuple.items ≡ literal_row literals.now) }
     ensures refused { IfErr result (λ refusal.
         misfit schema.now.items (literal_row literals.now) ≡ Some refusal) }
 {
@@ -59,7 +59,7 @@ fn tuple_of(columns: &[ColumnType], literals: &[Literal]) -> Result<Tuple, Refus
     requires few { length columns.now ≤ COLUMNS }
     requires typed { each_passes has_type columns.now (literal_row literals.now) ≡ true }
     ensures ok { OnOk result (each_passes has_room columns.now (literal_row literals.now) ≡ true) }
-    ensures row { IfOk result (λ tuple. row_of tuple ≡ literal_row literals.now) }
+    ensures row { IfOk result (λ tuple. row_of tuple.items ≡ literal_row literals.now) }
     ensures number { IfErr result (λ refusal. refusal ≡ Refusal.TextTooLong) }
     ensures refused { IfErr result (λ refusal.
         each_passes has_room columns.now (literal_row literals.now) ≡ false) }

@@ -8,18 +8,18 @@ ghost use Rattle.std.specs.FinMap.{IsAntisymmetric};
 ghost use Rattle.rs_value.specs.Row.{row_cmp};
 ghost use Rattle.rs_value.specs.View.{row_of};
 
-use crate::value::Tuple;
+use crate::value::Value;
 use std::cmp::Ordering;
 
 /// Compares two rows in the order of rows.
-pub fn compare_rows(left: &Tuple, right: &Tuple) -> Ordering
+pub fn compare_rows(left: &[Value], right: &[Value]) -> Ordering
     ensures { result ≡ row_cmp (row_of left.now) (row_of right.now) }
 {
     left.cmp(right)
 }
 
-/// Whether two tuples are the same row.
-pub fn same_row(left: &Tuple, right: &Tuple) -> bool
+/// Whether two lists of values are the same row.
+pub fn same_row(left: &[Value], right: &[Value]) -> bool
     ensures { IsTrue result ↔ (row_of left.now ≡ row_of right.now) }
 {
     compare_rows(left, right) == Ordering::Equal

@@ -7,7 +7,7 @@ use Rattle.rs_value.proofs.fitting.tuple_of.Given as goal
 abbrev pub invariant-loop-i : goal.invariant-loop-i
 invariant-loop-i l = record {
   len : array_vec_len l.tuple ≡ l.i;
-  row : row_of l.tuple ++ literal_row (drop l.i l.literals) ≡ literal_row l.literals;
+  row : row_of l.tuple.items ++ literal_row (drop l.i l.literals) ≡ literal_row l.literals;
   typed : each_passes has_type (drop l.i l.columns) (literal_row (drop l.i l.literals)) ≡ true;
   room : each_passes has_room l.columns (literal_row l.literals) ≡ each_passes has_room (drop l.i l.columns) (literal_row (drop l.i l.literals));
 }

@@ -5,4 +5,4 @@ use Rattle.rs_value.proofs.row_order.compare_rows.Goals as goal
 
 pub returns : goal.returns
 unfolding row_of
-returns c = c.cmp.ensures ∙ derived_row_cmp c.args.left.now.items c.args.right.now.items
+returns c = c.cmp.ensures ∙ derived_row_cmp c.args.left.now c.args.right.now
