@@ -13,7 +13,7 @@ use Rattle.rs_facts.specs.Runs.{Stretch, stretch, IsMaximalRun}
 
 -- a span of the code as a row along a span
 abbrev pub seen : Span → Stretch
-seen span = stretch span.lo span.hi (row_of span.tuple.value)
+seen span = stretch span.lo span.hi (row_of span.tuple.items)
 
 -- The meaning of a list of spans, in any order: each in turn is put into nothing.
 abbrev pub places_of : List Stretch → Places

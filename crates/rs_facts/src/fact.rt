@@ -1,18 +1,9 @@
-//! What holds where: one fact, a row along a span, and a run on a route.
+//! What holds where: a row along a span, and a row that is kept in as much room as it has values.
 
-use rs_measure::Measure;
-use rs_value::Tuple;
+ghost use Rattle.std.specs.Prelude.{◌≡◌, IfOk};
 
-/// A row that holds on a route at one place.
-#[derive(Debug, Drop)]
-pub struct Fact {
-    /// The route's number.
-    pub route: u32,
-    /// The place, in thousandths.
-    pub place: Measure,
-    /// The row that holds there.
-    pub tuple: Tuple,
-}
+use rs_value::Value;
+use std::alloc::{AllocError, Global};
 
 /// A row along a span of one route.
 #[derive(Debug, Drop)]
@@ -21,19 +12,13 @@ pub struct Span {
     pub lo: u32,
     /// The first thousandth after the span; of a point, its place plus 1.
     pub hi: u32,
-    /// The row that holds.
-    pub tuple: Box<Tuple>,
+    /// The row that holds: one value for each column, from the left.
+    pub tuple: Vec<Value>,
 }
 
-/// A maximal run on a route.
-#[derive(Debug, Drop)]
-pub struct Run {
-    /// The route's number.
-    pub route: u32,
-    /// The first thousandth at which the row holds.
-    pub lo: u32,
-    /// The first thousandth after the run; of a point, its place plus 1.
-    pub hi: u32,
-    /// The row that holds.
-    pub tuple: Box<Tuple>,
+/// A copy of a row, with room for its values and no more. The only refusal is for want of memory.
+pub fn kept_row(alloc: Global, row: &[Value]) -> Result<Vec<Value>, AllocError>
+    ensures { IfOk result (λ kept. kept.items ≡ row.now) }
+{
+    Vec::from_slice(alloc, row)
 }

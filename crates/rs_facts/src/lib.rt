@@ -1,4 +1,4 @@
-//! Facts, spans, runs and conditions, and the definitions of what they mean.
+//! Spans and conditions, and the definitions of what they mean.
 //!
 //! The definitions are in `specs/`: facts at single thousandths, insertion, operators on sets of rows, conditions, the
 //! rows of a query, maximal runs, totals, and the text of a line. The code has the types that the layers above pass on, the columns of a row, and laws.
@@ -13,4 +13,4 @@ pub mod totals;
 
 pub use columns::{chosen, value_at};
 pub use condition::{Condition, Term};
-pub use fact::{Fact, Run, Span};
+pub use fact::{Span, kept_row};

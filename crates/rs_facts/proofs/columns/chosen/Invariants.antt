@@ -8,5 +8,5 @@ use Rattle.rs_facts.proofs.columns.chosen.Given as goal
 abbrev pub invariant-loop-column : goal.invariant-loop-column
 invariant-loop-column l = record {
   len : array_vec_len l.row ≡ l.column-index;
-  so_far : row_of l.row ++ chosen (drop l.column-index l.columns) (row_of l.tuple) ≡ chosen l.columns (row_of l.tuple);
+  so_far : row_of l.row.items ++ chosen (drop l.column-index l.columns) (row_of l.values) ≡ chosen l.columns (row_of l.values);
 }
