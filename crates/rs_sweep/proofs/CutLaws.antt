@@ -281,7 +281,7 @@ whole-end done (x ∷ rest) all e h = absurd (omega (arith, e))
 
 -- a part that was pushed is one of those that are left
 pub parts-pushed : (change : Row → Row) (span : Stretch) (found now : List Span) (piece : Span) (parts : List Part) (i : ℕ) (d : Part) (all : List Stretch) → now ≡ found ++ piece ∷ [] → i < length parts
-    → piece.lo ≡ (get_or parts i d).lo → piece.hi ≡ (get_or parts i d).hi → row_of piece.tuple.value ≡ change span.row
+    → piece.lo ≡ (get_or parts i d).lo → piece.hi ≡ (get_or parts i d).hi → row_of piece.tuple.items ≡ change span.row
     → map seen found ++ map (changed_part change span) (drop i parts) ≡ all → map seen now ++ map (changed_part change span) (drop (i + 1) parts) ≡ all
 parts-pushed change span found now piece parts i d all is below lo hi row h =
     ap (λ zs. map seen zs ++ map (changed_part change span) (drop (i + 1) parts)) is

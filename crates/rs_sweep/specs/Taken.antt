@@ -17,7 +17,7 @@ abbrev pub keyed : Rows → Stretch → Stretch
 keyed rows span = stretch span.lo span.hi (key rows span.row)
 
 abbrev pub taken_of : Rows → Taken → Stretch
-taken_of rows taken = stretch taken.first.now.lo taken.hi (key rows (row_of taken.first.now.tuple.value))
+taken_of rows taken = stretch taken.first.now.lo taken.hi (key rows (row_of taken.first.now.tuple.items))
 
 -- whether a stretch is of a lesser row, or lies before a span of its row
 unfoldable pub ends_before : Stretch → Stretch → Bool

@@ -1,6 +1,6 @@
 //! The columns named of each row of a list of spans.
 
-ghost use Rattle.std.specs.Prelude.{◌≡◌, ◌≤◌, ℕ, map, length};
+ghost use Rattle.std.specs.Prelude.{◌≡◌, ◌≤◌, ℕ, map, length, IfOk, OnOk};
 ghost use Rattle.rs_value.specs.declared.column.Kind.{Kind};
 ghost use Rattle.rs_value.specs.declared.column.TheConstants.{COLUMNS};
 ghost use Rattle.rs_value.specs.View.{row_of};
@@ -9,37 +9,42 @@ ghost use Rattle.rs_facts.specs.Spans.{seen, places_of, ArePlaced};
 ghost use Rattle.rs_sweep.specs.Lists.{AreSorted, AreWide};
 ghost use Rattle.rs_sweep.specs.Inner.{in_columns};
 
-use rs_facts::{Span, chosen};
-use rs_value::Tuple;
+use rs_facts::{Span, chosen, kept_row};
+use rs_value::Value;
+use std::alloc::{AllocError, Global};
 
-/// Keeps of each row the columns named, each by its place, the leftmost 0. It takes no memory.
-pub fn dissolve(spans: &mut Vec<Span>, columns: &[u8])
+/// Keeps of each row the columns named, each by its place, the leftmost 0. The only refusal is for want of memory; then
+/// some rows may be kept whole.
+pub fn dissolve(alloc: Global, spans: &mut Vec<Span>, columns: &[u8]) -> Result<(), AllocError>
     requires few { length columns.now ≤ COLUMNS }
     requires sorted { AreSorted (map seen spans.old.items) }
-    ensures means { (k : ℕ) → places_of (map seen spans.new.items) k
-        ≡ dissolved columns.now (places_of (map seen spans.old.items) k) }
-    ensures sorted { AreSorted (map seen spans.new.items) }
-    ensures placed { (kind : Kind) → ArePlaced kind (map seen spans.old.items)
-        → ArePlaced kind (map seen spans.new.items) }
-    ensures width { AreWide (length columns.now) (map seen spans.new.items) }
+    ensures means { OnOk result ((k : ℕ) → places_of (map seen spans.new.items) k
+        ≡ dissolved columns.now (places_of (map seen spans.old.items) k)) }
+    ensures sorted { OnOk result (AreSorted (map seen spans.new.items)) }
+    ensures placed { OnOk result ((kind : Kind) → ArePlaced kind (map seen spans.old.items)
+        → ArePlaced kind (map seen spans.new.items)) }
+    ensures width { OnOk result (AreWide (length columns.now) (map seen spans.new.items)) }
 {
-    choose_each(spans, columns);
+    choose_each(alloc, spans, columns)
 }
 
 /// Chooses the columns of each span's row.
-fn choose_each(spans: &mut Vec<Span>, columns: &[u8])
+fn choose_each(alloc: Global, spans: &mut Vec<Span>, columns: &[u8]) -> Result<(), AllocError>
     requires { length columns.now ≤ COLUMNS }
-    ensures { map seen spans.new.items ≡ map (in_columns columns.now) (map seen spans.old.items) }
+    ensures { OnOk result (map seen spans.new.items
+        ≡ map (in_columns columns.now) (map seen spans.old.items)) }
 {
     for span in spans.iter_mut() {
-        choose(&mut span.tuple, columns);
+        span.tuple = columns_of(alloc, &span.tuple, columns)?;
     }
+    Ok(())
 }
 
 /// Makes a row of the columns named.
-fn choose(tuple: &mut Tuple, columns: &[u8])
+fn columns_of(alloc: Global, values: &[Value], columns: &[u8]) -> Result<Vec<Value>, AllocError>
     requires { length columns.now ≤ COLUMNS }
-    ensures { row_of tuple.new ≡ chosen columns.now (row_of tuple.old) }
+    ensures { IfOk result (λ row. row_of row.items ≡ chosen columns.now (row_of values.now)) }
 {
-    *tuple = chosen(tuple, columns);
+    let row = chosen(values, columns);
+    kept_row(alloc, row.as_slice())
 }

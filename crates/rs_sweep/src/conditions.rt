@@ -7,38 +7,38 @@ ghost use Rattle.rs_facts.specs.ConditionView.{condition_of};
 ghost use Rattle.rs_sweep.specs.Tests.{all_met, any_met, compared, is_suited};
 
 use rs_facts::{Condition, Term, value_at};
-use rs_value::{Comparison, Literal, Tuple, Value};
+use rs_value::{Comparison, Literal, Value};
 use std::cmp::Ordering;
 
 /// Whether a row meets a condition.
 #[cycle(meeting)]
-pub fn meets(condition: &Condition, tuple: &Tuple) -> bool
-    ensures { result ≡ meets (condition_of condition.now) (row_of tuple.now) }
+pub fn meets(condition: &Condition, values: &[Value]) -> bool
+    ensures { result ≡ meets (condition_of condition.now) (row_of values.now) }
 {
     match condition {
         Condition::Compare(column, comparison, term) => {
-            let value = value_at(tuple, *column);
+            let value = value_at(values, *column);
             let order = match term {
-                Term::Column(other) => order_of_values(&value, &value_at(tuple, *other)),
+                Term::Column(other) => order_of_values(&value, &value_at(values, *other)),
                 Term::Written(literal) => order_with_literal(&value, literal),
             };
             is_suited(*comparison, order)
         }
-        Condition::TestsNull(column) => is_null(&value_at(tuple, *column)),
-        Condition::Negated(part) => !meets(part, tuple),
-        Condition::Bracketed(part) => meets(part, tuple),
-        Condition::Both(parts) => meets_all(parts.as_slice(), tuple),
-        Condition::Either(parts) => meets_any(parts.as_slice(), tuple),
+        Condition::TestsNull(column) => is_null(&value_at(values, *column)),
+        Condition::Negated(part) => !meets(part, values),
+        Condition::Bracketed(part) => meets(part, values),
+        Condition::Both(parts) => meets_all(parts.as_slice(), values),
+        Condition::Either(parts) => meets_any(parts.as_slice(), values),
     }
 }
 
 /// Whether a row meets each of some conditions.
 #[cycle(meeting)]
-fn meets_all(parts: &[Condition], tuple: &Tuple) -> bool
-    ensures { result ≡ all_met parts.now (row_of tuple.now) }
+fn meets_all(parts: &[Condition], values: &[Value]) -> bool
+    ensures { result ≡ all_met parts.now (row_of values.now) }
 {
     for part in parts {
-        if !meets(part, tuple) {
+        if !meets(part, values) {
             return false;
         }
     }
@@ -47,11 +47,11 @@ fn meets_all(parts: &[Condition], tuple: &Tuple) -> bool
 
 /// Whether a row meets one of some conditions.
 #[cycle(meeting)]
-fn meets_any(parts: &[Condition], tuple: &Tuple) -> bool
-    ensures { result ≡ any_met parts.now (row_of tuple.now) }
+fn meets_any(parts: &[Condition], values: &[Value]) -> bool
+    ensures { result ≡ any_met parts.now (row_of values.now) }
 {
     for part in parts {
-        if meets(part, tuple) {
+        if meets(part, values) {
             return true;
         }
     }

@@ -23,7 +23,7 @@ use crate::parts::{Part, parts_outside};
 use crate::rows::{joined, nulls};
 use crate::taken::{Rows, Taken, taken_by};
 use rs_facts::Span;
-use rs_value::Tuple;
+use rs_value::Value;
 use std::alloc::{AllocError, Global};
 
 /// Each row of the left before each row of the right where both have rows; where one alone has, its rows with NULLs for
@@ -81,53 +81,59 @@ fn pad(
     side: Side,
     spans: &[&Span],
     taken: &[Taken<'_>],
-    nulls: &Box<Tuple>,
+    nulls: &[Value],
     found: &mut Vec<Span>,
 ) -> Result<(), AllocError>
     requires kept { AreKept kinds.Line (map (taken_of rows.All) taken.now) }
-    requires fits { AllByRecursion (λ span. length span.row + length (row_of nulls.now.value) ≤ COLUMNS)
+    requires fits { AllByRecursion (λ span. length span.row + length (row_of nulls.now) ≤ COLUMNS)
         (map seen_lent spans.now) }
-    ensures { OnOk result (IsCut (joined_with side (row_of nulls.now.value)) rows.All
+    ensures { OnOk result (IsCut (joined_with side (row_of nulls.now)) rows.All
         (map (taken_of rows.All) taken.now) (map seen_lent spans.now) (map seen found.old.items) (map seen found.new.items)) }
 {
     let mut parts = Vec::new(alloc);
     for span in spans {
         parts_outside(Rows::All, span, taken, &mut parts)?;
-        add_padded(side, span, parts.as_slice(), nulls, found)?;
+        add_padded(alloc, side, span, parts.as_slice(), nulls, found)?;
     }
     Ok(())
 }
 
 /// Adds parts of a span, its row beside NULLs.
 fn add_padded(
+    alloc: Global,
     side: Side,
     span: &Span,
     parts: &[Part],
-    nulls: &Box<Tuple>,
+    nulls: &[Value],
     found: &mut Vec<Span>,
 ) -> Result<(), AllocError>
-    requires { length (seen span.now).row + length (row_of nulls.now.value) ≤ COLUMNS }
+    requires { length (seen span.now).row + length (row_of nulls.now) ≤ COLUMNS }
     ensures { OnOk result (map seen found.new.items ≡ map seen found.old.items
-        ++ map (changed_part (joined_with side (row_of nulls.now.value)) (seen span.now)) parts.now) }
+        ++ map (changed_part (joined_with side (row_of nulls.now)) (seen span.now)) parts.now) }
 {
     for part in parts {
         found.push(Span {
             lo: part.lo,
             hi: part.hi,
-            tuple: beside(side, &span.tuple, nulls)?,
+            tuple: beside(alloc, side, &span.tuple, nulls)?,
         })?;
     }
     Ok(())
 }
 
 /// A row of that side beside another.
-fn beside(side: Side, one: &Box<Tuple>, other: &Box<Tuple>) -> Result<Box<Tuple>, AllocError>
-    requires { length (row_of one.now.value) + length (row_of other.now.value) ≤ COLUMNS }
-    ensures { IfOk result (λ tuple. row_of tuple.value
-        ≡ joined_row side (row_of one.now.value) (row_of other.now.value)) }
+fn beside(
+    alloc: Global,
+    side: Side,
+    one: &[Value],
+    other: &[Value],
+) -> Result<Vec<Value>, AllocError>
+    requires { length (row_of one.now) + length (row_of other.now) ≤ COLUMNS }
+    ensures { IfOk result (λ row. row_of row.items
+        ≡ joined_row side (row_of one.now) (row_of other.now)) }
 {
     match side {
-        Side::Left => joined(one, other),
-        Side::Right => joined(other, one),
+        Side::Left => joined(alloc, one, other),
+        Side::Right => joined(alloc, other, one),
     }
 }

@@ -12,7 +12,7 @@ ghost use Rattle.rs_sweep.specs.Parts.{changed_part, unchanged};
 use crate::order::sort_by_place;
 use crate::parts::{Part, parts_outside};
 use crate::taken::{Rows, taken_by};
-use rs_facts::Span;
+use rs_facts::{Span, kept_row};
 use std::alloc::{AllocError, Global};
 
 /// The rows of the left where the right does not have them. Rows that stay are moved; they are copied only where a
@@ -33,14 +33,19 @@ pub fn minus(alloc: Global, left: Vec<Span>, right: &[&Span]) -> Result<Vec<Span
     let mut parts = Vec::new(alloc);
     for span in left {
         parts_outside(Rows::Each, &span, taken.as_slice(), &mut parts)?;
-        cut(span, parts.as_slice(), &mut kept)?;
+        cut(alloc, span, parts.as_slice(), &mut kept)?;
     }
     sort_by_place(&mut kept);
     Ok(kept)
 }
 
 /// Adds the parts of a span. The span itself becomes the last of them.
-fn cut(mut span: Span, parts: &[Part], kept: &mut Vec<Span>) -> Result<(), AllocError>
+fn cut(
+    alloc: Global,
+    mut span: Span,
+    parts: &[Part],
+    kept: &mut Vec<Span>,
+) -> Result<(), AllocError>
     ensures { OnOk result (map seen kept.new.items
         ≡ map seen kept.old.items ++ map (changed_part unchanged (seen span)) parts.now) }
 {
@@ -51,7 +56,7 @@ fn cut(mut span: Span, parts: &[Part], kept: &mut Vec<Span>) -> Result<(), Alloc
         kept.push(Span {
             lo: part.lo,
             hi: part.hi,
-            tuple: span.tuple.clone()?,
+            tuple: kept_row(alloc, &span.tuple)?,
         })?;
     }
     span.lo = last.lo;

@@ -10,7 +10,7 @@ ghost use Rattle.rs_sweep.specs.Inner.{piece_of, laid};
 use crate::comparisons::Comparisons;
 use crate::rows::joined;
 use rs_facts::Span;
-use std::alloc::AllocError;
+use std::alloc::{AllocError, Global};
 
 /// Of which list a span is.
 #[derive(Clone, Copy)]
@@ -22,6 +22,7 @@ pub(crate) enum Side {
 /// Lays a span over those of the other list that begin before it ends. None of these begins before it, and they are
 /// sorted. The only refusal is for want of memory.
 pub(crate) fn lay(
+    alloc: Global,
     side: Side,
     one: &Span,
     others: &[&Span],
@@ -41,13 +42,14 @@ pub(crate) fn lay(
         if !comparisons.is_below(other.lo, one.hi) {
             break;
         }
-        found.push(piece(side, one, other, comparisons)?)?;
+        found.push(piece(alloc, side, one, other, comparisons)?)?;
     }
     Ok(())
 }
 
 /// What a span has in common with one that begins within it.
 fn piece(
+    alloc: Global,
     side: Side,
     one: &Span,
     other: &Span,
@@ -59,8 +61,8 @@ fn piece(
 {
     let hi = comparisons.lesser(one.hi, other.hi);
     let tuple = match side {
-        Side::Left => joined(&one.tuple, &other.tuple)?,
-        Side::Right => joined(&other.tuple, &one.tuple)?,
+        Side::Left => joined(alloc, &one.tuple, &other.tuple)?,
+        Side::Right => joined(alloc, &other.tuple, &one.tuple)?,
     };
     Ok(Span {
         lo: other.lo,

@@ -73,10 +73,10 @@ pub(crate) fn pieces(
         let a = left[i];
         let b = right[j];
         if comparisons.is_below(a.lo, b.lo) {
-            lay(Side::Left, a, &right[j..], &mut found, comparisons)?;
+            lay(alloc, Side::Left, a, &right[j..], &mut found, comparisons)?;
             i += 1;
         } else {
-            lay(Side::Right, b, &left[i..], &mut found, comparisons)?;
+            lay(alloc, Side::Right, b, &left[i..], &mut found, comparisons)?;
             j += 1;
         }
     }

@@ -1,4 +1,4 @@
-use Rattle.std.proofs.Common.{◌≡◌, map, get_or, refl, ap, ◌∙◌, arith}
+use Rattle.std.proofs.Common.{map, get_or, refl, ap, ◌∙◌, arith}
 use Rattle.rs_value.specs.View.{row_of}
 use Rattle.rs_facts.specs.Operators.{chosen}
 use Rattle.rs_facts.specs.Runs.{stretch}
@@ -7,14 +7,11 @@ use Rattle.rs_sweep.specs.Inner.{in_columns}
 use Rattle.rs_sweep.proofs.InPlace.{edits-more, edits-end}
 use Rattle.rs_sweep.proofs.columns.choose_each.Goals as goal
 
-is : (c : goal.After-span-1) → row_of c.choose.new.tuple ≡ chosen c.args.columns.now (row_of (get_or c.loop-span.span-items c.loop-span.span-index c.span-item.result).tuple.value)
-is c = c.choose.ensures ∙ ap (λ t. chosen c.args.columns.now (row_of t)) c.deref_mut.ensures.value
-
 pub loop-span-init : goal.loop-span-init
 loop-span-init c = refl
 
 pub loop-span-preserved : goal.loop-span-preserved
-loop-span-preserved c = edits-more (in_columns c.args.columns.now) c.loop-span.span-items c.loop-span.span-index _ c.span-item.result _ (omega (arith, c.loop-span-test.true, c.loop-span.auto.span-items)) (λ i. stretch (get_or c.loop-span.span-items c.loop-span.span-index c.span-item.result).lo (get_or c.loop-span.span-items c.loop-span.span-index c.span-item.result).hi (is c i)) c.loop-span.invariant
+loop-span-preserved c = edits-more (in_columns c.args.columns.now) c.loop-span.span-items c.loop-span.span-index _ c.span-item.result _ (omega (arith, c.loop-span-test.true, c.loop-span.auto.span-items)) (λ i. stretch (get_or c.loop-span.span-items c.loop-span.span-index c.span-item.result).lo (get_or c.loop-span.span-items c.loop-span.span-index c.span-item.result).hi ((c.in_ok-span.ensures ∙ ap (λ values. chosen c.args.columns.now (row_of values)) c.deref.ensures.value) i)) c.loop-span.invariant
 
 pub returns : goal.returns
 returns c = edits-end (in_columns c.args.columns.now) c.loop-span.span-items c.loop-span.span-index c.args.spans.now.len c.args.spans.now.items _ (omega (arith, c.loop-span-test.false, c.loop-span.auto.span-items)) (omega (arith, c.loop-span.auto.span-items, c.deref_mut-span-items.ensures.len)) (c.loop-span.invariant ∙ ap (λ zs. map (in_columns c.args.columns.now) (map seen zs)) c.deref_mut-span-items.ensures.value)

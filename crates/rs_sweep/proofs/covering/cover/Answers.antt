@@ -18,16 +18,18 @@ pub pieces-requires-clause-fits : goal.pieces-requires-clause-fits
 pieces-requires-clause-fits c = wide-fit c.args.left_width c.args.right_width (map seen_lent c.args.left.now) (map seen_lent c.args.right.now) c.requires.fits c.requires.left_wide c.requires.right_wide
 
 pub pad-requires-clause-fits : goal.pad-requires-clause-fits
-pad-requires-clause-fits c = wide-fits c.args.left_width c.args.right_width (map seen_lent c.args.left.now) c.requires.fits c.requires.left_wide (row_of c.in_ok-after.after.value) (ap length c.in_ok-after.ensures ∙ nulls-length c.args.right_width)
+pad-requires-clause-fits c = wide-fits c.args.left_width c.args.right_width (map seen_lent c.args.left.now) c.requires.fits c.requires.left_wide (row_of c.deref.result.now) (ap (λ values. length (row_of values)) c.deref.ensures.value ∙ ap length c.in_ok-after.ensures ∙ nulls-length c.args.right_width)
 
 pub pad-requires-2-clause-fits : goal.pad-requires-2-clause-fits
-pad-requires-2-clause-fits c = wide-fits c.args.right_width c.args.left_width (map seen_lent c.args.right.now) (omega (arith, c.requires.fits)) c.requires.right_wide (row_of c.in_ok-before.before.value) (ap length c.in_ok-before.ensures ∙ nulls-length c.args.left_width)
+pad-requires-2-clause-fits c = wide-fits c.args.right_width c.args.left_width (map seen_lent c.args.right.now) (omega (arith, c.requires.fits)) c.requires.right_wide (row_of c.deref-2.result.now) (ap (λ values. length (row_of values)) c.deref-2.ensures.value ∙ ap length c.in_ok-before.ensures ∙ nulls-length c.args.left_width)
 
-left_cut : (c : goal.After-drop-by_left-2) → IsCut (joined_with Left (row_of c.in_ok-after.after.value)) All (map (taken_of All) c.in_ok-by_right.by_right.items) (map seen_lent c.args.left.now) (map seen c.in_ok-found.found.items) (map seen c.pad.new.found.items)
-left_cut c = subst (λ zs. IsCut (joined_with Left (row_of c.in_ok-after.after.value)) All (map (taken_of All) zs) (map seen_lent c.args.left.now) (map seen c.in_ok-found.found.items) (map seen c.pad.new.found.items)) c.as_slice.ensures.value c.in_ok-pad.ensures
+left_cut : (c : goal.After-drop-by_left-2) → IsCut (joined_with Left (row_of c.in_ok-after.after.items)) All (map (taken_of All) c.in_ok-by_right.by_right.items) (map seen_lent c.args.left.now) (map seen c.in_ok-found.found.items) (map seen c.pad.new.found.items)
+left_cut c = subst (λ zs. IsCut (joined_with Left (row_of c.in_ok-after.after.items)) All (map (taken_of All) zs) (map seen_lent c.args.left.now) (map seen c.in_ok-found.found.items) (map seen c.pad.new.found.items)) c.as_slice.ensures.value
+    (subst (λ values. IsCut (joined_with Left (row_of values)) All (map (taken_of All) c.as_slice.result.now) (map seen_lent c.args.left.now) (map seen c.in_ok-found.found.items) (map seen c.pad.new.found.items)) c.deref.ensures.value c.in_ok-pad.ensures)
 
-right_cut : (c : goal.After-drop-by_left-2) → IsCut (joined_with Right (row_of c.in_ok-before.before.value)) All (map (taken_of All) c.in_ok-by_left.by_left.items) (map seen_lent c.args.right.now) (map seen c.pad.new.found.items) (map seen c.pad-2.new.found.items)
-right_cut c = subst (λ zs. IsCut (joined_with Right (row_of c.in_ok-before.before.value)) All (map (taken_of All) zs) (map seen_lent c.args.right.now) (map seen c.pad.new.found.items) (map seen c.pad-2.new.found.items)) c.as_slice-2.ensures.value c.in_ok-pad-2.ensures
+right_cut : (c : goal.After-drop-by_left-2) → IsCut (joined_with Right (row_of c.in_ok-before.before.items)) All (map (taken_of All) c.in_ok-by_left.by_left.items) (map seen_lent c.args.right.now) (map seen c.pad.new.found.items) (map seen c.pad-2.new.found.items)
+right_cut c = subst (λ zs. IsCut (joined_with Right (row_of c.in_ok-before.before.items)) All (map (taken_of All) zs) (map seen_lent c.args.right.now) (map seen c.pad.new.found.items) (map seen c.pad-2.new.found.items)) c.as_slice-2.ensures.value
+    (subst (λ values. IsCut (joined_with Right (row_of values)) All (map (taken_of All) c.as_slice-2.result.now) (map seen_lent c.args.right.now) (map seen c.pad.new.found.items) (map seen c.pad-2.new.found.items)) c.deref-2.ensures.value c.in_ok-pad-2.ensures)
 
 pub returns-clause-means : goal.returns-clause-means
 returns-clause-means c = λ k.

@@ -9,4 +9,4 @@ use Rattle.rs_sweep.specs.declared.taken.Rows.TheVariants.{All}
 use Rattle.rs_sweep.proofs.covering.pad.Given as goal
 
 abbrev pub invariant-loop-span : goal.invariant-loop-span
-invariant-loop-span l = IsCut (joined_with l.side (row_of l.nulls.value)) All (map (taken_of All) l.taken) (map seen_lent (take l.span-index l.spans)) (map seen l.initial.found.items) (map seen l.found.items)
+invariant-loop-span l = IsCut (joined_with l.side (row_of l.nulls)) All (map (taken_of All) l.taken) (map seen_lent (take l.span-index l.spans)) (map seen l.initial.found.items) (map seen l.found.items)

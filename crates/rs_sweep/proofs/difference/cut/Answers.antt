@@ -1,8 +1,7 @@
 use Rattle.std.proofs.Common.{map, refl, ap, ◌∙◌}
-use Rattle.std.proofs.lemmas.List.Elements.{same_from_all_zip}
+use Rattle.rs_value.specs.View.{row_of}
 use Rattle.rs_facts.specs.Spans.{seen}
 use Rattle.rs_sweep.specs.Parts.{unchanged}
-use Rattle.rs_sweep.proofs.Choosing.{same-row_of}
 use Rattle.rs_sweep.proofs.CutLaws.{parts-pushed, parts-end, parts-none, parts-last}
 use Rattle.rs_sweep.proofs.difference.cut.Goals as goal
 
@@ -11,7 +10,7 @@ returns-in_default c = parts-none unchanged (seen c.args.span) (map seen c.args.
 
 pub loop-part-preserved : goal.loop-part-preserved
 loop-part-preserved c = parts-pushed unchanged (seen c.args.span) c.loop-part.kept.items _ _ c.in-Some.others.now c.loop-part.part-index _ _ c.in_ok-push.ensures.items c.loop-part-test.true refl refl
-    (same-row_of c.in_ok-clone.field-0.value c.args.span.tuple.value (same_from_all_zip _ _ _ c.in_ok-clone.ensures.cases (λ x y h. h))) c.loop-part.invariant
+    (ap row_of (c.in_ok-kept_row.ensures ∙ c.deref.ensures.value)) c.loop-part.invariant
 
 pub returns : goal.returns
 returns c =

@@ -8,13 +8,13 @@ use Rattle.rs_sweep.proofs.parts.is_met.Goals as goal
 
 pub returns-in-All : goal.returns-in-All
 returns-in-All c = met-same (taken_of c.args.rows c.args.stretch.now) (keyed c.args.rows (seen c.args.span.now)) _ c.if-stretch-span.true
-    ((λ x. key-all c.args.rows (row_of c.args.stretch.now.first.now.tuple.value) (row_of c.args.span.now.tuple.value) c.in-All.is), (λ x. refl))
+    ((λ x. key-all c.args.rows (row_of c.args.stretch.now.first.now.tuple.items) (row_of c.args.span.now.tuple.items) c.in-All.is), (λ x. refl))
 
 pub returns-in-Each : goal.returns-in-Each
 returns-in-Each c =
-    let one = key-each c.args.rows (row_of c.args.stretch.now.first.now.tuple.value) c.in-Each.is in
-    let two = key-each c.args.rows (row_of c.args.span.now.tuple.value) c.in-Each.is in
-    let says : IsTrue c.same_row.result ↔ (row_of c.args.stretch.now.first.now.tuple.value ≡ row_of c.args.span.now.tuple.value) = rw (sym c.deref.ensures, sym c.deref-in-Each.ensures) c.same_row.ensures in
+    let one = key-each c.args.rows (row_of c.args.stretch.now.first.now.tuple.items) c.in-Each.is in
+    let two = key-each c.args.rows (row_of c.args.span.now.tuple.items) c.in-Each.is in
+    let says : IsTrue c.same_row.result ↔ (row_of c.args.stretch.now.first.now.tuple.items ≡ row_of c.args.span.now.tuple.items) = rw (sym c.deref.ensures.value, sym c.deref-in-Each.ensures.value) c.same_row.ensures in
     met-same (taken_of c.args.rows c.args.stretch.now) (keyed c.args.rows (seen c.args.span.now)) c.same_row.result c.if-stretch-span.true
     ((λ x. one ∙ says.0 x ∙ sym two), (λ x. says.1 (sym one ∙ x ∙ two)))
 
