@@ -25,10 +25,10 @@ module _ (column : Option ℕ) where
 
   -- one more
   pub one-made : (xs : List (ArrayVec Value × Numbers)) (e : ArrayVec Value × Numbers) (made : List Total) (total : Total) → AreMade column xs (map answered made)
-      → answered total ≡ total_kept column (row_of e.0) e.1 → AreMade column (xs ++ e ∷ []) (map answered (made ++ total ∷ []))
+      → answered total ≡ total_kept column (row_of e.0.items) e.1 → AreMade column (xs ++ e ∷ []) (map answered (made ++ total ∷ []))
   one-made xs e made total are is = record {
-    all = map-append answered made (total ∷ []) ∙ (λ i. are.all i ++ is i ∷ []) ∙ sym (map-append (λ p. total_kept column p.0 p.1) (by_row xs) ((row_of e.0, e.1) ∷ []))
-        ∙ ap (map (λ p. total_kept column p.0 p.1)) (sym (map-append (λ p. (row_of p.0, p.1)) xs (e ∷ [])));
+    all = map-append answered made (total ∷ []) ∙ (λ i. are.all i ++ is i ∷ []) ∙ sym (map-append (λ p. total_kept column p.0 p.1) (by_row xs) ((row_of e.0.items, e.1) ∷ []))
+        ∙ ap (map (λ p. total_kept column p.0 p.1)) (sym (map-append (λ p. (row_of p.0.items, p.1)) xs (e ∷ [])));
   }
 
 pub any-by_row : (test : Numbers → Bool) (groups : List (ArrayVec Value × Numbers)) → list_any test (map (λ p. p.1) groups) ≡ list_any (λ e. test e.1) (by_row groups)

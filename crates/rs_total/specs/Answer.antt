@@ -13,7 +13,7 @@ abbrev pub sum_answered : Sum → totals.Sum
 sum_answered sum = record { weight = sum.weight; above_zero = sum.above_zero; below_zero = sum.below_zero }
 
 abbrev pub answered : Total → totals.Total
-answered total = record { group = row_of total.group; places = total.places; sum = option_map sum_answered total.sum }
+answered total = record { group = row_of total.group.items; places = total.places; sum = option_map sum_answered total.sum }
 
 -- ---- what is answered of what is kept
 

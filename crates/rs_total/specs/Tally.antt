@@ -16,7 +16,7 @@ pub record Tally : Type 0 where
 
 -- the groups of the code by their rows
 abbrev pub by_row : List (ArrayVec Value × Numbers) → List (Row × Numbers)
-by_row entries = map (λ e. (row_of e.0, e.1)) entries
+by_row entries = map (λ e. (row_of e.0.items, e.1)) entries
 
 -- what is kept of a group
 abbrev pub kept_of : List (Row × Numbers) → Row → Option Numbers

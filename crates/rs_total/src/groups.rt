@@ -60,7 +60,7 @@ fn add_to(
     span: &Span,
 ) -> Result<(), AllocError>
     ensures { OnOk result ((other : Row) → kept_of (by_row groups.new.entries) other
-        ≡ kept_in summed start (row_of group) other (kept_of (by_row groups.old.entries) other) (seen span.now)) }
+        ≡ kept_in summed start (row_of group.items) other (kept_of (by_row groups.old.entries) other) (seen span.now)) }
 {
     match groups.get_mut(&group) {
         Some(numbers) => {

@@ -27,7 +27,7 @@ pub fn push_total(text: &mut String, kind: Kind, total: &Total) -> Result<(), Al
 
 /// Appends each value of a group and a space after it.
 fn push_group(text: &mut String, group: &Tuple) -> Result<(), AllocError>
-    ensures { OnOk result (string_bytes text.new ≡ string_bytes text.old ++ group_text (row_of group.now)) }
+    ensures { OnOk result (string_bytes text.new ≡ string_bytes text.old ++ group_text (row_of group.now.items)) }
 {
     for value in group.as_slice() {
         push_value(text, value)?;

@@ -142,7 +142,7 @@ fn each_total(
 
 /// The total of a group, without a sum where the sizes of its values passed the limit.
 fn total_of(summed: Option<u8>, group: Tuple, numbers: Numbers) -> Total
-    ensures { answered result ≡ total_kept summed (row_of group) numbers }
+    ensures { answered result ≡ total_kept summed (row_of group.items) numbers }
 {
     let sum = match (summed, numbers.sizes) {
         (Some(_), Some(sizes)) => Some(Sum {
