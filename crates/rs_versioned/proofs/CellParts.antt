@@ -43,11 +43,11 @@ module _ (types : List ColumnType) (width : ℕ) (cell : List ℕ) (is : width �
   pub row_said_there : (event : Event) → SaysEvent types cell event → SaysRow types (take (8 + width - 8) (drop 8 cell)) event.row
   row_said_there event says = subst (λ b. SaysRow types b event.row) (sym part_is) (event_row_at types cell event says)
 
-  pub says_where_decoded : {T : Type 0} (row_of : T → Row) (o : Option T) (b : Bool) → AreBytes cell → b ≡ is_some o
+  pub says_where_decoded : {T : Type 0} (o : Option T) (row_of : T → Row) (b : Bool) → AreBytes cell → b ≡ is_some o
       → IfSome o (λ t. SaysRow types (take (8 + width - 8) (drop 8 cell)) (row_of t)) → IfNone o ((row : Row) → SaysRow types (take (8 + width - 8) (drop 8 cell)) row → ⊥)
       → (IsTrue b → (event : Event) × SaysEvent types cell event) × (((event : Event) × SaysEvent types cell event) → IsTrue b)
-  says_where_decoded row_of (Some t) b small told some none = (λ yes. (event_at width cell (row_of t), event_said (row_of t) small some), λ there. told)
-  says_where_decoded row_of None b small told some none = (
+  says_where_decoded (Some t) row_of b small told some none = (λ yes. (event_at width cell (row_of t), event_said (row_of t) small some), λ there. told)
+  says_where_decoded None row_of b small told some none = (
     λ yes. absurd (false≢true (sym told ∙ yes)),
     λ there. absurd (none there.0.row (row_said_there there.0 there.1)),
   )

@@ -19,7 +19,7 @@ use Rattle.rs_versioned.specs.Tables.{EventTableState}
 
 -- the span's row on the route, as versions from this one on see it
 abbrev pub event_of : ℕ → Span → ℕ → Event
-event_of route span version = record { route = route; lo = span.lo; hi = span.hi; row = row_of span.tuple.value; born = version; died = LIVING }
+event_of route span version = record { route = route; lo = span.lo; hi = span.hi; row = row_of span.tuple.items; born = version; died = LIVING }
 
 -- the columns and what stood there at the last commit stay; after a refusal the table is as it was
 pub record KeepsTable {T : Type 0} (result : Result T Refusal) (was is : EventTableState) : Type 0 where

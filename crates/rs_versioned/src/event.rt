@@ -15,9 +15,9 @@ ghost use Rattle.rs_versioned.specs.Events.{Event, SaysEvent, event_width, span_
 
 use byteorder::{BigEndian, ByteOrder};
 use rs_cell_versions::LIVING;
-use rs_facts::fact::Span;
+use rs_facts::fact::{Span, kept_row};
 use rs_refusal::Refusal;
-use rs_value::{Schema, Tuple, decode, encode, row_width};
+use rs_value::{Schema, Value, decode, encode, row_width};
 use std::alloc::{AllocError, Global};
 
 /// The bytes of an event's cell beside those of its row.
@@ -34,7 +34,7 @@ pub fn cell_of(
     span: &Span,
     born: u64,
 ) -> Result<Vec<u8>, AllocError>
-    requires row { IsRowOf schema.now.items (row_of span.now.tuple.value) }
+    requires row { IsRowOf schema.now.items (row_of span.now.tuple.items) }
     ensures says { IfOk result (λ cell. SaysEvent schema.now.items cell.items (event_of route span.now born)) }
 {
     let mut cell = Vec::new(alloc);
@@ -48,13 +48,13 @@ pub fn cell_of(
 }
 
 /// Puts a row after the bytes, as it is encoded.
-fn push_row(bytes: &mut Vec<u8>, schema: &Schema, tuple: &Tuple) -> Result<(), AllocError>
-    requires row { IsRowOf schema.now.items (row_of tuple.now) }
-    ensures { OnOk result ((row : List ℕ) × SaysRow schema.now.items row (row_of tuple.now) × (bytes.new.items ≡ bytes.old.items ++ row)) }
+fn push_row(bytes: &mut Vec<u8>, schema: &Schema, values: &[Value]) -> Result<(), AllocError>
+    requires row { IsRowOf schema.now.items (row_of values.now) }
+    ensures { OnOk result ((row : List ℕ) × SaysRow schema.now.items row (row_of values.now) × (bytes.new.items ≡ bytes.old.items ++ row)) }
 {
     let start = bytes.len();
     bytes.resize(start.saturating_add(row_width(schema)), 0)?;
-    encode(schema, tuple, &mut bytes[start..]);
+    encode(schema, values, &mut bytes[start..]);
     Ok(())
 }
 
@@ -89,7 +89,7 @@ pub fn span_of(alloc: Global, schema: &Schema, cell: &[u8]) -> Result<Span, Refu
     };
     let lo = BigEndian::read_u32(&cell[4..]);
     let hi = BigEndian::read_u32(&cell[end + 8..]);
-    match Box::new(alloc, tuple) {
+    match kept_row(alloc, &tuple) {
         Ok(tuple) => Ok(Span { lo, hi, tuple }),
         Err(_) => Err(Refusal::OutOfMemory),
     }

@@ -131,7 +131,7 @@ impl EventTable {
         span: &Span,
     ) -> Result<bool, Refusal>
         requires begun { (P.store pages.old).is_begun ≡ true }
-        requires row { IsRowOf self.old.types (row_of span.now.tuple.value) }
+        requires row { IsRowOf self.old.types (row_of span.now.tuple.items) }
         ensures leaves { Leaves P.Pages self.old result pages.old pages.new }
         ensures adds { Adds P.Pages self.old self.new (event_of route span.now version) result pages.old pages.new }
         ensures table { KeepsTable result self.old self.new }

@@ -30,7 +30,7 @@ returns c =
     record {
       says = record {
         bytes = row;
-        row = subst (λ t. SaysRow c.args.schema.now.items row (row_of t)) c.deref.ensures c.in_ok-push_row.ensures.1;
+        row = subst (λ l. SaysRow c.args.schema.now.items row (row_of l)) c.deref.ensures.value c.in_ok-push_row.ensures.1;
         fields = record {
           route_fits = omega arith;
           from_fits = omega arith;

@@ -6,4 +6,4 @@ use Rattle.rs_versioned.proofs.event.says_event.Goals as goal
 pub returns : goal.returns
 returns c =
     says_where_decoded c.args.schema.now.items c.row_width-end.result c.args.cell.now c.row_width-end.ensures c.requires.width
-    row_of c.decode.result c.is_some.result (λ i. (c.type_inv.cell i).fits) c.is_some.ensures c.decode.ensures.row c.decode.ensures.none
+    c.decode.result (λ tuple. row_of tuple.items) c.is_some.result (λ i. (c.type_inv.cell i).fits) c.is_some.ensures c.decode.ensures.row c.decode.ensures.none
