@@ -1,5 +1,5 @@
 -- How an engine comes to be, is saved, read anew and put away.
-use Rattle.std.specs.Prelude.{◌≡◌, ◌≢◌, ℕ, true, IfErr, IfOk, MatchResult, OnOk, Result, Ok, Err}
+use Rattle.std.specs.Prelude.{◌≡◌, ◌≢◌, ◌⊎◌, ℕ, true, IfErr, IfOk, MatchResult, OnOk, Result, Ok, Err}
 use Rattle.rs_disk.specs.Content.{Content}
 use Rattle.rs_disk.specs.declared.disk.Disk as disk
 use Rattle.rs_engine.specs.Kept.{EngineState, IsMachine}
@@ -9,7 +9,7 @@ use Rattle.rs_machine.specs.Step.{without_cursors}
 use Rattle.rs_refusal.specs.declared.refusal.Refusal.{Refusal}
 use Rattle.rs_refusal.specs.declared.refusal.Refusal.TheVariants as refusal
 use Rattle.rs_standing.specs.Standing.{IsFileOf, Stands}
-use Rattle.rs_store.specs.Calls.{IsLeftOpen, IsNoFileOfAny, StaysFile}
+use Rattle.rs_store.specs.Calls.{IsClosedFile, IsLeftOpen, IsNoFileOfAny, StaysFile}
 use Rattle.rs_store.specs.Kept.{StoreState}
 use Rattle.rs_syntax.specs.Tree.{CommandTree, reopen, save}
 
@@ -55,13 +55,14 @@ module _ {D : Type 0} (d : disk.Ghosts D) where
     pub stood : Stands limit content state
     pub is : IsMachine d engine (machine_with state engine)
 
-  -- What an honest disk is opened as. After all refusals but 91 it is as it was, and after 91 it is a file of what it was, though
-  -- its flag may be any.
+  -- What an honest disk is opened as. After all refusals but 91 it is as it was, and after 91 too unless it stood for a state, of
+  -- which it is a file then, though its flag may be any.
   pub record Opens (limit : ℕ) (old : D) (result : Result (EngineState D) (D × Refusal)) : Type 0 where
     pub opens : IfOk result (OpensMachine limit (d.seen old))
     pub damaged : IfErr result (λ refused. refused.1 ≡ refusal.DamagedFile → IsNoFileOfAny limit (d.seen old))
     pub left_open : IfErr result (λ refused. refused.1 ≡ refusal.FileNotClosed → IsLeftOpen limit (d.seen old))
     pub seen : IfErr result (λ refused. refused.1 ≢ refusal.Disk → d.seen refused.0 ≡ d.seen old)
+    pub before : IfErr result (λ refused. (d.seen refused.0 ≡ d.seen old) ⊎ IsClosedFile limit (d.seen old))
     pub stays : IfErr result (λ refused. StaysFile limit (d.seen old) (d.seen refused.0))
 
   -- ---- an engine in use

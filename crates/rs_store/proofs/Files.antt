@@ -1,6 +1,6 @@
 -- A disk as it was opened.
-use Rattle.std.proofs.Common.{◌≡◌, ◌∙◌, ℕ, Ok, Err, true, ap, subst, sym, arith}
-use Rattle.std.specs.Prelude.{◌≢◌}
+use Rattle.std.proofs.Common.{◌≡◌, ◌∙◌, ℕ, Ok, Err, true, ap, inl, inr, subst, sym, arith}
+use Rattle.std.specs.Prelude.{◌≢◌, ◌⊎◌}
 use Rattle.rs_catalog.specs.Definitions.{Definitions, Numbered}
 use Rattle.rs_catalog.specs.Referents.{HeldReferents}
 use Rattle.rs_contents.specs.Contents.{Contents}
@@ -20,7 +20,7 @@ use Rattle.rs_refusal.specs.declared.refusal.Refusal.{Refusal}
 use Rattle.rs_refusal.specs.declared.refusal.Refusal.TheVariants as refusal
 use Rattle.rs_standing.specs.Meant.{IsMeant}
 use Rattle.rs_standing.specs.Standing.{IsFileOf, StandsFor}
-use Rattle.rs_store.specs.Calls.{IsLeftOpen, IsNoFileOfAny, LeavesAllButFlag, Opens, OpensState, SameButFlag}
+use Rattle.rs_store.specs.Calls.{IsClosedFile, IsLeftOpen, IsNoFileOfAny, LeavesAllButFlag, Opens, OpensState, SameButFlag}
 use Rattle.rs_store.specs.Kept.{StoreState}
 use Rattle.rs_store.specs.Loading.{LoadsState, StandsForNone, StandsForSome}
 use Rattle.rs_store.specs.Making.{HasFresh, IsFreshFile}
@@ -47,6 +47,9 @@ module _ {D : Type 0} (d : disk.Ghosts D) (limit : ℕ) (content : Content) (p :
 
   pub left_open : StandsForSome (working d p) → (content.byte FLAG_OFFSET ≡ 0 → ⊥) → IsLeftOpen limit content
   left_open some isnt = record { state = some.state; file = file_of some.contents some.state some.stands; not_closed = isnt }
+
+  pub closed_file : StandsForSome (working d p) → content.byte FLAG_OFFSET ≡ 0 → IsClosedFile limit content
+  closed_file some closed = record { state = some.state; stands = record { file = file_of some.contents some.state some.stands; closed = closed } }
 
   -- pages that stand for none are no file
   pub no_file : DiskHasOneMap → StandsForNone (working d p) → IsNoFileOfAny limit content
@@ -87,7 +90,7 @@ module _ {D : Type 0} (d : disk.Ghosts D) (limit : ℕ) (content : Content) (p :
 
 module _ {D : Type 0} (d : disk.Ghosts D) (limit : ℕ) (old : D) where
   pub opens_ok : (store : StoreState D) → OpensState d limit (d.seen old) store → Opens d limit old (Ok store)
-  opens_ok store opens = record { opens = opens; damaged = tt; left_open = tt; seen = tt; stays = tt }
+  opens_ok store opens = record { opens = opens; damaged = tt; left_open = tt; seen = tt; before = tt; stays = tt }
 
   -- a disk that has no pages
   pub opens_none : (back : D) (why : Refusal) → d.seen back ≡ d.seen old → (why ≡ refusal.FileNotClosed → ⊥) → (why ≡ refusal.DamagedFile → IsNoFile (d.seen old) limit)
@@ -97,6 +100,7 @@ module _ {D : Type 0} (d : disk.Ghosts D) (limit : ℕ) (old : D) where
     damaged = λ is. no_file_of_any (d.seen old) limit (damaged is);
     left_open = λ is. absurd (closed is);
     seen = λ isnt. same;
+    before = inl same;
     stays = record { each = λ state is. subst (λ (content : Content). IsFileOf limit content state) (sym same) is };
   }
 
@@ -104,8 +108,9 @@ module _ {D : Type 0} (d : disk.Ghosts D) (limit : ℕ) (old : D) where
   pub opens_err : (masked : MaskedInNoMap) (one_map : DiskHasOneMap) (p now : Paged D) (back : D) (why : Refusal) → IsFresh limit p → SamePages (working d p) (committed d p)
       → IsOpened d (d.seen old) p → d.seen p.disk ≡ d.seen old → back ≡ now.disk → LeavesAllButFlag d p now
       → (why ≡ refusal.DamagedFile → StandsForNone (working d p)) → (why ≡ refusal.FileNotClosed → StandsForSome (working d p) × ((d.seen p.disk).byte FLAG_OFFSET ≡ 0 → ⊥))
-      → (why ≢ refusal.Disk → d.seen now.disk ≡ d.seen p.disk) → Opens d limit old (Err (back, why))
-  opens_err masked one_map p now back why first same opened seen given leaves damaged unclosed kept =
+      → (why ≢ refusal.Disk → d.seen now.disk ≡ d.seen p.disk)
+      → (d.seen now.disk ≡ d.seen p.disk) ⊎ (StandsForSome (working d p) × ((d.seen p.disk).byte FLAG_OFFSET ≡ 0)) → Opens d limit old (Err (back, why))
+  opens_err masked one_map p now back why first same opened seen given leaves damaged unclosed kept before =
       let after : d.seen back ≡ d.seen now.disk = ap d.seen given in
       record {
         opens = tt;
@@ -113,6 +118,11 @@ module _ {D : Type 0} (d : disk.Ghosts D) (limit : ℕ) (old : D) where
         left_open = λ is. left_open d limit (d.seen old) p first same opened (unclosed is).0
             (subst (λ (content : Content). content.byte FLAG_OFFSET ≡ 0 → ⊥) seen (unclosed is).1);
         seen = λ isnt. after ∙ kept isnt ∙ seen;
+        before = elim before [
+          | inl untouched ↦ inl (after ∙ untouched ∙ seen)
+          | inr sound ↦ inr (closed_file d limit (d.seen old) p first same opened sound.0
+              (subst (λ (content : Content). content.byte FLAG_OFFSET ≡ 0) seen sound.1))
+        ];
         stays = stays_beside_flag masked limit (d.seen old) (d.seen back)
             (subst (λ (content : Content). SameButFlag content (d.seen back)) seen
             (subst (λ (content : Content). SameButFlag (d.seen p.disk) content) (sym after) (leaves.disk opened.tied.honest)));

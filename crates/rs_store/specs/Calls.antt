@@ -33,6 +33,11 @@ pub record IsLeftOpen (limit : ℕ) (content : Content) : Type 0 where
 pub record StaysFile (limit : ℕ) (old new : Content) : Type 0 where
   pub each : (state : State) → IsFileOf limit old state → IsFileOf limit new state
 
+-- it stands for some state: it is a file of it, and closed
+pub record IsClosedFile (limit : ℕ) (content : Content) : Type 0 where
+  pub state : State
+  pub stands : Stands limit content state
+
 -- it is a file of no state, closed or not
 pub record IsNoFileOfAny (limit : ℕ) (content : Content) : Type 0 where
   pub none : (state : State) → IsFileOf limit content state → ⊥
@@ -74,13 +79,14 @@ module _ {D : Type 0} (d : disk.Ghosts D) where
     pub stood : Stands limit content state
     pub stands : StandsIn d store.file.accepted store state
 
-  -- What an honest disk is opened as. After all refusals but 91 it is as it was, and after 91 it is a file of what it was, though
-  -- its flag may be any.
+  -- What an honest disk is opened as. After all refusals but 91 it is as it was, and after 91 too unless it stood for a state, of
+  -- which it is a file then, though its flag may be any.
   pub record Opens (limit : ℕ) (old : D) (result : Result (StoreState D) (D × Refusal)) : Type 0 where
     pub opens : IfOk result (OpensState limit (d.seen old))
     pub damaged : IfErr result (λ refused. refused.1 ≡ refusal.DamagedFile → IsNoFileOfAny limit (d.seen old))
     pub left_open : IfErr result (λ refused. refused.1 ≡ refusal.FileNotClosed → IsLeftOpen limit (d.seen old))
     pub seen : IfErr result (λ refused. refused.1 ≢ refusal.Disk → d.seen refused.0 ≡ d.seen old)
+    pub before : IfErr result (λ refused. (d.seen refused.0 ≡ d.seen old) ⊎ IsClosedFile limit (d.seen old))
     pub stays : IfErr result (λ refused. StaysFile limit (d.seen old) (d.seen refused.0))
 
   -- What is made of an honest disk: a store that stands in the state at the beginning. It isn't found damaged.

@@ -20,8 +20,8 @@ use std::alloc::Global;
 impl<D: Disk> Store<D> {
     /// Opens the file that the disk holds, checks it as a whole, and marks the disk as open. `limit` is the greatest number of pages.
     /// It is refused with 94 only where the disk is a file of no state, closed or not, and with 95 only where it is one and was
-    /// not closed; it may be refused with 90 or 91 instead. A refusal hands the disk back: as it was, but that after 91 its open flag
-    /// may be any.
+    /// not closed; it may be refused with 90 or 91 instead. A refusal hands the disk back as it was, but that after 91 the
+    /// open flag of a disk that stood for a state may be any.
     pub fn open(alloc: Global, disk: D, limit: u32) -> Result<Store<D>, (D, Refusal)>
         requires least { LEAST_LIMIT ≤ limit }
         requires greatest { limit ≤ GREATEST_LIMIT }
@@ -65,6 +65,8 @@ pub(crate) fn store_of<D: Disk>(pager: Pager<D>, loaded: Loaded) -> Store<D>
 fn open_pages<D: Disk>(alloc: Global, pager: &mut Pager<D>) -> Result<Loaded, Refusal>
     ensures leaves { LeavesAllButFlag D.Disk pager.old pager.new }
     ensures seen { IsTrue (D.is_honest pager.old.disk) → IfErr result (λ why. why ≢ Refusal.Disk → D.seen pager.new.disk ≡ D.seen pager.old.disk) }
+    ensures before { IsTied D.Disk pager.old → OnErr result ((D.seen pager.new.disk ≡ D.seen pager.old.disk)
+        ⊎ (StandsForSome (working D.Disk pager.old) × ((D.seen pager.old.disk).byte FLAG_OFFSET ≡ 0))) }
     ensures loads { IsTied D.Disk pager.old → IfOk result (λ loaded. LoadsState (working D.Disk pager.old) loaded.file loaded.catalog loaded.referents) }
     ensures file { IfOk result (λ loaded. IsAtRest loaded.file loaded.catalog) }
     ensures closed { IsTrue (D.is_honest pager.old.disk) → OnOk result ((D.seen pager.old.disk).byte FLAG_OFFSET ≡ 0) }

@@ -70,8 +70,8 @@ impl<D: Disk> Engine<D> {
 
     /// Opens the file that the disk holds, checks it as a whole, and marks the disk as open. `limit` is the greatest number of pages.
     /// It is refused with 94 only where the disk is a file of no state, closed or not, and with 95 only where it is one and was
-    /// not closed; it may be refused with 90 or 91 instead. A refusal hands the disk back: as it was, but that after 91 its open flag
-    /// may be any.
+    /// not closed; it may be refused with 90 or 91 instead. A refusal hands the disk back as it was, but that after 91 the
+    /// open flag of a disk that stood for a state may be any.
     pub fn open_within(alloc: Global, disk: D, limit: u32) -> Result<Engine<D>, (D, Refusal)>
         requires least { LEAST_LIMIT ≤ limit }
         requires greatest { limit ≤ GREATEST_LIMIT }

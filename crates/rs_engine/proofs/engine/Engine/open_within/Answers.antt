@@ -10,5 +10,6 @@ returns-clause-opens g c = λ honest. record {
   damaged = tt;
   left_open = tt;
   seen = tt;
+  before = tt;
   stays = tt;
 }

@@ -38,3 +38,4 @@ returns-in-Err-clause-opens g c = λ honest.
     opens_err d c.args.limit c.args.disk c.masked_bytes_are_in_no_map.ensures c.disk_stands_for_one_map.ensures c.in_ok-pager.pager c.open_pages.new.pager c.into_disk.result c.in-Err.refusal
     c.in_ok-pager.ensures.fresh c.in_ok-pager.ensures.same opened (c.in_ok-pager.ensures.seen honest) c.into_disk.ensures c.open_pages.ensures.leaves
     (λ is. c.in-Err.ensures.damaged opened.tied (ap Err is)) (λ is. c.in-Err.ensures.left_open opened.tied (ap Err is)) (c.in-Err.ensures.seen opened.tied.honest)
+    (c.in-Err.ensures.before opened.tied)
