@@ -27,7 +27,7 @@ use Rattle.rs_refusal.specs.Counts.{Rose}
 use Rattle.rs_refusal.specs.declared.refusal.Refusal.{Refusal}
 use Rattle.rs_refusal.specs.declared.refusal.Refusal.TheVariants as refusal
 use Rattle.rs_standing.specs.Meant.{IsMeant}
-use Rattle.rs_standing.specs.Standing.{Stands}
+use Rattle.rs_store.specs.Standing.{Stands}
 use Rattle.rs_store.specs.Calls.{OpensState}
 use Rattle.rs_store.specs.Kept.{Keeps, StandsIn, StoreState}
 

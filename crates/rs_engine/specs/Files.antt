@@ -8,7 +8,7 @@ use Rattle.rs_machine.specs.State.{State, fresh}
 use Rattle.rs_machine.specs.Step.{without_cursors}
 use Rattle.rs_refusal.specs.declared.refusal.Refusal.{Refusal}
 use Rattle.rs_refusal.specs.declared.refusal.Refusal.TheVariants as refusal
-use Rattle.rs_standing.specs.Standing.{IsFileOf, Stands}
+use Rattle.rs_store.specs.Standing.{IsFileOf, Stands}
 use Rattle.rs_store.specs.Calls.{IsClosedFile, IsLeftOpen, IsNoFileOfAny, StaysFile}
 use Rattle.rs_store.specs.Kept.{StoreState}
 use Rattle.rs_syntax.specs.Tree.{CommandTree, reopen, save}

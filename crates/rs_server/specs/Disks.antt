@@ -13,7 +13,7 @@ use Rattle.rs_refusal.specs.declared.refusal.Refusal.{Refusal}
 use Rattle.rs_refusal.specs.declared.refusal.Refusal.TheVariants as refusal
 use Rattle.rs_server.specs.declared.report.Failure.{Failure}
 use Rattle.rs_server.specs.declared.report.Failure.TheVariants.{Refused, Stream}
-use Rattle.rs_standing.specs.Standing.{Stands}
+use Rattle.rs_store.specs.Standing.{Stands}
 use Rattle.rs_store.specs.Calls.{IsLeftOpen, IsNoFileOfAny, StaysFile, WantsCreating, WantsOpening}
 
 -- ---- failures

@@ -1,6 +1,5 @@
--- A disk stands for one state at the most.
+-- Pages stand for one state at the most.
 use Rattle.std.proofs.Common.{◌≡◌, ℕ, List, [], ◌∷◌, map, Ok, refl, sym, ap, subst, ◌∙◌}
-use Rattle.std.proofs.Math.Path.{fun_ext}
 use Rattle.std.specs.FinMap as names
 use Rattle.std.specs.List.{AllZip}
 use Rattle.rs_catalog.specs.Definitions as catalog
@@ -8,20 +7,18 @@ use Rattle.rs_catalog.specs.Definitions.{Definitions, indexed_column, on_numbere
 use Rattle.rs_catalog.specs.Names.{map_values}
 use Rattle.rs_catalog_pages.specs.Items.{CatalogueItems, ViewItem}
 use Rattle.rs_contents.specs.Contents.{Contents, HoldsAll, SameContents}
-use Rattle.rs_disk.specs.Content.{Content}
 use Rattle.rs_facts.specs.Fact.{Name, Names}
 use Rattle.rs_facts.specs.Query.{Piece}
 use Rattle.rs_facts.specs.Runs.{Stretch}
 use Rattle.rs_machine.specs.State.{State, no_cursors}
-use Rattle.rs_pager.specs.Stored.{Stores}
-use Rattle.rs_pages.specs.PageMap.{PageMap, SamePages}
+use Rattle.rs_pages.specs.PageMap.{PageMap}
 use Rattle.rs_syntax.specs.QueryView.{query_tree}
 use Rattle.rs_syntax.specs.Tree.{QueryTree, define_view}
 use Rattle.rs_syntax.specs.Verdict.{Reads}
 use Rattle.rs_syntax_laws.specs.ViewTexts.{TextSaysQuery}
 use Rattle.rs_standing.specs.Changed.{SaysTheSame}
 use Rattle.rs_standing.specs.Seen.{referents_seen, spans_seen}
-use Rattle.rs_standing.specs.Standing.{IsFileOf}
+use Rattle.rs_standing.specs.Standing.{StandsFor}
 use Rattle.rs_standing.specs.States.{AreDefinitionsAt, HasLine, IsStateAt, IsViewOf}
 use Rattle.rs_standing.proofs.KeptMeaning.{says_same}
 use Rattle.rs_standing.proofs.SameWorld.{same_referents, same_spans}
@@ -109,24 +106,15 @@ same_state version one other state same is = record {
       ∙ ap (λ (spans : ℕ → ℕ → List Stretch). state_from is.definitions (referents_seen other version) spans (record { changes = version; cursors = no_cursors })) (same_spans one other same version);
 }
 
-same_pages : (one other : PageMap) → SamePages one other → one ≡ other
-same_pages one other same =
-    ap (λ fields. record { fields = fields; page = one.page }) same.fields
-    ∙ ap (λ page. record { fields = other.fields; page = page }) (fun_ext same.pages)
-
--- what is said of disks and of pages
-abbrev pub DiskHasOneMap : Type 0
-DiskHasOneMap = (content : Content) (one other : PageMap) → Stores content one → Stores content other → SamePages one other
-
+-- what is said of pages
 abbrev pub FileHoldsOne : Type 0
 FileHoldsOne = (map : PageMap) (one other : Contents) → HoldsAll map one → HoldsAll map other → SameContents one other
 
-module _ (says : LineSaysText) (alone : TextSaysOne) (one_map : DiskHasOneMap) (one_thing : FileHoldsOne) where
-  pub disk_one : (limit most : ℕ) (disk : Content) (one other : State) → IsFileOf limit disk one → IsFileOf most disk other → one ≡ other
-  disk_one limit most disk one other is are =
-      let pages : is.pages ≡ are.pages = same_pages is.pages are.pages (one_map disk is.pages are.pages is.stores are.stores) in
-      let same = one_thing are.pages is.contents are.contents (subst (λ (p : PageMap). HoldsAll p is.contents) pages is.stands.holds) are.stands.holds in
-      let accepted : is.contents.directory.accepted ≡ are.contents.directory.accepted = ap (λ d. d.accepted) same.directory in
-      contents_one says alone are.contents.directory.accepted are.contents one other
-      (subst (λ (version : ℕ). IsStateAt version are.contents one) accepted (same_state is.contents.directory.accepted is.contents are.contents one (says_same is.contents are.contents same) is.stands.is))
-      are.stands.is
+module _ (says : LineSaysText) (alone : TextSaysOne) (one_thing : FileHoldsOne) where
+  pub pages_one : (pages : PageMap) (contents others : Contents) (one other : State) → StandsFor pages contents one → StandsFor pages others other → one ≡ other
+  pages_one pages contents others one other is are =
+      let same = one_thing pages contents others is.holds are.holds in
+      let accepted : contents.directory.accepted ≡ others.directory.accepted = ap (λ d. d.accepted) same.directory in
+      contents_one says alone others.directory.accepted others one other
+      (subst (λ (version : ℕ). IsStateAt version others one) accepted (same_state contents.directory.accepted contents others one (says_same contents others same) is.is))
+      are.is

@@ -1,4 +1,4 @@
-//! A disk stands for one state at the most, which is lawful; contents have one state and one world at each version.
+//! Pages stand for one state at the most, which is lawful; contents have one state and one world at each version.
 
 ghost use Rattle.std.specs.List.{AllByRecursion};
 ghost use Rattle.std.specs.Prelude.{◌≡◌, ◌≤◌, ℕ, List};
@@ -7,28 +7,23 @@ ghost use Rattle.rs_catalog_meaning.specs.Meaning.{AreMeant};
 ghost use Rattle.rs_catalog_pages.specs.Items.{CatalogueItems};
 ghost use Rattle.rs_contents.specs.Contents.{AreGivenOnce, Contents, HoldsAll};
 ghost use Rattle.rs_contents.specs.Creating.{no_contents};
-ghost use Rattle.rs_disk.specs.Content.{Content};
 ghost use Rattle.rs_machine.specs.Lawful.{IsLawful};
 ghost use Rattle.rs_machine.specs.State.{State, fresh, world_of};
 ghost use Rattle.rs_pages.specs.PageMap.{PageMap};
 ghost use Rattle.rs_standing.specs.Changed.{SaysTheSame};
-ghost use Rattle.rs_standing.specs.Standing.{IsFileOf, Stands, StandsFor};
+ghost use Rattle.rs_standing.specs.Standing.{StandsFor};
 ghost use Rattle.rs_standing.specs.States.{AreDefinitionsAt, IsStateAt, world_at};
 
 use rs_catalog_meaning::laws::{empty_catalogue_is_meant, meant_definitions_make_a_lawful_state};
 use rs_contents::laws::file_holds_one_thing;
-use rs_pager::laws::disk_stands_for_one_map;
 use rs_syntax_laws::views::{text_of_a_view_says_its_query, text_says_one_query};
 use rs_value::said_row_is_of_its_columns;
 
-/// A disk stands for one state at the most, within whatever limit it is looked at, and whether it was closed or not.
-pub fn disk_stands_for_one_state()
-    ensures file { (limit most : ℕ) (disk : Content) (one other : State)
-        → IsFileOf limit disk one → IsFileOf most disk other → one ≡ other }
-    ensures closed { (limit most : ℕ) (disk : Content) (one other : State)
-        → Stands limit disk one → Stands most disk other → one ≡ other }
+/// Pages stand for one state at the most.
+pub fn pages_stand_for_one_state()
+    ensures { (pages : PageMap) (contents others : Contents) (one other : State)
+        → StandsFor pages contents one → StandsFor pages others other → one ≡ other }
 {
-    disk_stands_for_one_map();
     file_holds_one_thing();
     text_of_a_view_says_its_query();
     text_says_one_query();
@@ -36,8 +31,7 @@ pub fn disk_stands_for_one_state()
 
 /// The state that a file stands for is lawful.
 pub fn what_stands_is_lawful()
-    ensures pages { (pages : PageMap) (contents : Contents) (state : State) → StandsFor pages contents state → IsLawful state }
-    ensures disk { (limit : ℕ) (disk : Content) (state : State) → Stands limit disk state → IsLawful state }
+    ensures { (pages : PageMap) (contents : Contents) (state : State) → StandsFor pages contents state → IsLawful state }
 {
     meant_definitions_make_a_lawful_state();
     said_row_is_of_its_columns();

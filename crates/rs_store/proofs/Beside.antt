@@ -12,7 +12,7 @@ use Rattle.rs_page_owners.proofs.Moving.{one_at-same}
 use Rattle.rs_pager.specs.Opened.{SetsFlag}
 use Rattle.rs_pager.specs.Stored.{IsNoFile, Stores}
 use Rattle.rs_pages.specs.PageMap.{PageMap}
-use Rattle.rs_standing.specs.Standing.{IsFileOf}
+use Rattle.rs_store.specs.Standing.{IsFileOf}
 use Rattle.rs_store.specs.Calls.{IsNoFileOfAny, SameButFlag, StaysFile}
 
 -- the directory is a page of its own

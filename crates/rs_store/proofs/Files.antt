@@ -19,7 +19,8 @@ use Rattle.rs_pages.proofs.Stores.{SamePages-trans}
 use Rattle.rs_refusal.specs.declared.refusal.Refusal.{Refusal}
 use Rattle.rs_refusal.specs.declared.refusal.Refusal.TheVariants as refusal
 use Rattle.rs_standing.specs.Meant.{IsMeant}
-use Rattle.rs_standing.specs.Standing.{IsFileOf, StandsFor}
+use Rattle.rs_standing.specs.Standing.{StandsFor}
+use Rattle.rs_store.specs.Standing.{IsFileOf}
 use Rattle.rs_store.specs.Calls.{IsClosedFile, IsLeftOpen, IsNoFileOfAny, LeavesAllButFlag, Opens, OpensState, SameButFlag}
 use Rattle.rs_store.specs.Kept.{StoreState}
 use Rattle.rs_store.specs.Loading.{LoadsState, StandsForNone, StandsForSome}

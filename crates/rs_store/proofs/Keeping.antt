@@ -20,7 +20,8 @@ use Rattle.rs_pages.proofs.Stores.{SamePages-trans}
 use Rattle.rs_refusal.specs.declared.refusal.Refusal.{Refusal}
 use Rattle.rs_refusal.specs.declared.refusal.Refusal.TheVariants as refusal
 use Rattle.rs_standing.specs.Meant.{IsMeant}
-use Rattle.rs_standing.specs.Standing.{IsFileOf, StandsFor}
+use Rattle.rs_standing.specs.Standing.{StandsFor}
+use Rattle.rs_store.specs.Standing.{IsFileOf}
 use Rattle.rs_store.specs.Calls.{KeepsSame, KeepsStore, LeavesAllButFlag, Reopens, Saves}
 use Rattle.rs_store.specs.Changing.{StillHolds}
 use Rattle.rs_store.specs.Kept.{Keeps, StandsIn, StoreState}

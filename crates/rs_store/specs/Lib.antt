@@ -10,5 +10,6 @@ pub mod Releasing
 pub mod Rewriting
 pub mod Routing
 pub mod Settling
+pub mod Standing
 pub mod Tabling
 pub mod Versions

@@ -6,7 +6,7 @@ ghost use Rattle.rs_disk.specs.Counts.{Counts};
 ghost use Rattle.rs_machine.specs.State.{State};
 ghost use Rattle.rs_pager.specs.Maps.{HoldsNoChange, KeepsChanges};
 ghost use Rattle.rs_pager.specs.Opened.{CountsFault};
-ghost use Rattle.rs_standing.specs.Standing.{Stands};
+ghost use Rattle.rs_store.specs.Standing.{Stands};
 ghost use Rattle.rs_store.specs.Calls.{Closes, CountsClosing, KeepsStore, Reopens, Saves};
 ghost use Rattle.rs_store.specs.Changing.{StillHolds};
 ghost use Rattle.rs_store.specs.Kept.{StandsIn};

@@ -1,18 +1,24 @@
-//! These laws say in which state a store stands.
+//! These laws say in which state a store stands, and for which one a disk.
 
 ghost use Rattle.std.specs.Prelude.{◌≡◌, ℕ};
 ghost use Rattle.rs_catalog.specs.Definitions.{state_from};
 ghost use Rattle.rs_catalog.specs.Referents.{referents_on};
 ghost use Rattle.rs_contents.specs.Contents.{Contents};
+ghost use Rattle.rs_disk.specs.Content.{Content};
 ghost use Rattle.rs_file_changes.specs.Clearing.{clearable};
+ghost use Rattle.rs_machine.specs.Lawful.{IsLawful};
 ghost use Rattle.rs_machine.specs.State.{State, no_cursors};
 ghost use Rattle.rs_standing.specs.Seen.{spans_seen};
 ghost use Rattle.rs_store.specs.Kept.{Keeps, StandsIn, StoreState, garbage_of};
+ghost use Rattle.rs_store.specs.Standing.{IsFileOf, Stands};
 
 use rs_contents::laws::file_holds_one_thing;
 use rs_disk::Disk;
+use rs_pager::laws::disk_stands_for_one_map;
 use rs_standing::changes::meant_contents_stay_meant;
-use rs_standing::standing::contents_have_one_state;
+use rs_standing::standing::{
+    contents_have_one_state, pages_stand_for_one_state, what_stands_is_lawful,
+};
 
 /// A store stands in one state at the most. That is the state of its catalogue, of the referents in memory, and of the spans that the
 /// version accepted last sees.
@@ -32,3 +38,21 @@ pub fn store_stands_in_one_state<D: Disk>()
 pub fn dead_records_may_be_cleared<D: Disk>()
     ensures { (store : StoreState D) (contents : Contents) → Keeps D.Disk store contents → clearable store.file.accepted contents ≡ garbage_of store.file }
 {}
+
+/// A disk stands for one state at the most, within whatever limit it is looked at, and whether it was closed or not.
+pub fn disk_stands_for_one_state()
+    ensures file { (limit most : ℕ) (disk : Content) (one other : State)
+        → IsFileOf limit disk one → IsFileOf most disk other → one ≡ other }
+    ensures closed { (limit most : ℕ) (disk : Content) (one other : State)
+        → Stands limit disk one → Stands most disk other → one ≡ other }
+{
+    disk_stands_for_one_map();
+    pages_stand_for_one_state();
+}
+
+/// The state that a disk stands for is lawful.
+pub fn state_of_a_disk_is_lawful()
+    ensures { (limit : ℕ) (disk : Content) (state : State) → Stands limit disk state → IsLawful state }
+{
+    what_stands_is_lawful();
+}

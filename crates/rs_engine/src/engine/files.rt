@@ -28,8 +28,8 @@ use rs_disk::Disk;
 use rs_machine_laws::lawful::{accepted_step_leaves_the_state_lawful, fresh_state_is_lawful};
 use rs_pages::{GREATEST_LIMIT, LEAST_LIMIT};
 use rs_refusal::Refusal;
-use rs_standing::standing::what_stands_is_lawful;
 use rs_store::Store;
+use rs_store::laws::state_of_a_disk_is_lawful;
 use std::alloc::Global;
 
 impl<D: Disk> Engine<D> {
@@ -79,7 +79,7 @@ impl<D: Disk> Engine<D> {
         ensures hands { HandsOver D.Disk limit disk (stores_of result) }
         ensures refused { IfErr result (λ refused. WantsOpening refused.1) }
     {
-        what_stands_is_lawful();
+        state_of_a_disk_is_lawful();
         let store = Store::open(alloc, disk, limit)?;
         Ok(engine_over(alloc, store))
     }

@@ -6,7 +6,7 @@ use Rattle.rs_engine.proofs.engine.Engine.open_within.Goals as goal
 pub returns-clause-opens : goal.returns-clause-opens
 returns-clause-opens g c = λ honest. record {
   opens = begins_opened g.D.Disk c.args.limit (g.D.Disk.seen c.args.disk) c.in_ok-store.store c.engine_over.result c.engine_over.ensures.store c.engine_over.ensures.oldest c.engine_over.ensures.cursors
-      c.what_stands_is_lawful.ensures.disk (c.in_ok-store.ensures.opens honest).opens (omega (arith, c.in_ok-store.ensures.hands.limit, c.requires.greatest));
+      c.state_of_a_disk_is_lawful.ensures (c.in_ok-store.ensures.opens honest).opens (omega (arith, c.in_ok-store.ensures.hands.limit, c.requires.greatest));
   damaged = tt;
   left_open = tt;
   seen = tt;

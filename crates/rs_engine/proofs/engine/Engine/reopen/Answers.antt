@@ -8,7 +8,7 @@ use Rattle.rs_engine.proofs.Filing.{engine_with, names_a_want, served_anew, stay
 use Rattle.rs_machine.specs.Served.{done, refused}
 use Rattle.rs_machine.specs.State.{State}
 use Rattle.rs_machine.specs.Step.{counted, without_cursors}
-use Rattle.rs_standing.specs.Standing.{IsFileOf}
+use Rattle.rs_store.specs.Standing.{IsFileOf}
 use Rattle.rs_syntax.specs.Tree.{reopen}
 use Rattle.rs_engine.proofs.engine.Engine.reopen.Goals as goal
 

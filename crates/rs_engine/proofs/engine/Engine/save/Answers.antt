@@ -8,7 +8,7 @@ use Rattle.rs_engine.proofs.Filing.{engine_with, names_a_want, served_same, stay
 use Rattle.rs_machine.specs.Served.{done, refused}
 use Rattle.rs_machine.specs.State.{State}
 use Rattle.rs_machine.specs.Step.{counted}
-use Rattle.rs_standing.specs.Standing.{IsFileOf}
+use Rattle.rs_store.specs.Standing.{IsFileOf}
 use Rattle.rs_engine.proofs.engine.Engine.save.Goals as goal
 
 pub returns-in_err-save-clause-serves : goal.returns-in_err-save-clause-serves

@@ -1,7 +1,7 @@
 -- The disk of a store that was put away.
 use Rattle.std.proofs.Common.{◌≡◌, ◌∙◌, ℕ, true, ap, subst, sym}
 use Rattle.rs_machine.specs.State.{State}
-use Rattle.rs_standing.specs.Standing.{Stands}
+use Rattle.rs_store.specs.Standing.{Stands}
 use Rattle.rs_store.proofs.store.Store.close.Goals as goal
 
 pub returns-in-Ok-clause-closes : goal.returns-in-Ok-clause-closes

@@ -4,7 +4,7 @@ use Rattle.std.proofs.lemmas.Bool.{false≢true}
 use Rattle.std.proofs.lemmas.Result.{on_ok_weaker}
 use Rattle.rs_machine.specs.State.{State}
 use Rattle.rs_page.specs.declared.file_header.TheConstants.{FLAG_OFFSET}
-use Rattle.rs_standing.specs.Standing.{IsFileOf}
+use Rattle.rs_store.specs.Standing.{IsFileOf}
 use Rattle.rs_store.specs.Calls.{KeepsStore}
 use Rattle.rs_store.specs.Kept.{StandsIn, StoreState}
 use Rattle.rs_store.proofs.Beside.{file_beside_flag, same_but_flag-set}
