@@ -5,8 +5,9 @@ ghost use Rattle.rs_value.specs.Encoding.{SaysDatum, width};
 ghost use Rattle.rs_value.specs.Values.{IsOfType};
 ghost use Rattle.rs_value.specs.View.{datum_of};
 
-use rs_value::{ColumnType, Schema, Tuple, Value, column_width, encode};
+use rs_value::{ColumnType, Schema, Value, column_width, encode};
 use std::alloc::{AllocError, Global};
+use std::slice;
 
 /// The bytes of a cell from `start` on, so many, and then the cell.
 pub(crate) fn entry_of(
@@ -53,11 +54,9 @@ pub(crate) fn value_bytes(
 {
     let mut schema = Schema::new();
     schema.push(column);
-    let mut tuple = Tuple::new();
-    tuple.push(*value);
     let mut bytes = Vec::new(alloc);
     bytes.resize(column_width(column), 0)?;
-    encode(&schema, &tuple, &mut bytes);
+    encode(&schema, slice::from_ref(value), &mut bytes);
     Ok(bytes)
 }
 

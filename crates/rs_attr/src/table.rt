@@ -40,7 +40,7 @@ pub fn add<P: Pages>(
     span: &Span,
 ) -> Result<bool, Refusal>
     requires begun { (P.store pages.old).is_begun ≡ true }
-    requires row { IsRowOf table.old.types (row_of span.now.tuple.value) }
+    requires row { IsRowOf table.old.types (row_of span.now.tuple.items) }
     requires indexes { AreOn table.old.types indexes.old }
     ensures leaves { Leaves P.Pages table.old indexes.old result pages.old pages.new }
     ensures adds { Adds P.Pages table.old indexes.old table.new indexes.new (event_of route span.now version) result pages.old pages.new }
