@@ -48,7 +48,7 @@ pub(crate) fn changed_on(
     requires ordered { AllByRecursion IsInOrder (list_of rows) }
     ensures { IfOk result (λ made. AllZip (IsChanged change.entry) (list_of rows) (list_of made)) }
 {
-    let first = changed(change, rows.first);
+    let first = changed(alloc, change, rows.first)?;
     let others = changed_each(alloc, change, rows.others)?;
     Ok(RowsOn { first, others })
 }
@@ -65,22 +65,22 @@ fn changed_each(
 {
     let mut made = Vec::new(alloc);
     for rows in lists {
-        made.push(changed(change, rows))?;
+        made.push(changed(alloc, change, rows)?)?;
     }
     Ok(made)
 }
 
 /// The rows on one route, changed in place.
-fn changed(change: Change<'_>, mut rows: Vec<Span>) -> Vec<Span>
+fn changed(alloc: Global, change: Change<'_>, mut rows: Vec<Span>) -> Result<Vec<Span>, AllocError>
     requires narrow { IsNarrow change }
     requires ordered { IsInOrder rows }
-    ensures { IsChanged change.entry rows result }
+    ensures { IfOk result (λ made. IsChanged change.entry rows made) }
 {
     match change {
         Change::Where(conditions) => select_each(&mut rows, conditions),
-        Change::Dissolve(columns) => dissolve(&mut rows, columns),
+        Change::Dissolve(columns) => dissolve(alloc, &mut rows, columns)?,
     }
-    rows
+    Ok(rows)
 }
 
 /// Keeps the rows that meet each condition. It takes no memory.

@@ -8,7 +8,7 @@ ghost use Rattle.rs_exec.specs.Carried.{meets, meets_part};
 ghost use Rattle.rs_exec.specs.Given.{inside};
 
 use crate::source::Part;
-use rs_facts::Span;
+use rs_facts::{Span, kept_row};
 use rs_spans::copy_spans;
 use std::alloc::{AllocError, Global};
 
@@ -44,7 +44,7 @@ pub(crate) fn copies_meeting(
             copies.push(Span {
                 lo: span.lo,
                 hi: span.hi,
-                tuple: span.tuple.clone()?,
+                tuple: kept_row(alloc, &span.tuple)?,
             })?;
         }
     }

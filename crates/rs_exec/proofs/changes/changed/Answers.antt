@@ -1,10 +1,19 @@
 use Rattle.std.proofs.Common.{sym, subst}
 use Rattle.rs_exec.specs.Changes.{IsNarrow, IsChanged}
 use Rattle.rs_exec.proofs.changes.changed.Goals as goal
+use Rattle.rs_exec.proofs.changes.changed.Goals.{in-Where, in-Dissolve+in_ok-dissolve-in-Dissolve}
 
 pub dissolve-requires-clause-few : goal.dissolve-requires-clause-few
 dissolve-requires-clause-few c = subst IsNarrow c.in-Dissolve.is c.requires.narrow
 
-pub returns-in-Where : goal.returns-in-Where
-returns-in-Where c = subst (λ change. IsChanged change c.args.rows c.select_each.new.spans) (sym c.in-Where.is)
-    (record { means = c.select_each.ensures.means; sorted = c.select_each.ensures.sorted; placed = c.select_each.ensures.placed; wide = c.select_each.ensures.width })
+pub returns : goal.returns
+returns c = elim c.match-change.branch [
+  | in-Where w ↦
+      subst (λ made. IsChanged c.args.change c.args.rows made) (sym w.rows-is)
+      (subst (λ change. IsChanged change c.args.rows w.select_each.new.spans) (sym w.in-Where.is)
+      (record { means = w.select_each.ensures.means; sorted = w.select_each.ensures.sorted; placed = w.select_each.ensures.placed; wide = w.select_each.ensures.width }))
+  | in-Dissolve+in_ok-dissolve-in-Dissolve w ↦
+      subst (λ made. IsChanged c.args.change c.args.rows made) (sym w.rows-is)
+      (subst (λ change. IsChanged change c.args.rows w.dissolve.new.spans) (sym w.in-Dissolve.is)
+      (record { means = w.in_ok-dissolve-in-Dissolve.ensures.means; sorted = w.in_ok-dissolve-in-Dissolve.ensures.sorted; placed = w.in_ok-dissolve-in-Dissolve.ensures.placed; wide = λ _ _. w.in_ok-dissolve-in-Dissolve.ensures.width }))
+]

@@ -23,7 +23,7 @@ pub loop-rows-preserved : goal.loop-rows-preserved
 loop-rows-preserved c = record {
   counted = let e = ap length c.in-Some.ensures.steps.0 in let f = c.in-Some.ensures.steps.1 in omega (arith, e, f, c.loop-rows.invariant.counted);
   ordered = (subst (AllByRecursion IsInOrder) c.in-Some.ensures.steps.0 c.loop-rows.invariant.ordered).1;
-  changed = zips-next (IsChanged c.args.change) _ _ _ _ _ _ _ c.loop-rows.invariant.changed c.in-Some.ensures.steps.0 c.in_ok-push.ensures.items c.changed.ensures;
+  changed = zips-next (IsChanged c.args.change) _ _ _ _ _ _ _ c.loop-rows.invariant.changed c.in-Some.ensures.steps.0 c.in_ok-push.ensures.items c.in_ok-changed.ensures;
 }
 
 pub returns : goal.returns

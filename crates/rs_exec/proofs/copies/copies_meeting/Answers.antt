@@ -1,20 +1,13 @@
 -- A span that is met is copied after those before it, and its copy has the same row.
 use Rattle.std.proofs.Common.{◌≡◌, map, filter, take, true, false, cond, Bool, List, [], ◌∷◌, ◌+◌, ◌++◌, refl, ap, sym, ◌∙◌}
 use Rattle.std.proofs.lemmas.List.{map_push, map_more}
-use Rattle.std.proofs.lemmas.List.Elements.{same_from_all_zip}
-use Rattle.arrayvec.specs.ArrayVec.{ArrayVec}
-use Rattle.rs_value.specs.declared.value.Value.{Value}
-use Rattle.rs_value.specs.View.{row_of, datum_of}
+use Rattle.rs_value.specs.View.{row_of}
 use Rattle.rs_facts.specs.Runs.{Stretch, stretch}
 use Rattle.rs_facts.specs.Spans.{seen}
 use Rattle.rs_exec.specs.Carried.{meets}
 use Rattle.rs_exec.proofs.CarriedSpans.{filter-last}
 use Rattle.rs_exec.proofs.copies.copies_meeting.Goals as goal
-use Rattle.rs_exec.proofs.copies.copies_meeting.Goals.{then-is_met+in_ok-clone+in_ok-push, else-is_met}
-
-same_row : (a b : ArrayVec Value) → a.items ≡ b.items → row_of a ≡ row_of b
-unfolding row_of
-same_row a b same = ap (map datum_of) same
+use Rattle.rs_exec.proofs.copies.copies_meeting.Goals.{then-is_met+in_ok-kept_row+in_ok-push, else-is_met}
 
 append_nil : (xs : List Stretch) → xs ++ [] ≡ xs
 append_nil [] = refl
@@ -32,14 +25,13 @@ more c test is =
 
 pub loop-span-preserved : goal.loop-span-preserved
 loop-span-preserved c = elim c.if-is_met.branch [
-  | then-is_met+in_ok-clone+in_ok-push w ↦
+  | then-is_met+in_ok-kept_row+in_ok-push w ↦
       let old = c.span-item.result in
-      let tuple = w.in_ok-clone.field-0 in
-      let items = same_from_all_zip _ _ _ w.in_ok-clone.ensures.cases (λ x y h. h) in
+      let tuple = w.in_ok-kept_row.field-0 in
       ap (λ v. map seen v.items) w.copies-is
       ∙ ap (map seen) w.in_ok-push.ensures.items
       ∙ map_push seen c.loop-span.copies.items (record { lo = old.lo; hi = old.hi; tuple = tuple })
-      ∙ ap (λ row. map seen c.loop-span.copies.items ++ stretch old.lo old.hi row ∷ []) (same_row tuple.value old.tuple.value items)
+      ∙ ap (λ values. map seen c.loop-span.copies.items ++ stretch old.lo old.hi (row_of values) ∷ []) (w.in_ok-kept_row.ensures ∙ w.deref.ensures.value)
       ∙ sym (more c true (sym c.is_met.ensures ∙ w.if-is_met.true))
   | else-is_met w ↦
       ap (λ v. map seen v.items) w.copies-is
