@@ -25,7 +25,7 @@ ghost use Rattle.rs_command_checks.specs.States.{Unseen, state_by};
 use crate::checks::Checks;
 use rs_catalog::RouteEntry;
 use rs_checker::check_condition;
-use rs_facts::{Condition, Span};
+use rs_facts::{Condition, Span, kept_row};
 use rs_methods::{Name, Position};
 use rs_refusal::Refusal;
 use rs_syntax::{Atom, ColumnDefinition, EventLocation, Window};
@@ -85,7 +85,7 @@ impl Checks<'_> {
         }
         self.catalog.stand();
         let row = fitted(table.columns(), values)?;
-        let tuple = Box::new(self.alloc, row)?;
+        let tuple = kept_row(self.alloc, row.as_slice())?;
         Ok(Span { lo, hi, tuple })
     }
 
@@ -205,7 +205,7 @@ fn is_of_kind(place: &EventLocation, kind: Kind) -> bool
 fn fitted(columns: &[ColumnDefinition], values: &[Literal]) -> Result<Tuple, Refusal>
     requires { length columns.now ≤ COLUMNS }
     ensures ok { OnOk result (row_fits (map column_tree columns.now) (literal_row values.now) ≡ Ok tt) }
-    ensures row { IfOk result (λ tuple. row_of tuple ≡ literal_row values.now) }
+    ensures row { IfOk result (λ tuple. row_of tuple.items ≡ literal_row values.now) }
     ensures refused { IfErr result (λ refusal. row_fits (map column_tree columns.now) (literal_row values.now) ≡ Err refusal) }
 {
     fits(&schema_of(columns), values)
