@@ -7,7 +7,6 @@ mod Inserting
 mod LeftSpans
 mod Outside
 mod PickLaws
-mod Pushed
 mod Removed
 mod Removing
 mod Seeing

@@ -35,7 +35,7 @@ pub fn insert<P: Pages>(
     span: &Span,
 ) -> Result<u64, Refusal>
     requires may { MayEdit P.Pages table.old version pages.old }
-    requires row { IsRowOf table.old.records.types (row_of span.now.tuple.value) }
+    requires row { IsRowOf table.old.records.types (row_of span.now.tuple.items) }
     requires placed { IsPlaced kind (seen span.now) }
     ensures leaves { Leaves P.Pages table.old version result pages.old pages.new }
     ensures inserts { P.is_tied pages.old → IfOk result (λ count. Inserted (P.store pages.old).map (P.store pages.new).map table.old table.new

@@ -35,7 +35,7 @@ pub(crate) fn join(
     span: &Span,
 ) -> Result<Joined, Refusal>
     requires width { record_width found.now ≡ event_width schema.now.items }
-    requires row { IsRowOf schema.now.items (row_of span.now.tuple.value) }
+    requires row { IsRowOf schema.now.items (row_of span.now.tuple.items) }
     ensures joins { IfOk result (λ joined. Joins schema.now.items (seen span.now) (listed found.now) (listed joined.edit.gone)
         (map seen joined.edit.come.items) joined.count) }
     ensures rows { IfOk result (λ joined. AllByRecursion (λ come. IsRowOf schema.now.items come.row) (map seen joined.edit.come.items)) }

@@ -16,7 +16,7 @@ use rs_facts::{Condition, Span};
 use rs_records::Cells;
 use rs_refusal::Refusal;
 use rs_sweep::meets;
-use rs_value::{Schema, Tuple, same_row};
+use rs_value::{Schema, Value, same_row};
 use rs_versioned::event::span_of;
 use std::alloc::Global;
 
@@ -32,7 +32,7 @@ pub(crate) fn of_row(
     alloc: Global,
     schema: &Schema,
     found: &Cells,
-    row: &Tuple,
+    row: &[Value],
 ) -> Result<Picked, Refusal>
     requires width { record_width found.now ≡ event_width schema.now.items }
     ensures picks { IfOk result (λ picked. Picks schema.now.items (λ other. same_row other (row_of row.now)) (listed found.now)
@@ -82,11 +82,11 @@ pub(crate) fn going(
 }
 
 /// Whether a row goes.
-fn is_going(goes: Option<&Condition>, tuple: &Tuple) -> bool
-    ensures { result ≡ goes_by (option_copied goes.entry) (row_of tuple.now) }
+fn is_going(goes: Option<&Condition>, values: &[Value]) -> bool
+    ensures { result ≡ goes_by (option_copied goes.entry) (row_of values.now) }
 {
     match goes {
-        Some(condition) => meets(condition, tuple),
+        Some(condition) => meets(condition, values),
         None => true,
     }
 }

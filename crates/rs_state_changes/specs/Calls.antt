@@ -61,7 +61,7 @@ pub record HasTablesOf (was items : CatalogueItems) : Type 0 where
 -- a table is open at the place, and the row along the span is one of its columns, of this kind
 pub record IsRowAt (file : OpenedFile) (place : ℕ) (kind : Kind) (span : Span) : Type 0 where
   pub there : place < length file.tables.items
-  pub row : (table : OpenedTable) → slice_get file.tables.items place ≡ Some table → IsRowOf table.records.types (row_of span.tuple.value)
+  pub row : (table : OpenedTable) → slice_get file.tables.items place ≡ Some table → IsRowOf table.records.types (row_of span.tuple.items)
   pub placed : IsPlaced kind (seen span)
 
 -- ---- what it makes of a file, and what it leaves of what is open

@@ -39,7 +39,7 @@ add-requires-clause-begun g c = c.loop-span.invariant.works.counts.begun ∙ c.r
 
 pub add-requires-clause-row : goal.add-requires-clause-row
 add-requires-clause-row g c =
-    subst (λ types. IsRowOf types (row_of c.span-item.result.tuple.value)) (sym c.loop-span.invariant.table.types)
+    subst (λ types. IsRowOf types (row_of c.span-item.result.tuple.items)) (sym c.loop-span.invariant.table.types)
     (row_at (IsRowOf c.args.table.now.records.types) c.args.spans.now c.loop-span.span-index c.span-item.result c.requires.rows c.loop-span-test.true c.span-item.is)
 
 pub add-requires-clause-indexes : goal.add-requires-clause-indexes

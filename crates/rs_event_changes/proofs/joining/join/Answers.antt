@@ -14,7 +14,7 @@ pub returns-then-is_covered-clause-joins : goal.returns-then-is_covered-clause-j
 returns-then-is_covered-clause-joins c =
     let types = c.args.schema.now.items in
     let picked = c.in_ok-picked.picked in
-    let picks = subst (λ t. Picks types (λ other. same_row other (row_of t)) (listed c.args.found.now) (listed picked.cells) (map seen picked.spans.items)) c.deref.ensures c.in_ok-picked.ensures.picks in
+    let picks = subst (λ t. Picks types (λ other. same_row other (row_of t)) (listed c.args.found.now) (listed picked.cells) (map seen picked.spans.items)) c.deref.ensures.value c.in_ok-picked.ensures.picks in
     let held = holding (seen c.args.span.now) c.deref-2.result.now (sym c.is_covered.ensures ∙ c.if-is_covered.true) in
     record {
       each = λ events say. inl (record {
@@ -32,7 +32,7 @@ returns-clause-joins c =
     let types = c.args.schema.now.items in
     let span = seen c.args.span.now in
     let picked = c.in_ok-picked.picked in
-    let picks = subst (λ t. Picks types (λ other. same_row other (row_of t)) (listed c.args.found.now) (listed picked.cells) (map seen picked.spans.items)) c.deref.ensures c.in_ok-picked.ensures.picks in
+    let picks = subst (λ t. Picks types (λ other. same_row other (row_of t)) (listed c.args.found.now) (listed picked.cells) (map seen picked.spans.items)) c.deref.ensures.value c.in_ok-picked.ensures.picks in
     record {
       each = λ events say. inr (record {
         say = picks.say events say;
