@@ -8,6 +8,7 @@ use Rattle.rs_pager.specs.Maps.{working}
 use Rattle.rs_refusal.specs.declared.refusal.Refusal.TheVariants as refusal
 use Rattle.rs_store.proofs.Keeping.{leaves-trans, leaves_by_flag, leaves_by_reading}
 use Rattle.rs_store.proofs.Loaded.{stands_for_some}
+use Rattle.rs_store.proofs.Results.{err_always}
 use Rattle.rs_store.proofs.opening.open_pages.Goals as goal
 
 pub returns-in_err-check_closed-clause-left_open : goal.returns-in_err-check_closed-clause-left_open
@@ -34,14 +35,11 @@ returns-in_err-set_open_flag-clause-leaves g c =
     leaves-trans d was looked now (leaves-trans d was mid looked (leaves_by_reading d c.load_state.result was mid c.load_state.ensures.rests) c.check_closed.ensures.leaves)
     (leaves_by_flag d c.set_open_flag.result true looked now c.set_open_flag.ensures.keeps c.set_open_flag.ensures.begun c.set_open_flag.ensures.flag)
 
-pub returns-in_err-load_state-clause-before : goal.returns-in_err-load_state-clause-before
-returns-in_err-load_state-clause-before g c = λ tied. inl (c.load_state.ensures.rests.below.unwritten tied.honest)
-
 pub returns-in_err-check_closed-clause-before : goal.returns-in_err-check_closed-clause-before
 returns-in_err-check_closed-clause-before g c = λ tied.
     let d = g.D.Disk in
     let read = leaves_by_reading d c.load_state.result c.args.pager.now c.load_state.new.pages c.load_state.ensures.rests in
-    inl (c.check_closed.ensures.seen (read.tied tied).honest ∙ c.load_state.ensures.rests.below.unwritten tied.honest)
+    err_always c.from_residual-in_err-check_closed.result (inl (c.check_closed.ensures.seen (read.tied tied).honest ∙ c.load_state.ensures.rests.below.unwritten tied.honest))
 
 pub returns-in_err-set_open_flag-clause-before : goal.returns-in_err-set_open_flag-clause-before
 returns-in_err-set_open_flag-clause-before g c = λ tied.
@@ -49,8 +47,8 @@ returns-in_err-set_open_flag-clause-before g c = λ tied.
     let was = c.args.pager.now in
     let loaded = c.in_ok-loaded.loaded in
     let read = leaves_by_reading d c.load_state.result was c.load_state.new.pages c.load_state.ensures.rests in
-    inr (
+    err_always c.from_residual-in_err-set_open_flag.result (inr (
       stands_for_some (working d was) loaded.file loaded.catalog loaded.referents (c.in_ok-loaded.ensures.loads tied),
       subst (λ (content : Content). content.byte FLAG_OFFSET ≡ 0) (c.load_state.ensures.rests.below.unwritten tied.honest)
           (c.in_ok-check_closed.ensures.closed (read.tied tied).honest),
-    )
+    ))
