@@ -17,4 +17,5 @@ pub mod Clearing
 pub mod CursorSteps
 pub mod Tables
 pub mod Saving
+pub mod Staying
 pub mod Wanting

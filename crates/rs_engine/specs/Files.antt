@@ -84,11 +84,12 @@ module _ {D : Type 0} (d : disk.Ghosts D) where
   -- ---- an engine that is put away
 
   -- The disk stands for the state that the engine was in, without its cursors, and is synced. An engine that is handed back is the
-  -- machine that it was, but for the count of failures.
+  -- machine that it was, but for the count of failures; whatever the disk is, it has the cursors that it had.
   pub record Closes (old : EngineState D) (result : Result D (EngineState D × Refusal)) : Type 0 where
     pub stands : (machine : Machine) → IsMachine d old machine → IfOk result (λ disk. Stands old.store.pager.limit (d.seen disk) (without_cursors machine.state))
     pub synced : IfOk result (λ disk. d.is_synced disk ≡ true)
     pub stays : (machine : Machine) → IsMachine d old machine
         → IfErr result (λ refused. IsMachine d refused.0 (record machine { failures = d.failures refused.0.store.pager.disk }))
+    pub cursors : IfErr result (λ refused. refused.0.cursors ≡ old.cursors)
     pub honesty : MatchResult result (λ disk. d.is_honest disk ≡ d.is_honest old.store.pager.disk) (λ refused. d.is_honest refused.0.store.pager.disk ≡ d.is_honest old.store.pager.disk)
     pub limit : IfErr result (λ refused. refused.0.store.pager.limit ≡ old.store.pager.limit)

@@ -9,3 +9,4 @@ pub mod Serving
 pub mod Replied
 pub mod Reads
 pub mod Single
+pub mod Staying

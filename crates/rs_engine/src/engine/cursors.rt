@@ -3,7 +3,7 @@
 //! It promises the machine's checks in their order, that a cursor gives the lines that SELECT would have printed when it was
 //! opened, and that a refusal changes nothing. A cursor keeps no line: it reads them from the store, at the version of its opening.
 
-ghost use Rattle.std.specs.Prelude.{◌≡◌, ◌⊎◌, None, Some, Ok, Err, IfErr, IfOk};
+ghost use Rattle.std.specs.Prelude.{◌≡◌, ◌⊎◌, None, Some, Ok, Err, IfErr, IfOk, OnOk};
 ghost use Rattle.std.specs.FinMap as names;
 ghost use Rattle.rs_answers.specs.Plans.{CanBePlanned};
 ghost use Rattle.rs_answers.specs.Versions.{LiesOnRoutes};
@@ -17,6 +17,7 @@ ghost use Rattle.rs_engine.specs.Kept.{IsMachine, seen_at};
 ghost use Rattle.rs_engine.specs.Reads.{ReadsCursor, WantsRead};
 ghost use Rattle.rs_engine.specs.Replied.{count_reply_of, rows_reply_of};
 ghost use Rattle.rs_engine.specs.Serving.{Serves};
+ghost use Rattle.rs_engine.specs.Staying.{HasCursor, StaysOnAnyDisk};
 ghost use Rattle.rs_machine.specs.Served.{Machine};
 ghost use Rattle.rs_machine.specs.State.{State};
 ghost use Rattle.rs_machine.specs.Step.{counted, cursor_closed, cursor_opened, lines_of, rows_fetched, with_cursor};
@@ -53,6 +54,7 @@ impl<D: Disk> Engine<D> {
     ) -> Result<u128, Refusal>
         requires sound { IsSound (tree.open_cursor name.bytes (query_tree query.now) method) }
         ensures serves { Serves D.Disk (λ (state : State). cursor_opened state session name.bytes (query_tree query.now) method) (count_reply_of result) self.old self.new }
+        ensures stays { StaysOnAnyDisk D.Disk session (tree.open_cursor name.bytes (query_tree query.now) method) (count_reply_of result) self.old self.new }
     {
         accepted_step_leaves_the_state_lawful();
         session_is_in_range(session);
@@ -72,6 +74,7 @@ impl<D: Disk> Engine<D> {
     ) -> Result<Vec<String>, Refusal>
         requires sound { IsSound (tree.fetch name.now.bytes rows) }
         ensures serves { Serves D.Disk (λ (state : State). rows_fetched state session name.now.bytes rows) (rows_reply_of result) self.old self.new }
+        ensures stays { StaysOnAnyDisk D.Disk session (tree.fetch name.now.bytes rows) (rows_reply_of result) self.old self.new }
     {
         accepted_step_leaves_the_state_lawful();
         session_is_in_range(session);
@@ -85,6 +88,7 @@ impl<D: Disk> Engine<D> {
     pub(crate) fn close_cursor(&mut self, session: Session, name: &Name) -> Result<u128, Refusal>
         requires sound { IsSound (tree.close_cursor name.now.bytes) }
         ensures serves { ServesClearing D.Disk ByClose (λ (state : State). cursor_closed state session name.now.bytes) (count_reply_of result) self.old self.new }
+        ensures stays { StaysOnAnyDisk D.Disk session (tree.close_cursor name.now.bytes) (count_reply_of result) self.old self.new }
     {
         accepted_step_leaves_the_state_lawful();
         session_is_in_range(session);
@@ -134,6 +138,8 @@ impl<D: Disk> Engine<D> {
     /// The cursor of a checked query. It looks at the version that was accepted last, and has given nothing.
     fn cursor_of(&self, checked: Checked, method: Method) -> Result<Cursor, AllocError>
         requires can { CanBePlanned self.now.store.catalog checked }
+        ensures method { IfOk result (λ cursor. cursor.method ≡ method) }
+        ensures start { IfOk result (λ cursor. (cursor.place.route ≡ 0) × (cursor.place.given ≡ 0)) }
         ensures version { IfOk result (λ cursor. cursor.version ≡ self.now.store.file.accepted) }
         ensures lines { (machine : Machine) (is : IsMachine D.Disk self.now machine)
             → IfOk result (λ cursor. lines_left (seen_at is.stands.contents) cursor ≡ lines_of machine.state (query_of checked.query) method) }
@@ -159,6 +165,7 @@ impl<D: Disk> Engine<D> {
         ensures refused { IfErr result (λ why. ((why ≡ Refusal.NoSuchCursor) × (names.get (held_of self.old.cursors.held session) name.now.bytes ≡ None)) ⊎ WantsRead D.Disk why self.old self.new) }
         ensures reads { ReadsCursor D.Disk self.old self.new }
         ensures ahead { (machine : Machine) (is : IsMachine D.Disk self.old machine) → AreAhead (seen_at is.stands.contents) self.new.cursors }
+        ensures there { OnOk result (HasCursor session name.now.bytes self.old) }
     {
         let Some(cursor) = self.cursors.held.get(session, name) else {
             return Err(Refusal::NoSuchCursor);

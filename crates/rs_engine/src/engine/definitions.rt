@@ -3,6 +3,7 @@
 ghost use Rattle.std.specs.Prelude.{ℕ, map, string_bytes};
 ghost use Rattle.rs_engine.specs.Replied.{count_reply_of};
 ghost use Rattle.rs_engine.specs.Clearing.{ByChange, ServesClearing};
+ghost use Rattle.rs_engine.specs.Staying.{LeavesCursors};
 ghost use Rattle.rs_machine.specs.Step.{alignment_defined, index_defined, route_defined, table_defined, view_defined};
 ghost use Rattle.rs_serve.specs.Said.{IsSaid};
 ghost use Rattle.rs_syntax.specs.QueryView.{query_tree};
@@ -30,6 +31,7 @@ impl<D: Disk> Engine<D> {
     ) -> Result<u128, Refusal>
         requires sound { IsSound (tree.define_route name.bytes start finish) }
         ensures serves { ServesClearing D.Disk ByChange (λ state. route_defined state name.bytes start finish) (count_reply_of result) self.old self.new }
+        ensures leaves { LeavesCursors D.Disk result self.old self.new }
     {
         stores_have_their_laws::<D>();
         accepted_step_leaves_the_state_lawful();
@@ -51,6 +53,7 @@ impl<D: Disk> Engine<D> {
     ) -> Result<u128, Refusal>
         requires sound { IsSound (tree.define_table kind name.bytes (map column_tree columns.items)) }
         ensures serves { ServesClearing D.Disk ByChange (λ state. table_defined state kind name.bytes (map column_tree columns.items)) (count_reply_of result) self.old self.new }
+        ensures leaves { LeavesCursors D.Disk result self.old self.new }
     {
         stores_have_their_laws::<D>();
         accepted_step_leaves_the_state_lawful();
@@ -73,6 +76,7 @@ impl<D: Disk> Engine<D> {
     ) -> Result<u128, Refusal>
         requires sound { IsSound (tree.define_index name.bytes table.bytes column.now.bytes) }
         ensures serves { ServesClearing D.Disk ByChange (λ state. index_defined state name.bytes table.bytes column.now.bytes) (count_reply_of result) self.old self.new }
+        ensures leaves { LeavesCursors D.Disk result self.old self.new }
     {
         stores_have_their_laws::<D>();
         accepted_step_leaves_the_state_lawful();
@@ -95,6 +99,7 @@ impl<D: Disk> Engine<D> {
         requires sound { IsSound (tree.define_view name.bytes (query_tree query) (string_bytes text)) }
         ensures serves { (session : ℕ) → IsSaid session (tree.define_view name.bytes (query_tree query) (string_bytes text))
             → ServesClearing D.Disk ByChange (λ state. view_defined state name.bytes (query_tree query)) (count_reply_of result) self.old self.new }
+        ensures leaves { LeavesCursors D.Disk result self.old self.new }
     {
         stores_have_their_laws::<D>();
         accepted_step_leaves_the_state_lawful();
@@ -115,6 +120,7 @@ impl<D: Disk> Engine<D> {
     ) -> Result<u128, Refusal>
         requires sound { IsSound (tree.define_alignment name.bytes (map piece_tree pieces.items)) }
         ensures serves { ServesClearing D.Disk ByChange (λ state. alignment_defined state name.bytes (map piece_tree pieces.items)) (count_reply_of result) self.old self.new }
+        ensures leaves { LeavesCursors D.Disk result self.old self.new }
     {
         stores_have_their_laws::<D>();
         accepted_step_leaves_the_state_lawful();

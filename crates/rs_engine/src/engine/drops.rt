@@ -6,6 +6,7 @@ ghost use Rattle.rs_engine.specs.Kept.{IsMachine};
 ghost use Rattle.rs_engine.specs.Reads.{ReadsEngine, WantsRead};
 ghost use Rattle.rs_engine.specs.Replied.{count_reply_of};
 ghost use Rattle.rs_engine.specs.Clearing.{ByChange, IsServedClearing, ServesClearing};
+ghost use Rattle.rs_engine.specs.Staying.{LeavesCursors};
 ghost use Rattle.rs_machine.specs.Served.{Machine};
 ghost use Rattle.rs_machine.specs.Step.{alignment_dropped, index_dropped, route_dropped, table_dropped, view_dropped};
 ghost use Rattle.rs_syntax.specs.Sound.{IsSound};
@@ -25,6 +26,7 @@ impl<D: Disk> Engine<D> {
     pub(crate) fn drop_route(&mut self, name: &Name) -> Result<u128, Refusal>
         requires sound { IsSound (tree.drop_route name.now.bytes) }
         ensures serves { ServesClearing D.Disk ByChange (λ state. route_dropped state name.now.bytes) (count_reply_of result) self.old self.new }
+        ensures leaves { LeavesCursors D.Disk result self.old self.new }
     {
         let has_facts = self.has_facts(name)?;
         self.take_route(name, has_facts)
@@ -48,6 +50,7 @@ impl<D: Disk> Engine<D> {
         requires sound { IsSound (tree.drop_route name.now.bytes) }
         ensures serves { (machine : Machine) (is : IsMachine D.Disk self.old machine) → TellsOfFacts machine.state name.now.bytes has_facts
             → IsServedClearing D.Disk ByChange (route_dropped machine.state name.now.bytes) machine is.stands.contents (count_reply_of result) self.new }
+        ensures leaves { LeavesCursors D.Disk result self.old self.new }
     {
         stores_have_their_laws::<D>();
         accepted_step_leaves_the_state_lawful();
@@ -62,6 +65,7 @@ impl<D: Disk> Engine<D> {
     pub(crate) fn drop_table(&mut self, name: &Name) -> Result<u128, Refusal>
         requires sound { IsSound (tree.drop_table name.now.bytes) }
         ensures serves { ServesClearing D.Disk ByChange (λ state. table_dropped state name.now.bytes) (count_reply_of result) self.old self.new }
+        ensures leaves { LeavesCursors D.Disk result self.old self.new }
     {
         stores_have_their_laws::<D>();
         accepted_step_leaves_the_state_lawful();
@@ -76,6 +80,7 @@ impl<D: Disk> Engine<D> {
     pub(crate) fn drop_index(&mut self, name: &Name) -> Result<u128, Refusal>
         requires sound { IsSound (tree.drop_index name.now.bytes) }
         ensures serves { ServesClearing D.Disk ByChange (λ state. index_dropped state name.now.bytes) (count_reply_of result) self.old self.new }
+        ensures leaves { LeavesCursors D.Disk result self.old self.new }
     {
         stores_have_their_laws::<D>();
         accepted_step_leaves_the_state_lawful();
@@ -90,6 +95,7 @@ impl<D: Disk> Engine<D> {
     pub(crate) fn drop_view(&mut self, name: &Name) -> Result<u128, Refusal>
         requires sound { IsSound (tree.drop_view name.now.bytes) }
         ensures serves { ServesClearing D.Disk ByChange (λ state. view_dropped state name.now.bytes) (count_reply_of result) self.old self.new }
+        ensures leaves { LeavesCursors D.Disk result self.old self.new }
     {
         stores_have_their_laws::<D>();
         accepted_step_leaves_the_state_lawful();
@@ -104,6 +110,7 @@ impl<D: Disk> Engine<D> {
     pub(crate) fn drop_alignment(&mut self, name: &Name) -> Result<u128, Refusal>
         requires sound { IsSound (tree.drop_alignment name.now.bytes) }
         ensures serves { ServesClearing D.Disk ByChange (λ state. alignment_dropped state name.now.bytes) (count_reply_of result) self.old self.new }
+        ensures leaves { LeavesCursors D.Disk result self.old self.new }
     {
         stores_have_their_laws::<D>();
         accepted_step_leaves_the_state_lawful();

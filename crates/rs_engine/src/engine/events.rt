@@ -2,6 +2,7 @@
 
 ghost use Rattle.rs_engine.specs.Replied.{count_reply_of};
 ghost use Rattle.rs_engine.specs.Clearing.{ByChange, ServesClearing};
+ghost use Rattle.rs_engine.specs.Staying.{LeavesCursors};
 ghost use Rattle.rs_machine.specs.Step.{row_inserted, rows_removed};
 ghost use Rattle.rs_syntax.specs.QueryView.{window_tree};
 ghost use Rattle.rs_syntax.specs.Sound.{IsSound};
@@ -31,6 +32,7 @@ impl<D: Disk> Engine<D> {
     ) -> Result<u128, Refusal>
         requires sound { IsSound (tree.insert table.now.bytes route.now.bytes (location_tree place.now) (literal_row values.now)) }
         ensures serves { ServesClearing D.Disk ByChange (λ state. row_inserted state table.now.bytes route.now.bytes (location_tree place.now) (literal_row values.now)) (count_reply_of result) self.old self.new }
+        ensures leaves { LeavesCursors D.Disk result self.old self.new }
     {
         stores_have_their_laws::<D>();
         accepted_step_leaves_the_state_lawful();
@@ -56,6 +58,7 @@ impl<D: Disk> Engine<D> {
     ) -> Result<u128, Refusal>
         requires sound { IsSound (tree.remove table.now.bytes (window_tree window.now) (removal_tree condition.now)) }
         ensures serves { ServesClearing D.Disk ByChange (λ state. rows_removed state table.now.bytes (window_tree window.now) (removal_tree condition.now)) (count_reply_of result) self.old self.new }
+        ensures leaves { LeavesCursors D.Disk result self.old self.new }
     {
         stores_have_their_laws::<D>();
         accepted_step_leaves_the_state_lawful();

@@ -3,7 +3,7 @@
 //! It promises that the file it leaves stands for the state that it was in, without cursors, and that it opens a file as the state
 //! that the file stands for.
 
-ghost use Rattle.std.specs.Prelude.{◌≡◌, ◌≤◌, ◌-◌, ◌^◌, ℕ, IfErr, IsOkUnless, IsTrue, MatchResult, Ok, OnErr, length, min};
+ghost use Rattle.std.specs.Prelude.{◌≡◌, ◌≤◌, ◌-◌, ◌^◌, ℕ, IfErr, IsOkUnless, IsTrue, MatchResult, Ok, OnErr, OnOk, length, min};
 ghost use Rattle.rs_contents.specs.Calls.{RefusesToLoad};
 ghost use Rattle.std.specs.FinMap as names;
 ghost use Rattle.rs_cursor.specs.Held.{held_of};
@@ -11,6 +11,7 @@ ghost use Rattle.rs_disk.specs.Counts.{Counts};
 ghost use Rattle.rs_engine.specs.Files.{Closes, Creates, Opens, Saves, stores_back, stores_of};
 ghost use Rattle.rs_engine.specs.Replied.{count_reply_of, nothing_reply_of};
 ghost use Rattle.rs_engine.specs.Serving.{Serves};
+ghost use Rattle.rs_engine.specs.Staying.{HasNone, LeavesCursors, StaysAsItWas};
 ghost use Rattle.rs_machine.specs.State.{State};
 ghost use Rattle.rs_machine.specs.Step.{counted, without_cursors};
 ghost use Rattle.rs_page_cache.specs.Changes.{ListsHeld};
@@ -114,17 +115,21 @@ impl<D: Disk> Engine<D> {
         ensures saves { Saves D.Disk result self.old self.new }
         ensures refused { IsOkUnless result Refusal.Disk }
         ensures count { Counts result (D.failures self.old.store.pager.disk) (D.failures self.new.store.pager.disk) }
+        ensures leaves { LeavesCursors D.Disk result self.old self.new }
     {
         self.live.store.save()?;
         Ok(0)
     }
 
     /// Saves, reads and checks the whole file anew beside what is in use, which it then takes the place of, and closes all cursors. It
-    /// is refused with 90, with 91, and with 94 only where the disk does not give back what was written; a refusal changes nothing.
+    /// is refused with 90, with 91, and with 94 only where the disk does not give back what was written; a refusal changes nothing. On a
+    /// disk that lies too it leaves each cursor and its place, what is open, and the held changes, or they are all written.
     pub fn reopen(&mut self) -> Result<(), Refusal>
         ensures serves { Serves D.Disk (λ (state : State). Ok (counted 0 (without_cursors state))) (nothing_reply_of result) self.old self.new }
         ensures saves { Saves D.Disk result self.old self.new }
         ensures cursors { OnErr result (self.new.cursors ≡ self.old.cursors) }
+        ensures stays { OnErr result (StaysAsItWas D.Disk self.old self.new) }
+        ensures none { OnOk result (HasNone self.new) }
         ensures refused { RefusesToLoad result }
         ensures count { MatchResult result (λ _. D.failures self.new.store.pager.disk ≡ D.failures self.old.store.pager.disk)
             (λ why. CountsFault why (D.failures self.old.store.pager.disk) (D.failures self.new.store.pager.disk)) }

@@ -79,6 +79,7 @@ impl<D: Disk> Engine<D> {
     /// refusal of its checks.
     pub(crate) fn select(&mut self, query: &Query, method: Method) -> Result<Vec<String>, Refusal>
         ensures serves { Serves D.Disk (λ (state : State). selected state (query_tree query.now) method) (rows_reply_of result) self.old self.new }
+        ensures reads { ReadsEngine D.Disk self.old self.new }
     {
         let checked = self.checked(query)?;
         self.lines_of_checked(checked, method)
@@ -93,6 +94,7 @@ impl<D: Disk> Engine<D> {
         summed: &Option<Name>,
     ) -> Result<Vec<String>, Refusal>
         ensures serves { Serves D.Disk (λ (state : State). totals_printed state (query_tree query.now) (map (λ name. name.bytes) by.now) (summed_tree summed.now)) (rows_reply_of result) self.old self.new }
+        ensures reads { ReadsEngine D.Disk self.old self.new }
     {
         let checked = self.checked(query)?;
         self.total_of_checked(checked, by, summed)

@@ -4,6 +4,7 @@ ghost use Rattle.rs_engine.specs.Clearing.{ByChange, ServesClearing};
 ghost use Rattle.rs_machine.specs.Step.{referent_defined, referent_dropped, referent_moved};
 ghost use Rattle.rs_methods.specs.Position.{expression_of};
 ghost use Rattle.rs_engine.specs.Replied.{count_reply_of};
+ghost use Rattle.rs_engine.specs.Staying.{LeavesCursors};
 ghost use Rattle.rs_syntax.specs.Sound.{IsSound};
 ghost use Rattle.rs_syntax.specs.Tree as tree;
 
@@ -24,6 +25,7 @@ impl<D: Disk> Engine<D> {
     ) -> Result<u128, Refusal>
         requires sound { IsSound (tree.define_referent route.now.bytes name.bytes (expression_of position.now)) }
         ensures serves { ServesClearing D.Disk ByChange (λ state. referent_defined state route.now.bytes name.bytes (expression_of position.now)) (count_reply_of result) self.old self.new }
+        ensures leaves { LeavesCursors D.Disk result self.old self.new }
     {
         stores_have_their_laws::<D>();
         accepted_step_leaves_the_state_lawful();
@@ -45,6 +47,7 @@ impl<D: Disk> Engine<D> {
     ) -> Result<u128, Refusal>
         requires sound { IsSound (tree.move_referent route.now.bytes name.bytes (expression_of position.now)) }
         ensures serves { ServesClearing D.Disk ByChange (λ state. referent_moved state route.now.bytes name.bytes (expression_of position.now)) (count_reply_of result) self.old self.new }
+        ensures leaves { LeavesCursors D.Disk result self.old self.new }
     {
         stores_have_their_laws::<D>();
         accepted_step_leaves_the_state_lawful();
@@ -63,6 +66,7 @@ impl<D: Disk> Engine<D> {
     pub(crate) fn drop_referent(&mut self, route: &Name, name: &Name) -> Result<u128, Refusal>
         requires sound { IsSound (tree.drop_referent route.now.bytes name.now.bytes) }
         ensures serves { ServesClearing D.Disk ByChange (λ state. referent_dropped state route.now.bytes name.now.bytes) (count_reply_of result) self.old self.new }
+        ensures leaves { LeavesCursors D.Disk result self.old self.new }
     {
         stores_have_their_laws::<D>();
         accepted_step_leaves_the_state_lawful();

@@ -6,6 +6,7 @@ ghost use Rattle.rs_engine.specs.Files.{SavesWhereAsked};
 ghost use Rattle.rs_engine.specs.Kept.{IsMachine};
 ghost use Rattle.rs_engine.specs.Replied.{count_reply_of, nothing_reply_of, rows_reply_of};
 ghost use Rattle.rs_engine.specs.Serving.{IsServed};
+ghost use Rattle.rs_engine.specs.Staying.{StaysOnAnyDisk};
 ghost use Rattle.rs_machine.specs.Served.{Machine, Served};
 ghost use Rattle.rs_machine.specs.Step.{outcome};
 ghost use Rattle.rs_serve.specs.ReplyView.{StandsAlone, reply_of};
@@ -29,13 +30,15 @@ impl<D: Disk + Drop> Serve for Engine<D> {
 
     /// As the trait says. Where SAVE or REOPEN is accepted, the disk is synced, and a file of the state that the engine was in. Where a
     /// change or a CLOSE is accepted, 64 of the records that no version sees any more that is looked at are gone, or all where they
-    /// are fewer.
+    /// are fewer. On a disk that lies too a refusal leaves each cursor and its place, what is open of the file, and the held changes, or
+    /// they are all written and the disk is synced; and no command but OPEN, FETCH, CLOSE and REOPEN changes a cursor.
     fn step(&mut self, session: Session, command: Command) -> Reply
         requires said { IsSaid session (tree_of command) }
         ensures served { (old : Machine) → IsOneMachine D.Disk self.old old → (new : Machine) × IsOneMachine D.Disk self.new new
             × Served old session (tree_of command) (reply_of result) new }
         ensures saved { SavesWhereAsked D.Disk (tree_of command) (reply_of result) self.old self.new }
         ensures cleared { ClearsWhereAsked D.Disk (tree_of command) (reply_of result) self.old self.new }
+        ensures stays { StaysOnAnyDisk D.Disk session (tree_of command) (reply_of result) self.old self.new }
         ensures alone { StandsAlone result.rows.items result.finish }
     {
         command_of_a_line_is_sound();
@@ -56,6 +59,7 @@ impl<D: Disk> Engine<D> {
             → IsServed D.Disk (outcome machine.state session (tree_of command)) machine (reply_of result) self.new }
         ensures saved { SavesWhereAsked D.Disk (tree_of command) (reply_of result) self.old self.new }
         ensures cleared { ClearsWhereAsked D.Disk (tree_of command) (reply_of result) self.old self.new }
+        ensures stays { StaysOnAnyDisk D.Disk session (tree_of command) (reply_of result) self.old self.new }
         ensures alone { StandsAlone result.rows.items result.finish }
     {
         let alloc = self.alloc;

@@ -16,6 +16,7 @@ returns-in-Ok-clause-closes g c =
           (c.in-Ok.ensures.closes.stands was.oldest is.state is.stands);
       synced = c.in-Ok.ensures.closes.synced;
       stays = λ machine is. tt;
+      cursors = tt;
       honesty = c.in-Ok.ensures.closes.honesty;
       limit = tt;
     })
@@ -29,6 +30,7 @@ returns-in-Err-clause-closes g c =
       stands = λ machine is. tt;
       synced = tt;
       stays = λ machine is. stays d was now machine is c.in-Err.ensures.closes.keeps.contents c.in-Err.ensures.closes.keeps.full c.in-Err.ensures.closes.keeps.limit refl refl;
+      cursors = refl;
       honesty = c.in-Err.ensures.closes.keeps.honesty;
       limit = c.in-Err.ensures.closes.keeps.limit;
     })

@@ -3,6 +3,7 @@ use Rattle.std.proofs.Common.{◌≡◌, ◌∙◌, ℕ, List, Err, Ok, ap, refl
 use Rattle.std.proofs.lemmas.Result.{err_from_is_err_and}
 use Rattle.rs_engine.specs.Kept.{EngineState}
 use Rattle.rs_engine.specs.Replied.{count_reply_of}
+use Rattle.rs_engine.proofs.Staying.{leaves_at_once, leaves_made, leaves_refused}
 use Rattle.rs_engine.proofs.Stepping.{IsStep, change_made, change_refused, check_refused}
 use Rattle.rs_machine.specs.State.{State}
 use Rattle.rs_syntax.specs.Tree as tree
@@ -31,6 +32,7 @@ returns-in_err-check_new_alignment g c =
       serves = λ machine here. check_refused c.accepted_step_leaves_the_state_lawful.ensures g.D.Disk c.stores_have_their_laws.ensures c.args.self.now c.args.self.now refl
           c.checks.result c.checks.ensures machine here (tree.define_alignment name (map piece_tree pieces)) c.from_residual.result count_reply_of c.in_err-check_new_alignment.field-0.0
           c.args.self.now refl (p.1 ∙ ap Err p.2) refl (subst (λ (xs : List code.Piece). (unseen : Unseen) → outcome (state_by c.checks.result unseen) 0 (tree.define_alignment name (map piece_tree xs)) ≡ Err c.in_err-check_new_alignment.field-0.0) c.deref.ensures.value c.in_err-check_new_alignment.ensures.refused);
+      leaves = leaves_at_once g.D.Disk c.args.self.now c.from_residual.result;
     }
 
 pub returns-in_err-define_alignment : goal.returns-in_err-define_alignment
@@ -44,6 +46,7 @@ returns-in_err-define_alignment g c =
           c.checks.result c.checks.ensures machine here (tree.define_alignment name (map piece_tree pieces)) c.requires.sound (next_of name (pieces_of pieces)) (is_step name (pieces_of pieces)) 0 (subst (λ (xs : List code.Piece). (unseen : Unseen) → outcome (state_by c.checks.result unseen) 0 (tree.define_alignment name (map piece_tree xs)) ≡ Ok (counted 0 (next_of name (pieces_of xs) (state_by c.checks.result unseen)))) c.deref.ensures.value c.in_ok-check_new_alignment.ensures.accepted)
           (λ (state : State). IsLawful (next_of name (pieces_of pieces) state)) (record { store = c.define_alignment.new.self; oldest = old.oldest; cursors = old.cursors }) c.from_residual-in_err-define_alignment.result count_reply_of c.in_err-define_alignment.field-0.0
           c.in_err-define_alignment.ensures.leaves (refl, refl) (λ is known lawful. lawful) (p.1 ∙ ap Err p.2) refl;
+      leaves = leaves_refused g.D.Disk c.self.view_is c.in_err-define_alignment.ensures.leaves (refl, refl) c.from_residual-in_err-define_alignment.result;
     }
 
 pub returns : goal.returns
@@ -56,4 +59,5 @@ returns g c =
           c.checks.result c.checks.ensures machine here (tree.define_alignment name (map piece_tree pieces)) c.requires.sound (next_of name (pieces_of pieces)) (is_step name (pieces_of pieces)) 0 (subst (λ (xs : List code.Piece). (unseen : Unseen) → outcome (state_by c.checks.result unseen) 0 (tree.define_alignment name (map piece_tree xs)) ≡ Ok (counted 0 (next_of name (pieces_of xs) (state_by c.checks.result unseen)))) c.deref.ensures.value c.in_ok-check_new_alignment.ensures.accepted)
           (λ (state : State). IsLawful (next_of name (pieces_of pieces) state)) (record { store = c.define_alignment.new.self; oldest = c.oldest-oldest.result; cursors = old.cursors }) c.in_ok-define_alignment.field-0 c.in_ok-define_alignment.ensures.leaves
           c.oldest-oldest.result (refl, refl) c.oldest-oldest.ensures (λ is known low high level lawful. c.in_ok-define_alignment.ensures.defines old.oldest is.state is.stands low high lawful);
+      leaves = leaves_made g.D.Disk c.self.view_is refl;
     }

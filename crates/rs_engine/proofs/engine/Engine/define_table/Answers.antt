@@ -5,6 +5,7 @@ use Rattle.rs_value.specs.declared.column.TheConstants.{COLUMNS}
 use Rattle.std.proofs.lemmas.Result.{err_from_is_err_and}
 use Rattle.rs_engine.specs.Kept.{EngineState}
 use Rattle.rs_engine.specs.Replied.{count_reply_of}
+use Rattle.rs_engine.proofs.Staying.{leaves_at_once, leaves_made, leaves_refused}
 use Rattle.rs_engine.proofs.Stepping.{IsStep, change_made, change_refused, check_refused}
 use Rattle.rs_machine.specs.State.{State}
 use Rattle.rs_syntax.specs.Tree as tree
@@ -38,6 +39,7 @@ returns-in_err-check_new_table g c =
       serves = λ machine here. check_refused c.accepted_step_leaves_the_state_lawful.ensures g.D.Disk c.stores_have_their_laws.ensures c.args.self.now c.args.self.now refl
           c.checks.result c.checks.ensures machine here (tree.define_table c.args.kind name columns) c.from_residual.result count_reply_of c.in_err-check_new_table.field-0.0
           c.args.self.now refl (p.1 ∙ ap Err p.2) refl (subst (λ (xs : List ColumnDefinition). (unseen : Unseen) → outcome (state_by c.checks.result unseen) 0 (tree.define_table c.args.kind name (map column_tree xs)) ≡ Err c.in_err-check_new_table.field-0.0) c.deref.ensures.value c.in_err-check_new_table.ensures.refused);
+      leaves = leaves_at_once g.D.Disk c.args.self.now c.from_residual.result;
     }
 
 pub returns-in_err-define_table : goal.returns-in_err-define_table
@@ -51,6 +53,7 @@ returns-in_err-define_table g c =
           c.checks.result c.checks.ensures machine here (tree.define_table c.args.kind name columns) c.requires.sound (next_of c.args.kind name columns) (is_step c.args.kind name columns) 0 (subst (λ (xs : List ColumnDefinition). (unseen : Unseen) → outcome (state_by c.checks.result unseen) 0 (tree.define_table c.args.kind name (map column_tree xs)) ≡ Ok (counted 0 (next_of c.args.kind name (map column_tree xs) (state_by c.checks.result unseen)))) c.deref.ensures.value c.in_ok-check_new_table.ensures.accepted)
           (λ (state : State). IsLawful (next_of c.args.kind name columns state)) (record { store = c.define_table.new.self; oldest = old.oldest; cursors = old.cursors }) c.from_residual-in_err-define_table.result count_reply_of c.in_err-define_table.field-0.0
           c.in_err-define_table.ensures.leaves (refl, refl) (λ is known lawful. lawful) (p.1 ∙ ap Err p.2) refl;
+      leaves = leaves_refused g.D.Disk c.self.view_is c.in_err-define_table.ensures.leaves (refl, refl) c.from_residual-in_err-define_table.result;
     }
 
 pub returns : goal.returns
@@ -63,4 +66,5 @@ returns g c =
           c.checks.result c.checks.ensures machine here (tree.define_table c.args.kind name columns) c.requires.sound (next_of c.args.kind name columns) (is_step c.args.kind name columns) 0 (subst (λ (xs : List ColumnDefinition). (unseen : Unseen) → outcome (state_by c.checks.result unseen) 0 (tree.define_table c.args.kind name (map column_tree xs)) ≡ Ok (counted 0 (next_of c.args.kind name (map column_tree xs) (state_by c.checks.result unseen)))) c.deref.ensures.value c.in_ok-check_new_table.ensures.accepted)
           (λ (state : State). IsLawful (next_of c.args.kind name columns state)) (record { store = c.define_table.new.self; oldest = c.oldest-oldest.result; cursors = old.cursors }) c.in_ok-define_table.field-0 c.in_ok-define_table.ensures.leaves
           c.oldest-oldest.result (refl, refl) c.oldest-oldest.ensures (λ is known low high level lawful. c.in_ok-define_table.ensures.defines old.oldest is.state is.stands low high lawful);
+      leaves = leaves_made g.D.Disk c.self.view_is refl;
     }

@@ -3,6 +3,7 @@ use Rattle.std.proofs.Common.{◌∙◌, ℕ, List, Err, ap, refl}
 use Rattle.std.proofs.lemmas.Result.{err_from_is_err_and}
 use Rattle.rs_engine.specs.Kept.{EngineState}
 use Rattle.rs_engine.specs.Replied.{count_reply_of}
+use Rattle.rs_engine.proofs.Staying.{leaves_at_once, leaves_made, leaves_refused}
 use Rattle.rs_engine.proofs.Stepping.{IsStep, change_made, change_refused, check_refused}
 use Rattle.rs_machine.specs.State.{State}
 use Rattle.rs_syntax.specs.Tree as tree
@@ -24,6 +25,7 @@ returns-in_err-check_old_alignment g c =
       serves = λ machine here. check_refused c.accepted_step_leaves_the_state_lawful.ensures g.D.Disk c.stores_have_their_laws.ensures c.args.self.now c.args.self.now refl
           c.checks.result c.checks.ensures machine here (tree.drop_alignment name) c.from_residual.result count_reply_of c.in_err-check_old_alignment.field-0.0
           c.args.self.now refl (p.1 ∙ ap Err p.2) refl c.in_err-check_old_alignment.ensures.refused;
+      leaves = leaves_at_once g.D.Disk c.args.self.now c.from_residual.result;
     }
 
 pub returns-in_err-drop_alignment : goal.returns-in_err-drop_alignment
@@ -36,6 +38,7 @@ returns-in_err-drop_alignment g c =
           c.checks.result c.checks.ensures machine here (tree.drop_alignment name) c.requires.sound (next_of name) (is_step name) 0 c.in_ok-check_old_alignment.ensures.accepted
           (λ (state : State). IsLawful (next_of name state)) (record { store = c.drop_alignment.new.self; oldest = old.oldest; cursors = old.cursors }) c.from_residual-in_err-drop_alignment.result count_reply_of c.in_err-drop_alignment.field-0.0
           c.in_err-drop_alignment.ensures.leaves (refl, refl) (λ is known lawful. lawful) (p.1 ∙ ap Err p.2) refl;
+      leaves = leaves_refused g.D.Disk c.self.view_is c.in_err-drop_alignment.ensures.leaves (refl, refl) c.from_residual-in_err-drop_alignment.result;
     }
 
 pub returns : goal.returns
@@ -47,4 +50,5 @@ returns g c =
           c.checks.result c.checks.ensures machine here (tree.drop_alignment name) c.requires.sound (next_of name) (is_step name) 0 c.in_ok-check_old_alignment.ensures.accepted
           (λ (state : State). IsLawful (next_of name state)) (record { store = c.drop_alignment.new.self; oldest = c.oldest-oldest.result; cursors = old.cursors }) c.in_ok-drop_alignment.field-0 c.in_ok-drop_alignment.ensures.leaves
           c.oldest-oldest.result (refl, refl) c.oldest-oldest.ensures (λ is known low high level lawful. c.in_ok-drop_alignment.ensures.drops old.oldest is.state is.stands low high lawful);
+      leaves = leaves_made g.D.Disk c.self.view_is refl;
     }

@@ -4,6 +4,7 @@ use Rattle.std.proofs.lemmas.Result.{err_from_is_err_and}
 use Rattle.std.specs.FinMap as names
 use Rattle.rs_engine.specs.Kept.{EngineState}
 use Rattle.rs_engine.specs.Replied.{count_reply_of}
+use Rattle.rs_engine.proofs.Staying.{leaves_at_once, leaves_made, leaves_refused}
 use Rattle.rs_engine.proofs.Stepping.{IsStep, change_made, change_refused, check_refused}
 use Rattle.rs_machine.specs.State.{State, has}
 use Rattle.rs_machine.specs.Step.{with_referents}
@@ -24,6 +25,7 @@ returns-in_err-check_old_referent g c =
       serves = λ machine here. check_refused c.accepted_step_leaves_the_state_lawful.ensures g.D.Disk c.stores_have_their_laws.ensures c.args.self.now c.args.self.now refl
           c.checks.result c.checks.ensures machine here (tree.drop_referent c.args.route.now.bytes c.args.name.now.bytes) c.from_residual.result count_reply_of c.in_err-check_old_referent.field-0.0
           c.args.self.now refl (p.1 ∙ ap Err p.2) refl c.in_err-check_old_referent.ensures.refused;
+      leaves = leaves_at_once g.D.Disk c.args.self.now c.from_residual.result;
     }
 
 pub returns-in_err-drop_referent : goal.returns-in_err-drop_referent
@@ -37,6 +39,7 @@ returns-in_err-drop_referent g c =
           c.checks.result c.checks.ensures machine here (tree.drop_referent route name) c.requires.sound (dropped route name) (is_step route name) 0 c.in_ok-check_old_referent.ensures.accepted
           Always (record { store = c.drop_referent.new.self; oldest = old.oldest; cursors = old.cursors }) c.from_residual-in_err-drop_referent.result count_reply_of c.in_err-drop_referent.field-0.0
           c.in_err-drop_referent.ensures.leaves (refl, refl) (λ is known lawful. tt) (p.1 ∙ ap Err p.2) refl;
+      leaves = leaves_refused g.D.Disk c.self.view_is c.in_err-drop_referent.ensures.leaves (refl, refl) c.from_residual-in_err-drop_referent.result;
     }
 
 pub returns : goal.returns
@@ -51,4 +54,5 @@ returns g c =
           Always (record { store = c.drop_referent.new.self; oldest = c.oldest-oldest.result; cursors = old.cursors }) c.in_ok-drop_referent.field-0 c.in_ok-drop_referent.ensures.leaves
           c.oldest-oldest.result (refl, refl) c.oldest-oldest.ensures (λ is known low high level lawful. c.in_ok-drop_referent.ensures.drops old.oldest is.state is.stands low high
           (known (λ (state : State). has (state.referents route) name ≡ true) (λ state alone. alone) c.in_ok-check_old_referent.ensures.has) lawful);
+      leaves = leaves_made g.D.Disk c.self.view_is refl;
     }

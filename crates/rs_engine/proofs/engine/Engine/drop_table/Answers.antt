@@ -3,6 +3,7 @@ use Rattle.std.proofs.Common.{◌≡◌, ◌∙◌, ℕ, List, Err, Ok, ap, refl
 use Rattle.std.proofs.lemmas.Result.{err_from_is_err_and}
 use Rattle.rs_engine.specs.Kept.{EngineState}
 use Rattle.rs_engine.specs.Replied.{count_reply_of}
+use Rattle.rs_engine.proofs.Staying.{leaves_at_once, leaves_made, leaves_refused}
 use Rattle.rs_engine.proofs.Stepping.{IsStep, change_made, change_refused, check_refused, found}
 use Rattle.rs_engine.proofs.Waiting.{none_waits_for_table}
 use Rattle.rs_machine.specs.State.{State}
@@ -25,6 +26,7 @@ returns-in_err-check_old_table g c =
       serves = λ machine here. check_refused c.accepted_step_leaves_the_state_lawful.ensures g.D.Disk c.stores_have_their_laws.ensures c.args.self.now c.args.self.now refl
           c.checks.result c.checks.ensures machine here (tree.drop_table name) c.from_residual.result count_reply_of c.in_err-check_old_table.field-0.0
           c.args.self.now refl (p.1 ∙ ap Err p.2) refl c.in_err-check_old_table.ensures.refused;
+      leaves = leaves_at_once g.D.Disk c.args.self.now c.from_residual.result;
     }
 
 pub returns-in_err-drop_table : goal.returns-in_err-drop_table
@@ -37,6 +39,7 @@ returns-in_err-drop_table g c =
           c.checks.result c.checks.ensures machine here (tree.drop_table name) c.requires.sound (next_of name) (is_step name) 0 c.in_ok-check_old_table.ensures.accepted
           (λ (state : State). IsLawful (next_of name state)) (record { store = c.drop_table.new.self; oldest = old.oldest; cursors = old.cursors }) c.from_residual-in_err-drop_table.result count_reply_of c.in_err-drop_table.field-0.0
           c.in_err-drop_table.ensures.leaves (refl, refl) (λ is known lawful. lawful) (p.1 ∙ ap Err p.2) refl;
+      leaves = leaves_refused g.D.Disk c.self.view_is c.in_err-drop_table.ensures.leaves (refl, refl) c.from_residual-in_err-drop_table.result;
     }
 
 pub returns : goal.returns
@@ -51,4 +54,5 @@ returns g c =
           (level (none_waits_for_table machine.state name (counted 0 (next_of name machine.state))
           (found c.accepted_step_leaves_the_state_lawful.ensures g.D.Disk c.stores_have_their_laws.ensures old c.args.self.now c.self.view_is c.checks.result c.checks.ensures machine here (tree.drop_table name)
           (λ (state : State). table_dropped state name ≡ Ok (counted 0 (next_of name state))) c.in_ok-check_old_table.ensures.accepted))) lawful);
+      leaves = leaves_made g.D.Disk c.self.view_is refl;
     }

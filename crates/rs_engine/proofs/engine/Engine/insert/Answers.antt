@@ -8,6 +8,7 @@ use Rattle.rs_facts.specs.Spans.{seen}
 use Rattle.rs_engine.specs.Kept.{EngineState, IsMachine}
 use Rattle.rs_engine.specs.Replied.{count_reply_of}
 use Rattle.rs_engine.specs.Clearing.{ByChange, IsServedClearing}
+use Rattle.rs_engine.proofs.Staying.{leaves_at_once, leaves_made, leaves_refused}
 use Rattle.rs_engine.proofs.Stepping.{by_step, check_wanting, found, made_at, refused_at}
 use Rattle.rs_engine.proofs.Tables.{HasTableSo, table_so, table_step, with_table_named}
 use Rattle.rs_machine.specs.Served.{done}
@@ -26,6 +27,7 @@ returns-in_err-span g c =
       serves = λ machine here. check_wanting c.accepted_step_leaves_the_state_lawful.ensures g.D.Disk c.stores_have_their_laws.ensures c.args.self.now c.args.self.now refl
           c.checks.result c.checks.ensures machine here (tree.insert c.args.table.now.bytes c.args.route.now.bytes (location_tree c.args.place.now) (literal_row c.args.values.now))
           c.from_residual.result count_reply_of c.in_err-span.field-0.0 c.args.self.now refl (p.1 ∙ ap Err p.2) refl c.in_err-span.ensures.refused;
+      leaves = leaves_at_once g.D.Disk c.args.self.now c.from_residual.result;
     }
 
 pub returns-in_err-new_facts : goal.returns-in_err-new_facts
@@ -50,6 +52,7 @@ returns-in_err-new_facts g c =
           (with_table_named name next) (table_step name next) (new_facts t.table.facts route span.lo span.hi span.row) t.is
           Always (record { store = c.insert.new.self; oldest = old.oldest; cursors = old.cursors }) c.from_residual-in_err-new_facts.result count_reply_of c.in_err-new_facts.field-0.0
           c.in_err-new_facts.ensures.leaves (refl, refl) (λ is known lawful. tt) (p.1 ∙ ap Err p.2) refl;
+      leaves = leaves_refused g.D.Disk c.self.view_is c.in_err-new_facts.ensures.leaves (refl, refl) c.from_residual-in_err-new_facts.result;
     }
 
 pub returns : goal.returns
@@ -80,4 +83,5 @@ returns g c =
           (made_at laws d states old c.args.self.now c.self.view_is c.checks.result c.checks.ensures machine here said c.requires.sound
           (with_table_named name next) (table_step name next) count t.is Always now c.in_ok-new_facts.new_facts c.in_ok-new_facts.ensures.leaves
           c.oldest-oldest.result (refl, refl) c.oldest-oldest.ensures (λ is known low high level lawful. (c.in_ok-new_facts.ensures.inserts old.oldest is.state is.stands low high t.table (there is) lawful).0));
+      leaves = leaves_made g.D.Disk c.self.view_is refl;
     }

@@ -11,6 +11,7 @@ use Rattle.rs_engine.specs.Reads.{ShowsVersion}
 use Rattle.rs_engine.specs.declared.engine.ahead.Ahead.{Ahead}
 use Rattle.rs_engine.proofs.Aheads.{put_ahead, taken_kept}
 use Rattle.rs_engine.proofs.CursorSteps.{gives_next}
+use Rattle.rs_store.proofs.Results.{ok_always}
 use Rattle.rs_engine.proofs.engine.Engine.next_of.Goals as goal
 
 pub returns-clause-given : goal.returns-clause-given
@@ -48,3 +49,10 @@ returns-clause-ahead g c = λ machine is.
     (put_ahead versions c.args.session name cursor engine.cursors there is.live.ahead c.next_lines-next.new.kept left c.take-kept.new.self c.put.new.self
     (subst (λ (e : EngineState g.row.D.Denot). (one : Ahead) → Contains c.take-kept.new.self.slots.items one → Contains e.cursors.ahead.slots.items one) c.self.view_is c.take-kept.ensures.others)
     c.put.ensures)
+
+pub returns-clause-there : goal.returns-clause-there
+returns-clause-there g c =
+    let name = c.args.name.now.bytes in
+    let there : names.get (held_of c.args.self.now.cursors.held c.args.session) name ≡ Some c.in-Some.cursor.now =
+    ap (λ (e : EngineState g.row.D.Denot). names.get (held_of e.cursors.held c.args.session) name) (sym c.self.view_is) ∙ sym c.get.ensures ∙ ap option_copied c.in-Some.is in
+    ok_always c.next_lines-next.result (record { cursor = c.in-Some.cursor.now; there = there })

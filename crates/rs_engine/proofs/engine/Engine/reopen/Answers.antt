@@ -4,10 +4,13 @@ use Rattle.std.proofs.lemmas.Result.{err_from_is_err_and}
 use Rattle.rs_engine.specs.Files.{Saves}
 use Rattle.rs_engine.specs.Kept.{EngineState}
 use Rattle.rs_engine.specs.Serving.{Serves}
+use Rattle.rs_engine.specs.Staying.{StaysAsItWas}
 use Rattle.rs_engine.proofs.Filing.{engine_with, names_a_want, served_anew, stays, without}
+use Rattle.rs_engine.proofs.Staying.{stays_unread}
 use Rattle.rs_machine.specs.Served.{done, refused}
 use Rattle.rs_machine.specs.State.{State}
 use Rattle.rs_machine.specs.Step.{counted, without_cursors}
+use Rattle.rs_store.proofs.Results.{err_always}
 use Rattle.rs_store.specs.Standing.{IsFileOf}
 use Rattle.rs_syntax.specs.Tree.{reopen}
 use Rattle.rs_engine.proofs.engine.Engine.reopen.Goals as goal
@@ -51,3 +54,13 @@ returns-clause-saves g c =
       honesty = c.in_ok-reopen.ensures.reopens.honesty;
       limit = c.in_ok-reopen.ensures.reopens.limit;
     })
+
+pub returns-in_err-reopen-clause-stays : goal.returns-in_err-reopen-clause-stays
+returns-in_err-reopen-clause-stays g c =
+    let d = g.D.Disk in
+    let was = engine_with c.self.inside.live.store c.self.inside.live.oldest c.self.inside.cursors in
+    let now = engine_with c.reopen.new.self c.self.inside.live.oldest c.self.inside.cursors in
+    err_always c.from_residual.result (subst (λ (e : EngineState g.row.D.Denot). StaysAsItWas d e now) c.self.view_is (stays_unread d was now c.in_err-reopen.ensures.reopens refl refl))
+
+pub returns-clause-none : goal.returns-clause-none
+returns-clause-none g c = c.close_all.ensures.held

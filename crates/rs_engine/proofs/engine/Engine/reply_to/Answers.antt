@@ -7,7 +7,9 @@ use Rattle.arrayvec.specs.declared.array_string.ArrayString.{ArrayString}
 use Rattle.rs_syntax.specs.QueryView.{query_tree}
 use Rattle.rs_engine.proofs.Replying.{replied}
 use Rattle.rs_engine.proofs.Clearing.{cleared_as}
+use Rattle.rs_engine.proofs.Reading.{reads_refl}
 use Rattle.rs_engine.proofs.Saving.{reopened_by, saved_as, saved_by}
+use Rattle.rs_engine.proofs.Staying.{stays_as, stays_counted, stays_listed, stays_reopened}
 use Rattle.rs_serve.specs.Said.{IsSaid}
 use Rattle.rs_syntax.specs.View.{location_tree, summed_tree, tree_of}
 use Rattle.rs_syntax.specs.declared.commands.Command.{Command}
@@ -234,3 +236,75 @@ returns-in-Save-clause-cleared g c = cleared_as g.D.Disk c.in-Save.is c.count_re
 
 pub returns-in-Reopen-clause-cleared : goal.returns-in-Reopen-clause-cleared
 returns-in-Reopen-clause-cleared g c = cleared_as g.D.Disk c.in-Reopen.is c.nothing_reply.ensures.reply (λ machine is. tt)
+
+pub returns-in-DefineRoute-clause-stays : goal.returns-in-DefineRoute-clause-stays
+returns-in-DefineRoute-clause-stays g c = stays_counted g.D.Disk c.in-DefineRoute.is c.count_reply.ensures.reply c.define_route.ensures.leaves (λ held. held) tt
+
+pub returns-in-DefineTable-clause-stays : goal.returns-in-DefineTable-clause-stays
+returns-in-DefineTable-clause-stays g c = stays_counted g.D.Disk c.in-DefineTable.is c.count_reply-in-DefineTable.ensures.reply c.define_table.ensures.leaves (λ held. held) tt
+
+pub returns-in-DefineReferent-clause-stays : goal.returns-in-DefineReferent-clause-stays
+returns-in-DefineReferent-clause-stays g c = stays_counted g.D.Disk c.in-DefineReferent.is c.count_reply-in-DefineReferent.ensures.reply c.define_referent.ensures.leaves (λ held. held) tt
+
+pub returns-in-DefineIndex-clause-stays : goal.returns-in-DefineIndex-clause-stays
+returns-in-DefineIndex-clause-stays g c = stays_counted g.D.Disk c.in-DefineIndex.is c.count_reply-in-DefineIndex.ensures.reply c.define_index.ensures.leaves (λ held. held) tt
+
+pub returns-in-DefineView-clause-stays : goal.returns-in-DefineView-clause-stays
+returns-in-DefineView-clause-stays g c = stays_counted g.D.Disk c.in-DefineView.is c.count_reply-in-DefineView.ensures.reply c.define_view.ensures.leaves (λ held. held) tt
+
+pub returns-in-DefineAlignment-clause-stays : goal.returns-in-DefineAlignment-clause-stays
+returns-in-DefineAlignment-clause-stays g c = stays_counted g.D.Disk c.in-DefineAlignment.is c.count_reply-in-DefineAlignment.ensures.reply c.define_alignment.ensures.leaves (λ held. held) tt
+
+pub returns-in-MoveReferent-clause-stays : goal.returns-in-MoveReferent-clause-stays
+returns-in-MoveReferent-clause-stays g c = stays_counted g.D.Disk c.in-MoveReferent.is c.count_reply-in-MoveReferent.ensures.reply c.move_referent.ensures.leaves (λ held. held) tt
+
+pub returns-in-DropRoute-clause-stays : goal.returns-in-DropRoute-clause-stays
+returns-in-DropRoute-clause-stays g c = stays_counted g.D.Disk c.in-DropRoute.is c.count_reply-in-DropRoute.ensures.reply c.drop_route.ensures.leaves (λ held. held) tt
+
+pub returns-in-DropTable-clause-stays : goal.returns-in-DropTable-clause-stays
+returns-in-DropTable-clause-stays g c = stays_counted g.D.Disk c.in-DropTable.is c.count_reply-in-DropTable.ensures.reply c.drop_table.ensures.leaves (λ held. held) tt
+
+pub returns-in-DropIndex-clause-stays : goal.returns-in-DropIndex-clause-stays
+returns-in-DropIndex-clause-stays g c = stays_counted g.D.Disk c.in-DropIndex.is c.count_reply-in-DropIndex.ensures.reply c.drop_index.ensures.leaves (λ held. held) tt
+
+pub returns-in-DropView-clause-stays : goal.returns-in-DropView-clause-stays
+returns-in-DropView-clause-stays g c = stays_counted g.D.Disk c.in-DropView.is c.count_reply-in-DropView.ensures.reply c.drop_view.ensures.leaves (λ held. held) tt
+
+pub returns-in-DropAlignment-clause-stays : goal.returns-in-DropAlignment-clause-stays
+returns-in-DropAlignment-clause-stays g c = stays_counted g.D.Disk c.in-DropAlignment.is c.count_reply-in-DropAlignment.ensures.reply c.drop_alignment.ensures.leaves (λ held. held) tt
+
+pub returns-in-DropReferent-clause-stays : goal.returns-in-DropReferent-clause-stays
+returns-in-DropReferent-clause-stays g c = stays_counted g.D.Disk c.in-DropReferent.is c.count_reply-in-DropReferent.ensures.reply c.drop_referent.ensures.leaves (λ held. held) tt
+
+pub returns-in-Insert-clause-stays : goal.returns-in-Insert-clause-stays
+returns-in-Insert-clause-stays g c = stays_counted g.D.Disk c.in-Insert.is c.count_reply-in-Insert.ensures.reply c.insert.ensures.leaves (λ held. held) tt
+
+pub returns-in-Remove-clause-stays : goal.returns-in-Remove-clause-stays
+returns-in-Remove-clause-stays g c = stays_counted g.D.Disk c.in-Remove.is c.count_reply-in-Remove.ensures.reply c.remove.ensures.leaves (λ held. held) tt
+
+pub returns-in-Translate-clause-stays : goal.returns-in-Translate-clause-stays
+returns-in-Translate-clause-stays g c = stays_listed g.D.Disk c.translate.result c.in-Translate.is c.rows_reply.ensures.reply (reads_refl g.D.Disk c.args.self.now) (λ held. held) (λ kept. kept)
+
+pub returns-in-Select-clause-stays : goal.returns-in-Select-clause-stays
+returns-in-Select-clause-stays g c = stays_listed g.D.Disk c.select.result c.in-Select.is c.rows_reply-in-Select.ensures.reply c.select.ensures.reads (λ held. held) (λ kept. kept)
+
+pub returns-in-Total-clause-stays : goal.returns-in-Total-clause-stays
+returns-in-Total-clause-stays g c = stays_listed g.D.Disk c.total.result c.in-Total.is c.rows_reply-in-Total.ensures.reply c.total.ensures.reads (λ held. held) (λ kept. kept)
+
+pub returns-in-Explain-clause-stays : goal.returns-in-Explain-clause-stays
+returns-in-Explain-clause-stays g c = stays_listed g.D.Disk c.explain.result c.in-Explain.is c.rows_reply-in-Explain.ensures.reply (reads_refl g.D.Disk c.args.self.now) (λ held. held) (λ kept. kept)
+
+pub returns-in-Open-clause-stays : goal.returns-in-Open-clause-stays
+returns-in-Open-clause-stays g c = stays_as g.D.Disk c.in-Open.is c.count_reply-in-Open.ensures.reply c.open_cursor.ensures.stays
+
+pub returns-in-Fetch-clause-stays : goal.returns-in-Fetch-clause-stays
+returns-in-Fetch-clause-stays g c = stays_as g.D.Disk c.in-Fetch.is c.rows_reply-in-Fetch.ensures.reply c.fetch.ensures.stays
+
+pub returns-in-Close-clause-stays : goal.returns-in-Close-clause-stays
+returns-in-Close-clause-stays g c = stays_as g.D.Disk c.in-Close.is c.count_reply-in-Close.ensures.reply c.close_cursor.ensures.stays
+
+pub returns-in-Save-clause-stays : goal.returns-in-Save-clause-stays
+returns-in-Save-clause-stays g c = stays_counted g.D.Disk c.in-Save.is c.count_reply-in-Save.ensures.reply c.save.ensures.leaves (λ held. held) tt
+
+pub returns-in-Reopen-clause-stays : goal.returns-in-Reopen-clause-stays
+returns-in-Reopen-clause-stays g c = stays_reopened g.D.Disk c.reopen.result c.in-Reopen.is c.nothing_reply.ensures.reply c.reopen.ensures.stays c.reopen.ensures.none

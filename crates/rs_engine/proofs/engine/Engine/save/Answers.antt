@@ -5,6 +5,7 @@ use Rattle.rs_engine.specs.Files.{Saves}
 use Rattle.rs_engine.specs.Kept.{EngineState}
 use Rattle.rs_engine.specs.Serving.{Serves}
 use Rattle.rs_engine.proofs.Filing.{engine_with, names_a_want, served_same, stays, without}
+use Rattle.rs_engine.proofs.Staying.{leaves_made, leaves_unsaved}
 use Rattle.rs_machine.specs.Served.{done, refused}
 use Rattle.rs_machine.specs.State.{State}
 use Rattle.rs_machine.specs.Step.{counted}
@@ -44,3 +45,9 @@ returns-clause-saves g c =
       honesty = c.save.ensures.keeps.honesty;
       limit = c.save.ensures.keeps.limit;
     })
+
+pub returns-in_err-save-clause-leaves : goal.returns-in_err-save-clause-leaves
+returns-in_err-save-clause-leaves g c = leaves_unsaved g.D.Disk c.self.view_is c.in_err-save.ensures.keeps c.in_err-save.ensures.changes (refl, refl) c.from_residual.result
+
+pub returns-clause-leaves : goal.returns-clause-leaves
+returns-clause-leaves g c = leaves_made g.D.Disk c.self.view_is refl

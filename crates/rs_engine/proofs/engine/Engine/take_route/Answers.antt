@@ -6,6 +6,7 @@ use Rattle.rs_disk.specs.declared.disk.Disk as disk
 use Rattle.rs_engine.specs.Kept.{EngineState, IsMachine}
 use Rattle.rs_engine.specs.Replied.{count_reply_of}
 use Rattle.rs_engine.proofs.Waiting.{none_waits_for_route}
+use Rattle.rs_engine.proofs.Staying.{leaves_at_once, leaves_made, leaves_refused}
 use Rattle.rs_engine.proofs.Stepping.{IsStep, check_refused_at, found, made_at, refused_at}
 use Rattle.rs_machine.specs.Lawful.{IsLawful}
 use Rattle.rs_machine.specs.Served.{Machine}
@@ -38,6 +39,7 @@ returns-in_err-check_old_route g c =
           (found c.accepted_step_leaves_the_state_lawful.ensures g.D.Disk c.stores_have_their_laws.ensures c.args.self.now c.args.self.now refl c.checks.result c.checks.ensures machine here
           (tree.drop_route name) (λ (state : State). TellsOfFacts state name c.args.has_facts → route_dropped state name ≡ Err c.in_err-check_old_route.field-0.0)
           c.in_err-check_old_route.ensures.refused tells);
+      leaves = leaves_at_once g.D.Disk c.args.self.now c.from_residual.result;
     }
 
 pub returns-in_err-drop_route : goal.returns-in_err-drop_route
@@ -55,6 +57,7 @@ returns-in_err-drop_route g c =
           (λ (state : State). HasNoFactOn name state × IsLawful (next_of name state)) (record { store = c.drop_route.new.self; oldest = old.oldest; cursors = old.cursors }) c.from_residual-in_err-drop_route.result count_reply_of
           c.in_err-drop_route.field-0.0 c.in_err-drop_route.ensures.leaves (refl, refl)
           (λ is known lawful. (none_on g.D.Disk old machine is name c.args.has_facts tells c.in_ok-check_old_route.ensures.no_facts, lawful)) (p.1 ∙ ap Err p.2) refl;
+      leaves = leaves_refused g.D.Disk c.self.view_is c.in_err-drop_route.ensures.leaves (refl, refl) c.from_residual-in_err-drop_route.result;
     }
 
 pub returns : goal.returns
@@ -73,4 +76,5 @@ returns g c =
           (λ is known low high level lawful. c.in_ok-drop_route.ensures.drops old.oldest is.state is.stands low high
           (level (none_waits_for_route machine.state name (counted 0 (next_of name machine.state)) out))
           (none_on g.D.Disk old machine is name c.args.has_facts tells c.in_ok-check_old_route.ensures.no_facts) lawful);
+      leaves = leaves_made g.D.Disk c.self.view_is refl;
     }
