@@ -6,3 +6,4 @@ mod Tables
 mod Alignments
 mod Inserts
 mod AllLines
+pub mod Joined

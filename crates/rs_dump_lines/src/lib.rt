@@ -1,7 +1,9 @@
-//! What the lines of a dump say: laws, each the contract of a function that does nothing.
+//! The lines of a dump: they are written, and laws say what they ask.
 //!
 //! A measure is written in its shortest form, and the line of each command of a dump asks it.
 #![tactic(auto)]
 
 pub mod asking;
+pub mod lists;
 pub mod measures;
+pub mod writing;

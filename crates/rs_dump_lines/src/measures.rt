@@ -1,11 +1,58 @@
 //! The shortest text of a measure says it.
 
-ghost use Rattle.std.specs.Prelude.{◌≤◌, ℕ};
-ghost use Rattle.rs_dump_laws.specs.Lines.{shortest_text};
+ghost use Rattle.std.specs.Prelude.{◌≡◌, ◌<◌, ◌≤◌, ◌+◌, [], ◌∷◌, ◌++◌, ℕ, OnOk, string_bytes};
+ghost use Rattle.rs_dump_laws.specs.Lines.{decimals_text, point_text, shortest_text};
 ghost use Rattle.rs_measure.specs.Measure.{SaysMeasure};
 ghost use Rattle.rs_measure.specs.declared.measure.TheConstants.{GREATEST_MEASURE};
+
+use itoa::Buffer;
+use std::alloc::AllocError;
 
 /// The text of a measure without needless zeros says the measure.
 pub fn shortest_text_says_the_measure()
     ensures { (k : ℕ) → k ≤ GREATEST_MEASURE → SaysMeasure (shortest_text k) k }
 {}
+
+/// Appends the shortest text of a measure of so many thousandths. Where memory runs out, a part may have been appended.
+pub fn push_measure(text: &mut String, thousandths: u32) -> Result<(), AllocError>
+    ensures { OnOk result (string_bytes text.new ≡ string_bytes text.old ++ shortest_text thousandths) }
+{
+    text.push_str(Buffer::new().format(thousandths / 1000))?;
+    push_point(text, thousandths % 1000)
+}
+
+/// Appends what follows the whole part: nothing, or a point and decimals.
+fn push_point(text: &mut String, rest: u32) -> Result<(), AllocError>
+    requires { rest < 1000 }
+    ensures { OnOk result (string_bytes text.new ≡ string_bytes text.old ++ point_text rest) }
+{
+    if rest == 0 {
+        return Ok(());
+    }
+    text.push_str(".")?;
+    push_decimals(text, rest)
+}
+
+/// Appends the decimals of so many thousandths, without zeros at their end.
+fn push_decimals(text: &mut String, rest: u32) -> Result<(), AllocError>
+    requires { rest < 1000 }
+    ensures { OnOk result (string_bytes text.new ≡ string_bytes text.old ++ decimals_text rest) }
+{
+    push_digit(text, rest / 100)?;
+    if rest % 100 == 0 {
+        return Ok(());
+    }
+    push_digit(text, rest / 10 % 10)?;
+    if rest % 10 == 0 {
+        return Ok(());
+    }
+    push_digit(text, rest % 10)
+}
+
+/// Appends a decimal digit.
+fn push_digit(text: &mut String, digit: u32) -> Result<(), AllocError>
+    requires { digit < 10 }
+    ensures { OnOk result (string_bytes text.new ≡ string_bytes text.old ++ (48 + digit) ∷ []) }
+{
+    text.push(char::from(b'0' + digit as u8))
+}

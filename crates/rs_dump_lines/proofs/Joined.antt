@@ -1,0 +1,40 @@
+-- Texts that are appended one after another, and texts with a comma between them.
+use Rattle.std.proofs.Common.{◌≡◌, ◌∙◌, ℕ, List, [], ◌∷◌, ◌++◌, ap, append-nil, append_assoc, cond, is_ok, map, refl, sym, Result, Ok, Err}
+use Rattle.std.specs.Prelude.{OnOk}
+use Rattle.std.specs.List.{join_with_byte}
+use Rattle.rs_dump_laws.specs.Lines.{COMMA, insert_text, dump_line}
+use Rattle.rs_dump_laws.specs.Dump.{location_of}
+use Rattle.rs_dump_lines.specs.Texts.{more_texts, place_text}
+use Rattle.rs_facts.specs.Runs.{Stretch}
+use Rattle.rs_syntax.specs.Tree.{insert}
+use Rattle.rs_value.specs.Row.{Row}
+use Rattle.rs_value.specs.declared.column.Kind.{Kind}
+use Rattle.rs_value.specs.declared.column.Kind.TheVariants.{Point, Line}
+
+-- a text, and then the rest
+pub then : (old mid new one rest : List ℕ) → mid ≡ old ++ one → new ≡ mid ++ rest → new ≡ old ++ (one ++ rest)
+then old mid new one rest first more = more ∙ ap (λ t. t ++ rest) first ∙ append_assoc old one rest
+
+-- the text that was appended is this one
+pub as_it_is : (old new told one : List ℕ) → new ≡ old ++ told → told ≡ one → new ≡ old ++ one
+as_it_is old new told one more same = more ∙ ap (λ t. old ++ t) same
+
+-- what is appended where the call is Ok
+pub on_ok_bytes : {T E : Type 0} (r : Result T E) (new one other : List ℕ) → new ≡ cond (is_ok r) one other → OnOk r (new ≡ one)
+on_ok_bytes (Ok x) new one other same = same
+on_ok_bytes (Err why) new one other same = tt
+
+-- the first, and the others with a comma before each
+pub joined_more : (text : List ℕ) (texts : List (List ℕ)) → join_with_byte COMMA (text ∷ texts) ≡ text ++ more_texts texts
+joined_more text [] = sym (append-nil text)
+joined_more text (other ∷ texts) = ap (λ more. text ++ (COMMA ∷ more)) (joined_more other texts)
+
+-- texts of what things are seen as
+pub texts_of : {X Y : Type 0} (text : Y → List ℕ) (seen : X → Y) (xs : List X) → map (λ x. text (seen x)) xs ≡ map text (map seen xs)
+texts_of text seen [] = refl
+texts_of text seen (x ∷ xs) = ap (λ more. text (seen x) ∷ more) (texts_of text seen xs)
+
+-- the line of a row, of whatever kind its table is
+pub row_line : (kind : Kind) (table route : List ℕ) (span : Stretch) (row : Row) → insert_text table route (place_text kind span) row ≡ dump_line (insert table route (location_of kind span) row)
+row_line Line table route span row = refl
+row_line Point table route span row = refl

@@ -1,0 +1,102 @@
+//! Lists in brackets: the columns of a table, the values of a row, the pieces of an alignment.
+
+ghost use Rattle.std.specs.Prelude.{◌≡◌, ◌++◌, ℕ, List, OnOk, map, string_bytes};
+ghost use Rattle.std.specs.List.{join_with_byte};
+ghost use Rattle.rs_dump_laws.specs.Lines.{COMMA, bracketed_texts, column_text, piece_text, type_text};
+ghost use Rattle.rs_dump_lines.specs.Texts.{more_texts};
+ghost use Rattle.rs_syntax.specs.View.{column_tree, piece_tree};
+ghost use Rattle.rs_value.specs.Text.{datum_text};
+ghost use Rattle.rs_value.specs.View.{datum_of};
+
+use crate::measures::push_measure;
+use crate::writing::push_span;
+use itoa::Buffer;
+use rs_syntax::{ColumnDefinition, Piece};
+use rs_value::{ColumnType, Value, push_value};
+use std::alloc::AllocError;
+
+/// What has a text in a line.
+pub trait Written {
+    /// The text of it.
+    ghost text_of: { Self → List ℕ };
+
+    /// Appends the text. Where memory runs out, a part may have been appended.
+    fn push(&self, text: &mut String) -> Result<(), AllocError>
+        ensures { OnOk result (string_bytes text.new ≡ string_bytes text.old ++ text_of self.now) };
+}
+
+impl Written for ColumnDefinition {
+    ghost text_of = { λ column. column_text (column_tree column) };
+
+    fn push(&self, text: &mut String) -> Result<(), AllocError> {
+        text.push_str(self.name.as_str())?;
+        text.push_str(" ")?;
+        push_type(text, self.column_type)
+    }
+}
+
+impl Written for Value {
+    ghost text_of = { λ value. datum_text (datum_of value) };
+
+    fn push(&self, text: &mut String) -> Result<(), AllocError> {
+        push_value(text, self)
+    }
+}
+
+impl Written for Piece {
+    ghost text_of = { λ piece. piece_text (piece_tree piece) };
+
+    fn push(&self, text: &mut String) -> Result<(), AllocError> {
+        text.push_str(self.from_route.as_str())?;
+        push_span(text, self.from.thousandths(), self.to.thousandths())?;
+        text.push_str(" INTO ")?;
+        text.push_str(self.onto_route.as_str())?;
+        text.push_str(" AT ")?;
+        push_measure(text, self.onto.thousandths())
+    }
+}
+
+/// Appends the texts in brackets, with a comma between them.
+pub(crate) fn push_bracketed<T: Written>(text: &mut String, items: &[T]) -> Result<(), AllocError>
+    ensures { OnOk result (string_bytes text.new ≡ string_bytes text.old ++ bracketed_texts (map T.Written.text_of items.now)) }
+{
+    text.push_str("(")?;
+    push_joined(text, items)?;
+    text.push_str(")")
+}
+
+/// Appends the texts with a comma between them.
+fn push_joined<T: Written>(text: &mut String, items: &[T]) -> Result<(), AllocError>
+    ensures { OnOk result (string_bytes text.new ≡ string_bytes text.old ++ join_with_byte COMMA (map T.Written.text_of items.now)) }
+{
+    let Some((first, others)) = items.split_first() else {
+        return Ok(());
+    };
+    first.push(text)?;
+    push_more(text, others)
+}
+
+/// Appends each of the texts, with a comma before it.
+fn push_more<T: Written>(text: &mut String, items: &[T]) -> Result<(), AllocError>
+    ensures { OnOk result (string_bytes text.new ≡ string_bytes text.old ++ more_texts (map T.Written.text_of items.now)) }
+{
+    for item in items {
+        text.push_str(",")?;
+        item.push(text)?;
+    }
+    Ok(())
+}
+
+/// Appends the type of a column.
+fn push_type(text: &mut String, column_type: ColumnType) -> Result<(), AllocError>
+    ensures { OnOk result (string_bytes text.new ≡ string_bytes text.old ++ type_text column_type) }
+{
+    match column_type {
+        ColumnType::Int => text.push_str("INT"),
+        ColumnType::Text(most) => {
+            text.push_str("TEXT(")?;
+            text.push_str(Buffer::new().format(most))?;
+            text.push_str(")")
+        }
+    }
+}
