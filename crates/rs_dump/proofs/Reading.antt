@@ -1,0 +1,29 @@
+-- Reads, one after another.
+use Rattle.std.proofs.Common.{◌≡◌, ◌∙◌, refl}
+use Rattle.rs_dump.specs.Reads.{Reads}
+use Rattle.rs_dump.specs.Shown.{Many, Shown, more, none}
+use Rattle.rs_dump.specs.declared.held.Held as held
+
+pub many_joined : {S : Type 0} (passes : S → S → Type 0) (a b c : S) → Many passes a b → Many passes b c → Many passes a c
+many_joined passes a b c one none = one
+many_joined passes a b c one (more {mid = mid} rest last) = more (many_joined passes a b mid one rest) last
+
+module _ {H : Type 0} (h : held.Ghosts H) where
+  pub reads_nothing : (a : H) → Reads h a a
+  reads_nothing a = record { catalog = refl; referents = refl; shows = λ shown shows. shows; passes = none }
+
+  pub reads_joined : (a b c : H) → Reads h a b → Reads h b c → Reads h a c
+  reads_joined a b c one other = record {
+    catalog = other.catalog ∙ one.catalog;
+    referents = other.referents ∙ one.referents;
+    shows = λ shown shows. other.shows shown (one.shows shown shows);
+    passes = many_joined h.passes a b c one.passes other.passes;
+  }
+
+  pub reads_next : (a b c : H) → Reads h a b → h.catalog c ≡ h.catalog b → h.referents c ≡ h.referents b → ((shown : Shown) → h.shows b shown → h.shows c shown) → h.passes b c → Reads h a c
+  reads_next a b c one catalog referents shows passes = record {
+    catalog = catalog ∙ one.catalog;
+    referents = referents ∙ one.referents;
+    shows = λ shown is. shows shown (one.shows shown is);
+    passes = more one.passes passes;
+  }

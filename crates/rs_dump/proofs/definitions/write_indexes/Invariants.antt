@@ -1,0 +1,9 @@
+-- The lines so far, and those that are left.
+use Rattle.std.proofs.Common.{map}
+use Rattle.rs_catalog.specs.Names.{entries_by_bytes}
+use Rattle.rs_dump.specs.Sections.{index_commands, index_of}
+use Rattle.rs_dump.specs.Written.{WroteSome}
+use Rattle.rs_dump.proofs.definitions.write_indexes.Given as goal
+
+abbrev pub invariant-loop-name : goal.invariant-loop-name
+invariant-loop-name g l = WroteSome (index_commands l.catalog) (map (index_of l.catalog) (entries_by_bytes (λ index. index) l.name-iterator)) (g.W.Write.contents l.fn.output) (g.W.Write.contents l.output)

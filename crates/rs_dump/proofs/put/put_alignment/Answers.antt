@@ -1,0 +1,33 @@
+use Rattle.std.proofs.Common.{◌≡◌, ◌∙◌, ◌++◌, ◌∷◌, [], ℕ, List, ap, false, true, length, map, nat_le, subst}
+use Rattle.std.specs.Io.KnownBytes.{Appends}
+use Rattle.rs_dump_laws.specs.Dump.{written_piece}
+use Rattle.rs_dump_laws.specs.Lines.{dump_line}
+use Rattle.rs_machine.specs.declared.limits.TheConstants.{LINE_BYTES}
+use Rattle.rs_syntax.specs.Tree.{PieceTree, define_alignment}
+use Rattle.rs_syntax.specs.View.{piece_tree}
+use Rattle.rs_dump.proofs.Puts.{pieces_written, short_enough, too_long}
+use Rattle.rs_dump.proofs.put.put_alignment.Goals as goal
+
+pub returns-then-whole-gt-LINE_BYTES-clause-fits : goal.returns-then-whole-gt-LINE_BYTES-clause-fits
+returns-then-whole-gt-LINE_BYTES-clause-fits g c =
+    let name = c.args.name.now.bytes in
+    let made = c.as_str-whole.ensures.value ∙ c.in_ok-push_alignment_line.ensures
+    ∙ ap (λ text. text ++ dump_line (define_alignment name (map piece_tree c.pieces.result.now))) c.clear.ensures.bytes
+    ∙ ap (λ (pieces : List PieceTree). dump_line (define_alignment name pieces)) (pieces_written c.pieces.result.now ∙ ap (map written_piece) c.pieces.ensures) in
+    subst (λ (bytes : List ℕ). false ≡ nat_le (length bytes) LINE_BYTES) made (too_long (length c.as_str-whole.result.now) c.if-whole-gt-LINE_BYTES.true)
+
+pub returns-clause-fits : goal.returns-clause-fits
+returns-clause-fits g c =
+    let name = c.args.name.now.bytes in
+    let made = c.as_str-whole.ensures.value ∙ c.in_ok-push_alignment_line.ensures
+    ∙ ap (λ text. text ++ dump_line (define_alignment name (map piece_tree c.pieces.result.now))) c.clear.ensures.bytes
+    ∙ ap (λ (pieces : List PieceTree). dump_line (define_alignment name pieces)) (pieces_written c.pieces.result.now ∙ ap (map written_piece) c.pieces.ensures) in
+    subst (λ (bytes : List ℕ). true ≡ nat_le (length bytes) LINE_BYTES) made (short_enough (length c.as_str-whole.result.now) c.if-whole-gt-LINE_BYTES.false)
+
+pub returns-clause-put : goal.returns-clause-put
+returns-clause-put g c = λ is.
+    let name = c.args.name.now.bytes in
+    let made = c.as_str-whole.ensures.value ∙ c.in_ok-push_alignment_line.ensures
+    ∙ ap (λ text. text ++ dump_line (define_alignment name (map piece_tree c.pieces.result.now))) c.clear.ensures.bytes
+    ∙ ap (λ (pieces : List PieceTree). dump_line (define_alignment name pieces)) (pieces_written c.pieces.result.now ∙ ap (map written_piece) c.pieces.ensures) in
+    subst (λ (bytes : List ℕ). Appends (g.W.Write.contents c.args.output.now) (g.W.Write.contents c.put_line.new.output) (bytes ++ 10 ∷ [])) made c.in_ok-put_line.ensures

@@ -1,0 +1,71 @@
+-- The views that a dump has, in their order.
+use Rattle.std.specs.Prelude.{◌≡◌, ◌≢◌, ℕ, true, false, Contains, List, [], ◌∷◌, ◌++◌, map, Ok, Option, Some}
+use Rattle.std.specs.FinMap as names
+use Rattle.std.specs.List.{AllByRecursion}
+use Rattle.std.specs.Io.KnownBytes.{Appends}
+use Rattle.arrayvec.specs.ArrayString.{ArrayString}
+use Rattle.rs_catalog.specs.Definitions.{Definitions, Numbered, Rest, ViewItem, state_from}
+use Rattle.rs_catalog.specs.Referents.{HeldReferents, referents_on}
+use Rattle.rs_dump.specs.Written.{lines_bytes}
+use Rattle.rs_dump.specs.declared.views.Defined.{Defined}
+use Rattle.rs_dump.specs.declared.views.Sorted.{Sorted}
+use Rattle.rs_facts.specs.Fact.{Name}
+use Rattle.rs_facts.specs.Query.{Query}
+use Rattle.rs_facts.specs.Runs.{Stretch}
+use Rattle.rs_machine.specs.Checking.{checked}
+use Rattle.rs_machine.specs.Opening.{names_alignment, names_query}
+use Rattle.rs_machine.specs.State.{has}
+use Rattle.rs_syntax.specs.QueryView.{query_tree}
+use Rattle.rs_syntax.specs.Tree.{CommandTree, QueryTree, define_view}
+
+abbrev pub names_of : List ArrayString → List Name
+names_of names = map (λ name. name.bytes) names
+
+-- in each state of these definitions and referents the query passes the checks of a view's DEFINE line
+pub record PassesNow (definitions : Definitions) (referents : Numbered HeldReferents) (query : QueryTree) : Type 0 where
+  pub each : (spans_on : ℕ → ℕ → List Stretch) (rest : Rest) → (made : Query) × (checked (state_from definitions (referents_on referents) spans_on rest) query ≡ Ok made)
+
+-- what is known of what is dumped: the definitions, the referents, and the names of the alignments that are left out
+pub record Known : Type 0 where
+  pub definitions : Definitions
+  pub referents : Numbered HeldReferents
+  pub left_out : List Name
+
+abbrev pub known_of : Defined → Known
+known_of defined = record { definitions = defined.catalog.now; referents = defined.referents.now; left_out = names_of defined.left_out.now }
+
+-- each view that the query names is among these, and no alignment that it names was left out
+pub record IsReady (known : Known) (written : List Name) (query : QueryTree) : Type 0 where
+  pub views : (other : Name) → has known.definitions.views other ≡ true → names_query other query ≡ true → Contains written other
+  pub alignments : AllByRecursion (λ alignment. names_alignment alignment query ≡ false) known.left_out
+
+-- the view may come after these
+pub record MayFollow (known : Known) (before : List Name) (view : Name × ViewItem) : Type 0 where
+  pub there : names.get known.definitions.views view.0 ≡ Some view.1
+  pub once : AllByRecursion (λ other. other ≢ view.0) before
+  pub ready : IsReady known before (query_tree view.1.query)
+  pub passes : PassesNow known.definitions known.referents (query_tree view.1.query)
+
+-- each may come after those that stand before it
+abbrev pub AreInTurn : Known → List Name → List (Name × ViewItem) → Type 0
+AreInTurn known before [] = Unit {0}
+AreInTurn known before (view ∷ views) = MayFollow known before view × AreInTurn known (before ++ view.0 ∷ []) views
+
+abbrev pub view_of : Name × ViewItem → CommandTree
+view_of view = define_view view.0 (query_tree view.1.query) view.1.text
+
+-- the output grew by the lines of these views, each of which may come after those before it
+pub record IsSorted (known : Known) (written : List Name) (before after : Option (List ℕ)) : Type 0 where
+  pub views : List (Name × ViewItem)
+  pub named : map (λ view. view.0) views ≡ written
+  pub in_turn : AreInTurn known [] views
+  pub put : Appends before after (lines_bytes (map view_of views))
+
+-- so it was, and so it is
+abbrev pub sorts : Defined → Sorted → Sorted → Option (List ℕ) → Option (List ℕ) → Type 0
+sorts defined old new output output_now = (before : Option (List ℕ)) → IsSorted (known_of defined) (names_of old.written.items) before output
+    → IsSorted (known_of defined) (names_of new.written.items) before output_now
+
+-- no view is missing
+pub record HasAllViews (definitions : Definitions) (written : List Name) : Type 0 where
+  pub each : (name : Name) → has definitions.views name ≡ true → Contains written name

@@ -1,0 +1,85 @@
+//! What is dumped: definitions in memory, and the referents and spans that are read route by route.
+//!
+//! What it shows is a relation, since it may keep what no value of its own says.
+
+ghost use Rattle.std.specs.Prelude.{◌≡◌, IfOk, map};
+ghost use Rattle.rs_catalog.specs.Definitions.{Definitions, Numbered};
+ghost use Rattle.rs_catalog.specs.Referents.{HeldReferents};
+ghost use Rattle.rs_dump.specs.Shown.{Shown};
+ghost use Rattle.rs_facts.specs.Spans.{seen};
+ghost use Rattle.rs_methods.specs.Referents.{mark_of};
+
+use rs_catalog::{Catalog, RouteReferents};
+use rs_facts::Span;
+use rs_methods::{Name, Referent};
+use rs_refusal::Refusal;
+use rs_value::Kind;
+use std::alloc::Global;
+
+/// A table by its name.
+#[derive(Clone, Copy)]
+pub struct NamedTable {
+    /// Its name.
+    pub name: Name,
+    /// Its number.
+    pub number: u32,
+    /// Whether it holds points or lines.
+    pub kind: Kind,
+}
+
+/// A route by its name.
+#[derive(Clone, Copy)]
+pub struct NamedRoute {
+    /// Its name.
+    pub name: Name,
+    /// Its number.
+    pub number: u32,
+}
+
+/// What holds an inventory that is dumped. Each call leaves the definitions, and what is shown; a refusal does so too.
+pub trait Held {
+    /// The definitions.
+    ghost catalog: { Self → Definitions };
+
+    /// The referents in memory.
+    ghost referents: { Self → Numbered HeldReferents };
+
+    /// The referents and spans that are shown, by the numbers of routes and tables.
+    ghost shows: { Self → Shown → Type 0 };
+
+    /// What a call keeps of all else, such as the bytes of a disk.
+    ghost passes: { Self → Self → Type 0 };
+
+    /// The definitions.
+    fn catalog(&self) -> &Catalog
+        ensures { result.now ≡ catalog self.now };
+
+    /// The referents of each route.
+    fn referents(&self) -> &RouteReferents
+        ensures { result.now ≡ referents self.now };
+
+    /// The referents beside START of the route, in the order of their names.
+    fn listed_referents(
+        &mut self,
+        alloc: Global,
+        route: &NamedRoute,
+    ) -> Result<Vec<Referent>, Refusal>
+        ensures lists { (shown : Shown) → shows self.old shown → IfOk result (λ found. map mark_of found.items ≡ shown.referents route.now.number) }
+        ensures catalog { catalog self.new ≡ catalog self.old }
+        ensures referents { referents self.new ≡ referents self.old }
+        ensures shows { (shown : Shown) → shows self.old shown → shows self.new shown }
+        ensures passes { passes self.old self.new };
+
+    /// The spans of the table on the route.
+    fn listed_spans(
+        &mut self,
+        alloc: Global,
+        table: &NamedTable,
+        route: &NamedRoute,
+    ) -> Result<Vec<Span>, Refusal>
+        ensures lists { (shown : Shown) → shows self.old shown → IfOk result (λ found. map seen found.items ≡ shown.spans table.now.number table.now.kind route.now.number) }
+        ensures catalog { catalog self.new ≡ catalog self.old }
+        ensures referents { referents self.new ≡ referents self.old }
+        ensures shows { (shown : Shown) → shows self.old shown → shows self.new shown }
+        ensures passes { passes self.old self.new };
+}

@@ -1,0 +1,246 @@
+//! The lines of views, each after those that it names.
+//!
+//! A view that its DEFINE line would be refused now, one that names such a one, and one that names an alignment that was left out are
+//! told and left out.
+
+ghost use Rattle.std.specs.Prelude.{◌≡◌, ◌≢◌, IfOk, OnOk, Contains, List, Some, false, true};
+ghost use Rattle.std.specs.FinMap as names;
+ghost use Rattle.std.specs.List.{AllByRecursion};
+ghost use Rattle.rs_dump.specs.Views.{HasAllViews, IsReady, IsSorted, known_of, names_of, sorts};
+ghost use Rattle.rs_facts.specs.Fact.{Name};
+ghost use Rattle.rs_machine.specs.Opening.{names_alignment, names_query};
+ghost use Rattle.rs_machine.specs.State.{has};
+ghost use Rattle.rs_syntax.specs.QueryView.{query_tree};
+
+use crate::put::put_view;
+use crate::stop::Stop;
+use crate::tell::tell_view;
+use crate::uses::{is_same, names_alignment, names_query};
+use rs_catalog::{Catalog, RouteReferents, ViewEntry};
+use rs_checker::check;
+use rs_methods::Name;
+use rs_refusal::Refusal;
+use rs_syntax::Query;
+use std::alloc::Global;
+use std::io::Write;
+
+/// What is dumped of a catalogue: its definitions, its referents, and the alignments that were left out.
+#[derive(Clone, Copy)]
+pub struct Defined<'a> {
+    /// Where memory is taken.
+    pub alloc: Global,
+    /// The definitions.
+    pub catalog: &'a Catalog,
+    /// The referents of each route.
+    pub referents: &'a RouteReferents,
+    /// The names of the alignments that were left out.
+    pub left_out: &'a [Name],
+}
+
+/// A view that was left out, and what its DEFINE line would be refused.
+#[derive(Clone, Copy)]
+pub struct LeftOut {
+    /// Its name.
+    pub name: Name,
+    /// The refusal.
+    pub refusal: Refusal,
+}
+
+/// The views that were written, in that order, and those that were refused.
+#[derive(Drop)]
+pub struct Sorted {
+    /// The names of those that were written.
+    pub written: Vec<Name>,
+    /// Those that were refused.
+    pub refused: Vec<LeftOut>,
+}
+
+/// Writes the lines of the views, each after those that it names, and says whether some were left out.
+pub fn write_views<W: Write, E: Write>(
+    defined: &Defined<'_>,
+    output: &mut W,
+    errors: &mut E,
+) -> Result<bool, Stop>
+    ensures quiet { IfOk result (λ lacks. lacks ≡ false → E.contents errors.new ≡ E.contents errors.old) }
+    ensures views { IfOk result (λ lacks. (written : List Name) × IsSorted (known_of defined.now) written (W.contents output.old) (W.contents output.new)
+        × (lacks ≡ false → HasAllViews defined.now.catalog.now written)) }
+{
+    let mut sorted = Sorted {
+        written: Vec::new(defined.alloc),
+        refused: Vec::new(defined.alloc),
+    };
+    write_rounds(defined, &mut sorted, output)?;
+    Ok(tell_others(defined.catalog, &sorted, errors))
+}
+
+/// Writes the lines of views that name none but written ones, again and again until there are no more of them.
+fn write_rounds<W: Write>(
+    defined: &Defined<'_>,
+    sorted: &mut Sorted,
+    output: &mut W,
+) -> Result<(), Stop>
+    ensures { OnOk result (sorts defined.now sorted.old sorted.new (W.contents output.old) (W.contents output.new)) }
+{
+    for _ in 0..defined.catalog.views_len() {
+        let before = sorted.written.len();
+        write_ready(defined, sorted, output)?;
+        if sorted.written.len() == before {
+            return Ok(());
+        }
+    }
+    Ok(())
+}
+
+/// Writes the lines of the views that name none but written ones.
+fn write_ready<W: Write>(
+    defined: &Defined<'_>,
+    sorted: &mut Sorted,
+    output: &mut W,
+) -> Result<(), Stop>
+    ensures { OnOk result (sorts defined.now sorted.old sorted.new (W.contents output.old) (W.contents output.new)) }
+{
+    for (name, view) in defined.catalog.views() {
+        if may_be_written(defined, sorted, name, view.query()) {
+            write_view(defined, sorted, (name, view), output)?;
+        }
+    }
+    Ok(())
+}
+
+/// Writes the line of a view, or notes why it would be refused.
+fn write_view<W: Write>(
+    defined: &Defined<'_>,
+    sorted: &mut Sorted,
+    entry: (&Name, &ViewEntry),
+    output: &mut W,
+) -> Result<(), Stop>
+    requires there { names.get defined.now.catalog.now.views entry.0.now.bytes ≡ Some entry.1.now }
+    requires once { AllByRecursion (λ other. other ≢ entry.0.now.bytes) (names_of sorted.old.written.items) }
+    requires ready { IsReady (known_of defined.now) (names_of sorted.old.written.items) (query_tree entry.1.now.query) }
+    ensures { OnOk result (sorts defined.now sorted.old sorted.new (W.contents output.old) (W.contents output.new)) }
+{
+    let (name, view) = entry;
+    match check(
+        defined.alloc,
+        defined.catalog,
+        defined.referents,
+        view.query(),
+    ) {
+        Ok(_checked) => {
+            let mut line = String::new(defined.alloc);
+            put_view(&mut line, name, view.text(), output)?;
+            sorted.written.push(*name)?;
+        }
+        Err(Refusal::OutOfMemory) => return Err(Stop::Refused(Refusal::OutOfMemory)),
+        Err(refusal) => sorted.refused.push(LeftOut {
+            name: *name,
+            refusal,
+        })?,
+    }
+    Ok(())
+}
+
+/// Tells of the views that were not written, and says whether there are any.
+fn tell_others<E: Write>(catalog: &Catalog, sorted: &Sorted, errors: &mut E) -> bool
+    ensures quiet { result ≡ false → E.contents errors.new ≡ E.contents errors.old }
+    ensures views { result ≡ false → HasAllViews catalog.now (names_of sorted.now.written.items) }
+{
+    let mut lacks = false;
+    for (name, _) in catalog.views() {
+        if tell_missing(sorted, name, errors) {
+            lacks = true;
+        }
+    }
+    lacks
+}
+
+/// Tells of the view if it was not written, and says whether it was not. One that was not refused names one that was left out.
+fn tell_missing<E: Write>(sorted: &Sorted, name: &Name, errors: &mut E) -> bool
+    ensures quiet { result ≡ false → E.contents errors.new ≡ E.contents errors.old }
+    ensures written { result ≡ false → Contains (names_of sorted.now.written.items) name.now.bytes }
+{
+    if has_name(&sorted.written, name) {
+        return false;
+    }
+    let refusal = refusal_of(&sorted.refused, name).unwrap_or(Refusal::NoSuchName);
+    tell_view(errors, name, &refusal);
+    true
+}
+
+/// Whether the view is neither written nor refused, and names none but written views and no alignment that was left out.
+fn may_be_written(defined: &Defined<'_>, sorted: &Sorted, name: &Name, query: &Query) -> bool
+    ensures once { result ≡ true → AllByRecursion (λ other. other ≢ name.now.bytes) (names_of sorted.now.written.items) }
+    ensures ready { result ≡ true → IsReady (known_of defined.now) (names_of sorted.now.written.items) (query_tree query.now) }
+{
+    if has_name(&sorted.written, name) || refusal_of(&sorted.refused, name).is_some() {
+        return false;
+    }
+    is_ready(defined, &sorted.written, query)
+}
+
+/// Whether each view that this query names is written, and no alignment that it names was left out.
+fn is_ready(defined: &Defined<'_>, written: &[Name], query: &Query) -> bool
+    ensures { result ≡ true → IsReady (known_of defined.now) (names_of written.now) (query_tree query.now) }
+{
+    if names_one_of(defined.left_out, query) {
+        return false;
+    }
+    names_written(defined.catalog, written, query)
+}
+
+/// Whether each view that this query names is written.
+fn names_written(catalog: &Catalog, written: &[Name], query: &Query) -> bool
+    ensures { result ≡ true → (other : Name) → has catalog.now.views other ≡ true → names_query other (query_tree query.now) ≡ true → Contains (names_of written.now) other }
+{
+    for (name, _) in catalog.views() {
+        if names_unwritten(written, query, name) {
+            return false;
+        }
+    }
+    true
+}
+
+/// Whether the query names this view, which is not written.
+fn names_unwritten(written: &[Name], query: &Query, name: &Name) -> bool
+    ensures { result ≡ false → names_query name.now.bytes (query_tree query.now) ≡ true → Contains (names_of written.now) name.now.bytes }
+{
+    if has_name(written, name) {
+        return false;
+    }
+    names_query(query, name)
+}
+
+/// Whether the query names one of these alignments.
+fn names_one_of(alignments: &[Name], query: &Query) -> bool
+    ensures { result ≡ false → AllByRecursion (λ alignment. names_alignment alignment (query_tree query.now) ≡ false) (names_of alignments.now) }
+{
+    for name in alignments {
+        if names_alignment(query, name) {
+            return true;
+        }
+    }
+    false
+}
+
+/// Whether the name is among these.
+pub fn has_name(names: &[Name], name: &Name) -> bool
+    ensures there { result ≡ true → Contains (names_of names.now) name.now.bytes }
+    ensures absent { result ≡ false → AllByRecursion (λ other. other ≢ name.now.bytes) (names_of names.now) }
+{
+    for other in names {
+        if is_same(name, other) {
+            return true;
+        }
+    }
+    false
+}
+
+/// What a view was refused with that is among these.
+fn refusal_of(refused: &[LeftOut], name: &Name) -> Option<Refusal> {
+    for view in refused {
+        if is_same(name, &view.name) {
+            return Some(view.refusal);
+        }
+    }
+    None
+}
