@@ -18,7 +18,7 @@ import subprocess
 import tempfile
 import time
 
-from copies import instructions_of
+from copies import COLLECTED
 from files import INSERT
 from load import inserts, setup
 
@@ -117,6 +117,14 @@ def measure(words, folder):
         print("%-30s %-7s %8.1f ms   sqlite3 %8.1f ms   ratio %.2f" % (job, place, 1000 * ours, 1000 * theirs, ours / theirs), flush=True)
 
 
+def instructions_of(program, path):
+    """How many instructions the program takes to answer the lines of a file, in memory."""
+    command = ["valgrind", "--tool=callgrind", "--callgrind-out-file=/dev/null", os.path.abspath(program), "run"]
+    with open(path, "rb") as lines:
+        done = subprocess.run(command, stdin=lines, stdout=subprocess.DEVNULL, stderr=subprocess.PIPE, check=True)
+    return int(COLLECTED.search(done.stderr.decode())[1])
+
+
 def count(words, folder):
     """Prints the instructions of insertions, and how they grow."""
     taken = {}
@@ -127,7 +135,7 @@ def count(words, folder):
         for lines in (before + changes, before):
             with open(path, "w", encoding="ascii") as file:
                 file.write("\n".join(lines) + "\n")
-            ends.append(instructions_of(["sh", "-c", 'exec "%s" run < "%s" > /dev/null' % (os.path.abspath(words.program), path)], folder))
+            ends.append(instructions_of(words.program, path))
         taken[spans] = ends[0] - ends[1]
         print("%7d insertions %10.1f million instructions, %.0f each" % (spans, taken[spans] / 1e6, taken[spans] / spans), flush=True)
     print("exponent %.3f" % (math.log(taken[400_000] / taken[25_000]) / math.log(16)))
