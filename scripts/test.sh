@@ -1,9 +1,9 @@
 #!/usr/bin/env bash
 # The gate: the kit's `rt ci` proves every crate, tries the must-fail edits and runs the tests and the programs. Then the
 # programs that it built hold the conversations, answer pseudo-random lines beside the slow machine, are run on files of all
-# sorts, for peers over TCP and by the client in Python, say what they hold in memory, make CSV into lines, open files beside
-# the slow reader of files, and have their growths and the calls of their file refused in turn. Last they meet damaged files,
-# disks that lie, lines of all forms, many peers and little room.
+# sorts, for peers over TCP and by the client in Python, say what they hold in memory, make CSV into lines, dump files as lines,
+# open files beside the slow reader of files, and have their growths and the calls of their file refused in turn. Last they meet
+# damaged files, disks that lie, lines of all forms, many peers and little room.
 set -eu
 cd "$(dirname "$0")/.."
 # each check by one process: several for one check take a fifth more of the processors
@@ -21,6 +21,7 @@ python3 tests/files_and_peers.py
 python3 tests/room.py
 python3 tests/clients.py
 python3 tests/csv_lines.py
+python3 tests/dumps.py
 python3 tests/files.py
 python3 tests/refusals.py
 python3 tests/refused_fetches.py

@@ -18,6 +18,7 @@ ASKED = "How is the inventory asked from Python?"
 DRAWN = "How is a diagram of a road drawn?"
 FROM_CSV = "How do two CSV files become a payment table and a diagram?"
 BY_SHELL = "How does a CSV become a table, and that a payment table, in the shell?"
+AS_TEXT = "How is the inventory kept as plain text, and what changed between two days?"
 SERVED = "7400"  # the port of `serve`, for which another one is put
 
 
@@ -113,9 +114,15 @@ def csv_becomes_a_payment_table_in_the_shell(program):
     expect("scripts", run_section(program, COOKBOOK, BY_SHELL), 1)
 
 
+def the_inventory_is_kept_as_plain_text(program):
+    prepare(program)
+    expect("scripts", run_section(program, COOKBOOK, AS_TEXT), 5)
+
+
 DOCUMENT_TESTS = [
     the_inventory_is_asked_from_python,
     diagrams_are_drawn_as_they_are_kept,
     two_csv_files_become_a_payment_table_and_a_diagram,
     csv_becomes_a_payment_table_in_the_shell,
+    the_inventory_is_kept_as_plain_text,
 ]

@@ -10,7 +10,7 @@ use Rattle.clap.specs.Faults.{action_fault, repeat_fault, use_fault, values_faul
 use Rattle.clap.specs.Walk.{Row, Rule, Text, action_of, at_row, default_rows, has_row, more_values, most_values, reading_by, used, used_as, values_or_missing, with_default, with_values, without}
 use Rattle.clap.specs.Takes.{is_given}
 use Rattle.clap.specs.declared.builder.action.ArgAction.{ArgAction}
-use Rattle.clap.specs.declared.builder.action.ArgAction.TheVariants.{Set}
+use Rattle.clap.specs.declared.builder.action.ArgAction.TheVariants.{Set, SetTrue}
 use Rattle.clap.specs.declared.error.kind.ErrorKind.{ErrorKind}
 use Rattle.clap.specs.declared.error.kind.ErrorKind.TheVariants.{InvalidValue, WrongNumberOfValues}
 use Rattle.clap.specs.declared.builder.value_parser.Reading.{Reading}
@@ -101,6 +101,17 @@ module _ (Q : Text → Reading → Text → Type 0) where
     where
       go : (v : Text) → action_fault Set again a (v ∷ []) rows ≡ [] → Full (used_as Set a.id (reading_by a) (v ∷ []) rows)
       go v passed = with_values-Full a.id (reading_by a) CommandLine v [] (without a.id rows) (takes v (neither (repeat_fault again a.id rows) (values_fault a (v ∷ [])) passed).1) (without-Full a.id rows all)
+
+  -- a flag, each value of which will do
+  pub flag_sound : (a : Rule) (given : Text) → action_of a ≡ SetTrue → a.missing ≡ given ∷ [] → ((v : Text) → Q a.id (reading_by a) v) → IsSound a
+  flag_sound a given set missing good again values rows e all =
+      subst (λ (x : ArgAction). Full (used_as x a.id (reading_by a) (values_or_missing a values) rows)) (sym set) (go values)
+    where
+      go : (values : List Text) → Full (with_values a.id (reading_by a) CommandLine (values_or_missing a values) (without a.id rows))
+      go [] =
+          subst (λ (xs : List Text). Full (with_values a.id (reading_by a) CommandLine xs (without a.id rows))) (sym missing)
+          (with_values-Full a.id (reading_by a) CommandLine given [] (without a.id rows) (good given) (without-Full a.id rows all))
+      go (v ∷ vs) = with_values-Full a.id (reading_by a) CommandLine v vs (without a.id rows) (good v) (without-Full a.id rows all)
 
   -- a flag that is answered with a text never passes
   pub request_sound : (a : Rule) (k : ErrorKind) → ((again : Bool) (values : List Text) (rows : List Row) → action_fault (action_of a) again a values rows ≡ k ∷ [])

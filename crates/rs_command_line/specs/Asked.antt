@@ -24,14 +24,16 @@ pub record CsvSaid : Type 0 where
   pub omits_definition : Bool
   pub defines_routes : Bool
 
--- What is asked, with its texts and its number: a file is made, lines are answered over memory or over a file, or
--- so many connections on an address are served over a file.
+-- What is asked, with its texts and its number: a file is made, lines are answered over memory or over a file, CSV is made into
+-- lines, the lines that rebuild a file or a table of it are written, with its rows or without, a refusal is explained, or so many
+-- connections on an address are served over a file.
 pub data Said : Type 0 where
   creates : Text → Said
   runs : Said
   runs_over : Text → Said
   watches : Option Text → (bails : Bool) → (reports : Bool) → Said
   converts : CsvSaid → Said
+  dumps : (file : Text) → (table : Option Text) → (omits_rows : Bool) → Said
   explains : Option Text → Said
   serves : Text → Text → ℕ → Said
 
@@ -80,6 +82,9 @@ asked_by_csv rows = Some (converts (record {
   defines_routes = flag_in (codes "routes") rows;
 }))
 
+abbrev pub asked_by_dump : List Row → Option Said
+asked_by_dump rows = option_map (λ file. dumps file (first_of (codes "table") rows) (flag_in (codes "definitions") rows)) (file_in rows)
+
 abbrev pub asked_by_explain : List Row → Option Said
 asked_by_explain rows = Some (explains (first_of (codes "refusal") rows))
 
@@ -92,8 +97,9 @@ abbrev pub asked_by : Text × List Row → Option Said
 asked_by command = if bytes_eq command.0 (codes "create") then asked_by_create command.1
     else (if bytes_eq command.0 (codes "run") then asked_by_run command.1
     else (if bytes_eq command.0 (codes "csv") then asked_by_csv command.1
+    else (if bytes_eq command.0 (codes "dump") then asked_by_dump command.1
     else (if bytes_eq command.0 (codes "explain") then asked_by_explain command.1
-    else (if bytes_eq command.0 (codes "serve") then asked_by_serve command.1 else None))))
+    else (if bytes_eq command.0 (codes "serve") then asked_by_serve command.1 else None)))))
 
 -- what the words ask, the program's own name first: that of the command that they name
 abbrev pub asked_of : List Text → Option Said
@@ -123,6 +129,7 @@ said_by asked.Run = runs
 said_by (asked.RunFile file) = runs_over file.now
 said_by (asked.RunWatched file bails reports) = watches (given_text file) bails reports
 said_by (asked.Csv words) = converts (csv_said words)
+said_by (asked.Dump file table omits_rows) = dumps file.now (given_text table) omits_rows
 said_by (asked.Explain refusal) = explains (given_text refusal)
 said_by (asked.Serve file address connections) = serves file.now address.now connections
 

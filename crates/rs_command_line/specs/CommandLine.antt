@@ -58,6 +58,9 @@ csv_command =
     (text_option (codes "to"))) (text_option (codes "at")) in
     with_rule (with_rule (with_rule (with_rule fields column_option) (text_option (codes "session"))) (flag (codes "no-define"))) (flag (codes "routes"))
 
+abbrev pub dump_command : App
+dump_command = with_rule (with_rule (with_rule (new_app (codes "dump")) (file_option true)) (flag (codes "definitions"))) (text_option (codes "table"))
+
 abbrev pub explain_command : App
 explain_command = with_rule (new_app (codes "explain")) refusal_argument
 
@@ -71,5 +74,5 @@ abbrev pub command_line : App
 command_line =
     let top = on_top (λ top. record top { has_version = true; subcommand_required = true })
     (new_app (codes "roadseg")) in
-    with_subcommand (with_subcommand (with_subcommand (with_subcommand (with_subcommand top create_command.top) run_command.top) csv_command.top)
-    explain_command.top) serve_command.top
+    with_subcommand (with_subcommand (with_subcommand (with_subcommand (with_subcommand (with_subcommand top create_command.top) run_command.top) csv_command.top)
+    dump_command.top) explain_command.top) serve_command.top

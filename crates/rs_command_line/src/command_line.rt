@@ -1,4 +1,4 @@
-//! The words are read: `create`, `run` and `serve`, each with its own arguments.
+//! The words are read: `create`, `run`, `csv`, `dump`, `explain` and `serve`, each with its own arguments.
 //!
 //! `clap` writes the help and the messages, fills in the defaults, and checks the number of
 //! connections.
@@ -9,9 +9,9 @@ ghost use Rattle.clap.specs.Words.{subcommand_rows_of};
 ghost use Rattle.rs_command_line.specs.CommandLine.{command_line, file_option, listen_option};
 ghost use Rattle.rs_command_line.specs.CommandLine.{connections_option};
 ghost use Rattle.rs_command_line.specs.CommandLine.{create_command, run_command, serve_command};
-ghost use Rattle.rs_command_line.specs.CommandLine.{csv_command, explain_command, text_option};
+ghost use Rattle.rs_command_line.specs.CommandLine.{csv_command, dump_command, explain_command, text_option};
 ghost use Rattle.rs_command_line.specs.CommandLine.{column_option, flag, define_argument, refusal_argument};
-ghost use Rattle.rs_command_line.specs.Asked.{asked_of, asked_by, asked_by_csv, asked_by_run, flag_in};
+ghost use Rattle.rs_command_line.specs.Asked.{asked_of, asked_by, asked_by_csv, asked_by_dump, asked_by_run, flag_in};
 ghost use Rattle.rs_command_line.specs.Asked.{said_by, HasConnectionsInRange};
 
 use clap::{Arg, ArgAction, ArgMatches, Command, Error};
@@ -62,6 +62,12 @@ pub enum Asked<'a> {
     },
     /// `csv ..`: the CSV of standard input is made into lines.
     Csv(CsvWords<'a>),
+    /// `dump --file F ..`: the lines that rebuild what a file holds are written, or those of one table.
+    Dump {
+        file: &'a str,
+        table: Option<&'a str>,
+        omits_rows: bool,
+    },
     /// `explain`: what a refusal means, or what each does.
     Explain {
         refusal: Option<&'a str>,
@@ -115,6 +121,7 @@ fn asked_of_command<'a>(
         }),
         "run" => Ok(asked_of_run(given)),
         "csv" => asked_of_csv(alloc, given),
+        "dump" => Ok(asked_of_dump(given)),
         "explain" => Ok(Asked::Explain {
             refusal: given.get_str("refusal"),
         }),
@@ -165,6 +172,18 @@ fn asked_of_csv<'a>(alloc: Global, given: &ArgMatches<'a>) -> Result<Asked<'a>, 
     }))
 }
 
+/// What `dump` asks.
+fn asked_of_dump<'a>(given: &ArgMatches<'a>) -> Asked<'a>
+    requires { IsSome (asked_by_dump (rows_of (found_of given.now))) }
+    ensures { asked_by_dump (rows_of (found_of given.now)) ≡ Some (said_by result) }
+{
+    Asked::Dump {
+        file: text_of(given, "file"),
+        table: given.get_str("table"),
+        omits_rows: has_flag(given, "definitions"),
+    }
+}
+
 /// The texts of an argument, one for each time that it is given.
 fn texts_of<'a>(alloc: Global, given: &ArgMatches<'a>, id: &str) -> Result<Vec<&'a str>, AllocError>
     ensures { IfOk result (λ texts. map (λ t. t.now) texts.items ≡ unwrap_or (all_of id.now (rows_of (found_of given.now))) []) }
@@ -206,6 +225,7 @@ fn roadseg_command<'a>(alloc: Global) -> Result<Command<'a>, AllocError>
         .subcommand(create_command(alloc)?)?
         .subcommand(run_command(alloc)?)?
         .subcommand(csv_command(alloc)?)?
+        .subcommand(dump_command(alloc)?)?
         .subcommand(explain_command(alloc)?)?
         .subcommand(serve_command(alloc)?)
 }
@@ -288,6 +308,23 @@ fn csv_command<'a>(alloc: Global) -> Result<Command<'a>, AllocError>
             alloc,
             "routes",
             "Define the routes too, each from the least to the greatest measure met; the lines wait in memory for the end of the input",
+        ))
+}
+
+fn dump_command<'a>(alloc: Global) -> Result<Command<'a>, AllocError>
+    ensures { IfOk result (λ command. app_of command ≡ dump_command) }
+{
+    let file = file_option(alloc, "The file to read; nothing is written to it");
+    Command::new(alloc, "dump")
+        .about(
+            "Prints the lines that rebuild what a file holds, as: roadseg dump --file roads.seg > roads.txt. To rebuild it: roadseg create --file new.seg && roadseg run --file new.seg < roads.txt",
+        )
+        .arg(file.required(true))?
+        .arg(flag(alloc, "definitions", "Leave out the rows of tables"))?
+        .arg(text_option(
+            alloc,
+            "table",
+            "Print one table alone, its definition and its rows",
         ))
 }
 

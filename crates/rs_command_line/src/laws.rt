@@ -3,14 +3,14 @@
 //! It promises which words ask to work and with which texts and number, which ask for help or the
 //! version, and what is at fault where a word is missing or out of range.
 
-ghost use Rattle.std.specs.Prelude.{◌≡◌, List, ℕ, [], ◌∷◌, Some, codes, false};
+ghost use Rattle.std.specs.Prelude.{◌≡◌, List, ℕ, [], ◌∷◌, None, Some, codes, false, true};
 ghost use Rattle.clap.specs.Words.{fault_of};
 ghost use Rattle.clap.specs.declared.error.kind.ErrorKind.TheVariants.{DisplayHelp, DisplayVersion};
 ghost use Rattle.clap.specs.declared.error.kind.ErrorKind.TheVariants.{MissingSubcommand};
 ghost use Rattle.clap.specs.declared.error.kind.ErrorKind.TheVariants.{MissingRequiredArgument};
 ghost use Rattle.clap.specs.declared.error.kind.ErrorKind.TheVariants.{ValueValidation};
 ghost use Rattle.rs_command_line.specs.CommandLine.{command_line};
-ghost use Rattle.rs_command_line.specs.Asked.{asked_of, creates, runs, runs_over, serves};
+ghost use Rattle.rs_command_line.specs.Asked.{asked_of, creates, dumps, runs, runs_over, serves};
 ghost use Rattle.rs_command_line.specs.Asked.{begins_with_hyphen};
 
 /// The word `run` after the program's name asks to serve over memory.
@@ -33,6 +33,26 @@ pub fn create_asks_for_its_file()
         → fault_of command_line (name ∷ codes "create" ∷ codes "--file" ∷ file ∷ []) ≡ [] }
     ensures asks { (name file : List ℕ) → begins_with_hyphen file ≡ false
         → asked_of (name ∷ codes "create" ∷ codes "--file" ∷ file ∷ []) ≡ Some (creates file) }
+{}
+
+/// `dump --file` and a file's name ask for all lines that rebuild what it holds.
+pub fn dump_asks_for_its_file()
+    ensures taken { (name file : List ℕ) → begins_with_hyphen file ≡ false
+        → fault_of command_line (name ∷ codes "dump" ∷ codes "--file" ∷ file ∷ []) ≡ [] }
+    ensures asks { (name file : List ℕ) → begins_with_hyphen file ≡ false
+        → asked_of (name ∷ codes "dump" ∷ codes "--file" ∷ file ∷ []) ≡ Some (dumps file None false) }
+{}
+
+/// `dump` takes a table, and `--definitions` to leave out its rows.
+pub fn dump_asks_as_it_is_told()
+    ensures taken { (name file table : List ℕ) → begins_with_hyphen file ≡ false
+        → begins_with_hyphen table ≡ false
+        → fault_of command_line (name ∷ codes "dump" ∷ codes "--file" ∷ file ∷ codes "--table"
+        ∷ table ∷ codes "--definitions" ∷ []) ≡ [] }
+    ensures asks { (name file table : List ℕ) → begins_with_hyphen file ≡ false
+        → begins_with_hyphen table ≡ false
+        → asked_of (name ∷ codes "dump" ∷ codes "--file" ∷ file ∷ codes "--table" ∷ table
+        ∷ codes "--definitions" ∷ []) ≡ Some (dumps file (Some table) true) }
 {}
 
 /// `serve --file` and a file's name ask to serve one connection over that file, on 127.0.0.1:7400.
@@ -75,6 +95,12 @@ pub fn no_word_lacks_a_command()
 pub fn create_lacks_a_file()
     ensures { (name : List ℕ)
         → fault_of command_line (name ∷ codes "create" ∷ []) ≡ MissingRequiredArgument ∷ [] }
+{}
+
+/// `dump` alone lacks its file.
+pub fn dump_lacks_a_file()
+    ensures { (name : List ℕ)
+        → fault_of command_line (name ∷ codes "dump" ∷ []) ≡ MissingRequiredArgument ∷ [] }
 {}
 
 /// `serve` alone lacks its file.

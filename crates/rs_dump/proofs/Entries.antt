@@ -11,7 +11,7 @@ use Rattle.rs_catalog.proofs.NameOrder.{name_cmp-antisymmetric}
 use Rattle.rs_facts.specs.Fact.{Name, Names, name_cmp}
 use Rattle.rs_machine.specs.State.{has}
 
-same_name : (a b : Name) → eq_by_cmp name_cmp a b ≡ true → a ≡ b
+pub same_name : (a b : Name) → eq_by_cmp name_cmp a b ≡ true → a ≡ b
 same_name a b e = name_cmp-antisymmetric a b ((Equal-is (name_cmp a b)).0 e)
 
 later_there : {X : Type 0} (x y : X) (xs : List X) → Contains xs y → Contains (x ∷ xs) y

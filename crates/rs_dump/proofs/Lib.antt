@@ -5,3 +5,13 @@ pub mod Puts
 pub mod Fitting
 pub mod Reading
 pub mod Listed
+pub mod Counted
+pub mod Rounds
+pub mod Elements
+pub mod Mapped
+pub mod KeptNames
+pub mod InTurn
+pub mod StateCommands
+pub mod StateRows
+pub mod WrittenViews
+pub mod StateDumps

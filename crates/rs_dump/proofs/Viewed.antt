@@ -1,11 +1,11 @@
 -- What is so of each view of a catalogue, and of views in turn.
-use Rattle.std.proofs.Common.{◌≡◌, ◌∙◌, ℕ, true, List, [], ◌∷◌, ◌++◌, Option, ap, append-nil, append_assoc, arith, map, refl, suc, subst, sym}
+use Rattle.std.proofs.Common.{◌≡◌, ◌≢◌, ◌<◌, ◌∙◌, ℕ, true, List, [], ◌∷◌, ◌++◌, Option, ap, append-nil, append_assoc, arith, get_or, length, map, refl, suc, subst, sym}
 use Rattle.std.specs.Prelude.{Contains}
 use Rattle.std.specs.List.{AllByRecursion}
 use Rattle.std.specs.FinMap as names
 use Rattle.std.specs.Io.KnownBytes.{Appends}
 use Rattle.std.proofs.KnownBytes.{Appends-trans}
-use Rattle.std.proofs.lemmas.List.{map-append}
+use Rattle.std.proofs.lemmas.List.{get_or-map, length-map, map-append}
 use Rattle.std.proofs.lemmas.List.Elements.{All-contains, All-from_recursion}
 use Rattle.arrayvec.specs.ArrayString.{ArrayString}
 use Rattle.rs_catalog.specs.Definitions.{ViewItem}
@@ -16,7 +16,7 @@ use Rattle.rs_dump.specs.Written.{line_bytes, lines_bytes}
 use Rattle.rs_dump.proofs.Entries.{entry_there, has_one}
 use Rattle.rs_dump.proofs.Written.{lines_joined}
 
-all_there : {X : Type 0} (P : X → Type 0) (xs : List X) (x : X) → AllByRecursion P xs → Contains xs x → P x
+pub all_there : {X : Type 0} (P : X → Type 0) (xs : List X) (x : X) → AllByRecursion P xs → Contains xs x → P x
 all_there P xs x all there = All-contains P xs x (All-from_recursion P xs all) there
 
 -- what is so of the names of all entries is so of each name that is there
@@ -33,6 +33,14 @@ at_head x xs = (0, omega arith, refl)
 
 pub in_tail : {X : Type 0} (x y : X) (xs : List X) → Contains xs y → Contains (x ∷ xs) y
 in_tail x y xs there = (suc there.0, omega (arith, there.1), there.2)
+
+-- where none is the name, it is not among them
+pub not_there : (those : List Name) (name : Name) → AllByRecursion (λ other. other ≢ name) those → Contains those name → ⊥
+not_there those name apart there = all_there (λ other. other ≢ name) those name apart there refl
+
+-- what is read of a list is in it
+pub read_there : {X Y : Type 0} (f : X → Y) (xs : List X) (i : ℕ) (x : X) → i < length xs → x ≡ get_or xs i x → Contains (map f xs) (f x)
+read_there f xs i x inside is = (i, omega (arith, length-map xs f), get_or-map f xs i x (f x) inside ∙ ap f (sym is))
 
 -- ---- views in turn
 

@@ -1,5 +1,5 @@
 -- What is written of what is held: all sections, or those of one table.
-use Rattle.std.specs.Prelude.{◌≡◌, ℕ, Bool, false, if◌then◌else◌, List, [], ◌∷◌, ◌++◌, map, Option, Some}
+use Rattle.std.specs.Prelude.{◌≡◌, ◌≢◌, ◌⊎◌, ℕ, Bool, false, true, if◌then◌else◌, List, [], ◌∷◌, ◌++◌, map, Option, Some}
 use Rattle.std.specs.FinMap as names
 use Rattle.std.specs.Io.KnownBytes.{Appends}
 use Rattle.rs_catalog.specs.Definitions.{Definitions, Numbered, TableItem, ViewItem}
@@ -7,7 +7,7 @@ use Rattle.rs_catalog.specs.Referents.{HeldReferents}
 use Rattle.rs_dump.specs.Alignments.{fitting, too_long}
 use Rattle.rs_dump.specs.Sections.{index_commands, named_route, named_table, referent_commands, route_commands, row_commands, rows_of_table, table_commands, table_of, table_seen}
 use Rattle.rs_dump.specs.Shown.{Shown}
-use Rattle.rs_dump.specs.Views.{AreInTurn, HasAllViews, view_of}
+use Rattle.rs_dump.specs.Views.{AreInTurn, HasAllThatPass, HasAllViews, LacksSome, view_of}
 use Rattle.rs_dump.specs.Written.{line_bytes, lines_bytes}
 use Rattle.rs_dump.specs.declared.held.NamedTable.{NamedTable}
 use Rattle.rs_dump_laws.specs.Dump.{alignment_command}
@@ -28,13 +28,17 @@ last_commands definitions views = map alignment_command (fitting (names.entries 
 
 -- ---- what was written
 
--- Alignments that fit, views in turn and indexes. Where nothing is said to be left out, nothing is.
+-- Alignments that fit, views in turn and indexes. No view is left out that could be written, and something is said to be left out just
+-- where something is.
 pub record WroteLast (definitions : Definitions) (referents : Numbered HeldReferents) (lacks : Bool) (before after : Option (List ℕ)) : Type 0 where
   pub views : List (Name × ViewItem)
   pub in_turn : AreInTurn (record { definitions = definitions; referents = referents; left_out = map (λ entry. entry.0) (too_long (names.entries definitions.alignments)) }) [] views
   pub put : Appends before after (lines_bytes (last_commands definitions views))
   pub all_alignments : lacks ≡ false → too_long (names.entries definitions.alignments) ≡ []
   pub all_views : lacks ≡ false → HasAllViews definitions (map (λ view. view.0) views)
+  pub passing : HasAllThatPass (record { definitions = definitions; referents = referents; left_out = map (λ entry. entry.0) (too_long (names.entries definitions.alignments)) })
+      (map (λ view. view.0) views)
+  pub lacking : lacks ≡ true → (too_long (names.entries definitions.alignments) ≢ []) ⊎ LacksSome definitions (map (λ view. view.0) views)
 
 -- All sections, or all but the rows.
 pub record WroteAll (definitions : Definitions) (referents : Numbered HeldReferents) (shown : Shown) (omits_rows lacks : Bool) (before after : Option (List ℕ)) : Type 0 where
@@ -43,6 +47,9 @@ pub record WroteAll (definitions : Definitions) (referents : Numbered HeldRefere
   pub put : Appends before after (lines_bytes (first_commands definitions shown ++ ((if omits_rows then [] else all_rows definitions shown) ++ last_commands definitions views)))
   pub all_alignments : lacks ≡ false → too_long (names.entries definitions.alignments) ≡ []
   pub all_views : lacks ≡ false → HasAllViews definitions (map (λ view. view.0) views)
+  pub passing : HasAllThatPass (record { definitions = definitions; referents = referents; left_out = map (λ entry. entry.0) (too_long (names.entries definitions.alignments)) })
+      (map (λ view. view.0) views)
+  pub lacking : lacks ≡ true → (too_long (names.entries definitions.alignments) ≢ []) ⊎ LacksSome definitions (map (λ view. view.0) views)
 
 -- The table of this name is there, and its definition was written.
 pub record PutsTable (definitions : Definitions) (name : Name) (before after : Option (List ℕ)) (found : NamedTable) : Type 0 where

@@ -5,3 +5,4 @@ pub mod Alignments
 pub mod Shown
 pub mod Reads
 pub mod Dumped
+pub mod States

@@ -1,6 +1,6 @@
 //! The lines of alignments. One that is too long for a line is left out and told.
 
-ghost use Rattle.std.specs.Prelude.{◌≡◌, [], false, IfOk, OnOk, map};
+ghost use Rattle.std.specs.Prelude.{◌≡◌, ◌≢◌, [], false, true, IfOk, OnOk, map};
 ghost use Rattle.std.specs.FinMap as names;
 ghost use Rattle.rs_dump.specs.Alignments.{Steps, fitting, too_long};
 ghost use Rattle.rs_dump.specs.Views.{names_of};
@@ -53,6 +53,7 @@ fn write_alignment<W: Write>(
 /// Tells of the alignments that were left out, and says whether there are any.
 pub fn tell_left_out<E: Write>(left_out: &[Name], errors: &mut E) -> bool
     ensures none { result ≡ false → left_out.now ≡ [] }
+    ensures some { result ≡ true → left_out.now ≢ [] }
     ensures quiet { result ≡ false → E.contents errors.new ≡ E.contents errors.old }
 {
     match left_out {

@@ -1,6 +1,6 @@
 //! The dump: all sections, or the lines of one table.
 
-ghost use Rattle.std.specs.Prelude.{◌≡◌, [], false, if◌then◌else◌, IfOk, IfSome, None, OnOk};
+ghost use Rattle.std.specs.Prelude.{◌≡◌, ◌⊎◌, [], false, true, if◌then◌else◌, IfOk, IfSome, None, OnOk};
 ghost use Rattle.rs_dump.specs.Dumped.{PutsTable, WroteAll, WroteLast, WroteTable, all_rows, first_commands};
 ghost use Rattle.rs_dump.specs.Reads.{Reads};
 ghost use Rattle.rs_dump.specs.Shown.{Shown};
@@ -134,6 +134,7 @@ fn write_last<H: Held, W: Write, E: Write>(
 fn lacks_some(alignments: bool, views: bool) -> bool
     ensures alignments { result ≡ false → alignments ≡ false }
     ensures views { result ≡ false → views ≡ false }
+    ensures lacking { result ≡ true → (alignments ≡ true) ⊎ (views ≡ true) }
 {
     if alignments {
         return true;

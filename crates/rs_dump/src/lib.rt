@@ -8,6 +8,7 @@ pub mod alignments;
 pub mod definitions;
 pub mod dumping;
 pub mod held;
+pub mod laws;
 pub mod put;
 pub mod referents;
 pub mod rows;

@@ -98,6 +98,7 @@ quiet_as words (Ok (asked.Create file)) a b asks quiet = inl quiet
 quiet_as words (Ok asked.Run) a b asks quiet = inl quiet
 quiet_as words (Ok (asked.RunFile file)) a b asks quiet = inl quiet
 quiet_as words (Ok (asked.Csv said)) a b asks quiet = inl quiet
+quiet_as words (Ok (asked.Dump file table omits_rows)) a b asks quiet = inl quiet
 quiet_as words (Ok (asked.Explain refusal)) a b asks quiet = inl quiet
 quiet_as words (Ok (asked.Serve file address connections)) a b asks quiet = inl quiet
 

@@ -7,7 +7,7 @@ use Rattle.clap.specs.declared.error.kind.ErrorKind.TheVariants.{DisplayHelp, Di
 use Rattle.clap.specs.declared.error.Error.{Error}
 use Rattle.clap.specs.Values.{kind_of}
 use Rattle.rs_command_line.specs.declared.command_line.Asked.{Asked}
-use Rattle.rs_command_line.specs.declared.command_line.Asked.TheVariants.{Create, Csv, Explain, Run, RunFile, RunWatched, Serve}
+use Rattle.rs_command_line.specs.declared.command_line.Asked.TheVariants.{Create, Csv, Dump, Explain, Run, RunFile, RunWatched, Serve}
 use Rattle.rs_csv.specs.Output.{Wrote}
 use Rattle.rs_machine.specs.Served.{Machine}
 use Rattle.rs_machine.specs.State.{fresh}
@@ -77,13 +77,15 @@ Does (Create file) failure unread unread_now before after = Keeps unread unread_
 Does (Serve file address connections) failure unread unread_now before after = Keeps unread unread_now
 Does (RunWatched file bails reports) failure unread unread_now before after = Unit {0}
 Does (Csv words) failure unread unread_now before after = WritesLines before after
+Does (Dump file table omits_rows) failure unread unread_now before after = Keeps unread unread_now
 Does (Explain refusal) failure unread unread_now before after = Keeps unread unread_now
 
 -- The program does what is asked, and its status and the errors stream say what failed. Of `run` with options nothing is known, nor
--- of what `csv` and `explain` say on the errors stream.
+-- of what `csv`, `dump` and `explain` say on the errors stream.
 abbrev pub EndsDoing : Asked → ℕ → Option (List ℕ) → Option (List ℕ) → Option (List ℕ) → Option (List ℕ) → Option (List ℕ) → Option (List ℕ) → Type 0
 EndsDoing (RunWatched file bails reports) status unread unread_now before after errors errors_now = Unit {0}
 EndsDoing (Csv words) status unread unread_now before after errors errors_now = WritesLines before after
+EndsDoing (Dump file table omits_rows) status unread unread_now before after errors errors_now = Keeps unread unread_now
 EndsDoing (Explain refusal) status unread unread_now before after errors errors_now = Keeps unread unread_now
 EndsDoing asked status unread unread_now before after errors errors_now =
     (failure : Option Failure) × Does asked failure unread unread_now before after × EndsWith failure status errors errors_now

@@ -1,11 +1,12 @@
 //! The program over its words and streams: it does what the words ask, and ends with a status.
 //!
-//! `program` takes the words and the streams, `serve_disk` any disk in place of a file, `serve_one` the two halves of one
-//! connection. All of them can be called over memory.
+//! `program` takes the words and the streams, `serve_disk` and `dump_on` any disk in place of a file, `serve_one` the two halves
+//! of one connection. All of them can be called over memory.
 #![tactic(auto)]
 
 pub mod connection;
 pub mod disks;
+pub mod dumping;
 pub mod laws;
 pub mod report;
 pub mod service;
@@ -14,5 +15,6 @@ pub mod words;
 
 pub use connection::{Connection, serve_connections, serve_one};
 pub use disks::{create_on, serve_disk};
+pub use dumping::dump_on;
 pub use report::{Failure, report_failure, report_unread_words};
 pub use service::{do_as_asked, program};

@@ -13,6 +13,7 @@ ghost use Rattle.rs_server.specs.Ending.{EndsAs, EndsBy, EndsDoing, EndsWith, Is
 
 use crate::connection::serve_connections;
 use crate::disks::{close_after, create_on, failure_after, serve_disk};
+use crate::dumping::dump_on;
 use crate::report::{FAILED, Failure, MISUSE, SUCCESS, failure_to_open, report_failure};
 use crate::watch::{LineByLine, Tally, Watched};
 use crate::words::{convert, explain_refusal};
@@ -20,6 +21,7 @@ use clap::Error;
 use clap::error::ErrorKind;
 use rs_command_line::{Asked, read_words};
 use rs_disk::{FileDisk, MemoryDisk};
+use rs_dump::Wanted;
 use rs_engine::Engine;
 use rs_engine::engine::laws::machine_is_the_only_one;
 use rs_protocol::{Fault, put_parts, run};
@@ -113,6 +115,11 @@ fn do_it<
             reports,
         } => run_watched(rt, file, (bails, reports), input, output, errors),
         Asked::Csv(words) => convert(rt.alloc(), &words, input, output, errors),
+        Asked::Dump {
+            file,
+            table,
+            omits_rows,
+        } => dump_file(rt, file, Wanted { table, omits_rows }, output, errors),
         Asked::Explain { refusal } => explain_refusal(refusal, output, errors),
         Asked::Serve {
             file,
@@ -211,6 +218,22 @@ fn run_on<P: AllocGlobal + Files<File = File>, R: Read, W: Write>(
     match file {
         Some(file) => run_file(rt, file, input, output),
         None => run_in_memory(rt.alloc(), input, output),
+    }
+}
+
+/// Writes the lines that rebuild what a file holds, and gives the exit status.
+fn dump_file<P: AllocGlobal + Files<File = File>, W: Write, E: Write>(
+    rt: &P,
+    file: &str,
+    wanted: Wanted<'_>,
+    output: &mut W,
+    errors: &mut E,
+) -> u8
+    ensures { result ≡ SUCCESS → Keeps (E.contents errors.old) (E.contents errors.new) }
+{
+    match FileDisk::open(rt, file) {
+        Ok(disk) => dump_on(rt.alloc(), disk, wanted, output, errors),
+        Err(error) => end_with(errors, Some(failure_to_open(error))),
     }
 }
 

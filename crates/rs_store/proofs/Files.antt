@@ -1,5 +1,5 @@
 -- A disk as it was opened.
-use Rattle.std.proofs.Common.{◌≡◌, ◌∙◌, ℕ, Ok, Err, true, ap, inl, inr, subst, sym, arith}
+use Rattle.std.proofs.Common.{◌≡◌, ◌∙◌, ℕ, Bool, Ok, Err, true, ap, inl, inr, subst, sym, arith}
 use Rattle.std.specs.Prelude.{◌≢◌, ◌⊎◌}
 use Rattle.rs_catalog.specs.Definitions.{Definitions, Numbered}
 use Rattle.rs_catalog.specs.Referents.{HeldReferents}
@@ -10,7 +10,7 @@ use Rattle.rs_disk.specs.Content.{Content}
 use Rattle.rs_disk.specs.declared.disk.Disk as disk
 use Rattle.rs_machine.specs.State.{State, fresh}
 use Rattle.rs_page.specs.declared.file_header.TheConstants.{FLAG_OFFSET}
-use Rattle.rs_pager.specs.Maps.{IsTied, committed, working}
+use Rattle.rs_pager.specs.Maps.{committed, working}
 use Rattle.rs_pager.specs.Opened.{IsFresh, IsOpened}
 use Rattle.rs_pager.specs.Paged.{Paged}
 use Rattle.rs_pager.specs.Stored.{IsNoFile, Stores}
@@ -21,14 +21,14 @@ use Rattle.rs_refusal.specs.declared.refusal.Refusal.TheVariants as refusal
 use Rattle.rs_standing.specs.Meant.{IsMeant}
 use Rattle.rs_standing.specs.Standing.{StandsFor}
 use Rattle.rs_store.specs.Standing.{IsFileOf}
-use Rattle.rs_store.specs.Calls.{IsClosedFile, IsLeftOpen, IsNoFileOfAny, LeavesAllButFlag, Opens, OpensState, SameButFlag}
+use Rattle.rs_store.specs.Calls.{IsClosedFile, IsLeftOpen, IsNoFileOfAny, LeavesAllButFlag, Looks, Opens, OpensState, SameButFlag}
 use Rattle.rs_store.specs.Kept.{StoreState}
 use Rattle.rs_store.specs.Loading.{LoadsState, StandsForNone, StandsForSome}
 use Rattle.rs_store.specs.Making.{HasFresh, IsFreshFile}
 use Rattle.rs_store.proofs.Beside.{MaskedInNoMap, no_file_of_any, stays_beside_flag}
 use Rattle.rs_store.proofs.Keeping.{flag_of, keeps_loaded, pages_back, store_over}
 use Rattle.rs_store.proofs.Loaded.{stands_for}
-use Rattle.rs_store.proofs.Same.{FileHoldsOne, SameMeant, SameSays, SameState, meant_moves, same_accepted, state_moves}
+use Rattle.rs_store.proofs.Same.{FileHoldsOne, SameMeant, SameSays, SameState, meant_moves, state_moves}
 
 -- what is said of a disk and its maps
 abbrev pub DiskHasOneMap : Type 0
@@ -61,11 +61,11 @@ module _ {D : Type 0} (d : disk.Ghosts D) (limit : ℕ) (content : Content) (p :
         none.none is.contents state (subst (λ (m : PageMap). StandsFor m is.contents state) pages is.stands);
   }
 
-  -- the store that was opened
-  pub opens_state : (now : Paged D) (file : OpenedFile) (catalog : Definitions) (referents : Numbered HeldReferents) → LeavesAllButFlag d p now
-      → LoadsState (working d p) file catalog referents → content.byte FLAG_OFFSET ≡ 0 → flag_of d now ≡ 1
-      → OpensState d limit content (store_over d now file catalog referents true)
-  opens_state now file catalog referents leaves loads closed marked =
+  -- the store that was opened, whether it knows its disk to be marked or not
+  pub opens_state : (now : Paged D) (file : OpenedFile) (catalog : Definitions) (referents : Numbered HeldReferents) (is_marked : Bool) → LeavesAllButFlag d p now
+      → LoadsState (working d p) file catalog referents → content.byte FLAG_OFFSET ≡ 0 → (is_marked ≡ true → flag_of d now ≡ 1)
+      → OpensState d limit content (store_over d now file catalog referents is_marked)
+  opens_state now file catalog referents is_marked leaves loads closed marked =
       let work = same_map (working d now) (working d p) (leaves.working opened.tied) in
       let at : LoadsState (working d now) file catalog referents = subst (λ (m : PageMap). LoadsState m file catalog referents) (sym work) loads in
       let alike : SamePages (working d now) (committed d now) =
@@ -79,7 +79,7 @@ module _ {D : Type 0} (d : disk.Ghosts D) (limit : ℕ) (content : Content) (p :
         };
         stands = record {
           contents = at.contents;
-          keeps = keeps_loaded d p now file catalog referents true (leaves.tied opened.tied) alike at (λ is. marked);
+          keeps = keeps_loaded d p now file catalog referents is_marked (leaves.tied opened.tied) alike at marked;
           live = omega (arith, at.opened.accepted);
           meant = subst (λ (level : ℕ). IsMeant level at.contents) at.opened.accepted at.brings.meant;
           is = at.brings.is;
@@ -128,6 +128,35 @@ module _ {D : Type 0} (d : disk.Ghosts D) (limit : ℕ) (old : D) where
             (subst (λ (content : Content). SameButFlag content (d.seen back)) seen
             (subst (λ (content : Content). SameButFlag (d.seen p.disk) content) (sym after) (leaves.disk opened.tied.honest)));
       }
+
+-- ---- answers of looking
+
+module _ {D : Type 0} (d : disk.Ghosts D) (limit : ℕ) (old : D) where
+  pub looks_ok : (store : StoreState D) → OpensState d limit (d.seen old) store → d.seen store.pager.disk ≡ d.seen old → Looks d limit old (Ok store)
+  looks_ok store opens same = record { opens = opens; damaged = tt; left_open = tt; seen = same }
+
+  -- a disk that has no pages
+  pub looks_none : (back : D) (why : Refusal) → d.seen back ≡ d.seen old → (why ≡ refusal.FileNotClosed → ⊥) → (why ≡ refusal.DamagedFile → IsNoFile (d.seen old) limit)
+      → Looks d limit old (Err (back, why))
+  looks_none back why same closed damaged = record {
+    opens = tt;
+    damaged = λ is. no_file_of_any (d.seen old) limit (damaged is);
+    left_open = λ is. absurd (closed is);
+    seen = same;
+  }
+
+  -- a disk whose pages were looked at
+  pub looks_err : (one_map : DiskHasOneMap) (p : Paged D) (back : D) (why : Refusal) → IsFresh limit p → SamePages (working d p) (committed d p)
+      → IsOpened d (d.seen old) p → d.seen p.disk ≡ d.seen old → d.seen back ≡ d.seen p.disk
+      → (why ≡ refusal.DamagedFile → StandsForNone (working d p)) → (why ≡ refusal.FileNotClosed → StandsForSome (working d p) × ((d.seen p.disk).byte FLAG_OFFSET ≡ 0 → ⊥))
+      → Looks d limit old (Err (back, why))
+  looks_err one_map p back why first same opened seen kept damaged unclosed = record {
+    opens = tt;
+    damaged = λ is. no_file d limit (d.seen old) p first same opened one_map (damaged is);
+    left_open = λ is. left_open d limit (d.seen old) p first same opened (unclosed is).0
+        (subst (λ (content : Content). content.byte FLAG_OFFSET ≡ 0 → ⊥) seen (unclosed is).1);
+    seen = kept ∙ seen;
+  }
 
 -- ---- a file that was made
 

@@ -8,7 +8,9 @@ pub mod Indexed
 pub mod Keeping
 pub mod Listed
 pub mod Loaded
+pub mod Marks
 pub mod MayGo
+pub mod MeantReferents
 pub mod Numbered
 pub mod OneState
 pub mod Placed

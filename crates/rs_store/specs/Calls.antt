@@ -73,6 +73,14 @@ module _ {D : Type 0} (d : disk.Ghosts D) where
     pub synced : IfOk result (λ store. d.is_synced store.pager.disk ≡ true)
     pub marked : IfOk result (λ store. store.is_marked ≡ true)
 
+  -- Whatever a disk is that is only to be read, it is lent to the store, which does not know it to be marked as open, or handed back. 91
+  -- comes exactly where its failures rose, by one.
+  pub record HandsUnmarked (most : ℕ) (old : D) (result : Result (StoreState D) (D × Refusal)) : Type 0 where
+    pub honesty : MatchResult result (λ store. d.is_honest store.pager.disk ≡ d.is_honest old) (λ refused. d.is_honest refused.0 ≡ d.is_honest old)
+    pub count : MatchResult result (λ store. d.failures store.pager.disk ≡ d.failures old) (λ refused. CountsFault refused.1 (d.failures old) (d.failures refused.0))
+    pub limit : IfOk result (λ store. store.pager.limit ≡ most)
+    pub unmarked : IfOk result (λ store. store.is_marked ≡ false)
+
   -- the disk stood for a state, in which the store stands; its versions begin with the one that was accepted last
   pub record OpensState (limit : ℕ) (content : Content) (store : StoreState D) : Type 0 where
     pub state : State
@@ -88,6 +96,13 @@ module _ {D : Type 0} (d : disk.Ghosts D) where
     pub seen : IfErr result (λ refused. refused.1 ≢ refusal.Disk → d.seen refused.0 ≡ d.seen old)
     pub before : IfErr result (λ refused. (d.seen refused.0 ≡ d.seen old) ⊎ IsClosedFile limit (d.seen old))
     pub stays : IfErr result (λ refused. StaysFile limit (d.seen old) (d.seen refused.0))
+
+  -- What an honest disk is opened as to be read alone. It is as it was, whatever is answered.
+  pub record Looks (limit : ℕ) (old : D) (result : Result (StoreState D) (D × Refusal)) : Type 0 where
+    pub opens : IfOk result (OpensState limit (d.seen old))
+    pub damaged : IfErr result (λ refused. refused.1 ≡ refusal.DamagedFile → IsNoFileOfAny limit (d.seen old))
+    pub left_open : IfErr result (λ refused. refused.1 ≡ refusal.FileNotClosed → IsLeftOpen limit (d.seen old))
+    pub seen : MatchResult result (λ store. d.seen store.pager.disk ≡ d.seen old) (λ refused. d.seen refused.0 ≡ d.seen old)
 
   -- What is made of an honest disk: a store that stands in the state at the beginning. It isn't found damaged.
   pub record Creates (result : Result (StoreState D) (D × Refusal)) : Type 0 where

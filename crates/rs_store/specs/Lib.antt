@@ -2,6 +2,7 @@ pub mod Calls
 pub mod Changing
 pub mod Indexing
 pub mod Kept
+pub mod Listing
 pub mod Loading
 pub mod Making
 pub mod Placing

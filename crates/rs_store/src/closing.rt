@@ -126,8 +126,8 @@ impl<D: Disk> Store<D> {
         self.pager.set_open_flag(false)
     }
 
-    /// Gives the disk back, and writes nothing.
-    fn into_disk(self) -> D
+    /// Gives the disk back, and writes nothing, not even what is held of changes: for a store that was only looked at.
+    pub fn into_disk(self) -> D
         ensures { result ≡ self.pager.disk }
     {
         let Store {

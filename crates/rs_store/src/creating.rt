@@ -33,7 +33,7 @@ impl<D: Disk> Store<D> {
     {
         let mut pager = Pager::create(alloc, disk, limit)?;
         match create_pages(alloc, &mut pager) {
-            Ok(loaded) => Ok(store_of(pager, loaded)),
+            Ok(loaded) => Ok(store_of(pager, loaded, true)),
             Err(refusal) => Err((pager.into_disk(), refusal)),
         }
     }

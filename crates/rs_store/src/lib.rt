@@ -8,6 +8,7 @@ mod creating;
 mod defining;
 mod indexing;
 pub mod laws;
+mod listing;
 mod loading;
 mod marking;
 mod opening;

@@ -1,10 +1,10 @@
-//! This module opens the file that a disk holds, as a store.
+//! This module opens the file that a disk holds, as a store: to change it, or only to read it.
 
 ghost use Rattle.std.specs.Prelude.{◌≡◌, ◌≢◌, ◌≤◌, ◌⊎◌, true, false, Err, IfErr, IfOk, IsTrue, MatchResult, OnErr, OnOk};
 ghost use Rattle.rs_page.specs.declared.file_header.TheConstants.{FLAG_OFFSET};
 ghost use Rattle.rs_pager.specs.Maps.{IsTied, working};
 ghost use Rattle.rs_pager.specs.Opened.{CountsFault};
-ghost use Rattle.rs_store.specs.Calls.{HandsOver, LeavesAllButFlag, Opens, WantsOpening};
+ghost use Rattle.rs_store.specs.Calls.{HandsOver, HandsUnmarked, LeavesAllButFlag, Looks, Opens, WantsOpening};
 ghost use Rattle.rs_store.specs.Kept.{IsAtRest};
 ghost use Rattle.rs_store.specs.Loading.{LoadsState, StandsForNone, StandsForSome};
 
@@ -33,17 +33,36 @@ impl<D: Disk> Store<D> {
         disk_stands_for_one_map();
         let mut pager = Pager::open(alloc, disk, limit)?;
         match open_pages(alloc, &mut pager) {
-            Ok(loaded) => Ok(store_of(pager, loaded)),
+            Ok(loaded) => Ok(store_of(pager, loaded, true)),
+            Err(refusal) => Err((pager.into_disk(), refusal)),
+        }
+    }
+
+    /// Opens the file that the disk holds only to read it, and checks it as a whole. Nothing is written: the disk is not marked as
+    /// open, and stays as it was, whatever is answered. `limit` is the greatest number of pages. It is refused with 94 only where the
+    /// disk is a file of no state, closed or not, and with 95 only where it is one and was not closed; it may be refused with 90 or
+    /// 91 instead. A refusal hands the disk back.
+    pub fn look(alloc: Global, disk: D, limit: u32) -> Result<Store<D>, (D, Refusal)>
+        requires least { LEAST_LIMIT ≤ limit }
+        requires greatest { limit ≤ GREATEST_LIMIT }
+        ensures looks { IsTrue (D.is_honest disk) → Looks D.Disk limit disk result }
+        ensures hands { HandsUnmarked D.Disk limit disk result }
+        ensures refused { IfErr result (λ refused. WantsOpening refused.1) }
+    {
+        disk_stands_for_one_map();
+        let mut pager = Pager::open(alloc, disk, limit)?;
+        match look_at_pages(alloc, &mut pager) {
+            Ok(loaded) => Ok(store_of(pager, loaded, false)),
             Err(refusal) => Err((pager.into_disk(), refusal)),
         }
     }
 }
 
-/// The store over these pages, of which this is open and in memory; the disk is marked as open.
-pub(crate) fn store_of<D: Disk>(pager: Pager<D>, loaded: Loaded) -> Store<D>
+/// The store over these pages, of which this is open and in memory. `is_marked` says whether the disk is marked as open.
+pub(crate) fn store_of<D: Disk>(pager: Pager<D>, loaded: Loaded, is_marked: bool) -> Store<D>
     requires shut { pager.is_begun ≡ false }
     requires rests { IsAtRest loaded.file loaded.catalog }
-    ensures { result ≡ record { pager = pager; file = loaded.file; catalog = loaded.catalog; referents = loaded.referents; is_marked = true } }
+    ensures { result ≡ record { pager = pager; file = loaded.file; catalog = loaded.catalog; referents = loaded.referents; is_marked = is_marked } }
 {
     let Loaded {
         file,
@@ -55,7 +74,7 @@ pub(crate) fn store_of<D: Disk>(pager: Pager<D>, loaded: Loaded) -> Store<D>
         file,
         catalog,
         referents,
-        is_marked: true,
+        is_marked,
     }
 }
 
@@ -79,9 +98,28 @@ fn open_pages<D: Disk>(alloc: Global, pager: &mut Pager<D>) -> Result<Loaded, Re
     ensures count { MatchResult result (λ _. D.failures pager.new.disk ≡ D.failures pager.old.disk)
         (λ why. CountsFault why (D.failures pager.old.disk) (D.failures pager.new.disk)) }
 {
+    let loaded = look_at_pages(alloc, pager)?;
+    pager.set_open_flag(true)?;
+    Ok(loaded)
+}
+
+/// Reads and checks the file, and that it was closed. It is refused with 90, with 91, with 94 only where the pages stand for no state,
+/// and with 95 only where they do and the disk was not closed. Nothing is written.
+fn look_at_pages<D: Disk>(alloc: Global, pager: &mut Pager<D>) -> Result<Loaded, Refusal>
+    ensures leaves { LeavesAllButFlag D.Disk pager.old pager.new }
+    ensures seen { IsTrue (D.is_honest pager.old.disk) → D.seen pager.new.disk ≡ D.seen pager.old.disk }
+    ensures loads { IsTied D.Disk pager.old → IfOk result (λ loaded. LoadsState (working D.Disk pager.old) loaded.file loaded.catalog loaded.referents) }
+    ensures file { IfOk result (λ loaded. IsAtRest loaded.file loaded.catalog) }
+    ensures closed { IsTrue (D.is_honest pager.old.disk) → OnOk result ((D.seen pager.old.disk).byte FLAG_OFFSET ≡ 0) }
+    ensures damaged { IsTied D.Disk pager.old → result ≡ Err Refusal.DamagedFile → StandsForNone (working D.Disk pager.old) }
+    ensures left_open { IsTied D.Disk pager.old → result ≡ Err Refusal.FileNotClosed
+        → StandsForSome (working D.Disk pager.old) × ((D.seen pager.old.disk).byte FLAG_OFFSET ≢ 0) }
+    ensures refused { IfErr result WantsOpening }
+    ensures count { MatchResult result (λ _. D.failures pager.new.disk ≡ D.failures pager.old.disk)
+        (λ why. CountsFault why (D.failures pager.old.disk) (D.failures pager.new.disk)) }
+{
     let loaded = load_state(alloc, pager)?;
     check_closed(pager)?;
-    pager.set_open_flag(true)?;
     Ok(loaded)
 }
 

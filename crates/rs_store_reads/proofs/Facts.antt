@@ -104,7 +104,7 @@ each_mapped show P (x ∷ xs) all = (all.0, each_mapped show P xs all.1)
 -- ---- a store that stands in a state
 
 module _ {D : Type 0} (d : disk.Ghosts D) (oldest : ℕ) (store : StoreState D) (state : State) (stands : StandsIn d oldest store state) where
-  abbrev spans : ℕ → ℕ → List Stretch
+  abbrev pub spans : ℕ → ℕ → List Stretch
   spans = spans_seen stands.contents store.file.accepted
 
   meant_at : (name : Name) (item : TableItem) → names.get store.catalog.tables name ≡ Some item
@@ -112,7 +112,7 @@ module _ {D : Type 0} (d : disk.Ghosts D) (oldest : ℕ) (store : StoreState D) 
   meant_at name item there =
       events_meant (committed d store.pager) stands.contents store.catalog oldest stands.keeps.holds stands.meant stands.keeps.memory.catalog name item there stands.contents.directory.accepted stands.live (omega arith)
 
-  runs_at : (name : Name) (item : TableItem) → names.get store.catalog.tables name ≡ Some item → (route : ℕ)
+  pub runs_at : (name : Name) (item : TableItem) → names.get store.catalog.tables name ≡ Some item → (route : ℕ)
       → AreAllRunsOf item.kind (facts_at store.file.accepted route (events_of stands.contents item.number)) (spans item.number route)
   runs_at name item there route =
       subst (λ (version : ℕ). AreAllRunsOf item.kind (facts_at version route (events_of stands.contents item.number)) (spans_at version route (events_of stands.contents item.number))) stands.keeps.opened.accepted
@@ -126,7 +126,7 @@ module _ {D : Type 0} (d : disk.Ghosts D) (oldest : ℕ) (store : StoreState D) 
       (meant_at name item there) route on at)
 
   -- what is read of the whole route is what is seen there
-  whole_read : NoneLeftOut → RowsWithin → (name : Name) (item : TableItem) → names.get store.catalog.tables name ≡ Some item → (route : ℕ)
+  pub whole_read : NoneLeftOut → RowsWithin → (name : Name) (item : TableItem) → names.get store.catalog.tables name ≡ Some item → (route : ℕ)
       → spans_within item.kind store.file.accepted route 0 (2 ^ 32 - 1) (events_of stands.contents item.number) ≡ spans item.number route
   whole_read left rows name item there route =
       let events = events_of stands.contents item.number in

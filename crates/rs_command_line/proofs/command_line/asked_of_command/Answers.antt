@@ -18,6 +18,15 @@ returns-in-csv c =
     let rows = rows_of (found_of c.args.given.now) in
     IfOk-weaker c.asked_of_csv.result _ _ (λ a h. subst (λ (name : Text). asked_by (name, rows) ≡ Some (said_by a)) (sym c.in-csv.is) h) c.asked_of_csv.ensures
 
+pub asked_of_dump-requires : goal.asked_of_dump-requires
+asked_of_dump-requires c =
+    subst (λ (name : Text). IsSome (asked_by (name, rows_of (found_of c.args.given.now)))) c.in-dump.is c.requires
+
+pub returns-in-dump : goal.returns-in-dump
+returns-in-dump c =
+    let rows = rows_of (found_of c.args.given.now) in
+    subst (λ (name : Text). asked_by (name, rows) ≡ Some (said_by c.asked_of_dump.result)) (sym c.in-dump.is) c.asked_of_dump.ensures
+
 pub returns-in-explain : goal.returns-in-explain
 returns-in-explain c =
     let rows = rows_of (found_of c.args.given.now) in

@@ -36,5 +36,7 @@ returns-clause-all g c = λ shown shows.
           (c.in_ok-write_middle.ensures.lines shown (c.write_first.ensures.reads.shows shown shows))) here.put);
       all_alignments = here.all_alignments;
       all_views = here.all_views;
+      passing = here.passing;
+      lacking = here.lacking;
     })
     c.write_last.ensures.last

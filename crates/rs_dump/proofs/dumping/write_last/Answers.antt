@@ -1,10 +1,11 @@
 -- One section after the other, and what was left out.
-use Rattle.std.proofs.Common.{◌≡◌, ◌∙◌, List, [], ap, map, subst, sym}
+use Rattle.std.proofs.Common.{◌≡◌, ◌∙◌, List, [], ap, inl, inr, map, subst, sym}
 use Rattle.std.specs.FinMap as names
+use Rattle.arrayvec.specs.ArrayString.{ArrayString}
 use Rattle.rs_catalog.specs.Definitions.{Definitions, ViewItem}
 use Rattle.rs_dump.specs.Alignments.{fitting, too_long}
 use Rattle.rs_dump.specs.Sections.{index_commands}
-use Rattle.rs_dump.specs.Views.{AreInTurn, HasAllViews, Known, names_of, view_of}
+use Rattle.rs_dump.specs.Views.{AreInTurn, HasAllThatPass, HasAllViews, Known, LacksSome, names_of, view_of}
 use Rattle.rs_dump_laws.specs.Dump.{alignment_command}
 use Rattle.rs_facts.specs.Fact.{Name}
 use Rattle.rs_facts.specs.Query.{Piece}
@@ -23,7 +24,8 @@ pub returns-clause-last : goal.returns-clause-last
 returns-clause-last g c =
     let definitions = g.H.Held.catalog c.args.held.now in
     let referents = g.H.Held.referents c.args.held.now in
-    let sorted = c.in_ok-lacks_views.ensures.views.1 in
+    let wrote = c.in_ok-lacks_views.ensures.views in
+    let sorted = wrote.sorted in
     let left : names_of c.deref-2.result.now ≡ long_in definitions = ap names_of c.deref-2.ensures.value ∙ c.in_ok-left_out.ensures.left ∙ ap long_in c.catalog.ensures in
     let known_is : record { definitions = c.catalog-2.result.now; referents = c.referents.result.now; left_out = names_of c.deref-2.result.now }
     ≡ record { definitions = definitions; referents = referents; left_out = long_in definitions } =
@@ -40,5 +42,15 @@ returns-clause-last g c =
           (sym (c.in_ok-left_out.ensures.left ∙ ap long_in c.catalog.ensures) ∙ ap names_of (sym c.deref.ensures.value ∙ c.tell_left_out-lacks_alignments.ensures.none (c.lacks_some.ensures.alignments is)));
       all_views = λ is.
           subst (λ (d : Definitions). HasAllViews d (map (λ (view : Name × ViewItem). view.0) sorted.views)) c.catalog-2.ensures
-          (subst (λ (those : List Name). HasAllViews c.catalog-2.result.now those) (sym sorted.named) (c.in_ok-lacks_views.ensures.views.2 (c.lacks_some.ensures.views is)));
+          (subst (λ (those : List Name). HasAllViews c.catalog-2.result.now those) (sym sorted.named) (wrote.all (c.lacks_some.ensures.views is)));
+      passing = subst (λ (known : Known). HasAllThatPass known (map (λ (view : Name × ViewItem). view.0) sorted.views)) known_is
+          (subst (λ (those : List Name). HasAllThatPass record { definitions = c.catalog-2.result.now; referents = c.referents.result.now; left_out = names_of c.deref-2.result.now } those)
+          (sym sorted.named) wrote.passing);
+      lacking = λ is. elim (c.lacks_some.ensures.lacking is) [
+        | inl long ↦ inl (λ none. c.tell_left_out-lacks_alignments.ensures.some long
+            (c.deref.ensures.value ∙ nothing_seen (λ (name : ArrayString). name.bytes) c.in_ok-left_out.left_out.items
+            (c.in_ok-left_out.ensures.left ∙ ap long_in c.catalog.ensures ∙ ap (map (λ (entry : Name × List Piece). entry.0)) none)))
+        | inr missing ↦ inr (subst (λ (d : Definitions). LacksSome d (map (λ (view : Name × ViewItem). view.0) sorted.views)) c.catalog-2.ensures
+            (subst (λ (those : List Name). LacksSome c.catalog-2.result.now those) (sym sorted.named) (wrote.lacking missing)))
+      ];
     }

@@ -1,14 +1,22 @@
 -- One view after the other.
-use Rattle.std.proofs.Common.{◌∙◌, ap, subst, sym}
-use Rattle.std.specs.List.{AllByRecursion}
+use Rattle.std.proofs.Common.{◌∙◌, ap}
 use Rattle.rs_catalog.specs.Names.{entries_by_bytes}
-use Rattle.rs_catalog.proofs.Names.{each_entry}
-use Rattle.rs_dump_laws.specs.Parts.{IsUnder}
+use Rattle.rs_dump.proofs.Rounds.{round_begins, round_ends, round_goes_on}
 use Rattle.rs_dump.proofs.views.write_ready.Goals as goal
 
 pub loop-name-init : goal.loop-name-init
 loop-name-init g c =
-    let views = c.args.defined.now.catalog.now.views in record {
-      under = subst (AllByRecursion (IsUnder views)) (sym (ap (entries_by_bytes (λ view. view)) c.into_iter-name-iterator.ensures.into_iter_gives ∙ c.views-name-items.ensures)) (each_entry views);
-      sorted = λ before sorted. sorted;
-    }
+    round_begins c.args.defined.now c.args.sorted.now (entries_by_bytes (λ view. view) c.into_iter-name-iterator.result) (g.W.Write.contents c.args.output.now)
+    (ap (entries_by_bytes (λ view. view)) c.into_iter-name-iterator.ensures.into_iter_gives ∙ c.views-name-items.ensures)
+
+pub loop-name-preserved : goal.loop-name-preserved
+loop-name-preserved g c =
+    round_goes_on c.args.defined.now c.args.sorted.now c.loop-name.sorted c.write_one.new.sorted (entries_by_bytes (λ view. view) c.loop-name.name-iterator)
+    (entries_by_bytes (λ view. view) c.next.new.self) (c.in-Some.name.now.bytes, c.in-Some.view.now) (g.W.Write.contents c.args.output.now) (g.W.Write.contents c.loop-name.output)
+    (g.W.Write.contents c.write_one.new.output) (ap (entries_by_bytes (λ view. view)) c.in-Some.ensures.steps) c.loop-name.invariant c.in_ok-write_one.ensures.goes
+    c.in_ok-write_one.ensures.lacks
+
+pub returns-clause-passing : goal.returns-clause-passing
+returns-clause-passing g c =
+    round_ends c.args.defined.now c.args.sorted.now c.loop-name.sorted (entries_by_bytes (λ view. view) c.loop-name.name-iterator) (g.W.Write.contents c.args.output.now)
+    (g.W.Write.contents c.loop-name.output) (ap (entries_by_bytes (λ view. view)) c.in-None.ensures.steps.0) c.loop-name.invariant

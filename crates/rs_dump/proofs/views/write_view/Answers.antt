@@ -1,28 +1,65 @@
--- The view passes, and may come after those that were written.
-use Rattle.std.proofs.Common.{ℕ, List, subst, sym}
+-- The view passes, and may come after those that were written; or it is refused.
+use Rattle.std.proofs.Common.{ℕ, ◌≡◌, ◌∙◌, ◌∷◌, List, [], Err, append-nil, inl, inr, subst, sym}
 use Rattle.std.specs.Io.KnownBytes.{Appends}
 use Rattle.arrayvec.specs.ArrayString.{ArrayString}
+use Rattle.rs_catalog.specs.Definitions.{Rest, state_from}
+use Rattle.rs_catalog.specs.Referents.{referents_on}
 use Rattle.rs_checker.specs.CheckedView.{query_of}
-use Rattle.rs_dump.specs.Views.{IsSorted, PassesNow, known_of, names_of}
+use Rattle.rs_dump.specs.Views.{AreRefused, IsRefused, IsSorted, PassesNow, known_of, left_out_as, names_of}
 use Rattle.rs_dump.specs.Written.{line_bytes}
+use Rattle.rs_facts.specs.Runs.{Stretch}
+use Rattle.rs_machine.specs.Checking.{checked}
 use Rattle.rs_syntax.specs.QueryView.{query_tree}
 use Rattle.rs_syntax.specs.Tree.{define_view}
 use Rattle.rs_syntax.specs.declared.queries.Query.{Query}
+use Rattle.rs_dump.proofs.Rounds.{grows_not, lacks_refused, refused_more}
 use Rattle.rs_dump.proofs.Viewed.{sorted_more}
 use Rattle.rs_dump.proofs.views.write_view.Goals as goal
 
 pub returns-in_ok-push-in-Ok : goal.returns-in_ok-push-in-Ok
-returns-in_ok-push-in-Ok g c = λ before sorted.
+returns-in_ok-push-in-Ok g c =
     let defined = c.args.defined.now in
-    let name = c.args.entry.0.now in
-    let item = c.args.entry.1.now in
+    let name = c.args.name.now in
+    let item = c.args.view.now in
     let written = c.args.sorted.now.written.items in
     let passes : PassesNow defined.catalog.now defined.referents.now (query_tree item.query) =
     subst (λ (query : Query). PassesNow defined.catalog.now defined.referents.now (query_tree query)) c.query.ensures
     (record { each = λ spans_on rest. (query_of c.in-Ok._checked.query, (c.in-Ok.ensures.ok spans_on rest).is) }) in
     let put : Appends (g.W.Write.contents c.args.output.now) (g.W.Write.contents c.put_view.new.output) (line_bytes (define_view name.bytes (query_tree item.query) item.text)) =
     subst (λ (text : List ℕ). Appends (g.W.Write.contents c.args.output.now) (g.W.Write.contents c.put_view.new.output) (line_bytes (define_view name.bytes (query_tree item.query) text))) c.text.ensures
-    (c.in_ok-put_view-in-Ok.ensures (query_tree item.query)) in
-    subst (λ (items : List ArrayString). IsSorted (known_of defined) (names_of items) before (g.W.Write.contents c.put_view.new.output)) (sym c.in_ok-push-in-Ok.ensures.items)
-    (sorted_more (known_of defined) written name item before (g.W.Write.contents c.args.output.now) (g.W.Write.contents c.put_view.new.output) sorted
-    (record { there = c.requires.there; once = c.requires.once; ready = c.requires.ready; passes = passes }) put)
+    (c.in_ok-put_view-in-Ok.ensures (query_tree item.query)) in record {
+      goes = record {
+        sorted = λ before sorted.
+            subst (λ (items : List ArrayString). IsSorted (known_of defined) (names_of items) before (g.W.Write.contents c.put_view.new.output)) (sym c.in_ok-push-in-Ok.ensures.items)
+            (sorted_more (known_of defined) written name item before (g.W.Write.contents c.args.output.now) (g.W.Write.contents c.put_view.new.output) sorted
+            (record { there = c.requires.there; once = c.requires.once; ready = c.requires.ready; passes = passes }) put);
+        grows = record { more = name ∷ []; is = c.in_ok-push-in-Ok.ensures.items };
+        refusals = λ are. are;
+      };
+      lacks = λ same. absurd (grows_not written name (sym c.in_ok-push-in-Ok.ensures.items ∙ same));
+    }
+
+pub returns-in_ok-note_refusal-in-Err : goal.returns-in_ok-note_refusal-in-Err
+returns-in_ok-note_refusal-in-Err g c =
+    let defined = c.args.defined.now in
+    let known = known_of defined in
+    let name = c.args.name.now in
+    let item = c.args.view.now in
+    let written = c.args.sorted.now.written.items in
+    let noted = c.in_ok-note_refusal-in-Err.ensures in
+    let why = c.in-Err.refusal in
+    let each : (spans_on : ℕ → ℕ → List Stretch) (rest : Rest)
+    → checked (state_from defined.catalog.now (referents_on defined.referents.now) spans_on rest) (query_tree item.query) ≡ Err why =
+    elim c.in-Err.ensures.refused [
+      | inl want ↦ absurd (noted.known want)
+      | inr each ↦ subst (λ (query : Query). (spans_on : ℕ → ℕ → List Stretch) (rest : Rest)
+          → checked (state_from defined.catalog.now (referents_on defined.referents.now) spans_on rest) (query_tree query) ≡ Err why) c.query.ensures each
+    ] in
+    let is : IsRefused known name.bytes = record { view = item; there = c.requires.there; why = why; each = each } in record {
+      goes = record {
+        sorted = λ before sorted. subst (λ (items : List ArrayString). IsSorted known (names_of items) before (g.W.Write.contents c.args.output.now)) (sym noted.written) sorted;
+        grows = record { more = []; is = noted.written ∙ sym (append-nil written) };
+        refusals = λ are. subst (AreRefused known) (sym noted.refused) (refused_more known c.args.sorted.now.refused.items (left_out_as name why) is are);
+      };
+      lacks = λ same. lacks_refused known (names_of written) name.bytes item c.requires.there is;
+    }

@@ -25,10 +25,10 @@ returns-in-Ok-clause-opens g c = λ honest.
     let now = c.open_pages.new.pager in
     let loaded = c.in-Ok.loaded in
     let opened = c.in_ok-pager.ensures.opened honest in
-    let state = opens_state d c.args.limit content first c.in_ok-pager.ensures.fresh c.in_ok-pager.ensures.same opened now loaded.file loaded.catalog loaded.referents
+    let state = opens_state d c.args.limit content first c.in_ok-pager.ensures.fresh c.in_ok-pager.ensures.same opened now loaded.file loaded.catalog loaded.referents true
     c.open_pages.ensures.leaves (c.in-Ok.ensures.loads opened.tied)
     (subst (λ (c : Content). c.byte FLAG_OFFSET ≡ 0) (c.in_ok-pager.ensures.seen honest) (c.in-Ok.ensures.closed opened.tied.honest))
-    (c.in-Ok.ensures.marked opened.tied.honest) in
+    (λ is. c.in-Ok.ensures.marked opened.tied.honest) in
     subst (λ (s : StoreState g.row.D.Denot). Opens d c.args.limit c.args.disk (Ok s)) (sym c.store_of.ensures) (opens_ok d c.args.limit c.args.disk _ state)
 
 pub returns-in-Err-clause-opens : goal.returns-in-Err-clause-opens

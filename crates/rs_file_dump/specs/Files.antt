@@ -1,0 +1,44 @@
+-- What is shown of a file that is dumped, and what a dump of a disk is.
+use Rattle.std.specs.Prelude.{◌≡◌, ◌-◌, ◌^◌, ℕ, Bool, IfSome, List, Option, None}
+use Rattle.std.specs.FinMap as names
+use Rattle.rs_catalog.specs.Definitions.{Definitions, Numbered}
+use Rattle.rs_catalog.specs.Referents.{HeldReferents, referents_on}
+use Rattle.rs_disk.specs.Content.{Content}
+use Rattle.rs_disk.specs.declared.disk.Disk as disk
+use Rattle.rs_dump.specs.Dumped.{WroteAll, WroteTable}
+use Rattle.rs_dump.specs.Shown.{Shown}
+use Rattle.rs_dump.specs.States.{IsStateOf}
+use Rattle.rs_event_reads.specs.Read.{spans_in}
+use Rattle.rs_event_reads.specs.declared.window.RouteWindow.{RouteWindow}
+use Rattle.rs_facts.specs.Fact.{Name}
+use Rattle.rs_machine.specs.State.{State}
+use Rattle.rs_standing.specs.Seen.{events_of}
+use Rattle.rs_store.specs.Kept.{StandsIn, StoreState}
+use Rattle.rs_store.specs.Standing.{Stands}
+use Rattle.rs_value.specs.declared.column.Kind.{Kind}
+
+-- all of a route at a version
+abbrev pub whole_route : Kind → ℕ → ℕ → RouteWindow
+whole_route kind version route = record { kind = kind; version = version; route = route; from = 0; to = 2 ^ 32 - 1 }
+
+module _ {D : Type 0} (d : disk.Ghosts D) where
+  -- The store stands in a state. What is shown are the referents in memory, and the spans that the version accepted last sees.
+  pub record ShowsFile (store : StoreState D) (shown : Shown) : Type 0 where
+    pub oldest : ℕ
+    pub state : State
+    pub stands : StandsIn d oldest store state
+    pub referents : (route : ℕ) → shown.referents route ≡ names.entries (referents_on store.referents route)
+    pub spans : (table : ℕ) (kind : Kind) (route : ℕ)
+        → shown.spans table kind route ≡ spans_in (whole_route kind store.file.accepted route) (events_of stands.contents table)
+
+-- The disk stands for a state, whose definitions, referents and spans are these. Of them was written what was wanted: all, with or without
+-- rows, or one table.
+pub record DumpsDisk (limit : ℕ) (content : Content) (table : Option Name) (omits_rows lacks : Bool) (before after : Option (List ℕ)) : Type 0 where
+  pub state : State
+  pub stood : Stands limit content state
+  pub definitions : Definitions
+  pub held : Numbered HeldReferents
+  pub shown : Shown
+  pub is : IsStateOf definitions held shown state
+  pub all : table ≡ None → WroteAll definitions held shown omits_rows lacks before after
+  pub one : IfSome table (λ name. WroteTable definitions shown omits_rows name before after)

@@ -1,0 +1,52 @@
+//! The dump of the file that a disk holds.
+
+ghost use Rattle.std.specs.Prelude.{◌≡◌, false, IfOk, IsTrue, None};
+ghost use Rattle.std.specs.Option.{option_map};
+ghost use Rattle.rs_dump.specs.States.{IsDumped};
+ghost use Rattle.rs_file_dump.specs.Files.{DumpsDisk};
+ghost use Rattle.rs_machine.specs.State.{State};
+ghost use Rattle.rs_pages.specs.declared.pages.TheConstants.{GREATEST_LIMIT};
+ghost use Rattle.rs_store.specs.Standing.{Stands};
+
+use crate::held::HeldFile;
+use rs_disk::Disk;
+use rs_dump::laws::what_is_written_is_a_dump;
+use rs_dump::{Stop, Wanted, dump};
+use rs_event_reads::laws::spans_within_hold_what_the_table_holds;
+use rs_pages::GREATEST_LIMIT;
+use rs_store::Store;
+use rs_store::laws::{state_of_a_disk_is_lawful, store_stands_in_one_state};
+use std::alloc::Global;
+use std::io::Write;
+
+/// Writes the lines that rebuild what the file on the disk holds, and says whether something was told and left out. The file is read and
+/// checked as a whole first: it is refused with 94 where it is damaged, with 95 where it was not closed, and with 90 or 91. The disk is
+/// handed back as it was, whatever is answered.
+pub fn dump_disk<D: Disk, W: Write, E: Write>(
+    alloc: Global,
+    disk: D,
+    wanted: Wanted<'_>,
+    output: &mut W,
+    errors: &mut E,
+) -> (D, Result<bool, Stop>)
+    ensures honesty { D.is_honest result.0 ≡ D.is_honest disk }
+    ensures seen { IsTrue (D.is_honest disk) → D.seen result.0 ≡ D.seen disk }
+    ensures quiet { IfOk result.1 (λ lacks. lacks ≡ false → E.contents errors.new ≡ E.contents errors.old) }
+    ensures dumps { IsTrue (D.is_honest disk) → IfOk result.1 (λ lacks.
+        DumpsDisk GREATEST_LIMIT (D.seen disk) (option_map (λ t. t.now) wanted.entry.table) wanted.entry.omits_rows lacks (W.contents output.old) (W.contents output.new)) }
+    ensures whole { IsTrue (D.is_honest disk) → wanted.entry.table ≡ None → wanted.entry.omits_rows ≡ false → IfOk result.1 (λ lacks.
+        (state : State) × Stands GREATEST_LIMIT (D.seen disk) state × IsDumped state lacks (W.contents output.old) (W.contents output.new)) }
+{
+    what_is_written_is_a_dump();
+    spans_within_hold_what_the_table_holds();
+    store_stands_in_one_state::<D>();
+    state_of_a_disk_is_lawful();
+    match Store::look(alloc, disk, GREATEST_LIMIT) {
+        Ok(store) => {
+            let mut held = HeldFile { store };
+            let ended = dump(alloc, &mut held, wanted, output, errors);
+            (held.store.into_disk(), ended)
+        }
+        Err((disk, refusal)) => (disk, Err(Stop::Refused(refusal))),
+    }
+}

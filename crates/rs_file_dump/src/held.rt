@@ -1,0 +1,74 @@
+//! The file that is dumped: its definitions and its referents in memory, and what its pages say of each route.
+
+ghost use Rattle.std.specs.Prelude.{◌≡◌};
+ghost use Rattle.rs_file_dump.specs.Files.{whole_route};
+
+use rs_catalog::{Catalog, RouteReferents};
+use rs_disk::Disk;
+use rs_dump::{Held, NamedRoute, NamedTable};
+use rs_event_reads::RouteWindow;
+use rs_facts::Span;
+use rs_methods::Referent;
+use rs_refusal::Refusal;
+use rs_store::Store;
+use rs_value::Kind;
+use std::alloc::Global;
+
+/// The store of a file that is only read.
+#[derive(Drop)]
+pub struct HeldFile<D: Disk> {
+    pub(crate) store: Store<D>,
+}
+
+impl<D: Disk> Held for HeldFile<D> {
+    ghost use Rattle.rs_file_dump.specs.Files.{ShowsFile};
+    ghost use Rattle.rs_store.specs.Reading.{ReadsStore};
+
+    ghost catalog = { λ held. held.store.catalog };
+
+    ghost referents = { λ held. held.store.referents };
+
+    ghost shows = { λ held shown. ShowsFile D.Disk held.store shown };
+
+    ghost passes = { λ old new. ReadsStore D.Disk old.store new.store };
+
+    fn catalog(&self) -> &Catalog {
+        self.store.catalog()
+    }
+
+    fn referents(&self) -> &RouteReferents {
+        self.store.referents()
+    }
+
+    fn listed_referents(
+        &mut self,
+        alloc: Global,
+        route: &NamedRoute,
+    ) -> Result<Vec<Referent>, Refusal> {
+        self.store.listed_referents(alloc, route.number)
+    }
+
+    fn listed_spans(
+        &mut self,
+        alloc: Global,
+        table: &NamedTable,
+        route: &NamedRoute,
+    ) -> Result<Vec<Span>, Refusal> {
+        let window = whole_route(table.kind, self.store.accepted(), route.number);
+        let (spans, _reads) = self.store.spans(alloc, table.number, window)?;
+        Ok(spans)
+    }
+}
+
+/// All of a route at a version.
+fn whole_route(kind: Kind, version: u64, route: u32) -> RouteWindow
+    ensures { result ≡ whole_route kind version route }
+{
+    RouteWindow {
+        kind,
+        version,
+        route,
+        from: 0,
+        to: u32::MAX,
+    }
+}
