@@ -23,7 +23,7 @@ import subprocess
 import sys
 import tempfile
 from collections import Counter
-from functools import partial
+from functools import lru_cache, partial
 from itertools import chain, islice, repeat
 from multiprocessing import Pool
 from typing import NamedTuple
@@ -41,6 +41,7 @@ SHARED_MEMORY = "/dev/shm"
 BATCH = 25  # files that a process compares before it gives its counts
 LONGEST_RUN = 120  # seconds
 MOST_PRINTED = 20  # differences
+MOST_STATES = 2_000  # of which a process keeps what is asked of them
 MOST_LINES = 12  # of a state or a reply that is printed
 
 SAID = {
@@ -151,15 +152,22 @@ def text_of(data):
 
 
 class Asked:
-    """What is asked of a state. Many files in a row stand for the same one."""
+    """A state, by all that can be said of it. Many files stand for the same one."""
 
-    def __init__(self):
-        self.state, self.exchanges = None, []
+    def __init__(self, state):
+        self.state, self.said = state, tuple(lines_of(state))
 
-    def exchanges_for(self, state):
-        if state != self.state:
-            self.state, self.exchanges = state, exchanges_of(state)
-        return self.exchanges
+    def __eq__(self, other):
+        return self.said == other.said
+
+    def __hash__(self):
+        return hash(self.said)
+
+
+@lru_cache(maxsize=MOST_STATES)
+def exchanges_for(asked):
+    """What is asked of a state."""
+    return exchanges_of(asked.state)
 
 
 class Compared(NamedTuple):
@@ -169,7 +177,7 @@ class Compared(NamedTuple):
 
 def compare(path, cases):
     """Compares what is said of some files."""
-    counts, faults, asked = Counter(), [], Asked()
+    counts, faults = Counter(), []
     folder = SHARED_MEMORY if os.path.isdir(SHARED_MEMORY) else None
     with tempfile.TemporaryDirectory(prefix="roadseg-files-", dir=folder) as folder:
         program = Program(path, os.path.join(folder, "file"))
@@ -177,17 +185,17 @@ def compare(path, cases):
             found = read(case.data)
             counts[found.answer] += 1
             try:
-                counts["lines"] += compare_one(program, case, found, asked)
+                counts["lines"] += compare_one(program, case, found)
             except Differs as differs:
                 faults.append("%s: %s%s" % (case.title, differs, " (%s)" % found.why if found.why else ""))
     return Compared(counts, faults)
 
 
-def compare_one(program, case, found, asked):
+def compare_one(program, case, found):
     """Compares what is said of a file: how many lines were answered."""
     if case.wanted not in (None, found.answer):
         raise Differs("the slow reader says %s, and %s is wanted" % (text_of(found.answer), text_of(case.wanted)))
-    exchanges = asked.exchanges_for(found.state) if found.state else []
+    exchanges = exchanges_for(Asked(found.state)) if found.state else []
     program.put(case.data)
     program.compare(exchanges or [UNANSWERED], found.answer)
     if program.bytes() != case.data:

@@ -6,7 +6,7 @@ mod ListedBack
 mod ListedChanges
 mod ListedForth
 mod ListedMaps
-mod MeantReferents
+pub mod MeantReferents
 mod MeantViews
 mod OneRoute
 mod PositionsThere

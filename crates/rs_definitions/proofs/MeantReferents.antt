@@ -1,4 +1,4 @@
--- Which referents are on a route, where those of a version are meant beside the routes.
+-- Which referents are on a route, where those of a version are meant beside the routes, and that names are texts.
 use Rattle.std.proofs.Common.{◌≡◌, ◌<◌, ◌==◌, ℕ, zero, suc, Bool, true, false, cond, List, [], ◌∷◌, filter, map, get_or, refl, ap, sym, subst, ◌∙◌, arith}
 use Rattle.std.specs.List.{AllByRecursion, Contains, list_all, list_any}
 use Rattle.std.specs.Str.{IsUtf8}

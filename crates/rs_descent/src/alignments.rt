@@ -18,18 +18,26 @@ use rs_lexer::Token;
 use rs_syntax::written::{WrittenCommand, WrittenPiece};
 use std::alloc::Global;
 
+// A part of a route: its name, and the measures between which it lies.
+#[derive(Clone, Copy)]
+struct WrittenPart {
+    route: Token,
+    from: Token,
+    to: Token,
+}
+
 // route FROM measure TO measure
-fn carried(tokens: &[Token]) -> Result<((Token, Token, Token), &[Token]), Stop<'_>>
+fn carried(tokens: &[Token]) -> Result<(WrittenPart, &[Token]), Stop<'_>>
     ensures begins { Begins carried_form tokens.now result }
-    ensures spelled { IfOk result (λ found. lexemes_of tokens.now ≡ told kinds.Name found.0.0 ∷ mark kinds.From
-        ∷ (measure_lexemes found.0.1 ++ mark kinds.To ∷ (measure_lexemes found.0.2 ++ lexemes_of found.1.now))) }
+    ensures spelled { IfOk result (λ found. lexemes_of tokens.now ≡ told kinds.Name found.0.route ∷ mark kinds.From
+        ∷ (measure_lexemes found.0.from ++ mark kinds.To ∷ (measure_lexemes found.0.to ++ lexemes_of found.1.now))) }
 {
     let (route, rest) = need_text(tokens, TokenKind::Name)?;
     let rest = need_mark(rest, TokenKind::From)?;
     let (from, rest) = measure(rest)?;
     let rest = need_mark(rest, TokenKind::To)?;
     let (to, rest) = measure(rest)?;
-    Ok(((route, from, to), rest))
+    Ok((WrittenPart { route, from, to }, rest))
 }
 
 // INTO route AT measure
@@ -51,12 +59,12 @@ fn piece(tokens: &[Token]) -> Result<(WrittenPiece, &[Token]), Stop<'_>>
     ensures spelled { IfOk result (λ found. lexemes_of tokens.now ≡ piece_lexemes found.0 ++ lexemes_of found.1.now) }
     ensures shorter { IfOk result (λ found. length found.1.now < length tokens.now) }
 {
-    let ((from_route, from, to), rest) = carried(tokens)?;
+    let (part, rest) = carried(tokens)?;
     let ((onto_route, onto), rest) = landing(rest)?;
     let piece = WrittenPiece {
-        from_route,
-        from,
-        to,
+        from_route: part.route,
+        from: part.from,
+        to: part.to,
         onto_route,
         onto,
     };

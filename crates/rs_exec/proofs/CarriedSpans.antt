@@ -11,7 +11,7 @@ use Rattle.rs_value.specs.declared.column.Kind.TheVariants.{Point, Line}
 use Rattle.rs_facts.specs.declared.fact.Span.{Span}
 use Rattle.rs_facts.specs.Fact.{RowSet, none, contains, Places}
 use Rattle.rs_facts.specs.Insert.{within}
-use Rattle.rs_facts.specs.Operators.{merged, carried, windowed}
+use Rattle.rs_facts.specs.Operators.{merged, carried}
 use Rattle.rs_facts.specs.Runs.{Stretch, stretch_cmp, AreOrdered, IsMaximalRun}
 use Rattle.rs_facts.specs.Spans.{seen, places_of}
 use Rattle.rs_facts.proofs.KeptLaws.{every-append}
@@ -19,12 +19,11 @@ use Rattle.rs_facts.proofs.Placing.{within-bounds}
 use Rattle.rs_facts.proofs.Sets.{contains-none, same_rows}
 use Rattle.rs_facts.proofs.SpanLaws.{holds, Covers-from_contains, contains-places_of, contains-append}
 use Rattle.rs_facts.proofs.Carrying.{contains-carried}
-use Rattle.rs_facts.proofs.RowSets.{contains-merged, contains-windowed}
+use Rattle.rs_facts.proofs.RowSets.{contains-merged}
 use Rattle.rs_facts.proofs.RunLaws.{each-at}
 use Rattle.rs_facts.proofs.StretchOrder.{stretch_cmp-less}
 use Rattle.rs_sweep.specs.Lists.{AreSorted, AreWide}
-use Rattle.rs_exec.specs.Carried.{meets, meets_part}
-use Rattle.rs_exec.specs.declared.source.Part.TheVariants as parts
+use Rattle.rs_exec.specs.Carried.{meets}
 
 -- ---- spans that meet a piece
 
@@ -66,23 +65,6 @@ carried-met from to onto xs k = same_rows _ _ (λ row.
       | false ↦ λ e. refl
     ] refl
 
--- nor is it seen inside the part
-pub windowed-met : (from to : ℕ) (xs : List Stretch) (k : ℕ) → windowed from to k (places_of (filter (meets from to) xs) k) ≡ windowed from to k (places_of xs k)
-windowed-met from to xs k = same_rows _ _ (λ row.
-    contains-windowed from to k (places_of (filter (meets from to) xs) k) row
-    ∙ inside row
-    ∙ sym (contains-windowed from to k (places_of xs k) row))
-  where
-    inside : (row : Row) → (within from to k && contains (places_of (filter (meets from to) xs) k) row) ≡ (within from to k && contains (places_of xs k) row)
-    inside row = elim (within from to k) as (λ t. within from to k ≡ t → (t && contains (places_of (filter (meets from to) xs) k) row) ≡ (t && contains (places_of xs k) row)) [
-      | true ↦ λ e.
-          let bounds = within-bounds from to k e in
-          contains-places_of (filter (meets from to) xs) k row
-          ∙ any_met from to row k xs bounds.0 bounds.1
-          ∙ sym (contains-places_of xs k row)
-      | false ↦ λ e. refl
-    ] refl
-
 pub every-met : (P : Stretch → Type 0) (test : Stretch → Bool) (xs : List Stretch) → AllByRecursion P xs → AllByRecursion P (filter test xs)
 every-met P test [] all = tt
 every-met P test (x ∷ xs) all =
@@ -91,11 +73,6 @@ every-met P test (x ∷ xs) all =
       | true ↦ (all.0, rest)
       | false ↦ rest
     ]
-
--- each lies in a whole route
-pub every-whole : (xs : List Stretch) → filter (meets_part parts.Whole) xs ≡ xs
-every-whole [] = refl
-every-whole (x ∷ xs) = ap (λ zs. x ∷ zs) (every-whole xs)
 
 -- one more span at the end
 pub filter-last : (test : Stretch → Bool) (xs : List Stretch) (x : Stretch) → filter test (xs ++ x ∷ []) ≡ filter test xs ++ cond (test x) (x ∷ []) []

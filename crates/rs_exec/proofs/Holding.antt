@@ -19,7 +19,7 @@ use Rattle.rs_plan.specs.declared.plan.PlannedWindow.{PlannedWindow}
 use Rattle.rs_planning.proofs.Operands.{unit_right, overlaid_assoc, line_last, kind_assoc}
 use Rattle.rs_exec.specs.Snapshot.{Snapshots}
 use Rattle.rs_exec.specs.Meaning.{PlanMeaning, rows_together, kinds_together, widths_together, overlay_meaning, window_meaning, seen_through_each}
-use Rattle.rs_exec.specs.Operand.{changed_meaning, paired_meaning, beside_meaning, together_meaning}
+use Rattle.rs_exec.specs.Operand.{changed_meaning, paired_meaning, together_meaning}
 use Rattle.rs_exec.specs.declared.changes.Change.{Change}
 use Rattle.rs_exec.specs.declared.changes.Change.TheVariants as changes
 use Rattle.rs_exec.specs.declared.pairs.Pairing.{Pairing}
@@ -105,11 +105,6 @@ module _ (stands : Snapshots → Type 0) (version : ℕ) where
   paired-held pairing a b (number ∷ numbers) (l ∷ lefts) [] made formed all first second = absurd second
   paired-held pairing a b (number ∷ numbers) (l ∷ lefts) (r ∷ rights) [] formed all first second = absurd all
   paired-held pairing a b (number ∷ numbers) (l ∷ lefts) (r ∷ rights) (m ∷ made) formed all first second = (paired-step stands version number pairing a b (map seen l.items) (map seen r.items) (map seen m.items) formed first.0 second.0 all.0, paired-held pairing a b numbers lefts rights made formed all.1 first.1 second.1)
-
-  -- on one route alone
-  pub held-alone : (plan : PlanMeaning) (route : ℕ) (others : List ℕ) (first : Vec Span Global) (later : List (Vec Span Global)) → others ≡ [] → later ≡ [] → HoldsRows stands version plan route first → AreHeld stands version plan (route ∷ others) (first ∷ later)
-  held-alone plan route others first later alone none held =
-      (held, subst (λ numbers. AreHeld stands version plan numbers later) (sym alone) (subst (AreHeld stands version plan []) (sym none) tt))
 
   -- ---- operands of an OVERLAY, one after another
 
@@ -198,25 +193,6 @@ module _ (stands : Snapshots → Type 0) (version : ℕ) where
     },
     together-laid first others numbers old new held.1 laid.1,
   )
-
-  -- the first two operands are one
-  two-first : (first second : PlanMeaning) (others : List PlanMeaning) (number : ℕ) (new : Vec Span Global) → HoldsRows stands version (together_meaning (beside_meaning first second ∷ others)) number new → HoldsRows stands version (together_meaning (first ∷ second ∷ others)) number new
-  two-first first second others number new held = record {
-    means = λ snapshots there k. held.means snapshots there k ∙ overlaid_assoc (first.rows (snapshots version) number k) (second.rows (snapshots version) number k) (rows_together others (snapshots version) number k);
-    shaped =
-        let same : (first.width + second.width) + widths_together others ≡ first.width + (second.width + widths_together others) = omega arith in
-        subst (λ w. IsShaped (overlaid_kind first.kind (overlaid_kind second.kind (kinds_together others))) w new) same
-        (subst (λ p. IsShaped p ((first.width + second.width) + widths_together others) new) (kind_assoc first.kind second.kind (kinds_together others)) held.shaped);
-  }
-
-  pub together-two : (first second : PlanMeaning) (others : List PlanMeaning) (numbers : List ℕ) (new : List (Vec Span Global)) → AreHeld stands version (together_meaning (beside_meaning first second ∷ others)) numbers new → AreHeld stands version (together_meaning (first ∷ second ∷ others)) numbers new
-  together-two first second others numbers new held =
-      zip-weaker (HoldsRows stands version (together_meaning (beside_meaning first second ∷ others))) (HoldsRows stands version (together_meaning (first ∷ second ∷ others))) numbers new
-      (λ number each holds. two-first first second others number each holds) held
-
-  -- an operand alone
-  pub together-one : (first : PlanMeaning) (numbers : List ℕ) (new : List (Vec Span Global)) → AreHeld stands version first numbers new → AreHeld stands version (together_meaning (first ∷ [])) numbers new
-  together-one first numbers new held = together-laid first [] numbers new new held (laid-none first.kind first.width numbers new (shaped-of first numbers new held))
 
   -- columns are put back
   pub overlay-held : (back : Bor (List ℕ)) (plans : List PlanMeaning) (numbers : List ℕ) (mid new : List (Vec Span Global)) → AreHeld stands version (together_meaning plans) numbers mid
@@ -342,19 +318,6 @@ can-begin stands version first others numbers rows formed held = record {
   fit = formed.few;
   formed = (and_parts first.is_well_formed (list_all (λ (plan : PlanMeaning). plan.is_well_formed) others) formed.each).1;
 }
-
--- the first two operands side by side are one
-pub together-beside : (first second : PlanMeaning) (others : List PlanMeaning) → Together (first ∷ second ∷ others) → Together (beside_meaning first second ∷ others)
-together-beside first second others formed =
-    let few = formed.few in
-    let parts = and_parts first.is_well_formed (second.is_well_formed && list_all (λ (plan : PlanMeaning). plan.is_well_formed) others) formed.each in
-    let later = and_parts second.is_well_formed (list_all (λ (plan : PlanMeaning). plan.is_well_formed) others) parts.1 in
-    record {
-      each =
-          both ((first.is_well_formed && second.is_well_formed) && nat_le (first.width + second.width) COLUMNS) (list_all (λ (plan : PlanMeaning). plan.is_well_formed) others)
-          (both (first.is_well_formed && second.is_well_formed) (nat_le (first.width + second.width) COLUMNS) (both first.is_well_formed second.is_well_formed parts.0 later.0) (is_at_most (first.width + second.width) COLUMNS (omega (arith, few)))) later.1;
-      few = omega (arith, few);
-    }
 
 pub can-lay-next : (plans : List PlanMeaning) (next : PlanMeaning) (others : List PlanMeaning) (numbers : List ℕ) (rows : List (Vec Span Global)) → plans ≡ next ∷ others → CanOverlay plans numbers rows → CanOverlay (next ∷ []) numbers rows
 can-lay-next plans next others numbers rows are can = record {

@@ -12,7 +12,5 @@ mod Same
 mod Plans
 mod Leavings
 mod Holding
-mod TableAlone
 mod OtherRoutes
-mod Siding
 mod InPlace

@@ -18,11 +18,10 @@ use Rattle.rs_plan.specs.declared.plan.Plan.TheVariants as variants
 use Rattle.rs_plan.specs.declared.plan.PlannedWindow.{PlannedWindow}
 use Rattle.rs_plan.specs.PlanView.{conditions_of}
 use Rattle.rs_exec.specs.Elsewhere.{HasNothingOn, BeginsWithNothingOn, windows_step, windows_over, windows_of_first}
-use Rattle.rs_exec.specs.Meaning.{PlanMeaning, meaning_of, meaning_step, rows_together, table_of}
+use Rattle.rs_exec.specs.Meaning.{PlanMeaning, meaning_of, meaning_step, leaf_meaning, rows_together, table_of}
 use Rattle.rs_exec.specs.declared.source.Part.{Part}
 use Rattle.rs_exec.specs.Windows.{AreOff, AreOn}
 use Rattle.rs_exec.proofs.RowLaws.{met-nothing, overlaid-nothing}
-use Rattle.rs_exec.proofs.TableAlone.{leaf-means}
 
 -- windows that leave no part of a route leave nothing of it
 pub nothing-left : (part : Option Part) (is_none : Bool) (windows : List PlannedWindow) (route : ℕ) → is_some part ≡ not is_none → is_none ≡ true → IfNone part (AreOff windows route) → AreOff windows route
@@ -43,6 +42,9 @@ mapped-nothing change = same_rows _ _ (λ row. contains-mapped change none row �
 
 without-nothing : (rows : RowSet) → without none rows ≡ none
 without-nothing rows = same_rows _ _ (λ row. contains-without none rows row ∙ ap (λ t. t && not (contains rows row)) (contains-none row) ∙ sym (contains-none row))
+
+leaf-means : (leaf : Leaf) → meaning_of (variants.Leaf leaf) ≡ leaf_meaning leaf
+leaf-means leaf = ap meaning_of (sym (variants.rolls-Leaf leaf)) ∙ fold-roll-Plan PlanMeaning meaning_step (Plan-F.Leaf leaf)
 
 pub leaf-nothing : (leaf : Leaf) (route : ℕ) → AreOff leaf.windows.items route → HasNothingOn route (variants.Leaf leaf)
 leaf-nothing leaf route off = λ snapshot k.

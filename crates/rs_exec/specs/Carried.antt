@@ -10,19 +10,12 @@ use Rattle.rs_facts.specs.Spans.{seen, places_of, ArePlaced}
 use Rattle.rs_plan.specs.declared.plan.PlannedPiece.{PlannedPiece}
 use Rattle.rs_sweep.specs.Lists.{AreSorted, AreWide}
 use Rattle.rs_exec.specs.declared.carrying.Sources.{Sources}
-use Rattle.rs_exec.specs.declared.source.Part.{Part}
-use Rattle.rs_exec.specs.declared.source.Part.TheVariants as parts
 use Rattle.rs_exec.specs.Meaning.{goes_forwards, transformed}
 use Rattle.rs_exec.specs.Routes.{numbers_of, list_of}
 
 -- some of the span lies from the one on and below the other
 abbrev pub meets : ℕ → ℕ → Stretch → Bool
 meets from to span = nat_lt span.lo to && nat_lt from span.hi
-
--- some of the span lies in the part
-abbrev pub meets_part : Part → Stretch → Bool
-meets_part parts.Whole span = true
-meets_part (parts.Between from to) span = meets from to span
 
 -- ---- the routes from which pieces carry
 

@@ -35,10 +35,6 @@ AreHeld stands version plan numbers rows = AllZip (HoldsRows stands version plan
 abbrev pub AreEvaluated : {S : Type 0} → Ghosts S → S → Routes → PlanMeaning → RowsOn → Type 0
 AreEvaluated source old routes plan = λ rows. AreHeld (source.is old) routes.version plan (numbers_of routes) (list_of rows)
 
--- the plan's rows on the first of them
-abbrev pub AreEvaluatedAlone : {S : Type 0} → Ghosts S → S → Routes → PlanMeaning → Vec Span Global → Type 0
-AreEvaluatedAlone source old routes plan = λ rows. HoldsRows (source.is old) routes.version plan routes.first rows
-
 -- ---- operands of an OVERLAY one after another
 
 -- rows on each of the routes that are together with further operands no wider than a row may be

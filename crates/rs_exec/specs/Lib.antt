@@ -11,6 +11,4 @@ pub mod Windows
 pub mod Carried
 pub mod Operand
 pub mod Agreement
-pub mod Alone
 pub mod Elsewhere
-pub mod Sides

@@ -2,19 +2,18 @@
 //!
 //! A plan is evaluated on one route. Only the operand of a TRANSFORM is evaluated on others: on each route from which a
 //! piece leads onto a route that is asked for, and there are no more of these than pieces. So the cost of a plan grows
-//! with its nodes and with pieces, however deep TRANSFORMs are nested. On one route no row of a table alone is copied where
-//! an operator only reads it and the source lends it.
+//! with its nodes and with pieces, however deep TRANSFORMs are nested. The rows that OVERLAY and COVER read, and those
+//! that MINUS takes away, are lent to the sweeps and not copied.
 
 ghost use Rattle.std.specs.Prelude.{◌≡◌, true, [], ◌∷◌, map, IfOk, IfErr};
 ghost use Rattle.rs_facts.specs.Runs.{AreRunsOf};
 ghost use Rattle.rs_facts.specs.Spans.{seen, ArePlaced};
 ghost use Rattle.rs_sweep.specs.Lists.{AreWide};
 ghost use Rattle.rs_exec.specs.Snapshot.{Snapshots};
-ghost use Rattle.rs_exec.specs.Meaning.{rows_in, kind_in, width_in, is_well_formed, overlay_meaning, cover_meaning, merge_meaning, minus_meaning, transform_meaning, window_meaning};
+ghost use Rattle.rs_exec.specs.Meaning.{rows_in, kind_in, width_in, is_well_formed, overlay_meaning, transform_meaning, window_meaning};
 ghost use Rattle.rs_exec.specs.Leaving.{EndsWith};
-ghost use Rattle.rs_exec.specs.Operand.{operand_meaning, operands_meaning, beside_meaning, together_meaning, changed_meaning, paired_meaning};
-ghost use Rattle.rs_exec.specs.Held.{AreEvaluated, AreEvaluatedAlone, AreLaidOver, IsBeside, AreBeside, CanOverlay};
-ghost use Rattle.rs_exec.specs.Sides.{CanRead, IsSideOf};
+ghost use Rattle.rs_exec.specs.Operand.{operand_meaning, operands_meaning, together_meaning, changed_meaning, paired_meaning};
+ghost use Rattle.rs_exec.specs.Held.{AreEvaluated, AreLaidOver, AreBeside, CanOverlay};
 ghost use Rattle.rs_exec.specs.Routes.{numbers_of, list_of};
 
 use crate::carrying::{Sources, carried_on, sources_of};
@@ -22,12 +21,11 @@ use crate::changes::{Change, are_in_order, changed_on};
 use crate::kinds::kind_of;
 use crate::leaves::leaf_on;
 use crate::operand::{Node, Operand, Operands};
-use crate::pairs::{Pairing, covered, merged, overlaid, paired_on, without};
+use crate::pairs::{Pairing, paired_on};
 use crate::routes::{Routes, RowsOn, are_none, none_on};
-use crate::sides::{Side, is_bare, read, table_lent};
 use crate::source::Source;
 use crate::windows::{cut, part_seen, spread_on};
-use rs_coalesce::{lent, runs};
+use rs_coalesce::runs;
 use rs_facts::Span;
 use rs_plan::{Plan, PlannedPiece, PlannedWindow};
 use rs_refusal::Refusal;
@@ -119,183 +117,10 @@ fn paired_rows<S: Source>(
         (paired_meaning pairing (operand_meaning left.entry) (operand_meaning right.entry))) }
     ensures ends { EndsWith S.Source source.old source.new result }
 {
-    if routes.others.is_empty() {
-        let first = paired_alone(alloc, source, routes, pairing, left, right)?;
-        return Ok(RowsOn {
-            first,
-            others: Vec::new(alloc),
-        });
-    }
     let left_rows = rows_on(alloc, source, routes, left)?;
     let right_rows = rows_on(alloc, source, routes, right)?;
     let paired = paired_on(alloc, pairing, left_rows, right_rows)?;
     Ok(paired)
-}
-
-/// What the rows of two operands make on the first of the routes. An operand that is only read is not copied where it is
-/// a table alone that the source lends; the others are evaluated first.
-#[cycle(rows)]
-fn paired_alone<S: Source>(
-    alloc: Global,
-    source: &mut S,
-    routes: Routes<'_>,
-    pairing: Pairing,
-    left: Operand<'_>,
-    right: Operand<'_>,
-) -> Result<Vec<Span>, Refusal>
-    requires well_formed { (paired_meaning pairing (operand_meaning left) (operand_meaning right)).is_well_formed ≡ true }
-    ensures held { IfOk result (AreEvaluatedAlone S.Source source.old routes.entry
-        (paired_meaning pairing (operand_meaning left.entry) (operand_meaning right.entry))) }
-    ensures ends { EndsWith S.Source source.old source.new result }
-{
-    match pairing {
-        Pairing::Overlay => beside_rows(alloc, source, routes, left, right),
-        Pairing::Cover(left_width, right_width) => {
-            covered_rows(
-                alloc,
-                source,
-                routes,
-                (left_width, right_width),
-                left,
-                right,
-            )
-        }
-        Pairing::Merge => merged_rows(alloc, source, routes, left, right),
-        Pairing::Minus => rows_without(alloc, source, routes, left, right),
-    }
-}
-
-/// The rows of two operands side by side, on the first of the routes, where both are only read. Where the first has none,
-/// the other is not evaluated.
-#[cycle(rows)]
-fn beside_rows<S: Source>(
-    alloc: Global,
-    source: &mut S,
-    routes: Routes<'_>,
-    left: Operand<'_>,
-    right: Operand<'_>,
-) -> Result<Vec<Span>, Refusal>
-    requires well_formed { (beside_meaning (operand_meaning left) (operand_meaning right)).is_well_formed ≡ true }
-    ensures held { IfOk result (AreEvaluatedAlone S.Source source.old routes.entry
-        (beside_meaning (operand_meaning left.entry) (operand_meaning right.entry))) }
-    ensures ends { EndsWith S.Source source.old source.new result }
-{
-    let left_side = side_on(alloc, source, routes, left)?;
-    if is_bare(&*source, &left_side) {
-        return Ok(Vec::new(alloc));
-    }
-    let right_side = side_on(alloc, source, routes, right)?;
-    let lower = read(alloc, &*source, &left_side)?;
-    let upper = read(alloc, &*source, &right_side)?;
-    let spans = overlaid(alloc, &lower, &upper)?;
-    Ok(spans)
-}
-
-/// The same, and where one operand alone has rows, these beside NULLs, for operands of these widths.
-#[cycle(rows)]
-fn covered_rows<S: Source>(
-    alloc: Global,
-    source: &mut S,
-    routes: Routes<'_>,
-    widths: (u8, u8),
-    left: Operand<'_>,
-    right: Operand<'_>,
-) -> Result<Vec<Span>, Refusal>
-    requires well_formed { (cover_meaning widths.0 widths.1 (operand_meaning left) (operand_meaning right)).is_well_formed
-        ≡ true }
-    ensures held { IfOk result (AreEvaluatedAlone S.Source source.old routes.entry
-        (cover_meaning widths.0 widths.1 (operand_meaning left.entry) (operand_meaning right.entry))) }
-    ensures ends { EndsWith S.Source source.old source.new result }
-{
-    let left_side = side_on(alloc, source, routes, left)?;
-    let right_side = side_on(alloc, source, routes, right)?;
-    let lower = read(alloc, &*source, &left_side)?;
-    let upper = read(alloc, &*source, &right_side)?;
-    let spans = covered(alloc, widths.0, widths.1, &lower, &upper)?;
-    Ok(spans)
-}
-
-/// The rows of either of two operands, on the first of the routes.
-#[cycle(rows)]
-fn merged_rows<S: Source>(
-    alloc: Global,
-    source: &mut S,
-    routes: Routes<'_>,
-    left: Operand<'_>,
-    right: Operand<'_>,
-) -> Result<Vec<Span>, Refusal>
-    requires well_formed { (merge_meaning (operand_meaning left) (operand_meaning right)).is_well_formed ≡ true }
-    ensures held { IfOk result (AreEvaluatedAlone S.Source source.old routes.entry
-        (merge_meaning (operand_meaning left.entry) (operand_meaning right.entry))) }
-    ensures ends { EndsWith S.Source source.old source.new result }
-{
-    let left_rows = rows_alone(alloc, source, routes, left)?;
-    let right_rows = rows_alone(alloc, source, routes, right)?;
-    let spans = merged(left_rows, right_rows)?;
-    Ok(spans)
-}
-
-/// The rows of an operand that the other does not have, on the first of the routes. The other is only read.
-#[cycle(rows)]
-fn rows_without<S: Source>(
-    alloc: Global,
-    source: &mut S,
-    routes: Routes<'_>,
-    left: Operand<'_>,
-    right: Operand<'_>,
-) -> Result<Vec<Span>, Refusal>
-    requires well_formed { (minus_meaning (operand_meaning left) (operand_meaning right)).is_well_formed ≡ true }
-    ensures held { IfOk result (AreEvaluatedAlone S.Source source.old routes.entry
-        (minus_meaning (operand_meaning left.entry) (operand_meaning right.entry))) }
-    ensures ends { EndsWith S.Source source.old source.new result }
-{
-    let left_rows = rows_alone(alloc, source, routes, left)?;
-    let right_side = side_on(alloc, source, routes, right)?;
-    let upper = read(alloc, &*source, &right_side)?;
-    let spans = without(alloc, left_rows, &upper)?;
-    Ok(spans)
-}
-
-/// The rows of an operand on the first of the routes.
-#[cycle(rows)]
-fn rows_alone<S: Source>(
-    alloc: Global,
-    source: &mut S,
-    routes: Routes<'_>,
-    operand: Operand<'_>,
-) -> Result<Vec<Span>, Refusal>
-    requires well_formed { (operand_meaning operand).is_well_formed ≡ true }
-    ensures held { IfOk result (AreEvaluatedAlone S.Source source.old routes.entry (operand_meaning operand.entry)) }
-    ensures ends { EndsWith S.Source source.old source.new result }
-{
-    let alone = Routes {
-        version: routes.version,
-        first: routes.first,
-        others: &[],
-    };
-    let rows = rows_on(alloc, source, alone, operand)?;
-    Ok(rows.first)
-}
-
-/// An operand on the first of the routes, to be read only. A table alone that the source lends is not evaluated.
-#[cycle(rows)]
-fn side_on<S: Source>(
-    alloc: Global,
-    source: &mut S,
-    routes: Routes<'_>,
-    operand: Operand<'_>,
-) -> Result<Side, Refusal>
-    requires well_formed { (operand_meaning operand).is_well_formed ≡ true }
-    ensures side { IfOk result (IsSideOf (S.is source.old) routes.entry.version (operand_meaning operand.entry)
-        routes.entry.first) }
-    ensures readable { IfOk result (CanRead S.lends) }
-    ensures ends { EndsWith S.Source source.old source.new result }
-{
-    if let Some(asked) = table_lent(&*source, routes, &operand) {
-        return Ok(Side::Table(asked));
-    }
-    let rows = rows_alone(alloc, source, routes, operand)?;
-    Ok(Side::Made(rows))
 }
 
 /// The rows of several operands side by side, on each of the routes, each column where it belongs.
@@ -338,36 +163,7 @@ fn rows_together<S: Source>(
         (together_meaning (operand_meaning first.entry ∷ operands_meaning others.entry))) }
     ensures ends { EndsWith S.Source source.old source.new result }
 {
-    if routes.others.is_empty() {
-        return together_alone(alloc, source, routes, first, others);
-    }
     let rows = rows_on(alloc, source, routes, first)?;
-    overlaid_with(alloc, source, routes, rows, others)
-}
-
-/// The same on one route, where all operands are only read.
-#[cycle(rows)]
-fn together_alone<S: Source>(
-    alloc: Global,
-    source: &mut S,
-    routes: Routes<'_>,
-    first: Operand<'_>,
-    others: Operands<'_>,
-) -> Result<RowsOn, Refusal>
-    requires alone { routes.others.now ≡ [] }
-    requires well_formed { (together_meaning (operand_meaning first ∷ operands_meaning others)).is_well_formed ≡ true }
-    ensures held { IfOk result (AreEvaluated S.Source source.old routes.entry
-        (together_meaning (operand_meaning first.entry ∷ operands_meaning others.entry))) }
-    ensures ends { EndsWith S.Source source.old source.new result }
-{
-    let Some((second, others)) = others.next() else {
-        return rows_on(alloc, source, routes, first);
-    };
-    let spans = beside_rows(alloc, source, routes, first, second)?;
-    let rows = RowsOn {
-        first: spans,
-        others: Vec::new(alloc),
-    };
     overlaid_with(alloc, source, routes, rows, others)
 }
 
@@ -410,37 +206,9 @@ fn laid_with<S: Source>(
         (numbers_of routes.entry) (list_of rows) (list_of laid)) }
     ensures ends { EndsWith S.Source source.old source.new result }
 {
-    if routes.others.is_empty() {
-        let first = laid_alone(alloc, source, routes, rows.first, next)?;
-        return Ok(RowsOn {
-            first,
-            others: Vec::new(alloc),
-        });
-    }
     let right = rows_on(alloc, source, routes, next)?;
     let paired = paired_on(alloc, Pairing::Overlay, rows, right)?;
     Ok(paired)
-}
-
-/// The same on the first of the routes, where the operand is only read.
-#[cycle(rows)]
-fn laid_alone<S: Source>(
-    alloc: Global,
-    source: &mut S,
-    routes: Routes<'_>,
-    rows: Vec<Span>,
-    next: Operand<'_>,
-) -> Result<Vec<Span>, Refusal>
-    requires can { CanOverlay (operand_meaning next ∷ []) (routes.first ∷ []) (rows ∷ []) }
-    ensures beside { IfOk result (IsBeside (S.is source.old) routes.entry.version (operand_meaning next.entry)
-        (routes.entry.first, rows)) }
-    ensures ends { EndsWith S.Source source.old source.new result }
-{
-    let side = side_on(alloc, source, routes, next)?;
-    let lower = lent(alloc, &rows)?;
-    let upper = read(alloc, &*source, &side)?;
-    let spans = overlaid(alloc, &lower, &upper)?;
-    Ok(spans)
 }
 
 /// What is seen of a plan through all windows, on each of the routes. The plan is evaluated on the windows' route alone,

@@ -4,10 +4,9 @@
 //! once, on a list of routes that is longer than one below a TRANSFORM alone.
 #![tactic(auto)]
 
-pub mod alone;
 mod carrying;
 mod changes;
-pub mod copies;
+mod copies;
 pub mod elsewhere;
 pub mod evaluation;
 pub mod kinds;
@@ -16,12 +15,9 @@ mod leaves;
 mod operand;
 mod pairs;
 mod routes;
-mod sides;
 pub mod source;
 mod windows;
 
-pub use alone::table_alone;
-pub use copies::copies_inside;
 pub use elsewhere::is_elsewhere;
 pub use evaluation::eval;
 pub use kinds::kind_of;

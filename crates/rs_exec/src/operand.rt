@@ -3,16 +3,13 @@
 //! It is given by value and can't be copied: an operand that was evaluated is gone, so that none is evaluated twice.
 
 ghost use Rattle.std.specs.Prelude.{◌≡◌, [], ◌∷◌, IfSome, IfNone};
-ghost use Rattle.rs_plan.specs.declared.plan.Leaf.{Leaf};
-ghost use Rattle.rs_exec.specs.Alone.{IsTableAlone, IsBareLeaf};
 ghost use Rattle.rs_exec.specs.Meaning.{meaning_of, kind_in};
 ghost use Rattle.rs_exec.specs.Operand.{node_meaning, node_size, size_of};
 
-use crate::alone::table_alone;
 use crate::changes::Change;
 use crate::kinds::kind_of;
 use crate::pairs::Pairing;
-use rs_plan::{Leaf, Plan, PlannedPiece, PlannedTable, PlannedWindow};
+use rs_plan::{Leaf, Plan, PlannedPiece, PlannedWindow};
 use rs_value::Kind;
 
 /// A plan that is still to be evaluated.
@@ -57,14 +54,6 @@ impl<'a> Operand<'a> {
         ensures { result ≡ kind_in self.now.plan.now }
     {
         kind_of(self.plan)
-    }
-
-    /// The table, where it is a table alone.
-    pub(crate) fn table(&self) -> Option<PlannedTable>
-        ensures alone { IfSome result (IsTableAlone self.now.plan.now) }
-        ensures none { IfNone result ((leaf : Leaf) → ¬ IsBareLeaf self.now.plan.now leaf) }
-    {
-        table_alone(self.plan)
     }
 
     /// Its topmost node, with the operands in its place.

@@ -90,11 +90,7 @@ fn paired(
 }
 
 /// Each row of the left before each row of the right.
-pub(crate) fn overlaid(
-    alloc: Global,
-    lower: &[&Span],
-    upper: &[&Span],
-) -> Result<Vec<Span>, AllocError>
+fn overlaid(alloc: Global, lower: &[&Span], upper: &[&Span]) -> Result<Vec<Span>, AllocError>
     requires { CanPairSpans Pairing.Overlay (map seen_lent lower.now) (map seen_lent upper.now) }
     ensures { IfOk result (λ made. ArePaired Pairing.Overlay (map seen_lent lower.now, map seen_lent upper.now)
         (map seen made.items)) }
@@ -104,7 +100,7 @@ pub(crate) fn overlaid(
 }
 
 /// The same, and where one side alone has rows, these beside NULLs, for operands of these widths.
-pub(crate) fn covered(
+fn covered(
     alloc: Global,
     left_width: u8,
     right_width: u8,
@@ -121,7 +117,7 @@ pub(crate) fn covered(
 }
 
 /// The rows of either.
-pub(crate) fn merged(left: Vec<Span>, right: Vec<Span>) -> Result<Vec<Span>, AllocError>
+fn merged(left: Vec<Span>, right: Vec<Span>) -> Result<Vec<Span>, AllocError>
     requires { CanPair Pairing.Merge left right }
     ensures { IfOk result (IsPaired Pairing.Merge (left, right)) }
 {
@@ -130,11 +126,7 @@ pub(crate) fn merged(left: Vec<Span>, right: Vec<Span>) -> Result<Vec<Span>, All
 }
 
 /// The rows of the left that the right does not have.
-pub(crate) fn without(
-    alloc: Global,
-    left: Vec<Span>,
-    upper: &[&Span],
-) -> Result<Vec<Span>, AllocError>
+fn without(alloc: Global, left: Vec<Span>, upper: &[&Span]) -> Result<Vec<Span>, AllocError>
     requires { CanPairSpans Pairing.Minus (map seen left.items) (map seen_lent upper.now) }
     ensures { IfOk result (λ made. ArePaired Pairing.Minus (map seen left.items, map seen_lent upper.now)
         (map seen made.items)) }

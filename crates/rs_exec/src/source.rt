@@ -2,7 +2,7 @@
 //!
 //! Which snapshots it stands for is a relation, since a source may keep what no value of its own shows.
 
-ghost use Rattle.std.specs.Prelude.{◌≡◌, Bool, IfOk, IfErr, IfSome, is_some, map};
+ghost use Rattle.std.specs.Prelude.{IfOk, IfErr, map};
 ghost use Rattle.rs_refusal.specs.declared.refusal.Refusal.{Refusal};
 ghost use Rattle.rs_facts.specs.Spans.{seen};
 ghost use Rattle.rs_exec.specs.Snapshot.{Snapshots};
@@ -67,9 +67,6 @@ pub trait Source {
     /// Why calls may be refused that begin with the one source and end with the other.
     ghost wants: { Refusal → Self → Self → Type 0 };
 
-    /// Whether sources of this type keep tables as spans, so that they lend each of them.
-    ghost lends: { Bool };
-
     /// The spans of the rows of a table within a part of a route, in any order. Rows outside the part may be among them. A
     /// refusal leaves the source as it was for what it stands for.
     fn spans(&mut self, alloc: Global, asked: &Asked, part: Part) -> Result<Vec<Span>, Refusal>
@@ -91,12 +88,6 @@ pub trait Source {
         ensures stays { (snapshots : Snapshots) → is self.old snapshots → is self.new snapshots }
         ensures passes { passes self.old self.new }
         ensures wants { IfErr result (λ why. wants why self.old self.new) };
-
-    /// The spans of the rows of a table on a whole route, in any order, lent: no row is copied. A source that doesn't keep
-    /// tables as spans answers None, whatever the table, and is asked for copies.
-    fn lent(&self, asked: &Asked) -> Option<&[Span]>
-        ensures gives { IfSome result (λ spans. AreGiven (is self.now) asked.now Part.Whole (map seen spans.now)) }
-        ensures always { is_some result ≡ lends };
 
     /// The place of the column that the index of this number is of. It is a hint: a wrong one costs time alone.
     fn indexed_column(&self, index: u32) -> Option<u8>;

@@ -10,7 +10,6 @@ pub mod Listed
 pub mod Loaded
 pub mod Marks
 pub mod MayGo
-pub mod MeantReferents
 pub mod Numbered
 pub mod OneState
 pub mod Placed

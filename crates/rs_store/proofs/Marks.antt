@@ -12,7 +12,7 @@ use Rattle.std.proofs.lemmas.Bool.Decides.{nat_tests}
 use Rattle.std.proofs.lemmas.List.{map-append}
 use Rattle.rs_catalog.proofs.NameOrder.{name_cmp-antisymmetric, name_cmp-total}
 use Rattle.rs_definitions.specs.Referents.{IsSpan}
-use Rattle.rs_store.proofs.MeantReferents.{has_number, none_elsewhere}
+use Rattle.rs_definitions.proofs.MeantReferents.{has_number, none_elsewhere}
 use Rattle.rs_facts.specs.Fact.{Name, name_cmp}
 use Rattle.rs_machine.specs.Lawful.{AreDistinct}
 use Rattle.rs_methods.specs.Referents.{mark_of}

@@ -26,7 +26,7 @@ pub use conditions::meets;
 pub use covering::cover;
 pub use difference::minus;
 pub use filter::select;
-pub use order::{sort_by_place, sort_lent};
+pub use order::sort_by_place;
 pub use overlaying::overlay;
 pub use shifting::shift;
 pub use union::merge;

@@ -2,7 +2,6 @@
 
 ghost use Rattle.std.specs.Prelude.{◌≡◌, IsPermutation, map};
 ghost use Rattle.rs_facts.specs.Spans.{seen};
-ghost use Rattle.rs_coalesce.specs.Lent.{seen_lent};
 ghost use Rattle.rs_sweep.specs.Lists.{AreSorted};
 
 use rs_facts::Span;
@@ -13,12 +12,4 @@ pub fn sort_by_place(spans: &mut Vec<Span>)
     ensures sorted { AreSorted (map seen spans.new.items) }
 {
     spans.sort_unstable_by(|left, right| left.lo.cmp(&right.lo));
-}
-
-/// Sorts lent spans by where they begin. It takes no memory.
-pub fn sort_lent(lent: &mut Vec<&Span>)
-    ensures moved { IsPermutation lent.old.items lent.new.items }
-    ensures sorted { AreSorted (map seen_lent lent.new.items) }
-{
-    lent.sort_unstable_by(|left, right| left.lo.cmp(&right.lo));
 }

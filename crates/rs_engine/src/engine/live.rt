@@ -24,7 +24,7 @@ pub struct LiveStore<D: Disk> {
 }
 
 impl<D: Disk> Source for LiveStore<D> {
-    ghost use Rattle.std.specs.Prelude.{false, refl};
+    ghost use Rattle.std.specs.Prelude.{refl};
     ghost use Rattle.std.proofs.Common.{◌∙◌, inl};
     ghost use Rattle.rs_engine.specs.Living.{wants_from_later};
     ghost use Rattle.rs_engine.specs.Reads.{ReadsFrom, WantsFrom};
@@ -36,8 +36,6 @@ impl<D: Disk> Source for LiveStore<D> {
     ghost passes = { λ old new. ReadsFrom D.Disk old.oldest old.store new.oldest new.store };
 
     ghost wants = { λ why old new. WantsFrom D.Disk why old.oldest old.store new.store };
-
-    ghost lends = { false };
 
     fn spans(&mut self, alloc: Global, asked: &Asked, part: Part) -> Result<Vec<Span>, Refusal> {
         spans_asked(alloc, &mut self.store, self.oldest, asked, part)
@@ -51,10 +49,6 @@ impl<D: Disk> Source for LiveStore<D> {
         sought: SoughtValue<'_>,
     ) -> Result<Vec<Span>, Refusal> {
         spans_of_value_asked(alloc, &mut self.store, self.oldest, asked, part, sought)
-    }
-
-    fn lent(&self, _asked: &Asked) -> Option<&[Span]> {
-        None
     }
 
     fn indexed_column(&self, index: u32) -> Option<u8> {

@@ -2,21 +2,18 @@
 use Rattle.std.proofs.Common.{◌≡◌, ◌∙◌, true, List, [], ◌∷◌, map, sym, ap, subst, rules}
 use Rattle.std.proofs.lemmas.Result.{IfOk-weaker}
 use Rattle.std.specs.Prelude.{IfOk}
-use Rattle.rs_coalesce.specs.Lent.{seen_lent}
 use Rattle.rs_facts.specs.Spans.{seen}
 use Rattle.rs_exec.specs.Carried.{AreSourcesOf}
 use Rattle.rs_exec.specs.Held.{AreHeld, CanOverlay, AreLaidOver}
 use Rattle.rs_exec.specs.Meaning.{PlanMeaning, meaning_of}
-use Rattle.rs_exec.specs.Operand.{operand_meaning, operands_meaning, node_meaning, beside_meaning, together_meaning}
-use Rattle.rs_exec.specs.Pairs.{ArePaired}
+use Rattle.rs_exec.specs.Operand.{operand_meaning, operands_meaning, node_meaning, together_meaning}
 use Rattle.rs_exec.specs.Routes.{numbers_of, list_of}
 use Rattle.rs_exec.specs.declared.pairs.Pairing.TheVariants as pairings
 use Rattle.rs_exec.proofs.Leading.{pieces-forwards, transform-none, can-carry, carried-held}
 use Rattle.rs_exec.proofs.Leavings.{leaves-then}
 use Rattle.rs_exec.proofs.Lists.{empty}
-use Rattle.rs_exec.proofs.Siding.{read-lent, can-pair-one, can-lay-one, bare-beside}
-use Rattle.rs_exec.proofs.Steps.{formed-pair, paired-step, earlier-one}
-use Rattle.rs_exec.proofs.Holding.{earlier, laid-earlier, can-pair, shaped-of, shaped-length, in-order, changed-held, paired-held, held-alone, laid-none, laid-bare, laid-next, beside-one, beside-held, together-laid, together-two, together-one, overlay-held, overlay-stays, formed-overlay, seen-held, window-none, formed-together, Together, together, together-beside, can-begin, can-lay-next, can-pair-next, can-go-on}
+use Rattle.rs_exec.proofs.Steps.{formed-pair}
+use Rattle.rs_exec.proofs.Holding.{earlier, laid-earlier, can-pair, shaped-of, shaped-length, in-order, changed-held, paired-held, laid-none, laid-bare, laid-next, beside-held, together-laid, overlay-held, overlay-stays, formed-overlay, seen-held, window-none, formed-together, together, can-begin, can-lay-next, can-pair-next, can-go-on}
 use Rattle.rs_exec.proofs.evaluation.+rows.Goals as goal
 
 -- ---- operators of one operand
@@ -55,60 +52,6 @@ paired_rows-returns-clause-ends g t c = record {
   wants = tt;
 }
 
--- ---- operands that are only read
-
-pub beside_rows-returns-then-is_bare-clause-held : goal.beside_rows-returns-then-is_bare-clause-held
-beside_rows-returns-then-is_bare-clause-held g t c =
-    bare-beside (g.S.Source.is c.args.source.now) (g.S.Source.is c.side_on.new.source) c.args.routes.version (operand_meaning c.args.left) (operand_meaning c.args.right) c.args.routes.first c.in_ok-left_side.left_side c.new.result c.in_ok-left_side.ensures.ends.leaves.stands c.in_ok-left_side.ensures.side (c.is_bare.ensures c.if-is_bare.true) c.new.ensures.items
-
-pub beside_rows-overlaid-requires : goal.beside_rows-overlaid-requires
-beside_rows-overlaid-requires g t c =
-    can-pair-one (g.S.Source.is c.args.source.now) c.args.routes.version c.args.routes.first pairings.Overlay (operand_meaning c.args.left) (operand_meaning c.args.right) (map seen_lent c.deref.result.now) (map seen_lent c.deref-2.result.now) c.requires.well_formed
-    (read-lent (g.S.Source.is c.args.source.now) (g.S.Source.is c.args.source.now) (g.S.Source.is c.side_on-2.new.source) c.args.routes.version (operand_meaning c.args.left) c.args.routes.first c.in_ok-left_side.left_side c.deref.result.now c.in_ok-lower.lower (λ snapshots there. there) (λ snapshots there. c.in_ok-right_side.ensures.ends.leaves.stands snapshots (c.in_ok-left_side.ensures.ends.leaves.stands snapshots there)) c.deref.ensures.value c.in_ok-left_side.ensures.side c.in_ok-lower.ensures)
-    (read-lent (g.S.Source.is c.args.source.now) (g.S.Source.is c.side_on.new.source) (g.S.Source.is c.side_on-2.new.source) c.args.routes.version (operand_meaning c.args.right) c.args.routes.first c.in_ok-right_side.right_side c.deref-2.result.now c.in_ok-upper.upper c.in_ok-left_side.ensures.ends.leaves.stands c.in_ok-right_side.ensures.ends.leaves.stands c.deref-2.ensures.value c.in_ok-right_side.ensures.side c.in_ok-upper.ensures)
-
-pub beside_rows-returns-clause-held : goal.beside_rows-returns-clause-held
-beside_rows-returns-clause-held g t c =
-    paired-step (g.S.Source.is c.args.source.now) c.args.routes.version c.args.routes.first pairings.Overlay (operand_meaning c.args.left) (operand_meaning c.args.right) (map seen_lent c.deref.result.now) (map seen_lent c.deref-2.result.now) (map seen c.in_ok-spans.spans.items) c.requires.well_formed
-    (read-lent (g.S.Source.is c.args.source.now) (g.S.Source.is c.args.source.now) (g.S.Source.is c.side_on-2.new.source) c.args.routes.version (operand_meaning c.args.left) c.args.routes.first c.in_ok-left_side.left_side c.deref.result.now c.in_ok-lower.lower (λ snapshots there. there) (λ snapshots there. c.in_ok-right_side.ensures.ends.leaves.stands snapshots (c.in_ok-left_side.ensures.ends.leaves.stands snapshots there)) c.deref.ensures.value c.in_ok-left_side.ensures.side c.in_ok-lower.ensures)
-    (read-lent (g.S.Source.is c.args.source.now) (g.S.Source.is c.side_on.new.source) (g.S.Source.is c.side_on-2.new.source) c.args.routes.version (operand_meaning c.args.right) c.args.routes.first c.in_ok-right_side.right_side c.deref-2.result.now c.in_ok-upper.upper c.in_ok-left_side.ensures.ends.leaves.stands c.in_ok-right_side.ensures.ends.leaves.stands c.deref-2.ensures.value c.in_ok-right_side.ensures.side c.in_ok-upper.ensures)
-    c.in_ok-spans.ensures
-
-pub covered_rows-returns-in_err-spans-clause-ends : goal.covered_rows-returns-in_err-spans-clause-ends
-covered_rows-returns-in_err-spans-clause-ends g t c =
-    let both = leaves-then g.S.Source g.met.S.Source.passes_trans c.args.source.now c.side_on.new.source c.side_on-2.new.source c.in_ok-left_side.ensures.ends.leaves c.in_ok-right_side.ensures.ends.leaves in
-    let wanted = g.met.S.Source.wants_memory c.args.source.now c.side_on-2.new.source both.passes in
-    record { leaves = both; wants = search rules }
-
-pub covered_rows-covered-requires : goal.covered_rows-covered-requires
-covered_rows-covered-requires g t c =
-    can-pair-one (g.S.Source.is c.args.source.now) c.args.routes.version c.args.routes.first (pairings.Cover c.args.widths.0 c.args.widths.1) (operand_meaning c.args.left) (operand_meaning c.args.right) (map seen_lent c.deref.result.now) (map seen_lent c.deref-2.result.now) c.requires.well_formed
-    (read-lent (g.S.Source.is c.args.source.now) (g.S.Source.is c.args.source.now) (g.S.Source.is c.side_on-2.new.source) c.args.routes.version (operand_meaning c.args.left) c.args.routes.first c.in_ok-left_side.left_side c.deref.result.now c.in_ok-lower.lower (λ snapshots there. there) (λ snapshots there. c.in_ok-right_side.ensures.ends.leaves.stands snapshots (c.in_ok-left_side.ensures.ends.leaves.stands snapshots there)) c.deref.ensures.value c.in_ok-left_side.ensures.side c.in_ok-lower.ensures)
-    (read-lent (g.S.Source.is c.args.source.now) (g.S.Source.is c.side_on.new.source) (g.S.Source.is c.side_on-2.new.source) c.args.routes.version (operand_meaning c.args.right) c.args.routes.first c.in_ok-right_side.right_side c.deref-2.result.now c.in_ok-upper.upper c.in_ok-left_side.ensures.ends.leaves.stands c.in_ok-right_side.ensures.ends.leaves.stands c.deref-2.ensures.value c.in_ok-right_side.ensures.side c.in_ok-upper.ensures)
-
-pub covered_rows-returns-clause-held : goal.covered_rows-returns-clause-held
-covered_rows-returns-clause-held g t c =
-    paired-step (g.S.Source.is c.args.source.now) c.args.routes.version c.args.routes.first (pairings.Cover c.args.widths.0 c.args.widths.1) (operand_meaning c.args.left) (operand_meaning c.args.right) (map seen_lent c.deref.result.now) (map seen_lent c.deref-2.result.now) (map seen c.in_ok-spans.spans.items) c.requires.well_formed
-    (read-lent (g.S.Source.is c.args.source.now) (g.S.Source.is c.args.source.now) (g.S.Source.is c.side_on-2.new.source) c.args.routes.version (operand_meaning c.args.left) c.args.routes.first c.in_ok-left_side.left_side c.deref.result.now c.in_ok-lower.lower (λ snapshots there. there) (λ snapshots there. c.in_ok-right_side.ensures.ends.leaves.stands snapshots (c.in_ok-left_side.ensures.ends.leaves.stands snapshots there)) c.deref.ensures.value c.in_ok-left_side.ensures.side c.in_ok-lower.ensures)
-    (read-lent (g.S.Source.is c.args.source.now) (g.S.Source.is c.side_on.new.source) (g.S.Source.is c.side_on-2.new.source) c.args.routes.version (operand_meaning c.args.right) c.args.routes.first c.in_ok-right_side.right_side c.deref-2.result.now c.in_ok-upper.upper c.in_ok-left_side.ensures.ends.leaves.stands c.in_ok-right_side.ensures.ends.leaves.stands c.deref-2.ensures.value c.in_ok-right_side.ensures.side c.in_ok-upper.ensures)
-    c.in_ok-spans.ensures
-
-pub merged_rows-returns-clause-held : goal.merged_rows-returns-clause-held
-merged_rows-returns-clause-held g t c =
-    paired-step (g.S.Source.is c.args.source.now) c.args.routes.version c.args.routes.first pairings.Merge (operand_meaning c.args.left) (operand_meaning c.args.right) (map seen c.in_ok-left_rows.left_rows.items) (map seen c.in_ok-right_rows.right_rows.items) (map seen c.in_ok-spans.spans.items) c.requires.well_formed c.in_ok-left_rows.ensures.held
-    (earlier-one (g.S.Source.is c.args.source.now) (g.S.Source.is c.rows_alone.new.source) c.args.routes.version c.args.routes.first (operand_meaning c.args.right) c.in_ok-right_rows.right_rows c.in_ok-left_rows.ensures.ends.leaves.stands c.in_ok-right_rows.ensures.held) c.in_ok-spans.ensures
-
-pub rows_without-without-requires : goal.rows_without-without-requires
-rows_without-without-requires g t c =
-    can-pair-one (g.S.Source.is c.args.source.now) c.args.routes.version c.args.routes.first pairings.Minus (operand_meaning c.args.left) (operand_meaning c.args.right) (map seen c.in_ok-left_rows.left_rows.items) (map seen_lent c.deref.result.now) c.requires.well_formed c.in_ok-left_rows.ensures.held
-    (read-lent (g.S.Source.is c.args.source.now) (g.S.Source.is c.rows_alone.new.source) (g.S.Source.is c.side_on.new.source) c.args.routes.version (operand_meaning c.args.right) c.args.routes.first c.in_ok-right_side.right_side c.deref.result.now c.in_ok-upper.upper c.in_ok-left_rows.ensures.ends.leaves.stands c.in_ok-right_side.ensures.ends.leaves.stands c.deref.ensures.value c.in_ok-right_side.ensures.side c.in_ok-upper.ensures)
-
-pub rows_without-returns-clause-held : goal.rows_without-returns-clause-held
-rows_without-returns-clause-held g t c =
-    paired-step (g.S.Source.is c.args.source.now) c.args.routes.version c.args.routes.first pairings.Minus (operand_meaning c.args.left) (operand_meaning c.args.right) (map seen c.in_ok-left_rows.left_rows.items) (map seen_lent c.deref.result.now) (map seen c.in_ok-spans.spans.items) c.requires.well_formed c.in_ok-left_rows.ensures.held
-    (read-lent (g.S.Source.is c.args.source.now) (g.S.Source.is c.rows_alone.new.source) (g.S.Source.is c.side_on.new.source) c.args.routes.version (operand_meaning c.args.right) c.args.routes.first c.in_ok-right_side.right_side c.deref.result.now c.in_ok-upper.upper c.in_ok-left_rows.ensures.ends.leaves.stands c.in_ok-right_side.ensures.ends.leaves.stands c.deref.ensures.value c.in_ok-right_side.ensures.side c.in_ok-upper.ensures)
-    c.in_ok-spans.ensures
-
 -- ---- operands of an OVERLAY
 
 pub overlaid_rows-rows_together-requires : goal.overlaid_rows-rows_together-requires
@@ -144,30 +87,6 @@ rows_together-returns-clause-held g t c =
     IfOk-weaker c.overlaid_with.result _ _ (λ rows laid.
     together-laid (g.S.Source.is c.args.source.now) c.args.routes.version (operand_meaning c.args.first) (operands_meaning c.args.others) (numbers_of c.args.routes) (list_of c.in_ok-rows.rows) (list_of rows) c.in_ok-rows.ensures.held
     (laid-earlier (g.S.Source.is c.args.source.now) (g.S.Source.is c.rows_on.new.source) c.args.routes.version (operands_meaning c.args.others) (numbers_of c.args.routes) (list_of c.in_ok-rows.rows) (list_of rows) c.in_ok-rows.ensures.ends.leaves.stands laid)) c.overlaid_with.ensures.laid
-
-pub together_alone-returns-in_default-clause-held : goal.together_alone-returns-in_default-clause-held
-together_alone-returns-in_default-clause-held g t c =
-    IfOk-weaker c.rows_on.result _ _ (λ rows held.
-    subst (λ (plans : List PlanMeaning). AreHeld (g.S.Source.is c.args.source.now) c.args.routes.version (together_meaning ((operand_meaning c.args.first) ∷ plans)) (numbers_of c.args.routes) (list_of rows)) (sym (ap (map meaning_of) c.in_default.ensures.end))
-    (together-one (g.S.Source.is c.args.source.now) c.args.routes.version (operand_meaning c.args.first) (numbers_of c.args.routes) (list_of rows) held)) c.rows_on.ensures.held
-
-pub together_alone-overlaid_with-requires : goal.together_alone-overlaid_with-requires
-together_alone-overlaid_with-requires g t c κs within =
-    let formed : Together ((operand_meaning c.args.first) ∷ (operand_meaning c.in-Some.second) ∷ (operands_meaning c.in-Some.others)) =
-    subst (λ (plans : List PlanMeaning). Together ((operand_meaning c.args.first) ∷ plans)) (ap (map meaning_of) c.in-Some.ensures.first) (together ((operand_meaning c.args.first) ∷ (operands_meaning c.args.others)) c.requires.well_formed) in
-    let can : CanOverlay (operands_meaning c.in-Some.others) (numbers_of c.args.routes) (c.in_ok-spans.spans ∷ c.new.result.items) =
-    can-begin (g.S.Source.is c.args.source.now) c.args.routes.version (beside_meaning (operand_meaning c.args.first) (operand_meaning c.in-Some.second)) (operands_meaning c.in-Some.others) (numbers_of c.args.routes) (c.in_ok-spans.spans ∷ c.new.result.items) (together-beside (operand_meaning c.args.first) (operand_meaning c.in-Some.second) (operands_meaning c.in-Some.others) formed)
-    (held-alone (g.S.Source.is c.args.source.now) c.args.routes.version (beside_meaning (operand_meaning c.args.first) (operand_meaning c.in-Some.second)) c.args.routes.first c.args.routes.others.now c.in_ok-spans.spans c.new.result.items c.requires.alone c.new.ensures.items c.in_ok-spans.ensures.held) in
-    search rules
-
-pub together_alone-returns-clause-held : goal.together_alone-returns-clause-held
-together_alone-returns-clause-held g t c =
-    IfOk-weaker c.overlaid_with.result _ _ (λ rows laid.
-    subst (λ (plans : List PlanMeaning). AreHeld (g.S.Source.is c.args.source.now) c.args.routes.version (together_meaning ((operand_meaning c.args.first) ∷ plans)) (numbers_of c.args.routes) (list_of rows)) (sym (ap (map meaning_of) c.in-Some.ensures.first))
-    (together-two (g.S.Source.is c.args.source.now) c.args.routes.version (operand_meaning c.args.first) (operand_meaning c.in-Some.second) (operands_meaning c.in-Some.others) (numbers_of c.args.routes) (list_of rows)
-    (together-laid (g.S.Source.is c.args.source.now) c.args.routes.version (beside_meaning (operand_meaning c.args.first) (operand_meaning c.in-Some.second)) (operands_meaning c.in-Some.others) (numbers_of c.args.routes) (c.in_ok-spans.spans ∷ c.new.result.items) (list_of rows)
-    (held-alone (g.S.Source.is c.args.source.now) c.args.routes.version (beside_meaning (operand_meaning c.args.first) (operand_meaning c.in-Some.second)) c.args.routes.first c.args.routes.others.now c.in_ok-spans.spans c.new.result.items c.requires.alone c.new.ensures.items c.in_ok-spans.ensures.held)
-    (laid-earlier (g.S.Source.is c.args.source.now) (g.S.Source.is c.beside_rows.new.source) c.args.routes.version (operands_meaning c.in-Some.others) (numbers_of c.args.routes) (c.in_ok-spans.spans ∷ c.new.result.items) (list_of rows) c.in_ok-spans.ensures.ends.leaves.stands laid)))) c.overlaid_with.ensures.laid
 
 pub overlaid_with-returns-then-are_none-clause-laid : goal.overlaid_with-returns-then-are_none-clause-laid
 overlaid_with-returns-then-are_none-clause-laid g t c =
@@ -208,17 +127,6 @@ pub laid_with-returns-clause-beside : goal.laid_with-returns-clause-beside
 laid_with-returns-clause-beside g t c =
     beside-held (g.S.Source.is c.args.source.now) c.args.routes.version (operand_meaning c.args.next) (numbers_of c.args.routes) (list_of c.args.rows) (list_of c.in_ok-right.right) (list_of c.in_ok-paired.paired) c.in_ok-right.ensures.held c.in_ok-paired.ensures
     (shaped-length c.requires.can.kind c.requires.can.width (numbers_of c.args.routes) (list_of c.args.rows) c.requires.can.shaped)
-
-pub laid_alone-overlaid-requires : goal.laid_alone-overlaid-requires
-laid_alone-overlaid-requires g t c =
-    can-lay-one (g.S.Source.is c.args.source.now) c.args.routes.version c.args.routes.first (operand_meaning c.args.next) c.args.rows (map seen_lent c.deref-2.result.now) (map seen_lent c.deref-3.result.now) (ap (map seen_lent) c.deref-2.ensures.value ∙ c.in_ok-lower.ensures ∙ ap (map seen) c.deref.ensures.value) c.requires.can
-    (read-lent (g.S.Source.is c.args.source.now) (g.S.Source.is c.args.source.now) (g.S.Source.is c.side_on.new.source) c.args.routes.version (operand_meaning c.args.next) c.args.routes.first c.in_ok-side.side c.deref-3.result.now c.in_ok-upper.upper (λ snapshots there. there) c.in_ok-side.ensures.ends.leaves.stands c.deref-3.ensures.value c.in_ok-side.ensures.side c.in_ok-upper.ensures)
-
-pub laid_alone-returns-clause-beside : goal.laid_alone-returns-clause-beside
-laid_alone-returns-clause-beside g t c =
-    beside-one (g.S.Source.is c.args.source.now) c.args.routes.version (operand_meaning c.args.next) c.args.routes.first c.args.rows (map seen_lent c.deref-3.result.now) c.in_ok-spans.spans
-    (read-lent (g.S.Source.is c.args.source.now) (g.S.Source.is c.args.source.now) (g.S.Source.is c.side_on.new.source) c.args.routes.version (operand_meaning c.args.next) c.args.routes.first c.in_ok-side.side c.deref-3.result.now c.in_ok-upper.upper (λ snapshots there. there) c.in_ok-side.ensures.ends.leaves.stands c.deref-3.ensures.value c.in_ok-side.ensures.side c.in_ok-upper.ensures)
-    (subst (λ lower. ArePaired pairings.Overlay (lower, (map seen_lent c.deref-3.result.now)) (map seen c.in_ok-spans.spans.items)) (ap (map seen_lent) c.deref-2.ensures.value ∙ c.in_ok-lower.ensures ∙ ap (map seen) c.deref.ensures.value) c.in_ok-spans.ensures)
 
 -- ---- by the topmost node
 

@@ -6,29 +6,8 @@ use Rattle.rs_exec.proofs.evaluation.+rows.Given as goal
 abbrev pub decreases-rows_on : goal.decreases-rows_on
 decreases-rows_on g l = 8 * operand_size l.operand
 
-abbrev pub decreases-rows_alone : goal.decreases-rows_alone
-decreases-rows_alone g l = 8 * operand_size l.operand + 1
-
-abbrev pub decreases-side_on : goal.decreases-side_on
-decreases-side_on g l = 8 * operand_size l.operand + 2
-
 abbrev pub decreases-changed_rows : goal.decreases-changed_rows
 decreases-changed_rows g l = 8 * operand_size l.operand + 1
-
-abbrev pub decreases-beside_rows : goal.decreases-beside_rows
-decreases-beside_rows g l = 8 * (operand_size l.left + operand_size l.right) + 3
-
-abbrev pub decreases-covered_rows : goal.decreases-covered_rows
-decreases-covered_rows g l = 8 * (operand_size l.left + operand_size l.right) + 3
-
-abbrev pub decreases-merged_rows : goal.decreases-merged_rows
-decreases-merged_rows g l = 8 * (operand_size l.left + operand_size l.right) + 3
-
-abbrev pub decreases-rows_without : goal.decreases-rows_without
-decreases-rows_without g l = 8 * (operand_size l.left + operand_size l.right) + 3
-
-abbrev pub decreases-paired_alone : goal.decreases-paired_alone
-decreases-paired_alone g l = 8 * (operand_size l.left + operand_size l.right) + 4
 
 abbrev pub decreases-paired_rows : goal.decreases-paired_rows
 decreases-paired_rows g l = 8 * (operand_size l.left + operand_size l.right) + 5
@@ -39,17 +18,11 @@ decreases-overlaid_rows g l = 8 * operands_size l.operands
 abbrev pub decreases-rows_together : goal.decreases-rows_together
 decreases-rows_together g l = 8 * (operand_size l.first + operands_size l.others) + 7
 
-abbrev pub decreases-together_alone : goal.decreases-together_alone
-decreases-together_alone g l = 8 * (operand_size l.first + operands_size l.others) + 6
-
 abbrev pub decreases-overlaid_with : goal.decreases-overlaid_with
 decreases-overlaid_with g l = 8 * operands_size l.operands
 
 abbrev pub decreases-laid_with : goal.decreases-laid_with
 decreases-laid_with g l = 8 * operand_size l.next + 4
-
-abbrev pub decreases-laid_alone : goal.decreases-laid_alone
-decreases-laid_alone g l = 8 * operand_size l.next + 3
 
 abbrev pub decreases-seen_rows : goal.decreases-seen_rows
 decreases-seen_rows g l = 8 * operand_size l.operand + 1

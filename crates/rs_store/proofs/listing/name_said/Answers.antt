@@ -1,5 +1,5 @@
 -- A name is a text.
-use Rattle.rs_store.proofs.MeantReferents.{name_utf8}
+use Rattle.rs_definitions.proofs.MeantReferents.{name_utf8}
 use Rattle.rs_store.proofs.listing.name_said.Goals as goal
 
 pub returns-in-Err-clause-none : goal.returns-in-Err-clause-none

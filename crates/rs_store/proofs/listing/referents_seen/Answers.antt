@@ -4,7 +4,7 @@ use Rattle.std.specs.List.{AllByRecursion, AllZip}
 use Rattle.std.specs.Prelude.{IfOk}
 use Rattle.std.proofs.lemmas.Result.{err_from_is_err_and}
 use Rattle.rs_definitions.specs.Referents.{IsSpan, OfThose}
-use Rattle.rs_store.proofs.MeantReferents.{all_referents}
+use Rattle.rs_definitions.proofs.MeantReferents.{all_referents}
 use Rattle.rs_methods.specs.Referents.{mark_of}
 use Rattle.rs_methods.specs.declared.referents.Referent.{Referent}
 use Rattle.rs_pages.specs.PageMap.{PageMap}
