@@ -1,1 +1,3 @@
 mod Outputs
+mod Headers
+mod Readers

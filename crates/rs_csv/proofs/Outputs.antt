@@ -1,16 +1,21 @@
 -- What was written so far, and what is made of it by one more step.
-use Rattle.std.proofs.Common.{◌≡◌, ◌∙◌, ℕ, Bool, true, List, [], ◌∷◌, ◌++◌, Option, Some, None, refl, sym, ap, subst, inl, inr, append_assoc, append-nil}
+use Rattle.std.proofs.Common.{◌≡◌, ◌∙◌, ℕ, Bool, true, false, List, [], ◌∷◌, ◌++◌, Option, Some, None, refl, sym, ap, subst, inl, inr, append_assoc, append-nil}
 use Rattle.std.specs.Prelude.{◌⊎◌, IfSome, MatchResult, OnErr, OnOk, Result, Ok, Err}
 use Rattle.std.specs.Io.KnownBytes.{Appends, Keeps}
 use Rattle.std.proofs.KnownBytes.{Appends-trans, Keeps-refl, Keeps-trans}
 use Rattle.std.proofs.lemmas.Bool.{false≢true}
+use Rattle.csv.specs.Records.{fields_of}
 use Rattle.rs_protocol.specs.Puts.{PutsBut}
 use Rattle.rs_syntax.specs.Tree.{CommandTree, define_route}
 use Rattle.rs_machine.specs.Request.{Asks, command}
 use Rattle.rs_csv_lines.specs.declared.plan.Plan.{Plan}
 use Rattle.rs_csv_lines.specs.Inserts.{IsInsertOf}
+use Rattle.rs_csv.specs.declared.filter.Planned.{Planned}
 use Rattle.rs_csv.specs.declared.filter.Progress.{Progress}
-use Rattle.rs_csv.specs.Output.{IsPlanOf, AreLines, nothing, definition_line, route_line, insert_line, GoesOn, Makes, IsOutput, IsQuiet, plan_in, AreLinesOf, SoFar, Wrote, WroteAll}
+use Rattle.rs_csv.specs.declared.filter.Wanted.{Wanted}
+use Rattle.rs_csv.specs.declared.made.Made.{Made}
+use Rattle.rs_csv.specs.Reading.{AreRead, ReadsAll, one_more_text}
+use Rattle.rs_csv.specs.Output.{IsPlanOf, IsPlanned, AreLines, nothing, definition_line, route_line, insert_line, left_out, GoesOn, Makes, IsMade, IsMadeIn, IsOutput, IsQuiet, SoFar, Wrote, WroteAll}
 
 -- ---- the errors stream
 
@@ -29,185 +34,279 @@ quiet_trans one two three a b c first second quiet =
     let before = first later.0 in
     (before.0, Keeps-trans a b c before.1 later.1)
 
+-- what was told stays told
+abbrev pub Stays : Bool → Bool → Type 0
+Stays told now = now ≡ false → told ≡ false
+
+pub stays_quiet : (told now : Bool) (a b : Option (List ℕ)) → IsQuiet told now a b → Stays told now
+stays_quiet told now a b quiet is = (quiet is).0
+
+pub stays_told : (told now : Bool) → now ≡ true → Stays told now
+stays_told told now is off = absurd (false≢true (sym off ∙ is))
+
+pub stays_same : (told now : Bool) → now ≡ told → Stays told now
+stays_same told now same off = sym same ∙ off
+
+now_told : (told now : Bool) → Stays told now → told ≡ true → now ≡ true
+now_told told true stays is = refl
+now_told told false stays is = absurd (false≢true (sym (stays refl) ∙ is))
+
 -- ---- lines
 
-module _ (session : ℕ) (table : CommandTree) where
+module _ (session : ℕ) (table : CommandTree) (plan : Plan) where
   joined : (before old line : List ℕ) → (before ++ old) ++ line ++ 10 ∷ [] ≡ before ++ (old ++ line ++ 10 ∷ [])
   joined before old line = ap (λ bs. bs ++ 10 ∷ []) (append_assoc before old line) ∙ append_assoc before (old ++ line) (10 ∷ [])
 
-  pub same_goes : (plan : Plan) (old new : List ℕ) → new ≡ old → GoesOn session table plan old new
-  same_goes plan old new is before lines = subst (λ bs. AreLines session table plan (before ++ bs)) (sym is) lines
+  moved : (told : Bool) {records others : List (List (List ℕ))} {bytes more : List ℕ} → records ≡ others → bytes ≡ more → AreLines session table plan told records bytes → AreLines session table plan told others more
+  moved told {records} {others} {bytes} {more} same is lines = subst (λ rs. AreLines session table plan told rs more) same (subst (λ bs. AreLines session table plan told records bs) is lines)
 
-  pub goes_trans : (plan : Plan) (a b c : List ℕ) → GoesOn session table plan a b → GoesOn session table plan b c → GoesOn session table plan a c
-  goes_trans plan a b c first second before lines = second before (first before lines)
-
-  pub insert_goes : (plan : Plan) (old new line : List ℕ) (fields : List (List ℕ)) (tree : CommandTree) → new ≡ old ++ line ++ 10 ∷ [] → IsInsertOf plan fields tree → Asks line (command session tree) → GoesOn session table plan old new
-  insert_goes plan old new line fields tree is inserts asks before lines =
-      subst (AreLines session table plan) (joined before old line ∙ ap (λ bs. before ++ bs) (sym is)) (insert_line fields line tree lines inserts asks)
-
-  pub definition_goes : (plan : Plan) (old new line : List ℕ) → new ≡ old ++ line ++ 10 ∷ [] → Asks line (command session table) → GoesOn session table plan old new
-  definition_goes plan old new line is asks before lines = subst (AreLines session table plan) (joined before old line ∙ ap (λ bs. before ++ bs) (sym is)) (definition_line line lines asks)
+  pub lines_told : (told now : Bool) {records : List (List (List ℕ))} {bytes : List ℕ} → Stays told now → AreLines session table plan told records bytes → AreLines session table plan now records bytes
+  lines_told told now stays nothing = nothing
+  lines_told told now stays (definition_line line more asks) = definition_line line (lines_told told now stays more) asks
+  lines_told told now stays (route_line line name start finish more asks) = route_line line name start finish (lines_told told now stays more) asks
+  lines_told told now stays (insert_line fields line tree more inserts asks) = insert_line fields line tree (lines_told told now stays more) inserts asks
+  lines_told told now stays (left_out fields more is) = left_out fields (lines_told told now stays more) (now_told told now stays is)
 
   -- lines, and more of them
-  pub lines_join : (plan : Plan) (a : List ℕ) {b : List ℕ} → AreLines session table plan a → AreLines session table plan b → AreLines session table plan (a ++ b)
-  lines_join plan a first nothing = subst (AreLines session table plan) (sym (append-nil a)) first
-  lines_join plan a first (definition_line {bytes} line more asks) = subst (AreLines session table plan) (joined a bytes line) (definition_line line (lines_join plan a first more) asks)
-  lines_join plan a first (route_line {bytes} line name start finish more asks) = subst (AreLines session table plan) (joined a bytes line) (route_line line name start finish (lines_join plan a first more) asks)
-  lines_join plan a first (insert_line {bytes} fields line tree more inserts asks) = subst (AreLines session table plan) (joined a bytes line) (insert_line fields line tree (lines_join plan a first more) inserts asks)
+  pub lines_join : (told : Bool) (records : List (List (List ℕ))) (a : List ℕ) {others : List (List (List ℕ))} {b : List ℕ} → AreLines session table plan told records a → AreLines session table plan told others b
+      → AreLines session table plan told (records ++ others) (a ++ b)
+  lines_join told rows a first nothing = moved told (sym (append-nil rows)) (sym (append-nil a)) first
+  lines_join told rows a first (definition_line {records} {bytes} line more asks) = moved told refl (joined a bytes line) (definition_line line (lines_join told rows a first more) asks)
+  lines_join told rows a first (route_line {records} {bytes} line name start finish more asks) =
+      moved told refl (joined a bytes line) (route_line line name start finish (lines_join told rows a first more) asks)
+  lines_join told rows a first (insert_line {records} {bytes} fields line tree more inserts asks) =
+      moved told (append_assoc rows records (fields ∷ [])) (joined a bytes line) (insert_line fields line tree (lines_join told rows a first more) inserts asks)
+  lines_join told rows a first (left_out {records} {bytes} fields more is) = moved told (append_assoc rows records (fields ∷ [])) refl (left_out fields (lines_join told rows a first more) is)
 
-  -- ---- plans
+  -- ---- bytes that grow
 
-  pub makes_same : (plan : Option Plan) (old : List ℕ) → Makes session table plan old plan old
-  makes_same None old = refl
-  makes_same (Some plan) old = (refl, same_goes plan old old refl)
+  pub same_goes : (told : Bool) (old new : List ℕ) → new ≡ old → GoesOn session table plan told [] old new
+  same_goes told old new is = record { bytes = []; grown = is ∙ sym (append-nil old); lines = nothing }
 
-  pub makes_trans : (one two three : Option Plan) (a b c : List ℕ) → Makes session table one a two b → Makes session table two b three c → Makes session table one a three c
-  makes_trans None None None a b c first second = second ∙ first
-  makes_trans None None (Some plan) a b c first second = (second.0, goes_trans plan a b c (same_goes plan a b first) second.1)
-  makes_trans None (Some plan) None a b c first second = absurd second
-  makes_trans None (Some plan) (Some other) a b c first second = (
-    subst (IsPlanOf session table) (sym second.0) first.0,
-    goes_trans other a b c (subst (λ p. GoesOn session table p a b) (sym second.0) first.1) (subst (λ p. GoesOn session table p b c) (sym second.0) second.1),
-  )
-  makes_trans (Some plan) None three a b c first second = absurd first
-  makes_trans (Some plan) (Some other) None a b c first second = absurd second
-  makes_trans (Some plan) (Some other) (Some third) a b c first second = (
-    second.0 ∙ first.0,
-    goes_trans plan a b c first.1 (subst (λ p. GoesOn session table p b c) first.0 second.1),
-  )
+  pub left_goes : (told : Bool) (old new : List ℕ) (fields : List (List ℕ)) → new ≡ old → told ≡ true → GoesOn session table plan told (fields ∷ []) old new
+  left_goes told old new fields is out = record { bytes = []; grown = is ∙ sym (append-nil old); lines = left_out fields nothing out }
 
-  pub still_planned : (one two : Option Plan) (a b : List ℕ) → IfSome one (IsPlanOf session table) → Makes session table one a two b → IfSome two (IsPlanOf session table)
-  still_planned None None a b is makes = tt
-  still_planned None (Some plan) a b is makes = makes.0
-  still_planned (Some plan) None a b is makes = tt
-  still_planned (Some plan) (Some other) a b is makes = subst (IsPlanOf session table) (sym makes.0) is
+  pub insert_goes : (told : Bool) (old new line : List ℕ) (fields : List (List ℕ)) (tree : CommandTree) → new ≡ old ++ line ++ 10 ∷ [] → IsInsertOf plan fields tree → Asks line (command session tree)
+      → GoesOn session table plan told (fields ∷ []) old new
+  insert_goes told old new line fields tree is inserts asks = record { bytes = line ++ 10 ∷ []; grown = is ∙ append_assoc old line (10 ∷ []); lines = insert_line fields line tree nothing inserts asks }
 
-  lines_made : (one two : Option Plan) (a b : List ℕ) → Makes session table one a two b → AreLinesOf session table one a → AreLinesOf session table two b
-  lines_made None None a b makes lines = makes ∙ lines
-  lines_made None (Some plan) a b makes lines = (makes.0, makes.1 [] (subst (AreLines session table plan) (sym lines) nothing))
-  lines_made (Some plan) None a b makes lines = absurd makes
-  lines_made (Some plan) (Some other) a b makes lines =
-      (subst (IsPlanOf session table) (sym makes.0) lines.0, subst (λ p. AreLines session table p b) (sym makes.0) (makes.1 [] lines.1))
+  pub definition_goes : (told : Bool) (old new line : List ℕ) → new ≡ old ++ line ++ 10 ∷ [] → Asks line (command session table) → GoesOn session table plan told [] old new
+  definition_goes told old new line is asks = record { bytes = line ++ 10 ∷ []; grown = is ∙ append_assoc old line (10 ∷ []); lines = definition_line line nothing asks }
 
-  -- what was written stands, whatever is made next
-  lines_stand : (one two : Option Plan) (a b sent : List ℕ) → Makes session table one a two b → AreLinesOf session table one sent → AreLinesOf session table two sent
-  lines_stand None None a b sent makes lines = lines
-  lines_stand None (Some plan) a b sent makes lines = (makes.0, subst (AreLines session table plan) (sym lines) nothing)
-  lines_stand (Some plan) None a b sent makes lines = absurd makes
-  lines_stand (Some plan) (Some other) a b sent makes lines = subst (λ p. AreLinesOf session table (Some p) sent) (sym makes.0) lines
+  pub route_goes : (told : Bool) (old new : List ℕ)
+      → (new ≡ old) ⊎ ((line name : List ℕ) × (start finish : ℕ) × Asks line (command session (define_route name start finish)) × (new ≡ old ++ line ++ 10 ∷ [])) → GoesOn session table plan told [] old new
+  route_goes told old new (inl same) = same_goes told old new same
+  route_goes told old new (inr (line, name, start, finish, asks, is)) = record { bytes = line ++ 10 ∷ []; grown = is ∙ append_assoc old line (10 ∷ []); lines = route_line line name start finish nothing asks }
 
-  none_of : (plan : Option Plan) (a : List ℕ) → AreLinesOf session table plan a → AreLinesOf session table plan []
-  none_of None a lines = refl
-  none_of (Some plan) a lines = (lines.0, nothing)
+  pub lines_go : (told : Bool) (records more : List (List (List ℕ))) (old new : List ℕ) → GoesOn session table plan told more old new → AreLines session table plan told records old → AreLines session table plan told (records ++ more) new
+  lines_go told records more old new goes lines = moved told refl (sym goes.grown) (lines_join told records old lines goes.lines)
 
-  join_of : (plan : Option Plan) (a b : List ℕ) → AreLinesOf session table plan a → AreLinesOf session table plan b → AreLinesOf session table plan (a ++ b)
-  join_of None a b first second = subst (λ bs. bs ++ b ≡ []) (sym first) second
-  join_of (Some plan) a b first second = (first.0, lines_join plan a first.1 second.1)
+-- ---- what was made
 
-  output_of : (plan : Option Plan) (bytes : List ℕ) → AreLinesOf session table plan bytes → IsOutput session table bytes
-  output_of None bytes lines = inl (λ plan. subst (AreLines session table plan) (sym lines) nothing)
-  output_of (Some plan) bytes lines = inr (plan, lines.0, lines.1)
+module _ (wanted : Wanted) (table : CommandTree) where
+  pub made_told : (told now : Bool) (planned : Option Planned) (records : List (List (List ℕ))) (sent waiting : List ℕ) → Stays told now → IsMade wanted table told planned records sent waiting → IsMade wanted table now planned records sent waiting
+  made_told told now None records sent waiting stays made = made
+  made_told told now (Some planned) records sent waiting stays made = record {
+    plans = made.plans;
+    first = made.first;
+    second = made.second;
+    whole = made.whole;
+    sent_lines = lines_told wanted.session table planned.plan told now stays made.sent_lines;
+    waiting_lines = lines_told wanted.session table planned.plan told now stays made.waiting_lines;
+  }
 
-  -- lines that define routes, after those that were sent and before those that waited
-  routed : (plan : Option Plan) (sent routes made : List ℕ) → AreLinesOf session table plan sent → ((plan : Plan) → AreLines session table plan routes) → AreLinesOf session table plan made
-      → IsOutput session table (sent ++ routes ++ made)
-  routed None sent routes made first middle last = inl (λ plan.
-      lines_join plan (sent ++ routes) (lines_join plan sent (subst (AreLines session table plan) (sym first) nothing) (middle plan)) (subst (AreLines session table plan) (sym last) nothing))
-  routed (Some plan) sent routes made first middle last = inr (plan, first.0, lines_join plan (sent ++ routes) (lines_join plan sent first.1 (middle plan)) last.1)
+  -- by a header, more is made of the records after it
+  pub made_more : (told now : Bool) (planned : Planned) (records more : List (List (List ℕ))) (sent old new : List ℕ) → Stays told now → GoesOn wanted.session table planned.plan now more old new
+      → IsMade wanted table told (Some planned) records sent old → IsMade wanted table now (Some planned) (records ++ more) sent new
+  made_more told now planned records more sent old new stays goes made = record {
+    plans = made.plans;
+    first = made.first;
+    second = made.second ++ more;
+    whole = ap (λ rs. rs ++ more) made.whole ∙ ap (λ rs. fields_of planned.header ∷ rs) (append_assoc made.first made.second more);
+    sent_lines = lines_told wanted.session table planned.plan told now stays made.sent_lines;
+    waiting_lines = lines_go wanted.session table planned.plan now made.second more old new goes (lines_told wanted.session table planned.plan told now stays made.waiting_lines);
+  }
 
-  pub route_goes : (plan : Plan) (old new : List ℕ)
-      → (new ≡ old) ⊎ ((line name : List ℕ) × (start finish : ℕ) × Asks line (command session (define_route name start finish)) × (new ≡ old ++ line ++ 10 ∷ [])) → GoesOn session table plan old new
-  route_goes plan old new (inl same) before lines = same_goes plan old new same before lines
-  route_goes plan old new (inr (line, name, start, finish, asks, is)) before lines =
-      subst (AreLines session table plan) (joined before old line ∙ ap (λ bs. before ++ bs) (sym is)) (route_line line name start finish lines asks)
+  -- the header, after nothing
+  pub made_header : (told now : Bool) (planned : Planned) (header : List (List ℕ)) (records : List (List (List ℕ))) (sent old new : List ℕ) → fields_of planned.header ≡ header → IsPlanOf wanted table header planned.plan
+      → GoesOn wanted.session table planned.plan now [] old new → IsMade wanted table told None records sent old → IsMade wanted table now (Some planned) (records ++ header ∷ []) sent new
+  made_header told now planned header records sent old new is plans goes made = record {
+    plans = subst (λ h. IsPlanOf wanted table h planned.plan) (sym is) plans;
+    first = [];
+    second = [];
+    whole = ap (λ rs. rs ++ header ∷ []) made.0 ∙ ap (λ h. h ∷ []) (sym is);
+    sent_lines = subst (AreLines wanted.session table planned.plan now []) (sym made.1) nothing;
+    waiting_lines = subst (AreLines wanted.session table planned.plan now []) (sym (goes.grown ∙ ap (λ bs. bs ++ goes.bytes) made.2)) goes.lines;
+  }
+
+  -- a record by the plan
+  pub record_makes : {T E : Type 0} (result : Result T E) (old : Progress) (planned : Planned) (made : Made) (fields : List (List ℕ)) (a b : Option (List ℕ)) → old.planned ≡ Some planned → IsPlanned wanted table old
+      → OnOk result ((table : CommandTree) → GoesOn planned.plan.session table planned.plan made.has_told (fields ∷ []) old.made.bytes.items made.bytes.items) → OnOk result (IsQuiet old.made.has_told made.has_told a b)
+      → OnOk result (Makes wanted table (fields ∷ []) old (record { planned = old.planned; made = made }))
+  record_makes (Ok _) old planned made fields a b is plans goes quiet = λ records sent before.
+      let by : IsPlanOf wanted table (fields_of planned.header) planned.plan = subst (λ p. IfSome p (λ planned. IsPlanOf wanted table (fields_of planned.header) planned.plan)) is plans in
+      subst (λ p. IsMade wanted table made.has_told p (records ++ fields ∷ []) sent made.bytes.items) (sym is)
+      (made_more old.made.has_told made.has_told planned records (fields ∷ []) sent old.made.bytes.items made.bytes.items (stays_quiet old.made.has_told made.has_told a b quiet)
+      (subst (λ s. GoesOn s table planned.plan made.has_told (fields ∷ []) old.made.bytes.items made.bytes.items) by.session_is (goes table))
+      (subst (λ p. IsMade wanted table old.made.has_told p records sent old.made.bytes.items) is before))
+  record_makes (Err _) old planned made fields a b is plans goes quiet = tt
+
+  -- no record
+  pub makes_none : (progress : Progress) → Makes wanted table [] progress progress
+  makes_none progress records sent made = subst (λ rs. IsMadeIn wanted table progress rs sent) (sym (append-nil records)) made
+
+  -- records, and more of them
+  pub makes_trans : (one two three : Progress) (first second : List (List (List ℕ))) → Makes wanted table first one two → Makes wanted table second two three → Makes wanted table (first ++ second) one three
+  makes_trans one two three first second then_first then_second records sent made =
+      subst (λ rs. IsMadeIn wanted table three rs sent) (append_assoc records first second) (then_second (records ++ first) sent (then_first records sent made))
+
+  -- what waited was sent
+  pub made_sent : (told : Bool) (planned : Option Planned) (records : List (List (List ℕ))) (sent waiting : List ℕ) → IsMade wanted table told planned records sent waiting → IsMade wanted table told planned records (sent ++ waiting) []
+  made_sent told None records sent waiting made = (made.0, ap (λ bs. bs ++ waiting) made.1 ∙ made.2, refl)
+  made_sent told (Some planned) records sent waiting made = record {
+    plans = made.plans;
+    first = made.first ++ made.second;
+    second = [];
+    whole = made.whole ∙ ap (λ rs. fields_of planned.header ∷ rs) (sym (append-nil (made.first ++ made.second)));
+    sent_lines = lines_join wanted.session table planned.plan told made.first sent made.sent_lines made.waiting_lines;
+    waiting_lines = nothing;
+  }
+
+  -- lines that define routes, after those that were sent and before those that wait
+  pub routed : (told : Bool) (planned : Option Planned) (records : List (List (List ℕ))) (sent routes waiting : List ℕ) → ((plan : Plan) → AreLines wanted.session table plan told [] routes)
+      → IsMade wanted table told planned records sent waiting → IsOutput wanted table told records ((sent ++ routes) ++ waiting)
+  routed told None records sent routes waiting middle made =
+      let is : (sent ++ routes) ++ waiting ≡ routes = ap (λ bs. (bs ++ routes) ++ waiting) made.1 ∙ (ap (λ bs. routes ++ bs) made.2 ∙ append-nil routes) in
+      subst (λ rs. IsOutput wanted table told rs ((sent ++ routes) ++ waiting)) (sym made.0) (λ plan. subst (AreLines wanted.session table plan told []) (sym is) (middle plan))
+  routed told (Some planned) records sent routes waiting middle made =
+      let front = lines_join wanted.session table planned.plan told made.first sent made.sent_lines (middle planned.plan) in
+      let all = lines_join wanted.session table planned.plan told (made.first ++ []) (sent ++ routes) front made.waiting_lines in
+      subst (λ rs. IsOutput wanted table told rs ((sent ++ routes) ++ waiting)) (sym made.whole)
+      (planned.plan, made.plans, subst (λ rs. AreLines wanted.session table planned.plan told (rs ++ made.second) ((sent ++ routes) ++ waiting)) (append-nil made.first) all)
+
+  output_of : (told : Bool) (planned : Option Planned) (records : List (List (List ℕ))) (sent waiting : List ℕ) → IsMade wanted table told planned records sent waiting → IsOutput wanted table true records (sent ++ waiting)
+  output_of told planned records sent waiting made =
+      subst (λ bs. IsOutput wanted table true records (bs ++ waiting)) (append-nil sent)
+      (routed true planned records sent [] waiting (λ plan. nothing) (made_told told true planned records sent waiting (stays_told told true refl) made))
 
   -- ---- so far
 
-  pub far_makes : (before after : Option (List ℕ)) (old new : Progress) → Makes session table (plan_in old) old.made.bytes.items (plan_in new) new.made.bytes.items → SoFar session table before old after → SoFar session table before new after
-  far_makes before after old new makes far = record {
+  pub far_makes : (before after : Option (List ℕ)) (old new : Progress) (text : List ℕ) (more : List (List (List ℕ))) → ReadsAll text more → Makes wanted table more old new → SoFar wanted table before old after → SoFar wanted table before new after
+  far_makes before after old new text more reads makes far = record {
+    records = far.records ++ more;
+    read = one_more_text text more far.read reads;
     sent = far.sent;
     put = far.put;
-    lines = lines_stand (plan_in old) (plan_in new) old.made.bytes.items new.made.bytes.items far.sent makes far.lines;
-    waiting = lines_made (plan_in old) (plan_in new) old.made.bytes.items new.made.bytes.items makes far.waiting;
+    made = makes far.records far.sent far.made;
   }
 
-  pub far_left : (before after : Option (List ℕ)) (progress : Progress) → SoFar session table before progress after → Wrote session table before after
+  pub far_left : (before after : Option (List ℕ)) (progress : Progress) → SoFar wanted table before progress after → Wrote wanted table before after
   far_left before after progress far = record {
+    records = far.records;
+    read = far.read;
     sent = far.sent;
-    lost = [];
+    lost = progress.made.bytes.items;
     put = far.put;
-    lines = subst (IsOutput session table) (sym (append-nil far.sent)) (output_of (plan_in progress) far.sent far.lines);
+    lines = output_of progress.made.has_told progress.planned far.records far.sent progress.made.bytes.items far.made;
   }
 
-  pub far_same : {T E : Type 0} (result : Result T E) (before after : Option (List ℕ)) (old new : Progress) → plan_in new ≡ plan_in old → new.made.bytes.items ≡ old.made.bytes.items → SoFar session table before old after
-      → MatchResult result (λ _. SoFar session table before new after) (λ _. Wrote session table before after)
-  far_same (Ok _) before after old new same is far = record {
+  -- something was told, and nothing made
+  pub far_told : {T E : Type 0} (result : Result T E) (before after : Option (List ℕ)) (old new : Progress) → new.planned ≡ old.planned → new.made.bytes.items ≡ old.made.bytes.items → new.made.has_told ≡ true → SoFar wanted table before old after
+      → MatchResult result (λ _. SoFar wanted table before new after) (λ _. Wrote wanted table before after)
+  far_told (Ok _) before after old new same is told far = record {
+    records = far.records;
+    read = far.read;
     sent = far.sent;
     put = far.put;
-    lines = subst (λ plan. AreLinesOf session table plan far.sent) (sym same) far.lines;
-    waiting = subst (λ plan. AreLinesOf session table plan new.made.bytes.items) (sym same) (subst (AreLinesOf session table (plan_in old)) (sym is) far.waiting);
+    made =
+        subst (λ planned. IsMade wanted table new.made.has_told planned far.records far.sent new.made.bytes.items) (sym same)
+        (subst (IsMade wanted table new.made.has_told old.planned far.records far.sent) (sym is)
+        (made_told old.made.has_told new.made.has_told old.planned far.records far.sent old.made.bytes.items (stays_told old.made.has_told new.made.has_told told) far.made));
   }
-  far_same (Err _) before after old new same is far = far_left before after old far
+  far_told (Err _) before after old new same is told far = far_left before after old far
 
-  far_sent : (before after later : Option (List ℕ)) (old new : Progress) → plan_in new ≡ plan_in old → ((new.made.bytes.items ≡ old.made.bytes.items) × (later ≡ after)) ⊎ ((new.made.bytes.items ≡ []) × Appends after later old.made.bytes.items)
-      → SoFar session table before old after → SoFar session table before new later
-  far_sent before after later old new same (inl kept) far = record {
+  far_sent : (before after later : Option (List ℕ)) (old new : Progress) → new.planned ≡ old.planned → new.made.has_told ≡ old.made.has_told
+      → ((new.made.bytes.items ≡ old.made.bytes.items) × (later ≡ after)) ⊎ ((new.made.bytes.items ≡ []) × Appends after later old.made.bytes.items)
+      → SoFar wanted table before old after → SoFar wanted table before new later
+  far_sent before after later old new same told (inl kept) far = record {
+    records = far.records;
+    read = far.read;
     sent = far.sent;
     put = subst (λ s. Appends before s far.sent) (sym kept.1) far.put;
-    lines = subst (λ plan. AreLinesOf session table plan far.sent) (sym same) far.lines;
-    waiting = subst (λ plan. AreLinesOf session table plan new.made.bytes.items) (sym same) (subst (AreLinesOf session table (plan_in old)) (sym kept.0) far.waiting);
+    made =
+        subst (λ planned. IsMade wanted table new.made.has_told planned far.records far.sent new.made.bytes.items) (sym same)
+        (subst (IsMade wanted table new.made.has_told old.planned far.records far.sent) (sym kept.0)
+        (subst (λ t. IsMade wanted table t old.planned far.records far.sent old.made.bytes.items) (sym told) far.made));
   }
-  far_sent before after later old new same (inr puts) far = record {
+  far_sent before after later old new same told (inr puts) far = record {
+    records = far.records;
+    read = far.read;
     sent = far.sent ++ old.made.bytes.items;
     put = Appends-trans before after later far.sent old.made.bytes.items far.put puts.1;
-    lines = subst (λ plan. AreLinesOf session table plan (far.sent ++ old.made.bytes.items)) (sym same) (join_of (plan_in old) far.sent old.made.bytes.items far.lines far.waiting);
-    waiting = subst (λ plan. AreLinesOf session table plan new.made.bytes.items) (sym same) (subst (AreLinesOf session table (plan_in old)) (sym puts.0) (none_of (plan_in old) far.sent far.lines));
+    made =
+        subst (λ planned. IsMade wanted table new.made.has_told planned far.records (far.sent ++ old.made.bytes.items) new.made.bytes.items) (sym same)
+        (subst (IsMade wanted table new.made.has_told old.planned far.records (far.sent ++ old.made.bytes.items)) (sym puts.0)
+        (subst (λ t. IsMade wanted table t old.planned far.records (far.sent ++ old.made.bytes.items) []) (sym told)
+        (made_sent old.made.has_told old.planned far.records far.sent old.made.bytes.items far.made)));
   }
 
-  fault_left : (before after later : Option (List ℕ)) (progress : Progress) (lost : List ℕ) → PutsBut progress.made.bytes.items lost after later → SoFar session table before progress after → Wrote session table before later
+  fault_left : (before after later : Option (List ℕ)) (progress : Progress) (lost : List ℕ) → PutsBut progress.made.bytes.items lost after later → SoFar wanted table before progress after → Wrote wanted table before later
   fault_left before after later progress lost puts far = record {
+    records = far.records;
+    read = far.read;
     sent = far.sent ++ puts.front;
     lost = lost;
     put = Appends-trans before after later far.sent puts.front far.put puts.put;
     lines =
-        subst (IsOutput session table) (ap (λ bs. far.sent ++ bs) puts.whole ∙ sym (append_assoc far.sent puts.front lost))
-        (output_of (plan_in progress) (far.sent ++ progress.made.bytes.items) (join_of (plan_in progress) far.sent progress.made.bytes.items far.lines far.waiting));
+        subst (IsOutput wanted table true far.records) (ap (λ bs. far.sent ++ bs) puts.whole ∙ sym (append_assoc far.sent puts.front lost))
+        (output_of progress.made.has_told progress.planned far.records far.sent progress.made.bytes.items far.made);
   }
 
-  pub far_put : {T E : Type 0} (result : Result T E) (before after later : Option (List ℕ)) (old new : Progress) → plan_in new ≡ plan_in old
+  pub far_put : {T E : Type 0} (result : Result T E) (before after later : Option (List ℕ)) (old new : Progress) → new.planned ≡ old.planned → new.made.has_told ≡ old.made.has_told
       → OnOk result (((new.made.bytes.items ≡ old.made.bytes.items) × (later ≡ after)) ⊎ ((new.made.bytes.items ≡ []) × Appends after later old.made.bytes.items))
-      → OnErr result ((lost : List ℕ) × PutsBut old.made.bytes.items lost after later) → SoFar session table before old after
-      → MatchResult result (λ _. SoFar session table before new later) (λ _. Wrote session table before later)
-  far_put (Ok _) before after later old new same sent fault far = far_sent before after later old new same sent far
-  far_put (Err _) before after later old new same sent fault far = fault_left before after later old fault.0 fault.1 far
+      → OnErr result ((lost : List ℕ) × PutsBut old.made.bytes.items lost after later) → SoFar wanted table before old after
+      → MatchResult result (λ _. SoFar wanted table before new later) (λ _. Wrote wanted table before later)
+  far_put (Ok _) before after later old new same told sent fault far = far_sent before after later old new same told sent far
+  far_put (Err _) before after later old new same told sent fault far = fault_left before after later old fault.0 fault.1 far
 
   -- ---- the end
 
-  pub ends_all : (plan : Option Plan) (before after later : Option (List ℕ)) (sent routes made : List ℕ) → Appends before after sent → AreLinesOf session table plan sent → ((plan : Plan) → AreLines session table plan routes)
-      → AreLinesOf session table plan made → Appends after later (routes ++ made) → WroteAll session table before later
-  ends_all plan before after later sent routes made put first middle last puts = record {
-    sent = sent ++ (routes ++ made);
-    put = Appends-trans before after later sent (routes ++ made) put puts;
-    lines = subst (IsOutput session table) (append_assoc sent routes made) (routed plan sent routes made first middle last);
+  pub ends_all : (told now : Bool) (planned : Option Planned) (records : List (List (List ℕ))) (before after later : Option (List ℕ)) (sent routes waiting : List ℕ) → Stays told now → AreRead records
+      → ((plan : Plan) → AreLines wanted.session table plan now [] routes) → IsMade wanted table told planned records sent waiting → Appends before after sent → Appends after later (routes ++ waiting)
+      → WroteAll wanted table now before later
+  ends_all told now planned records before after later sent routes waiting stays read middle made put puts = record {
+    records = records;
+    read = read;
+    sent = sent ++ (routes ++ waiting);
+    put = Appends-trans before after later sent (routes ++ waiting) put puts;
+    lines =
+        subst (IsOutput wanted table now records) (append_assoc sent routes waiting)
+        (routed now planned records sent routes waiting middle (made_told told now planned records sent waiting stays made));
   }
 
-  pub ends_lost : (plan : Option Plan) (before after later : Option (List ℕ)) (sent routes made lost : List ℕ) → Appends before after sent → AreLinesOf session table plan sent → ((plan : Plan) → AreLines session table plan routes)
-      → AreLinesOf session table plan made → PutsBut (routes ++ made) lost after later → Wrote session table before later
-  ends_lost plan before after later sent routes made lost put first middle last puts = record {
+  pub ends_lost : (told : Bool) (planned : Option Planned) (records : List (List (List ℕ))) (before after later : Option (List ℕ)) (sent routes waiting lost : List ℕ) → AreRead records
+      → ((plan : Plan) → AreLines wanted.session table plan true [] routes) → IsMade wanted table told planned records sent waiting → Appends before after sent → PutsBut (routes ++ waiting) lost after later
+      → Wrote wanted table before later
+  ends_lost told planned records before after later sent routes waiting lost read middle made put puts = record {
+    records = records;
+    read = read;
     sent = sent ++ puts.front;
     lost = lost;
     put = Appends-trans before after later sent puts.front put puts.put;
     lines =
-        subst (IsOutput session table) (append_assoc sent routes made ∙ (ap (λ bs. sent ++ bs) puts.whole ∙ sym (append_assoc sent puts.front lost)))
-        (routed plan sent routes made first middle last);
+        subst (IsOutput wanted table true records) (append_assoc sent routes waiting ∙ (ap (λ bs. sent ++ bs) puts.whole ∙ sym (append_assoc sent puts.front lost)))
+        (routed true planned records sent routes waiting middle (made_told told true planned records sent waiting (stays_told told true refl) made));
   }
 
-  pub ends_early : (plan : Option Plan) (before after : Option (List ℕ)) (sent : List ℕ) → Appends before after sent → AreLinesOf session table plan sent → Wrote session table before after
-  ends_early plan before after sent put first = record {
+  pub ends_early : (told : Bool) (planned : Option Planned) (records : List (List (List ℕ))) (before after : Option (List ℕ)) (sent waiting : List ℕ) → AreRead records → IsMade wanted table told planned records sent waiting
+      → Appends before after sent → Wrote wanted table before after
+  ends_early told planned records before after sent waiting read made put = record {
+    records = records;
+    read = read;
     sent = sent;
-    lost = [];
+    lost = waiting;
     put = put;
-    lines = subst (IsOutput session table) (sym (append-nil sent)) (output_of plan sent first);
+    lines = output_of told planned records sent waiting made;
   }
 
 -- two parts, put together

@@ -1,2 +1,4 @@
 pub mod Quoting
+pub mod Header
+pub mod Reading
 pub mod Output

@@ -1,11 +1,13 @@
 //! The filter: CSV is read in pieces, and the lines of its records are written.
 
-ghost use Rattle.std.specs.Prelude.{◌≡◌, ◌<◌, ◌⊎◌, [], OnOk, OnErr, IfOk, IfSome, ℕ, List, Option, Ok, false, true};
+ghost use Rattle.std.specs.Prelude.{◌≡◌, ◌<◌, ◌⊎◌, [], ◌∷◌, OnOk, OnErr, IfOk, MatchResult, ℕ, List, Bool, Option, Ok, false, true};
 ghost use Rattle.std.specs.Io.KnownBytes.{Appends, Keeps};
+ghost use Rattle.csv.specs.Records.{fields_of};
 ghost use Rattle.rs_protocol.specs.Puts.{PutsBut};
 ghost use Rattle.rs_syntax.specs.Tree.{CommandTree};
 ghost use Rattle.rs_csv_lines.specs.declared.plan.Plan.{Plan};
-ghost use Rattle.rs_csv.specs.Output.{AreLines, AreLinesOf, Ends, GoesFar, GoesOn, IsDefinition, IsPlanOf, IsQuiet, Makes, plan_in, table_of};
+ghost use Rattle.rs_csv.specs.Output.{AreLines, Ends, GoesFar, GoesOn, IsDefinition, IsMade, IsPlanOf, IsPlanned, IsQuiet, Makes, Wrote, WroteAll, table_of};
+ghost use Rattle.rs_csv.specs.Reading.{AreRead, ReadsAll};
 
 use crate::batch::{Batch, Taken};
 use crate::definition::{Definition, read_definition};
@@ -119,7 +121,7 @@ pub struct Progress {
 // Makes the line that defines the table, where it is wanted.
 fn put_definition(job: &Job<'_>, bytes: &mut Vec<u8>) -> Result<(), AllocError>
     requires { IsDefinition job.now.wanted.session job.now.definition }
-    ensures { OnOk result ((plan : Plan) → GoesOn job.now.wanted.session (table_of job.now.definition) plan bytes.old.items bytes.new.items) }
+    ensures { OnOk result ((plan : Plan) (told : Bool) → GoesOn job.now.wanted.session (table_of job.now.definition) plan told [] bytes.old.items bytes.new.items) }
 {
     if !job.wanted.defines_table {
         return Ok(());
@@ -136,8 +138,9 @@ fn take_header<E: Write>(
 ) -> Result<Planned, Stop>
     requires in_range { job.now.wanted.session < 64 }
     requires defines { IsDefinition job.now.wanted.session job.now.definition }
-    ensures made { IfOk result (λ planned. IsPlanOf job.now.wanted.session (table_of job.now.definition) planned.plan
-        × GoesOn job.now.wanted.session (table_of job.now.definition) planned.plan made.old.bytes.items made.new.bytes.items) }
+    ensures header { IfOk result (λ planned. planned.header ≡ header) }
+    ensures plan { IfOk result (λ planned. IsPlanOf job.now.wanted (table_of job.now.definition) (fields_of header) planned.plan) }
+    ensures made { OnOk result ((plan : Plan) (told : Bool) → GoesOn job.now.wanted.session (table_of job.now.definition) plan told [] made.old.bytes.items made.new.bytes.items) }
     ensures quiet { OnOk result (IsQuiet made.old.has_told made.new.has_told (E.contents errors.old) (E.contents errors.new)) }
 {
     let plan = make_plan(job.alloc, &job.definition, &header, &job.wanted, errors)?;
@@ -154,9 +157,9 @@ fn take_next<E: Write>(
 ) -> Result<(), Stop>
     requires in_range { job.now.wanted.session < 64 }
     requires defines { IsDefinition job.now.wanted.session job.now.definition }
-    requires planned { IfSome (plan_in progress.old) (IsPlanOf job.now.wanted.session (table_of job.now.definition)) }
-    ensures made { OnOk result (Makes job.now.wanted.session (table_of job.now.definition) (plan_in progress.old) progress.old.made.bytes.items
-        (plan_in progress.new) progress.new.made.bytes.items) }
+    requires planned { IsPlanned job.now.wanted (table_of job.now.definition) progress.old }
+    ensures planned { OnOk result (IsPlanned job.now.wanted (table_of job.now.definition) progress.new) }
+    ensures made { OnOk result (Makes job.now.wanted (table_of job.now.definition) (fields_of record.now ∷ []) progress.old progress.new) }
     ensures quiet { OnOk result (IsQuiet progress.old.made.has_told progress.new.made.has_told (E.contents errors.old) (E.contents errors.new)) }
 {
     match &progress.planned {
@@ -185,9 +188,9 @@ fn read_records<E: Write>(
 ) -> Result<(), Stop>
     requires in_range { job.now.wanted.session < 64 }
     requires defines { IsDefinition job.now.wanted.session job.now.definition }
-    requires planned { IfSome (plan_in progress.old) (IsPlanOf job.now.wanted.session (table_of job.now.definition)) }
-    ensures made { OnOk result (Makes job.now.wanted.session (table_of job.now.definition) (plan_in progress.old) progress.old.made.bytes.items
-        (plan_in progress.new) progress.new.made.bytes.items) }
+    requires planned { IsPlanned job.now.wanted (table_of job.now.definition) progress.old }
+    ensures planned { OnOk result (IsPlanned job.now.wanted (table_of job.now.definition) progress.new) }
+    ensures made { OnOk result ((records : List (List (List ℕ))) × ReadsAll text.now records × Makes job.now.wanted (table_of job.now.definition) records progress.old progress.new) }
     ensures quiet { OnOk result (IsQuiet progress.old.made.has_told progress.new.made.has_told (E.contents errors.old) (E.contents errors.new)) }
 {
     let mut reader = ReaderBuilder::new()
@@ -233,7 +236,7 @@ fn put_route<E: Write>(
     errors: &mut E,
 ) -> Result<(), Stop>
     requires { job.now.wanted.session < 64 }
-    ensures lines { OnOk result ((table : CommandTree) (plan : Plan) → GoesOn job.now.wanted.session table plan lines.old.items lines.new.items) }
+    ensures lines { OnOk result ((table : CommandTree) (plan : Plan) (told : Bool) → GoesOn job.now.wanted.session table plan told [] lines.old.items lines.new.items) }
     ensures bytes { made.new.bytes.items ≡ made.old.bytes.items }
     ensures quiet { OnOk result (IsQuiet made.old.has_told made.new.has_told (E.contents errors.old) (E.contents errors.new)) }
 {
@@ -251,7 +254,7 @@ fn put_route<E: Write>(
 // The lines that define the routes.
 fn route_lines<E: Write>(job: &Job<'_>, made: &mut Made, errors: &mut E) -> Result<Vec<u8>, Stop>
     requires { job.now.wanted.session < 64 }
-    ensures lines { IfOk result (λ lines. (table : CommandTree) (plan : Plan) → AreLines job.now.wanted.session table plan lines.items) }
+    ensures lines { IfOk result (λ lines. (table : CommandTree) (plan : Plan) (told : Bool) → AreLines job.now.wanted.session table plan told [] lines.items) }
     ensures bytes { OnOk result (made.new.bytes.items ≡ made.old.bytes.items) }
     ensures quiet { OnOk result (IsQuiet made.old.has_told made.new.has_told (E.contents errors.old) (E.contents errors.new)) }
 {
@@ -276,9 +279,9 @@ fn write_rest<W: Write, E: Write>(
     errors: &mut E,
 ) -> Result<(), Stop>
     requires { job.now.wanted.session < 64 }
-    ensures wrote { (table : CommandTree) (plan : Option Plan) (before : Option (List ℕ)) (sent : List ℕ) → Appends before (W.contents output.old) sent
-        → AreLinesOf job.now.wanted.session table plan sent → AreLinesOf job.now.wanted.session table plan made.old.bytes.items
-        → Ends job.now.wanted.session table result before (W.contents output.new) }
+    ensures wrote { (table : CommandTree) (before : Option (List ℕ)) (planned : Option Planned) (records : List (List (List ℕ))) (sent : List ℕ) → AreRead records
+        → Appends before (W.contents output.old) sent → IsMade job.now.wanted table made.old.has_told planned records sent made.old.bytes.items
+        → MatchResult result (λ _. WroteAll job.now.wanted table made.new.has_told before (W.contents output.new)) (λ _. Wrote job.now.wanted table before (W.contents output.new)) }
     ensures quiet { OnOk result (IsQuiet made.old.has_told made.new.has_told (E.contents errors.old) (E.contents errors.new)) }
 {
     let routes = match route_lines(job, made, errors) {
@@ -301,9 +304,9 @@ fn make_lines<W: Write, E: Write>(
 ) -> Result<(), Stop>
     requires in_range { job.now.wanted.session < 64 }
     requires defines { IsDefinition job.now.wanted.session job.now.definition }
-    requires planned { IfSome (plan_in progress.old) (IsPlanOf job.now.wanted.session (table_of job.now.definition)) }
-    ensures planned { OnOk result (IfSome (plan_in progress.new) (IsPlanOf job.now.wanted.session (table_of job.now.definition))) }
-    ensures far { GoesFar job.now.wanted.session (table_of job.now.definition) result progress.old progress.new (W.contents output.old) (W.contents output.new) }
+    requires planned { IsPlanned job.now.wanted (table_of job.now.definition) progress.old }
+    ensures planned { OnOk result (IsPlanned job.now.wanted (table_of job.now.definition) progress.new) }
+    ensures far { GoesFar job.now.wanted (table_of job.now.definition) result progress.old progress.new (W.contents output.old) (W.contents output.new) }
     ensures quiet { OnOk result (IsQuiet progress.old.made.has_told progress.new.made.has_told (E.contents errors.old) (E.contents errors.new)) }
 {
     if let Err(stop) = read_records(job, batch.text(), progress, errors) {
@@ -315,7 +318,7 @@ fn make_lines<W: Write, E: Write>(
 
 // Tells of a record that is too long. There is no header after one that is.
 fn leave_out_long<E: Write>(progress: &mut Progress, errors: &mut E) -> Result<(), Stop>
-    ensures plan { plan_in progress.new ≡ plan_in progress.old }
+    ensures plan { progress.new.planned ≡ progress.old.planned }
     ensures bytes { progress.new.made.bytes.items ≡ progress.old.made.bytes.items }
     ensures told { progress.new.made.has_told ≡ true }
 {
@@ -342,9 +345,9 @@ fn take_byte<W: Write, E: Write>(
 ) -> Result<(), Stop>
     requires in_range { job.now.wanted.session < 64 }
     requires defines { IsDefinition job.now.wanted.session job.now.definition }
-    requires planned { IfSome (plan_in progress.old) (IsPlanOf job.now.wanted.session (table_of job.now.definition)) }
-    ensures planned { OnOk result (IfSome (plan_in progress.new) (IsPlanOf job.now.wanted.session (table_of job.now.definition))) }
-    ensures far { GoesFar job.now.wanted.session (table_of job.now.definition) result progress.old progress.new (W.contents output.old) (W.contents output.new) }
+    requires planned { IsPlanned job.now.wanted (table_of job.now.definition) progress.old }
+    ensures planned { OnOk result (IsPlanned job.now.wanted (table_of job.now.definition) progress.new) }
+    ensures far { GoesFar job.now.wanted (table_of job.now.definition) result progress.old progress.new (W.contents output.old) (W.contents output.new) }
     ensures quiet { OnOk result (IsQuiet progress.old.made.has_told progress.new.made.has_told (E.contents errors.old) (E.contents errors.new)) }
 {
     let Ok(taken) = batch.take(byte) else {
@@ -375,9 +378,9 @@ fn take_piece<W: Write, E: Write>(
 ) -> Result<(), Stop>
     requires in_range { job.now.wanted.session < 64 }
     requires defines { IsDefinition job.now.wanted.session job.now.definition }
-    requires planned { IfSome (plan_in progress.old) (IsPlanOf job.now.wanted.session (table_of job.now.definition)) }
-    ensures planned { OnOk result (IfSome (plan_in progress.new) (IsPlanOf job.now.wanted.session (table_of job.now.definition))) }
-    ensures far { GoesFar job.now.wanted.session (table_of job.now.definition) result progress.old progress.new (W.contents output.old) (W.contents output.new) }
+    requires planned { IsPlanned job.now.wanted (table_of job.now.definition) progress.old }
+    ensures planned { OnOk result (IsPlanned job.now.wanted (table_of job.now.definition) progress.new) }
+    ensures far { GoesFar job.now.wanted (table_of job.now.definition) result progress.old progress.new (W.contents output.old) (W.contents output.new) }
     ensures quiet { OnOk result (IsQuiet progress.old.made.has_told progress.new.made.has_told (E.contents errors.old) (E.contents errors.new)) }
 {
     for byte in piece {
@@ -417,9 +420,9 @@ fn take_head<R: Read, W: Write, E: Write>(
 ) -> Result<(), Stop>
     requires in_range { job.now.wanted.session < 64 }
     requires defines { IsDefinition job.now.wanted.session job.now.definition }
-    requires planned { IfSome (plan_in progress.old) (IsPlanOf job.now.wanted.session (table_of job.now.definition)) }
-    ensures planned { OnOk result (IfSome (plan_in progress.new) (IsPlanOf job.now.wanted.session (table_of job.now.definition))) }
-    ensures far { GoesFar job.now.wanted.session (table_of job.now.definition) result progress.old progress.new (W.contents output.old) (W.contents output.new) }
+    requires planned { IsPlanned job.now.wanted (table_of job.now.definition) progress.old }
+    ensures planned { OnOk result (IsPlanned job.now.wanted (table_of job.now.definition) progress.new) }
+    ensures far { GoesFar job.now.wanted (table_of job.now.definition) result progress.old progress.new (W.contents output.old) (W.contents output.new) }
     ensures quiet { OnOk result (IsQuiet progress.old.made.has_told progress.new.made.has_told (E.contents errors.old) (E.contents errors.new)) }
 {
     let head = match read_head(input) {
@@ -442,9 +445,9 @@ fn take_end<W: Write, E: Write>(
 ) -> Result<(), Stop>
     requires in_range { job.now.wanted.session < 64 }
     requires defines { IsDefinition job.now.wanted.session job.now.definition }
-    requires planned { IfSome (plan_in progress.old) (IsPlanOf job.now.wanted.session (table_of job.now.definition)) }
-    ensures planned { OnOk result (IfSome (plan_in progress.new) (IsPlanOf job.now.wanted.session (table_of job.now.definition))) }
-    ensures far { GoesFar job.now.wanted.session (table_of job.now.definition) result progress.old progress.new (W.contents output.old) (W.contents output.new) }
+    requires planned { IsPlanned job.now.wanted (table_of job.now.definition) progress.old }
+    ensures planned { OnOk result (IsPlanned job.now.wanted (table_of job.now.definition) progress.new) }
+    ensures far { GoesFar job.now.wanted (table_of job.now.definition) result progress.old progress.new (W.contents output.old) (W.contents output.new) }
     ensures quiet { OnOk result (IsQuiet progress.old.made.has_told progress.new.made.has_told (E.contents errors.old) (E.contents errors.new)) }
 {
     if batch.is_within_long() {
@@ -465,9 +468,9 @@ fn read_all<R: Read, W: Write, E: Write>(
 ) -> Result<(), Stop>
     requires in_range { job.now.wanted.session < 64 }
     requires defines { IsDefinition job.now.wanted.session job.now.definition }
-    requires planned { IfSome (plan_in progress.old) (IsPlanOf job.now.wanted.session (table_of job.now.definition)) }
-    ensures planned { OnOk result (IfSome (plan_in progress.new) (IsPlanOf job.now.wanted.session (table_of job.now.definition))) }
-    ensures far { GoesFar job.now.wanted.session (table_of job.now.definition) result progress.old progress.new (W.contents output.old) (W.contents output.new) }
+    requires planned { IsPlanned job.now.wanted (table_of job.now.definition) progress.old }
+    ensures planned { OnOk result (IsPlanned job.now.wanted (table_of job.now.definition) progress.new) }
+    ensures far { GoesFar job.now.wanted (table_of job.now.definition) result progress.old progress.new (W.contents output.old) (W.contents output.new) }
     ensures quiet { OnOk result (IsQuiet progress.old.made.has_told progress.new.made.has_told (E.contents errors.old) (E.contents errors.new)) }
 {
     let Ok(mut batch) = Batch::new(job.alloc) else {
@@ -509,7 +512,7 @@ pub fn write_lines<R: Read, W: Write, E: Write>(
     errors: &mut E,
 ) -> Result<bool, Stop>
     requires { wanted.session < 64 }
-    ensures wrote { (table : CommandTree) × Ends wanted.entry.session table result (W.contents output.old) (W.contents output.new) }
+    ensures wrote { (table : CommandTree) × Ends wanted.entry table result (W.contents output.old) (W.contents output.new) }
     ensures quiet { result ≡ Ok false → Keeps (E.contents errors.old) (E.contents errors.new) }
 {
     let session = wanted.session;

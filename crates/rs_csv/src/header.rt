@@ -1,7 +1,9 @@
 //! The header: which field gives the route, the place, and each column of the table.
 
-ghost use Rattle.std.specs.Prelude.{◌<◌, IfOk, OnOk};
+ghost use Rattle.std.specs.Prelude.{◌≡◌, ◌<◌, ◌↔◌, ℕ, List, IfOk, OnOk, map, true};
 ghost use Rattle.std.specs.Io.KnownBytes.{Keeps};
+ghost use Rattle.csv.specs.Records.{fields_of};
+ghost use Rattle.rs_csv.specs.Header.{HasName, IsCalled, IsNamed, IsPlaceNamed};
 ghost use Rattle.rs_csv.specs.Output.{IsDefinition, IsPlanOf, table_of};
 
 use crate::definition::Definition;
@@ -15,7 +17,9 @@ use std::alloc::Global;
 use std::io::Write;
 
 // Whether a field of the header has this name.
-fn is_named(header: &ByteRecord, place: usize, name: &str) -> bool {
+fn is_named(header: &ByteRecord, place: usize, name: &str) -> bool
+    ensures { result ≡ true ↔ HasName (fields_of header.now) name.now place }
+{
     match header.get(place) {
         Some(field) => content(field) == name.as_bytes(),
         None => false,
@@ -24,6 +28,7 @@ fn is_named(header: &ByteRecord, place: usize, name: &str) -> bool {
 
 // The place of the one field of the header that has this name. It is told where there is none, or are two.
 fn field_named<E: Write>(header: &ByteRecord, name: &str, errors: &mut E) -> Result<usize, Stop>
+    ensures named { IfOk result (λ place. IsNamed (fields_of header.now) name.now place) }
     ensures quiet { OnOk result (Keeps (E.contents errors.old) (E.contents errors.new)) }
 {
     let mut found = None;
@@ -52,7 +57,9 @@ fn column_field<E: Write>(
     column: &str,
     errors: &mut E,
 ) -> Result<usize, Stop>
-    ensures { OnOk result (Keeps (E.contents errors.old) (E.contents errors.new)) }
+    ensures named { IfOk result (λ place. (name : List ℕ) × IsCalled (map (λ words. words.now) wanted.now.columns.now) column.now name
+        × IsNamed (fields_of header.now) name place) }
+    ensures quiet { OnOk result (Keeps (E.contents errors.old) (E.contents errors.new)) }
 {
     for renaming in wanted.columns {
         if let Some((name, other)) = renaming.split_once('=') {
@@ -71,7 +78,8 @@ fn place_fields<E: Write>(
     wanted: &Wanted<'_>,
     errors: &mut E,
 ) -> Result<Place, Stop>
-    ensures { OnOk result (Keeps (E.contents errors.old) (E.contents errors.new)) }
+    ensures named { IfOk result (λ place. IsPlaceNamed wanted.now (fields_of header.now) kind place) }
+    ensures quiet { OnOk result (Keeps (E.contents errors.old) (E.contents errors.new)) }
 {
     match kind {
         Kind::Line => {
@@ -96,7 +104,7 @@ pub fn make_plan<E: Write>(
 ) -> Result<Plan, Stop>
     requires in_range { wanted.now.session < 64 }
     requires defines { IsDefinition wanted.now.session definition.now }
-    ensures plan { IfOk result (λ plan. IsPlanOf wanted.now.session (table_of definition.now) plan) }
+    ensures plan { IfOk result (λ plan. IsPlanOf wanted.now (table_of definition.now) (fields_of header.now) plan) }
     ensures quiet { OnOk result (Keeps (E.contents errors.old) (E.contents errors.new)) }
 {
     let route = field_named(header, wanted.route, errors)?;

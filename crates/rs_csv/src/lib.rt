@@ -1,7 +1,7 @@
 //! CSV to lines: a table of records becomes the lines that define it and insert its rows.
 //!
-//! `write_lines` is a filter: records go one by one, and one that says no row is told and left out. It promises that nothing is
-//! written but lines that define the table and its routes, and the INSERTs of records.
+//! `write_lines` is a filter: records go one by one, and one that says no row is told and left out. It promises that each other one
+//! has its INSERT, in their order, and that besides only lines that define the table and its routes are written.
 #![tactic(auto)]
 
 pub mod batch;

@@ -1,6 +1,7 @@
 //! What is made of the records so far: lines that are still to be written, and whether something was told.
 
 ghost use Rattle.std.specs.Prelude.{◌≡◌, ◌++◌, ◌∷◌, [], ◌<◌, OnOk, length, false};
+ghost use Rattle.csv.specs.Records.{fields_of};
 ghost use Rattle.rs_syntax.specs.Tree.{CommandTree};
 ghost use Rattle.rs_syntax.specs.Sound.{IsName};
 ghost use Rattle.rs_csv.specs.Output.{GoesOn, IsQuiet};
@@ -70,7 +71,7 @@ pub fn take_record<E: Write>(
     requires session { plan.now.session < 64 }
     requires named { IsName plan.now.table.bytes }
     requires some { 0 < length plan.now.columns.items }
-    ensures made { OnOk result ((table : CommandTree) → GoesOn plan.now.session table plan.now made.old.bytes.items made.new.bytes.items) }
+    ensures made { OnOk result ((table : CommandTree) → GoesOn plan.now.session table plan.now made.new.has_told (fields_of record.now ∷ []) made.old.bytes.items made.new.bytes.items) }
     ensures quiet { OnOk result (IsQuiet made.old.has_told made.new.has_told (E.contents errors.old) (E.contents errors.new)) }
 {
     made.number = made.number.saturating_add(1);

@@ -1,13 +1,17 @@
 -- Alignments, one after another: those that fit are written, and the others are left out.
-use Rattle.std.proofs.Common.{◌≡◌, ◌∙◌, ℕ, Bool, true, false, not, cond, inl, inr, List, [], ◌∷◌, ◌++◌, Option, ap, append-nil, append_assoc, filter, map, subst, sym}
+use Rattle.std.proofs.Common.{◌≡◌, ◌∙◌, ℕ, Bool, true, false, not, cond, inl, inr, List, [], ◌∷◌, ◌++◌, Option, ap, append-nil, append_assoc, filter, map, refl, subst, sym}
 use Rattle.std.specs.Io.KnownBytes.{Appends}
 use Rattle.arrayvec.specs.ArrayString.{ArrayString}
 use Rattle.rs_dump.specs.Alignments.{Steps, fitting, too_long}
 use Rattle.rs_dump.specs.Views.{names_of}
-use Rattle.rs_dump.specs.Written.{WroteSome, fits_line, lines_bytes}
+use Rattle.rs_dump.specs.Written.{WroteFront, WroteSome, fits_line, line_bytes, lines_bytes}
+use Rattle.rs_dump.specs.declared.stop.Stop.{Stop}
+use Rattle.rs_dump.specs.declared.stop.Stop.TheVariants.{Refused}
 use Rattle.rs_dump_laws.specs.Dump.{alignment_command}
 use Rattle.rs_facts.specs.Fact.{Name}
 use Rattle.rs_facts.specs.Query.{Piece}
+use Rattle.rs_refusal.specs.declared.refusal.Refusal.TheVariants.{OutOfMemory}
+use Rattle.rs_dump.proofs.Stops.{front_of_more, nothing_out, stops_chunk}
 use Rattle.rs_dump.proofs.Written.{wrote_all, wrote_first, wrote_more}
 
 abbrev Alignments : Type 0
@@ -56,3 +60,27 @@ goes_all all left left_out a b so_far none = (
   wrote_all (map alignment_command (fitting all)) (map alignment_command (fitting left)) a b so_far.wrote (ap (λ (l : Alignments). map alignment_command (fitting l)) none),
   sym (append-nil (names_of left_out)) ∙ ap (λ (l : Alignments). names_of left_out ++ map (λ (entry : Name × List Piece). entry.0) (too_long l)) (sym none) ∙ so_far.names,
 )
+
+-- ---- where it stops
+
+-- in the line of an alignment, if it fits one, and else before it
+pub stops_fitting : (one : Name × List Piece) (stop : Stop) (a b : Option (List ℕ)) → WroteFront stop (line_bytes (alignment_command one)) a b
+    → (fits_line (alignment_command one) ≡ false → (stop ≡ Refused OutOfMemory) × (b ≡ a)) → WroteFront stop (lines_bytes (map alignment_command (fitting (one ∷ [])))) a b
+stops_fitting one stop a b front long =
+    elim (fits_line (alignment_command one)) as (λ fits. fits_line (alignment_command one) ≡ fits → WroteFront stop (lines_bytes (map alignment_command (cond fits (one ∷ []) []))) a b) [
+      | true ↦ λ is. front_of_more stop (line_bytes (alignment_command one)) [] a b front
+      | false ↦ λ is. subst (λ (s : Stop). WroteFront s [] a b) (sym (long is).0) (subst (WroteFront (Refused OutOfMemory) [] a) (sym (long is).1) (nothing_out OutOfMemory [] a))
+    ] refl
+
+fitting_first : (one : Name × List Piece) (rest : Alignments) → map alignment_command (fitting (one ∷ rest)) ≡ map alignment_command (fitting (one ∷ [])) ++ map alignment_command (fitting rest)
+fitting_first one rest =
+    elim (fits_line (alignment_command one)) as (λ fits. map alignment_command (cond fits (one ∷ fitting rest) (fitting rest)) ≡ map alignment_command (cond fits (one ∷ []) []) ++ map alignment_command (fitting rest)) [
+      | true ↦ refl
+      | false ↦ refl
+    ]
+
+pub stops_next : (all left rest : Alignments) (one : Name × List Piece) (old : List ArrayString) (stop : Stop) (a b c : Option (List ℕ)) → left ≡ one ∷ rest → GoesOn all left old a b
+    → WroteFront stop (lines_bytes (map alignment_command (fitting (one ∷ [])))) b c → WroteFront stop (lines_bytes (map alignment_command (fitting all))) a c
+stops_next all left rest one old stop a b c next so_far front =
+    stops_chunk stop (map alignment_command (fitting all)) (map alignment_command (fitting left)) (map alignment_command (fitting rest)) (map alignment_command (fitting (one ∷ []))) a b c
+    (ap (λ (l : Alignments). map alignment_command (fitting l)) next ∙ fitting_first one rest) so_far.wrote front

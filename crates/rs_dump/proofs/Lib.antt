@@ -1,6 +1,9 @@
 pub mod Written
 pub mod Entries
 pub mod Viewed
+pub mod ViewStops
+pub mod Stops
+pub mod WritingStops
 pub mod Puts
 pub mod Fitting
 pub mod Reading
@@ -15,3 +18,4 @@ pub mod StateCommands
 pub mod StateRows
 pub mod WrittenViews
 pub mod StateDumps
+pub mod NothingLacks

@@ -2,16 +2,16 @@
 use Rattle.std.proofs.Common.{◌≡◌, ◌≤◌, ◌<◌, ◌+◌, ◌∙◌, ℕ, true, false, List, [], ◌∷◌, ◌++◌, Option, Result, add-one, ap, ap₂, arith, drop, get_or, length, map, nat_le, refl, subst, sym}
 use Rattle.std.proofs.Math.Seq.{drop-cons}
 use Rattle.std.proofs.lemmas.Bool.Decides.{nat_tests}
-use Rattle.std.specs.Io.KnownBytes.{Appends}
-use Rattle.std.specs.Prelude.{OnOk}
 use Rattle.rs_catalog.specs.Definitions.{pieces_of}
+use Rattle.rs_dump.specs.Written.{PutsBytes}
+use Rattle.rs_dump.specs.declared.stop.Stop.{Stop}
 use Rattle.rs_dump_laws.specs.Dump.{written_piece}
 use Rattle.rs_machine.specs.declared.limits.TheConstants.{LINE_BYTES}
 use Rattle.rs_syntax.specs.View.{piece_tree}
 use Rattle.rs_syntax.specs.declared.commands.Piece as code
 
-pub put_as : {T E : Type 0} (r : Result T E) (a b : Option (List ℕ)) (told wanted : List ℕ) → told ≡ wanted → OnOk r (Appends a b (told ++ 10 ∷ [])) → OnOk r (Appends a b (wanted ++ 10 ∷ []))
-put_as r a b told wanted same put = subst (λ (bytes : List ℕ). OnOk r (Appends a b (bytes ++ 10 ∷ []))) same put
+pub put_as : {T : Type 0} (r : Result T Stop) (a b : Option (List ℕ)) (told wanted : List ℕ) → told ≡ wanted → PutsBytes r (told ++ 10 ∷ []) a b → PutsBytes r (wanted ++ 10 ∷ []) a b
+put_as r a b told wanted same put = subst (λ (bytes : List ℕ). PutsBytes r (bytes ++ 10 ∷ []) a b) same put
 
 -- pieces as they are kept are written as they were
 pub pieces_written : (pieces : List code.Piece) → map piece_tree pieces ≡ map written_piece (pieces_of pieces)

@@ -48,17 +48,17 @@ texts_of definitions name = text_in (names.get definitions.views name)
 same_name-itself : (name : Name) → same_name name name ≡ true
 same_name-itself name = (eq_by_cmp_equiv name_cmp-total).refl name
 
-has_value : {X Y : Type 0} (f : X → Y) (found : Option X) → is_some (option_map f found) ≡ is_some found
+pub has_value : {X Y : Type 0} (f : X → Y) (found : Option X) → is_some (option_map f found) ≡ is_some found
 has_value f None = refl
 has_value f (Some x) = refl
 
 -- the item of a view that the state has
-record IsOfItem (definitions : Definitions) (name : Name) (query : QueryTree) : Type 0 where
-  item : ViewItem
-  there : names.get definitions.views name ≡ Some item
-  same : query_tree item.query ≡ query
+pub record IsOfItem (definitions : Definitions) (name : Name) (query : QueryTree) : Type 0 where
+  pub item : ViewItem
+  pub there : names.get definitions.views name ≡ Some item
+  pub same : query_tree item.query ≡ query
 
-of_item : (definitions : Definitions) (name : Name) (query : QueryTree) → names.get (views_of definitions) name ≡ Some query → IsOfItem definitions name query
+pub of_item : (definitions : Definitions) (name : Name) (query : QueryTree) → names.get (views_of definitions) name ≡ Some query → IsOfItem definitions name query
 of_item definitions name query there = by (names.get definitions.views name) refl (sym (get-views_of definitions name) ∙ there)
   where
     by : (found : Option ViewItem) → names.get definitions.views name ≡ found → option_map (λ (item : ViewItem). query_tree item.query) found ≡ Some query → IsOfItem definitions name query

@@ -8,10 +8,14 @@ use Rattle.rs_dump.specs.Alignments.{fitting, too_long}
 use Rattle.rs_dump.specs.Sections.{index_commands, named_route, named_table, referent_commands, route_commands, row_commands, rows_of_table, table_commands, table_of, table_seen}
 use Rattle.rs_dump.specs.Shown.{Shown}
 use Rattle.rs_dump.specs.Views.{AreInTurn, HasAllThatPass, HasAllViews, LacksSome, view_of}
-use Rattle.rs_dump.specs.Written.{line_bytes, lines_bytes}
+use Rattle.rs_dump.specs.Stopping.{HasNoTable}
+use Rattle.rs_dump.specs.Written.{WroteFront, line_bytes, lines_bytes}
 use Rattle.rs_dump.specs.declared.held.NamedTable.{NamedTable}
+use Rattle.rs_dump.specs.declared.stop.Stop.{Stop}
+use Rattle.rs_dump.specs.declared.stop.Stop.TheVariants.{Refused}
 use Rattle.rs_dump_laws.specs.Dump.{alignment_command}
 use Rattle.rs_facts.specs.Fact.{Name}
+use Rattle.rs_refusal.specs.declared.refusal.Refusal.TheVariants.{NoSuchName}
 use Rattle.rs_syntax.specs.Tree.{CommandTree}
 
 -- ---- the sections
@@ -64,3 +68,34 @@ pub record WroteTable (definitions : Definitions) (shown : Shown) (omits_rows : 
   pub there : names.get definitions.tables name ≡ Some item
   pub put : Appends before after (lines_bytes (table_of (name, item)
       ∷ (if omits_rows then [] else rows_of_table (named_table (name, item)) (map named_route (names.entries definitions.routes)) shown)))
+
+-- ---- what was written where it stopped
+
+-- a front of alignments that fit, views in turn and indexes
+pub record FrontOfLast (definitions : Definitions) (referents : Numbered HeldReferents) (stop : Stop) (before after : Option (List ℕ)) : Type 0 where
+  pub views : List (Name × ViewItem)
+  pub in_turn : AreInTurn (record { definitions = definitions; referents = referents; left_out = map (λ entry. entry.0) (too_long (names.entries definitions.alignments)) }) [] views
+  pub front : WroteFront stop (lines_bytes (last_commands definitions views)) before after
+
+-- a front of all sections, or of all but the rows
+pub record FrontOfAll (definitions : Definitions) (referents : Numbered HeldReferents) (shown : Shown) (omits_rows : Bool) (stop : Stop) (before after : Option (List ℕ)) : Type 0 where
+  pub views : List (Name × ViewItem)
+  pub in_turn : AreInTurn (record { definitions = definitions; referents = referents; left_out = map (λ entry. entry.0) (too_long (names.entries definitions.alignments)) }) [] views
+  pub front : WroteFront stop (lines_bytes (first_commands definitions shown ++ ((if omits_rows then [] else all_rows definitions shown) ++ last_commands definitions views))) before after
+
+-- there is no table of this name, and nothing was written
+pub record MissesTable (definitions : Definitions) (name : Name) (stop : Stop) (before after : Option (List ℕ)) : Type 0 where
+  pub is : stop ≡ Refused NoSuchName
+  pub none : HasNoTable definitions name
+  pub kept : after ≡ before
+
+-- a front of the lines that are told of the table of this name
+pub record FrontInTable (definitions : Definitions) (lines : TableItem → List CommandTree) (name : Name) (stop : Stop) (before after : Option (List ℕ)) : Type 0 where
+  pub item : TableItem
+  pub there : names.get definitions.tables name ≡ Some item
+  pub front : WroteFront stop (lines_bytes (lines item)) before after
+
+-- there is no such table; or a front of its definition and its rows, or of its definition alone
+abbrev pub FrontOfTable : Definitions → Shown → Bool → Name → Stop → Option (List ℕ) → Option (List ℕ) → Type 0
+FrontOfTable definitions shown omits_rows name stop before after = MissesTable definitions name stop before after ⊎ FrontInTable definitions (λ item. table_of (name, item)
+    ∷ (if omits_rows then [] else rows_of_table (named_table (name, item)) (map named_route (names.entries definitions.routes)) shown)) name stop before after

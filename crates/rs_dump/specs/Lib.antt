@@ -4,5 +4,6 @@ pub mod Views
 pub mod Alignments
 pub mod Shown
 pub mod Reads
+pub mod Stopping
 pub mod Dumped
 pub mod States

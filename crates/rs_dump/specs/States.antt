@@ -1,12 +1,13 @@
 -- What is dumped of a state of the machine, and what is a dump of it.
-use Rattle.std.specs.Prelude.{◌≡◌, ℕ, Bool, false, List, Option, Some}
+use Rattle.std.specs.Prelude.{◌≡◌, ℕ, Bool, false, List, [], Option, Some}
 use Rattle.std.specs.FinMap as names
 use Rattle.std.specs.Io.KnownBytes.{Appends}
 use Rattle.rs_catalog.specs.Definitions.{Definitions, Numbered, Rest, RouteItem, TableItem, ViewItem, state_from}
 use Rattle.rs_catalog.specs.Referents.{HeldReferents, referents_on}
+use Rattle.rs_dump.specs.Alignments.{too_long}
 use Rattle.rs_dump.specs.Shown.{Shown}
 use Rattle.rs_dump.specs.Written.{lines_bytes}
-use Rattle.rs_dump_laws.specs.Dump.{IsDumpOf}
+use Rattle.rs_dump_laws.specs.Dump.{IsDumpOf, ViewsPass}
 use Rattle.rs_dump_laws.specs.Kept.{IsKeeping, Keeping, kept_of}
 use Rattle.rs_dump_lines.specs.Texts.{HaveLines}
 use Rattle.rs_facts.specs.Fact.{Name}
@@ -35,6 +36,12 @@ pub record IsStateOf (definitions : Definitions) (held : Numbered HeldReferents)
       → (on : Name) (route : RouteItem) → names.get definitions.routes on ≡ Some route
       → AreAllRunsOf table.kind (places_of (spans_on table.number route.number)) (shown.spans table.number table.kind route.number)
   pub views : Each definitions.views HasDefiningLine
+
+-- Nothing of the state has to be left out: no alignment is too long for a line, and each view passes now the checks of its DEFINE line,
+-- asked of the whole state.
+pub record CanBeDumpedWhole (state : State) : Type 0 where
+  pub alignments : too_long (names.entries state.alignments) ≡ []
+  pub views : ViewsPass state
 
 -- The output grew by the lines of a dump of the state without some views and alignments; where nothing is said to be left out, of the
 -- whole state.

@@ -6,7 +6,8 @@ use Rattle.std.specs.Io.KnownBytes.{Appends}
 use Rattle.arrayvec.specs.ArrayString.{ArrayString}
 use Rattle.rs_catalog.specs.Definitions.{Definitions, Numbered, Rest, ViewItem, state_from}
 use Rattle.rs_catalog.specs.Referents.{HeldReferents, referents_on}
-use Rattle.rs_dump.specs.Written.{lines_bytes}
+use Rattle.rs_dump.specs.Written.{StopsWriting, WroteFront, lines_bytes}
+use Rattle.rs_dump.specs.declared.stop.Stop.{Stop}
 use Rattle.rs_dump.specs.declared.views.Defined.{Defined}
 use Rattle.rs_dump.specs.declared.views.LeftOut.{LeftOut}
 use Rattle.rs_dump.specs.declared.views.Sorted.{Sorted}
@@ -62,6 +63,17 @@ pub record IsSorted (known : Known) (written : List Name) (before after : Option
   pub named : map (λ view. view.0) views ≡ written
   pub in_turn : AreInTurn known [] views
   pub put : Appends before after (lines_bytes (map view_of views))
+
+-- the output grew by a front of the lines of such views
+pub record FrontOfViews (known : Known) (stop : Stop) (before after : Option (List ℕ)) : Type 0 where
+  pub views : List (Name × ViewItem)
+  pub in_turn : AreInTurn known [] views
+  pub front : WroteFront stop (lines_bytes (map view_of views)) before after
+
+-- it stops for want of memory or since the output failed, and among the lines of views where it began with them
+abbrev pub StopsSorting : Defined → Sorted → Stop → Option (List ℕ) → Option (List ℕ) → Type 0
+StopsSorting defined old stop output output_now = StopsWriting stop × ((before : Option (List ℕ)) → IsSorted (known_of defined) (names_of old.written.items) before output
+    → FrontOfViews (known_of defined) stop before output_now)
 
 -- so it was, and so it is
 abbrev pub sorts : Defined → Sorted → Sorted → Option (List ℕ) → Option (List ℕ) → Type 0

@@ -1,8 +1,13 @@
 -- What is written: the lines of commands, each with its LF.
-use Rattle.std.specs.Prelude.{◌≡◌, ℕ, Bool, nat_le, List, [], ◌∷◌, ◌++◌, length, OnOk, Option, Result}
+use Rattle.std.specs.Prelude.{◌≡◌, ◌≢◌, ◌⊎◌, ℕ, Bool, nat_le, List, [], ◌∷◌, ◌++◌, length, MatchResult, Option, Result}
 use Rattle.std.specs.Io.KnownBytes.{Appends}
+use Rattle.rs_dump.specs.declared.stop.Stop.{Stop}
+use Rattle.rs_dump.specs.declared.stop.Stop.TheVariants.{Refused, Stream}
 use Rattle.rs_dump_laws.specs.Lines.{dump_line}
 use Rattle.rs_machine.specs.declared.limits.TheConstants.{LINE_BYTES}
+use Rattle.rs_protocol.specs.Puts.{PutsBut}
+use Rattle.rs_protocol.specs.declared.stream.Fault.TheVariants.{Write}
+use Rattle.rs_refusal.specs.declared.refusal.Refusal.TheVariants.{OutOfMemory}
 use Rattle.rs_syntax.specs.Tree.{CommandTree}
 
 abbrev pub line_bytes : CommandTree → List ℕ
@@ -16,12 +21,32 @@ lines_bytes (tree ∷ trees) = line_bytes tree ++ lines_bytes trees
 abbrev pub fits_line : CommandTree → Bool
 fits_line tree = nat_le (length (dump_line tree)) LINE_BYTES
 
--- where it answers Ok, the output grew by the line, or by the lines
-abbrev pub Writes : {T E : Type 0} → Result T E → CommandTree → Option (List ℕ) → Option (List ℕ) → Type 0
-Writes result tree before after = OnOk result (Appends before after (line_bytes tree))
+-- ---- where it stops
 
-abbrev pub WritesAll : {T E : Type 0} → Result T E → List CommandTree → Option (List ℕ) → Option (List ℕ) → Type 0
-WritesAll result trees before after = OnOk result (Appends before after (lines_bytes trees))
+-- for want of memory, or since the output failed
+abbrev pub StopsWriting : Stop → Type 0
+StopsWriting stop = (stop ≡ Refused OutOfMemory) ⊎ (stop ≡ Stream Write)
+
+-- The output grew by a front of the bytes. What comes after it is lost, which is something where the output failed.
+pub record WroteFront (stop : Stop) (bytes : List ℕ) (before after : Option (List ℕ)) : Type 0 where
+  pub lost : List ℕ
+  pub put : PutsBut bytes lost before after
+  pub lacks : stop ≡ Stream Write → lost ≢ []
+
+-- The output grew by the bytes; or, for want of memory or since it failed, by a front of them.
+abbrev pub PutsBytes : {T : Type 0} → Result T Stop → List ℕ → Option (List ℕ) → Option (List ℕ) → Type 0
+PutsBytes result bytes before after = MatchResult result (λ _. Appends before after bytes) (λ stop. StopsWriting stop × WroteFront stop bytes before after)
+
+-- so it grew by the line, or by the lines
+abbrev pub Writes : {T : Type 0} → Result T Stop → CommandTree → Option (List ℕ) → Option (List ℕ) → Type 0
+Writes result tree before after = PutsBytes result (line_bytes tree) before after
+
+abbrev pub WritesAll : {T : Type 0} → Result T Stop → List CommandTree → Option (List ℕ) → Option (List ℕ) → Type 0
+WritesAll result trees before after = PutsBytes result (lines_bytes trees) before after
+
+-- the same, for whatever reason it stops
+abbrev pub WritesRead : {T : Type 0} → Result T Stop → List CommandTree → Option (List ℕ) → Option (List ℕ) → Type 0
+WritesRead result trees before after = MatchResult result (λ _. Appends before after (lines_bytes trees)) (λ stop. WroteFront stop (lines_bytes trees) before after)
 
 -- The output grew by the lines of some commands, which with those that are left are all.
 pub record WroteSome (all left : List CommandTree) (before after : Option (List ℕ)) : Type 0 where

@@ -1,10 +1,10 @@
 //! The lines of alignments. One that is too long for a line is left out and told.
 
-ghost use Rattle.std.specs.Prelude.{◌≡◌, ◌≢◌, [], false, true, IfOk, OnOk, map};
+ghost use Rattle.std.specs.Prelude.{◌≡◌, ◌≢◌, ◌∷◌, [], false, true, IfOk, MatchResult, map};
 ghost use Rattle.std.specs.FinMap as names;
 ghost use Rattle.rs_dump.specs.Alignments.{Steps, fitting, too_long};
 ghost use Rattle.rs_dump.specs.Views.{names_of};
-ghost use Rattle.rs_dump.specs.Written.{WritesAll};
+ghost use Rattle.rs_dump.specs.Written.{StopsWriting, WritesAll, WroteFront, lines_bytes};
 ghost use Rattle.rs_dump_laws.specs.Dump.{alignment_command};
 
 use crate::put::put_alignment;
@@ -41,7 +41,8 @@ fn write_alignment<W: Write>(
     left_out: &mut Vec<Name>,
     output: &mut W,
 ) -> Result<(), Stop>
-    ensures { OnOk result (Steps (name.now.bytes, alignment.now) left_out.old.items left_out.new.items (W.contents output.old) (W.contents output.new)) }
+    ensures { MatchResult result (λ _. Steps (name.now.bytes, alignment.now) left_out.old.items left_out.new.items (W.contents output.old) (W.contents output.new))
+        (λ stop. StopsWriting stop × WroteFront stop (lines_bytes (map alignment_command (fitting ((name.now.bytes, alignment.now) ∷ [])))) (W.contents output.old) (W.contents output.new)) }
 {
     if put_alignment(line, name, alignment, output)? {
         return Ok(());

@@ -1,10 +1,12 @@
 //! The dump: all sections, or the lines of one table.
 
-ghost use Rattle.std.specs.Prelude.{◌≡◌, ◌⊎◌, [], false, true, if◌then◌else◌, IfOk, IfSome, None, OnOk};
-ghost use Rattle.rs_dump.specs.Dumped.{PutsTable, WroteAll, WroteLast, WroteTable, all_rows, first_commands};
+ghost use Rattle.std.specs.Prelude.{◌≡◌, ◌⊎◌, ◌∷◌, [], false, true, if◌then◌else◌, IfErr, IfOk, IfSome, None, OnOk};
+ghost use Rattle.rs_dump.specs.Dumped.{FrontInTable, FrontOfAll, FrontOfLast, FrontOfTable, MissesTable, PutsTable, WroteAll, WroteLast, WroteTable, all_rows, first_commands};
 ghost use Rattle.rs_dump.specs.Reads.{Reads};
+ghost use Rattle.rs_dump.specs.Sections.{table_of};
 ghost use Rattle.rs_dump.specs.Shown.{Shown};
-ghost use Rattle.rs_dump.specs.Written.{WritesAll};
+ghost use Rattle.rs_dump.specs.Stopping.{StopsForTable, StopsReading};
+ghost use Rattle.rs_dump.specs.Written.{StopsWriting, WritesRead};
 
 use crate::alignments::{tell_left_out, write_alignments};
 use crate::definitions::{routes_of, tables_of, write_indexes, write_routes, write_tables};
@@ -44,6 +46,13 @@ pub fn dump<H: Held, W: Write, E: Write>(
         → IfOk result (λ lacks. WroteAll (H.catalog held.old) (H.referents held.old) shown wanted.entry.omits_rows lacks (W.contents output.old) (W.contents output.new)) }
     ensures table { IfSome wanted.entry.table (λ name. (shown : Shown) → H.shows held.old shown
         → OnOk result (WroteTable (H.catalog held.old) shown wanted.entry.omits_rows name.now (W.contents output.old) (W.contents output.new))) }
+    ensures whole_table { IfSome wanted.entry.table (λ _. IfOk result (λ lacks. lacks ≡ false)) }
+    ensures wants_all { wanted.entry.table ≡ None → IfErr result (λ stop. StopsReading H.Held stop held.old held.new) }
+    ensures wants_table { IfSome wanted.entry.table (λ name. IfErr result (λ stop. StopsForTable H.Held stop name.now held.old held.new)) }
+    ensures front_all { wanted.entry.table ≡ None → (shown : Shown) → H.shows held.old shown
+        → IfErr result (λ stop. FrontOfAll (H.catalog held.old) (H.referents held.old) shown wanted.entry.omits_rows stop (W.contents output.old) (W.contents output.new)) }
+    ensures front_table { IfSome wanted.entry.table (λ name. (shown : Shown) → H.shows held.old shown
+        → IfErr result (λ stop. FrontOfTable (H.catalog held.old) shown wanted.entry.omits_rows name.now stop (W.contents output.old) (W.contents output.new))) }
 {
     match wanted.table {
         Some(name) => write_table(alloc, held, name, wanted.omits_rows, output),
@@ -63,6 +72,9 @@ fn write_all<H: Held, W: Write, E: Write>(
     ensures quiet { IfOk result (λ lacks. lacks ≡ false → E.contents errors.new ≡ E.contents errors.old) }
     ensures all { (shown : Shown) → H.shows held.old shown
         → IfOk result (λ lacks. WroteAll (H.catalog held.old) (H.referents held.old) shown omits_rows lacks (W.contents output.old) (W.contents output.new)) }
+    ensures wants { IfErr result (λ stop. StopsReading H.Held stop held.old held.new) }
+    ensures front { (shown : Shown) → H.shows held.old shown
+        → IfErr result (λ stop. FrontOfAll (H.catalog held.old) (H.referents held.old) shown omits_rows stop (W.contents output.old) (W.contents output.new)) }
 {
     let mut line = String::new(alloc);
     write_first(alloc, held, &mut line, output)?;
@@ -78,7 +90,8 @@ fn write_first<H: Held, W: Write>(
     output: &mut W,
 ) -> Result<(), Stop>
     ensures reads { Reads H.Held held.old held.new }
-    ensures lines { (shown : Shown) → H.shows held.old shown → WritesAll result (first_commands (H.catalog held.old) shown) (W.contents output.old) (W.contents output.new) }
+    ensures lines { (shown : Shown) → H.shows held.old shown → WritesRead result (first_commands (H.catalog held.old) shown) (W.contents output.old) (W.contents output.new) }
+    ensures wants { IfErr result (λ stop. StopsReading H.Held stop held.old held.new) }
 {
     let routes = routes_of(alloc, held.catalog())?;
     write_routes(held.catalog(), line, output)?;
@@ -96,7 +109,8 @@ fn write_middle<H: Held, W: Write>(
 ) -> Result<(), Stop>
     ensures reads { Reads H.Held held.old held.new }
     ensures lines { (shown : Shown) → H.shows held.old shown
-        → WritesAll result (if omits_rows then [] else all_rows (H.catalog held.old) shown) (W.contents output.old) (W.contents output.new) }
+        → WritesRead result (if omits_rows then [] else all_rows (H.catalog held.old) shown) (W.contents output.old) (W.contents output.new) }
+    ensures wants { IfErr result (λ stop. StopsReading H.Held stop held.old held.new) }
 {
     if omits_rows {
         return Ok(());
@@ -116,6 +130,7 @@ fn write_last<H: Held, W: Write, E: Write>(
 ) -> Result<bool, Stop>
     ensures quiet { IfOk result (λ lacks. lacks ≡ false → E.contents errors.new ≡ E.contents errors.old) }
     ensures last { IfOk result (λ lacks. WroteLast (H.catalog held.now) (H.referents held.now) lacks (W.contents output.old) (W.contents output.new)) }
+    ensures stops { IfErr result (λ stop. StopsWriting stop × FrontOfLast (H.catalog held.now) (H.referents held.now) stop (W.contents output.old) (W.contents output.new)) }
 {
     let left_out = write_alignments(alloc, held.catalog(), output)?;
     let lacks_alignments = tell_left_out(&left_out, errors);
@@ -153,6 +168,10 @@ fn write_table<H: Held, W: Write>(
     ensures reads { Reads H.Held held.old held.new }
     ensures table { (shown : Shown) → H.shows held.old shown
         → OnOk result (WroteTable (H.catalog held.old) shown omits_rows name.now (W.contents output.old) (W.contents output.new)) }
+    ensures whole { IfOk result (λ lacks. lacks ≡ false) }
+    ensures wants { IfErr result (λ stop. StopsForTable H.Held stop name.now held.old held.new) }
+    ensures front { (shown : Shown) → H.shows held.old shown
+        → IfErr result (λ stop. FrontOfTable (H.catalog held.old) shown omits_rows name.now stop (W.contents output.old) (W.contents output.new)) }
 {
     let mut line = String::new(alloc);
     let table = put_named_table(held.catalog(), name, &mut line, output)?;
@@ -171,7 +190,9 @@ fn put_named_table<W: Write>(
     line: &mut String,
     output: &mut W,
 ) -> Result<NamedTable, Stop>
-    ensures { IfOk result (PutsTable catalog.now name.now (W.contents output.old) (W.contents output.new)) }
+    ensures puts { IfOk result (PutsTable catalog.now name.now (W.contents output.old) (W.contents output.new)) }
+    ensures stops { IfErr result (λ stop. MissesTable catalog.now name.now stop (W.contents output.old) (W.contents output.new)
+        ⊎ (StopsWriting stop × FrontInTable catalog.now (λ item. table_of (name.now, item) ∷ []) name.now stop (W.contents output.old) (W.contents output.new))) }
 {
     let Ok(own) = Name::from(name) else {
         return Err(Stop::Refused(Refusal::NoSuchName));

@@ -2,12 +2,13 @@
 //!
 //! What it shows is a relation, since it may keep what no value of its own says.
 
-ghost use Rattle.std.specs.Prelude.{◌≡◌, IfOk, map};
+ghost use Rattle.std.specs.Prelude.{◌≡◌, IfErr, IfOk, map};
 ghost use Rattle.rs_catalog.specs.Definitions.{Definitions, Numbered};
 ghost use Rattle.rs_catalog.specs.Referents.{HeldReferents};
 ghost use Rattle.rs_dump.specs.Shown.{Shown};
 ghost use Rattle.rs_facts.specs.Spans.{seen};
 ghost use Rattle.rs_methods.specs.Referents.{mark_of};
+ghost use Rattle.rs_refusal.specs.declared.refusal.Refusal.{Refusal};
 
 use rs_catalog::{Catalog, RouteReferents};
 use rs_facts::Span;
@@ -50,6 +51,9 @@ pub trait Held {
     /// What a call keeps of all else, such as the bytes of a disk.
     ghost passes: { Self → Self → Type 0 };
 
+    /// Why calls may be refused that begin with the one and end with the other.
+    ghost wants: { Refusal → Self → Self → Type 0 };
+
     /// The definitions.
     fn catalog(&self) -> &Catalog
         ensures { result.now ≡ catalog self.now };
@@ -65,6 +69,7 @@ pub trait Held {
         route: &NamedRoute,
     ) -> Result<Vec<Referent>, Refusal>
         ensures lists { (shown : Shown) → shows self.old shown → IfOk result (λ found. map mark_of found.items ≡ shown.referents route.now.number) }
+        ensures wants { IfErr result (λ why. wants why self.old self.new) }
         ensures catalog { catalog self.new ≡ catalog self.old }
         ensures referents { referents self.new ≡ referents self.old }
         ensures shows { (shown : Shown) → shows self.old shown → shows self.new shown }
@@ -78,8 +83,12 @@ pub trait Held {
         route: &NamedRoute,
     ) -> Result<Vec<Span>, Refusal>
         ensures lists { (shown : Shown) → shows self.old shown → IfOk result (λ found. map seen found.items ≡ shown.spans table.now.number table.now.kind route.now.number) }
+        ensures wants { IfErr result (λ why. wants why self.old self.new) }
         ensures catalog { catalog self.new ≡ catalog self.old }
         ensures referents { referents self.new ≡ referents self.old }
         ensures shows { (shown : Shown) → shows self.old shown → shows self.new shown }
         ensures passes { passes self.old self.new };
+
+    /// Why a call is refused is also why it is refused together with the calls before it.
+    ghost wants_later: { (why : Refusal) (a b c : Self) → passes a b → wants why b c → wants why a c };
 }

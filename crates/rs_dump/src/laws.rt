@@ -6,7 +6,7 @@ ghost use Rattle.rs_catalog.specs.Definitions.{Definitions, Numbered};
 ghost use Rattle.rs_catalog.specs.Referents.{HeldReferents};
 ghost use Rattle.rs_dump.specs.Dumped.{WroteAll};
 ghost use Rattle.rs_dump.specs.Shown.{Shown};
-ghost use Rattle.rs_dump.specs.States.{IsDumped, IsStateOf};
+ghost use Rattle.rs_dump.specs.States.{CanBeDumpedWhole, IsDumped, IsStateOf};
 ghost use Rattle.rs_dump_laws.specs.Dump.{rebuilt};
 ghost use Rattle.rs_dump_laws.specs.Kept.{kept_of};
 ghost use Rattle.rs_dump_laws.specs.Lines.{dump_line};
@@ -19,7 +19,7 @@ ghost use Rattle.rs_machine.specs.declared.limits.TheConstants.{CHANGES};
 ghost use Rattle.rs_machine_laws.specs.ViewLines.{IsReadable};
 
 use rs_dump_laws::keeping::kept_state_can_be_dumped;
-use rs_dump_laws::listing::listed_parts_are_all;
+use rs_dump_laws::listing::{lawful_state_has_a_dump, listed_parts_are_all};
 use rs_dump_laws::replaying::lines_of_a_dump_rebuild_the_state;
 use rs_dump_lines::asking::lines_of_a_dump_ask_its_commands;
 
@@ -31,6 +31,17 @@ pub fn what_is_written_is_a_dump()
 {
     kept_state_can_be_dumped();
     listed_parts_are_all();
+}
+
+/// Just where no alignment of a lawful state is too long for a line and each of its views passes now the checks of its DEFINE line, nothing
+/// lacks in what is written of it, with its rows or without.
+pub fn state_that_passes_is_dumped_whole()
+    ensures whole { (definitions : Definitions) (held : Numbered HeldReferents) (shown : Shown) (state : State) (omits_rows lacks : Bool) (before after : Option (List ℕ))
+        → IsStateOf definitions held shown state → WroteAll definitions held shown omits_rows lacks before after → CanBeDumpedWhole state → lacks ≡ false }
+    ensures only { (definitions : Definitions) (held : Numbered HeldReferents) (shown : Shown) (state : State) (omits_rows lacks : Bool) (before after : Option (List ℕ))
+        → IsStateOf definitions held shown state → WroteAll definitions held shown omits_rows lacks before after → lacks ≡ false → CanBeDumpedWhole state }
+{
+    lawful_state_has_a_dump();
 }
 
 /// Where each line that was dumped is readable (no longer than a line may be, and text) and there are no more of them than a file's life

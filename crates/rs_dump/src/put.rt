@@ -2,12 +2,14 @@
 //!
 //! Each takes room for a line, in place of what is there.
 
-ghost use Rattle.std.specs.Prelude.{◌≡◌, ◌∷◌, [], ◌++◌, IfOk, Ok, OnOk, false, true};
+ghost use Rattle.std.specs.Prelude.{◌≡◌, ◌∷◌, [], ◌++◌, IfErr, IfOk, Ok, false, true};
 ghost use Rattle.std.specs.Io.KnownBytes.{Appends};
-ghost use Rattle.rs_dump.specs.Written.{Writes, fits_line, line_bytes};
+ghost use Rattle.rs_dump.specs.Written.{PutsBytes, StopsWriting, Writes, WroteFront, fits_line, line_bytes};
+ghost use Rattle.rs_dump.specs.declared.stop.Stop.TheVariants.{Refused};
 ghost use Rattle.rs_dump_laws.specs.Dump.{alignment_command, location_of, route_command};
 ghost use Rattle.rs_facts.specs.Spans.{seen};
 ghost use Rattle.rs_methods.specs.Position.{absolute};
+ghost use Rattle.rs_refusal.specs.declared.refusal.Refusal.TheVariants.{OutOfMemory};
 ghost use Rattle.rs_syntax.specs.Tree.{QueryTree, define_index, define_referent, define_table, define_view, insert};
 
 use crate::stop::Stop;
@@ -26,7 +28,7 @@ use std::io::Write;
 
 /// Writes the line and its LF.
 fn put_line<W: Write>(line: &str, output: &mut W) -> Result<(), Stop>
-    ensures { OnOk result (Appends (W.contents output.old) (W.contents output.new) (line.now ++ 10 ∷ [])) }
+    ensures { PutsBytes result (line.now ++ 10 ∷ []) (W.contents output.old) (W.contents output.new) }
 {
     put_parts(output, &[line.as_bytes(), b"\n"])?;
     Ok(())
@@ -108,6 +110,9 @@ pub fn put_alignment<W: Write>(
     alignment: &AlignmentEntry,
     output: &mut W,
 ) -> Result<bool, Stop>
+    ensures stops { IfErr result (λ stop. StopsWriting stop × WroteFront stop (line_bytes (alignment_command (name.now.bytes, alignment.now))) (W.contents output.old) (W.contents output.new)) }
+    ensures long { fits_line (alignment_command (name.now.bytes, alignment.now)) ≡ false
+        → IfErr result (λ stop. (stop ≡ Refused OutOfMemory) × (W.contents output.new ≡ W.contents output.old)) }
     ensures fits { IfOk result (λ fits. fits ≡ fits_line (alignment_command (name.now.bytes, alignment.now))) }
     ensures put { result ≡ Ok true → Appends (W.contents output.old) (W.contents output.new) (line_bytes (alignment_command (name.now.bytes, alignment.now))) }
     ensures kept { result ≡ Ok false → W.contents output.new ≡ W.contents output.old }

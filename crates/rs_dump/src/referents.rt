@@ -1,10 +1,11 @@
 //! The lines of referents, route by route and in the order of their names.
 
-ghost use Rattle.std.specs.Prelude.{map};
+ghost use Rattle.std.specs.Prelude.{IfErr, map};
 ghost use Rattle.rs_dump.specs.Reads.{Reads};
 ghost use Rattle.rs_dump.specs.Sections.{referent_commands, referents_of_route, route_seen};
 ghost use Rattle.rs_dump.specs.Shown.{Shown};
-ghost use Rattle.rs_dump.specs.Written.{WritesAll};
+ghost use Rattle.rs_dump.specs.Stopping.{StopsReading};
+ghost use Rattle.rs_dump.specs.Written.{WritesAll, WritesRead};
 ghost use Rattle.rs_methods.specs.Referents.{mark_of};
 
 use crate::held::{Held, NamedRoute};
@@ -23,7 +24,8 @@ pub fn write_referents<H: Held, W: Write>(
     output: &mut W,
 ) -> Result<(), Stop>
     ensures reads { Reads H.Held held.old held.new }
-    ensures lines { (shown : Shown) → H.shows held.old shown → WritesAll result (referent_commands (map route_seen routes.now) shown) (W.contents output.old) (W.contents output.new) }
+    ensures lines { (shown : Shown) → H.shows held.old shown → WritesRead result (referent_commands (map route_seen routes.now) shown) (W.contents output.old) (W.contents output.new) }
+    ensures wants { IfErr result (λ stop. StopsReading H.Held stop held.old held.new) }
 {
     for route in routes {
         let referents = held.listed_referents(alloc, route)?;

@@ -2,11 +2,12 @@
 //!
 //! The spans of one table on one route are in memory at a time.
 
-ghost use Rattle.std.specs.Prelude.{map};
+ghost use Rattle.std.specs.Prelude.{IfErr, map};
 ghost use Rattle.rs_dump.specs.Reads.{Reads};
 ghost use Rattle.rs_dump.specs.Sections.{route_seen, row_commands, rows_of_table, rows_on, table_seen};
 ghost use Rattle.rs_dump.specs.Shown.{Shown};
-ghost use Rattle.rs_dump.specs.Written.{WritesAll};
+ghost use Rattle.rs_dump.specs.Stopping.{StopsReading};
+ghost use Rattle.rs_dump.specs.Written.{WritesAll, WritesRead};
 ghost use Rattle.rs_facts.specs.Spans.{seen};
 
 use crate::held::{Held, NamedRoute, NamedTable};
@@ -26,7 +27,8 @@ pub fn write_rows<H: Held, W: Write>(
     output: &mut W,
 ) -> Result<(), Stop>
     ensures reads { Reads H.Held held.old held.new }
-    ensures lines { (shown : Shown) → H.shows held.old shown → WritesAll result (row_commands (map table_seen tables.now) (map route_seen routes.now) shown) (W.contents output.old) (W.contents output.new) }
+    ensures lines { (shown : Shown) → H.shows held.old shown → WritesRead result (row_commands (map table_seen tables.now) (map route_seen routes.now) shown) (W.contents output.old) (W.contents output.new) }
+    ensures wants { IfErr result (λ stop. StopsReading H.Held stop held.old held.new) }
 {
     for table in tables {
         write_rows_of(alloc, held, table, routes, line, output)?;
@@ -44,7 +46,8 @@ pub fn write_rows_of<H: Held, W: Write>(
     output: &mut W,
 ) -> Result<(), Stop>
     ensures reads { Reads H.Held held.old held.new }
-    ensures lines { (shown : Shown) → H.shows held.old shown → WritesAll result (rows_of_table (table_seen table.now) (map route_seen routes.now) shown) (W.contents output.old) (W.contents output.new) }
+    ensures lines { (shown : Shown) → H.shows held.old shown → WritesRead result (rows_of_table (table_seen table.now) (map route_seen routes.now) shown) (W.contents output.old) (W.contents output.new) }
+    ensures wants { IfErr result (λ stop. StopsReading H.Held stop held.old held.new) }
 {
     for route in routes {
         let spans = held.listed_spans(alloc, table, route)?;

@@ -3,10 +3,11 @@
 //! A view that its DEFINE line would be refused now, one that names such a one, and one that names an alignment that was left out are
 //! told and left out; no other is.
 
-ghost use Rattle.std.specs.Prelude.{◌≡◌, ◌≢◌, ◌∷◌, [], ◌++◌, ℕ, IfOk, IfSome, OnOk, Contains, List, Option, Some, false, true};
+ghost use Rattle.std.specs.Prelude.{◌≡◌, ◌≢◌, ◌∷◌, [], ◌++◌, ℕ, IfErr, IfOk, IfSome, OnOk, Contains, List, Option, Some, false, true};
 ghost use Rattle.std.specs.FinMap as names;
 ghost use Rattle.std.specs.List.{AllByRecursion};
-ghost use Rattle.rs_dump.specs.Views.{AreRefused, Goes, HasAllThatPass, HasAllViews, IsReady, IsSorted, LacksForAReason, LacksSome, MayLack, NamesOneOf, NamesUnwritten, WroteViews, known_of, left_out_as, names_of, refused_names};
+ghost use Rattle.rs_dump.specs.Views.{AreRefused, FrontOfViews, Goes, HasAllThatPass, HasAllViews, IsReady, IsSorted, LacksForAReason, LacksSome, MayLack, NamesOneOf, NamesUnwritten, StopsSorting, WroteViews, known_of, left_out_as, names_of, refused_names};
+ghost use Rattle.rs_dump.specs.Written.{StopsWriting};
 ghost use Rattle.rs_facts.specs.Fact.{Name};
 ghost use Rattle.rs_machine.specs.Opening.{names_alignment, names_query};
 ghost use Rattle.rs_machine.specs.State.{has};
@@ -63,6 +64,7 @@ pub fn write_views<W: Write, E: Write>(
 ) -> Result<bool, Stop>
     ensures quiet { IfOk result (λ lacks. lacks ≡ false → E.contents errors.new ≡ E.contents errors.old) }
     ensures views { IfOk result (λ lacks. WroteViews (known_of defined.now) lacks (W.contents output.old) (W.contents output.new)) }
+    ensures stops { IfErr result (λ stop. StopsWriting stop × FrontOfViews (known_of defined.now) stop (W.contents output.old) (W.contents output.new)) }
 {
     let mut sorted = Sorted {
         written: Vec::new(defined.alloc),
@@ -82,6 +84,7 @@ fn write_rounds<W: Write>(
     ensures goes { OnOk result (Goes defined.now sorted.old sorted.new (W.contents output.old) (W.contents output.new)) }
     ensures passing { OnOk result ((before : Option (List ℕ)) → IsSorted (known_of defined.now) (names_of sorted.old.written.items) before (W.contents output.old)
         → AreRefused (known_of defined.now) sorted.old.refused.items → HasAllThatPass (known_of defined.now) (names_of sorted.new.written.items)) }
+    ensures stops { IfErr result (λ stop. StopsSorting defined.now sorted.old stop (W.contents output.old) (W.contents output.new)) }
 {
     for _round in 0..defined.catalog.views_len() {
         let before = sorted.written.len();
@@ -102,6 +105,7 @@ fn write_ready<W: Write>(
     ensures goes { OnOk result (Goes defined.now sorted.old sorted.new (W.contents output.old) (W.contents output.new)) }
     ensures passing { OnOk result (sorted.new.written.items ≡ sorted.old.written.items → AreRefused (known_of defined.now) sorted.old.refused.items
         → HasAllThatPass (known_of defined.now) (names_of sorted.old.written.items)) }
+    ensures stops { IfErr result (λ stop. StopsSorting defined.now sorted.old stop (W.contents output.old) (W.contents output.new)) }
 {
     for (name, view) in defined.catalog.views() {
         write_one(defined, sorted, name, view, output)?;
@@ -121,6 +125,7 @@ fn write_one<W: Write>(
     ensures goes { OnOk result (Goes defined.now sorted.old sorted.new (W.contents output.old) (W.contents output.new)) }
     ensures lacks { OnOk result (sorted.new.written.items ≡ sorted.old.written.items → AreRefused (known_of defined.now) sorted.old.refused.items
         → LacksForAReason (known_of defined.now) (names_of sorted.old.written.items) (name.now.bytes, view.now)) }
+    ensures stops { IfErr result (λ stop. StopsSorting defined.now sorted.old stop (W.contents output.old) (W.contents output.new)) }
 {
     if !may_be_written(defined, sorted, name, view) {
         return Ok(());
@@ -142,6 +147,7 @@ fn write_view<W: Write>(
     ensures goes { OnOk result (Goes defined.now sorted.old sorted.new (W.contents output.old) (W.contents output.new)) }
     ensures lacks { OnOk result (sorted.new.written.items ≡ sorted.old.written.items
         → MayLack (known_of defined.now) (names_of sorted.old.written.items) (query_tree view.now.query)) }
+    ensures stops { IfErr result (λ stop. StopsSorting defined.now sorted.old stop (W.contents output.old) (W.contents output.new)) }
 {
     match check(
         defined.alloc,
@@ -164,6 +170,7 @@ fn note_refusal(sorted: &mut Sorted, name: &Name, refusal: Refusal) -> Result<()
     ensures known { OnOk result (refusal ≢ Refusal.OutOfMemory) }
     ensures written { OnOk result (sorted.new.written.items ≡ sorted.old.written.items) }
     ensures refused { OnOk result (sorted.new.refused.items ≡ sorted.old.refused.items ++ left_out_as name.now refusal ∷ []) }
+    ensures stops { IfErr result (λ stop. stop ≡ Stop.Refused Refusal.OutOfMemory) }
 {
     match refusal {
         Refusal::OutOfMemory => Err(Stop::Refused(Refusal::OutOfMemory)),

@@ -1,18 +1,24 @@
 -- What is shown of a file that is dumped, and what a dump of a disk is.
-use Rattle.std.specs.Prelude.{◌≡◌, ◌-◌, ◌^◌, ℕ, Bool, IfSome, List, Option, None}
+use Rattle.std.specs.Prelude.{◌≡◌, ◌⊎◌, ◌-◌, ◌^◌, ℕ, Bool, IfSome, List, Option, None, Some}
 use Rattle.std.specs.FinMap as names
 use Rattle.rs_catalog.specs.Definitions.{Definitions, Numbered}
 use Rattle.rs_catalog.specs.Referents.{HeldReferents, referents_on}
 use Rattle.rs_disk.specs.Content.{Content}
 use Rattle.rs_disk.specs.declared.disk.Disk as disk
-use Rattle.rs_dump.specs.Dumped.{WroteAll, WroteTable}
+use Rattle.rs_dump.specs.Dumped.{FrontOfAll, FrontOfTable, WroteAll, WroteTable}
 use Rattle.rs_dump.specs.Shown.{Shown}
 use Rattle.rs_dump.specs.States.{IsStateOf}
+use Rattle.rs_dump.specs.Written.{StopsWriting}
+use Rattle.rs_dump.specs.declared.stop.Stop.{Stop}
+use Rattle.rs_dump.specs.declared.stop.Stop.TheVariants.{Refused}
 use Rattle.rs_event_reads.specs.Read.{spans_in}
 use Rattle.rs_event_reads.specs.declared.window.RouteWindow.{RouteWindow}
 use Rattle.rs_facts.specs.Fact.{Name}
 use Rattle.rs_machine.specs.State.{State}
+use Rattle.rs_refusal.specs.declared.refusal.Refusal.{Refusal}
+use Rattle.rs_refusal.specs.declared.refusal.Refusal.TheVariants as refusal
 use Rattle.rs_standing.specs.Seen.{events_of}
+use Rattle.rs_store.specs.Calls.{IsLeftOpen, IsNoFileOfAny, WantsOpening}
 use Rattle.rs_store.specs.Kept.{StandsIn, StoreState}
 use Rattle.rs_store.specs.Standing.{Stands}
 use Rattle.rs_value.specs.declared.column.Kind.{Kind}
@@ -42,3 +48,39 @@ pub record DumpsDisk (limit : ℕ) (content : Content) (table : Option Name) (om
   pub is : IsStateOf definitions held shown state
   pub all : table ≡ None → WroteAll definitions held shown omits_rows lacks before after
   pub one : IfSome table (λ name. WroteTable definitions shown omits_rows name before after)
+
+-- ---- why a dump of a disk stops
+
+-- For want of memory, since the output failed, since the table that is wanted is not there, or since the file is refused as one that is
+-- opened may be. Nothing is refused for want of room.
+abbrev pub WantsDumping : Stop → Type 0
+WantsDumping stop = StopsWriting stop ⊎ (stop ≡ Refused refusal.NoSuchName) ⊎ ((why : Refusal) × (stop ≡ Refused why) × WantsOpening why)
+
+-- The file was refused, and nothing was written. It is damaged only where the disk is a file of no state, closed or not, and was not closed
+-- only where it is a file of some state and its flag is set.
+pub record RefusesDisk (limit : ℕ) (content : Content) (stop : Stop) (before after : Option (List ℕ)) : Type 0 where
+  pub why : Refusal
+  pub is : stop ≡ Refused why
+  pub wants : WantsOpening why
+  pub damaged : why ≡ refusal.DamagedFile → IsNoFileOfAny limit content
+  pub left_open : why ≡ refusal.FileNotClosed → IsLeftOpen limit content
+  pub kept : after ≡ before
+
+-- one table of the state is wanted, and it has none of this name
+pub record LacksTable (table : Option Name) (state : State) : Type 0 where
+  pub name : Name
+  pub wanted : table ≡ Some name
+  pub missing : names.get state.tables name ≡ None
+
+-- The disk stands for a state, and a front of what was wanted of it was written: memory, the disk or the output gave out; or there is no
+-- such table.
+pub record StopsDumping (limit : ℕ) (content : Content) (table : Option Name) (omits_rows : Bool) (stop : Stop) (before after : Option (List ℕ)) : Type 0 where
+  pub state : State
+  pub stood : Stands limit content state
+  pub definitions : Definitions
+  pub held : Numbered HeldReferents
+  pub shown : Shown
+  pub is : IsStateOf definitions held shown state
+  pub wants : StopsWriting stop ⊎ (stop ≡ Refused refusal.Disk) ⊎ ((stop ≡ Refused refusal.NoSuchName) × LacksTable table state)
+  pub all : table ≡ None → FrontOfAll definitions held shown omits_rows stop before after
+  pub one : IfSome table (λ name. FrontOfTable definitions shown omits_rows name stop before after)

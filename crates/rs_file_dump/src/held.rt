@@ -23,6 +23,8 @@ pub struct HeldFile<D: Disk> {
 impl<D: Disk> Held for HeldFile<D> {
     ghost use Rattle.rs_file_dump.specs.Files.{ShowsFile};
     ghost use Rattle.rs_store.specs.Reading.{ReadsStore};
+    ghost use Rattle.rs_store_reads.proofs.Passing.{wants_later};
+    ghost use Rattle.rs_store_reads.specs.Reads.{WantsReading};
 
     ghost catalog = { λ held. held.store.catalog };
 
@@ -31,6 +33,8 @@ impl<D: Disk> Held for HeldFile<D> {
     ghost shows = { λ held shown. ShowsFile D.Disk held.store shown };
 
     ghost passes = { λ old new. ReadsStore D.Disk old.store new.store };
+
+    ghost wants = { λ why old new. WantsReading D.Disk why old.store new.store };
 
     fn catalog(&self) -> &Catalog {
         self.store.catalog()
@@ -58,6 +62,8 @@ impl<D: Disk> Held for HeldFile<D> {
         let (spans, _reads) = self.store.spans(alloc, table.number, window)?;
         Ok(spans)
     }
+
+    ghost wants_later = { λ why a b c passed wanted. wants_later _ why a.store b.store c.store passed wanted };
 }
 
 /// All of a route at a version.

@@ -1,5 +1,5 @@
 -- How the program ends on its words follows from how it ends as they were read.
-use Rattle.std.proofs.Common.{◌≡◌, ◌≢◌, ℕ, Bool, true, false, List, [], ◌∷◌, ◌⊎◌, Option, Some, Result, Ok, Err, inl, inr, refl, sym, subst, append-nil}
+use Rattle.std.proofs.Common.{◌≡◌, ◌≢◌, ℕ, Bool, true, false, List, [], ◌∷◌, ◌⊎◌, Option, Some, Result, Ok, Err, inl, inr, refl, sym, subst}
 use Rattle.std.specs.Prelude.{IfOk}
 use Rattle.clap.specs.Words.{FailsBy, IsAmong, Kinds}
 use Rattle.clap.specs.Values.{kind_of}
@@ -11,8 +11,6 @@ use Rattle.std.specs.Borrow.{Bor}
 use Rattle.rs_command_line.specs.Asked.{Said, given_text, said_by, watches}
 use Rattle.rs_command_line.specs.declared.command_line.Asked.{Asked}
 use Rattle.rs_command_line.specs.declared.command_line.Asked.TheVariants as asked
-use Rattle.rs_csv.specs.Output.{IsOutput, Wrote, WroteAll}
-use Rattle.rs_syntax.specs.Tree.{CommandTree}
 use Rattle.rs_server.specs.declared.report.TheConstants.{MISUSE}
 use Rattle.rs_server.specs.Ending.{ShowsHelp, RefusesWords, LacksMemory, EndsBy, EndsOn, EndsAs, IsQuiet, IsQuietAs}
 
@@ -101,7 +99,3 @@ quiet_as words (Ok (asked.Csv said)) a b asks quiet = inl quiet
 quiet_as words (Ok (asked.Dump file table omits_rows)) a b asks quiet = inl quiet
 quiet_as words (Ok (asked.Explain refusal)) a b asks quiet = inl quiet
 quiet_as words (Ok (asked.Serve file address connections)) a b asks quiet = inl quiet
-
--- whole lines are a front of them too
-pub all_wrote : (session : ℕ) (table : CommandTree) (a b : Option (List ℕ)) → WroteAll session table a b → Wrote session table a b
-all_wrote session table a b all = record { sent = all.sent; lost = []; put = all.put; lines = subst (IsOutput session table) (sym (append-nil all.sent)) all.lines }

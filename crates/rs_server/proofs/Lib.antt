@@ -2,3 +2,4 @@ mod Saying
 mod Ending
 mod Closing
 mod Reopenings
+mod Dumps

@@ -3,3 +3,4 @@ pub mod Disks
 pub mod Ending
 pub mod Reopenings
 pub mod Saying
+pub mod Dumping

@@ -5,6 +5,7 @@ ghost use Rattle.std.specs.Option.{option_map};
 ghost use Rattle.std.specs.Io.KnownBytes.{Keeps};
 ghost use Rattle.rs_file_dump.specs.Files.{DumpsDisk};
 ghost use Rattle.rs_pages.specs.declared.pages.TheConstants.{GREATEST_LIMIT};
+ghost use Rattle.rs_server.specs.Dumping.{FailsToDump};
 
 use crate::report::{FAILED, Failure, SUCCESS, report_failure};
 use rs_disk::Disk;
@@ -26,6 +27,8 @@ pub fn dump_on<D: Disk + Drop, W: Write, E: Write>(
 ) -> u8
     ensures dumps { IsTrue (D.is_honest disk) → result ≡ SUCCESS
         → DumpsDisk GREATEST_LIMIT (D.seen disk) (option_map (λ t. t.now) wanted.entry.table) wanted.entry.omits_rows false (W.contents output.old) (W.contents output.new) }
+    ensures fails { IsTrue (D.is_honest disk) → result ≡ FAILED
+        → FailsToDump GREATEST_LIMIT (D.seen disk) (option_map (λ t. t.now) wanted.entry.table) wanted.entry.omits_rows (W.contents output.old) (W.contents output.new) }
     ensures quiet { result ≡ SUCCESS → Keeps (E.contents errors.old) (E.contents errors.new) }
 {
     let (_disk, ended) = dump_disk(alloc, disk, wanted, output, errors);

@@ -1,10 +1,11 @@
-use Rattle.std.proofs.Common.{IfSome}
-use Rattle.rs_csv.specs.Output.{IsPlanOf, IsQuiet, Makes, plan_in, table_of}
+use Rattle.std.proofs.Common.{ℕ, List, Some}
+use Rattle.rs_csv.specs.Output.{IsPlanned, IsQuiet, Makes, table_of}
+use Rattle.rs_csv.proofs.Readers.{HasRead}
 use Rattle.rs_csv.proofs.filter.read_records.Given as goal
 
 abbrev pub invariant-records : goal.invariant-records
 invariant-records g l = record {
-  planned : IfSome (plan_in l.progress) (IsPlanOf l.job.wanted.session (table_of l.job.definition));
-  made : Makes l.job.wanted.session (table_of l.job.definition) (plan_in l.fn.progress) l.fn.progress.made.bytes.items (plan_in l.progress) l.progress.made.bytes.items;
+  planned : IsPlanned l.job.wanted (table_of l.job.definition) l.progress;
+  made : (records : List (List (List ℕ))) × HasRead (λ s. Some s.now) l.text records l.reader × Makes l.job.wanted (table_of l.job.definition) records l.fn.progress l.progress;
   quiet : IsQuiet l.fn.progress.made.has_told l.progress.made.has_told (g.E.Write.contents l.fn.errors) (g.E.Write.contents l.errors);
 }

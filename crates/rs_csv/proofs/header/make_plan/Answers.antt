@@ -1,26 +1,43 @@
-use Rattle.std.proofs.Common.{◌≡◌, ◌∙◌, ◌<◌, ◌≤◌, List, [], ◌∷◌, length, map, take, refl, sym, ap, subst, arith, take_all}
-use Rattle.std.proofs.lemmas.List.{length-map}
-use Rattle.rs_syntax.specs.declared.commands.ColumnDefinition.{ColumnDefinition}
+use Rattle.std.proofs.Common.{◌≡◌, ◌∙◌, ◌<◌, ◌≤◌, length, get_or, map, refl, sym, ap, subst, arith, take, take_all}
+use Rattle.std.proofs.KnownBytes.{Keeps-trans}
+use Rattle.csv.specs.Records.{fields_of}
 use Rattle.rs_syntax.specs.View.{column_tree}
+use Rattle.rs_csv.specs.Header.{AreColumnsOf, IsCalled}
+use Rattle.rs_csv.proofs.Headers.{columns_length, columns_step}
 use Rattle.rs_csv.proofs.header.make_plan.Goals as goal
-
-types_of : (definitions : List ColumnDefinition) → map (λ column. column.column_type) definitions ≡ map (λ definition. definition.1) (map column_tree definitions)
-types_of [] = refl
-types_of (definition ∷ definitions) = ap (λ types. definition.column_type ∷ types) (types_of definitions)
 
 pub returns-clause-plan : goal.returns-clause-plan
 returns-clause-plan g c =
     let items = c.args.definition.now.columns.items in
+    let header = fields_of c.args.header.now in
+    let wanted = c.args.wanted.now in
     let beyond : length items ≤ c.loop-column.column-index = omega (arith, ap length c.deref-column-items.ensures.value, c.deref-column-items.ensures.len, c.loop-column-test.false) in
     let all : take c.loop-column.column-index items ≡ items = take_all c.loop-column.column-index items beyond in
-    let types : map (λ column. column.column_type) c.loop-column.columns.items ≡ map (λ column. column.column_type) items = c.loop-column.invariant.types ∙ ap (map (λ column. column.column_type)) all in
+    let columns = subst (λ taken. AreColumnsOf wanted header (map column_tree taken) c.loop-column.columns.items) all c.loop-column.invariant.columns in
+    let count = columns_length wanted header (map column_tree items) c.loop-column.columns.items columns in
     record {
       kind = c.args.definition.now.kind;
       definitions = map column_tree items;
       table_is = refl;
-      types = types ∙ types_of items;
+      columns = columns;
+      route = c.in_ok-route.ensures.named;
+      place = c.in_ok-place.ensures.named;
       named = c.requires.defines.sound.0;
-      some = subst (λ n. 0 < n) (sym (sym (length-map c.loop-column.columns.items (λ column. column.column_type)) ∙ (ap length types ∙ length-map items (λ column. column.column_type)))) (omega (arith, subst (λ n. 1 ≤ n) (length-map items column_tree) c.requires.defines.sound.1));
+      some = subst (λ n. 0 < n) (sym count) (omega (arith, c.requires.defines.sound.1));
       session_is = refl;
       in_range = c.requires.in_range;
+    }
+
+pub loop-column-preserved : goal.loop-column-preserved
+loop-column-preserved g c =
+    let items = c.args.definition.now.columns.items in
+    let i = c.loop-column.column-index in
+    let less : i < length items = omega (arith, ap length c.deref-column-items.ensures.value, c.deref-column-items.ensures.len, c.loop-column-test.true) in
+    let named = c.in_ok-field.ensures.named in
+    record {
+      quiet = Keeps-trans _ _ _ c.loop-column.invariant.quiet c.in_ok-field.ensures.quiet;
+      columns =
+          columns_step c.args.wanted.now (fields_of c.args.header.now) items i c.column-item.result c.loop-column.columns.items _ _ less
+          (c.column-item.is ∙ ap (λ list. get_or list i c.column-item.result) c.deref-column-items.ensures.value) c.loop-column.invariant.columns
+          (refl, (named.0, subst (λ column. IsCalled (map (λ words. words.now) c.args.wanted.now.columns.now) column named.0) c.as_str.ensures.value named.1, named.2)) c.in_ok-push.ensures.items;
     }

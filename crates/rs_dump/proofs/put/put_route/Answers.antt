@@ -2,7 +2,11 @@ use Rattle.std.proofs.Common.{◌∙◌, ◌++◌, ap, ap₂}
 use Rattle.rs_dump_laws.specs.Lines.{dump_line}
 use Rattle.rs_syntax.specs.Tree.{define_route}
 use Rattle.rs_dump.proofs.Puts.{put_as}
+use Rattle.rs_dump.proofs.Stops.{memory_wanted}
 use Rattle.rs_dump.proofs.put.put_route.Goals as goal
+
+pub returns-in_err-push_route_line : goal.returns-in_err-push_route_line
+returns-in_err-push_route_line g c = memory_wanted c.from_residual.result _ _ (g.W.Write.contents c.args.output.now) c.from_residual.ensures.1
 
 pub returns : goal.returns
 returns g c =

@@ -4,7 +4,8 @@ use Rattle.std.proofs.Math.ListN.{drop_of_length-le}
 use Rattle.rs_dump.specs.Sections.{route_seen, row_commands, rows_of_table, table_seen}
 use Rattle.rs_dump.specs.declared.held.NamedTable.{NamedTable}
 use Rattle.rs_dump.proofs.Puts.{next_left}
-use Rattle.rs_dump.proofs.Reading.{reads_joined, reads_nothing}
+use Rattle.rs_dump.proofs.Reading.{reads_joined, reads_nothing, stops_after}
+use Rattle.rs_dump.proofs.Stops.{passed_on, stops_chunk}
 use Rattle.rs_dump.proofs.Written.{wrote_all, wrote_chunk, wrote_first}
 use Rattle.rs_dump.proofs.rows.write_rows.Goals as goal
 
@@ -39,3 +40,21 @@ returns-clause-lines g c = λ shown shows.
     let none : drop c.loop-table.table-index tables ≡ [] = drop_of_length-le tables (omega (arith, c.loop-table-test.false)) in
     wrote_all (row_commands (map table_seen tables) (map route_seen routes) shown) (row_commands (map table_seen (drop c.loop-table.table-index tables)) (map route_seen routes) shown) (g.W.Write.contents c.args.output.now) (g.W.Write.contents c.loop-table.output)
     (c.loop-table.invariant.lines shown shows) (ap (λ (l : List NamedTable). row_commands (map table_seen l) (map route_seen routes) shown) none)
+
+pub returns-in_err-write_rows_of-clause-lines : goal.returns-in_err-write_rows_of-clause-lines
+returns-in_err-write_rows_of-clause-lines g c = λ shown shows.
+    let tables = c.args.tables.now in
+    let routes = c.args.routes.now in
+    let one = c.table-item.result in
+    let stop = c.in_err-write_rows_of.field-0.0 in
+    passed_on c.from_residual.result stop _ _ c.from_residual.ensures.1
+    (stops_chunk stop (row_commands (map table_seen tables) (map route_seen routes) shown) (row_commands (map table_seen (drop c.loop-table.table-index tables)) (map route_seen routes) shown) (row_commands (map table_seen (drop (c.loop-table.table-index + 1) tables)) (map route_seen routes) shown)
+    (rows_of_table (table_seen one) (map route_seen routes) shown) (g.W.Write.contents c.args.output.now) (g.W.Write.contents c.loop-table.output) (g.W.Write.contents c.write_rows_of.new.output)
+    (ap (λ (l : List NamedTable). row_commands (map table_seen l) (map route_seen routes) shown) (next_left tables c.loop-table.table-index one c.loop-table-test.true c.table-item.is))
+    (c.loop-table.invariant.lines shown shows) (c.in_err-write_rows_of.ensures.lines shown (c.loop-table.invariant.reads.shows shown shows)))
+
+pub returns-in_err-write_rows_of-clause-wants : goal.returns-in_err-write_rows_of-clause-wants
+returns-in_err-write_rows_of-clause-wants g c =
+    let stop = c.in_err-write_rows_of.field-0.0 in
+    passed_on c.from_residual.result stop _ _ c.from_residual.ensures.1
+    (stops_after g.H.Held g.met.H.Held.wants_later stop c.args.held.now c.loop-table.held c.write_rows_of.new.held c.loop-table.invariant.reads c.in_err-write_rows_of.ensures.wants)

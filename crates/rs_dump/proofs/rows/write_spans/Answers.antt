@@ -7,6 +7,7 @@ use Rattle.rs_facts.specs.Spans.{seen}
 use Rattle.rs_facts.specs.declared.fact.Span.{Span}
 use Rattle.rs_syntax.specs.Tree.{CommandTree, insert}
 use Rattle.rs_dump.proofs.Puts.{next_left}
+use Rattle.rs_dump.proofs.Stops.{passed_on, stops_line}
 use Rattle.rs_dump.proofs.Written.{wrote_all, wrote_first, wrote_more}
 use Rattle.rs_dump.proofs.rows.write_spans.Goals as goal
 
@@ -35,3 +36,17 @@ returns g c =
     wrote_all (rows_on place.table.bytes place.route.bytes place.kind (map seen spans)) (rows_on place.table.bytes place.route.bytes place.kind (map seen (drop c.loop-span.span-index spans)))
     (g.W.Write.contents c.args.output.now) (g.W.Write.contents c.loop-span.output) c.loop-span.invariant
     (ap (λ (l : List Span). rows_on place.table.bytes place.route.bytes place.kind (map seen l)) none)
+
+pub returns-in_err-put_row : goal.returns-in_err-put_row
+returns-in_err-put_row g c =
+    let place = c.args.place.now in
+    let spans = c.args.spans.now in
+    let one = c.span-item.result in
+    let lines : List Span → List CommandTree = λ (l : List Span). rows_on place.table.bytes place.route.bytes place.kind (map seen l) in
+    passed_on c.from_residual.result c.in_err-put_row.field-0.0 _ _ c.from_residual.ensures.1 (
+      c.in_err-put_row.ensures.0,
+      stops_line c.in_err-put_row.field-0.0 (lines spans) (lines (drop c.loop-span.span-index spans)) (lines (drop (c.loop-span.span-index + 1) spans))
+          (insert place.table.bytes place.route.bytes (location_of place.kind (seen one)) (seen one).row)
+          (g.W.Write.contents c.args.output.now) (g.W.Write.contents c.loop-span.output) (g.W.Write.contents c.put_row.new.output)
+          (ap lines (next_left spans c.loop-span.span-index one c.loop-span-test.true c.span-item.is)) c.loop-span.invariant c.in_err-put_row.ensures.1,
+    )

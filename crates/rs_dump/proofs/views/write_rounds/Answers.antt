@@ -4,6 +4,7 @@ use Rattle.arrayvec.specs.ArrayString.{ArrayString}
 use Rattle.rs_dump.specs.Views.{HasAllThatPass, known_of, names_of}
 use Rattle.rs_dump.proofs.Counted.{all_of_them}
 use Rattle.rs_dump.proofs.Rounds.{goes_nowhere, goes_on, grown_length, same_list}
+use Rattle.rs_dump.proofs.Stops.{passed_on}
 use Rattle.rs_dump.proofs.views.write_rounds.Goals as goal
 
 pub loop-round-init : goal.loop-round-init
@@ -50,3 +51,8 @@ pub returns-clause-passing : goal.returns-clause-passing
 returns-clause-passing g c = λ before sorted are.
     all_of_them (known_of c.args.defined.now) c.loop-round.sorted.written.items before (g.W.Write.contents c.loop-round.output)
     (c.loop-round.invariant.goes.sorted before sorted) (omega (arith, c.views_len-round-end.ensures, c.loop-round.invariant.count))
+
+pub returns-in_err-write_ready-clause-stops : goal.returns-in_err-write_ready-clause-stops
+returns-in_err-write_ready-clause-stops g c =
+    let stops = c.in_err-write_ready.ensures.stops in
+    passed_on c.from_residual.result c.in_err-write_ready.field-0.0 _ _ c.from_residual.ensures.1 (stops.0, λ before sorted. stops.1 before (c.loop-round.invariant.goes.sorted before sorted))

@@ -1,19 +1,16 @@
-use Rattle.std.proofs.Common.{[], inl}
-use Rattle.std.proofs.KnownBytes.{Appends-nil}
-use Rattle.rs_syntax.specs.Tree.{define_route}
-use Rattle.rs_csv.specs.Output.{nothing}
-use Rattle.rs_server.proofs.Ending.{all_wrote}
+use Rattle.std.proofs.Common.{◌∙◌, ap, inl, inr, Ok, arith}
+use Rattle.std.proofs.KnownBytes.{Keeps-refl}
 use Rattle.rs_server.proofs.words.convert.Goals as goal
 
 pub returns-in_default-clause-lines : goal.returns-in_default-clause-lines
-returns-in_default-clause-lines g c = (0, define_route [] 0 0, record { sent = []; lost = []; put = Appends-nil _; lines = inl (λ plan. nothing) })
+returns-in_default-clause-lines g c = inl (λ is. omega (arith, c.refuse.ensures, is), Keeps-refl _)
 
 pub returns-in-Ok-false-clause-lines : goal.returns-in-Ok-false-clause-lines
 returns-in-Ok-false-clause-lines g c =
-    let all = c.in-Ok-false.ensures.wrote in
-    (c.in-Some.session, all.0, all_wrote c.in-Some.session all.0 (g.W.Write.contents c.args.output.now) (g.W.Write.contents c.write_lines.new.output) all.1)
+    let all = c.write_lines.ensures.wrote in
+    inr (_, all.0, c.write_lines.result, all.1, λ is. c.in-Ok-false.is ∙ ap Ok c.in-Ok-false.field-0-test)
 
 pub returns-in-Ok-true-clause-lines : goal.returns-in-Ok-true-clause-lines
 returns-in-Ok-true-clause-lines g c =
-    let all = c.in-Ok-true.ensures.wrote in
-    (c.in-Some.session, all.0, all_wrote c.in-Some.session all.0 (g.W.Write.contents c.args.output.now) (g.W.Write.contents c.write_lines.new.output) all.1)
+    let all = c.write_lines.ensures.wrote in
+    inr (_, all.0, c.write_lines.result, all.1, λ is. absurd (omega (arith, is)))

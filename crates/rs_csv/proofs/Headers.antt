@@ -1,0 +1,102 @@
+-- The fields of a header that have a name, and the columns of a plan.
+use Rattle.std.proofs.Common.{◌≡◌, ◌∙◌, ◌⊎◌, inl, inr, ℕ, zero, suc, ◌+◌, ◌<◌, ◌≤◌, List, [], ◌∷◌, ◌++◌, length, map, Option, Some, None, refl, sym, ap, subst, arith}
+use Rattle.std.specs.Prelude.{is_some}
+use Rattle.std.proofs.lemmas.Bool.{false≢true}
+use Rattle.std.proofs.Common.{false, Bor, drop, get_or, take}
+use Rattle.std.proofs.lemmas.List.{drop-map, drop_all, drop_more, length-map, map-append, take_more}
+use Rattle.std.specs.List.{position_or_len, before_first}
+use Rattle.csv.specs.Records.{field_at}
+use Rattle.rs_value.specs.declared.column.ColumnType.{ColumnType}
+use Rattle.rs_syntax.specs.declared.commands.ColumnDefinition.{ColumnDefinition}
+use Rattle.rs_syntax.specs.View.{column_tree}
+use Rattle.rs_csv_lines.specs.declared.plan.Column.{Column}
+use Rattle.rs_csv.specs.declared.filter.Wanted.{Wanted}
+use Rattle.rs_csv.specs.Header.{HasName, IsNamed, IsColumnOf, AreColumnsOf, IsCalled, Renames, is_equals}
+
+-- what was found among the fields before a place
+abbrev pub NamedBelow : List (List ℕ) → List ℕ → ℕ → Option ℕ → Type 0
+NamedBelow header name end None = (place : ℕ) → place < end → ¬ HasName header name place
+NamedBelow header name end (Some found) = HasName header name found × ((place : ℕ) → place < end → HasName header name place → place ≡ found)
+
+pub below_start : (header : List (List ℕ)) (name : List ℕ) → NamedBelow header name 0 None
+below_start header name place less has = let wrong : ⊥ = omega arith in wrong
+
+last_or_below : (place end : ℕ) → place < end + 1 → (place < end) ⊎ (place ≡ end)
+last_or_below place zero less = inr (omega arith)
+last_or_below zero (suc end) less = inl (omega arith)
+last_or_below (suc place) (suc end) less = elim (last_or_below place end (omega arith)) [ inl below ↦ inl (omega arith) | inr last ↦ inr (ap suc last) ]
+
+pub below_first : (header : List (List ℕ)) (name : List ℕ) (end : ℕ) → NamedBelow header name end None → HasName header name end → NamedBelow header name (end + 1) (Some end)
+below_first header name end none has = (has, λ place less at. elim (last_or_below place end less) [ inl below ↦ absurd (none place below at) | inr last ↦ last ])
+
+pub below_other : (header : List (List ℕ)) (name : List ℕ) (end : ℕ) (found : Option ℕ) → NamedBelow header name end found → ¬ HasName header name end → NamedBelow header name (end + 1) found
+below_other header name end None none other = λ place less at. elim (last_or_below place end less) [ inl below ↦ none place below at | inr last ↦ other (subst (HasName header name) last at) ]
+below_other header name end (Some found) named other =
+    (named.0, λ place less at. elim (last_or_below place end less) [ inl below ↦ named.1 place below at | inr last ↦ absurd (other (subst (HasName header name) last at)) ])
+
+pub below_none : (header : List (List ℕ)) (name : List ℕ) (end : ℕ) (found : Option ℕ) → is_some found ≡ false → NamedBelow header name end found → NamedBelow header name end None
+below_none header name end None is named = named
+below_none header name end (Some found) is named = absurd (false≢true (sym is))
+
+within : (fields : List (List ℕ)) (place : ℕ) (field : List ℕ) → field_at fields place ≡ Some field → place < length fields
+unfolding field_at
+within [] place field is = cc
+within (one ∷ fields) zero field is = omega arith
+within (one ∷ fields) (suc place) field is = let less : place < length fields = within fields place field is in omega arith
+
+pub named_all : (header : List (List ℕ)) (name : List ℕ) (end found : ℕ) → length header ≤ end → NamedBelow header name end (Some found) → IsNamed header name found
+named_all header name end found all named = record {
+  has = named.0;
+  alone = λ other has. named.1 other (let less : other < length header = within header other has.0 has.1 in omega arith) has;
+}
+
+-- ---- columns
+
+pub columns_more : (wanted : Wanted) (header : List (List ℕ)) (definitions : List (List ℕ × ColumnType)) (columns : List Column) (definition : List ℕ × ColumnType) (column : Column)
+    → AreColumnsOf wanted header definitions columns → IsColumnOf wanted header definition column → AreColumnsOf wanted header (definitions ++ definition ∷ []) (columns ++ column ∷ [])
+columns_more wanted header [] [] definition column are is = (is, tt)
+columns_more wanted header [] (one ∷ columns) definition column are is = absurd are
+columns_more wanted header (one ∷ definitions) [] definition column are is = absurd are
+columns_more wanted header (one ∷ definitions) (other ∷ columns) definition column are is = (are.0, columns_more wanted header definitions columns definition column are.1 is)
+
+pub columns_length : (wanted : Wanted) (header : List (List ℕ)) (definitions : List (List ℕ × ColumnType)) (columns : List Column) → AreColumnsOf wanted header definitions columns → length columns ≡ length definitions
+columns_length wanted header [] [] are = refl
+columns_length wanted header [] (one ∷ columns) are = absurd are
+columns_length wanted header (one ∷ definitions) [] are = absurd are
+columns_length wanted header (one ∷ definitions) (other ∷ columns) are = ap suc (columns_length wanted header definitions columns are.1)
+
+pub columns_step : (wanted : Wanted) (header : List (List ℕ)) (items : List ColumnDefinition) (i : ℕ) (item : ColumnDefinition) (columns now : List Column) (column : Column) → i < length items → item ≡ get_or items i item
+    → AreColumnsOf wanted header (map column_tree (take i items)) columns → IsColumnOf wanted header (column_tree item) column → now ≡ columns ++ column ∷ []
+    → AreColumnsOf wanted header (map column_tree (take (i + 1) items)) now
+columns_step wanted header items i item columns now column less is are one grown =
+    let more : take (i + 1) items ≡ take i items ++ item ∷ [] = take_more items i item less ∙ ap (λ it. take i items ++ it ∷ []) (sym is) in
+    let all : map column_tree (take (i + 1) items) ≡ map column_tree (take i items) ++ column_tree item ∷ [] = ap (map column_tree) more ∙ map-append column_tree (take i items) (item ∷ []) in
+    subst (λ definitions. AreColumnsOf wanted header definitions now) (sym all)
+    (subst (AreColumnsOf wanted header (map column_tree (take i items) ++ column_tree item ∷ [])) (sym grown) (columns_more wanted header (map column_tree (take i items)) columns (column_tree item) column are one))
+
+-- ---- renamings
+
+abbrev texts : List (Bor (List ℕ)) → List (List ℕ)
+texts list = map (λ words. words.now) list
+
+pub words_at : (list : List (Bor (List ℕ))) (i : ℕ) (d : Bor (List ℕ)) → i < length list → drop i (map (λ words. words.now) list) ≡ (get_or list i d).now ∷ drop (i + 1) (map (λ words. words.now) list)
+words_at list i d less =
+    drop-map (λ (words : Bor (List ℕ)). words.now) i list ∙ (ap texts (drop_more list i d less) ∙ ap (λ rest. (get_or list i d).now ∷ rest) (sym (drop-map (λ (words : Bor (List ℕ)). words.now) (i + 1) list)))
+
+-- the name that the words at a place give
+pub is_called_at : (list : List (Bor (List ℕ))) (i : ℕ) (d : Bor (List ℕ)) (column name : List ℕ) → i < length list → Renames (get_or list i d).now column name → IsCalled (drop i (map (λ words. words.now) list)) column name
+is_called_at list i d column name less renames = subst (λ rest. IsCalled rest column name) (sym (words_at list i d less)) (inl renames)
+
+-- those at a place give it none
+pub is_called_after : (list : List (Bor (List ℕ))) (i : ℕ) (d : Bor (List ℕ)) (column name : List ℕ) → i < length list → ((other : List ℕ) → ¬ Renames (get_or list i d).now column other)
+    → IsCalled (drop (i + 1) (map (λ words. words.now) list)) column name → IsCalled (drop i (map (λ words. words.now) list)) column name
+is_called_after list i d column name less none called = subst (λ rest. IsCalled rest column name) (sym (words_at list i d less)) (inr (none, called))
+
+pub is_called_itself : (list : List (Bor (List ℕ))) (i : ℕ) (column : List ℕ) → length list ≤ i → IsCalled (drop i (map (λ words. words.now) list)) column column
+is_called_itself list i column past = subst (λ rest. IsCalled rest column column) (sym (drop_all i (texts list) (omega (arith, length-map list (λ (words : Bor (List ℕ)). words.now))))) refl
+
+pub not_cut : (words column : List ℕ) → position_or_len is_equals words ≡ length words → (other : List ℕ) → ¬ Renames words column other
+not_cut words column none other renames = let less = renames.0 in let wrong : ⊥ = omega arith in wrong
+
+pub not_named : (words column name : List ℕ) → name ≡ before_first is_equals words → (name ≡ column → ⊥) → (other : List ℕ) → ¬ Renames words column other
+not_named words column name is differs other renames = differs (is ∙ renames.1)

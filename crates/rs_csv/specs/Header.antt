@@ -1,0 +1,54 @@
+-- Which fields of a record a plan takes: those that have the names that are wanted in the header.
+use Rattle.std.specs.Prelude.{◌≡◌, ◌⊎◌, ℕ, ◌<◌, ◌==◌, Bool, List, [], ◌∷◌, length, map, Some}
+use Rattle.std.specs.List.{position_or_len, before_first, after_first}
+use Rattle.csv.specs.Records.{field_at}
+use Rattle.rs_value.specs.declared.column.ColumnType.{ColumnType}
+use Rattle.rs_value.specs.declared.column.Kind.{Kind}
+use Rattle.rs_value.specs.declared.column.Kind.TheVariants as kinds
+use Rattle.rs_csv_lines.specs.declared.plan.Column.{Column}
+use Rattle.rs_csv_lines.specs.declared.plan.Place.{Place}
+use Rattle.rs_csv_lines.specs.declared.plan.Place.TheVariants as places
+use Rattle.rs_csv_lines.specs.Fields.{content}
+use Rattle.rs_csv.specs.declared.filter.Wanted.{Wanted}
+
+-- the field of the header at a place is this name, in quotes or not
+abbrev pub HasName : List (List ℕ) → List ℕ → ℕ → Type 0
+HasName header name place = (field : List ℕ) × (field_at header place ≡ Some field) × (content field ≡ name)
+
+-- It is that field, and no other is.
+pub record IsNamed (header : List (List ℕ)) (name : List ℕ) (place : ℕ) : Type 0 where
+  pub has : HasName header name place
+  pub alone : (other : ℕ) → HasName header name other → other ≡ place
+
+-- ---- the names
+
+abbrev pub is_equals : ℕ → Bool
+is_equals byte = byte == 61
+
+-- the words are `column=name`, cut at their first `=`
+abbrev pub Renames : List ℕ → List ℕ → List ℕ → Type 0
+Renames words column name = (position_or_len is_equals words < length words) × (before_first is_equals words ≡ column) × (after_first is_equals words ≡ name)
+
+-- the name that is wanted for a column: the first `column=name` of the words gives it, or it is the column's own
+abbrev pub IsCalled : List (List ℕ) → List ℕ → List ℕ → Type 0
+IsCalled [] column name = name ≡ column
+IsCalled (words ∷ more) column name = Renames words column name ⊎ (((other : List ℕ) → ¬ Renames words column other) × IsCalled more column name)
+
+-- ---- the fields of a plan
+
+-- the fields that say where an event of this kind is
+abbrev pub IsPlaceNamed : Wanted → List (List ℕ) → Kind → Place → Type 0
+IsPlaceNamed wanted header kinds.Line (places.Along from to) = IsNamed header wanted.from.now from × IsNamed header wanted.to.now to
+IsPlaceNamed wanted header kinds.Point (places.At at) = IsNamed header wanted.at.now at
+IsPlaceNamed wanted header _ _ = ⊥
+
+-- the column of a plan is of the type of this column of the table, and takes the field that has the name that is wanted for it
+abbrev pub IsColumnOf : Wanted → List (List ℕ) → List ℕ × ColumnType → Column → Type 0
+IsColumnOf wanted header definition column =
+    (column.column_type ≡ definition.1) × ((name : List ℕ) × IsCalled (map (λ words. words.now) wanted.columns.now) definition.0 name × IsNamed header name column.field)
+
+-- the same of each, in their order
+abbrev pub AreColumnsOf : Wanted → List (List ℕ) → List (List ℕ × ColumnType) → List Column → Type 0
+AreColumnsOf wanted header [] [] = Unit {0}
+AreColumnsOf wanted header (definition ∷ definitions) (column ∷ columns) = IsColumnOf wanted header definition column × AreColumnsOf wanted header definitions columns
+AreColumnsOf wanted header _ _ = ⊥
