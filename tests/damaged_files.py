@@ -9,8 +9,8 @@ refuses it as the slow reader of files does; where it is opened, its questions a
 stay, and after one definition more it stands for that state. For one change of ten it is also counted what opening it takes:
 
 - it reads each page once, and where the file has more pages than are kept once more, and half of them again, since an index is read
-  once for each two megabytes of its table; and besides at most 64 bytes for each page of the file and four times the bytes of the
-  catalogue;
+  once for each two megabytes of its table; a page that is cut off twice; and besides at most 64 bytes for each page of the file and
+  four times the bytes of the catalogue;
 - it takes no more memory than 24 times the bytes of the file and a constant, whatever numbers stand in it. So each number of page
   0, of the directory and of the catalogue is also set to its greatest value, and to 2^63 where it is that wide.
 
@@ -78,7 +78,7 @@ def check_opened(program, case, answer):
     took = opened(program, case.data, answer)
     pages = len(case.data) // PAGE_BYTES + 1
     catalogue = min(int.from_bytes(case.data[48:52], "big"), len(case.data))
-    again = PAGE_BYTES * pages * 3 // 2 if pages > KEPT else 0
+    again = len(case.data) % PAGE_BYTES + (PAGE_BYTES * pages * 3 // 2 if pages > KEPT else 0)
     faults = []
     if took.bytes_beyond > again + 64 * pages + 4 * catalogue:
         faults.append("%s: %d bytes are read beyond each of %d pages once" % (case.title, took.bytes_beyond, pages))
