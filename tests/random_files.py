@@ -216,7 +216,7 @@ class RandomFile:
 
     def changed_text(self, text):
         """The text with a token more, less or other, or with blanks."""
-        tokens = TOKEN.findall(text)
+        tokens = TOKEN.findall(text) or [b""]
         place = self.by.randrange(len(tokens))
         match self.by.choice(["other", "other", "more", "out", "blank", "deep"]):
             case "other":
