@@ -1,8 +1,8 @@
 -- Where no page in use fits a number, no page of a tree has it.
-use Rattle.std.proofs.Common.{◌≡◌, ◌<◌, ℕ, false, Some, List, Result, Ok, Err, IfErr, OnOk, refl, subst}
+use Rattle.std.proofs.Common.{◌≡◌, ◌<◌, ℕ, false, Option, Some, None, IfNone, List, Result, Ok, Err, IfErr, OnOk, refl, subst}
 use Rattle.rs_page.specs.PageBytes.{is_free, IsFit}
 use Rattle.rs_page.specs.declared.header.PageKind.TheVariants as kind
-use Rattle.rs_pages.specs.PageMap.{PageMap, in_use, HasNoFit}
+use Rattle.rs_pages.specs.PageMap.{PageMap, HasNoFit}
 use Rattle.rs_pages.proofs.Stores.{used_there}
 use Rattle.rs_tree.specs.Content.{tree_header}
 use Rattle.rs_tree.specs.Node.{IsNode}
@@ -34,3 +34,8 @@ on_err (Err y) why P e p = let same : why ≡ y = cc in subst P same p
 pub on_ok : {T E P Q : Type 0} (result : Result T E) → OnOk result P → (P → Q) → OnOk result Q
 on_ok (Ok x) p f = f p
 on_ok (Err e) p f = tt
+
+-- what holds where nothing is there
+pub where_none : {X P : Type 0} (option : Option X) → ((x : X) → option ≡ Some x → ⊥) → IfNone option P → P
+where_none (Some x) none p = absurd (none x refl)
+where_none None none p = p

@@ -10,5 +10,6 @@ pub mod Node
 pub mod Layouts
 pub mod Asking
 pub mod Reading
+pub mod Looking
 pub mod Walking
 pub mod Forms

@@ -12,6 +12,7 @@ pub mod laws;
 pub mod layout;
 pub mod limits;
 pub mod load;
+pub mod look;
 pub mod node;
 pub mod search;
 pub mod splicing;

@@ -16,10 +16,9 @@ ghost use Rattle.rs_tree.specs.Forms.{form_in};
 ghost use Rattle.rs_pages.specs.Calls.{OnlyReads};
 
 use crate::asking::accepts;
-use crate::collect::collect;
 use crate::entry::{child, summary};
-use crate::load::load_into;
-use crate::{Layout, Node, Summary, content};
+use crate::look::look;
+use crate::{Layout, Summary, content};
 use rs_page::{Page, PageNumber};
 use rs_pages::Pages;
 use rs_records::{Cells, place, record_at};
@@ -56,19 +55,24 @@ pub fn walk<P: Pages, S: Summary, F: Fn(&S) -> bool>(
         → HasNoPart (form_in S.Summary layout) (P.store pages.old).map number
         levels left.old }
 {
-    let mut page = Page::new();
-    let node = load_into(pages, number, layout, left, &mut page)?;
-    match node {
-        Node::Leaf(count) => collect(&page, count, layout, low, high, keep, cells),
-        Node::Inner(count) => {
-            if levels == 0 {
-                return Err(Refusal::DamagedFile);
-            }
-            walk_entries(
-                pages, layout, &page, count, levels, low, high, keep, left, cells,
-            )
-        }
+    let Some(inner) = look(pages, layout, number, low, high, keep, left, cells)? else {
+        return Ok(());
+    };
+    if levels == 0 {
+        return Err(Refusal::DamagedFile);
     }
+    walk_entries(
+        pages,
+        layout,
+        &inner.page,
+        inner.count,
+        levels,
+        low,
+        high,
+        keep,
+        left,
+        cells,
+    )
 }
 
 /// Walks through what the entries of an inner page say.

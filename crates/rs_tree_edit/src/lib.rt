@@ -14,4 +14,4 @@ pub use adding::add_page;
 pub use choosing::{entry_for, has_key};
 pub use editing::{Edit, EditedPage, edit_page, header_of};
 pub use entries::write_entry_of;
-pub use reading::{read_into, read_part};
+pub use reading::read_part;

@@ -5,11 +5,11 @@ ghost use Rattle.rs_tree.specs.Reading.{HasNoNode, IsLoaded};
 ghost use Rattle.rs_pages.specs.Calls.{OnlyReads};
 ghost use Rattle.rs_page_owners.specs.Calls.{WorksOn};
 
-use rs_page::{Page, PageNumber};
+use rs_page::PageNumber;
 use rs_pages::Pages;
 use rs_refusal::Refusal;
-use rs_tree::load::{Loaded, load, load_into};
-use rs_tree::{Layout, Node};
+use rs_tree::Layout;
+use rs_tree::load::{Loaded, load};
 
 /// A copy of the page with this number, which is one of a tree's. It is refused with 91, and with 94 where it is no page
 /// of a tree.
@@ -25,21 +25,4 @@ pub fn read_part<P: Pages>(
 {
     let mut left = 1;
     load(pages, number, layout, &mut left)
-}
-
-/// The same, where the copy goes into a page of the caller's.
-pub fn read_into<P: Pages>(
-    pages: &mut P,
-    number: PageNumber,
-    layout: Layout,
-    copy: &mut Page,
-) -> Result<Node, Refusal>
-    ensures rests { OnlyReads P.Pages result pages.old pages.new }
-    ensures works { WorksOn P.Pages (HasNoNode (P.store pages.old).map number layout) result pages.old pages.new }
-    ensures room { result ≢ Err Refusal.FileFull }
-    ensures loaded { IfOk result (λ node. IsLoaded (P.is_tied pages.old) (P.store pages.old).map number layout
-        (record { page = copy.new; node = node })) }
-{
-    let mut left = 1;
-    load_into(pages, number, layout, &mut left, copy)
 }

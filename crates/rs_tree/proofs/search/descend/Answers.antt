@@ -7,7 +7,7 @@ use Rattle.rs_tree.specs.Calls.{Finds}
 use Rattle.rs_tree.specs.Walking.{Walks}
 use Rattle.rs_tree.proofs.Searching.{empty_finds, walk_finds, no_part-no_tree, walk_refuses}
 use Rattle.rs_tree.proofs.search.descend.Goals as goal
-use Rattle.rs_tree.specs.Forms.{form, form_in}
+use Rattle.rs_tree.specs.Forms.{form_in}
 
 pub returns-then-number-eq0-clause-found : goal.returns-then-number-eq0-clause-found
 returns-then-number-eq0-clause-found g c = λ tied test computes accepts.

@@ -9,88 +9,81 @@ use Rattle.rs_records.proofs.RecordLists.{times_upto, length-keys}
 use Rattle.rs_tree.specs.Form.{Form, joined, least_from, child_bytes}
 use Rattle.rs_tree.specs.Content.{content}
 use Rattle.rs_tree.specs.Layouts.{entry_bytes}
-use Rattle.rs_tree.specs.Node.{IsNode}
-use Rattle.rs_tree.specs.declared.node.Node.TheVariants.{Leaf, Inner}
-use Rattle.rs_tree.specs.Walking.{HasNoPart, Walks}
-use Rattle.rs_tree.proofs.Loading.{on_ok}
+use Rattle.rs_tree.specs.Looking.{FindsInner, FindsLeaf}
+use Rattle.rs_tree.specs.Walking.{HasNoPart, Walks, WalksEntries}
+use Rattle.rs_tree.proofs.Loading.{on_ok, where_none}
 use Rattle.rs_pages.proofs.Resting.{rests_then}
 use Rattle.rs_tree.proofs.Entries.{walks_next, walks_all, reads_next, reads_all, no_entry-no_parts}
 use Rattle.rs_tree.proofs.Entering.{walks_leaf, walks_inner, once_inner, no_parts-no_part, no_level-no_part, no_node-no_part, walks_accepted, walks_rejected, answer_told, records_fit, entry_there}
 use Rattle.rs_tree.proofs.walk.+walking.Goals as goal
-use Rattle.rs_tree.specs.Forms.{form, form_in}
+use Rattle.rs_tree.specs.Forms.{form_in}
 
-pub walk-returns-in_err-node-clause-damaged : goal.walk-returns-in_err-node-clause-damaged
-walk-returns-in_err-node-clause-damaged g t c = λ is tied.
+pub walk-returns-in_err-inner-clause-damaged : goal.walk-returns-in_err-inner-clause-damaged
+walk-returns-in_err-inner-clause-damaged g t c = λ is tied.
     let p = err_from_is_err_and c.from_residual.result c.from_residual.ensures.1 in
-    let why : c.in_err-node.field-0.0 ≡ refusal.DamagedFile = cc (p.1, p.2, is) in
+    let why : c.in_err-inner.field-0.0 ≡ refusal.DamagedFile = cc (p.1, p.2, is) in
     no_node-no_part (λ bytes cells. g.S.Summary.says bytes (joined g.S.Summary.unit g.S.Summary.join g.S.Summary.of cells)) c.args.layout
-    (g.P.Pages.store c.args.pages.now).map c.args.number c.args.levels c.args.left.now (λ some. c.in_err-node.ensures.refused.damaged tied why some)
+    (g.P.Pages.store c.args.pages.now).map c.args.number c.args.levels c.args.left.now (λ some. c.in_err-inner.ensures.damaged (ap Err why) tied some)
 
-pub walk-collect-requires-clause-fit : goal.walk-collect-requires-clause-fit
-walk-collect-requires-clause-fit g t c =
-    let node : IsNode c.load_into.new.copy.bytes c.args.number c.args.layout (Leaf c.in-Leaf.count) =
-    subst (IsNode c.load_into.new.copy.bytes c.args.number c.args.layout) c.in-Leaf.is c.in_ok-node.ensures.loaded.node in
-    records_fit c.load_into.new.copy.bytes kind.Leaf c.args.number c.in-Leaf.count c.args.layout.width node.0
+pub walk-returns-in_default-clause-walks : goal.walk-returns-in_default-clause-walks
+walk-returns-in_default-clause-walks g t c = λ tied test computes accepts.
+    let found : FindsLeaf (g.P.Pages.is_tied c.args.pages.now) (g.P.Pages.store c.args.pages.now).map c.args.number c.args.layout
+    c.args.low.now c.args.high.now (λ cell. test (g.S.Summary.of cell)) (listed c.args.cells.now) (listed c.look.new.cells) =
+    where_none c.in_ok-inner.field-0 c.in_default.not-Some c.in_ok-inner.ensures.leaf test computes in
+    walks_leaf (λ bytes cells. g.S.Summary.says bytes (joined g.S.Summary.unit g.S.Summary.join g.S.Summary.of cells)) c.args.layout
+    (g.P.Pages.store c.args.pages.now).map c.args.number found.page c.args.low.now c.args.high.now (λ cell. test (g.S.Summary.of cell))
+    (listed c.args.cells.now) (listed c.look.new.cells) c.args.left.now c.look.new.left c.look.new.left
+    c.in_ok-inner.ensures.counted (found.there tied) found.leaf.count found.leaf.node found.leaf.found
 
 pub walk-returns-then-levels-eq0-clause-damaged : goal.walk-returns-then-levels-eq0-clause-damaged
 walk-returns-then-levels-eq0-clause-damaged g t c = λ is tied.
     let form : Form = form_in g.S.Summary c.args.layout in
-    let node : IsNode c.load_into.new.copy.bytes c.args.number c.args.layout (Inner c.in-Inner.count) =
-    subst (IsNode c.load_into.new.copy.bytes c.args.number c.args.layout) c.in-Inner.is c.in_ok-node.ensures.loaded.node in
+    let found : FindsInner (g.P.Pages.is_tied c.args.pages.now) (g.P.Pages.store c.args.pages.now).map c.args.number c.args.layout c.in-Some.inner = search rules in
     let none = no_level-no_part (λ bytes cells. g.S.Summary.says bytes (joined g.S.Summary.unit g.S.Summary.join g.S.Summary.of cells)) c.args.layout
-    (g.P.Pages.store c.args.pages.now).map c.args.number c.load_into.new.copy.bytes [] [] (λ _. true) [] [] c.args.left.now c.load_into.new.left 0
-    c.in_ok-node.ensures.counted (c.in_ok-node.ensures.loaded.bytes tied) c.in-Inner.count node in
+    (g.P.Pages.store c.args.pages.now).map c.args.number c.in-Some.inner.page.bytes [] [] (λ _. true) [] [] c.args.left.now c.look.new.left 0
+    c.in_ok-inner.ensures.counted (found.there tied) c.in-Some.inner.count found.node in
     subst (λ levels. HasNoPart form (g.P.Pages.store c.args.pages.now).map c.args.number levels c.args.left.now) (sym c.if-levels-eq0.true) none
 
 pub walk-walk_entries-requires : goal.walk-walk_entries-requires
 walk-walk_entries-requires g t c κs within =
-    let node : IsNode c.load_into.new.copy.bytes c.args.number c.args.layout (Inner c.in-Inner.count) =
-    subst (IsNode c.load_into.new.copy.bytes c.args.number c.args.layout) c.in-Inner.is c.in_ok-node.ensures.loaded.node in
-    let fit : c.in-Inner.count * entry_bytes c.args.layout ≤ 4080 = records_fit c.load_into.new.copy.bytes kind.Inner c.args.number c.in-Inner.count (entry_bytes c.args.layout) node.0 in
+    let found : FindsInner (g.P.Pages.is_tied c.args.pages.now) (g.P.Pages.store c.args.pages.now).map c.args.number c.args.layout c.in-Some.inner = search rules in
+    let fit : c.in-Some.inner.count * entry_bytes c.args.layout ≤ 4080 =
+    records_fit c.in-Some.inner.page.bytes kind.Inner c.args.number c.in-Some.inner.count (entry_bytes c.args.layout) found.node.0 in
     search rules
 
-pub walk-returns-in-Leaf-clause-walks : goal.walk-returns-in-Leaf-clause-walks
-walk-returns-in-Leaf-clause-walks g t c =
-    let node : IsNode c.load_into.new.copy.bytes c.args.number c.args.layout (Leaf c.in-Leaf.count) =
-    subst (IsNode c.load_into.new.copy.bytes c.args.number c.args.layout) c.in-Leaf.is c.in_ok-node.ensures.loaded.node in
-    on_ok c.collect.result c.collect.ensures.found (λ found tied test computes accepts.
-    walks_leaf (λ bytes cells. g.S.Summary.says bytes (joined g.S.Summary.unit g.S.Summary.join g.S.Summary.of cells)) c.args.layout
-    (g.P.Pages.store c.args.pages.now).map c.args.number c.load_into.new.copy.bytes c.args.low.now c.args.high.now (λ cell. test (g.S.Summary.of cell))
-    (listed c.args.cells.now) (listed c.collect.new.cells) c.args.left.now c.load_into.new.left c.load_into.new.left
-    c.in_ok-node.ensures.counted (c.in_ok-node.ensures.loaded.bytes tied) c.in-Leaf.count node (found test computes))
-
-pub walk-returns-else-levels-eq0-clause-walks : goal.walk-returns-else-levels-eq0-clause-walks
-walk-returns-else-levels-eq0-clause-walks g t c =
-    let node : IsNode c.load_into.new.copy.bytes c.args.number c.args.layout (Inner c.in-Inner.count) =
-    subst (IsNode c.load_into.new.copy.bytes c.args.number c.args.layout) c.in-Inner.is c.in_ok-node.ensures.loaded.node in
+pub walk-returns-clause-walks : goal.walk-returns-clause-walks
+walk-returns-clause-walks g t c =
+    let found : FindsInner (g.P.Pages.is_tied c.args.pages.now) (g.P.Pages.store c.args.pages.now).map c.args.number c.args.layout c.in-Some.inner = search rules in
+    let same : listed c.look.new.cells ≡ listed c.args.cells.now = search rules in
     on_ok c.walk_entries.result c.walk_entries.ensures.walks (λ walks tied test computes accepts.
-    let later = g.met.P.Pages.keeps_tied c.args.pages.now c.load_into.new.pages c.in_ok-node.ensures.rests.below tied in
+    let later = g.met.P.Pages.keeps_tied c.args.pages.now c.look.new.pages c.in_ok-inner.ensures.rests.below tied in
     walks_inner (λ bytes cells. g.S.Summary.says bytes (joined g.S.Summary.unit g.S.Summary.join g.S.Summary.of cells)) c.args.layout
-    (g.P.Pages.store c.args.pages.now).map c.args.number c.load_into.new.copy.bytes c.args.low.now c.args.high.now (λ cell. test (g.S.Summary.of cell))
-    (listed c.args.cells.now) (listed c.walk_entries.new.cells) c.args.left.now c.load_into.new.left c.walk_entries.new.left
-    c.in_ok-node.ensures.counted (c.in_ok-node.ensures.loaded.bytes tied) c.in-Inner.count (g.P.Pages.store c.load_into.new.pages).map
-    (c.in_ok-node.ensures.rests.rests.keeps.pages tied) node (walks later test computes accepts))
+    (g.P.Pages.store c.args.pages.now).map c.args.number c.in-Some.inner.page.bytes c.args.low.now c.args.high.now (λ cell. test (g.S.Summary.of cell))
+    (listed c.args.cells.now) (listed c.walk_entries.new.cells) c.args.left.now c.look.new.left c.walk_entries.new.left
+    c.in_ok-inner.ensures.counted (found.there tied) c.in-Some.inner.count (g.P.Pages.store c.look.new.pages).map
+    (c.in_ok-inner.ensures.rests.rests.keeps.pages tied) found.node
+    (subst (λ before. WalksEntries (form_in g.S.Summary c.args.layout) (g.P.Pages.store c.look.new.pages).map c.in-Some.inner.page.bytes c.in-Some.inner.count
+    c.args.low.now c.args.high.now (λ cell. test (g.S.Summary.of cell)) before (listed c.walk_entries.new.cells) c.look.new.left c.walk_entries.new.left) same
+    (walks later test computes accepts)))
 
-pub walk-returns-else-levels-eq0-clause-once : goal.walk-returns-else-levels-eq0-clause-once
-walk-returns-else-levels-eq0-clause-once g t c =
-    let node : IsNode c.load_into.new.copy.bytes c.args.number c.args.layout (Inner c.in-Inner.count) =
-    subst (IsNode c.load_into.new.copy.bytes c.args.number c.args.layout) c.in-Inner.is c.in_ok-node.ensures.loaded.node in
+pub walk-returns-clause-once : goal.walk-returns-clause-once
+walk-returns-clause-once g t c =
+    let found : FindsInner (g.P.Pages.is_tied c.args.pages.now) (g.P.Pages.store c.args.pages.now).map c.args.number c.args.layout c.in-Some.inner = search rules in
     on_ok c.walk_entries.result c.walk_entries.ensures.once (λ once tied.
-    let later = g.met.P.Pages.keeps_tied c.args.pages.now c.load_into.new.pages c.in_ok-node.ensures.rests.below tied in
+    let later = g.met.P.Pages.keeps_tied c.args.pages.now c.look.new.pages c.in_ok-inner.ensures.rests.below tied in
     once_inner (λ bytes cells. g.S.Summary.says bytes (joined g.S.Summary.unit g.S.Summary.join g.S.Summary.of cells)) c.args.layout
-    (g.P.Pages.store c.args.pages.now).map c.args.number c.load_into.new.copy.bytes [] [] (λ _. true) [] [] c.args.left.now c.load_into.new.left c.walk_entries.new.left
-    c.in_ok-node.ensures.counted (c.in_ok-node.ensures.loaded.bytes tied) c.in-Inner.count (g.P.Pages.store c.load_into.new.pages).map
-    (c.in_ok-node.ensures.rests.rests.keeps.pages tied) node (once later))
+    (g.P.Pages.store c.args.pages.now).map c.args.number c.in-Some.inner.page.bytes [] [] (λ _. true) [] [] c.args.left.now c.look.new.left c.walk_entries.new.left
+    c.in_ok-inner.ensures.counted (found.there tied) c.in-Some.inner.count (g.P.Pages.store c.look.new.pages).map
+    (c.in_ok-inner.ensures.rests.rests.keeps.pages tied) found.node (once later))
 
-pub walk-returns-else-levels-eq0-clause-damaged : goal.walk-returns-else-levels-eq0-clause-damaged
-walk-returns-else-levels-eq0-clause-damaged g t c = λ is tied.
-    let node : IsNode c.load_into.new.copy.bytes c.args.number c.args.layout (Inner c.in-Inner.count) =
-    subst (IsNode c.load_into.new.copy.bytes c.args.number c.args.layout) c.in-Inner.is c.in_ok-node.ensures.loaded.node in
-    let later = g.met.P.Pages.keeps_tied c.args.pages.now c.load_into.new.pages c.in_ok-node.ensures.rests.below tied in
+pub walk-returns-clause-damaged : goal.walk-returns-clause-damaged
+walk-returns-clause-damaged g t c = λ is tied.
+    let found : FindsInner (g.P.Pages.is_tied c.args.pages.now) (g.P.Pages.store c.args.pages.now).map c.args.number c.args.layout c.in-Some.inner = search rules in
+    let later = g.met.P.Pages.keeps_tied c.args.pages.now c.look.new.pages c.in_ok-inner.ensures.rests.below tied in
     no_parts-no_part (λ bytes cells. g.S.Summary.says bytes (joined g.S.Summary.unit g.S.Summary.join g.S.Summary.of cells)) c.args.layout
-    (g.P.Pages.store c.args.pages.now).map c.args.number c.load_into.new.copy.bytes [] [] (λ _. true) [] [] c.args.left.now c.load_into.new.left 0
-    c.in_ok-node.ensures.counted (c.in_ok-node.ensures.loaded.bytes tied) c.in-Inner.count c.args.levels (g.P.Pages.store c.load_into.new.pages).map
-    (c.in_ok-node.ensures.rests.rests.keeps.pages tied) node (c.walk_entries.ensures.damaged is later)
+    (g.P.Pages.store c.args.pages.now).map c.args.number c.in-Some.inner.page.bytes [] [] (λ _. true) [] [] c.args.left.now c.look.new.left 0
+    c.in_ok-inner.ensures.counted (found.there tied) c.in-Some.inner.count c.args.levels (g.P.Pages.store c.look.new.pages).map
+    (c.in_ok-inner.ensures.rests.rests.keeps.pages tied) found.node (c.walk_entries.ensures.damaged is later)
 
 pub walk_entries-record_at-entry-requires : goal.walk_entries-record_at-entry-requires
 walk_entries-record_at-entry-requires g t c =

@@ -1,0 +1,96 @@
+//! A look at a page on the walk through a tree.
+//!
+//! The wanted cells of a leaf are copied from the page that is lent, and of an inner page there is a copy.
+
+ghost use Rattle.std.specs.Prelude.{◌≡◌, ◌⊎◌, ◌<◌, ◌≤◌, ◌+◌, Bool, IfErr, IfNone, IfOk, IfSome, OnOk, Err};
+ghost use Rattle.std.specs.Fn.{FnReturnsAt};
+ghost use Rattle.rs_pages.specs.Calls.{OnlyReads};
+ghost use Rattle.rs_records.specs.Listed.{listed, record_width};
+ghost use Rattle.rs_tree.specs.Asking.{Computes};
+ghost use Rattle.rs_tree.specs.Looking.{FindsInner, FindsLeaf, HasInner, HasLeaf};
+ghost use Rattle.rs_tree.specs.Node.{IsNode};
+ghost use Rattle.rs_tree.specs.Reading.{HasNoNode};
+ghost use Rattle.rs_tree.specs.Walking.{IsWalkRefusal};
+ghost use Rattle.rs_tree.specs.declared.node.Node.{Node};
+
+use crate::collect::collect;
+use crate::{Layout, Node, Summary, read_node};
+use rs_page::{Page, PageNumber};
+use rs_pages::Pages;
+use rs_records::Cells;
+use rs_refusal::Refusal;
+
+/// A copy of an inner page, and how many entries it has.
+#[derive(Clone, Copy)]
+pub struct InnerPage {
+    pub page: Page,
+    pub count: usize,
+}
+
+/// Reads the page with this number, which is one of a tree's, and counts it: there is one read less left. The wanted cells of a
+/// leaf are put after those that were found; an inner page is answered. It is refused with 90, with 91, and with 94 where it is no
+/// page of a tree, or no read is left.
+pub fn look<P: Pages, S: Summary, F: Fn(&S) -> bool>(
+    pages: &mut P,
+    layout: Layout,
+    number: PageNumber,
+    low: &[u8],
+    high: &[u8],
+    keep: &F,
+    left: &mut u32,
+    cells: &mut Cells,
+) -> Result<Option<InnerPage>, Refusal>
+    requires callable { F.IsAlwaysCallable keep.now }
+    requires width { record_width cells.old ≡ layout.width }
+    ensures rests { OnlyReads P.Pages result pages.old pages.new }
+    ensures width { record_width cells.new ≡ layout.width }
+    ensures leaf { IfOk result (λ looked. IfNone looked ((test : S → Bool) → Computes (FnReturnsAt F.Fn keep.now) test
+        → FindsLeaf (P.is_tied pages.old) (P.store pages.old).map number layout
+        low.now high.now (λ cell. test (S.of cell)) (listed cells.old) (listed cells.new))) }
+    ensures inner { IfOk result (λ looked. IfSome looked (FindsInner (P.is_tied pages.old) (P.store pages.old).map number layout)) }
+    ensures none { IfOk result (λ looked. IfSome looked (λ _. listed cells.new ≡ listed cells.old)) }
+    ensures counted { OnOk result (left.old ≡ left.new + 1) }
+    ensures fewer { left.new ≤ left.old }
+    ensures refused { IfErr result IsWalkRefusal }
+    ensures damaged { result ≡ Err Refusal.DamagedFile → P.is_tied pages.old → 0 < left.old
+        → HasNoNode (P.store pages.old).map number layout }
+{
+    if *left == 0 {
+        return Err(Refusal::DamagedFile);
+    }
+    *left -= 1;
+    match pages.page(number) {
+        Ok(page) => look_at(page, number, layout, low, high, keep, cells),
+        Err(refusal) => Err(refusal),
+    }
+}
+
+/// The same of this page.
+fn look_at<S: Summary, F: Fn(&S) -> bool>(
+    page: &Page,
+    number: PageNumber,
+    layout: Layout,
+    low: &[u8],
+    high: &[u8],
+    keep: &F,
+    cells: &mut Cells,
+) -> Result<Option<InnerPage>, Refusal>
+    requires callable { F.IsAlwaysCallable keep.now }
+    requires width { record_width cells.old ≡ layout.width }
+    ensures width { record_width cells.new ≡ layout.width }
+    ensures leaf { IfOk result (λ looked. IfNone looked ((test : S → Bool) → Computes (FnReturnsAt F.Fn keep.now) test
+        → HasLeaf page.now.bytes number layout low.now high.now (λ cell. test (S.of cell)) (listed cells.old) (listed cells.new))) }
+    ensures inner { IfOk result (λ looked. IfSome looked (HasInner page.now.bytes number layout)) }
+    ensures none { IfOk result (λ looked. IfSome looked (λ _. listed cells.new ≡ listed cells.old)) }
+    ensures refused { IfErr result (λ why. (why ≡ Refusal.OutOfMemory) ⊎ (why ≡ Refusal.DamagedFile)) }
+    ensures damaged { result ≡ Err Refusal.DamagedFile → (node : Node) → IsNode page.now.bytes number layout node → ⊥ }
+{
+    match read_node(page, number, layout) {
+        Some(Node::Leaf(count)) => {
+            collect(page, count, layout, low, high, keep, cells)?;
+            Ok(None)
+        }
+        Some(Node::Inner(count)) => Ok(Some(InnerPage { page: *page, count })),
+        None => Err(Refusal::DamagedFile),
+    }
+}
