@@ -5,7 +5,7 @@ use Rattle.std.proofs.lemmas.Bool.{cases_lt, false≢true, leb-true}
 use Rattle.std.proofs.lemmas.Bool.Decides.{nat_tests}
 use Rattle.std.proofs.lemmas.List.{get_or-map, length-map}
 use Rattle.std.proofs.lemmas.List.Elements.{All-from_recursion, Contains-get_or, recursion_from_All}
-use Rattle.std.proofs.lemmas.List.Sorted.{All-permutation, IsPermutation-sym}
+use Rattle.std.proofs.lemmas.List.Sorted.{All-permutation}
 use Rattle.std.specs.Cmp.Lexicographic.{nat_list_cmp_total, slice_cmp}
 use Rattle.std.specs.FinMap.{nat_cmp-IsAntisymmetric, slice_cmp-IsAntisymmetric}
 use Rattle.std.specs.List.{AllZip, IsAllAdjacentAnswer}
@@ -118,13 +118,17 @@ runs_where_apart kind spans placed apart = record {
 pub placed_moved : (kind : Kind) (xs ys : List Stretch) → IsPermutation xs ys → ArePlaced kind xs → ArePlaced kind ys
 placed_moved kind xs ys moved placed = recursion_from_All (IsPlaced kind) ys (All-permutation (IsPlaced kind) xs ys moved (All-from_recursion (IsPlaced kind) xs placed))
 
+-- in another order they are maximal runs too
+pub runs_moved : (kind : Kind) (xs ys : List Stretch) → IsPermutation xs ys → ArePlaced kind ys → AreAllRunsOf kind (places_of xs) xs → AreAllRunsOf kind (places_of ys) ys
+runs_moved kind xs ys moved placed runs = runs_where_apart kind ys placed (apart-permutation kind xs ys moved (apart_where_runs kind xs runs))
+
 -- ---- with the rows, and with their bytes
 
 text_first : Row → List ℕ
 text_first [] = []
 text_first (datum ∷ row) = text_in datum
 
-text_same : (x y : List ℕ) → ◌≡◌ {A = Row} (text x ∷ []) (text y ∷ []) → x ≡ y
+pub text_same : (x y : List ℕ) → ◌≡◌ {A = Row} (text x ∷ []) (text y ∷ []) → x ≡ y
 unfolding text_first
 text_same x y same = ap text_first same
 
@@ -185,12 +189,12 @@ module _ (types : List ColumnType) where
   placed_lent kind (l ∷ ls) [] all placed = absurd all
   placed_lent kind (l ∷ ls) (s ∷ ss) all placed = (placed_alike kind l s all.0 placed.0, placed_lent kind ls ss all.1 placed.1)
 
-  module _ (kind : Kind) (lents sorted spans : List Stretch) (all : AllZip (HasBytes types) lents spans) (moved : IsPermutation lents sorted) (placed : ArePlaced kind spans) where
-    pub runs_of_lent : AreAllRunsOf kind (places_of sorted) sorted → AreAllRunsOf kind (places_of spans) spans
-    runs_of_lent runs = runs_where_apart kind spans placed (apart_said kind lents spans all (apart-permutation kind sorted lents (IsPermutation-sym lents sorted moved) (apart_where_runs kind sorted runs)))
+  module _ (kind : Kind) (lents spans : List Stretch) (all : AllZip (HasBytes types) lents spans) (placed : ArePlaced kind spans) where
+    pub runs_of_lent : AreAllRunsOf kind (places_of lents) lents → AreAllRunsOf kind (places_of spans) spans
+    runs_of_lent runs = runs_where_apart kind spans placed (apart_said kind lents spans all (apart_where_runs kind lents runs))
 
-    pub runs_as_lent : ArePlaced kind sorted → AreAllRunsOf kind (places_of spans) spans → AreAllRunsOf kind (places_of sorted) sorted
-    runs_as_lent put runs = runs_where_apart kind sorted put (apart-permutation kind lents sorted moved (apart_lent kind lents spans all (apart_where_runs kind spans runs)))
+    pub runs_as_lent : ArePlaced kind lents → AreAllRunsOf kind (places_of spans) spans → AreAllRunsOf kind (places_of lents) lents
+    runs_as_lent put runs = runs_where_apart kind lents put (apart_lent kind lents spans all (apart_where_runs kind spans runs))
 
 -- ---- each before the next
 

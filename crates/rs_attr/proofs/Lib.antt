@@ -3,6 +3,7 @@ pub mod Checked
 pub mod Counted
 pub mod Entering
 pub mod Gathered
+pub mod InPlace
 pub mod Indexes
 pub mod Lent
 pub mod LentCells

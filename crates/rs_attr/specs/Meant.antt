@@ -76,6 +76,15 @@ less_or Greater test = false
 abbrev pub comes_before : Kind → RowStretch → RowStretch → Bool
 comes_before kind one next = less_or (slice_cmp nat_cmp one.row.now next.row.now) (nat_le (one.hi + gap_of kind) next.lo)
 
+abbrev pub where_equal : Ordering → Bool → Bool → Bool
+where_equal Less same other = other
+where_equal Equal same other = same
+where_equal Greater same other = other
+
+-- it ends where the next one begins or before, and before it where their rows' bytes are equal
+abbrev pub lies_before : Kind → RowStretch → RowStretch → Bool
+lies_before kind one next = where_equal (slice_cmp nat_cmp one.row.now next.row.now) (nat_le (one.hi + gap_of kind) next.lo) (nat_le one.hi next.lo)
+
 -- the one has the bytes of the other's row as its row
 pub record HasBytes (types : List ColumnType) (lent span : Stretch) : Type 0 where
   pub lo : lent.lo ≡ span.lo

@@ -2,12 +2,13 @@
 //! maximal runs.
 //!
 //! Whether they are is asked of their rows as they lie in the cells, which are lent: in order of row and place, each span has to end
-//! before the next of its row begins. So a part takes 24 bytes for each of its events beside its cells.
+//! before the next of its row begins. Spans that lie one after another as they are, with other rows where they touch, are not sorted.
+//! So a part takes 24 bytes for each of its events beside its cells.
 
 ghost use Rattle.std.specs.Prelude.{◌≡◌, ◌⊎◌, ◌+◌, ◌++◌, ◌∷◌, ◌↔◌, ◌≤◌, [], List, IfErr, IfOk, IsPermutation, IsTrue, OnOk, drop, length, map, nat_le, take};
 ghost use Rattle.std.specs.List.Sorted.{IsSortedBy};
 ghost use Rattle.std.specs.Ordering.{is_lt};
-ghost use Rattle.rs_attr.specs.Meant.{IsPlacedOn, SayMeant, SayPlaced, SayStretches, comes_before, lent_cmp, spans_of, stretch_of, stretches_of};
+ghost use Rattle.rs_attr.specs.Meant.{IsPlacedOn, SayMeant, SayPlaced, SayStretches, comes_before, lent_cmp, lies_before, spans_of, stretch_of, stretches_of};
 ghost use Rattle.rs_facts.specs.Runs.{Stretch};
 ghost use Rattle.rs_facts.specs.Spans.{AreAllRunsOf, ArePlaced, IsPlaced, gap_of, places_of, seen};
 ghost use Rattle.rs_records.specs.Listed.{listed, record_width};
@@ -49,11 +50,40 @@ pub(crate) fn check_events(
         ⊎ ((why ≡ Refusal.DamagedFile) × (SayMeant told.now route (listed cells.now) → ⊥))) }
 {
     let mut stretches = placed_stretches(alloc, told, route, cells)?;
-    sort_by_row(&mut stretches);
-    if !are_in_turn(told.kind, &stretches) {
+    if !are_runs(told.kind, &mut stretches) {
         return Err(Refusal::DamagedFile);
     }
     Ok(())
+}
+
+/// Whether the spans are the maximal runs of their facts. They may be in another order after that. Takes no memory.
+fn are_runs(kind: Kind, stretches: &mut Vec<RowStretch<'_>>) -> bool
+    requires { ArePlaced kind (map stretch_of stretches.old.items) }
+    ensures { IsTrue result ↔ AreAllRunsOf kind (places_of (map stretch_of stretches.old.items)) (map stretch_of stretches.old.items) }
+{
+    if lie_in_turn(kind, stretches.as_slice()) {
+        return true;
+    }
+    sort_by_row(stretches);
+    are_in_turn(kind, stretches.as_slice())
+}
+
+/// Whether each span lies before the next one: then they are maximal runs.
+fn lie_in_turn(kind: Kind, stretches: &[RowStretch<'_>]) -> bool
+    requires { ArePlaced kind (map stretch_of stretches.now) }
+    ensures { IsTrue result → AreAllRunsOf kind (places_of (map stretch_of stretches.now)) (map stretch_of stretches.now) }
+{
+    stretches.is_sorted_by(|one, next| lies_before(kind, one, next))
+}
+
+/// Whether a span ends where another begins or before, and before it where their rows are equal.
+fn lies_before(kind: Kind, one: &RowStretch<'_>, next: &RowStretch<'_>) -> bool
+    ensures { result ≡ lies_before kind one.now next.now }
+{
+    match one.row.cmp(next.row) {
+        Ordering::Equal => is_past(kind, one.hi, next.lo),
+        Ordering::Less | Ordering::Greater => one.hi <= next.lo,
+    }
 }
 
 /// Sorts the spans by the bytes of their rows, and those of one row by place. Takes no memory.

@@ -1,15 +1,12 @@
--- The spans, in order, and then whether each comes before the next.
-use Rattle.std.proofs.Common.{◌≡◌, ◌∙◌, List, map, is_lt, sym, subst, inl, inr, refl}
+-- The spans, and then whether they are maximal runs.
+use Rattle.std.proofs.Common.{◌≡◌, ◌∙◌, List, map, sym, subst, inl, inr, refl}
 use Rattle.std.proofs.lemmas.Bool.{false≢true}
-use Rattle.std.proofs.lemmas.List.Sorted.{IsPermutation-map}
 use Rattle.std.proofs.lemmas.Result.{err_from_is_err_and}
-use Rattle.std.specs.List.Sorted.{IsPermutation, IsSortedBy}
-use Rattle.rs_attr.specs.Meant.{lent_cmp, stretch_of}
-use Rattle.rs_attr.specs.declared.meant.RowStretch.{RowStretch}
+use Rattle.rs_attr.specs.Meant.{stretch_of}
 use Rattle.rs_facts.specs.Runs.{Stretch}
-use Rattle.rs_facts.specs.Spans.{AreAllRunsOf, ArePlaced, places_of}
+use Rattle.rs_facts.specs.Spans.{AreAllRunsOf, places_of}
 use Rattle.rs_records.specs.Listed.{listed}
-use Rattle.rs_attr.proofs.Lent.{placed_lent, placed_moved, runs_as_lent, runs_of_lent}
+use Rattle.rs_attr.proofs.Lent.{placed_lent, runs_as_lent, runs_of_lent}
 use Rattle.rs_attr.proofs.Placed.{meant_where_runs, placed_all, placed_where_meant, spans_once}
 use Rattle.rs_attr.proofs.meant.check_events.Goals as goal
 
@@ -21,37 +18,27 @@ returns-in_err-stretches-clause-refused c =
       | inr damaged ↦ inr (damaged.0, λ so. let one = placed_where_meant c.args.told.now c.args.route (listed c.args.cells.now) so in damaged.1 one.0 one.1)
     ])
 
-pub are_in_turn-requires : goal.are_in_turn-requires
-are_in_turn-requires c =
+pub are_runs-requires : goal.are_runs-requires
+are_runs-requires c =
     let told = c.args.told.now in
-    let given : List Stretch = map stretch_of c.in_ok-stretches.stretches.items in
-    let items : List RowStretch = c.sort_by_row.new.stretches.items in
     let so = c.in_ok-stretches.ensures.placed in
-    let moved : IsPermutation given (map stretch_of items) = IsPermutation-map stretch_of c.in_ok-stretches.stretches.items items c.sort_by_row.ensures.moved in
-    let placed = placed_moved told.kind given (map stretch_of items) moved (placed_lent told.schema.items told.kind given so.spans so.are (placed_all told c.args.route (listed c.args.cells.now) so.spans so.placed)) in
-    record {
-      placed = subst (λ (xs : List RowStretch). ArePlaced told.kind (map stretch_of xs)) (sym c.deref.ensures.value) placed;
-      sorted = subst (λ (xs : List RowStretch). IsSortedBy (λ a b. is_lt (lent_cmp a b)) xs) (sym c.deref.ensures.value) c.sort_by_row.ensures.sorted;
-    }
+    placed_lent told.schema.items told.kind (map stretch_of c.in_ok-stretches.stretches.items) so.spans so.are (placed_all told c.args.route (listed c.args.cells.now) so.spans so.placed)
 
-pub returns-then-not-are_in_turn-clause-refused : goal.returns-then-not-are_in_turn-clause-refused
-returns-then-not-are_in_turn-clause-refused c =
+pub returns-then-not-are_runs-clause-refused : goal.returns-then-not-are_runs-clause-refused
+returns-then-not-are_runs-clause-refused c =
     let told = c.args.told.now in
     let cells = listed c.args.cells.now in
     let given : List Stretch = map stretch_of c.in_ok-stretches.stretches.items in
-    let items : List RowStretch = c.sort_by_row.new.stretches.items in
     let so = c.in_ok-stretches.ensures.placed in
-    let moved : IsPermutation given (map stretch_of items) = IsPermutation-map stretch_of c.in_ok-stretches.stretches.items items c.sort_by_row.ensures.moved in
     let all = placed_all told c.args.route cells so.spans so.placed in
-    let placed = placed_moved told.kind given (map stretch_of items) moved (placed_lent told.schema.items told.kind given so.spans so.are all) in
+    let placed = placed_lent told.schema.items told.kind given so.spans so.are all in
     inr (
       refl,
       λ meant.
           let one = placed_where_meant told c.args.route cells meant in
           let same : one.0 ≡ so.spans = spans_once told c.args.route cells one.0 so.spans one.1 so.placed in
-          let runs = runs_as_lent told.schema.items told.kind given (map stretch_of items) so.spans so.are moved all placed (subst (λ (l : List Stretch). AreAllRunsOf told.kind (places_of l) l) same one.2) in
-          false≢true (sym c.if-not-are_in_turn.true
-          ∙ c.are_in_turn.ensures.1 (subst (λ (xs : List RowStretch). AreAllRunsOf told.kind (places_of (map stretch_of xs)) (map stretch_of xs)) (sym c.deref.ensures.value) runs)),
+          let runs = runs_as_lent told.schema.items told.kind given so.spans so.are all placed (subst (λ (l : List Stretch). AreAllRunsOf told.kind (places_of l) l) same one.2) in
+          false≢true (sym c.if-not-are_runs.true ∙ c.are_runs.ensures.1 runs),
     )
 
 pub returns-clause-meant : goal.returns-clause-meant
@@ -59,9 +46,6 @@ returns-clause-meant c =
     let told = c.args.told.now in
     let cells = listed c.args.cells.now in
     let given : List Stretch = map stretch_of c.in_ok-stretches.stretches.items in
-    let items : List RowStretch = c.sort_by_row.new.stretches.items in
     let so = c.in_ok-stretches.ensures.placed in
-    let moved : IsPermutation given (map stretch_of items) = IsPermutation-map stretch_of c.in_ok-stretches.stretches.items items c.sort_by_row.ensures.moved in
     let all = placed_all told c.args.route cells so.spans so.placed in
-    let runs = subst (λ (xs : List RowStretch). AreAllRunsOf told.kind (places_of (map stretch_of xs)) (map stretch_of xs)) c.deref.ensures.value (c.are_in_turn.ensures.0 c.if-not-are_in_turn.false) in
-    meant_where_runs told c.args.route cells so.spans so.placed (runs_of_lent told.schema.items told.kind given (map stretch_of items) so.spans so.are moved all runs)
+    meant_where_runs told c.args.route cells so.spans so.placed (runs_of_lent told.schema.items told.kind given so.spans so.are all (c.are_runs.ensures.0 c.if-not-are_runs.false))
